@@ -5,7 +5,7 @@ use Rattle.cmrun.specs.declared.memory.MemSink.{MemSink}
 
 -- The bytes that were not read yet.
 abbrev pub left_in : MemSource → List ℕ
-left_in s = drop s.at s.bytes.items
+left_in s = drop s.at s.bytes
 
 -- The bytes that were written.
 abbrev pub held_in : MemSink → List ℕ

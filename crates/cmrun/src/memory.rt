@@ -3,24 +3,25 @@ ghost use Rattle.std.specs.Prelude.{◌≡◌, ◌≤◌, take, min, length};
 
 use crate::sink::Sink;
 use crate::source::{Failed, Source};
-use std::alloc::Global;
+use cmc_meta::{Bytes, Numbers};
+use std::alloc::{AllocError, Global};
 
 /// Bytes in memory as a source. It tells what is left.
 #[derive(Drop)]
 pub struct MemSource {
-    bytes: Vec<u8>,
+    bytes: Bytes,
     at: usize,
-    failing: Vec<u64>,
+    failing: Numbers,
     calls: u64,
     faults: u64,
-    ghost within: { at ≤ length bytes.items },
+    ghost within: { at ≤ length bytes },
 }
 
 /// Bytes in memory as a sink. It tells what it holds.
 #[derive(Drop)]
 pub struct MemSink {
     bytes: Vec<u8>,
-    failing: Vec<u64>,
+    failing: Numbers,
     calls: u64,
     faults: u64,
 }
@@ -36,20 +37,21 @@ fn copy_front(from: &[u8], into: &mut [u8]) -> usize
 }
 
 impl MemSource {
+    ghost use Rattle.std.specs.Prelude.{IfOk};
     ghost use Rattle.cmrun.specs.Memory.{left_in, read_faults};
 
     /// A source of these bytes, at which the reads of the given numbers (from 1) fail.
-    pub fn new(bytes: Vec<u8>, failing: Vec<u64>) -> Self
-        ensures left { left_in result ≡ bytes.items }
-        ensures faults { read_faults result ≡ 0 }
+    pub fn new(_alloc: Global, bytes: Bytes, failing: Numbers) -> Result<Self, AllocError>
+        ensures left { IfOk result (λ s. left_in s ≡ bytes) }
+        ensures faults { IfOk result (λ s. read_faults s ≡ 0) }
     {
-        MemSource {
+        Ok(MemSource {
             bytes,
             at: 0,
             failing,
             calls: 0,
             faults: 0,
-        }
+        })
     }
 }
 
@@ -63,31 +65,31 @@ impl Source for MemSource {
 
     fn read(&mut self, into: &mut [u8]) -> Result<usize, Failed> {
         self.calls = self.calls.saturating_add(1);
-        if self.failing.contains(&self.calls) {
+        if self.failing.as_slice().contains(&self.calls) {
             self.faults = self.faults.saturating_add(1);
             return Err(Failed);
         }
-        let count = copy_front(&self.bytes[self.at..], into);
+        let count = copy_front(&self.bytes.as_slice()[self.at..], into);
         self.at += count;
         Ok(count)
     }
 }
 
 impl MemSink {
-    ghost use Rattle.std.specs.Prelude.{[]};
+    ghost use Rattle.std.specs.Prelude.{[], IfOk};
     ghost use Rattle.cmrun.specs.Memory.{held_in, write_faults};
 
     /// An empty sink, at which the writes of the given numbers (from 1) fail.
-    pub fn new(alloc: Global, failing: Vec<u64>) -> Self
-        ensures holds { held_in result ≡ [] }
-        ensures faults { write_faults result ≡ 0 }
+    pub fn new(alloc: Global, failing: Numbers) -> Result<Self, AllocError>
+        ensures holds { IfOk result (λ s. held_in s ≡ []) }
+        ensures faults { IfOk result (λ s. write_faults s ≡ 0) }
     {
-        MemSink {
+        Ok(MemSink {
             bytes: Vec::new(alloc),
             failing,
             calls: 0,
             faults: 0,
-        }
+        })
     }
 
     /// The bytes that it holds.
@@ -109,7 +111,9 @@ impl Sink for MemSink {
     fn write(&mut self, piece: &[u8]) -> Result<usize, Failed> {
         self.calls = self.calls.saturating_add(1);
         // A sink that has no room for the piece has failed.
-        if self.failing.contains(&self.calls) || self.bytes.extend_from_slice(piece).is_err() {
+        if self.failing.as_slice().contains(&self.calls)
+            || self.bytes.extend_from_slice(piece).is_err()
+        {
             self.faults = self.faults.saturating_add(1);
             return Err(Failed);
         }
