@@ -1,4 +1,7 @@
-ghost use Rattle.std.specs.Prelude.{◌≡◌, ◌↔◌, ◌++◌, ◌∷◌, [], IsTrue, IfOk, OnOk, OnErr};
+ghost use Rattle.std.proofs.Common.{rules};
+ghost use Rattle.std.specs.Cmp.Lexicographic.{pointwise};
+ghost use Rattle.std.specs.Cmp.Rules.{comparing};
+ghost use Rattle.std.specs.Prelude.{◌≡◌, ◌↔◌, ◌++◌, ◌∷◌, [], IsTrue, IfOk, OnOk, OnErr, nat_eq};
 
 use std::alloc::{AllocError, Global};
 use std::marker::Model;
@@ -65,4 +68,18 @@ impl Bytes {
     {
         self.items.as_slice() == other.items.as_slice()
     }
+}
+
+impl PartialEq for Bytes {
+    ghost eq = { pointwise nat_eq };
+
+    ghost laws = { Prim.search (comparing, rules) };
+
+    fn eq(&self, other: &Bytes) -> bool {
+        self.items.as_slice() == other.items.as_slice()
+    }
+}
+
+impl Eq for Bytes {
+    ghost laws = { Prim.search (comparing, rules) };
 }
