@@ -9,8 +9,10 @@ mod cursor;
 mod error;
 mod floats;
 mod values;
+mod wording;
 
 pub use cursor::{Fields, at, check_end, fields, optional, required};
 pub use error::BadField;
 pub use floats::check_floats;
 pub use values::{count, flag, small_count, text, texts, word};
+pub use wording::{decimal, name, printable, short_text};
