@@ -38,8 +38,11 @@ abbrev pub printable_at : Data → Read (List ℕ)
 printable_at d = text_at d >>= (λ t. if is_printable_name t then Ok t else Err [])
 
 -- A DNS subdomain, as object names and namespaces are.
+abbrev pub name_in : List ℕ → Read (List ℕ)
+name_in t = if is_subdomain t then Ok t else Err []
+
 abbrev pub name_at : Data → Read (List ℕ)
-name_at d = text_at d >>= (λ t. if is_subdomain t then Ok t else Err [])
+name_at d = text_at d >>= name_in
 
 -- Decimal digits, with no zero before others.
 abbrev pub is_decimal : List ℕ → Bool

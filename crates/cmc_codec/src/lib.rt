@@ -15,4 +15,4 @@ pub use cursor::{Fields, at, check_end, fields, optional, required};
 pub use error::BadField;
 pub use floats::check_floats;
 pub use values::{count, flag, small_count, text, texts, word};
-pub use wording::{decimal, name, printable, short_text};
+pub use wording::{decimal, name, name_of, printable, short_text};

@@ -4,7 +4,7 @@ ghost use Rattle.std.specs.List.{list_all};
 ghost use Rattle.std.specs.Prelude.{◌≡◌};
 ghost use Rattle.serde_json.specs.View.{view};
 ghost use Rattle.cmc_codec.specs.Reading.{Gives};
-ghost use Rattle.cmc_codec.specs.Readers.{short_text_at, is_printable, is_printable_name, printable_at, name_at, is_decimal, decimal_in, decimal_at};
+ghost use Rattle.cmc_codec.specs.Readers.{short_text_at, is_printable, is_printable_name, printable_at, name_in, name_at, is_decimal, decimal_in, decimal_at};
 
 use crate::error::BadField;
 use cmc_meta::{BadName, Name, Text};
@@ -43,16 +43,23 @@ pub fn printable(alloc: Global, value: &Value) -> Result<Text, BadField>
     }
 }
 
+/// The name that a text spells.
+pub fn name_of(alloc: Global, text: &str) -> Result<Name, BadField>
+    ensures { Gives (λ t. t) result (name_in text.now) }
+{
+    match Name::read(alloc, text) {
+        Ok(name) => Ok(name),
+        Err(BadName::NotSubdomain) => Err(BadField::Path(Text::new(alloc))),
+        Err(BadName::NoMemory) => Err(BadField::NoMemory),
+    }
+}
+
 /// The name of an object or a namespace.
 pub fn name(alloc: Global, value: &Value) -> Result<Name, BadField>
     ensures { Gives (λ t. t) result (name_at (view value.now)) }
 {
     match value.as_str() {
-        Some(text) => match Name::read(alloc, text) {
-            Ok(name) => Ok(name),
-            Err(BadName::NotSubdomain) => Err(BadField::Path(Text::new(alloc))),
-            Err(BadName::NoMemory) => Err(BadField::NoMemory),
-        },
+        Some(text) => name_of(alloc, text),
         None => Err(BadField::Path(Text::new(alloc))),
     }
 }
