@@ -9,7 +9,6 @@ use Rattle.cmc_objects.specs.Objects.{no_cert_status}
 use Rattle.cmc_objects.specs.declared.key_spec.Algorithm.{Algorithm}
 use Rattle.cmc_objects.specs.declared.key_spec.Algorithm.TheVariants.{Rsa, Ecdsa}
 use Rattle.cmc_objects.specs.declared.certificate.CertSpec.{CertSpec}
-use Rattle.cmc_objects.specs.declared.object.Object.{Object}
 use Rattle.cmc_objects.specs.declared.object.Object.TheVariants.{Cert}
 use Rattle.cmc_objects.specs.declared.entry.Step.{Step}
 use Rattle.cmc_objects.specs.declared.entry.Step.TheVariants.{Apply}

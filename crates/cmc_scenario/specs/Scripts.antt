@@ -1,11 +1,11 @@
 -- The form of a script: a list of steps, each named by its member `do`.
-use Rattle.std.specs.Prelude.{ℕ, List, [], ◌∷◌, ◌++◌, ◌+◌, ◌||◌, decimal, codes, nat_lt, Bool, if◌then◌else◌, Ok, Err, Some, None}
+use Rattle.std.specs.Prelude.{ℕ, List, [], ◌∷◌, ◌+◌, ◌||◌, decimal, codes, nat_lt, Bool, if◌then◌else◌, Ok, Err, Some, None}
 use Rattle.std.specs.declared.option.Option.{Option}
 use Rattle.std.specs.Str.{bytes_eq}
 use Rattle.serde_json.specs.Data.{Data, null, boolean, number, string, array, object, Items, no_items, item}
 use Rattle.cmc_objects.specs.declared.entry.Step.{Step}
 use Rattle.cmc_objects.specs.declared.entry.Step.TheVariants.{Delete}
-use Rattle.cmc_codec.specs.Reading.{Read, Check, ◌>>=◌, under, Field, fields_at, optional_at, required_at, at_end}
+use Rattle.cmc_codec.specs.Reading.{Read, ◌>>=◌, under, Field, fields_at, optional_at, required_at, at_end}
 use Rattle.cmc_codec.specs.Readers.{count_at}
 use Rattle.cmc_scenario.specs.Certificates.{passes, text_member, applied_at}
 use Rattle.cmc_scenario.specs.Keys.{key_at}
@@ -61,14 +61,14 @@ step_in (Some word) fs = if bytes_eq word (codes "apply") then apply_in fs
 unfoldable pub step_at : Data → Read Step
 step_at d = fields_at d >>= step_in (text_member (codes "do") d)
 
--- A list has at most 10,000 steps: the first one past that fails.
-unfoldable pub place_at : ℕ → Check
-place_at n = if nat_lt n 10000 then Ok tt else Err (decimal n)
+-- The step at place n of a list. A list has at most 10,000: the first one past that fails.
+unfoldable pub numbered_step_at : ℕ → Data → Read Step
+numbered_step_at n d = if nat_lt n 10000 then under (decimal n) (step_at d) else Err (decimal n)
 
 -- The steps of a list, whose places count from n.
 abbrev pub steps_from : ℕ → Items → Read (List Step)
 steps_from n no_items = Ok []
-steps_from n (item d ds) = place_at n >>= (λ _. under (decimal n) (step_at d) >>= (λ s. steps_from (n + 1) ds >>= (λ ss. Ok (s ∷ ss))))
+steps_from n (item d ds) = numbered_step_at n d >>= (λ s. steps_from (n + 1) ds >>= (λ ss. Ok (s ∷ ss)))
 
 abbrev pub steps_at : Data → Read (List Step)
 steps_at (array ds) = steps_from 0 ds

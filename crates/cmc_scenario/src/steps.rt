@@ -1,9 +1,9 @@
 // Lists of steps.
-ghost use Rattle.std.specs.Prelude.{◌≡◌, ◌++◌, ◌∷◌, [], IfOk, OnOk, OnErr, decimal};
+ghost use Rattle.std.specs.Prelude.{◌≡◌, ◌++◌, ◌∷◌, [], OnOk, OnErr};
 ghost use Rattle.serde_json.specs.View.{view, items_view};
-ghost use Rattle.cmc_codec.specs.Reading.{Gives, under};
+ghost use Rattle.cmc_codec.specs.Reading.{Gives};
 ghost use Rattle.cmc_codec.specs.Seen.{shown_option};
-ghost use Rattle.cmc_scenario.specs.Scripts.{step_at, place_at, steps_from, steps_at, script_at};
+ghost use Rattle.cmc_scenario.specs.Scripts.{numbered_step_at, steps_from, steps_at, script_at};
 
 use crate::step::step;
 use cmc_codec::{BadField, at};
@@ -55,21 +55,15 @@ impl Steps {
     }
 }
 
-#[tactic(auto, unfolding(crate::specs::Scripts::place_at))]
-fn check_place(alloc: Global, place: usize) -> Result<(), BadField>
-    ensures { Gives (λ t. t) result (place_at place) }
+#[tactic(auto, unfolding(crate::specs::Scripts::numbered_step_at))]
+fn numbered_step(alloc: Global, place: usize, value: &Value) -> Result<Step, BadField>
+    ensures { Gives (λ t. t) result (numbered_step_at place (view value.now)) }
 {
+    let name = place.to_string(alloc)?;
     if place < 10_000 {
-        return Ok(());
+        return at(alloc, name.as_str(), step(alloc, value));
     }
-    let path = place.to_string(alloc)?;
-    Err(BadField::Path(Text::from_str(alloc, path.as_str())?))
-}
-
-fn step_in_list(alloc: Global, place: usize, value: &Value) -> Result<Step, BadField>
-    ensures { Gives (λ t. t) result (under (decimal place) (step_at (view value.now))) }
-{
-    at(alloc, place.to_string(alloc)?.as_str(), step(alloc, value))
+    Err(BadField::Path(Text::from_str(alloc, name.as_str())?))
 }
 
 fn steps_of(alloc: Global, items: &[Value]) -> Result<Steps, BadField>
@@ -77,8 +71,7 @@ fn steps_of(alloc: Global, items: &[Value]) -> Result<Steps, BadField>
 {
     let mut steps = Steps::new(alloc);
     for (place, item) in items.iter().enumerate() {
-        check_place(alloc, place)?;
-        match step_in_list(alloc, place, item) {
+        match numbered_step(alloc, place, item) {
             Ok(step) => steps.push(step)?,
             Err(error) => return Err(error),
         }
