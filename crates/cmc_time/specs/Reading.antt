@@ -80,3 +80,27 @@ rfc3339_seconds text = do
   year ← four_digits_at text
   moment ← moment_at year.0 (codes "-") (codes "T") (codes ":") year.1
   second_at moment
+
+-- the year that the two digits of a UTCTime mean: 1950 to 2049
+abbrev pub full_year : ℕ → ℕ
+full_year short = (if nat_lt short 50 then 2000 else 1900) + short
+
+-- the second that the body of a UTCTime writes
+unfoldable pub utc_time_seconds : List ℕ → Option ℤ
+utc_time_seconds text = do
+  year ← two_digits_at text
+  moment ← moment_at (full_year year.0) [] [] [] year.1
+  second_at moment
+
+-- the second that the body of a GeneralizedTime writes, from 2050 on
+unfoldable pub generalized_time_seconds : List ℕ → Option ℤ
+generalized_time_seconds text = do
+  year ← four_digits_at text
+  moment ← moment_at year.0 [] [] [] year.1
+  if nat_lt moment.year 2050 then None else second_at moment
+
+-- by the tag of the value
+unfoldable pub asn1_seconds : ℕ → List ℕ → Option ℤ
+asn1_seconds tag text =
+    if tag == 0x17 then utc_time_seconds text
+    else (if tag == 0x18 then generalized_time_seconds text else None)

@@ -1,4 +1,11 @@
 //! Times of UTC in whole seconds since 1970-01-01T00:00:00Z, and durations in whole seconds, as texts.
 #![tactic(auto)]
 
+mod asn1;
 mod moment;
+mod reading;
+mod rfc3339;
+mod writing;
+
+pub use asn1::asn1_time;
+pub use rfc3339::{BadTime, print_rfc3339, read_rfc3339};

@@ -1,0 +1,74 @@
+//! The times of X.509 certificates.
+ghost use Rattle.std.specs.Prelude.{◌≡◌, ◌<◌, ℤ, IfOk, string_bytes};
+ghost use Rattle.std.specs.Result.{result_ok};
+ghost use Rattle.cmc_time.specs.Asn1.{IsAsn1Time, IsCertificateTime, asn1_tag, asn1_text};
+ghost use Rattle.cmc_time.specs.Asn1 as spec;
+ghost use Rattle.cmc_time.specs.Moment.{IsMoment, seconds_of};
+ghost use Rattle.cmc_time.specs.Reading as reads;
+
+use std::alloc::{AllocError, Global};
+
+use crate::moment::Moment;
+use crate::{BadTime, moment, reading, writing};
+
+// The tags of UTCTime and GeneralizedTime.
+const UTC_TIME: u8 = 0x17;
+
+const GENERALIZED_TIME: u8 = 0x18;
+
+fn full_year(short: u8) -> u16
+    requires { short < 100 }
+    ensures { result ≡ reads.full_year short }
+{
+    if short < 50 {
+        2000 + short as u16
+    } else {
+        1900 + short as u16
+    }
+}
+
+#[tactic(auto, unfolding(crate::specs::Reading::utc_time_seconds))]
+fn utc_time_at(text: &[u8]) -> Option<i64>
+    ensures { result ≡ reads.utc_time_seconds text.now }
+{
+    let (year, rest) = reading::two_digits_at(text)?;
+    let moment = reading::moment_at(full_year(year), b"", b"", b"", rest)?;
+    moment::second_at(moment)
+}
+
+#[tactic(auto, unfolding(crate::specs::Reading::generalized_time_seconds))]
+fn generalized_time_at(text: &[u8]) -> Option<i64>
+    ensures { result ≡ reads.generalized_time_seconds text.now }
+{
+    let (year, rest) = reading::four_digits_at(text)?;
+    let moment = reading::moment_at(year, b"", b"", b"", rest)?;
+    if moment.year < 2050 {
+        return None;
+    }
+    moment::second_at(moment)
+}
+
+#[tactic(auto, unfolding(crate::specs::Reading::asn1_seconds))]
+fn asn1_time_at(tag: u8, text: &[u8]) -> Option<i64>
+    ensures { result ≡ reads.asn1_seconds tag text.now }
+{
+    match tag {
+        UTC_TIME => utc_time_at(text),
+        GENERALIZED_TIME => generalized_time_at(text),
+        _ => None,
+    }
+}
+
+/// The seconds from 1970-01-01T00:00:00Z to the moment that the body of a DER value writes, as RFC 5280
+/// (4.1.2.5) has times: under the tag 0x17 a UTCTime `YYMMDDHHMMSSZ`, whose years 00 to 49 are 2000 to 2049 and
+/// 50 to 99 are 1950 to 1999; under the tag 0x18 a GeneralizedTime `YYYYMMDDHHMMSSZ` of 2050 or later.
+///
+/// `BadTime` comes exactly where tag and body are no such real moment.
+#[tactic(auto, using(crate::proofs::Asn1Laws::asn1_found))]
+pub fn asn1_time(tag: u8, text: &[u8]) -> Result<i64, BadTime>
+    ensures found { IfOk result (IsAsn1Time tag text.now) }
+    ensures only { (at : ℤ) → IsAsn1Time tag text.now at → result_ok result ≡ Some at }
+    ensures exact { result_ok result ≡ reads.asn1_seconds tag text.now }
+{
+    asn1_time_at(tag, text).ok_or(BadTime)
+}
