@@ -4,3 +4,5 @@ pub mod Steps
 pub mod Texts
 pub mod Rfc3339Laws
 pub mod Asn1Laws
+pub mod Digits
+pub mod DurationLaws

@@ -4,3 +4,4 @@ pub mod Rfc3339
 pub mod Asn1
 pub mod Durations
 pub mod Reading
+pub mod DurationReading

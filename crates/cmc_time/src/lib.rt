@@ -2,10 +2,12 @@
 #![tactic(auto)]
 
 mod asn1;
+mod duration;
 mod moment;
 mod reading;
 mod rfc3339;
 mod writing;
 
 pub use asn1::asn1_time;
+pub use duration::{BadDuration, print_duration, read_duration};
 pub use rfc3339::{BadTime, print_rfc3339, read_rfc3339};
