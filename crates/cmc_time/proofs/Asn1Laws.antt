@@ -100,3 +100,4 @@ asn1_found tag text at e = go (tag == 0x17) (tag == 0x18) refl refl e
     go true general is_utc is_general read = inl (eqb-true _ _ is_utc, utc_time_found text at read)
     go false true is_utc is_general read = inr (eqb-true _ _ is_general, generalized_time_found text at read)
     go false false is_utc is_general read = absurd (none-some at read)
+

@@ -36,5 +36,5 @@ real_date y n m d e low h =
     }
 
 -- the second of a day number and of the parts of a time of day, from the seconds since the year 1
-pub second_from_parts : (day at : ℤ) (since : ℕ) → day +ℤ pos 719_162 ≡ pos (since / 86400) → at +ℤ pos 62_135_596_800 ≡ pos since → day *ℤ pos 86400 +ℤ pos (since % 86400 / 3600 * 3600 + since % 86400 % 3600 / 60 * 60 + since % 86400 % 60) ≡ at
-second_from_parts day at since of_day of_at = omega (arith, signed_arith)
+pub second_from_parts : (day : ℤ) (since : ℕ) → day +ℤ pos 719_162 ≡ pos (since / 86400) → day *ℤ pos 86400 +ℤ pos (since % 86400 / 3600 * 3600 + since % 86400 % 3600 / 60 * 60 + since % 86400 % 60) +ℤ pos 62_135_596_800 ≡ pos since
+second_from_parts day since of_day = omega (arith, signed_arith)

@@ -34,7 +34,7 @@ last_passing_is p (suc n) k low high here above =
       | inr (inr more) ↦ absurd (omega arith)
     ]
 
-civil_date : (y m d : ℕ) → IsRealDate y m d → IsCivilDate (pos y) m d
+pub civil_date : (y m d : ℕ) → IsRealDate y m d → IsCivilDate (pos y) m d
 civil_date y m d h =
     ((omega (arith, signed_arith), omega (arith, signed_arith, h.year_high)), (h.month_low, h.month_high), (h.day_low, h.day_high))
 

@@ -46,11 +46,16 @@ IsAsn1Time tag text at =
 abbrev pub IsCertificateTime : ℤ → Type 0
 IsCertificateTime at = (neg_ℤ (pos 631_152_000) ≤ℤ at) × (at ≤ℤ pos 253_402_300_799)
 
--- the tag and the body of such a time
+-- the tag and the body of a moment of those years
+abbrev pub tag_of : Moment → ℕ
+tag_of m = if nat_lt m.year 2050 then utc_time_tag else generalized_time_tag
+
+abbrev pub body_of : Moment → List ℕ
+body_of m = if nat_lt m.year 2050 then utc_time_text m else generalized_time_text m
+
+-- and of the time at which it lies
 unfoldable pub asn1_tag : ℤ → ℕ
-asn1_tag at = if nat_lt (moment_of at).year 2050 then utc_time_tag else generalized_time_tag
+asn1_tag at = tag_of (moment_of at)
 
 unfoldable pub asn1_text : ℤ → List ℕ
-asn1_text at =
-    if nat_lt (moment_of at).year 2050 then utc_time_text (moment_of at)
-    else generalized_time_text (moment_of at)
+asn1_text at = body_of (moment_of at)

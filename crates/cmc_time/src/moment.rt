@@ -1,8 +1,8 @@
 //! The parts of a moment, and the second at which it lies.
-ghost use Rattle.std.specs.Prelude.{◌≡◌, ◌<◌, ◌≤◌, pos, neg_ℤ, ◌+ℤ◌, ◌*ℤ◌, ◌≤ℤ◌};
+ghost use Rattle.std.specs.Prelude.{◌≡◌, ◌<◌, ◌≤◌, pos, neg_ℤ, ◌+ℤ◌, ◌*ℤ◌, ◌≤ℤ◌, ◌↔◌, IsTrue};
 ghost use Rattle.jiff_core.specs.Calendar.{IsBetween, IsEpochDay};
 ghost use Rattle.jiff_core.specs.Date.{epoch_day};
-ghost use Rattle.cmc_time.specs.Moment.{IsMoment, IsPrintable, seconds_of};
+ghost use Rattle.cmc_time.specs.Moment.{IsMoment, IsPrintable, moment_of, seconds_of};
 ghost use Rattle.cmc_time.specs.Reading as reading;
 
 use jiff_core::civil;
@@ -17,6 +17,22 @@ pub struct Moment {
     pub hour: u8,
     pub minute: u8,
     pub second: u8,
+}
+
+/// 0001-01-01T00:00:00Z, the first moment that is read and printed.
+pub const FIRST_TIME: i64 = -62_135_596_800;
+
+/// 1950-01-01T00:00:00Z, the first that a UTCTime can say.
+pub const FIRST_CERTIFICATE_TIME: i64 = -631_152_000;
+
+/// 9999-12-31T23:59:59Z, the last moment that is read and printed.
+pub const LAST_TIME: i64 = 253_402_300_799;
+
+/// The moment lies in the years 1 to 9999.
+pub fn is_printable(at: i64) -> bool
+    ensures { IsTrue result ↔ IsPrintable at }
+{
+    FIRST_TIME <= at && at <= LAST_TIME
 }
 
 const SECONDS_PER_DAY: u64 = 86_400;
@@ -95,8 +111,16 @@ pub fn moment_at(at: i64) -> Moment
     requires { IsPrintable at }
     ensures is_real { IsMoment result }
     ensures lies_at { seconds_of result ≡ at }
+    ensures value { result ≡ moment_of at }
 {
-    let since = seconds_since_year_1(at);
+    moment_since_year_1(seconds_since_year_1(at))
+}
+
+fn moment_since_year_1(since: u64) -> Moment
+    requires { since < 315_537_897_600 }
+    ensures is_real { IsMoment result }
+    ensures lies_at { seconds_of result +ℤ pos 62_135_596_800 ≡ pos since }
+{
     let second = (since % SECONDS_PER_DAY) as u32;
     let date = date_since_year_1((since / SECONDS_PER_DAY) as u32);
     Moment {

@@ -6,7 +6,8 @@ use std::alloc::AllocError;
 
 use crate::moment::Moment;
 
-fn push_two_digits(text: &mut String, number: u8) -> Result<(), AllocError>
+/// Appends the number in two digits.
+pub fn push_two_digits(text: &mut String, number: u8) -> Result<(), AllocError>
     requires { number < 100 }
     ensures { OnOk result
         (string_bytes text.new ≡ string_bytes text.old ++ spec.two_digits number) }

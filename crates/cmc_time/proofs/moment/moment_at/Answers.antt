@@ -1,24 +1,14 @@
-use Rattle.std.proofs.Common.{arith, ◌≡◌, ◌+ℤ◌, pos}
-use Rattle.cmc_time.specs.Moment.{seconds_of}
-use Rattle.jiff_core.specs.Date.{epoch_day}
+use Rattle.std.proofs.Common.{arith, sym, ap, ◌∙◌, ◌≡◌}
+use Rattle.cmc_time.specs.Moment.{moment_of, seconds_of}
 use Rattle.jiff_core.proofs.SignedLemmas.{signed_casts}
-use Rattle.jiff_core.proofs.DateLemmas.{civil}
-use Rattle.cmc_time.proofs.Days.{real_date, second_from_parts}
+use Rattle.cmc_time.proofs.Inverse.{moment_of-seconds_of}
 use Rattle.cmc_time.proofs.moment.moment_at.Goals as goal
 
-pub returns-clause-is_real : goal.returns-clause-is_real
-returns-clause-is_real c =
-    let date = c.date_since_year_1-date.result in
-    record {
-      date = real_date _ _ _ _ c.year_of.ensures.value c.year_of.ensures.low (civil date);
-      hour = omega arith;
-      minute = omega arith;
-      second = omega arith;
-    }
-
 pub returns-clause-lies_at : goal.returns-clause-lies_at
-unfolding seconds_of
-returns-clause-lies_at c =
-    let since = c.seconds_since_year_1-since.result in
-    let began : c.args.at +ℤ pos 62_135_596_800 ≡ pos since = omega (arith, signed_casts) in
-    rw (← c.year_of.ensures.value) (second_from_parts (epoch_day c.date_since_year_1-date.result) c.args.at since c.date_since_year_1-date.ensures began)
+returns-clause-lies_at c = omega (arith, signed_casts)
+
+pub returns-clause-value : goal.returns-clause-value
+returns-clause-value c =
+    let m = c.moment_since_year_1 in
+    let lies_at : seconds_of m.result ≡ c.args.at = omega (arith, signed_casts) in
+    sym (moment_of-seconds_of m.result m.ensures.is_real) ∙ ap moment_of lies_at
