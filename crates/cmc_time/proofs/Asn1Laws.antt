@@ -1,8 +1,7 @@
 -- The body of a time of a certificate is read as the second that it writes, and nothing else is read.
-use Rattle.std.proofs.Common.{◌≡◌, ℕ, ◌+◌, ◌%◌, ◌<◌, ◌≤◌, ◌⊎◌, ◌==◌, inl, inr, Option, Bool, true, false, cond, nat_lt, List, [], ◌++◌, Some, None, ℤ, refl, sym, ap, ◌∙◌, arith, eqb-true}
+use Rattle.std.proofs.Common.{◌≡◌, ℕ, ◌%◌, ◌<◌, ◌≤◌, ◌==◌, inl, inr, Option, Bool, true, false, cond, nat_lt, List, [], ◌++◌, Some, None, ℤ, refl, ap, ◌∙◌, arith, eqb-true}
 use Rattle.std.proofs.lemmas.Bool.Decides.{nat_tests}
 use Rattle.std.proofs.lemmas.Option.{none-some}
-use Rattle.cmc_time.specs.Moment.{IsMoment, seconds_of}
 use Rattle.cmc_time.specs.Texts.{two_digits, four_digits}
 use Rattle.cmc_time.specs.Asn1.{IsUtcTime, IsGeneralizedTime, IsAsn1Time}
 use Rattle.cmc_time.specs.Reading.{two_digits_at, four_digits_at, moment_at, second_at, full_year, utc_time_seconds, generalized_time_seconds, asn1_seconds}
@@ -100,4 +99,3 @@ asn1_found tag text at e = go (tag == 0x17) (tag == 0x18) refl refl e
     go true general is_utc is_general read = inl (eqb-true _ _ is_utc, utc_time_found text at read)
     go false true is_utc is_general read = inr (eqb-true _ _ is_general, generalized_time_found text at read)
     go false false is_utc is_general read = absurd (none-some at read)
-

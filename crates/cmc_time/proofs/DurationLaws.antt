@@ -1,5 +1,5 @@
 -- A text of a duration is read as its seconds, and nothing else is read.
-use Rattle.std.proofs.Common.{◌≡◌, ◌≢◌, ℕ, ◌+◌, ◌*◌, ◌/◌, ◌%◌, ◌^◌, ◌<◌, ◌≤◌, ◌⊎◌, ◌==◌, ◌&&◌, inl, inr, Bool, true, false, cond, nat_lt, nat_le, List, [], ◌∷◌, ◌++◌, length, take, drop, bytes_eq, codes, Option, Some, None, refl, sym, ap, ◌∙◌, arith, append_assoc, append-nil, take_at, drop_at, length-append, take-append-drop, eqb-true}
+use Rattle.std.proofs.Common.{◌≡◌, ℕ, ◌/◌, ◌%◌, ◌^◌, ◌<◌, ◌≤◌, ◌==◌, ◌&&◌, inl, inr, Bool, true, false, cond, nat_lt, nat_le, List, [], ◌∷◌, ◌++◌, length, bytes_eq, codes, Some, None, refl, sym, ap, ◌∙◌, arith, append_assoc, append-nil, take_at, drop_at, length-append, take-append-drop, eqb-true}
 use Rattle.std.proofs.lemmas.Bool.{and_parts}
 use Rattle.std.proofs.lemmas.Bool.Decides.{nat_tests}
 use Rattle.std.proofs.lemmas.Fmt.{decimal_nonempty, length-decimal-le, digits_decimal, digits_value-decimal}
@@ -8,7 +8,6 @@ use Rattle.std.proofs.lemmas.Option.{none-some, same_Some}
 use Rattle.std.proofs.lemmas.Slice.Eq.{bytes_eq-Decides}
 use Rattle.std.specs.Char.{is_ascii_digit}
 use Rattle.std.specs.Fmt.{decimal}
-use Rattle.std.specs.List.{prefix_len}
 use Rattle.std.specs.Str.{all_ascii_digits}
 use Rattle.std.specs.Str.Parse.{digits_value}
 use Rattle.cmc_time.specs.Durations.{hour_unit, minute_unit, second_unit, longest, duration_of, HasCount, IsPart, HasParts, IsDuration, go_duration}

@@ -1,12 +1,11 @@
 -- At each second of the years 1 to 9999 lies a moment.
-use Rattle.std.proofs.Common.{◌≡◌, ℕ, zero, suc, ◌+◌, ◌-◌, ◌*◌, ◌/◌, ◌%◌, ◌<◌, ◌≤◌, ◌⊎◌, inl, inr, Bool, true, false, cond, refl, sym, ap, ◌∙◌, arith, ℤ, pos, negsuc, neg_ℤ, ◌+ℤ◌, ◌-ℤ◌, ◌*ℤ◌, ◌<ℤ◌, ◌≤ℤ◌, int_le, unsigned_abs}
+use Rattle.std.proofs.Common.{◌≡◌, ℕ, zero, suc, ◌+◌, ◌-◌, ◌*◌, ◌/◌, ◌%◌, ◌<◌, ◌≤◌, inl, inr, Bool, true, false, cond, refl, sym, ap, ◌∙◌, arith, ℤ, pos, neg_ℤ, ◌+ℤ◌, ◌-ℤ◌, ◌*ℤ◌, ◌≤ℤ◌, int_le, unsigned_abs}
 use Rattle.std.proofs.lemmas.Bool.{cases_order, false≢true}
 use Rattle.std.specs.Int.{int_div_euclid, int_rem_euclid}
-use Rattle.jiff_core.specs.Calendar.{days_from_civil, day_count, days_in_month, days_in_year}
-use Rattle.jiff_core.proofs.MarchLemmas.{day_count-early}
+use Rattle.jiff_core.specs.Calendar.{days_from_civil, days_in_month}
 use Rattle.jiff_core.proofs.SignedLemmas.{signed_arith}
-use Rattle.jiff_core.proofs.CalendarLemmas.{days_from_civil-day_count, day_count-day, day_count-next_month, day_count-next_year, day_count-last_of_year, day_count-end, days_in_month_bounds}
-use Rattle.cmc_time.specs.Moment.{IsMoment, IsPrintable, IsRealDate, last_passing, year_of, month_of, day_of, moment_of, seconds_of, second_of_day}
+use Rattle.jiff_core.proofs.CalendarLemmas.{days_from_civil-day_count, day_count-day, day_count-next_month, day_count-next_year, day_count-last_of_year, day_count-end}
+use Rattle.cmc_time.specs.Moment.{IsMoment, IsPrintable, IsRealDate, last_passing, year_of, month_of, day_of, moment_of, seconds_of}
 use Rattle.cmc_time.proofs.Days.{days_from_civil-year_1}
 use borrow.Author.Differences.{up, down, le-false, le-true}
 
@@ -66,8 +65,8 @@ year_of_is day h =
     let y = last_passing (λ y. int_le (begins y) day) 9999 in
     let after : up day + down (begins (suc y)) < up (begins (suc y)) + down day = elim (cases_order y 9999) [
       | inl end ↦
-        let next : days_from_civil (pos 10000) 1 1 ≡ pos 2_932_897 = omega (arith, signed_arith, days_from_civil-day_count, day_count-end) in
-        rw end (rw next (omega (arith, signed_arith)))
+          let next : days_from_civil (pos 10000) 1 1 ≡ pos 2_932_897 = omega (arith, signed_arith, days_from_civil-day_count, day_count-end) in
+          rw end (rw next (omega (arith, signed_arith)))
       | inr (inl less) ↦ omega (arith, le-false (begins (suc y)) day (last.next less))
       | inr (inr more) ↦ absurd (omega (arith, last.high))
     ] in
@@ -97,11 +96,11 @@ month_of_is day h =
     let here = days_from_civil-day_count (pos y) m 1 in
     let after : up day + down (begins m) < up (begins m) + days_in_month (pos y) m + down day = elim (cases_order m 12) [
       | inl end ↦
-        let next = day_count-next_year (pos y) (pos (suc y)) (omega (arith, signed_arith)) (omega (arith, signed_arith)) in
-        rw end (omega (arith, year.ends, days_from_civil-day_count (pos (suc y)) 1 1, days_from_civil-day_count (pos y) 12 1, next, day_count-last_of_year (pos y), day_count-day (pos y) 12 1 31 (omega arith) (omega arith)))
+          let next = day_count-next_year (pos y) (pos (suc y)) (omega (arith, signed_arith)) (omega (arith, signed_arith)) in
+          rw end (omega (arith, year.ends, days_from_civil-day_count (pos (suc y)) 1 1, days_from_civil-day_count (pos y) 12 1, next, day_count-last_of_year (pos y), day_count-day (pos y) 12 1 31 (omega arith) (omega arith)))
       | inr (inl less) ↦
-        let more : m + 1 ≡ suc m = omega arith in
-        omega (arith, le-false (begins (suc m)) day (last.next less), days_from_civil-day_count (pos y) (suc m) 1, here, rw more at (day_count-next_month (pos y) m last.low))
+          let more : m + 1 ≡ suc m = omega arith in
+          omega (arith, le-false (begins (suc m)) day (last.next less), days_from_civil-day_count (pos y) (suc m) 1, here, rw more at (day_count-next_month (pos y) m last.low))
       | inr (inr more) ↦ absurd (omega (arith, last.high))
     ] in
     record {

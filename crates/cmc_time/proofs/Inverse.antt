@@ -1,10 +1,10 @@
 -- The moment at a second is the one that lies there.
-use Rattle.std.proofs.Common.{◌≡◌, ℕ, zero, suc, ◌+◌, ◌-◌, ◌*◌, ◌/◌, ◌%◌, ◌<◌, ◌≤◌, ◌⊎◌, inl, inr, Bool, true, false, refl, sym, ap, ◌∙◌, arith, ℤ, pos, neg_ℤ, ◌+ℤ◌, ◌-ℤ◌, ◌*ℤ◌, ◌<ℤ◌, ◌≤ℤ◌, int_le, unsigned_abs}
+use Rattle.std.proofs.Common.{◌≡◌, ℕ, zero, suc, ◌+◌, ◌-◌, ◌/◌, ◌%◌, ◌<◌, ◌≤◌, inl, inr, Bool, true, false, refl, arith, ℤ, pos, ◌+ℤ◌, ◌-ℤ◌, ◌*ℤ◌, int_le, unsigned_abs}
 use Rattle.std.proofs.lemmas.Bool.{cases_order}
 use Rattle.std.specs.Int.{int_div_euclid, int_rem_euclid}
-use Rattle.jiff_core.specs.Calendar.{days_from_civil, day_count, days_in_month, IsCivilDate}
+use Rattle.jiff_core.specs.Calendar.{days_from_civil, IsCivilDate}
 use Rattle.jiff_core.proofs.SignedLemmas.{signed_arith}
-use Rattle.jiff_core.proofs.CalendarLemmas.{days_from_civil-day_count, day_count-lt_year, day_count-lt_month, day_count-day, day_count-day_of_year, day_of_year_bound}
+use Rattle.jiff_core.proofs.CalendarLemmas.{days_from_civil-day_count, day_count-lt_year, day_count-lt_month, day_count-day, day_count-day_of_year}
 use Rattle.cmc_time.specs.Moment.{IsMoment, IsRealDate, last_passing, year_of, month_of, day_of, moment_of, seconds_of, second_of_day}
 use Rattle.cmc_time.specs.declared.moment.Moment.{Moment}
 use borrow.Author.Differences.{up, down, le-false, le-true}
@@ -45,9 +45,9 @@ module _ (y m d : ℕ) (h : IsRealDate y m d) where
       let civil = civil_date y m d h in
       let begins = λ (k : ℕ). days_from_civil (pos k) 1 1 in
       let here : int_le (begins y) (days_from_civil (pos y) m d) ≡ true =
-          le_is_true (begins y) (days_from_civil (pos y) m d) (omega (arith, days_from_civil-day_count (pos y) 1 1, days_from_civil-day_count (pos y) m d, day_count-day_of_year (pos y) m d h.day_low)) in
+      le_is_true (begins y) (days_from_civil (pos y) m d) (omega (arith, days_from_civil-day_count (pos y) 1 1, days_from_civil-day_count (pos y) m d, day_count-day_of_year (pos y) m d h.day_low)) in
       let later : (k : ℕ) → y < k → int_le (begins k) (days_from_civil (pos y) m d) ≡ false =
-          λ k more. le_is_false (begins k) (days_from_civil (pos y) m d) (omega (arith, days_from_civil-day_count (pos k) 1 1, days_from_civil-day_count (pos y) m d, day_count-lt_year (pos y) m d (pos k) 1 1 civil (omega arith) (omega (arith, signed_arith)))) in
+      λ k more. le_is_false (begins k) (days_from_civil (pos y) m d) (omega (arith, days_from_civil-day_count (pos k) 1 1, days_from_civil-day_count (pos y) m d, day_count-lt_year (pos y) m d (pos k) 1 1 civil (omega arith) (omega (arith, signed_arith)))) in
       last_passing_is (λ k. int_le (begins k) (days_from_civil (pos y) m d)) 9999 y h.year_low h.year_high here later
 
   month_of-number : month_of (days_from_civil (pos y) m d) ≡ m
@@ -56,16 +56,16 @@ module _ (y m d : ℕ) (h : IsRealDate y m d) where
       let civil = civil_date y m d h in
       let begins = λ (k : ℕ). days_from_civil (pos y) k 1 in
       let here : int_le (begins m) (days_from_civil (pos y) m d) ≡ true =
-          le_is_true (begins m) (days_from_civil (pos y) m d) (omega (arith, days_from_civil-day_count (pos y) m 1, days_from_civil-day_count (pos y) m d, day_count-day (pos y) m d 1 h.day_low (omega arith), h.day_low)) in
+      le_is_true (begins m) (days_from_civil (pos y) m d) (omega (arith, days_from_civil-day_count (pos y) m 1, days_from_civil-day_count (pos y) m d, day_count-day (pos y) m d 1 h.day_low (omega arith), h.day_low)) in
       let later : (k : ℕ) → m < k → int_le (begins k) (days_from_civil (pos y) m d) ≡ false =
-          λ k more. le_is_false (begins k) (days_from_civil (pos y) m d) (omega (arith, days_from_civil-day_count (pos y) k 1, days_from_civil-day_count (pos y) m d, day_count-lt_month (pos y) m d k 1 civil (omega arith) more)) in
+      λ k more. le_is_false (begins k) (days_from_civil (pos y) m d) (omega (arith, days_from_civil-day_count (pos y) k 1, days_from_civil-day_count (pos y) m d, day_count-lt_month (pos y) m d k 1 civil (omega arith) more)) in
       rw year_of-number (last_passing_is (λ k. int_le (begins k) (days_from_civil (pos y) m d)) 12 m h.month_low h.month_high here later)
 
   day_of-number : day_of (days_from_civil (pos y) m d) ≡ d
   unfolding day_of
   day_of-number =
       let apart : days_from_civil (pos y) m d -ℤ days_from_civil (pos y) m 1 ≡ pos (d - 1) =
-          omega (arith, signed_arith, h.day_low, days_from_civil-day_count (pos y) m 1, days_from_civil-day_count (pos y) m d, day_count-day (pos y) m d 1 h.day_low (omega arith)) in
+      omega (arith, signed_arith, h.day_low, days_from_civil-day_count (pos y) m 1, days_from_civil-day_count (pos y) m d, day_count-day (pos y) m d 1 h.day_low (omega arith)) in
       rw (year_of-number, month_of-number, apart) (omega (arith, h.day_low))
 
 -- the day number and the second of the day come back from the sum

@@ -1,20 +1,19 @@
 -- What is printed of a time is a text of it.
-use Rattle.std.proofs.Common.{◌≡◌, ◌<◌, ◌≤◌, inl, inr, ℕ, Bool, true, false, cond, nat_lt, List, Some, ℤ, pos, neg_ℤ, ◌≤ℤ◌, refl, arith}
+use Rattle.std.proofs.Common.{◌≡◌, ◌≤◌, inl, inr, ℕ, Bool, true, false, cond, nat_lt, List, Some, ℤ, pos, neg_ℤ, ◌≤ℤ◌, refl, arith}
 use Rattle.std.proofs.lemmas.Bool.{cases_order}
 use Rattle.jiff_core.specs.Calendar.{day_count}
 use Rattle.jiff_core.proofs.MarchLemmas.{day_count-early}
 use Rattle.jiff_core.proofs.SignedLemmas.{signed_arith}
 use Rattle.jiff_core.proofs.CalendarLemmas.{days_from_civil-day_count, day_count-lt_year}
-use Rattle.cmc_time.specs.Moment.{IsMoment, IsPrintable, moment_of, seconds_of, second_of_day}
+use Rattle.cmc_time.specs.Moment.{IsMoment, IsPrintable, moment_of, seconds_of}
 use Rattle.cmc_time.specs.Rfc3339.{IsRfc3339, rfc3339}
 use Rattle.cmc_time.specs.Reading.{rfc3339_seconds, asn1_seconds}
-use Rattle.cmc_time.specs.Asn1.{IsUtcTime, IsGeneralizedTime, IsAsn1Time, IsCertificateTime, asn1_tag, asn1_text, utc_time_tag, generalized_time_tag, utc_time_text, generalized_time_text}
+use Rattle.cmc_time.specs.Asn1.{IsAsn1Time, IsCertificateTime, asn1_tag, asn1_text, utc_time_tag, generalized_time_tag, utc_time_text, generalized_time_text}
 use Rattle.cmc_time.proofs.Exists.{moment_of_is}
 use Rattle.cmc_time.proofs.Rfc3339Laws.{rfc3339_again}
 use Rattle.cmc_time.proofs.Asn1Laws.{asn1_again}
 use Rattle.cmc_time.proofs.Inverse.{civil_date}
 use Rattle.cmc_time.specs.declared.moment.Moment.{Moment}
-use borrow.Author.Differences.{up, down}
 use borrow.Author.Tests.{ltb-true, ltb-false}
 
 pub rfc3339_is_text : (at : ℤ) → IsPrintable at → IsRfc3339 (rfc3339 at) at

@@ -1,13 +1,11 @@
 -- A text of RFC 3339 is read as the second that it writes, and nothing else is read.
-use Rattle.std.proofs.Common.{◌≡◌, ℕ, ◌+◌, ◌<◌, ◌≤◌, true, List, ◌++◌, Some, ℤ, pos, refl, sym, ap, subst, ◌∙◌, arith, codes}
-use Rattle.std.proofs.lemmas.Grind.{common_steps}
+use Rattle.std.proofs.Common.{◌≡◌, ℕ, true, List, ◌++◌, Some, ℤ, pos, ap, ◌∙◌, arith, codes}
 use Rattle.std.proofs.lemmas.Bool.Decides.{nat_tests}
-use Rattle.jiff_core.specs.Calendar.{days_in_month}
 use Rattle.jiff_core.proofs.CalendarLemmas.{days_in_month_bounds}
-use Rattle.cmc_time.specs.Moment.{IsMoment, IsRealDate, seconds_of}
-use Rattle.cmc_time.specs.Texts.{after_year, four_digits, HasTwoDigits}
+use Rattle.cmc_time.specs.Moment.{IsMoment, seconds_of}
+use Rattle.cmc_time.specs.Texts.{four_digits, HasTwoDigits}
 use Rattle.cmc_time.specs.Rfc3339.{IsRfc3339, rfc3339, rfc3339_text}
-use Rattle.cmc_time.specs.Reading.{four_digits_at, moment_at, is_date, is_moment, second_at, rfc3339_seconds}
+use Rattle.cmc_time.specs.Reading.{four_digits_at, moment_at, is_moment, second_at, rfc3339_seconds}
 use Rattle.cmc_time.specs.declared.moment.Moment.{Moment}
 use Rattle.cmc_time.proofs.Steps.{bind_some, guard_some}
 use Rattle.cmc_time.proofs.Inverse.{moment_of-seconds_of}
@@ -75,6 +73,7 @@ rfc3339_found text at e =
       written = rw (rest.0) (digits.1 ∙ ap (λ t. four_digits year.0.0 ++ t) rest.1);
       lies_at = real.1;
     }
+
 -- the text of the moment that lies there
 pub rfc3339_is : (m : Moment) (at : ℤ) → IsMoment m → seconds_of m ≡ at → rfc3339 at ≡ rfc3339_text m
 unfolding rfc3339

@@ -1,6 +1,6 @@
 -- What the private functions of `duration` compute. `proofs/` shows that they read the texts of durations, and
 -- nothing else.
-use Rattle.std.specs.Prelude.{ℕ, ◌+◌, ◌&&◌, ◌==◌, nat_lt, nat_le, List, [], ◌∷◌, length, take, drop, Option, Some, None, bytes_eq, codes, if◌then◌else◌}
+use Rattle.std.specs.Prelude.{ℕ, ◌&&◌, ◌==◌, nat_lt, nat_le, List, [], ◌∷◌, length, take, drop, Option, Some, None, bytes_eq, codes, if◌then◌else◌}
 use Rattle.std.specs.Char.{is_ascii_digit}
 use Rattle.std.specs.Str.Parse.{digits_value}
 use Rattle.std.specs.List.{prefix_len}
@@ -29,7 +29,7 @@ part_view p = (p.0, p.1.now)
 abbrev pub sum_of : List ℕ → ℕ → ℕ → ℕ → List ℕ → Option ℕ
 sum_of text hours minutes seconds rest =
     if nat_lt 0 (length text) && (length rest == 0)
-        && nat_le (duration_of hours minutes seconds) longest
+    && nat_le (duration_of hours minutes seconds) longest
     then Some (duration_of hours minutes seconds)
     else None
 

@@ -7,10 +7,9 @@ ghost use Rattle.cmc_time.specs.Moment.{IsMoment};
 ghost use Rattle.cmc_time.specs.Texts.{HasTwoDigits};
 ghost use Rattle.cmc_time.specs.Reading as reads;
 
-use std::alloc::{AllocError, Global};
-
 use crate::moment::Moment;
 use crate::{BadTime, moment, reading, writing};
+use std::alloc::{AllocError, Global};
 
 // The tags of UTCTime and GeneralizedTime.
 const UTC_TIME: u8 = 0x17;

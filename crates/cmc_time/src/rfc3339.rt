@@ -5,9 +5,8 @@ ghost use Rattle.cmc_time.specs.Rfc3339.{IsRfc3339, rfc3339};
 ghost use Rattle.cmc_time.specs.Moment.{IsPrintable};
 ghost use Rattle.cmc_time.specs.Reading.{rfc3339_seconds};
 
-use std::alloc::{AllocError, Global};
-
 use crate::{moment, reading, writing};
+use std::alloc::{AllocError, Global};
 
 /// The text, or the bytes, write no moment of the form that was asked for.
 #[derive(Clone, Copy)]

@@ -2,9 +2,8 @@
 ghost use Rattle.std.specs.Prelude.{◌≡◌, ◌++◌, ◌<◌, OnOk, string_bytes};
 ghost use Rattle.cmc_time.specs.Texts as spec;
 
-use std::alloc::AllocError;
-
 use crate::moment::Moment;
+use std::alloc::AllocError;
 
 /// Appends the number in two digits.
 pub fn push_two_digits(text: &mut String, number: u8) -> Result<(), AllocError>

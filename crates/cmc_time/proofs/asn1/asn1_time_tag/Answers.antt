@@ -1,4 +1,4 @@
-use Rattle.std.proofs.Common.{◌≡◌, ap, ◌∙◌, to_z-of_z, sym}
+use Rattle.std.proofs.Common.{ap, ◌∙◌, to_z-of_z}
 use Rattle.cmc_time.specs.Moment.{moment_of}
 use Rattle.cmc_time.specs.Asn1.{asn1_tag, tag_of}
 use Rattle.cmc_time.proofs.asn1.asn1_time_tag.Goals as goal

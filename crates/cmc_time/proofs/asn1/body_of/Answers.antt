@@ -1,4 +1,3 @@
-use Rattle.std.proofs.Common.{arith}
 use Rattle.cmc_time.proofs.Rfc3339Laws.{HasTwoDigits-IsMoment}
 use Rattle.cmc_time.proofs.asn1.body_of.Goals as goal
 

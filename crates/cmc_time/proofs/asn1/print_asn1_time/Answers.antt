@@ -14,6 +14,6 @@ returns-clause-text c =
 pub returns-clause-reads_back : goal.returns-clause-reads_back
 returns-clause-reads_back c =
     let same : body_of c.moment_at.result ≡ asn1_text c.args.at =
-        unfold asn1_text in ap body_of (c.moment_at.ensures.value ∙ ap moment_of (to_z-of_z c.ranges.at)) in
+    unfold asn1_text in ap body_of (c.moment_at.ensures.value ∙ ap moment_of (to_z-of_z c.ranges.at)) in
     IfOk-weaker c.body_of.result _ _
     (λ text e. subst (λ (bytes : List ℕ). IsAsn1Time (asn1_tag c.args.at) bytes c.args.at) (sym (e ∙ same)) (asn1_is_text c.args.at c.requires)) c.body_of.ensures

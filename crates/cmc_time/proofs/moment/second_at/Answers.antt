@@ -17,5 +17,5 @@ returns c =
     let back_day : to_z w32 (of_z w32 day) ≡ day = to_z-of_z fits_day in
     let back : to_z w64 (of_z w64 c.second_from.result) ≡ c.second_from.result = to_z-of_z fits in
     let number : day ≡ days_from_civil (pos c.args.m.year) c.args.m.month c.args.m.day =
-        c.to_unix_epoch_day.ensures.value ∙ ap (λ (y : ℤ). days_from_civil y c.args.m.month c.args.m.day) year in
+    c.to_unix_epoch_day.ensures.value ∙ ap (λ (y : ℤ). days_from_civil y c.args.m.month c.args.m.day) year in
     rw (← c.is_moment.ensures, c.if-not-is_moment.false) (ap Some (back ∙ c.second_from.ensures.value ∙ ap (λ (z : ℤ). z *ℤ pos 86400 +ℤ pos (second_of_day c.args.m)) (back_day ∙ number)))

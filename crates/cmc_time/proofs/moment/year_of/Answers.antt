@@ -1,4 +1,4 @@
-use Rattle.std.proofs.Common.{arith, ◌≤ℤ◌, pos}
+use Rattle.std.proofs.Common.{arith}
 use Rattle.jiff_core.proofs.SignedLemmas.{signed_casts}
 use Rattle.jiff_core.proofs.DateLemmas.{civil}
 use Rattle.cmc_time.proofs.Days.{year_low}
