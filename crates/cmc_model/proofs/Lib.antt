@@ -1,3 +1,4 @@
 pub mod SameSpecs
 pub mod Keys
 pub mod Maps
+pub mod Steps

@@ -11,7 +11,7 @@ use Rattle.cmc_objects.specs.declared.entry.Entry.{Entry}
 use Rattle.cmc_objects.specs.declared.entry.Entry.TheVariants.{Script, Call as Called}
 use Rattle.cmc_objects.specs.Objects.{key_of, version_of}
 use Rattle.cmc_model.specs.Objects.{Objects, object_at}
-use Rattle.cmc_model.specs.Histories.{Setting, objects}
+use Rattle.cmc_model.specs.Histories.{Setting, objects, IsLegal}
 
 -- an apply creates where the key is free; else, and wherever a version is named, it updates
 abbrev pub apply_call : Object → Option ℕ → Option Object → Call
@@ -57,3 +57,8 @@ Follows s (e ∷ h) = FollowsEntry s h e × Follows s h
 pub record IsFinished (s : Setting) (h : List Entry) : Type 0 where
   pub all_steps : scripted h ≡ length s.script
   pub all_calls : owed s h ≡ None
+
+-- a history that a run of the scenario can have
+pub record IsRun (s : Setting) (h : List Entry) : Type 0 where
+  pub legal : IsLegal s h
+  pub follows : Follows s h

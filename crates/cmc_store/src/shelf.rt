@@ -28,6 +28,8 @@ impl Model for Shelf {
 }
 
 impl Shelf {
+    ghost use Rattle.std.specs.FinMap as finite;
+
     pub fn new(alloc: Global) -> Shelf
         ensures { result ≡ no_objects }
     {
@@ -54,5 +56,12 @@ impl Shelf {
         ensures { self.new ≡ without_object self.old key.now }
     {
         let _ = self.map.remove(key);
+    }
+
+    pub fn objects(&self) -> &BTreeMap<Key, Object>
+        ensures { finite.entries self.now ≡ result.now.entries }
+    {
+        let _entries = self.map.iter();
+        &self.map
     }
 }

@@ -1,3 +1,4 @@
+ghost use Rattle.std.specs.FinMap as finite;
 ghost use Rattle.std.specs.List.{list_any};
 ghost use Rattle.std.specs.Option.{option_copied};
 ghost use Rattle.std.specs.Prelude.{◌≡◌, ◌==◌, ◌+◌, ◌-◌, ◌<◌, ◌^◌, IfOk, OnErr, [], Some, None, if◌then◌else◌, false};
@@ -11,6 +12,7 @@ use crate::shelf::Shelf;
 use cmc_meta::{Key, Numbers};
 use cmc_objects::{Call, Object, Reply};
 use std::alloc::{AllocError, Global};
+use std::collections::BTreeMap;
 use std::marker::Model;
 
 /// The versioned store, which answers one call at a time.
@@ -56,6 +58,13 @@ impl Store {
         ensures { option_copied result ≡ object_at self.now.state.objects key.now }
     {
         self.shelf.get(key)
+    }
+
+    /// The map that keeps the objects, to go over them in order of key.
+    pub fn objects(&self) -> &BTreeMap<Key, Object>
+        ensures { finite.entries self.now.state.objects ≡ result.now.entries }
+    {
+        self.shelf.objects()
     }
 
     /// How many writes were accepted.

@@ -2,7 +2,9 @@
 #![tactic(auto)]
 
 mod memory;
+mod play;
 mod sink;
 mod source;
+mod summary;
 
 fn main(_rt: HostRuntime) {}

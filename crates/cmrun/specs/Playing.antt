@@ -1,0 +1,29 @@
+-- What the steps of a script leave.
+use Rattle.std.specs.Prelude.{◌≡◌, ℕ, ℤ, ◌+◌, List, [], ◌∷◌}
+use Rattle.cmc_objects.specs.declared.call.Reply.{Reply}
+use Rattle.cmc_objects.specs.declared.entry.Who.TheVariants.{User}
+use Rattle.cmc_objects.specs.declared.entry.Step.{Step}
+use Rattle.cmc_objects.specs.declared.entry.Entry.{Entry}
+use Rattle.cmc_objects.specs.declared.entry.Entry.TheVariants.{Script, Call as Called}
+use Rattle.cmc_model.specs.Replies.{IsReply, state_after}
+use Rattle.cmc_model.specs.Histories.{Setting, state}
+use Rattle.cmc_model.specs.Following.{call_of, IsRun, IsFinished}
+use Rattle.cmc_store.specs.Kept.{Kept}
+use Rattle.cmrun.specs.declared.play.Played.{Played}
+
+-- one step was made: its entry, and its call with the reply of the store that stood
+pub record Performs (now : ℤ) (number : ℕ) (step : Step) (old new : Kept) (before after : List Entry) : Type 0 where
+  pub reply : Reply
+  pub right : IsReply old.faults old.state (call_of old.state.objects step) reply
+  pub store : new ≡ record { faults = old.faults; state = state_after now old.state (call_of old.state.objects step) reply }
+  pub entries : after ≡ Called User (call_of old.state.objects step) reply ∷ Script number ∷ before
+
+-- a run of users' steps that begins at this moment, with no call that fails
+abbrev pub setting_of : ℤ → List Step → Setting
+setting_of now script = record { now = now; faults = []; script = script }
+
+-- all steps were made, and the store is what the history leaves
+pub record IsPlayed (now : ℤ) (script : List Step) (p : Played) : Type 0 where
+  pub run : IsRun (setting_of now script) p.history.entries
+  pub finished : IsFinished (setting_of now script) p.history.entries
+  pub store : p.store.state ≡ state (setting_of now script) p.history.entries
