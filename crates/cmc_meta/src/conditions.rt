@@ -1,7 +1,11 @@
-ghost use Rattle.std.specs.Prelude.{◌≡◌, ◌↔◌, [], IsTrue, IfOk};
+ghost use Rattle.std.specs.Option.{option_copied};
+ghost use Rattle.std.specs.Ordering.{nat_cmp};
+ghost use Rattle.std.specs.Prelude.{◌≡◌, ◌↔◌, ◌==◌, [], IsTrue, IfOk, OnOk, OnErr};
+ghost use Rattle.cmc_meta.specs.ConditionLists.{condition_rank, condition_at, kept_since, place_in, renewed, tri_eq};
 
 use crate::text::Text;
 use std::alloc::{AllocError, Global};
+use std::cmp::Ordering;
 use std::marker::Model;
 
 /// The kinds of conditions, in the order that a list of conditions has.
@@ -15,6 +19,18 @@ pub enum ConditionKind {
 }
 
 impl ConditionKind {
+    fn rank(self) -> u8
+        ensures { result ≡ condition_rank self }
+    {
+        match self {
+            ConditionKind::Ready => 0,
+            ConditionKind::Issuing => 1,
+            ConditionKind::Approved => 2,
+            ConditionKind::Denied => 3,
+            ConditionKind::InvalidRequest => 4,
+        }
+    }
+
     /// Whether both kinds are one.
     pub fn same(self, other: ConditionKind) -> bool
         ensures { IsTrue result ↔ (self ≡ other) }
@@ -41,7 +57,8 @@ pub enum Tri {
 impl Tri {
     /// Whether both are one.
     pub fn same(self, other: Tri) -> bool
-        ensures { IsTrue result ↔ (self ≡ other) }
+        ensures decides { IsTrue result ↔ (self ≡ other) }
+        ensures value { result ≡ tri_eq self other }
     {
         match (self, other) {
             (Tri::True, Tri::True) => true,
@@ -109,7 +126,7 @@ impl Model for Conditions {
 }
 
 impl Conditions {
-    ghost use Rattle.cmc_meta.specs.ConditionLists.{IsInOrder};
+    ghost use Rattle.cmc_meta.specs.ConditionLists.{IsInOrder, transitioned};
 
     /// No conditions. It takes no memory.
     pub fn new(alloc: Global) -> Conditions
@@ -126,6 +143,34 @@ impl Conditions {
         ensures order { IsInOrder self.now }
     {
         self.items.as_slice()
+    }
+
+    /// The condition of that kind; `None` exactly where no condition has it.
+    pub fn get(&self, kind: ConditionKind) -> Option<&Condition>
+        ensures { option_copied result ≡ condition_at self.now kind }
+    {
+        find_kind(self.items.as_slice(), kind)
+    }
+
+    /// Puts the condition in its place, where an older one of its kind goes. Where the status stays,
+    /// the old moment of the last transition stays with it (Kubernetes API conventions).
+    #[tactic(auto, unfolding(crate::specs::ConditionLists::transitioned))]
+    pub fn set(&mut self, new: Condition) -> Result<(), AllocError>
+        ensures ok { OnOk result (self.new ≡ transitioned self.old new) }
+        ensures err { OnErr result (self.new ≡ self.old) }
+    {
+        let new = keep_since(self.get(new.kind), new);
+        self.renew(new)
+    }
+
+    /// Puts the condition in its place, where an older one of its kind goes. Its own moment of the
+    /// last transition stands, also where the status stays.
+    #[tactic(auto, using(crate::proofs::Orders::renewed_in_order))]
+    pub fn renew(&mut self, new: Condition) -> Result<(), AllocError>
+        ensures ok { OnOk result (self.new ≡ renewed self.old new) }
+        ensures err { OnErr result (self.new ≡ self.old) }
+    {
+        put_condition(&mut self.items, new)
     }
 
     /// An equal list.
@@ -167,4 +212,51 @@ fn same_conditions(left: &[Condition], right: &[Condition]) -> bool
         }
     }
     true
+}
+
+fn find_kind(conditions: &[Condition], kind: ConditionKind) -> Option<&Condition>
+    ensures { option_copied result ≡ condition_at conditions.now kind }
+{
+    conditions
+        .iter()
+        .find(|condition| condition.kind.rank() == kind.rank())
+}
+
+fn keep_since(old: Option<&Condition>, new: Condition) -> Condition
+    ensures { result ≡ kept_since (option_copied old.entry) new }
+{
+    match old {
+        Some(old) if old.status.same(new.status) => Condition {
+            since: old.since,
+            ..new
+        },
+        _ => new,
+    }
+}
+
+/// Where the kind stands or would stand, and whether it is there.
+fn place_of(conditions: &[Condition], kind: ConditionKind) -> (usize, bool)
+    ensures { result ≡ place_in conditions.now kind }
+{
+    for (i, condition) in conditions.iter().enumerate() {
+        match kind.rank().cmp(&condition.kind.rank()) {
+            Ordering::Less => return (i, false),
+            Ordering::Equal => return (i, true),
+            Ordering::Greater => {}
+        }
+    }
+    (conditions.len(), false)
+}
+
+fn put_condition(items: &mut Vec<Condition>, new: Condition) -> Result<(), AllocError>
+    ensures ok { OnOk result (items.new.items ≡ renewed items.old.items new) }
+    ensures err { OnErr result (items.new.items ≡ items.old.items) }
+{
+    let (place, taken) = place_of(items.as_slice(), new.kind);
+    if taken {
+        items[place] = new;
+        return Ok(());
+    }
+    items.insert(place, new)?;
+    Ok(())
 }
