@@ -8,11 +8,13 @@
 mod cursor;
 mod error;
 mod floats;
+mod tree;
 mod values;
 mod wording;
 
 pub use cursor::{Fields, at, check_end, fields, optional, required};
 pub use error::BadField;
 pub use floats::check_floats;
+pub use tree::{Members, Tree, Trees};
 pub use values::{count, flag, small_count, text, texts, word};
 pub use wording::{decimal, name, name_of, printable, short_text};
