@@ -63,9 +63,9 @@ put_has_none name d no_members h none = member_has_none name d no_members h refl
 put_has_none name d (member other e ms) h none =
     let parts : (has_float e ≡ false) × (members_have_float ms ≡ false) = both_false (has_float e) (members_have_float ms) none in
     choice_has_none (slice_cmp nat_cmp name other) _ _ _
-        (member_has_none name d (member other e ms) h none)
-        (member_has_none other d ms h parts.1)
-        (member_has_none other e (put name d ms) parts.0 (put_has_none name d ms h parts.1))
+    (member_has_none name d (member other e ms) h none)
+    (member_has_none other d ms h parts.1)
+    (member_has_none other e (put name d ms) parts.0 (put_has_none name d ms h parts.1))
 
 pub push_has_none : (vs : List Value) (v : Value) → items_have_float (items_view vs) ≡ false → has_float (view v) ≡ false → items_have_float (items_view (vs ++ v ∷ [])) ≡ false
 push_has_none [] v h one = rw one refl

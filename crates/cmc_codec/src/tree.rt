@@ -108,7 +108,7 @@ impl Tree {
 }
 
 impl Members {
-    ghost use Rattle.std.specs.Prelude.{OnOk, OnErr};
+    ghost use Rattle.std.specs.Prelude.{◌≢◌, MatchBool, OnOk, OnErr};
     ghost use Rattle.serde_json.specs.Data.{no_members, put};
     ghost use Rattle.cmc_codec.specs.Trees.{data_of, members_of};
 
@@ -119,6 +119,13 @@ impl Members {
         Members {
             map: Map::new(alloc),
         }
+    }
+
+    /// Whether there are none.
+    pub fn is_empty(&self) -> bool
+        ensures { MatchBool result (members_of self.now ≡ no_members) (members_of self.now ≢ no_members) }
+    {
+        self.map.is_empty()
     }
 
     /// Puts the value under the name, in place of an older one.
