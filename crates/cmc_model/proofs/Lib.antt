@@ -1,1 +1,3 @@
 pub mod SameSpecs
+pub mod Keys
+pub mod Maps

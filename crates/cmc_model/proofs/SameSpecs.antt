@@ -3,8 +3,7 @@ use Rattle.std.proofs.Common.{◌≡◌, ℕ, List, Bool, true, false, Option, S
 use Rattle.std.proofs.lemmas.Bool.Decides.{nat_tests}
 use Rattle.std.proofs.lemmas.Slice.Eq.{bytes_eq-Decides, slice_eq-Decides}
 use Rattle.std.specs.Bool.{Decides}
-use Rattle.std.specs.Prelude.{◌&&◌, ◌==◌, unwrap_or}
-use Rattle.std.specs.Str.{bytes_eq}
+use Rattle.std.specs.Prelude.{◌&&◌, unwrap_or}
 use Rattle.cmc_objects.specs.declared.issuer.IssuerRef.{IssuerRef}
 use Rattle.cmc_objects.specs.declared.key_spec.Algorithm.{Algorithm}
 use Rattle.cmc_objects.specs.declared.key_spec.Algorithm.TheVariants.{Rsa, Ecdsa}
@@ -73,7 +72,7 @@ pub key_spec_eq-Decides : (a b : KeySpec) → Decides (key_spec_eq a b) (a ≡ b
 unfolding key_spec_eq
 key_spec_eq-Decides a b =
     let parts = and-Decides _ _ (option_eq-Decides algorithm_eq-Decides a.algorithm b.algorithm) (and-Decides _ _ (numbers a.size b.size)
-        (and-Decides _ _ (option_eq-Decides encoding_eq-Decides a.encoding b.encoding) (option_eq-Decides rotation_eq-Decides a.rotation b.rotation))) in (
+    (and-Decides _ _ (option_eq-Decides encoding_eq-Decides a.encoding b.encoding) (option_eq-Decides rotation_eq-Decides a.rotation b.rotation))) in (
       λ h. let p = parts.0 h in λ i. record { algorithm = p.0 i; size = p.1.0 i; encoding = p.1.1.0 i; rotation = p.1.1.1 i },
       λ h. parts.1 (ap (λ (r : KeySpec). r.algorithm) h, (ap (λ (r : KeySpec). r.size) h, (ap (λ (r : KeySpec). r.encoding) h, ap (λ (r : KeySpec). r.rotation) h))),
     )
@@ -82,7 +81,7 @@ pub request_spec_eq-Decides : (a b : RequestSpec) → Decides (request_spec_eq a
 unfolding request_spec_eq
 request_spec_eq-Decides a b =
     let parts = and-Decides _ _ (issuer_eq-Decides a.issuer b.issuer) (and-Decides _ _ (numbers a.duration b.duration) (and-Decides _ _ (flag_eq-Decides a.is_ca b.is_ca)
-        (and-Decides _ _ (texts_eq-Decides a.usages b.usages) (bytes_eq-Decides a.request b.request)))) in (
+    (and-Decides _ _ (texts_eq-Decides a.usages b.usages) (bytes_eq-Decides a.request b.request)))) in (
       λ h. let p = parts.0 h in λ i. record { issuer = p.0 i; duration = p.1.0 i; is_ca = p.1.1.0 i; usages = p.1.1.1.0 i; request = p.1.1.1.1 i },
       λ h. parts.1 (ap (λ (r : RequestSpec). r.issuer) h, (ap (λ (r : RequestSpec). r.duration) h, (ap (λ (r : RequestSpec). r.is_ca) h, (ap (λ (r : RequestSpec). r.usages) h, ap (λ (r : RequestSpec). r.request) h)))),
     )
@@ -97,13 +96,53 @@ cert_spec_eq-Decides a b =
     let names = and-Decides _ _ (texts_eq-Decides a.dns_names b.dns_names) (and-Decides _ _ (texts_eq-Decides a.ip_addresses b.ip_addresses) others) in
     let parts = and-Decides _ _ (bytes_eq-Decides a.secret_name b.secret_name) (and-Decides _ _ (issuer_eq-Decides a.issuer b.issuer) (and-Decides _ _ (bytes_eq-Decides a.common_name b.common_name) names)) in (
       λ h. let p = parts.0 h in let n = p.1.1.1 in let o = n.1.1 in let u = o.1.1 in let t = u.1.1 in λ i. record {
-        secret_name = p.0 i; issuer = p.1.0 i; common_name = p.1.1.0 i;
-        dns_names = n.0 i; ip_addresses = n.1.0 i; uris = o.0 i; emails = o.1.0 i;
-        is_ca = u.0 i; usages = u.1.0 i; duration = t.0 i; renew_before = t.1.0 i; key = t.1.1.0 i; history_limit = t.1.1.1 i;
+        secret_name = p.0 i;
+        issuer = p.1.0 i;
+        common_name = p.1.1.0 i;
+        dns_names = n.0 i;
+        ip_addresses = n.1.0 i;
+        uris = o.0 i;
+        emails = o.1.0 i;
+        is_ca = u.0 i;
+        usages = u.1.0 i;
+        duration = t.0 i;
+        renew_before = t.1.0 i;
+        key = t.1.1.0 i;
+        history_limit = t.1.1.1 i;
       },
       λ h.
-        parts.1 (ap (λ (r : CertSpec). r.secret_name) h, (ap (λ (r : CertSpec). r.issuer) h, (ap (λ (r : CertSpec). r.common_name) h,
-            (ap (λ (r : CertSpec). r.dns_names) h, (ap (λ (r : CertSpec). r.ip_addresses) h, (ap (λ (r : CertSpec). r.uris) h, (ap (λ (r : CertSpec). r.emails) h,
-            (ap (λ (r : CertSpec). r.is_ca) h, (ap (λ (r : CertSpec). r.usages) h, (ap (λ (r : CertSpec). r.duration) h, (ap (λ (r : CertSpec). r.renew_before) h,
-            (ap (λ (r : CertSpec). r.key) h, ap (λ (r : CertSpec). r.history_limit) h)))))))))))),
+          parts.1 (
+            ap (λ (r : CertSpec). r.secret_name) h,
+            (
+              ap (λ (r : CertSpec). r.issuer) h,
+              (
+                ap (λ (r : CertSpec). r.common_name) h,
+                (
+                  ap (λ (r : CertSpec). r.dns_names) h,
+                  (
+                    ap (λ (r : CertSpec). r.ip_addresses) h,
+                    (
+                      ap (λ (r : CertSpec). r.uris) h,
+                      (
+                        ap (λ (r : CertSpec). r.emails) h,
+                        (
+                          ap (λ (r : CertSpec). r.is_ca) h,
+                          (
+                            ap (λ (r : CertSpec). r.usages) h,
+                            (
+                              ap (λ (r : CertSpec). r.duration) h,
+                              (
+                                ap (λ (r : CertSpec). r.renew_before) h,
+                                (ap (λ (r : CertSpec). r.key) h, ap (λ (r : CertSpec). r.history_limit) h),
+                              ),
+                            ),
+                          ),
+                        ),
+                      ),
+                    ),
+                  ),
+                ),
+              ),
+            ),
+          ),
     )

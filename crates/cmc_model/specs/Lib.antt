@@ -5,3 +5,4 @@ pub mod Admission
 pub mod Replies
 pub mod Histories
 pub mod Following
+pub mod Summaries

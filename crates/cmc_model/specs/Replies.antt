@@ -29,9 +29,9 @@ IsAdmitted None admitted reply = admitted
 IsAdmitted (Some rule) admitted reply = reply ≡ Invalid rule
 
 -- a write that would leave the object as it was writes nothing
-abbrev pub IsChange : ℕ → Object → Object → Reply → Type 0
-IsChange accepted old new reply =
-    ((new ≡ old) × (reply ≡ Unchanged (version_of old))) ⊎ ((new ≢ old) × (reply ≡ Ok (accepted + 1) (name_of old)))
+abbrev pub IsChange : ℕ → List ℕ → Object → Object → Reply → Type 0
+IsChange accepted name old new reply =
+    ((new ≡ old) × (reply ≡ Unchanged (version_of old))) ⊎ ((new ≢ old) × (reply ≡ Ok (accepted + 1) name))
 
 abbrev pub IsCreated : ℕ → Object → Option Object → Reply → Type 0
 IsCreated accepted object (Some old) reply = reply ≡ AlreadyExists (version_of old)
@@ -44,12 +44,12 @@ IsAtVersion named old served reply = MatchBool (named == version_of old) served 
 abbrev pub IsUpdated : ℕ → Object → ℕ → Option Object → Reply → Type 0
 IsUpdated accepted object named None reply = reply ≡ NotFound accepted
 IsUpdated accepted object named (Some old) reply =
-    IsAtVersion named old (IsAdmitted (refusing_rule (Some old) (updated old object)) (IsChange accepted old (updated old object) reply) reply) reply
+    IsAtVersion named old (IsAdmitted (refusing_rule (Some old) (updated old object)) (IsChange accepted (name_of object) old (updated old object) reply) reply) reply
 
 abbrev pub IsRestated : ℕ → Object → ℕ → Option Object → Reply → Type 0
 IsRestated accepted object named None reply = reply ≡ NotFound accepted
 IsRestated accepted object named (Some old) reply =
-    IsAtVersion named old (IsAdmitted (refusing_rule (Some old) (with_status old object)) (IsChange accepted old (with_status old object) reply) reply) reply
+    IsAtVersion named old (IsAdmitted (refusing_rule (Some old) (with_status old object)) (IsChange accepted (name_of object) old (with_status old object) reply) reply) reply
 
 abbrev pub IsDeleted : ℕ → Option ℕ → List ℕ → Option Object → Reply → Type 0
 IsDeleted accepted named name None reply = reply ≡ NotFound accepted
@@ -119,3 +119,10 @@ state_after now s call reply =
       accepted = if is_accepted reply then s.accepted + 1 else s.accepted;
       calls = s.calls + 1;
     }
+
+-- the key that an accepted write wrote, and what it stored there
+abbrev pub key_written : Call → Reply → Option Key
+key_written call reply = if is_accepted reply then Some (key_of_call call) else None
+
+abbrev pub object_written : ℤ → State → Call → Reply → Option Object
+object_written now s call reply = if is_accepted reply then stored (s.accepted + 1) now s.objects call else None
