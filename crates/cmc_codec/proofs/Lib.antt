@@ -1,2 +1,3 @@
 pub mod FloatFree
 pub mod Digits
+pub mod Bare

@@ -8,11 +8,22 @@
 mod cursor;
 mod error;
 mod floats;
+mod metadata;
+mod printing;
+mod puts;
+mod spec_trees;
+mod statuses;
+mod tree;
 mod values;
 mod wording;
+mod words;
 
 pub use cursor::{Fields, at, check_end, fields, optional, required};
 pub use error::BadField;
 pub use floats::check_floats;
+pub use printing::{tree_of, value_of};
+pub use puts::{put_count, put_text};
+pub use tree::{Members, Tree, Trees};
 pub use values::{count, flag, small_count, text, texts, word};
 pub use wording::{decimal, name, name_of, printable, short_text};
+pub use words::kind_word;

@@ -1,0 +1,21 @@
+-- The text of a run: the scenario, the entries from the oldest on, and the summary, a line each.
+use Rattle.std.specs.Prelude.{ℕ, List, [], ◌∷◌, ◌++◌, ◌+◌, length}
+use Rattle.std.specs.List.{flat_map}
+use Rattle.serde_json.specs.Data.{Data}
+use Rattle.cmc_objects.specs.declared.entry.Entry.{Entry}
+use Rattle.cmc_model.specs.declared.summary.Summary.{Summary}
+use Rattle.cmc_codec.specs.Trees.{line_of}
+use Rattle.cmc_report.specs.Trees.{scenario_tree, entry_tree, summary_tree}
+
+-- Texts one after another.
+abbrev pub joined : List (List ℕ) → List ℕ
+joined lines = flat_map (λ line. line) lines
+
+-- The entry that is the newest of a history has the number of its entries.
+abbrev pub entry_lines : List Entry → List ℕ
+entry_lines [] = []
+entry_lines (e ∷ h) = entry_lines h ++ line_of (entry_tree (length h + 1) e)
+
+-- The text of a history, whose newest entry stands at the head.
+unfoldable pub history_lines : Data → List Entry → Summary → List ℕ
+history_lines scenario history summary = line_of (scenario_tree scenario) ++ (entry_lines history ++ line_of (summary_tree summary))

@@ -1,0 +1,14 @@
+//! The text of a run.
+//!
+//! The first line is the scenario as it was read, then comes one line for each entry of the history
+//! from the oldest on, and last the summary. A line is compact JSON, with members in byte order.
+#![tactic(auto)]
+
+mod calls;
+mod entries;
+mod lines;
+mod summaries;
+mod text;
+
+pub use lines::Lines;
+pub use text::history_text;

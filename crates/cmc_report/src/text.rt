@@ -1,0 +1,44 @@
+// The text of a run.
+ghost use Rattle.std.specs.Prelude.{◌≡◌, ◌++◌, false, reverse, IfOk, OnOk};
+ghost use Rattle.serde_json.specs.View.{view};
+ghost use Rattle.serde_json.specs.Written.{has_float};
+ghost use Rattle.cmc_report.specs.Text.{joined, entry_lines, history_lines};
+
+use crate::entries::entry_line;
+use crate::lines::Lines;
+use crate::summaries::{scenario_line, summary_line};
+use cmc_history::History;
+use cmc_model::Summary;
+use cmc_objects::Entry;
+use serde_json::Value;
+use std::alloc::{AllocError, Global};
+
+// Adds the lines of the entries, the oldest of which is the first.
+fn push_entries(lines: &mut Lines, alloc: Global, entries: &[Entry]) -> Result<(), AllocError>
+    ensures { OnOk result (joined lines.new ≡ joined lines.old ++ entry_lines (reverse entries.now)) }
+{
+    for (place, entry) in entries.iter().enumerate() {
+        let line = entry_line(alloc, place as u64 + 1, entry)?;
+        lines.push(line)?;
+    }
+    Ok(())
+}
+
+/// The lines of a run: the scenario as it was read, the entries of the history from the oldest on,
+/// and the summary. Each ends in a line feed. No number in the scenario may be a float.
+#[tactic(auto, unfolding(crate::specs::Text::history_lines))]
+pub fn history_text(
+    alloc: Global,
+    scenario: &Value,
+    history: &History,
+    summary: &Summary,
+) -> Result<Lines, AllocError>
+    requires { has_float (view scenario.now) ≡ false }
+    ensures { IfOk result (λ lines. joined lines ≡ history_lines (view scenario.now) history.now.entries summary.now) }
+{
+    let mut lines = Lines::new(alloc);
+    lines.push(scenario_line(alloc, scenario)?)?;
+    push_entries(&mut lines, alloc, history.as_slice())?;
+    lines.push(summary_line(alloc, summary)?)?;
+    Ok(lines)
+}
