@@ -1,0 +1,51 @@
+-- What a run writes for what it reads.
+use Rattle.std.specs.Prelude.{◌≡◌, ◌⊎◌, ◌<◌, ℕ, pos, List, Some, None, Ok, Err}
+use Rattle.std.specs.Str.{IsUtf8}
+use Rattle.serde_json.specs.Data.{Data}
+use Rattle.serde_json.specs.Read.{read}
+use Rattle.cmc_objects.specs.declared.entry.Entry.{Entry}
+use Rattle.cmc_model.specs.Histories.{Setting, objects}
+use Rattle.cmc_model.specs.Following.{IsRun, IsFinished}
+use Rattle.cmc_model.specs.Summaries.{summary_of}
+use Rattle.cmc_report.specs.Text.{history_lines}
+use Rattle.cmc_scenario.specs.declared.scenario.Scenario.{Scenario}
+use Rattle.cmc_scenario.specs.Scenarios.{scenario_at}
+use Rattle.cmrun.specs.Playing.{setting_of}
+
+-- a run of a scenario begins at 2030-01-01T00:00:00Z
+abbrev pub setting : Scenario → Setting
+setting scenario = setting_of (pos 1893456000) scenario.script
+
+-- the bytes are UTF-8, and the JSON text of this value
+pub record Reads (bytes : List ℕ) (value : Data) : Type 0 where
+  pub utf8 : IsUtf8 bytes
+  pub json : read bytes ≡ Some value
+
+-- the text is that of a finished history of the scenario, which is read from this value
+pub record RunsOn (value : Data) (scenario : Scenario) (text : List ℕ) : Type 0 where
+  pub history : List Entry
+  pub run : IsRun (setting scenario) history
+  pub finished : IsFinished (setting scenario) history
+  pub is : text ≡ history_lines value history (summary_of (objects (setting scenario) history))
+
+-- the value is that of a scenario, and the text that of a finished history of it
+pub record Answers (value : Data) (text : List ℕ) : Type 0 where
+  pub scenario : Scenario
+  pub form : scenario_at value ≡ Ok scenario
+  pub runs : RunsOn value scenario text
+
+-- the bytes are JSON of a scenario, and the text answers it
+pub record IsRunOf (bytes text : List ℕ) : Type 0 where
+  pub value : Data
+  pub reads : Reads bytes value
+  pub answer : Answers value text
+
+-- the bytes are no JSON
+abbrev pub HasNoReading : List ℕ → Type 0
+HasNoReading bytes = (¬ (IsUtf8 bytes)) ⊎ (read bytes ≡ None)
+
+-- the value of the bytes is no scenario: this path is the first that fails
+pub record FailsAt (bytes path : List ℕ) : Type 0 where
+  pub value : Data
+  pub reads : Reads bytes value
+  pub form : scenario_at value ≡ Err path

@@ -1,0 +1,59 @@
+-- What each status says of what was read and written.
+use Rattle.std.specs.Prelude.{◌≡◌, ◌⊎◌, ℕ, ◌<◌, ◌≤◌, Err, List, [], ◌∷◌, Bool, false, length, codes, String, string_bytes}
+use Rattle.std.specs.declared.alloc.Global.{Global}
+use Rattle.std.specs.declared.option.Option.{Option}
+use Rattle.std.specs.Str.{bytes_eq}
+use Rattle.std.specs.Io.KnownBytes.{Appends, Keeps}
+use Rattle.serde_json.specs.Data.{Data}
+use Rattle.cmc_scenario.specs.Scenarios.{scenario_at}
+use Rattle.cmrun.specs.Ends.{AppendsPrefix}
+use Rattle.cmrun.specs.Headline.{IsRunOf, HasNoReading, FailsAt}
+use Rattle.cmrun.specs.declared.top.Status.{Status}
+use Rattle.cmrun.specs.declared.top.Status.TheVariants.{Done, TooLong, NotJson, BadScenario, Usage, ReadFault, WriteFault, NoMemory}
+
+-- the words are the one word `run`
+abbrev pub is_run_words : List (String Global) → Bool
+is_run_words [] = false
+is_run_words (word ∷ []) = bytes_eq (string_bytes word) (codes "run")
+is_run_words (word ∷ other ∷ words) = false
+
+-- why a value was not run
+abbrev pub RefusesValue : Data → Status → Type 0
+RefusesValue value (BadScenario path) = scenario_at value ≡ Err path
+RefusesValue value NoMemory = Unit {0}
+RefusesValue value NotJson = ⊥
+RefusesValue value Done = ⊥
+RefusesValue value TooLong = ⊥
+RefusesValue value Usage = ⊥
+RefusesValue value ReadFault = ⊥
+RefusesValue value WriteFault = ⊥
+
+-- why some bytes were not run
+abbrev pub Refuses : List ℕ → Status → Type 0
+Refuses bytes NotJson = HasNoReading bytes
+Refuses bytes (BadScenario path) = FailsAt bytes path
+Refuses bytes NoMemory = Unit {0}
+Refuses bytes Done = ⊥
+Refuses bytes TooLong = ⊥
+Refuses bytes Usage = ⊥
+Refuses bytes ReadFault = ⊥
+Refuses bytes WriteFault = ⊥
+
+-- the input has at most 16,777,216 bytes, or more
+abbrev pub IsShort : List ℕ → Type 0
+IsShort bytes = length bytes ≤ 16777216
+
+abbrev pub IsLong : List ℕ → Type 0
+IsLong bytes = 16777216 < length bytes
+
+-- What a status says of the bytes that could be read, and of what the sink held and holds. An input that is too long is
+-- answered by TooLong, unless a fault or want of memory comes before.
+abbrev pub Explains : Status → List ℕ → Option (List ℕ) → Option (List ℕ) → Type 0
+Explains Done bytes old new = IsShort bytes × ((text : List ℕ) × IsRunOf bytes text × Appends old new text)
+Explains WriteFault bytes old new = IsShort bytes × ((text : List ℕ) × IsRunOf bytes text × AppendsPrefix old new text)
+Explains TooLong bytes old new = IsLong bytes × Keeps old new
+Explains NotJson bytes old new = IsShort bytes × (HasNoReading bytes × Keeps old new)
+Explains (BadScenario path) bytes old new = IsShort bytes × (FailsAt bytes path × Keeps old new)
+Explains Usage bytes old new = Keeps old new
+Explains ReadFault bytes old new = Keeps old new
+Explains NoMemory bytes old new = Keeps old new

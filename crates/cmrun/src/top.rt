@@ -1,0 +1,152 @@
+// The top call: from the bytes read to the bytes written.
+ghost use Rattle.serde_json.specs.View.{view};
+ghost use Rattle.serde_json.specs.Written.{has_float};
+ghost use Rattle.std.specs.Io.KnownBytes.{IsAtEnd};
+ghost use Rattle.std.specs.Prelude.{◌≡◌, ◌↔◌, false, IfOk, IfErr, IfSome};
+ghost use Rattle.std.specs.Str.{IsUtf8};
+ghost use Rattle.cmc_report.specs.Text.{joined};
+ghost use Rattle.cmrun.specs.Ends.{Rose};
+ghost use Rattle.cmrun.specs.Headline.{Answers, IsRunOf, RunsOn};
+ghost use Rattle.cmrun.specs.Statuses.{Explains, Refuses, RefusesValue, is_run_words};
+
+use crate::play::play;
+use crate::sink::{Sink, write_lines};
+use crate::source::{ReadError, Source, read_all};
+use crate::summary::summarize;
+use cmc_meta::Text;
+use cmc_report::{Lines, history_text};
+use cmc_scenario::{BadScenario, Scenario, read};
+use serde_json::{Category, Value};
+use std::alloc::{AllocError, Global};
+use std::str;
+
+/// How a run ended.
+#[derive(Drop)]
+pub enum Status {
+    /// The run is finished and its text is written.
+    Done,
+    /// The input has more than 16,777,216 bytes.
+    TooLong,
+    /// The input is no JSON.
+    NotJson,
+    /// The input is JSON, but no scenario: it fails at this path first.
+    BadScenario(Text),
+    /// The words are not the one word `run`.
+    Usage,
+    /// A read failed.
+    ReadFault,
+    /// A write failed.
+    WriteFault,
+    /// Memory ran out.
+    NoMemory,
+}
+
+impl From<AllocError> for Status {
+    ghost use Rattle.cmrun.specs.declared.top.Status.TheVariants.{NoMemory};
+
+    ghost from_gives = { λ _ s. s ≡ NoMemory };
+
+    fn from(_: AllocError) -> Self {
+        Status::NoMemory
+    }
+}
+
+/// The moment at which a run begins: 2030-01-01T00:00:00Z.
+const START: i64 = 1_893_456_000;
+
+/// The lines of the run of a scenario, which the value is.
+fn run_of(alloc: Global, value: &Value, scenario: &Scenario) -> Result<Lines, AllocError>
+    requires { has_float (view value.now) ≡ false }
+    ensures { IfOk result (λ lines. RunsOn (view value.now) scenario.now (joined lines)) }
+{
+    let played = play(alloc, START, scenario.script.as_slice())?;
+    let summary = summarize(alloc, played.store.objects())?;
+    history_text(alloc, value, &played.history, &summary)
+}
+
+/// The lines of the run of a value.
+fn answer(alloc: Global, value: &Value) -> Result<Lines, Status>
+    ensures ok { IfOk result (λ lines. Answers (view value.now) (joined lines)) }
+    ensures err { IfErr result (λ status. RefusesValue (view value.now) status) }
+{
+    match read(alloc, value) {
+        Ok(scenario) => match run_of(alloc, value, &scenario) {
+            Ok(lines) => Ok(lines),
+            Err(_) => Err(Status::NoMemory),
+        },
+        Err(BadScenario::Path(path)) => Err(Status::BadScenario(path)),
+        Err(BadScenario::NoMemory) => Err(Status::NoMemory),
+    }
+}
+
+/// The lines of the run of a text.
+fn answer_text(alloc: Global, text: &str) -> Result<Lines, Status>
+    requires { IsUtf8 text.now }
+    ensures ok { IfOk result (λ lines. IsRunOf text.now (joined lines)) }
+    ensures err { IfErr result (λ status. Refuses text.now status) }
+{
+    match Value::from_str(alloc, text) {
+        Ok(value) => answer(alloc, &value),
+        Err(error) => match error.classify() {
+            Category::Memory => Err(Status::NoMemory),
+            _ => Err(Status::NotJson),
+        },
+    }
+}
+
+/// The lines of the run of some bytes.
+fn answer_bytes(alloc: Global, bytes: &[u8]) -> Result<Lines, Status>
+    ensures ok { IfOk result (λ lines. IsRunOf bytes.now (joined lines)) }
+    ensures err { IfErr result (λ status. Refuses bytes.now status) }
+{
+    match str::from_utf8(bytes) {
+        Ok(text) => answer_text(alloc, text),
+        Err(_) => Err(Status::NotJson),
+    }
+}
+
+fn is_run(words: &[String]) -> bool
+    ensures { result ≡ is_run_words words.now }
+{
+    match words {
+        [word] => word.as_str() == "run",
+        _ => false,
+    }
+}
+
+/// Does all that the program does: reads a scenario from the source, makes its user calls on an empty
+/// store, and writes the history and its summary to the sink.
+///
+/// The lines are made before the first of them is written. Each status has its cause, as its variant
+/// says; at `WriteFault` some first part of the text was written, and at every status but `Done` and
+/// `WriteFault` nothing was.
+pub fn run<S: Source, K: Sink>(
+    alloc: Global,
+    words: &[String],
+    source: &mut S,
+    sink: &mut K,
+) -> Status
+    ensures told { IfSome (S.left source.old) (λ bytes. Explains result bytes (K.holds sink.old) (K.holds sink.new)) }
+    ensures end { result ≡ Status.Done → IsAtEnd (S.left source.new) }
+    ensures usage { (result ≡ Status.Usage) ↔ (is_run_words words.now ≡ false) }
+    ensures read { result ≡ Status.ReadFault → Rose (S.faults source.old) (S.faults source.new) }
+    ensures write { result ≡ Status.WriteFault → Rose (K.faults sink.old) (K.faults sink.new) }
+{
+    if !is_run(words) {
+        return Status::Usage;
+    }
+    let bytes = match read_all(alloc, source) {
+        Ok(bytes) => bytes,
+        Err(ReadError::NoMemory) => return Status::NoMemory,
+        Err(ReadError::Fault) => return Status::ReadFault,
+        Err(ReadError::TooLong) => return Status::TooLong,
+    };
+    let lines = match answer_bytes(alloc, bytes.as_slice()) {
+        Ok(lines) => lines,
+        Err(status) => return status,
+    };
+    match write_lines(sink, lines.as_slice()) {
+        Ok(()) => Status::Done,
+        Err(_) => Status::WriteFault,
+    }
+}
