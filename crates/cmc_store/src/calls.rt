@@ -118,7 +118,7 @@ pub fn update_status(
         return Ok(refused(Reply::NotFound { at: accepted }));
     };
     let have = old.meta().version;
-    if named != have {
+    if have != named {
         return Ok(refused(Reply::Conflict { named, have }));
     }
     match restate(old, object, accepted + 1)? {

@@ -108,10 +108,10 @@ fn merge_status(old: &Object, new: &Object) -> Result<Object, AllocError>
             spec: a.spec.copy()?,
             status: b.status.copy()?,
         })),
-        (Object::Request(a), Object::Request(b)) => Ok(Object::Request(CertificateRequest {
-            meta: a.meta.copy()?,
-            spec: a.spec.copy()?,
-            status: b.status.copy()?,
+        (Object::Request(r), Object::Request(q)) => Ok(Object::Request(CertificateRequest {
+            meta: r.meta.copy()?,
+            spec: r.spec.copy()?,
+            status: q.status.copy()?,
         })),
         _ => old.copy(),
     }

@@ -60,3 +60,6 @@ fn ended(rt: &impl Eprint, text: &str, code: u8) -> ExitCode {
     let _ = eprintln!(rt; "cmrun: {text}");
     ExitCode::from(code)
 }
+
+#[cfg(test)]
+mod tests;

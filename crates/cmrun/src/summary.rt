@@ -20,7 +20,9 @@ fn is_ready_condition(condition: &Condition) -> bool
 fn are_ready(conditions: &[Condition]) -> bool
     ensures { result ≡ says_ready conditions.now }
 {
-    conditions.iter().any(|condition| is_ready_condition(condition))
+    conditions
+        .iter()
+        .any(|condition| is_ready_condition(condition))
 }
 
 fn counts_as_certificate(object: &Object) -> bool
@@ -56,19 +58,28 @@ fn counts_as_waiting(object: &Object) -> bool
 fn certificates(objects: &Objects) -> u64
     ensures { result ≡ count_by (λ e. is_certificate e.1) objects.now.entries }
 {
-    objects.iter().filter(|(_, object)| counts_as_certificate(object)).count() as u64
+    objects
+        .iter()
+        .filter(|(_, object)| counts_as_certificate(object))
+        .count() as u64
 }
 
 fn ready(objects: &Objects) -> u64
     ensures { result ≡ count_by (λ e. is_ready e.1) objects.now.entries }
 {
-    objects.iter().filter(|(_, object)| counts_as_ready(object)).count() as u64
+    objects
+        .iter()
+        .filter(|(_, object)| counts_as_ready(object))
+        .count() as u64
 }
 
 fn secrets(objects: &Objects) -> u64
     ensures { result ≡ count_by (λ e. is_secret e.1) objects.now.entries }
 {
-    objects.iter().filter(|(_, object)| counts_as_secret(object)).count() as u64
+    objects
+        .iter()
+        .filter(|(_, object)| counts_as_secret(object))
+        .count() as u64
 }
 
 fn waiting(alloc: Global, objects: &Objects) -> Result<Waits, AllocError>
