@@ -136,9 +136,9 @@ length_done (x ∷ bs) e =
     elim (chosen (ltb x 128) (Ok (x, bs)) (cond ((eqb x 128) || ltb 132 x) (nothing (NotDer 1)) (long_at (x - 128) bs)) (nothing Cut) e) [
       | inl t ↦ absurd (cc (t.1))
       | inr t ↦ elim (chosen ((eqb x 128) || ltb 132 x) (nothing (NotDer 1)) (long_at (x - 128) bs) (nothing Cut) t.1) [
-          | inl u ↦ absurd (cut_is_not 1 u.1)
-          | inr u ↦ let d = long_done (x - 128) bs u.1 in record { more = d.more; n = d.n; reads = rw (t.0, u.0) d.reads }
-        ]
+        | inl u ↦ absurd (cut_is_not 1 u.1)
+        | inr u ↦ let d = long_done (x - 128) bs u.1 in record { more = d.more; n = d.n; reads = rw (t.0, u.0) d.reads }
+      ]
     ]
 
 record Finishes (bs : List ℕ) : Type 0 where
@@ -164,23 +164,23 @@ read_done (tag ∷ bs) e =
     elim (chosen (eqb (tag % 32) 31) (broken (NotDer 0)) (length_at bs >>= body_at tag) (broken Cut) e) [
       | inl t ↦ absurd (not_cut 0 t.1)
       | inr t ↦ elim (bind_err (length_at bs) (body_at tag) Cut t.1) [
-          | inl b ↦
-              let d = length_done bs b in
-              let z : List ℕ = replicate d.n 0 in
-              let g : length_at ((bs ++ d.more) ++ replicate d.n 0) ≡ Ok (d.n, replicate d.n 0) = rw d.reads at (length_goes (replicate d.n 0) (bs ++ d.more)) in
-              let len : length z ≡ d.n = length-replicate d.n 0 in
-              let whole : read_at (tag ∷ ((bs ++ d.more) ++ replicate d.n 0)) ≡ answer (tag, take d.n (replicate d.n 0), drop d.n (replicate d.n 0)) = rw (t.0, g, le-ltb (length z) d.n (omega arith)) refl in
-              record { more = d.more ++ replicate d.n 0; found = (tag, take d.n (replicate d.n 0), drop d.n (replicate d.n 0)); reads = rw (← append_assoc bs d.more (replicate d.n 0)) whole; whole = nil_from_length (drop d.n z) (omega (arith, length-drop d.n z)) }
-          | inr b ↦
-              let n = b.0.0 in
-              let r = b.0.1 in
-              let m : List ℕ = replicate (n - length r) 0 in
-              let g : length_at (bs ++ m) ≡ Ok (n, r ++ m) = rw (b.1) at (length_goes m bs) in
-              let z : length m ≡ n - length r = length-replicate (n - length r) 0 in
-              let cut : length r < n = short_body tag (n, r) b.2 in
-              let long : length (r ++ m) ≡ n = omega (arith, length-append r m) in
-              record { more = m; found = (tag, take n (r ++ m), drop n (r ++ m)); reads = rw (t.0, g, le-ltb (length (r ++ m)) n (omega arith)) refl; whole = nil_from_length (drop n (r ++ m)) (omega (arith, length-drop n (r ++ m))) }
-        ]
+        | inl b ↦
+            let d = length_done bs b in
+            let z : List ℕ = replicate d.n 0 in
+            let g : length_at ((bs ++ d.more) ++ replicate d.n 0) ≡ Ok (d.n, replicate d.n 0) = rw d.reads at (length_goes (replicate d.n 0) (bs ++ d.more)) in
+            let len : length z ≡ d.n = length-replicate d.n 0 in
+            let whole : read_at (tag ∷ ((bs ++ d.more) ++ replicate d.n 0)) ≡ answer (tag, take d.n (replicate d.n 0), drop d.n (replicate d.n 0)) = rw (t.0, g, le-ltb (length z) d.n (omega arith)) refl in
+            record { more = d.more ++ replicate d.n 0; found = (tag, take d.n (replicate d.n 0), drop d.n (replicate d.n 0)); reads = rw (← append_assoc bs d.more (replicate d.n 0)) whole; whole = nil_from_length (drop d.n z) (omega (arith, length-drop d.n z)) }
+        | inr b ↦
+            let n = b.0.0 in
+            let r = b.0.1 in
+            let m : List ℕ = replicate (n - length r) 0 in
+            let g : length_at (bs ++ m) ≡ Ok (n, r ++ m) = rw (b.1) at (length_goes m bs) in
+            let z : length m ≡ n - length r = length-replicate (n - length r) 0 in
+            let cut : length r < n = short_body tag (n, r) b.2 in
+            let long : length (r ++ m) ≡ n = omega (arith, length-append r m) in
+            record { more = m; found = (tag, take n (r ++ m), drop n (r ++ m)); reads = rw (t.0, g, le-ltb (length (r ++ m)) n (omega arith)) refl; whole = nil_from_length (drop n (r ++ m)) (omega (arith, length-drop n (r ++ m))) }
+      ]
     ]
 
 found_is : (x y z : Found) (r : Result Found DerFault) → r ≡ Ok x → r ≡ Ok y → x ≡ y
@@ -259,9 +259,9 @@ length_bad (x ∷ bs) p e =
     elim (chosen (ltb x 128) (Ok (x, bs)) (cond ((eqb x 128) || ltb 132 x) (nothing (NotDer 1)) (long_at (x - 128) bs)) (nothing (NotDer p)) e) [
       | inl t ↦ absurd (cc (t.1))
       | inr t ↦ elim (chosen ((eqb x 128) || ltb 132 x) (nothing (NotDer 1)) (long_at (x - 128) bs) (nothing (NotDer p)) t.1) [
-          | inl u ↦ record { q = 0; place = place_is 1 p u.1; within = omega arith; before = refl; after = rw (t.0, u.0) refl }
-          | inr u ↦ let l = long_bad (x - 128) bs p u.1 in record { q = 1; place = l.0; within = omega (arith, l.1); before = rw (t.0, u.0) refl; after = rw (t.0, u.0) (l.2) }
-        ]
+        | inl u ↦ record { q = 0; place = place_is 1 p u.1; within = omega arith; before = refl; after = rw (t.0, u.0) refl }
+        | inr u ↦ let l = long_bad (x - 128) bs p u.1 in record { q = 1; place = l.0; within = omega (arith, l.1); before = rw (t.0, u.0) refl; after = rw (t.0, u.0) (l.2) }
+      ]
     ]
 
 body_never : (tag : ℕ) (x : ℕ × List ℕ) (p : ℕ) → body_at tag x ≡ broken (NotDer p) → ⊥
@@ -280,12 +280,12 @@ read_bad (tag ∷ bs) p e =
           let b : IsBad read_at (tag ∷ bs) 0 = record { within = omega arith; before = refl; after = rw t.0 refl } in
           subst (λ (q : ℕ). IsBad read_at (tag ∷ bs) q) (sym (found_place_is 0 p t.1)) b
       | inr t ↦ elim (bind_err (length_at bs) (body_at tag) (NotDer p) t.1) [
-          | inl u ↦
-              let l = length_bad bs p u in
-              let b : IsBad read_at (tag ∷ bs) (suc l.q) = record { within = omega (arith, l.within); before = rw (t.0, l.before) refl; after = rw (t.0, l.after) refl } in
-              subst (λ (q : ℕ). IsBad read_at (tag ∷ bs) q) (sym l.place) b
-          | inr u ↦ absurd (body_never tag u.0 p u.2)
-        ]
+        | inl u ↦
+            let l = length_bad bs p u in
+            let b : IsBad read_at (tag ∷ bs) (suc l.q) = record { within = omega (arith, l.within); before = rw (t.0, l.before) refl; after = rw (t.0, l.after) refl } in
+            subst (λ (q : ℕ). IsBad read_at (tag ∷ bs) q) (sym l.place) b
+        | inr u ↦ absurd (body_never tag u.0 p u.2)
+      ]
     ]
 
 -- ---- the clauses of read_one
@@ -325,9 +325,9 @@ not_der_to_read bs p h (Err (NotDer q)) e =
     elim (cases_order p q) [
       | inl same ↦ rw same e
       | inr apart ↦ elim apart [
-          | inl lt ↦ absurd (h.after (prefix_shorter bs (p + 1) q (omega arith) k.before))
-          | inr gt ↦ absurd (k.after (prefix_shorter bs (q + 1) p (omega arith) h.before))
-        ]
+        | inl lt ↦ absurd (h.after (prefix_shorter bs (p + 1) q (omega arith) k.before))
+        | inr gt ↦ absurd (k.after (prefix_shorter bs (q + 1) p (omega arith) h.before))
+      ]
     ]
 
 -- ---- the same of what the code answers

@@ -83,15 +83,15 @@ length_spelled (x ∷ bs) n rest e =
           let p = pair_is x n bs rest t.1 in
           record { lead = x ∷ []; is = (ltb-true x 128 t.0, sym p.0); spelled = ap (λ (w : List ℕ). x ∷ w) p.1 }
       | inr t ↦ elim (chosen ((eqb x 128) || ltb 132 x) (Err (NotDer 1)) (long_at (x - 128) bs) (read_ok (n, rest)) t.1) [
-          | inl u ↦ absurd (cc (u.1))
-          | inr u ↦
-              let o = or_false (eqb x 128) (ltb 132 x) u.0 in
-              let ne : x ≢ 128 = eqb-false x 128 o.0 in
-              let lo : 128 ≤ x = ltb-false x 128 t.0 in
-              let hi : x ≤ 132 = ltb-false 132 x o.1 in
-              let back : 128 + (x - 128) ≡ x = omega arith in
-              subst (λ (y : ℕ). IsRead (y ∷ bs) n rest) back (long_spelled (x - 128) bs n rest (omega arith) (omega arith) u.1)
-        ]
+        | inl u ↦ absurd (cc (u.1))
+        | inr u ↦
+            let o = or_false (eqb x 128) (ltb 132 x) u.0 in
+            let ne : x ≢ 128 = eqb-false x 128 o.0 in
+            let lo : 128 ≤ x = ltb-false x 128 t.0 in
+            let hi : x ≤ 132 = ltb-false 132 x o.1 in
+            let back : 128 + (x - 128) ≡ x = omega arith in
+            subst (λ (y : ℕ). IsRead (y ∷ bs) n rest) back (long_spelled (x - 128) bs n rest (omega arith) (omega arith) u.1)
+      ]
     ]
 
 one_or_more : (c : ℕ) (cs : List ℕ) (n : ℕ) → 128 ≤ n → n ≡ number_after c cs → (eqb (suc (length cs)) 1 && ltb c 128) ≡ false

@@ -13,15 +13,15 @@ length_spelled n fits =
     elim (cases_lt n 128) [
       | inl a ↦ rw (lt-ltb n 128 a) (a, refl)
       | inr a ↦ elim (cases_lt n 256) [
-          | inl b ↦ rw (le-ltb n 128 a, lt-ltb n 256 b) (refl, omega arith, omega arith, a, refl)
-          | inr b ↦ elim (cases_lt n 65536) [
-              | inl c ↦ rw (le-ltb n 128 a, le-ltb n 256 b, lt-ltb n 65536 c) (refl, omega arith, omega arith, a, omega arith)
-              | inr c ↦ elim (cases_lt n 16777216) [
-                  | inl d ↦ rw (le-ltb n 128 a, le-ltb n 256 b, le-ltb n 65536 c, lt-ltb n 16777216 d) (refl, omega arith, omega arith, a, omega arith)
-                  | inr d ↦ rw (le-ltb n 128 a, le-ltb n 256 b, le-ltb n 65536 c, le-ltb n 16777216 d) (refl, omega arith, omega arith, a, omega arith)
-                ]
-            ]
+        | inl b ↦ rw (le-ltb n 128 a, lt-ltb n 256 b) (refl, omega arith, omega arith, a, refl)
+        | inr b ↦ elim (cases_lt n 65536) [
+          | inl c ↦ rw (le-ltb n 128 a, le-ltb n 256 b, lt-ltb n 65536 c) (refl, omega arith, omega arith, a, omega arith)
+          | inr c ↦ elim (cases_lt n 16777216) [
+            | inl d ↦ rw (le-ltb n 128 a, le-ltb n 256 b, le-ltb n 65536 c, lt-ltb n 16777216 d) (refl, omega arith, omega arith, a, omega arith)
+            | inr d ↦ rw (le-ltb n 128 a, le-ltb n 256 b, le-ltb n 65536 c, le-ltb n 16777216 d) (refl, omega arith, omega arith, a, omega arith)
+          ]
         ]
+      ]
     ]
 
 pub value_spelled : (tag : ℕ) (body : List ℕ) → tag % 32 ≢ 31 → length body < 2 ^ 32 → IsValue (value tag body) tag body

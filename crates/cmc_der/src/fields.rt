@@ -20,12 +20,20 @@ pub enum KeyKind {
 pub enum Spki<'a> {
     /// An RSA key (RFC 8017, A.1.1): modulus and public exponent, the highest octet first, without
     /// a zero octet in front.
-    Rsa { modulus: &'a [u8], exponent: &'a [u8] },
+    Rsa {
+        modulus: &'a [u8],
+        exponent: &'a [u8],
+    },
     /// An elliptic curve key (RFC 5480): its curve, and its point without compression, which is
     /// `04` and the two coordinates in the curve's width.
-    Ec { curve: KeyKind, point: &'a [u8] },
+    Ec {
+        curve: KeyKind,
+        point: &'a [u8],
+    },
     /// A key of another algorithm: its whole SubjectPublicKeyInfo.
-    Other { whole: &'a [u8] },
+    Other {
+        whole: &'a [u8],
+    },
 }
 
 /// What a subject is called.
@@ -139,7 +147,12 @@ impl<'a> Spki<'a> {
         ensures { result ≡ kind_of (key_shown self.now) }
     {
         match self {
-            Spki::Rsa { modulus, exponent: _ } => Some(KeyKind::Rsa { bits: bits_of(modulus) }),
+            Spki::Rsa {
+                modulus,
+                exponent: _,
+            } => Some(KeyKind::Rsa {
+                bits: bits_of(modulus),
+            }),
             Spki::Ec { curve, point: _ } => Some(*curve),
             Spki::Other { whole: _ } => None,
         }
@@ -151,7 +164,10 @@ impl<'a> Spki<'a> {
     {
         match self {
             Spki::Rsa { modulus, exponent } => match other {
-                Spki::Rsa { modulus: m, exponent: e } => same_bytes(modulus, m) && same_bytes(exponent, e),
+                Spki::Rsa {
+                    modulus: m,
+                    exponent: e,
+                } => same_bytes(modulus, m) && same_bytes(exponent, e),
                 _ => false,
             },
             Spki::Ec { curve, point } => match other {

@@ -11,4 +11,6 @@ pub use reading::{DerFault, Tlv, no_proper_prefix, read_one};
 pub use writing::{Writer, number_is_shortest, written_is_read};
 
 #[cfg(test)]
+mod made;
+#[cfg(test)]
 mod tests;

@@ -131,5 +131,4 @@ pub fn no_proper_prefix()
     ensures { (first second rest : List ℕ) (tag other_tag : ℕ) (body other_body : List ℕ) →
         IsValue first tag body → IsValue second other_tag other_body → first ++ rest ≡ second →
         (tag ≡ other_tag) × (body ≡ other_body) × (rest ≡ []) }
-{
-}
+{}

@@ -23,7 +23,13 @@ fn header(alloc: Global, tag: u8, len: usize) -> Result<Vec<u8>, AllocError>
     } else if n < 16777216 {
         Vec::from_slice(
             alloc,
-            &[tag, 131, (n / 65536) as u8, (n / 256 % 256) as u8, (n % 256) as u8],
+            &[
+                tag,
+                131,
+                (n / 65536) as u8,
+                (n / 256 % 256) as u8,
+                (n % 256) as u8,
+            ],
         )
     } else {
         Vec::from_slice(
@@ -118,16 +124,17 @@ impl Level {
     fn into_octets(self) -> Vec<u8>
         ensures { result.items ≡ self.1 }
     {
-        let Level {
-            tag: _tag,
-            before,
-        } = self;
+        let Level { tag: _tag, before } = self;
         before
     }
 }
 
 /// The innermost begun value ends.
-fn close_level(levels: &mut Vec<Level>, octets: &mut Vec<u8>, alloc: Global) -> Result<(), AllocError>
+fn close_level(
+    levels: &mut Vec<Level>,
+    octets: &mut Vec<u8>,
+    alloc: Global,
+) -> Result<(), AllocError>
     requires begun { 0 < vec_len levels.old }
     requires fits { length octets.old.items < 2 ^ 32 }
     ensures ok { OnOk result (Closes levels.old.items levels.new.items octets.old.items octets.new.items) }
@@ -152,7 +159,12 @@ fn close_level(levels: &mut Vec<Level>, octets: &mut Vec<u8>, alloc: Global) -> 
 }
 
 /// One level more: what is written so far stands before it.
-fn open_level(levels: &mut Vec<Level>, octets: &mut Vec<u8>, alloc: Global, tag: u8) -> Result<(), AllocError>
+fn open_level(
+    levels: &mut Vec<Level>,
+    octets: &mut Vec<u8>,
+    alloc: Global,
+    tag: u8,
+) -> Result<(), AllocError>
     ensures ok { OnOk result ((levels.new.items ≡ levels.old.items ++ (tag, octets.old.items) ∷ []) × (octets.new.items ≡ [])) }
     ensures err { OnErr result ((levels.new.items ≡ levels.old.items) × (octets.new.items ≡ octets.old.items)) }
 {
@@ -313,12 +325,10 @@ impl Writer {
 pub fn written_is_read()
     ensures { (tag : ℕ) (body rest : List ℕ) → tag % 32 ≢ 31 → length body < 2 ^ 32 →
         BeginsWith (value tag body ++ rest) tag body rest }
-{
-}
+{}
 
 /// A law: what `Writer::integer` writes spells the number that it was given, in the fewest octets
 /// (X.690, 8.3.2).
 pub fn number_is_shortest()
     ensures { (bytes : List ℕ) → IsIntegerOf (integer_of bytes) (number_after 0 bytes) }
-{
-}
+{}
