@@ -1,5 +1,5 @@
 -- Public keys, and the fields of certificates and requests, without where their octets lie in memory.
-use Rattle.std.specs.Prelude.{ℕ, ◌-◌, ◌^◌, min, List, Option, Some, None}
+use Rattle.std.specs.Prelude.{ℕ, ℤ, ◌-◌, ◌^◌, ◌==◌, Bool, true, false, min, List, Option, Some, None}
 use Rattle.std.specs.Borrow.{Bor}
 use Rattle.cmc_der.specs.Integers.{bit_length}
 use Rattle.cmc_der.specs.declared.fields.KeyKind.{KeyKind}
@@ -33,8 +33,35 @@ text_shown (Some t) = Some t.now
 abbrev pub names_shown : Names → SubjectNames
 names_shown n = record { common = text_shown n.common; alternative = n.alternative.now }
 
+-- the same algorithm and size
+abbrev pub same_kind : KeyKind → KeyKind → Bool
+same_kind (kinds.Rsa m) (kinds.Rsa n) = m == n
+same_kind kinds.P256 kinds.P256 = true
+same_kind kinds.P384 kinds.P384 = true
+same_kind kinds.P521 kinds.P521 = true
+same_kind _ _ = false
+
 -- algorithm and size of a key: none for one of another algorithm
 abbrev pub kind_of : PublicKey → Option KeyKind
 kind_of (RsaKey m e) = Some (kinds.Rsa (min (bit_length m) (2 ^ 32 - 1)))
 kind_of (EcKey c p) = Some c
 kind_of (OtherKey w) = None
+
+-- what is read of a certificate
+pub record CertificateFields : Type 0 where
+  pub serial : List ℕ
+  pub not_before : ℤ
+  pub not_after : ℤ
+  pub key : PublicKey
+  pub names : SubjectNames
+
+abbrev pub cert_shown : CertFields → CertificateFields
+cert_shown c = record { serial = c.serial.now; not_before = c.not_before; not_after = c.not_after; key = key_shown c.key; names = names_shown c.names }
+
+-- what is read of a request
+pub record RequestFields : Type 0 where
+  pub key : PublicKey
+  pub names : SubjectNames
+
+abbrev pub csr_shown : CsrFields → RequestFields
+csr_shown c = record { key = key_shown c.key; names = names_shown c.names }

@@ -1,6 +1,6 @@
 ghost use Rattle.std.specs.Prelude.{◌≡◌, ◌↔◌, ◌-◌, ◌^◌, ◌≤◌, min, IsTrue};
 ghost use Rattle.cmc_der.specs.Integers.{trimmed, octet_bits, bit_length};
-ghost use Rattle.cmc_der.specs.Keys.{key_shown, kind_of};
+ghost use Rattle.cmc_der.specs.Keys.{key_shown, kind_of, same_kind};
 
 /// Algorithm and size of a public key.
 #[derive(Clone, Copy)]
@@ -66,7 +66,8 @@ pub struct CsrFields<'a> {
 impl KeyKind {
     /// Whether algorithm and size are the same.
     pub fn same(self, other: KeyKind) -> bool
-        ensures { IsTrue result ↔ (self ≡ other) }
+        ensures decides { IsTrue result ↔ (self ≡ other) }
+        ensures value { result ≡ same_kind self other }
     {
         match (self, other) {
             (KeyKind::Rsa { bits }, KeyKind::Rsa { bits: others }) => bits == others,
