@@ -1,3 +1,5 @@
 pub mod TakingLaws
 pub mod ListLaws
 pub mod NameLaws
+pub mod KeyLaws
+pub mod FileLaws
