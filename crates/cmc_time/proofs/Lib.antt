@@ -1,0 +1,10 @@
+pub mod Days
+pub mod Inverse
+pub mod Exists
+pub mod Steps
+pub mod Texts
+pub mod Rfc3339Laws
+pub mod Asn1Laws
+pub mod Digits
+pub mod DurationLaws
+pub mod Printed
