@@ -3,3 +3,4 @@ pub mod ListLaws
 pub mod NameLaws
 pub mod KeyLaws
 pub mod FileLaws
+pub mod CertificateLaws

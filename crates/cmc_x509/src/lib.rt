@@ -3,12 +3,14 @@
 //! input, and no call takes memory.
 #![tactic(auto)]
 
+mod certificates;
 mod key_files;
 mod keys;
 mod names;
 mod oids;
 mod taking;
 
+pub use certificates::{read_cert, read_csr};
 pub use cmc_der::{CertFields, CsrFields, KeyKind, Names, Spki};
 pub use key_files::{key_public, read_key};
 pub use names::next_name;
