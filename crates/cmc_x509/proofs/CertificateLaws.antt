@@ -14,7 +14,7 @@ use Rattle.cmc_time.proofs.Asn1Laws.{asn1_found, asn1_again}
 use Rattle.cmc_x509.specs.declared.taking.NotForm.{NotForm}
 use Rattle.cmc_x509.specs.declared.taking.TheConstants.{MAX_INPUT}
 use Rattle.cmc_x509.specs.Taking.{Gives, BeginsWithOptional, ◌>>=◌, Maybe, Taken, value_at, take_at, end_at, only_at, optional_at}
-use Rattle.cmc_x509.specs.Lists.{IsListOf, first_at}
+use Rattle.cmc_x509.specs.Lists.{IsValueList, IsListOf, first_at}
 use Rattle.cmc_x509.specs.PublicKeys.{AlgorithmIdentifier, BeginsWithAlgorithm, BeginsWithInteger, BeginsWithSpki}
 use Rattle.cmc_x509.specs.Names.{BeginsWithName, IsExtension, IsRequestAttribute}
 use Rattle.cmc_x509.specs.Times.{BeginsWithTime, time_at}
@@ -24,7 +24,7 @@ use Rattle.cmc_x509.specs.ReadNames.{name_at, extension_of, request_attribute_of
 use Rattle.cmc_x509.specs.ReadCertificates.{signed_at, version_of, validity_at, unique_id_of, extensions_in, Head, head_at, tail_at, tbs_certificate_at, request_info_at, certificate_at, request_at}
 use Rattle.cmc_x509.proofs.TakingLaws.{some, some_is, bind_some, guard_some, take_found, take_again, value_found, value_again, end_found, end_again, only_found, only_again, optional_found, optional_again, begins_from_whole, whole_from_begins}
 use Rattle.cmc_x509.proofs.ListLaws.{list_found, list_again}
-use Rattle.cmc_x509.proofs.NameLaws.{name_found, name_again, extension_found, extension_again, request_attribute_found, request_attribute_again}
+use Rattle.cmc_x509.proofs.NameLaws.{name_found, name_again, extension_found, extension_again, request_attribute_found, request_attribute_again, AreValues, extension_values, attribute_values}
 use Rattle.cmc_x509.proofs.KeyLaws.{algorithm_found, algorithm_again, integer_found, integer_again, version_found, version_again, bits_found, bits_again, spki_front_found, spki_front_again}
 
 -- ---- what is signed
@@ -38,8 +38,15 @@ signed_found bs body e =
     let s = bind_some (only_at 3 a.0.1) _ body a.2 in
     let g = bind_some (bits_of s.0) _ body s.2 in
     subst (λ (y : List ℕ). IsSigned bs y) (some_is b.0.0 body g.2) (record {
-      parts = p.0; r0 = b.0.1; r1 = a.0.1; algorithm = a.0.0; signature = g.0; whole = only_found 48 bs p.0 p.1; body_is = take_found 48 p.0 b.0 b.1;
-      algorithm_is = algorithm_found b.0.1 a.0 a.1; signature_is = subst (λ (y : List ℕ). IsValue a.0.1 3 y) (bits_found s.0 g.0 g.1) (only_found 3 a.0.1 s.0 s.1);
+      parts = p.0;
+      r0 = b.0.1;
+      r1 = a.0.1;
+      algorithm = a.0.0;
+      signature = g.0;
+      whole = only_found 48 bs p.0 p.1;
+      body_is = take_found 48 p.0 b.0 b.1;
+      algorithm_is = algorithm_found b.0.1 a.0 a.1;
+      signature_is = subst (λ (y : List ℕ). IsValue a.0.1 3 y) (bits_found s.0 g.0 g.1) (only_found 3 a.0.1 s.0 s.1);
     })
 
 signed_again : (bs body : List ℕ) → IsSigned bs body → signed_at bs ≡ Some body
@@ -152,9 +159,19 @@ head_found bs x e =
     let i = bind_some (name_at a.0.1) _ x a.2 in
     let t = bind_some (validity_at i.0.1) _ x i.2 in
     subst (λ (y : Headed). IsHead bs y.0 y.1) (some_is _ x t.2) (record {
-      r0 = v.0.1; r1 = s.0.1; r2 = a.0.1; r3 = i.0.1; version = v.0.0; signature = a.0.0; issuer = i.0.0;
-      version_stands = optional_found 160 bs v.0 v.1; version_is = version_in_found v.0.0 k.0 k.1; serial_is = integer_found v.0.1 s.0 s.1;
-      signature_is = algorithm_found s.0.1 a.0 a.1; issuer_is = name_found a.0.1 i.0 i.1; validity_is = validity_found i.0.1 t.0 t.1;
+      r0 = v.0.1;
+      r1 = s.0.1;
+      r2 = a.0.1;
+      r3 = i.0.1;
+      version = v.0.0;
+      signature = a.0.0;
+      issuer = i.0.0;
+      version_stands = optional_found 160 bs v.0 v.1;
+      version_is = version_in_found v.0.0 k.0 k.1;
+      serial_is = integer_found v.0.1 s.0 s.1;
+      signature_is = algorithm_found s.0.1 a.0 a.1;
+      issuer_is = name_found a.0.1 i.0 i.1;
+      validity_is = validity_found i.0.1 t.0 t.1;
     })
 
 -- behind the key
@@ -182,10 +199,17 @@ tail_found bs names e =
     let n = bind_some (end_at x.0.1) _ names x.2 in
     let last : BeginsWithOptional s.0.1 163 x.0.0 [] = subst (λ (r : List ℕ). BeginsWithOptional s.0.1 163 x.0.0 r) (end_found x.0.1 n.0 n.1) (optional_found 163 s.0.1 x.0 x.1) in
     record {
-      r7 = i.0.1; r8 = s.0.1; issuer_id = i.0.0; subject_id = s.0.0; extensions = x.0.0;
-      issuer_id_stands = optional_found 129 bs i.0 i.1; issuer_id_is = unique_found i.0.0 j.0 j.1;
-      subject_id_stands = optional_found 130 i.0.1 s.0 s.1; subject_id_is = unique_found s.0.0 t.0 t.1;
-      extensions_stand = last; extensions_are = extensions_found x.0.0 names n.2;
+      r7 = i.0.1;
+      r8 = s.0.1;
+      issuer_id = i.0.0;
+      subject_id = s.0.0;
+      extensions = x.0.0;
+      issuer_id_stands = optional_found 129 bs i.0 i.1;
+      issuer_id_is = unique_found i.0.0 j.0 j.1;
+      subject_id_stands = optional_found 130 i.0.1 s.0 s.1;
+      subject_id_is = unique_found s.0.0 t.0 t.1;
+      extensions_stand = last;
+      extensions_are = extensions_found x.0.0 names n.2;
     }
 
 tbs_found : (bs : List ℕ) (c : CertificateFields) → tbs_certificate_at bs ≡ Some c → IsTbsCertificate bs c
@@ -198,25 +222,60 @@ tbs_found bs c e =
     let head = head_found bs h.0 h.1 in
     let tail = tail_found k.0.1 t.0 t.1 in
     subst (λ (y : CertificateFields). IsTbsCertificate bs y) (some_is _ c t.2) (record {
-      r0 = head.r0; r1 = head.r1; r2 = head.r2; r3 = head.r3; r4 = h.0.1; r5 = s.0.1; r6 = k.0.1; r7 = tail.r7; r8 = tail.r8;
-      version = head.version; signature = head.signature; issuer = head.issuer; issuer_id = tail.issuer_id; subject_id = tail.subject_id; extensions = tail.extensions;
-      version_stands = head.version_stands; version_is = head.version_is; serial_is = head.serial_is; signature_is = head.signature_is; issuer_is = head.issuer_is; validity_is = head.validity_is;
-      subject_is = name_found h.0.1 s.0 s.1; key_is = spki_front_found s.0.1 k.0 k.1;
-      issuer_id_stands = tail.issuer_id_stands; issuer_id_is = tail.issuer_id_is; subject_id_stands = tail.subject_id_stands; subject_id_is = tail.subject_id_is;
-      extensions_stand = tail.extensions_stand; extensions_are = tail.extensions_are;
+      r0 = head.r0;
+      r1 = head.r1;
+      r2 = head.r2;
+      r3 = head.r3;
+      r4 = h.0.1;
+      r5 = s.0.1;
+      r6 = k.0.1;
+      r7 = tail.r7;
+      r8 = tail.r8;
+      version = head.version;
+      signature = head.signature;
+      issuer = head.issuer;
+      issuer_id = tail.issuer_id;
+      subject_id = tail.subject_id;
+      extensions = tail.extensions;
+      version_stands = head.version_stands;
+      version_is = head.version_is;
+      serial_is = head.serial_is;
+      signature_is = head.signature_is;
+      issuer_is = head.issuer_is;
+      validity_is = head.validity_is;
+      subject_is = name_found h.0.1 s.0 s.1;
+      key_is = spki_front_found s.0.1 k.0 k.1;
+      issuer_id_stands = tail.issuer_id_stands;
+      issuer_id_is = tail.issuer_id_is;
+      subject_id_stands = tail.subject_id_stands;
+      subject_id_is = tail.subject_id_is;
+      extensions_stand = tail.extensions_stand;
+      extensions_are = tail.extensions_are;
     })
 
 head_again : (bs : List ℕ) (c : CertificateFields) (h : IsTbsCertificate bs c) → head_at bs ≡ Some (record { serial = c.serial; times = (c.not_before, c.not_after) }, h.r4)
 unfolding head_at
 head_again bs c h =
-    rw (optional_again 160 bs h.version h.r0 h.version_stands, version_in_again h.version h.version_is, integer_again h.r0 c.serial h.r1 h.serial_is, algorithm_again h.r1 h.signature h.r2 h.signature_is,
-      name_again h.r2 h.issuer h.r3 h.issuer_is, validity_again h.r3 c.not_before c.not_after h.r4 h.validity_is) refl
+    rw (
+      optional_again 160 bs h.version h.r0 h.version_stands,
+      version_in_again h.version h.version_is,
+      integer_again h.r0 c.serial h.r1 h.serial_is,
+      algorithm_again h.r1 h.signature h.r2 h.signature_is,
+      name_again h.r2 h.issuer h.r3 h.issuer_is,
+      validity_again h.r3 c.not_before c.not_after h.r4 h.validity_is,
+    ) refl
 
 tail_again : (bs : List ℕ) (c : CertificateFields) (h : IsTbsCertificate bs c) → tail_at h.r6 ≡ Some c.names.alternative
 unfolding tail_at
 tail_again bs c h =
-    rw (optional_again 129 h.r6 h.issuer_id h.r7 h.issuer_id_stands, unique_again h.issuer_id h.issuer_id_is, optional_again 130 h.r7 h.subject_id h.r8 h.subject_id_stands, unique_again h.subject_id h.subject_id_is,
-      optional_again 163 h.r8 h.extensions [] h.extensions_stand, end_again) (extensions_again h.extensions c.names.alternative h.extensions_are)
+    rw (
+      optional_again 129 h.r6 h.issuer_id h.r7 h.issuer_id_stands,
+      unique_again h.issuer_id h.issuer_id_is,
+      optional_again 130 h.r7 h.subject_id h.r8 h.subject_id_stands,
+      unique_again h.subject_id h.subject_id_is,
+      optional_again 163 h.r8 h.extensions [] h.extensions_stand,
+      end_again,
+    ) (extensions_again h.extensions c.names.alternative h.extensions_are)
 
 tbs_again : (bs : List ℕ) (c : CertificateFields) → IsTbsCertificate bs c → tbs_certificate_at bs ≡ Some c
 unfolding tbs_certificate_at
@@ -244,15 +303,30 @@ info_found bs c e =
     let a = bind_some (only_at 160 k.0.1) _ c k.2 in
     let f = bind_some (first_at request_attribute_of a.0) _ c a.2 in
     subst (λ (y : RequestFields). IsRequestInfo bs y) (some_is _ c f.2) (record {
-      r0 = v.0; r1 = s.0.1; r2 = k.0.1; attributes = a.0; found = f.0; version = version_found 0 bs v.0 v.1; subject_is = name_found v.0 s.0 s.1; key_is = spki_front_found s.0.1 k.0 k.1;
-      attributes_stand = only_found 160 k.0.1 a.0 a.1; attributes_are = list_found request_attribute_of IsRequestAttribute request_attribute_found a.0 f.0 f.1; alternative_is = refl;
+      r0 = v.0;
+      r1 = s.0.1;
+      r2 = k.0.1;
+      attributes = a.0;
+      found = f.0;
+      version = version_found 0 bs v.0 v.1;
+      subject_is = name_found v.0 s.0 s.1;
+      key_is = spki_front_found s.0.1 k.0 k.1;
+      attributes_stand = only_found 160 k.0.1 a.0 a.1;
+      attributes_are = list_found request_attribute_of IsRequestAttribute request_attribute_found a.0 f.0 f.1;
+      alternative_is = refl;
     })
 
 info_again : (bs : List ℕ) (c : RequestFields) → IsRequestInfo bs c → request_info_at bs ≡ Some c
 unfolding request_info_at
 info_again bs c h =
-    rw (version_again 0 bs h.r0 h.version, name_again h.r0 c.names.common h.r1 h.subject_is, spki_front_again h.r1 c.key h.r2 h.key_is, only_again 160 h.r2 h.attributes h.attributes_stand,
-      list_again request_attribute_of IsRequestAttribute request_attribute_again h.attributes h.found h.attributes_are, ← h.alternative_is) refl
+    rw (
+      version_again 0 bs h.r0 h.version,
+      name_again h.r0 c.names.common h.r1 h.subject_is,
+      spki_front_again h.r1 c.key h.r2 h.key_is,
+      only_again 160 h.r2 h.attributes h.attributes_stand,
+      list_again request_attribute_of IsRequestAttribute request_attribute_again h.attributes h.found h.attributes_are,
+      ← h.alternative_is,
+    ) refl
 
 pub request_found : (bs : List ℕ) (c : RequestFields) → request_at bs ≡ Some c → IsRequest bs c
 unfolding request_at
@@ -264,6 +338,22 @@ request_found bs c e =
 pub request_again : (bs : List ℕ) (c : RequestFields) → IsRequest bs c → request_at bs ≡ Some c
 unfolding request_at
 request_again bs c h = rw (le-leb (length bs) MAX_INPUT h.within, signed_again bs h.body h.signed) (info_again h.body c h.is)
+
+-- ---- alternative names are a list of values
+
+or_none_values : (found : Option (List ℕ)) → AreValues found → IsValueList (or_none found)
+or_none_values None h = ([], refl)
+or_none_values (Some names) h = h
+
+extensions_names : (o : Option (List ℕ)) (names : List ℕ) → AreExtensions o names → IsValueList names
+extensions_names None names h = subst IsValueList (sym h) ([], refl)
+extensions_names (Some bs) names h = subst IsValueList (sym h.4) (or_none_values h.1 (extension_values h.0 h.1 h.3))
+
+pub certificate_names : (bs : List ℕ) (c : CertificateFields) → IsCertificate bs c → IsValueList c.names.alternative
+certificate_names bs c h = extensions_names h.is.extensions c.names.alternative h.is.extensions_are
+
+pub request_names : (bs : List ℕ) (c : RequestFields) → IsRequest bs c → IsValueList c.names.alternative
+request_names bs c h = subst IsValueList (sym h.is.alternative_is) (or_none_values h.is.found (attribute_values h.is.attributes h.is.found h.is.attributes_are))
 
 -- ---- what the code answers
 
@@ -280,3 +370,11 @@ csr_answer_found (Err d) bs e = tt
 
 pub csr_answer_only : (r : Result CsrFields NotForm) (bs : List ℕ) → Gives csr_shown r (request_at bs) → (c : RequestFields) → IsRequest bs c → Gives csr_shown r (Some c)
 csr_answer_only r bs e c h = rw (request_again bs c h) at e
+
+pub cert_answer_names : (r : Result CertFields NotForm) (bs : List ℕ) → Gives cert_shown r (certificate_at bs) → IfOk r (λ c. IsValueList c.names.alternative.now)
+cert_answer_names (Ok c) bs e = certificate_names bs (cert_shown c) (certificate_found bs (cert_shown c) e)
+cert_answer_names (Err d) bs e = tt
+
+pub csr_answer_names : (r : Result CsrFields NotForm) (bs : List ℕ) → Gives csr_shown r (request_at bs) → IfOk r (λ c. IsValueList c.names.alternative.now)
+csr_answer_names (Ok c) bs e = request_names bs (csr_shown c) (request_found bs (csr_shown c) e)
+csr_answer_names (Err d) bs e = tt

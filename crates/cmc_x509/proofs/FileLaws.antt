@@ -80,10 +80,19 @@ rsa_found bs k e =
     let x = bind_some (positive_at m.0.1) _ k m.2 in
     let o = bind_some (six_at x.0.1) _ k x.2 in
     record {
-      m = m.0.0; e = x.0.0; key_is = some_is _ k o.2;
+      m = m.0.0;
+      e = x.0.0;
+      key_is = some_is _ k o.2;
       stands = record {
-        body = b.0; r0 = v.0; r1 = m.0.1; r2 = x.0.1; whole = only_found 48 bs b.0 b.1; version = version_found 0 b.0 v.0 v.1;
-        modulus_is = positive_found v.0 m.0 m.1; exponent_is = positive_found m.0.1 x.0 x.1; others = six_found x.0.1 o.0 o.1;
+        body = b.0;
+        r0 = v.0;
+        r1 = m.0.1;
+        r2 = x.0.1;
+        whole = only_found 48 bs b.0 b.1;
+        version = version_found 0 b.0 v.0 v.1;
+        modulus_is = positive_found v.0 m.0 m.1;
+        exponent_is = positive_found m.0.1 x.0 x.1;
+        others = six_found x.0.1 o.0 o.1;
       };
     }
 
@@ -165,21 +174,41 @@ ec_found around bs k e =
     let c = bind_some (agreed_curve around p.0.0) _ k u.2 in
     let f = point_found c.0 u.0 k c.2 in
     record {
-      curve = c.0; point = u.0; key_is = f.key_is;
+      curve = c.0;
+      point = u.0;
+      key_is = f.key_is;
       stands = record {
-        body = b.0; r0 = v.0; r1 = s.0.1; r2 = p.0.1; secret = s.0.0; parameters = p.0.0; public_key = q.0;
-        whole = only_found 48 bs b.0 b.1; version = version_found 1 b.0 v.0 v.1; secret_is = take_found 4 v.0 s.0 s.1;
-        parameters_are = optional_found 160 s.0.1 p.0 p.1; public_key_is = only_found 161 p.0.1 q.0 q.1;
+        body = b.0;
+        r0 = v.0;
+        r1 = s.0.1;
+        r2 = p.0.1;
+        secret = s.0.0;
+        parameters = p.0.0;
+        public_key = q.0;
+        whole = only_found 48 bs b.0 b.1;
+        version = version_found 1 b.0 v.0 v.1;
+        secret_is = take_found 4 v.0 s.0 s.1;
+        parameters_are = optional_found 160 s.0.1 p.0 p.1;
+        public_key_is = only_found 161 p.0.1 q.0 q.1;
         bits_are = subst (λ (y : List ℕ). IsValue q.0 3 y) (bits_found t.0 u.0 u.1) (only_found 3 q.0 t.0 t.1);
-        curve_is = agreed_curve_found around p.0.0 c.0 c.1; point_is = f.stands;
+        curve_is = agreed_curve_found around p.0.0 c.0 c.1;
+        point_is = f.stands;
       };
     }
 
 ec_again : (around : Option KeyKind) (bs : List ℕ) (curve : KeyKind) (point : List ℕ) → IsEcPrivateKey around bs curve point → ec_private_at around bs ≡ Some (EcKey curve point)
 unfolding ec_private_at
 ec_again around bs curve point h =
-    rw (only_again 48 bs h.body h.whole, version_again 1 h.body h.r0 h.version, take_again 4 h.r0 h.secret h.r1 h.secret_is, optional_again 160 h.r1 h.parameters h.r2 h.parameters_are,
-      only_again 161 h.r2 h.public_key h.public_key_is, only_again 3 h.public_key (0 ∷ point) h.bits_are, bits_again point, agreed_curve_again around h.parameters curve h.curve_is)
+    rw (
+      only_again 48 bs h.body h.whole,
+      version_again 1 h.body h.r0 h.version,
+      take_again 4 h.r0 h.secret h.r1 h.secret_is,
+      optional_again 160 h.r1 h.parameters h.r2 h.parameters_are,
+      only_again 161 h.r2 h.public_key h.public_key_is,
+      only_again 3 h.public_key (0 ∷ point) h.bits_are,
+      bits_again point,
+      agreed_curve_again around h.parameters curve h.curve_is,
+    )
     (point_again curve point h.point_is)
 
 -- ---- PrivateKeyInfo
@@ -236,16 +265,34 @@ info_found bs k e =
     let t = bind_some (attributes_at o.0.0) _ k n.2 in
     let last : BeginsWithOptional p.0.1 160 o.0.0 [] = subst (λ (r : List ℕ). BeginsWithOptional p.0.1 160 o.0.0 r) (end_found o.0.1 n.0 n.1) (optional_found 160 p.0.1 o.0 o.1) in
     record {
-      body = b.0; r0 = v.0; r1 = a.0.1; r2 = p.0.1; algorithm = a.0.0; private_key = p.0.0; attributes = o.0.0;
-      whole = only_found 48 bs b.0 b.1; version = version_found 0 b.0 v.0 v.1; algorithm_is = algorithm_found v.0 a.0 a.1; private_key_is = take_found 4 a.0.1 p.0 p.1;
-      attributes_stand = last; attributes_are = attributes_found o.0.0 t.0 t.1; key_is = held_found a.0.0 p.0.0 k t.2;
+      body = b.0;
+      r0 = v.0;
+      r1 = a.0.1;
+      r2 = p.0.1;
+      algorithm = a.0.0;
+      private_key = p.0.0;
+      attributes = o.0.0;
+      whole = only_found 48 bs b.0 b.1;
+      version = version_found 0 b.0 v.0 v.1;
+      algorithm_is = algorithm_found v.0 a.0 a.1;
+      private_key_is = take_found 4 a.0.1 p.0 p.1;
+      attributes_stand = last;
+      attributes_are = attributes_found o.0.0 t.0 t.1;
+      key_is = held_found a.0.0 p.0.0 k t.2;
     }
 
 info_again : (bs : List ℕ) (k : PublicKey) → IsPrivateKeyInfo bs k → private_key_info_at bs ≡ Some k
 unfolding private_key_info_at
 info_again bs k h =
-    rw (only_again 48 bs h.body h.whole, version_again 0 h.body h.r0 h.version, algorithm_again h.r0 h.algorithm h.r1 h.algorithm_is, take_again 4 h.r1 h.private_key h.r2 h.private_key_is,
-      optional_again 160 h.r2 h.attributes [] h.attributes_stand, end_again, attributes_again h.attributes h.attributes_are)
+    rw (
+      only_again 48 bs h.body h.whole,
+      version_again 0 h.body h.r0 h.version,
+      algorithm_again h.r0 h.algorithm h.r1 h.algorithm_is,
+      take_again 4 h.r1 h.private_key h.r2 h.private_key_is,
+      optional_again 160 h.r2 h.attributes [] h.attributes_stand,
+      end_again,
+      attributes_again h.attributes h.attributes_are,
+    )
     (held_again h.algorithm h.private_key k h.key_is)
 
 -- ---- one of the three, and no two of them

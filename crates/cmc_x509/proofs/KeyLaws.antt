@@ -131,6 +131,7 @@ null_found (Some v) e =
     empty : (bs : List ℕ) → eqb (length bs) 0 ≡ true → bs ≡ []
     empty [] e = refl
     empty (b ∷ bs) e = absurd (omega (arith, eqb-true (length (b ∷ bs)) 0 e))
+
     null_body : (v : Value) → v.0 ≡ 5 → eqb (length v.1) 0 ≡ true → some v ≡ some (5, [])
     null_body v t e = ap (λ (n : ℕ). some (valued n v.1)) t ∙ ap (λ (w : List ℕ). some (valued 5 w)) (empty v.1 e)
 
@@ -144,11 +145,11 @@ curve_found oid c e =
     elim (cases_Bool (bytes_eq oid SECP256R1)) [
       | inl t ↦ subst (λ (k : KeyKind). NamesCurve oid k) (some_is P256 c (rw t at e)) (bytes_same oid SECP256R1 t)
       | inr f ↦ elim (cases_Bool (bytes_eq oid SECP384R1)) [
-          | inl t ↦ subst (λ (k : KeyKind). NamesCurve oid k) (some_is P384 c (rw (f, t) at e)) (bytes_same oid SECP384R1 t)
-          | inr g ↦
-              let u = guard_some (bytes_eq oid SECP521R1) (Some P521) c (rw (f, g) at e) in
-              subst (λ (k : KeyKind). NamesCurve oid k) (some_is P521 c u.1) (bytes_same oid SECP521R1 u.0)
-        ]
+        | inl t ↦ subst (λ (k : KeyKind). NamesCurve oid k) (some_is P384 c (rw (f, t) at e)) (bytes_same oid SECP384R1 t)
+        | inr g ↦
+            let u = guard_some (bytes_eq oid SECP521R1) (Some P521) c (rw (f, g) at e) in
+            subst (λ (k : KeyKind). NamesCurve oid k) (some_is P521 c u.1) (bytes_same oid SECP521R1 u.0)
+      ]
     ]
 
 pub curve_again : (oid : List ℕ) (c : KeyKind) → NamesCurve oid c → curve_named oid ≡ Some c
@@ -215,12 +216,12 @@ key_found a whole bits k e =
           let f = rsa_found bits k g.1 in
           subst (λ (y : PublicKey). IsKeyOf a whole bits y) f.key_is (bytes_same a.oid RSA_ENCRYPTION r, null_found a.parameter g.0, f.stands)
       | inr r ↦ elim (cases_Bool (bytes_eq a.oid EC_PUBLIC_KEY)) [
-          | inl c ↦
-              let b = bind_some (curve_of a.parameter) (λ d. point_at d bits) k (rw (r, c) at e) in
-              let f = point_found b.0 bits k b.2 in
-              subst (λ (y : PublicKey). IsKeyOf a whole bits y) f.key_is (bytes_same a.oid EC_PUBLIC_KEY c, stated_found a.parameter b.0 b.1, f.stands, refl)
-          | inr c ↦ subst (λ (y : PublicKey). IsKeyOf a whole bits y) (some_is (OtherKey whole) k (rw (r, c) at e)) (bytes_differ a.oid RSA_ENCRYPTION r, bytes_differ a.oid EC_PUBLIC_KEY c, refl)
-        ]
+        | inl c ↦
+            let b = bind_some (curve_of a.parameter) (λ d. point_at d bits) k (rw (r, c) at e) in
+            let f = point_found b.0 bits k b.2 in
+            subst (λ (y : PublicKey). IsKeyOf a whole bits y) f.key_is (bytes_same a.oid EC_PUBLIC_KEY c, stated_found a.parameter b.0 b.1, f.stands, refl)
+        | inr c ↦ subst (λ (y : PublicKey). IsKeyOf a whole bits y) (some_is (OtherKey whole) k (rw (r, c) at e)) (bytes_differ a.oid RSA_ENCRYPTION r, bytes_differ a.oid EC_PUBLIC_KEY c, refl)
+      ]
     ]
 
 pub rsa_not_ec : (oid : List ℕ) → oid ≡ EC_PUBLIC_KEY → bytes_eq oid RSA_ENCRYPTION ≡ false
@@ -240,8 +241,14 @@ spki_found bs k e =
     let s = bind_some (only_at 3 a.0.1) _ k a.2 in
     let t = bind_some (bits_of s.0) _ k s.2 in
     record {
-      body = b.0; algorithm = a.0.0; after = a.0.1; bits = t.0; whole = only_found 48 bs b.0 b.1;
-      algorithm_is = algorithm_found b.0 a.0 a.1; bits_are = rw (bits_found s.0 t.0 t.1) at (only_found 3 a.0.1 s.0 s.1); key_is = key_found a.0.0 bs t.0 k t.2;
+      body = b.0;
+      algorithm = a.0.0;
+      after = a.0.1;
+      bits = t.0;
+      whole = only_found 48 bs b.0 b.1;
+      algorithm_is = algorithm_found b.0 a.0 a.1;
+      bits_are = rw (bits_found s.0 t.0 t.1) at (only_found 3 a.0.1 s.0 s.1);
+      key_is = key_found a.0.0 bs t.0 k t.2;
     }
 
 spki_again : (bs : List ℕ) (k : PublicKey) → IsSpki bs k → spki_of bs ≡ Some k

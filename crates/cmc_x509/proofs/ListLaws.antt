@@ -172,3 +172,6 @@ more_values bs x h e = more_in bs h.0 h.1 x e
         let same : (v.0, v.1, h.0) ≡ x = found_is (v.0, v.1, h.0) x (value_at bs) (value_again bs v.0 v.1 h.0 h.1) e in
         let rest : h.0 ≡ x.2 = ap (λ (y : Found). y.2) same in
         (vs, subst (λ (y : List ℕ). IsValues y vs) rest h.2)
+
+pub value_stands : (bs : List ℕ) (x : Found) → value_at bs ≡ Some x → bs ≡ [] → ⊥
+value_stands bs x e h = absurd (omega (arith, ap length h, value_shorter bs x e))

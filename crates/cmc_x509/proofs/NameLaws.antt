@@ -5,7 +5,7 @@ use Rattle.std.specs.Str.{bytes_eq}
 use Rattle.cmc_der.specs.Values.{IsValue, BeginsWith}
 use Rattle.cmc_x509.specs.declared.oids.TheConstants.{SUBJECT_ALT_NAME, EXTENSION_REQUEST}
 use Rattle.cmc_x509.specs.Taking.{Value, ◌>>=◌, Maybe, BeginsWithOptional, value_at, take_at, end_at, only_at, optional_at}
-use Rattle.cmc_x509.specs.Lists.{IsValueList, IsListOf, first_at, any_value}
+use Rattle.cmc_x509.specs.Lists.{IsValueList, or_first, FirstOf, IsListOf, first_at, any_value}
 use Rattle.cmc_x509.specs.Names.{common_of, IsAttribute, IsRdn, BeginsWithName, IsTrueOrAbsent, IsExtensionValue, IsExtension, IsExtensions, IsAttributeValue, IsRequestAttribute}
 use Rattle.cmc_x509.specs.ReadNames.{inside, attribute_of, rdn_of, name_at, true_or_absent, general_names_at, extension_value_at, extension_of, extensions_of, request_attribute_of}
 use Rattle.cmc_x509.proofs.TakingLaws.{some, some_is, bind_some, guard_some, take_found, take_again, value_found, value_again, end_found, end_again, only_found, only_again, optional_found, optional_again, whole_from_begins, begins_from_whole, bytes_same, bytes_differ, same_bytes, other_bytes}
@@ -31,7 +31,10 @@ attribute_found v common e =
     let t = bind_some (value_at o.0.1) _ common o.2 in
     let n = bind_some (end_at t.0.2) _ common t.2 in
     record {
-      oid = o.0.0; rest = o.0.1; text = (t.0.0, t.0.1); sequence = i.tag_is;
+      oid = o.0.0;
+      rest = o.0.1;
+      text = (t.0.0, t.0.1);
+      sequence = i.tag_is;
       type_is = subst (λ (x : List ℕ). BeginsWith x 6 o.0.0 o.0.1) (sym i.body_is) (take_found 6 b.0 o.0 o.1);
       value_is = whole_from_begins o.0.1 t.0.0 t.0.1 t.0.2 (value_found o.0.1 t.0 t.1) (end_found t.0.2 n.0 n.1);
       gives = sym (some_is _ common n.2);
@@ -110,10 +113,17 @@ extension_found v names e =
     let t = bind_some (true_or_absent c.0.0) _ names c.2 in
     let w = bind_some (only_at 4 c.0.1) _ names t.2 in
     record {
-      oid = o.0.0; critical = c.0.0; contents = w.0; r0 = o.0.1; r1 = c.0.1; sequence = i.tag_is;
+      oid = o.0.0;
+      critical = c.0.0;
+      contents = w.0;
+      r0 = o.0.1;
+      r1 = c.0.1;
+      sequence = i.tag_is;
       id_is = subst (λ (x : List ℕ). BeginsWith x 6 o.0.0 o.0.1) (sym i.body_is) (take_found 6 b.0 o.0 o.1);
-      critical_stands = optional_found 1 o.0.1 c.0 c.1; critical_is = true_found c.0.0 t.0 t.1;
-      value_is = only_found 4 c.0.1 w.0 w.1; gives = extension_value_found o.0.0 w.0 names w.2;
+      critical_stands = optional_found 1 o.0.1 c.0 c.1;
+      critical_is = true_found c.0.0 t.0 t.1;
+      value_is = only_found 4 c.0.1 w.0 w.1;
+      gives = extension_value_found o.0.0 w.0 names w.2;
     }
 
 pub extension_again : (v : Value) (names : Option (List ℕ)) → IsExtension v names → extension_of v ≡ Some names
@@ -157,12 +167,57 @@ request_attribute_found v names e =
     let o = bind_some (take_at 6 b.0) _ names b.2 in
     let s = bind_some (only_at 49 o.0.1) _ names o.2 in
     record {
-      oid = o.0.0; rest = o.0.1; set = s.0; sequence = i.tag_is;
+      oid = o.0.0;
+      rest = o.0.1;
+      set = s.0;
+      sequence = i.tag_is;
       type_is = subst (λ (x : List ℕ). BeginsWith x 6 o.0.0 o.0.1) (sym i.body_is) (take_found 6 b.0 o.0 o.1);
-      set_is = only_found 49 o.0.1 s.0 s.1; gives = given_found o.0.0 s.0 names s.2;
+      set_is = only_found 49 o.0.1 s.0 s.1;
+      gives = given_found o.0.0 s.0 names s.2;
     }
 
 pub request_attribute_again : (v : Value) (names : Option (List ℕ)) → IsRequestAttribute v names → request_attribute_of v ≡ Some names
 unfolding request_attribute_of
 request_attribute_again v names h =
     rw (inside_again 48 v h.sequence, take_again 6 v.1 h.oid h.rest h.type_is, only_again 49 h.rest h.set h.set_is) (given_again h.oid h.set names h.gives)
+
+-- ---- alternative names are a list of values
+
+-- the names that are given, if any are, are a list of values
+abbrev pub AreValues : Option (List ℕ) → Type 0
+AreValues None = Unit {0}
+AreValues (Some names) = IsValueList names
+
+either_values : (here later : Option (List ℕ)) → AreValues here → AreValues later → AreValues (or_first here later)
+either_values (Some names) later h l = h
+either_values None later h l = l
+
+first_values : (R : Value → Option (List ℕ) → Type 0) → ((v : Value) (x : Option (List ℕ)) → R v x → AreValues x) → (vs : List Value) (found : Option (List ℕ)) → FirstOf R vs found → AreValues found
+first_values R k [] found h = subst AreValues (sym h) tt
+first_values R k (v ∷ vs) found h = subst AreValues (sym h.4) (either_values h.0 h.1 (k v h.0 h.2) (first_values R k vs h.1 h.3))
+
+list_values : (R : Value → Option (List ℕ) → Type 0) → ((v : Value) (x : Option (List ℕ)) → R v x → AreValues x) → (bs : List ℕ) (found : Option (List ℕ)) → IsListOf R bs found → AreValues found
+list_values R k bs found h = first_values R k h.0 found h.2
+
+value_values : (oid contents : List ℕ) (names : Option (List ℕ)) → IsExtensionValue oid contents names → AreValues names
+value_values oid contents None h = tt
+value_values oid contents (Some names) h = h.2
+
+one_extension_values : (v : Value) (names : Option (List ℕ)) → IsExtension v names → AreValues names
+one_extension_values v names h = value_values h.oid h.contents names h.gives
+
+pub extension_values : (bs : List ℕ) (names : Option (List ℕ)) → IsListOf IsExtension bs names → AreValues names
+extension_values = list_values IsExtension one_extension_values
+
+extensions_values : (v : Value) (names : Option (List ℕ)) → IsExtensions v names → AreValues names
+extensions_values v names h = extension_values v.1 names h.1
+
+given_values : (oid set : List ℕ) (names : Option (List ℕ)) → IsAttributeValue oid set names → AreValues names
+given_values oid set names (inl h) = subst AreValues (sym h.1) tt
+given_values oid set names (inr h) = list_values IsExtensions extensions_values set names h.1
+
+one_attribute_values : (v : Value) (names : Option (List ℕ)) → IsRequestAttribute v names → AreValues names
+one_attribute_values v names h = given_values h.oid h.set names h.gives
+
+pub attribute_values : (bs : List ℕ) (names : Option (List ℕ)) → IsListOf IsRequestAttribute bs names → AreValues names
+attribute_values = list_values IsRequestAttribute one_attribute_values

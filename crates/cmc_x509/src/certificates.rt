@@ -1,6 +1,7 @@
 ghost use Rattle.std.specs.Prelude.{◌≡◌, ℕ, ℤ, List, Some, IfOk};
 ghost use Rattle.cmc_der.specs.Keys.{CertificateFields, RequestFields, cert_shown, csr_shown, key_shown, text_shown};
 ghost use Rattle.cmc_x509.specs.Taking.{Gives};
+ghost use Rattle.cmc_x509.specs.Lists.{IsValueList};
 ghost use Rattle.cmc_x509.specs.Times.{time_at};
 ghost use Rattle.cmc_x509.specs.Certificates.{IsCertificate, IsRequest, or_none};
 ghost use Rattle.cmc_x509.specs.ReadCertificates.{Head, signed_at, version_of, validity_at, unique_id_of, extensions_in, head_at, tail_at, tbs_certificate_at, request_info_at, certificate_at, request_at};
@@ -67,7 +68,13 @@ fn validity_of<'a>(input: &'a [u8]) -> Result<(Validity, &'a [u8]), NotForm>
     let (not_after, inner) = time(inner)?;
     end(inner)?;
     if not_before <= not_after {
-        Ok((Validity { not_before, not_after }, rest))
+        Ok((
+            Validity {
+                not_before,
+                not_after,
+            },
+            rest,
+        ))
     } else {
         Err(NotForm)
     }
@@ -216,6 +223,7 @@ fn request<'a>(input: &'a [u8]) -> Result<CsrFields<'a>, NotForm>
 /// `NotForm` exactly where the whole input is no certificate, or has more octets than `MAX_INPUT`.
 pub fn read_cert<'a>(input: &'a [u8]) -> Result<CertFields<'a>, NotForm>
     ensures found { IfOk result (λ fields. IsCertificate input.now (cert_shown fields)) }
+    ensures names { IfOk result (λ fields. IsValueList fields.names.alternative.now) }
     ensures only { (fields : CertificateFields) → IsCertificate input.now fields → Gives cert_shown result (Some fields) }
 
     // The same as a function of the octets, which the crates above cite.
@@ -233,6 +241,7 @@ pub fn read_cert<'a>(input: &'a [u8]) -> Result<CertFields<'a>, NotForm>
 /// `MAX_INPUT`.
 pub fn read_csr<'a>(input: &'a [u8]) -> Result<CsrFields<'a>, NotForm>
     ensures found { IfOk result (λ fields. IsRequest input.now (csr_shown fields)) }
+    ensures names { IfOk result (λ fields. IsValueList fields.names.alternative.now) }
     ensures only { (fields : RequestFields) → IsRequest input.now fields → Gives csr_shown result (Some fields) }
 
     // The same as a function of the octets, which the crates above cite.

@@ -6,7 +6,10 @@ ghost use Rattle.cmc_x509.specs.PublicKeys.{algorithm_shown};
 ghost use Rattle.cmc_x509.specs.KeyFiles.{IsKeyFile};
 ghost use Rattle.cmc_x509.specs.ReadKeys.{three_at, six_at, rsa_private_at, agreed, curve_inside_at, agreed_curve, ec_private_at, attributes_at, around_of, held_key_at, private_key_info_at, private_key_at, key_file_at};
 
-use crate::keys::{Algorithm, algorithm_of, bits, curve_by_name, curve_stated, integer, null, point, positive, version};
+use crate::keys::{
+    Algorithm, algorithm_of, bits, curve_by_name, curve_stated, integer, null, point, positive,
+    version,
+};
 use crate::names::{RequestAttribute, first_in, is};
 use crate::oids::{EC_PUBLIC_KEY, RSA_ENCRYPTION};
 use crate::taking::{MAX_INPUT, NotForm, end, only, optional, take};

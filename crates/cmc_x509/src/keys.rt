@@ -53,7 +53,11 @@ pub fn integer<'a>(input: &'a [u8]) -> Result<(&'a [u8], &'a [u8]), NotForm>
     ensures { Gives (λ p. (p.0.now, p.1.now)) result (integer_at input.now) }
 {
     let (body, rest) = take(2, input)?;
-    if integer_body(body) { Ok((body, rest)) } else { Err(NotForm) }
+    if integer_body(body) {
+        Ok((body, rest))
+    } else {
+        Err(NotForm)
+    }
 }
 
 fn high_octets<'a>(octets: &'a [u8]) -> Result<&'a [u8], NotForm>
@@ -105,7 +109,11 @@ pub fn version<'a>(number: u8, input: &'a [u8]) -> Result<&'a [u8], NotForm>
     ensures { Gives (λ p. p.now) result (version_at number input.now) }
 {
     let (body, rest) = take(2, input)?;
-    if is(body, &[number]) { Ok(rest) } else { Err(NotForm) }
+    if is(body, &[number]) {
+        Ok(rest)
+    } else {
+        Err(NotForm)
+    }
 }
 
 #[tactic(auto, unfolding(crate::specs::ReadKeys::rsa_public_at))]
@@ -187,10 +195,7 @@ pub fn point<'a>(curve: KeyKind, bits: &'a [u8]) -> Result<Spki<'a>, NotForm>
     ensures { Gives key_shown result (point_at curve bits.now) }
 {
     if point_of(curve, bits) {
-        Ok(Spki::Ec {
-            curve,
-            point: bits,
-        })
+        Ok(Spki::Ec { curve, point: bits })
     } else {
         Err(NotForm)
     }
@@ -203,18 +208,16 @@ pub fn bits<'a>(contents: &'a [u8]) -> Result<&'a [u8], NotForm>
 {
     match contents {
         [] => Err(NotForm),
-        [unused, bits @ ..] => {
-            if *unused == 0 {
-                Ok(bits)
-            } else {
-                Err(NotForm)
-            }
-        }
+        [unused, bits @ ..] => { if *unused == 0 { Ok(bits) } else { Err(NotForm) } }
     }
 }
 
 #[tactic(auto, unfolding(crate::specs::ReadKeys::public_key_at))]
-fn public_key<'a>(algorithm: Algorithm<'a>, whole: &'a [u8], bits: &'a [u8]) -> Result<Spki<'a>, NotForm>
+fn public_key<'a>(
+    algorithm: Algorithm<'a>,
+    whole: &'a [u8],
+    bits: &'a [u8],
+) -> Result<Spki<'a>, NotForm>
     ensures { Gives key_shown result (public_key_at (algorithm_shown algorithm.entry) whole.now bits.now) }
 {
     if is(algorithm.oid, &RSA_ENCRYPTION) {

@@ -1,4 +1,4 @@
-ghost use Rattle.std.specs.Prelude.{◌≡◌, ◌<◌, length, ℕ, List, [], Option, IfNone, IfSome, IsSome};
+ghost use Rattle.std.specs.Prelude.{◌≡◌, ◌↔◌, ◌<◌, length, ℕ, List, [], IsNone, IfSome};
 ghost use Rattle.std.specs.Str.{bytes_eq};
 ghost use Rattle.cmc_der.specs.Keys.{text_shown};
 ghost use Rattle.cmc_der.specs.Values.{BeginsWith};
@@ -63,7 +63,11 @@ pub fn is(octets: &[u8], name: &[u8]) -> bool
 pub fn inside_of<'a>(tag: u8, part: Tlv<'a>) -> Result<&'a [u8], NotForm>
     ensures { Gives (λ p. p.now) result (inside tag (part.entry.tag, part.entry.body.now)) }
 {
-    if part.tag == tag { Ok(part.body) } else { Err(NotForm) }
+    if part.tag == tag {
+        Ok(part.body)
+    } else {
+        Err(NotForm)
+    }
 }
 
 /// AttributeTypeAndValue (RFC 5280, 4.1.2.4), which gives the common name that it is.
@@ -223,9 +227,10 @@ impl Part for RequestAttribute {
 /// the names behind it. `None` exactly at the end.
 pub fn next_name<'a>(rest: &'a [u8]) -> Option<(u8, &'a [u8], &'a [u8])>
     requires { IsValueList rest.now }
-    ensures none { IfNone result (rest.now ≡ []) }
+    ensures end { IsNone result ↔ (rest.now ≡ []) }
     ensures some { IfSome result (λ x. BeginsWith rest.now x.0 x.1.now x.2.now) }
     ensures more { IfSome result (λ x. IsValueList x.2.now) }
+    ensures shorter { IfSome result (λ x. length x.2.now < length rest.now) }
 {
     match value(rest) {
         Ok((value, after)) => Some((value.tag, value.body, after)),

@@ -7,4 +7,4 @@ pub loop-rest-preserved : goal.loop-rest-preserved
 loop-rest-preserved g c =
     rw (c.first-found.ensures)
     (first_goes_on g.P.Part.reads (text_shown c.loop-rest.found) (text_shown c.in-Ok-read.next) c.loop-rest.rest.now (first_at g.P.Part.reads c.args.body.now)
-        (c.in-Ok.part.tag, c.in-Ok.part.body.now, c.in-Ok.after.now) c.in-Ok.ensures.gives c.in-Ok-read.ensures c.loop-rest.invariant)
+    (c.in-Ok.part.tag, c.in-Ok.part.body.now, c.in-Ok.after.now) c.in-Ok.ensures.gives c.in-Ok-read.ensures c.loop-rest.invariant)
