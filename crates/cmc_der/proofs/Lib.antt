@@ -4,3 +4,4 @@ pub mod Laws
 pub mod Sizes
 pub mod Spelled
 pub mod Shortest
+pub mod BitLengths

@@ -1,5 +1,5 @@
 -- The contents octets of an INTEGER (X.690, 8.3): two's complement, the highest octet first.
-use Rattle.std.specs.Prelude.{◌≡◌, ℕ, ◌+◌, ◌*◌, ◌==◌, nat_lt, nat_le, Bool, true, false, cond, List, [], ◌∷◌, length}
+use Rattle.std.specs.Prelude.{◌≡◌, ℕ, ◌+◌, ◌-◌, ◌*◌, ◌^◌, ◌<◌, ◌≤◌, ◌==◌, nat_lt, nat_le, Bool, true, false, cond, List, [], ◌∷◌, length}
 use Rattle.cmc_der.specs.Values.{number_after}
 
 -- one octet or more, and of two or more the first nine bits are not all equal (8.3.2)
@@ -47,3 +47,13 @@ trimmed_bits (b ∷ bs) = 8 * length bs + octet_bits b
 -- the number of bits of the number that these octets spell, without the zero bits in front
 abbrev pub bit_length : List ℕ → ℕ
 bit_length bytes = trimmed_bits (trimmed bytes)
+
+-- numbers of eight bits each
+abbrev pub AreOctets : List ℕ → Type 0
+AreOctets [] = Unit {0}
+AreOctets (b ∷ bs) = (b < 256) × AreOctets bs
+
+-- the number has so many bits and no fewer
+pub record IsBitLength (number bits : ℕ) : Type 0 where
+  pub enough : number < 2 ^ bits
+  pub fewest : 0 < bits → 2 ^ (bits - 1) ≤ number

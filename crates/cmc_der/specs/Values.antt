@@ -26,7 +26,7 @@ pub record IsValue (whole : List ℕ) (tag : ℕ) (body : List ℕ) : Type 0 whe
 abbrev pub BeginsWith : List ℕ → ℕ → List ℕ → List ℕ → Type 0
 BeginsWith octets tag body rest = (whole : List ℕ) × IsValue whole tag body × (octets ≡ whole ++ rest)
 
--- some value begins with the octets
+-- Some value begins with the octets. What completes them may be any numbers: where some do, octets do too.
 abbrev pub IsPrefix : List ℕ → Type 0
 IsPrefix octets = (more : List ℕ) × (tag : ℕ) × (body : List ℕ) × IsValue (octets ++ more) tag body
 

@@ -1,5 +1,7 @@
-ghost use Rattle.std.specs.Prelude.{◌≡◌, ◌↔◌, ◌-◌, ◌^◌, ◌≤◌, min, IsTrue};
-ghost use Rattle.cmc_der.specs.Integers.{trimmed, octet_bits, bit_length};
+//! Public keys and names, and the fields that certificates and requests are read to.
+ghost use Rattle.std.specs.Prelude.{◌≡◌, ◌↔◌, ◌-◌, ◌^◌, ◌≤◌, ℕ, List, min, IsTrue};
+ghost use Rattle.cmc_der.specs.Integers.{trimmed, octet_bits, bit_length, AreOctets, IsBitLength};
+ghost use Rattle.cmc_der.specs.Values.{number_after};
 ghost use Rattle.cmc_der.specs.Keys.{key_shown, kind_of, same_kind};
 
 /// Algorithm and size of a public key.
@@ -131,9 +133,10 @@ fn bits_of(octets: &[u8]) -> u32
     match without_zeros(octets) {
         [] => 0,
         [first, after @ ..] => {
-            if after.len() < 536870912 {
+            // 2 ^ 29 octets are 2 ^ 32 bits.
+            if after.len() < 1 << 29 {
                 let bits = 8 * after.len() as u64 + u64::from(octet_bits_of(*first));
-                bits.min(4294967295) as u32
+                bits.min(u64::from(u32::MAX)) as u32
             } else {
                 u32::MAX
             }
@@ -182,3 +185,8 @@ impl<'a> Spki<'a> {
         }
     }
 }
+
+/// A law: a number has as many bits as `Spki::kind` counts, and no fewer.
+pub fn bits_are_fewest()
+    ensures { (octets : List ℕ) → AreOctets octets → IsBitLength (number_after 0 octets) (bit_length octets) }
+{}

@@ -6,7 +6,7 @@ mod fields;
 mod reading;
 mod writing;
 
-pub use fields::{CertFields, CsrFields, KeyKind, Names, Spki};
+pub use fields::{CertFields, CsrFields, KeyKind, Names, Spki, bits_are_fewest};
 pub use reading::{DerFault, Tlv, no_proper_prefix, read_one};
 pub use writing::{Writer, number_is_shortest, written_is_read};
 

@@ -1,3 +1,4 @@
+//! Reading one value from the left.
 ghost use Rattle.std.specs.Prelude.{◌≡◌, ℕ, List, [], ◌++◌, ◌+◌, ◌*◌, ◌^◌, ◌<◌, ◌↔◌, IfOk, Ok, Err};
 ghost use Rattle.cmc_der.specs.declared.reading.DerFault.TheVariants.{Cut, NotDer};
 ghost use Rattle.cmc_der.specs.Values.{IsValue, BeginsWith, IsCut, IsNotDerAt};

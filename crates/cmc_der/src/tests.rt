@@ -1,3 +1,4 @@
+//! What no clause says: values that openssl made and wrote, and the vectors of the refusals.
 ghost use Rattle.std.specs.Prelude.{◌^◌, ◌<◌, length};
 
 use crate::made::{EC_PUBLIC, MADE, RSA_PUBLIC};

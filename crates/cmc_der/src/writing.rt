@@ -1,3 +1,4 @@
+//! Writing values, one behind and inside another.
 ghost use Rattle.std.specs.Prelude.{◌≡◌, ◌≢◌, ℕ, List, [], ◌∷◌, ◌+◌, ◌^◌, ◌%◌, ◌<◌, ◌≤◌, ◌++◌, length, reverse, IfOk, OnOk, OnErr, vec_len};
 ghost use Rattle.cmc_der.specs.Values.{BeginsWith, number_after};
 ghost use Rattle.cmc_der.specs.Integers.{trimmed, signed, integer_of, IsIntegerOf};

@@ -1,6 +1,6 @@
 -- A certificate or a request that is read is in the grammar, and one of the grammar is read.
 use Rattle.std.proofs.Common.{◌≡◌, ℕ, ℤ, ◌≤◌, Bool, true, false, cond, leb, List, [], ◌∷◌, ◌++◌, length, Option, Some, None, Result, Ok, Err, refl, sym, ap, subst, ◌∙◌, arith}
-use Rattle.std.specs.Prelude.{IfOk, int_le, ◌≤ℤ◌}
+use Rattle.std.specs.Prelude.{◌↔◌, IfOk, IsErr, int_le, ◌≤ℤ◌}
 use Rattle.std.proofs.lemmas.Bool.{leb-true, le-leb}
 use borrow.Author.Differences.{le-true, le-false}
 use Rattle.std.proofs.lemmas.Int.{ints}
@@ -378,3 +378,20 @@ cert_answer_names (Err d) bs e = tt
 pub csr_answer_names : (r : Result CsrFields NotForm) (bs : List ℕ) → Gives csr_shown r (request_at bs) → IfOk r (λ c. IsValueList c.names.alternative.now)
 csr_answer_names (Ok c) bs e = request_names bs (csr_shown c) (request_found bs (csr_shown c) e)
 csr_answer_names (Err d) bs e = tt
+
+abbrev one : {A : Type 0} → A → Option A
+one x = Some x
+
+abbrev nothing : {A : Type 0} → Option A
+nothing = None
+
+none_is_not : {A : Type 0} (x : A) (r : Option A) → r ≡ nothing → r ≡ one x → ⊥
+none_is_not x r e f = let z : nothing ≡ one x = sym e ∙ f in cc
+
+pub cert_answer_refused : (r : Result CertFields NotForm) (bs : List ℕ) → Gives cert_shown r (certificate_at bs) → IsErr r ↔ ((c : CertificateFields) → IsCertificate bs c → ⊥)
+cert_answer_refused (Ok c) bs e = (λ h. absurd cc, λ h. absurd (h (cert_shown c) (certificate_found bs (cert_shown c) e)))
+cert_answer_refused (Err d) bs e = (λ h c k. none_is_not c (certificate_at bs) e (certificate_again bs c k), λ h. refl)
+
+pub csr_answer_refused : (r : Result CsrFields NotForm) (bs : List ℕ) → Gives csr_shown r (request_at bs) → IsErr r ↔ ((c : RequestFields) → IsRequest bs c → ⊥)
+csr_answer_refused (Ok c) bs e = (λ h. absurd cc, λ h. absurd (h (csr_shown c) (request_found bs (csr_shown c) e)))
+csr_answer_refused (Err d) bs e = (λ h c k. none_is_not c (request_at bs) e (request_again bs c k), λ h. refl)

@@ -2,7 +2,7 @@
 use Rattle.std.proofs.Common.{◌≡◌, ◌≢◌, ℕ, ◌+◌, ◌*◌, ◌<◌, ◌≤◌, Bool, true, false, cond, eqb, ltb, leb, List, [], ◌∷◌, ◌++◌, length, Option, Some, None, Result, Ok, Err, refl, sym, ap, subst, ◌∙◌, arith, inl, inr, ◌⊎◌}
 use Rattle.std.proofs.lemmas.Bool.{eqb-true, eqb-false, eq-eqb, ne_eqb, cases_Bool, leb-true, le-leb}
 use Rattle.std.specs.Str.{bytes_eq}
-use Rattle.std.specs.Prelude.{IfOk, IfSome}
+use Rattle.std.specs.Prelude.{◌↔◌, IfOk, IfSome, IsErr, IsNone}
 use Rattle.cmc_der.specs.declared.fields.Spki.{Spki}
 use Rattle.cmc_x509.specs.declared.taking.NotForm.{NotForm}
 use Rattle.cmc_der.specs.declared.fields.KeyKind.{KeyKind}
@@ -358,3 +358,14 @@ public_found None bs e = tt
 
 pub public_only : (r : Option Spki) (bs : List ℕ) → GivesSome key_shown r (key_file_at bs) → (key : PublicKey) → IsKeyFile bs key → GivesSome key_shown r (Some key)
 public_only r bs e key h = rw (key_file_again bs key h) at e
+
+none_is_not : (k : PublicKey) (r : Option PublicKey) → r ≡ nothing → r ≡ some k → ⊥
+none_is_not k r e f = let z : nothing ≡ some k = sym e ∙ f in cc
+
+pub answer_refused : (r : Result Spki NotForm) (bs : List ℕ) → Gives key_shown r (key_file_at bs) → IsErr r ↔ ((k : PublicKey) → IsKeyFile bs k → ⊥)
+answer_refused (Ok k) bs e = (λ h. absurd cc, λ h. absurd (h (key_shown k) (key_file_found bs (key_shown k) e)))
+answer_refused (Err d) bs e = (λ h k f. none_is_not k (key_file_at bs) e (key_file_again bs k f), λ h. refl)
+
+pub public_refused : (r : Option Spki) (bs : List ℕ) → GivesSome key_shown r (key_file_at bs) → IsNone r ↔ ((k : PublicKey) → IsKeyFile bs k → ⊥)
+public_refused (Some k) bs e = (λ h. absurd cc, λ h. absurd (h (key_shown k) (key_file_found bs (key_shown k) e)))
+public_refused None bs e = (λ h k f. none_is_not k (key_file_at bs) e (key_file_again bs k f), λ h. refl)

@@ -1,4 +1,5 @@
-ghost use Rattle.std.specs.Prelude.{◌≡◌, ℕ, ℤ, List, Some, IfOk};
+//! Certificates and certification requests.
+ghost use Rattle.std.specs.Prelude.{◌≡◌, ◌↔◌, Some, IfOk, IsErr};
 ghost use Rattle.cmc_der.specs.Keys.{CertificateFields, RequestFields, cert_shown, csr_shown, key_shown, text_shown};
 ghost use Rattle.cmc_x509.specs.Taking.{Gives};
 ghost use Rattle.cmc_x509.specs.Lists.{IsValueList};
@@ -225,6 +226,7 @@ pub fn read_cert<'a>(input: &'a [u8]) -> Result<CertFields<'a>, NotForm>
     ensures found { IfOk result (λ fields. IsCertificate input.now (cert_shown fields)) }
     ensures names { IfOk result (λ fields. IsValueList fields.names.alternative.now) }
     ensures only { (fields : CertificateFields) → IsCertificate input.now fields → Gives cert_shown result (Some fields) }
+    ensures not_form { IsErr result ↔ ((fields : CertificateFields) → IsCertificate input.now fields → ⊥) }
 
     // The same as a function of the octets, which the crates above cite.
     ensures exact { Gives cert_shown result (certificate_at input.now) }
@@ -243,6 +245,7 @@ pub fn read_csr<'a>(input: &'a [u8]) -> Result<CsrFields<'a>, NotForm>
     ensures found { IfOk result (λ fields. IsRequest input.now (csr_shown fields)) }
     ensures names { IfOk result (λ fields. IsValueList fields.names.alternative.now) }
     ensures only { (fields : RequestFields) → IsRequest input.now fields → Gives csr_shown result (Some fields) }
+    ensures not_form { IsErr result ↔ ((fields : RequestFields) → IsRequest input.now fields → ⊥) }
 
     // The same as a function of the octets, which the crates above cite.
     ensures exact { Gives csr_shown result (request_at input.now) }

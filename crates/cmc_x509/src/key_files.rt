@@ -1,4 +1,5 @@
-ghost use Rattle.std.specs.Prelude.{◌≡◌, ◌↔◌, ℕ, List, Option, None, Some, IfOk, IfSome, IsNone};
+//! Files of private keys, and the public key that each states.
+ghost use Rattle.std.specs.Prelude.{◌≡◌, ◌↔◌, ℕ, List, Option, None, Some, IfOk, IfSome, IsErr, IsNone};
 ghost use Rattle.cmc_der.specs.declared.fields.KeyKind.{KeyKind};
 ghost use Rattle.cmc_der.specs.Keys.{PublicKey, key_shown, text_shown};
 ghost use Rattle.cmc_x509.specs.Taking.{Gives, GivesSome, value_shown};
@@ -195,6 +196,7 @@ fn key_file<'a>(input: &'a [u8]) -> Result<Spki<'a>, NotForm>
 pub fn read_key<'a>(input: &'a [u8]) -> Result<Spki<'a>, NotForm>
     ensures found { IfOk result (λ key. IsKeyFile input.now (key_shown key)) }
     ensures only { (key : PublicKey) → IsKeyFile input.now key → Gives key_shown result (Some key) }
+    ensures not_form { IsErr result ↔ ((key : PublicKey) → IsKeyFile input.now key → ⊥) }
 
     // The same as a function of the octets, which the crates above cite.
     ensures exact { Gives key_shown result (key_file_at input.now) }
@@ -206,6 +208,7 @@ pub fn read_key<'a>(input: &'a [u8]) -> Result<Spki<'a>, NotForm>
 pub fn key_public<'a>(input: &'a [u8]) -> Option<Spki<'a>>
     ensures found { IfSome result (λ key. IsKeyFile input.now (key_shown key)) }
     ensures only { (key : PublicKey) → IsKeyFile input.now key → GivesSome key_shown result (Some key) }
+    ensures none { IsNone result ↔ ((key : PublicKey) → IsKeyFile input.now key → ⊥) }
     ensures exact { GivesSome key_shown result (key_file_at input.now) }
 {
     match read_key(input) {

@@ -1,3 +1,4 @@
+//! Public keys: algorithms, numbers, points, and SubjectPublicKeyInfo.
 ghost use Rattle.std.specs.Prelude.{◌≡◌, ◌<◌, ℕ, List};
 ghost use Rattle.cmc_der.specs.Integers.{is_integer};
 ghost use Rattle.cmc_der.specs.Keys.{key_shown};

@@ -1,3 +1,4 @@
+//! Names: common names, and alternative names in extensions and attributes.
 ghost use Rattle.std.specs.Prelude.{◌≡◌, ◌↔◌, ◌<◌, length, ℕ, List, [], IsNone, IfSome};
 ghost use Rattle.std.specs.Str.{bytes_eq};
 ghost use Rattle.cmc_der.specs.Keys.{text_shown};

@@ -1,3 +1,4 @@
+//! Taking values from the front of the input.
 ghost use Rattle.std.specs.Prelude.{◌≡◌, ◌<◌, ◌-◌, ◌+◌, ◌≤◌, length, IfOk};
 ghost use Rattle.cmc_der.specs.Keys.{text_shown};
 ghost use Rattle.cmc_der.specs.Reading.{shown};
@@ -6,10 +7,10 @@ ghost use Rattle.cmc_x509.specs.Taking.{Gives, value_shown, value_at, take_at, w
 use cmc_der::{Tlv, read_one};
 
 /// An input of more octets than these has no reading.
-pub const MAX_INPUT: usize = 16777216;
+pub const MAX_INPUT: usize = 16_777_216;
 
 /// The input has no reading.
-#[derive(Clone, Copy, Debug)]
+#[derive(Clone, Copy)]
 pub struct NotForm;
 
 /// The value at the front, and the rest.

@@ -1,3 +1,4 @@
+//! What no clause says: that material which openssl made is read with the fields that it prints.
 ghost use Rattle.cmc_x509.specs.Lists.{IsValueList};
 
 use crate::{
