@@ -1,10 +1,10 @@
 -- The number of bits of the number that octets spell.
-use Rattle.std.proofs.Common.{◌≡◌, ℕ, suc, ◌+◌, ◌-◌, ◌*◌, ◌^◌, ◌<◌, ◌≤◌, Bool, true, false, cond, ltb, List, [], ◌∷◌, length, refl, sym, ap, subst, ◌∙◌, arith, inl, inr}
+use Rattle.std.proofs.Common.{◌≡◌, ℕ, suc, ◌+◌, ◌-◌, ◌*◌, ◌^◌, ◌<◌, ◌≤◌, List, [], ◌∷◌, length, ap, ◌∙◌, arith, inl, inr}
 use Rattle.std.proofs.lemmas.Bool.{cases_lt, lt-ltb, le-ltb}
 use Rattle.std.proofs.lemmas.Nat.{pow-add}
-use Rattle.std.proofs.Math.Nat.{mul-le-mul_right, mul-le-mul_left}
+use Rattle.std.proofs.Math.Nat.{mul-le-mul_right}
 use Rattle.cmc_der.specs.Values.{number_after}
-use Rattle.cmc_der.specs.Integers.{trimmed, octet_bits, trimmed_bits, bit_length, AreOctets, IsBitLength}
+use Rattle.cmc_der.specs.Integers.{octet_bits, bit_length, AreOctets, IsBitLength}
 
 -- octets behind a number, which they shift by eight bits each
 record IsSpread (n : ℕ) (bs : List ℕ) : Type 0 where

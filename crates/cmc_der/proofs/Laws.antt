@@ -1,8 +1,8 @@
 -- What is read is spelled so, what is spelled so is read, and which fault it is.
-use Rattle.std.proofs.Common.{◌≡◌, ℕ, zero, suc, ◌+◌, ◌-◌, ◌*◌, ◌%◌, add-one, ◌^◌, ◌<◌, ◌≤◌, ◌≢◌, ◌↔◌, Bool, true, false, cond, ltb, eqb, List, [], ◌∷◌, ◌++◌, length, take, drop, Result, Ok, Err, refl, sym, ap, subst, ◌∙◌, append_assoc, arith, inl, inr, ◌⊎◌}
+use Rattle.std.proofs.Common.{◌≡◌, ℕ, zero, suc, ◌+◌, ◌-◌, ◌*◌, ◌%◌, add-one, ◌<◌, ◌≤◌, ◌↔◌, true, false, cond, ltb, eqb, List, [], ◌∷◌, ◌++◌, length, take, drop, Result, Ok, Err, refl, sym, ap, subst, ◌∙◌, append_assoc, arith, inl, inr}
 use Rattle.std.specs.Prelude.{◌||◌, ◌&&◌}
 use Rattle.std.proofs.Math.ListN.{replicate}
-use Rattle.std.proofs.lemmas.Bool.{cases_lt, cases_order, lt-ltb, le-ltb, ltb-true, ltb-false, ne_eqb, eqb-true, eqb-false}
+use Rattle.std.proofs.lemmas.Bool.{cases_lt, cases_order, lt-ltb, le-ltb, ltb-true, ltb-false, ne_eqb, eqb-false}
 use Rattle.std.proofs.lemmas.List.{append-nil, take-take, take-append-drop, length-take, length-drop, length-append, length-replicate, nil_from_length, take_at, drop_at, take-append-le, drop-append-le}
 use Rattle.cmc_der.specs.declared.reading.DerFault.{DerFault}
 use Rattle.cmc_der.specs.declared.reading.DerFault.TheVariants.{Cut, NotDer}
@@ -10,9 +10,9 @@ use Rattle.cmc_der.specs.Values.{IsValue, BeginsWith, IsPrefix, IsCut, IsNotDerA
 use Rattle.std.specs.Prelude.{IfOk}
 use Rattle.std.specs.Borrow.{Bor}
 use Rattle.cmc_der.specs.declared.reading.Tlv.{Tlv}
-use Rattle.cmc_der.specs.Reading.{◌>>=◌, shown, Gives, Found, more_at, number_at, long_at, length_at, body_at, read_at}
+use Rattle.cmc_der.specs.Reading.{◌>>=◌, shown, Gives, Found, number_at, long_at, length_at, body_at, read_at}
 use Rattle.cmc_der.proofs.Steps.{chosen, bind_ok, bind_err, Goes, Goes-bind, Goes-cond}
-use Rattle.cmc_der.proofs.Lengths.{IsRead, length_spelled, length_again}
+use Rattle.cmc_der.proofs.Lengths.{length_spelled, length_again}
 
 abbrev answer : Found → Result Found DerFault
 answer x = Ok x

@@ -1,12 +1,12 @@
 -- The octets of a length, and what is read of them.
-use Rattle.std.proofs.Common.{◌≡◌, ℕ, zero, suc, ◌+◌, ◌-◌, ◌*◌, ◌<◌, ◌≤◌, ◌≢◌, Bool, true, false, cond, ltb, eqb, List, [], ◌∷◌, ◌++◌, length, Result, Ok, Err, refl, sym, ap, subst, ◌∙◌, arith, inl, inr}
+use Rattle.std.proofs.Common.{◌≡◌, ℕ, zero, suc, ◌+◌, ◌-◌, ◌*◌, ◌<◌, ◌≤◌, ◌≢◌, Bool, true, false, cond, ltb, eqb, List, [], ◌∷◌, ◌++◌, length, Result, Ok, Err, refl, sym, ap, subst, arith, inl, inr}
 use Rattle.std.specs.Prelude.{◌||◌, ◌&&◌}
-use Rattle.std.proofs.lemmas.Bool.{cases_Bool, lt-ltb, le-ltb, ltb-true, ltb-false, ne_eqb, eqb-true, eqb-false, and_cases}
+use Rattle.std.proofs.lemmas.Bool.{lt-ltb, le-ltb, ltb-true, ltb-false, ne_eqb, eqb-false, and_cases}
 use Rattle.cmc_der.specs.declared.reading.DerFault.{DerFault}
-use Rattle.cmc_der.specs.declared.reading.DerFault.TheVariants.{Cut, NotDer}
+use Rattle.cmc_der.specs.declared.reading.DerFault.TheVariants.{NotDer}
 use Rattle.cmc_der.specs.Values.{number_after, IsLength}
-use Rattle.cmc_der.specs.Reading.{◌>>=◌, more_at, number_at, long_at, length_at}
-use Rattle.cmc_der.proofs.Steps.{chosen, bind_ok}
+use Rattle.cmc_der.specs.Reading.{number_at, long_at, length_at}
+use Rattle.cmc_der.proofs.Steps.{chosen}
 
 abbrev pub read_ok : ℕ × List ℕ → Result (ℕ × List ℕ) DerFault
 read_ok p = Ok p

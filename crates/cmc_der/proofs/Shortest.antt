@@ -1,8 +1,8 @@
 -- The contents octets of an INTEGER are the shortest, and spell its number.
-use Rattle.std.proofs.Common.{◌≡◌, ◌≢◌, ℕ, ◌+◌, ◌*◌, ◌<◌, ◌≤◌, Bool, true, false, cond, ltb, eqb, List, [], ◌∷◌, refl, sym, ap, subst, ◌∙◌, arith, inl, inr}
-use Rattle.std.proofs.lemmas.Bool.{cases_lt, cases_Bool, lt-ltb, le-ltb, ltb-true, ltb-false, ne_eqb}
+use Rattle.std.proofs.Common.{◌≡◌, ℕ, ◌<◌, true, List, [], ◌∷◌, refl, arith, inl, inr}
+use Rattle.std.proofs.lemmas.Bool.{cases_lt, lt-ltb, le-ltb, ne_eqb}
 use Rattle.cmc_der.specs.Values.{number_after}
-use Rattle.cmc_der.specs.Integers.{is_integer, is_unsigned, IsIntegerOf, trimmed, signed, integer_of}
+use Rattle.cmc_der.specs.Integers.{is_integer, IsIntegerOf, signed, integer_of}
 
 -- a number whose first octet is not 0
 signed_is : (b : ℕ) (bs : List ℕ) → 0 < b → IsIntegerOf (signed (b ∷ bs)) (number_after 0 (b ∷ bs))

@@ -1,10 +1,7 @@
 -- What is written is a value.
-use Rattle.std.proofs.Common.{◌≡◌, ℕ, zero, suc, ◌+◌, ◌*◌, ◌/◌, ◌%◌, ◌^◌, ◌<◌, ◌≤◌, ◌≢◌, Bool, true, false, cond, ltb, List, [], ◌∷◌, ◌++◌, length, Result, Ok, Err, refl, sym, ap, subst, ◌∙◌, arith, inl, inr}
+use Rattle.std.proofs.Common.{ℕ, ◌%◌, ◌^◌, ◌<◌, ◌≢◌, List, ◌++◌, length, refl, arith, inl, inr}
 use Rattle.std.proofs.lemmas.Bool.{cases_lt, lt-ltb, le-ltb}
-use Rattle.std.proofs.lemmas.List.{append-nil}
-use Rattle.cmc_der.specs.Values.{number_after, IsLength, IsValue, BeginsWith}
-use Rattle.cmc_der.specs.Reading.{read_at}
-use Rattle.cmc_der.proofs.Laws.{read_again}
+use Rattle.cmc_der.specs.Values.{IsLength, IsValue, BeginsWith}
 use Rattle.cmc_der.specs.Building.{length_octets, value}
 
 length_spelled : (n : ℕ) → n < 2 ^ 32 → IsLength (length_octets n) n

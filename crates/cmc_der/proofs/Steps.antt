@@ -1,7 +1,5 @@
 -- Steps of reading.
-use Rattle.std.proofs.Common.{◌≡◌, ℕ, zero, suc, ◌+◌, ◌<◌, ◌≤◌, Bool, true, false, cond, List, [], ◌∷◌, ◌++◌, length, get_or, take, drop, Result, Ok, Err, refl, sym, ap, subst, ◌∙◌, append_assoc, arith, inl, inr, ◌⊎◌}
-use Rattle.std.proofs.lemmas.Bool.{cases_lt}
-use Rattle.std.proofs.lemmas.List.{get_or-drop, get_or-take, get_or_past, length-take}
+use Rattle.std.proofs.Common.{◌≡◌, Bool, true, false, cond, Result, Ok, Err, refl, inl, inr, ◌⊎◌}
 use Rattle.cmc_der.specs.declared.reading.DerFault.{DerFault}
 use Rattle.cmc_der.specs.declared.reading.DerFault.TheVariants.{Cut, NotDer}
 use Rattle.cmc_der.specs.Reading.{◌>>=◌}

@@ -1,5 +1,5 @@
 -- What is written.
-use Rattle.std.specs.Prelude.{◌≡◌, ℕ, ◌+◌, ◌*◌, ◌/◌, ◌%◌, ◌<◌, ◌≤◌, nat_lt, cond, List, [], ◌∷◌, ◌++◌, length}
+use Rattle.std.specs.Prelude.{◌≡◌, ℕ, ◌+◌, ◌/◌, ◌%◌, nat_lt, cond, List, [], ◌∷◌, ◌++◌, length}
 
 -- the length octets of a length below 2 ^ 32, in the shortest form (X.690, 8.1.3 and 10.1)
 unfoldable pub length_octets : ℕ → List ℕ

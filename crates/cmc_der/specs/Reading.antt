@@ -1,6 +1,6 @@
 -- Reading a value from the left: what is found at the front of the octets, or which fault. That this
 -- is what the grammar says, proofs/Laws.antt shows.
-use Rattle.std.specs.Prelude.{◌≡◌, ℕ, zero, suc, ◌+◌, ◌-◌, ◌*◌, ◌%◌, ◌<◌, nat_lt, ◌==◌, ◌||◌, ◌&&◌, cond, List, [], ◌∷◌, ◌++◌, length, take, drop, Result, Ok, Err}
+use Rattle.std.specs.Prelude.{◌≡◌, ℕ, zero, suc, ◌+◌, ◌-◌, ◌*◌, ◌%◌, nat_lt, ◌==◌, ◌||◌, ◌&&◌, cond, List, [], ◌∷◌, length, take, drop, Result, Ok, Err}
 use Rattle.std.specs.Borrow.{Bor}
 use Rattle.cmc_der.specs.declared.reading.DerFault.{DerFault}
 use Rattle.cmc_der.specs.declared.reading.DerFault.TheVariants.{Cut, NotDer}

@@ -1,21 +1,20 @@
 -- A certificate or a request that is read is in the grammar, and one of the grammar is read.
-use Rattle.std.proofs.Common.{◌≡◌, ℕ, ℤ, ◌≤◌, Bool, true, false, cond, leb, List, [], ◌∷◌, ◌++◌, length, Option, Some, None, Result, Ok, Err, refl, sym, ap, subst, ◌∙◌, arith}
+use Rattle.std.proofs.Common.{◌≡◌, ℕ, ℤ, Bool, true, false, leb, List, [], ◌∷◌, length, Option, Some, None, Result, Ok, Err, refl, sym, ap, subst, ◌∙◌, arith}
 use Rattle.std.specs.Prelude.{◌↔◌, IfOk, IsErr, int_le, ◌≤ℤ◌}
 use Rattle.std.proofs.lemmas.Bool.{leb-true, le-leb}
-use borrow.Author.Differences.{le-true, le-false}
+use borrow.Author.Differences.{le-false}
 use Rattle.std.proofs.lemmas.Int.{ints}
 use Rattle.cmc_der.specs.declared.fields.CertFields.{CertFields}
 use Rattle.cmc_der.specs.declared.fields.CsrFields.{CsrFields}
-use Rattle.cmc_der.specs.Values.{IsValue, BeginsWith}
-use Rattle.cmc_der.specs.Keys.{PublicKey, SubjectNames, CertificateFields, RequestFields, cert_shown, csr_shown}
+use Rattle.cmc_der.specs.Values.{IsValue}
+use Rattle.cmc_der.specs.Keys.{CertificateFields, RequestFields, cert_shown, csr_shown}
 use Rattle.cmc_time.specs.Reading.{asn1_seconds}
-use Rattle.cmc_time.specs.Asn1.{IsAsn1Time}
 use Rattle.cmc_time.proofs.Asn1Laws.{asn1_found, asn1_again}
 use Rattle.cmc_x509.specs.declared.taking.NotForm.{NotForm}
 use Rattle.cmc_x509.specs.declared.taking.TheConstants.{MAX_INPUT}
-use Rattle.cmc_x509.specs.Taking.{Gives, BeginsWithOptional, ◌>>=◌, Maybe, Taken, value_at, take_at, end_at, only_at, optional_at}
-use Rattle.cmc_x509.specs.Lists.{IsValueList, IsListOf, first_at}
-use Rattle.cmc_x509.specs.PublicKeys.{AlgorithmIdentifier, BeginsWithAlgorithm, BeginsWithInteger, BeginsWithSpki}
+use Rattle.cmc_x509.specs.Taking.{Gives, BeginsWithOptional, ◌>>=◌, value_at, take_at, end_at, only_at, optional_at}
+use Rattle.cmc_x509.specs.Lists.{IsValueList, first_at}
+use Rattle.cmc_x509.specs.PublicKeys.{AlgorithmIdentifier, BeginsWithAlgorithm, BeginsWithInteger}
 use Rattle.cmc_x509.specs.Names.{BeginsWithName, IsExtension, IsRequestAttribute}
 use Rattle.cmc_x509.specs.Times.{BeginsWithTime, time_at}
 use Rattle.cmc_x509.specs.Certificates.{IsSigned, IsVersion, BeginsWithValidity, IsUniqueId, or_none, AreExtensions, IsTbsCertificate, IsCertificate, IsRequestInfo, IsRequest}

@@ -1,24 +1,24 @@
 -- A file of a private key that is read is in the grammar, and one of the grammar is read.
-use Rattle.std.proofs.Common.{◌≡◌, ◌≢◌, ℕ, ◌+◌, ◌*◌, ◌<◌, ◌≤◌, Bool, true, false, cond, eqb, ltb, leb, List, [], ◌∷◌, ◌++◌, length, Option, Some, None, Result, Ok, Err, refl, sym, ap, subst, ◌∙◌, arith, inl, inr, ◌⊎◌}
-use Rattle.std.proofs.lemmas.Bool.{eqb-true, eqb-false, eq-eqb, ne_eqb, cases_Bool, leb-true, le-leb}
+use Rattle.std.proofs.Common.{◌≡◌, ℕ, true, leb, List, [], ◌∷◌, length, Option, Some, None, Result, Ok, Err, refl, sym, ap, subst, ◌∙◌, inl, inr}
+use Rattle.std.proofs.lemmas.Bool.{eqb-true, eq-eqb, cases_Bool, leb-true, le-leb}
 use Rattle.std.specs.Str.{bytes_eq}
 use Rattle.std.specs.Prelude.{◌↔◌, IfOk, IfSome, IsErr, IsNone}
 use Rattle.cmc_der.specs.declared.fields.Spki.{Spki}
 use Rattle.cmc_x509.specs.declared.taking.NotForm.{NotForm}
 use Rattle.cmc_der.specs.declared.fields.KeyKind.{KeyKind}
 use Rattle.cmc_der.specs.declared.fields.KeyKind.TheVariants.{Rsa, P256, P384, P521}
-use Rattle.cmc_der.specs.Values.{IsValue, BeginsWith}
+use Rattle.cmc_der.specs.Values.{IsValue}
 use Rattle.cmc_der.specs.Keys.{PublicKey, RsaKey, EcKey, OtherKey, same_kind, key_shown}
 use Rattle.cmc_x509.specs.declared.oids.TheConstants.{RSA_ENCRYPTION, EC_PUBLIC_KEY}
 use Rattle.cmc_x509.specs.declared.taking.TheConstants.{MAX_INPUT}
-use Rattle.cmc_x509.specs.Taking.{Gives, GivesSome, Value, BeginsWithOptional, ◌>>=◌, Taken, value_at, take_at, end_at, only_at, optional_at}
-use Rattle.cmc_x509.specs.Lists.{IsListOf, first_at}
+use Rattle.cmc_x509.specs.Taking.{Gives, GivesSome, Value, BeginsWithOptional, ◌>>=◌, take_at, end_at, only_at, optional_at}
+use Rattle.cmc_x509.specs.Lists.{first_at}
 use Rattle.cmc_x509.specs.Names.{IsRequestAttribute}
-use Rattle.cmc_x509.specs.PublicKeys.{AlgorithmIdentifier, BeginsWithAlgorithm, BeginsWithInteger, BeginsWithPositive, IsNull, NamesCurve, IsCurve, IsPoint}
+use Rattle.cmc_x509.specs.PublicKeys.{AlgorithmIdentifier, BeginsWithInteger, NamesCurve}
 use Rattle.cmc_x509.specs.KeyFiles.{IsIntegers, IsRsaPrivateKey, IsAgreed, IsEcPrivateKey, IsAround, IsHeldKey, AreAttributes, IsPrivateKeyInfo, IsPrivateKey, IsKeyFile}
 use Rattle.cmc_x509.specs.ReadNames.{request_attribute_of}
-use Rattle.cmc_x509.specs.ReadKeys.{algorithm_at, integer_at, positive_at, version_at, curve_named, curve_of, is_null, point_at, bits_of, three_at, six_at, rsa_private_at, agreed, curve_inside_at, agreed_curve, ec_private_at, attributes_at, around_of, held_key_at, private_key_info_at, or_else, private_key_at, key_file_at}
-use Rattle.cmc_x509.proofs.TakingLaws.{some, some_is, bind_some, guard_some, take_found, take_again, take_other, end_found, end_again, only_found, only_again, optional_found, optional_again, bytes_same, bytes_differ, same_bytes, other_bytes}
+use Rattle.cmc_x509.specs.ReadKeys.{algorithm_at, integer_at, positive_at, version_at, curve_named, curve_of, is_null, bits_of, three_at, six_at, rsa_private_at, agreed, curve_inside_at, agreed_curve, ec_private_at, attributes_at, around_of, held_key_at, private_key_info_at, or_else, private_key_at, key_file_at}
+use Rattle.cmc_x509.proofs.TakingLaws.{some, some_is, bind_some, guard_some, take_found, take_again, take_other, end_found, end_again, only_found, only_again, optional_found, optional_again, bytes_same, same_bytes}
 use Rattle.cmc_x509.proofs.ListLaws.{list_found, list_again}
 use Rattle.cmc_x509.proofs.NameLaws.{request_attribute_found, request_attribute_again}
 use Rattle.cmc_x509.proofs.KeyLaws.{algorithm_found, algorithm_again, integer_found, integer_again, positive_found, positive_again, version_found, version_again, null_found, null_again, curve_found, curve_again, stated_found, stated_again, point_found, point_again, bits_found, bits_again, rsa_not_ec}

@@ -1,6 +1,5 @@
 -- Reading values one after the other, and the first that gives something.
-use Rattle.std.proofs.Common.{◌≡◌, ℕ, zero, suc, ◌+◌, ◌<◌, ◌≤◌, Bool, true, false, List, [], ◌∷◌, ◌++◌, length, Option, Some, None, refl, sym, ap, subst, ◌∙◌, arith}
-use Rattle.cmc_der.specs.Values.{IsValue, BeginsWith}
+use Rattle.std.proofs.Common.{◌≡◌, ℕ, zero, suc, ◌<◌, ◌≤◌, List, [], ◌∷◌, length, Option, Some, None, refl, sym, ap, subst, ◌∙◌, arith}
 use Rattle.cmc_der.specs.Reading.{Found}
 use Rattle.cmc_x509.specs.Taking.{Value, ◌>>=◌, value_at}
 use Rattle.cmc_x509.specs.Lists.{IsValues, IsValueList, or_first, FirstOf, IsListOf, values_from, values_at, Reader, first_of, first_at, after_found, any_value}

@@ -1,12 +1,12 @@
 -- A name that is read is in the grammar, and one of the grammar is read; so extensions and attributes.
-use Rattle.std.proofs.Common.{◌≡◌, ◌≢◌, ℕ, Bool, true, false, cond, eqb, List, [], ◌∷◌, Option, Some, None, refl, sym, ap, subst, ◌∙◌, arith, inl, inr, ◌⊎◌}
+use Rattle.std.proofs.Common.{◌≡◌, ℕ, cond, eqb, List, [], ◌∷◌, Option, Some, None, refl, sym, subst, inl, inr}
 use Rattle.std.proofs.lemmas.Bool.{eqb-true, eq-eqb, cases_Bool}
 use Rattle.std.specs.Str.{bytes_eq}
 use Rattle.cmc_der.specs.Values.{IsValue, BeginsWith}
 use Rattle.cmc_x509.specs.declared.oids.TheConstants.{SUBJECT_ALT_NAME, EXTENSION_REQUEST}
-use Rattle.cmc_x509.specs.Taking.{Value, ◌>>=◌, Maybe, BeginsWithOptional, value_at, take_at, end_at, only_at, optional_at}
+use Rattle.cmc_x509.specs.Taking.{Value, Maybe, value_at, take_at, end_at, only_at, optional_at}
 use Rattle.cmc_x509.specs.Lists.{IsValueList, or_first, FirstOf, IsListOf, first_at, any_value}
-use Rattle.cmc_x509.specs.Names.{common_of, IsAttribute, IsRdn, BeginsWithName, IsTrueOrAbsent, IsExtensionValue, IsExtension, IsExtensions, IsAttributeValue, IsRequestAttribute}
+use Rattle.cmc_x509.specs.Names.{IsAttribute, IsRdn, BeginsWithName, IsTrueOrAbsent, IsExtensionValue, IsExtension, IsExtensions, IsAttributeValue, IsRequestAttribute}
 use Rattle.cmc_x509.specs.ReadNames.{inside, attribute_of, rdn_of, name_at, true_or_absent, general_names_at, extension_value_at, extension_of, extensions_of, request_attribute_of}
 use Rattle.cmc_x509.proofs.TakingLaws.{some, some_is, bind_some, guard_some, take_found, take_again, value_found, value_again, end_found, end_again, only_found, only_again, optional_found, optional_again, whole_from_begins, begins_from_whole, bytes_same, bytes_differ, same_bytes, other_bytes}
 use Rattle.cmc_x509.proofs.ListLaws.{list_found, list_again, any_found, any_again}

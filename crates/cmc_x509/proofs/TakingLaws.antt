@@ -1,5 +1,5 @@
 -- What is taken stands there, and what stands there is taken.
-use Rattle.std.proofs.Common.{◌≡◌, ◌≢◌, ◌-◌, ◌+◌, ◌<◌, ℕ, zero, suc, take, Bool, true, false, cond, eqb, List, [], ◌∷◌, ◌++◌, length, Option, Some, None, Result, Ok, Err, refl, sym, ap, subst, ◌∙◌, arith, inl, inr, ◌⊎◌}
+use Rattle.std.proofs.Common.{◌≡◌, ◌≢◌, ◌-◌, ◌<◌, ℕ, take, Bool, true, false, cond, eqb, List, [], ◌∷◌, ◌++◌, length, Option, Some, None, Result, Ok, Err, refl, sym, ap, subst, ◌∙◌, arith, inl, inr}
 use Rattle.std.proofs.lemmas.Bool.{eqb-true, eqb-false, eq-eqb, ne_eqb, cases_Bool, false_from_ne_true}
 use Rattle.std.proofs.lemmas.Slice.Eq.{bytes_eq-Decides}
 use Rattle.std.specs.Str.{bytes_eq}
@@ -8,7 +8,7 @@ use Rattle.cmc_der.specs.declared.reading.DerFault.{DerFault}
 use Rattle.cmc_der.specs.Values.{IsValue, BeginsWith}
 use Rattle.cmc_der.specs.Reading.{Found, read_at}
 use Rattle.cmc_der.proofs.Laws.{read_spelled, read_again}
-use Rattle.cmc_x509.specs.Taking.{Value, IsAtMostOne, BeginsOtherwise, BeginsWithOptional, ◌>>=◌, Taken, Maybe, value_of, value_at, take_at, whole_at, end_at, only_at, at_most_one_at, optional_at}
+use Rattle.cmc_x509.specs.Taking.{Value, IsAtMostOne, BeginsWithOptional, ◌>>=◌, Taken, Maybe, value_of, value_at, take_at, whole_at, end_at, only_at, at_most_one_at, optional_at}
 
 abbrev pub some : {A : Type 0} → A → Option A
 some x = Some x

@@ -1,9 +1,9 @@
 -- Certificates (RFC 5280, 4.1) and certification requests (RFC 2986, 4), and the fields that are read of them.
 use Rattle.std.specs.Prelude.{◌≡◌, ℕ, ℤ, ◌≤◌, ◌≤ℤ◌, List, [], ◌∷◌, length, Option, Some, None}
 use Rattle.cmc_der.specs.Values.{IsValue, BeginsWith}
-use Rattle.cmc_der.specs.Keys.{PublicKey, SubjectNames, CertificateFields, RequestFields}
+use Rattle.cmc_der.specs.Keys.{CertificateFields, RequestFields}
 use Rattle.cmc_x509.specs.declared.taking.TheConstants.{MAX_INPUT}
-use Rattle.cmc_x509.specs.Taking.{Value, BeginsWithOptional}
+use Rattle.cmc_x509.specs.Taking.{BeginsWithOptional}
 use Rattle.cmc_x509.specs.Lists.{IsListOf}
 use Rattle.cmc_x509.specs.PublicKeys.{AlgorithmIdentifier, BeginsWithAlgorithm, BeginsWithInteger, BeginsWithSpki}
 use Rattle.cmc_x509.specs.Names.{BeginsWithName, IsExtension, IsRequestAttribute}

@@ -1,6 +1,6 @@
 -- Public keys: SubjectPublicKeyInfo (RFC 5280, 4.1.2.7) of RSA keys (RFC 8017, A.1.1), of elliptic curve
 -- keys (RFC 5480, 2), and of others.
-use Rattle.std.specs.Prelude.{◌≡◌, ◌≢◌, ℕ, ◌*◌, ◌<◌, true, List, [], ◌∷◌, ◌++◌, length, Option, Some, None}
+use Rattle.std.specs.Prelude.{◌≡◌, ◌≢◌, ℕ, ◌*◌, ◌<◌, true, List, [], ◌∷◌, ◌++◌, length, Option, Some}
 use Rattle.cmc_der.specs.declared.fields.KeyKind.{KeyKind}
 use Rattle.cmc_der.specs.declared.fields.KeyKind.TheVariants.{Rsa, P256, P384, P521}
 use Rattle.cmc_der.specs.Values.{IsValue, BeginsWith}

@@ -1,9 +1,8 @@
 -- Reading certificates and certification requests from the left.
-use Rattle.std.specs.Prelude.{ℕ, ℤ, int_le, ◌==◌, nat_le, Bool, cond, List, [], ◌∷◌, length, Option, Some, None}
-use Rattle.std.specs.Str.{bytes_eq}
-use Rattle.cmc_der.specs.Keys.{PublicKey, SubjectNames, CertificateFields, RequestFields}
+use Rattle.std.specs.Prelude.{ℕ, ℤ, int_le, nat_le, cond, List, [], length, Option, Some, None}
+use Rattle.cmc_der.specs.Keys.{CertificateFields, RequestFields}
 use Rattle.cmc_x509.specs.declared.taking.TheConstants.{MAX_INPUT}
-use Rattle.cmc_x509.specs.Taking.{Value, ◌>>=◌, value_at, take_at, end_at, only_at, optional_at}
+use Rattle.cmc_x509.specs.Taking.{◌>>=◌, take_at, end_at, only_at, optional_at}
 use Rattle.cmc_x509.specs.Lists.{first_at}
 use Rattle.cmc_x509.specs.Certificates.{or_none}
 use Rattle.cmc_x509.specs.ReadKeys.{algorithm_at, integer_at, version_at, bits_of, spki_at}

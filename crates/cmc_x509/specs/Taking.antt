@@ -1,5 +1,5 @@
 -- Taking values from the front of octets, and the words that the grammar is written in.
-use Rattle.std.specs.Prelude.{◌≡◌, ◌≢◌, ℕ, ◌-◌, ◌==◌, cond, List, [], ◌∷◌, ◌++◌, length, take, Option, Some, None, Result, Ok, Err}
+use Rattle.std.specs.Prelude.{◌≡◌, ◌≢◌, ℕ, ◌-◌, ◌==◌, cond, List, [], ◌∷◌, length, take, Option, Some, None, Result, Ok, Err}
 use Rattle.cmc_der.specs.declared.reading.DerFault.{DerFault}
 use Rattle.cmc_der.specs.declared.reading.Tlv.{Tlv}
 use Rattle.cmc_der.specs.Values.{IsValue, BeginsWith}

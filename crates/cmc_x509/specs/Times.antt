@@ -1,5 +1,5 @@
 -- Times of certificates (RFC 5280, 4.1.2.5), as the values that they are.
-use Rattle.std.specs.Prelude.{ℕ, ℤ, List, Option, Some, None}
+use Rattle.std.specs.Prelude.{ℕ, ℤ, List, Option, Some}
 use Rattle.cmc_der.specs.Values.{BeginsWith}
 use Rattle.cmc_time.specs.Asn1.{IsAsn1Time}
 use Rattle.cmc_time.specs.Reading.{asn1_seconds}

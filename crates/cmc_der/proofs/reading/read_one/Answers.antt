@@ -1,4 +1,3 @@
-use Rattle.std.proofs.Common.{arith}
 use Rattle.cmc_der.proofs.Laws.{answer_spelled, answer_only, answer_cut, answer_not_der}
 use Rattle.cmc_der.proofs.reading.read_one.Goals as goal
 

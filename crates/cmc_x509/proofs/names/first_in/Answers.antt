@@ -1,5 +1,5 @@
 use Rattle.cmc_der.specs.Keys.{text_shown}
-use Rattle.cmc_x509.specs.Lists.{first_at, after_found}
+use Rattle.cmc_x509.specs.Lists.{first_at}
 use Rattle.cmc_x509.proofs.ListLaws.{first_goes_on}
 use Rattle.cmc_x509.proofs.names.first_in.Goals as goal
 
