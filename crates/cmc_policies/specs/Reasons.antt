@@ -7,7 +7,7 @@ use Rattle.cmc_policies.specs.declared.facts.Reason.TheVariants.{DoesNotExist, M
 use Rattle.cmc_policies.specs.Renewal.{renewal}
 
 -- the reason holds of these facts, at the moment and under the renewal of the frame
-unfoldable pub holds : Reason → Frame → Facts → Bool
+abbrev pub holds : Reason → Frame → Facts → Bool
 holds DoesNotExist frame facts = not facts.secret
 holds MissingData frame facts = not facts.filled
 holds InvalidKeyPair frame facts = not facts.pair

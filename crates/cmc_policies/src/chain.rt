@@ -38,8 +38,7 @@ pub struct Link<F: Fn(&Facts) -> bool, R> {
 impl<F: Fn(&Facts) -> bool, R> Link<F, R> {
     /// The chain that begins with the check.
     pub fn new(check: Check<F>, rest: R) -> Link<F, R>
-        ensures check { result.check ≡ check }
-        ensures rest { result.rest ≡ rest }
+        ensures { result ≡ record { check = check; rest = rest } }
     {
         Link { check, rest }
     }
@@ -62,7 +61,7 @@ impl<F: Fn(&Facts) -> bool, R: Chain> Chain for Link<F, R> {
         × R.judges chain.rest };
 
     fn first(&self, facts: &Facts) -> Option<Reason> {
-        if self.check.is_true(facts) {
+        if self.check.applies(facts) {
             Some(self.check.reason)
         } else {
             self.rest.first(facts)

@@ -22,9 +22,8 @@ impl<F: Fn(&Facts) -> bool> Check<F> {
         requires callable { F.IsAlwaysCallable test }
         requires answers { (facts : Facts) (answer : Bool) → FnReturnsAt F.Fn test facts answer
             → answer ≡ holds reason frame facts }
-        ensures reason { result.reason ≡ reason }
-        ensures frame { result.frame ≡ frame }
-        ensures judges { Judges F.Fn result.test reason frame }
+        ensures is { result ≡ record { reason = reason; frame = frame; test = test } }
+        ensures judges { Judges F.Fn test reason frame }
     {
         Check {
             reason,
@@ -34,7 +33,7 @@ impl<F: Fn(&Facts) -> bool> Check<F> {
     }
 
     /// Whether the check's reason holds of the facts in its frame.
-    pub fn is_true(&self, facts: &Facts) -> bool
+    pub fn applies(&self, facts: &Facts) -> bool
         requires { Judges F.Fn self.now.test self.now.reason self.now.frame }
         ensures { result ≡ holds self.now.reason self.now.frame facts.now }
     {

@@ -1,6 +1,8 @@
 //! What the checks look at.
-ghost use Rattle.std.specs.Prelude.{◌≤ℤ◌};
+ghost use Rattle.std.specs.Prelude.{◌≡◌, ◌≤ℤ◌};
 ghost use Rattle.cmc_policies.specs.Renewal.{IsCertificateTime};
+
+use crate::renewal::renewal_time;
 
 /// Why a certificate must be issued.
 #[derive(Clone, Copy, Debug, PartialEq, Eq)]
@@ -49,4 +51,23 @@ pub struct Facts {
 pub struct Frame {
     pub now: i64,
     pub renew: Option<u64>,
+}
+
+impl Facts {
+    ghost use Rattle.cmc_policies.specs.Reasons.{holds};
+    ghost use Rattle.cmc_policies.specs.declared.facts.Reason.TheVariants.{Renewing, Expired};
+
+    /// The certificate is to be renewed: the frame's moment is no earlier than the renewal's.
+    pub fn is_due(&self, frame: Frame) -> bool
+        ensures { result ≡ holds Renewing frame self.now }
+    {
+        frame.now >= renewal_time(self.not_before, self.not_after, frame.renew)
+    }
+
+    /// The certificate has expired: the frame's moment is no earlier than its end.
+    pub fn is_expired(&self, frame: Frame) -> bool
+        ensures { result ≡ holds Expired frame self.now }
+    {
+        frame.now >= self.not_after
+    }
 }
