@@ -1,0 +1,2 @@
+pub mod FloatFree
+pub mod Digits

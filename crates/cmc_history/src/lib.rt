@@ -1,0 +1,6 @@
+//! The history of a run: a list of entries that only grows.
+#![tactic(auto)]
+
+mod history;
+
+pub use history::History;

@@ -1,0 +1,27 @@
+-- The form of names: DNS subdomains of RFC 1123, as Kubernetes asks of object names.
+use Rattle.std.specs.Prelude.{ℕ, List, [], ◌∷◌, ◌++◌, Bool, ◌&&◌, ◌||◌, ◌==◌, ◌-◌, nat_le, nat_lt, if◌then◌else◌, length, slice_index}
+use Rattle.std.specs.List.{list_all}
+
+-- a lower-case letter or a digit
+abbrev pub is_alphanumeric : ℕ → Bool
+is_alphanumeric c = (nat_le 97 c && nat_le c 122) || (nat_le 48 c && nat_le c 57)
+
+-- the same, or `-`
+abbrev pub is_label_byte : ℕ → Bool
+is_label_byte c = is_alphanumeric c || (c == 45)
+
+-- one or more such bytes, with a letter or a digit at both ends
+unfoldable pub is_label : List ℕ → Bool
+is_label label = nat_lt 0 (length label) && (is_alphanumeric (slice_index label 0) && (is_alphanumeric (slice_index label (length label - 1)) && list_all is_label_byte label))
+
+-- the parts between dots, where the first of them has begun
+abbrev pub labels_from : List ℕ → List ℕ → List (List ℕ)
+labels_from begun [] = begun ∷ []
+labels_from begun (c ∷ cs) = if c == 46 then begun ∷ labels_from [] cs else labels_from (begun ++ c ∷ []) cs
+
+-- each part between dots is a label
+abbrev pub has_labels : List ℕ → Bool
+has_labels bytes = list_all is_label (labels_from [] bytes)
+
+abbrev pub is_subdomain : List ℕ → Bool
+is_subdomain bytes = nat_le (length bytes) 253 && has_labels bytes

@@ -1,0 +1,27 @@
+//! Names, keys, metadata and conditions of Kubernetes objects.
+//!
+//! Each list type is a small newtype that contracts see as a plain list, or as pairs in order of key,
+//! so that `≡` between two values speaks of their content alone.
+#![tactic(auto)]
+
+mod bytes;
+mod conditions;
+mod key;
+mod name;
+mod numbers;
+mod object_meta;
+mod owners;
+mod pairs;
+mod text;
+mod texts;
+
+pub use bytes::Bytes;
+pub use conditions::{Condition, ConditionKind, Conditions, Tri};
+pub use key::{Key, Kind};
+pub use name::{BadName, Name};
+pub use numbers::Numbers;
+pub use object_meta::ObjectMeta;
+pub use owners::{OwnerRef, Owners};
+pub use pairs::Pairs;
+pub use text::Text;
+pub use texts::Texts;

@@ -1,0 +1,185 @@
+ghost use Rattle.std.proofs.Common.{rules};
+ghost use Rattle.std.specs.Cmp.{partial_order_from_own_ties};
+ghost use Rattle.std.specs.Cmp.Lexicographic.{slice_cmp, pointwise};
+ghost use Rattle.std.specs.Cmp.Rules.{comparing};
+ghost use Rattle.std.specs.List.{list_all};
+ghost use Rattle.std.specs.Ordering.{nat_cmp, as_partial_cmp};
+ghost use Rattle.std.specs.Prelude.{◌≡◌, ◌↔◌, true, false, IsTrue, IfOk, IsErrOf, nat_eq};
+ghost use Rattle.cmc_meta.specs.Names.{is_alphanumeric, is_label_byte, is_label, has_labels, is_subdomain};
+
+use std::alloc::{AllocError, Global};
+use std::cmp::Ordering;
+use std::marker::Model;
+
+/// The name of an object or of a namespace: a DNS subdomain of 1 to 253 bytes, as RFC 1123 has it and
+/// the Kubernetes API conventions ask of object names. Contracts see the list of its bytes.
+#[derive(Clone, Drop)]
+pub struct Name {
+    text: String,
+}
+
+impl Model for Name {
+    ghost use Rattle.std.specs.Prelude.{◌≡◌, List, ℕ, true};
+    ghost use Rattle.std.specs.String.{string_bytes};
+    ghost use Rattle.cmc_meta.specs.Names.{is_subdomain};
+
+    ghost Value = { List ℕ };
+
+    ghost view = { λ n. string_bytes n.text };
+
+    ghost invariant = { λ n. is_subdomain (string_bytes n.text) ≡ true };
+}
+
+/// Why a text gave no `Name`.
+#[derive(Clone, Copy, PartialEq, Eq)]
+pub enum BadName {
+    /// The text is no DNS subdomain.
+    NotSubdomain,
+    /// Memory ran out.
+    NoMemory,
+}
+
+impl From<AllocError> for BadName {
+    ghost use Rattle.cmc_meta.specs.declared.name.BadName.TheVariants.{NoMemory};
+
+    ghost from_gives = { λ _ e. e ≡ NoMemory };
+
+    fn from(_: AllocError) -> Self {
+        BadName::NoMemory
+    }
+}
+
+fn is_alphanumeric_byte(byte: u8) -> bool
+    ensures { result ≡ is_alphanumeric byte }
+{
+    byte.is_ascii_lowercase() || byte.is_ascii_digit()
+}
+
+fn is_inner_byte(byte: u8) -> bool
+    ensures { result ≡ is_label_byte byte }
+{
+    is_alphanumeric_byte(byte) || byte == b'-'
+}
+
+fn are_inner_bytes(label: &[u8]) -> bool
+    ensures { result ≡ list_all is_label_byte label.now }
+{
+    label.iter().all(|byte| is_inner_byte(*byte))
+}
+
+#[tactic(auto, unfolding(crate::specs::Names::is_label))]
+fn is_one_label(label: &[u8]) -> bool
+    ensures { result ≡ is_label label.now }
+{
+    if label.is_empty() {
+        return false;
+    }
+    is_alphanumeric_byte(label[0])
+        && is_alphanumeric_byte(label[label.len() - 1])
+        && are_inner_bytes(label)
+}
+
+fn all_labels(bytes: &[u8]) -> bool
+    ensures { result ≡ has_labels bytes.now }
+{
+    let mut start = 0;
+    for (i, byte) in bytes.iter().enumerate() {
+        if *byte == b'.' {
+            if !is_one_label(&bytes[start..i]) {
+                return false;
+            }
+            start = i + 1;
+        }
+    }
+    is_one_label(&bytes[start..])
+}
+
+impl Name {
+    /// The name that `text` spells.
+    ///
+    /// # Errors
+    ///
+    /// `NotSubdomain` exactly where the text is not one to 253 bytes of labels joined by single dots,
+    /// each label of lower-case letters, digits and `-`, with a letter or digit at both ends.
+    pub fn read(alloc: Global, text: &str) -> Result<Name, BadName>
+        ensures read { IfOk result (λ n. n ≡ text.now) }
+        ensures form { IfOk result (λ _. is_subdomain text.now ≡ true) }
+        ensures refused { IsErrOf result BadName.NotSubdomain → is_subdomain text.now ≡ false }
+    {
+        if text.len() > 253 || !all_labels(text.as_bytes()) {
+            return Err(BadName::NotSubdomain);
+        }
+        Ok(Name {
+            text: String::from_str(alloc, text)?,
+        })
+    }
+
+    /// The same bytes, as a `str`.
+    pub fn as_str(&self) -> &str
+        ensures value { result.now ≡ self.now }
+        ensures form { is_subdomain self.now ≡ true }
+    {
+        self.text.as_str()
+    }
+
+    /// The bytes.
+    pub fn as_slice(&self) -> &[u8]
+        ensures { result.now ≡ self.now }
+    {
+        self.text.as_bytes()
+    }
+
+    /// An equal name.
+    pub fn copy(&self) -> Result<Name, AllocError>
+        ensures { IfOk result (λ n. n ≡ self.now) }
+    {
+        Ok(Name {
+            text: self.text.clone()?,
+        })
+    }
+
+    /// Whether both names have the same bytes.
+    pub fn same(&self, other: &Name) -> bool
+        ensures { IsTrue result ↔ (self.now ≡ other.now) }
+    {
+        self.text.as_str() == other.text.as_str()
+    }
+}
+
+impl PartialEq for Name {
+    ghost eq = { pointwise nat_eq };
+
+    ghost laws = { Prim.search (comparing, rules) };
+
+    fn eq(&self, other: &Name) -> bool {
+        self.text.as_str() == other.text.as_str()
+    }
+}
+
+impl Eq for Name {
+    ghost laws = { Prim.search (comparing, rules) };
+}
+
+impl PartialOrd for Name {
+    ghost partial_cmp = { as_partial_cmp (slice_cmp nat_cmp) };
+
+    ghost laws = { partial_order_from_own_ties (Prim.search (comparing, rules)) (Prim.search (comparing, rules)) };
+
+    fn partial_cmp(&self, other: &Name) -> Option<Ordering> {
+        Some(self.cmp(other))
+    }
+}
+
+impl Ord for Name {
+    ghost cmp = { slice_cmp nat_cmp };
+
+    ghost total = { Prim.search (comparing, rules) };
+
+    ghost matches_partial_cmp = { Prim.search (comparing, rules) };
+
+    ghost matches_eq = { Prim.search (comparing, rules) };
+
+    fn cmp(&self, other: &Name) -> Ordering {
+        self.text.as_str().cmp(other.text.as_str())
+    }
+}

@@ -1,0 +1,3 @@
+pub mod SameSpecs
+pub mod Keys
+pub mod Maps

@@ -1,0 +1,74 @@
+ghost use Rattle.std.specs.Prelude.{◌≡◌, ◌++◌, ◌∷◌, [], OnOk, OnErr};
+
+use cmc_meta::Key;
+use std::alloc::{AllocError, Global};
+use std::marker::Model;
+
+/// Why a Certificate is not Ready at the end of a run.
+#[derive(Clone, Copy)]
+pub enum WaitName {
+    /// Some role does not run.
+    Stopped,
+}
+
+/// A Certificate that is not Ready.
+#[derive(Drop)]
+pub struct Waiting {
+    pub certificate: Key,
+    pub wait: WaitName,
+}
+
+/// The Certificates that are not Ready, in order of key.
+#[derive(Drop)]
+pub struct Waits {
+    items: Vec<Waiting>,
+}
+
+impl Model for Waits {
+    ghost use Rattle.std.specs.Prelude.{List};
+    ghost use Rattle.cmc_model.specs.declared.summary.Waiting.{Waiting};
+
+    ghost Value = { List Waiting };
+
+    ghost view = { λ w. w.items.items };
+}
+
+impl Waits {
+    /// No Certificates. It takes no memory.
+    pub fn new(alloc: Global) -> Waits
+        ensures { result ≡ [] }
+    {
+        Waits {
+            items: Vec::new(alloc),
+        }
+    }
+
+    /// Adds a Certificate at the end.
+    pub fn push(&mut self, waiting: Waiting) -> Result<(), AllocError>
+        ensures ok { OnOk result (self.new ≡ self.old ++ waiting ∷ []) }
+        ensures err { OnErr result (self.new ≡ self.old) }
+    {
+        self.items.push(waiting)?;
+        Ok(())
+    }
+
+    /// The Certificates, as a slice.
+    pub fn as_slice(&self) -> &[Waiting]
+        ensures { result.now ≡ self.now }
+    {
+        self.items.as_slice()
+    }
+}
+
+/// What stands at the end of a run.
+#[derive(Drop)]
+pub struct Summary {
+    /// How many Certificates stand.
+    pub certificates: u64,
+    /// How many of them are Ready.
+    pub ready: u64,
+    /// How many Secrets stand.
+    pub secrets: u64,
+    /// Those that are not Ready.
+    pub waiting: Waits,
+}

@@ -1,0 +1,67 @@
+ghost use Rattle.std.specs.Prelude.{◌≡◌, IfOk};
+
+use crate::object::Object;
+use cmc_meta::{Key, Name};
+use std::alloc::AllocError;
+
+/// A call on the store (Kubernetes API conventions, verbs and optimistic concurrency).
+#[derive(Drop)]
+pub enum Call {
+    /// Stores a new object.
+    Create { object: Object },
+    /// Replaces all but the status of the object that has this version.
+    Update { object: Object, version: u64 },
+    /// Replaces the status of the object that has this version.
+    UpdateStatus { object: Object, version: u64 },
+    /// Takes the object away, where a version is named only if it has that version.
+    Delete { key: Key, version: Option<u64> },
+    /// Reads the object.
+    Get { key: Key },
+}
+
+impl Call {
+    /// An equal call.
+    pub fn copy(&self) -> Result<Call, AllocError>
+        ensures { IfOk result (λ c. c ≡ self.now) }
+    {
+        match self {
+            Call::Create { object } => Ok(Call::Create {
+                object: object.copy()?,
+            }),
+            Call::Update { object, version } => Ok(Call::Update {
+                object: object.copy()?,
+                version: *version,
+            }),
+            Call::UpdateStatus { object, version } => Ok(Call::UpdateStatus {
+                object: object.copy()?,
+                version: *version,
+            }),
+            Call::Delete { key, version } => Ok(Call::Delete {
+                key: key.copy()?,
+                version: *version,
+            }),
+            Call::Get { key } => Ok(Call::Get { key: key.copy()? }),
+        }
+    }
+}
+
+/// What the store answers to a call.
+#[derive(Drop)]
+pub enum Reply {
+    /// The write was accepted as this version of the object of this name.
+    Ok { version: u64, name: Name },
+    /// The write would have left the object, which has this version, as it was.
+    Unchanged { version: u64 },
+    /// The object that a Get found.
+    Found { object: Object },
+    /// The object has another version than the named one.
+    Conflict { named: u64, have: u64 },
+    /// No object stands under the key; so many writes were accepted before.
+    NotFound { at: u64 },
+    /// An object of this version stands under the key of a create.
+    AlreadyExists { have: u64 },
+    /// The admission rule of this number refuses the object.
+    Invalid { rule: u32 },
+    /// The call of this number was made to fail.
+    Unavailable { number: u64 },
+}

@@ -1,0 +1,26 @@
+//! The objects of the modelled API store, the calls on it and its replies, the entries of a history
+//! and the steps of a script.
+//!
+//! Fields and defaults follow the cert-manager.io/v1 API reference and the Kubernetes API conventions.
+#![tactic(auto)]
+
+mod call;
+mod certificate;
+mod entry;
+mod issuer;
+mod key_spec;
+mod object;
+mod optional;
+mod parts;
+mod request;
+mod secret;
+
+pub use call::{Call, Reply};
+pub use certificate::{CertSpec, CertStatus, Certificate};
+pub use entry::{Entry, Step, Who};
+pub use issuer::IssuerRef;
+pub use key_spec::{Algorithm, Encoding, KeySpec, Rotation};
+pub use object::Object;
+pub use parts::Parts;
+pub use request::{CertificateRequest, RequestSpec, RequestStatus};
+pub use secret::Secret;

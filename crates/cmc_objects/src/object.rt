@@ -1,0 +1,77 @@
+ghost use Rattle.std.specs.Prelude.{◌≡◌, ◌↔◌, IsTrue, IfOk};
+
+use crate::certificate::Certificate;
+use crate::request::CertificateRequest;
+use crate::secret::Secret;
+use cmc_meta::{Key, Kind, ObjectMeta};
+use std::alloc::AllocError;
+
+/// An object of the store.
+#[derive(Drop)]
+pub enum Object {
+    Cert(Certificate),
+    Request(CertificateRequest),
+    Secret(Secret),
+}
+
+impl Object {
+    ghost use Rattle.cmc_objects.specs.Objects.{key_of, kind_of, meta_of};
+
+    /// The object's metadata.
+    pub fn meta(&self) -> &ObjectMeta
+        ensures { result.now ≡ meta_of self.now }
+    {
+        match self {
+            Object::Cert(c) => &c.meta,
+            Object::Request(r) => &r.meta,
+            Object::Secret(s) => &s.meta,
+        }
+    }
+
+    /// The object's kind.
+    pub fn kind(&self) -> Kind
+        ensures { result ≡ kind_of self.now }
+    {
+        match self {
+            Object::Cert(_) => Kind::Certificate,
+            Object::Request(_) => Kind::CertificateRequest,
+            Object::Secret(_) => Kind::Secret,
+        }
+    }
+
+    /// The key that the object stands under.
+    pub fn key(&self) -> Result<Key, AllocError>
+        ensures { IfOk result (λ k. k ≡ key_of self.now) }
+    {
+        let kind = self.kind();
+        let meta = self.meta();
+        Ok(Key {
+            kind,
+            namespace: meta.namespace.copy()?,
+            name: meta.name.copy()?,
+        })
+    }
+
+    /// An equal object.
+    pub fn copy(&self) -> Result<Object, AllocError>
+        ensures { IfOk result (λ o. o ≡ self.now) }
+    {
+        match self {
+            Object::Cert(c) => Ok(Object::Cert(c.copy()?)),
+            Object::Request(r) => Ok(Object::Request(r.copy()?)),
+            Object::Secret(s) => Ok(Object::Secret(s.copy()?)),
+        }
+    }
+
+    /// Whether both are of one kind and equal in each field.
+    pub fn same(&self, other: &Object) -> bool
+        ensures { IsTrue result ↔ (self.now ≡ other.now) }
+    {
+        match (self, other) {
+            (Object::Cert(a), Object::Cert(b)) => a.same(b),
+            (Object::Request(a), Object::Request(b)) => a.same(b),
+            (Object::Secret(a), Object::Secret(b)) => a.same(b),
+            _ => false,
+        }
+    }
+}

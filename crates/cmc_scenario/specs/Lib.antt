@@ -1,0 +1,4 @@
+pub mod Certificates
+pub mod Keys
+pub mod Scripts
+pub mod Scenarios

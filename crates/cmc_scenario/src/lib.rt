@@ -1,0 +1,14 @@
+//! Scenarios: what users ask of the store, read from JSON.
+//!
+//! A value that is no scenario fails at the first failing path of a walk in depth: an object's
+//! members in byte order of their names, a missing member at its place, a list's items in order.
+#![tactic(auto)]
+
+mod certificate;
+mod key;
+mod scenario;
+mod step;
+mod steps;
+
+pub use scenario::{BadScenario, Scenario, read};
+pub use steps::Steps;

@@ -1,0 +1,39 @@
+-- Replies to changes that are accepted.
+use Rattle.std.proofs.Common.{◌≡◌, ◌≢◌, ℕ, ◌+◌, ◌==◌, List, Option, Some, true, false, refl, sym, subst, inr, arith}
+use Rattle.std.proofs.lemmas.Bool.Decides.{nat_tests}
+use Rattle.std.specs.Prelude.{IfOk}
+use Rattle.std.specs.declared.alloc.AllocError.{AllocError}
+use Rattle.std.specs.declared.result.Result.{Result}
+use Rattle.std.specs.declared.result.Result.TheVariants as results
+use Rattle.cmc_objects.specs.declared.object.Object.{Object}
+use Rattle.cmc_objects.specs.declared.call.Reply.{Reply}
+use Rattle.cmc_objects.specs.declared.call.Reply.TheVariants.{Ok}
+use Rattle.cmc_objects.specs.Objects.{name_of, version_of}
+use Rattle.cmc_model.specs.Stored.{updated, with_status}
+use Rattle.std.specs.List.{list_any}
+use Rattle.cmc_objects.specs.declared.call.Call.{Call}
+use Rattle.cmc_model.specs.Replies.{State, IsUpdated, IsRestated, IsServed, IsReply}
+use Rattle.cmc_store.specs.declared.calls.Replied.{Replied}
+
+-- a change under the version that stands is accepted
+pub updated_reply : (accepted : ℕ) (object old : Object) (named : ℕ) (stands : Option Object) (name : List ℕ) → stands ≡ Some old → named ≡ version_of old
+    → updated old object ≢ old → name ≡ name_of object → IsUpdated accepted object named stands (Ok (accepted + 1) name)
+updated_reply accepted object old named stands name is version differ is_name =
+    let same : (named == version_of old) ≡ true = grind (arith, nat_tests) in
+    rw (is, same, is_name) (inr (differ, refl))
+
+-- a change of status under the version that stands is accepted
+pub restated_reply : (accepted : ℕ) (object old : Object) (named : ℕ) (stands : Option Object) (name : List ℕ) → stands ≡ Some old → named ≡ version_of old
+    → with_status old object ≢ old → name ≡ name_of object → IsRestated accepted object named stands (Ok (accepted + 1) name)
+restated_reply accepted object old named stands name is version differ is_name =
+    let same : (named == version_of old) ≡ true = grind (arith, nat_tests) in
+    rw (is, same, is_name) (inr (differ, refl))
+
+-- what is so of the reply that a write tells is so of the reply of each write that succeeds
+pub reply_of_write : (result : Result Replied AllocError) (told : Replied) (P : Reply → Type 0) → IfOk result (λ r. r ≡ told) → P told.reply → IfOk result (λ r. P r.reply)
+reply_of_write (results.Ok r) told P is so = subst (λ (x : Replied). P x.reply) (sym is) so
+reply_of_write (results.Err e) told P is so = tt
+
+-- a call whose number is no fault is answered by the objects
+pub served_reply : (faults : List ℕ) (s : State) (call : Call) (reply : Reply) → list_any (λ n. n == s.calls + 1) faults ≡ false → IsServed s.accepted s.objects call reply → IsReply faults s call reply
+served_reply faults s call reply e h = rw e h

@@ -1,0 +1,173 @@
+// The calls, each on the objects alone.
+ghost use Rattle.std.specs.Prelude.{◌≡◌, ◌+◌, ◌<◌, ◌^◌, Some, None, IfOk, OnErr};
+ghost use Rattle.cmc_objects.specs.Objects.{key_of};
+ghost use Rattle.cmc_model.specs.Objects.{object_at, with_object};
+ghost use Rattle.cmc_model.specs.Stored.{created, revised, restated};
+ghost use Rattle.cmc_model.specs.Replies.{IsCreated, IsUpdated, IsRestated, IsDeleted, IsGot, from_old};
+ghost use Rattle.cmc_store.specs.Answers.{IsAnswer};
+ghost use Rattle.cmc_objects.specs.declared.call.Reply.TheVariants.{Ok as Accepted};
+
+use crate::changes::{make, restate, revise};
+use crate::shelf::Shelf;
+use cmc_meta::Key;
+use cmc_objects::{Object, Reply};
+use std::alloc::{AllocError, Global};
+
+/// What the store answers, with what an accepted write wrote.
+#[derive(Drop)]
+pub struct Replied {
+    pub reply: Reply,
+    /// The key that an accepted write wrote; none for every other reply.
+    pub key: Option<Key>,
+    /// A copy of what an accepted create or update stored; none for every other reply.
+    pub object: Option<Object>,
+}
+
+fn refused(reply: Reply) -> Replied
+    ensures { result ≡ record { reply = reply; key = None; object = None } }
+{
+    Replied {
+        reply,
+        key: None,
+        object: None,
+    }
+}
+
+/// Puts the object under the key, as this version.
+fn write(shelf: &mut Shelf, key: Key, object: Object, version: u64) -> Result<Replied, AllocError>
+    ensures after { IfOk result (λ r. shelf.new ≡ with_object shelf.old key object) }
+    ensures told { IfOk result (λ r. r ≡ record { reply = Accepted version key.name; key = Some key; object = Some object }) }
+    ensures err { OnErr result (shelf.new ≡ shelf.old) }
+{
+    let reply = Reply::Ok {
+        version,
+        name: key.name.copy()?,
+    };
+    let told = key.copy()?;
+    let copy = object.copy()?;
+    shelf.put(key, object)?;
+    Ok(Replied {
+        reply,
+        key: Some(told),
+        object: Some(copy),
+    })
+}
+
+pub fn create(
+    shelf: &mut Shelf,
+    alloc: Global,
+    accepted: u64,
+    now: i64,
+    object: &Object,
+) -> Result<Replied, AllocError>
+    requires { accepted + 1 < 2 ^ 64 }
+    ensures reply { IfOk result (λ r. IsCreated accepted object.now (object_at shelf.old (key_of object.now)) r.reply) }
+    ensures answer { IfOk result (λ r. IsAnswer (key_of object.now) (Some (created (accepted + 1) now object.now)) shelf.old shelf.new r) }
+    ensures err { OnErr result (shelf.new ≡ shelf.old) }
+{
+    let key = object.key()?;
+    match shelf.get(&key) {
+        Some(old) => Ok(refused(Reply::AlreadyExists {
+            have: old.meta().version,
+        })),
+        None => {
+            let made = make(alloc, object, accepted + 1, now)?;
+            write(shelf, key, made, accepted + 1)
+        }
+    }
+}
+
+pub fn update(
+    shelf: &mut Shelf,
+    accepted: u64,
+    object: &Object,
+    named: u64,
+) -> Result<Replied, AllocError>
+    requires { accepted + 1 < 2 ^ 64 }
+    ensures reply { IfOk result (λ r. IsUpdated accepted object.now named (object_at shelf.old (key_of object.now)) r.reply) }
+    ensures answer { IfOk result (λ r. IsAnswer (key_of object.now) (from_old (λ old. revised (accepted + 1) old object.now) (object_at shelf.old (key_of object.now))) shelf.old shelf.new r) }
+    ensures err { OnErr result (shelf.new ≡ shelf.old) }
+{
+    let key = object.key()?;
+    let Some(old) = shelf.get(&key) else {
+        return Ok(refused(Reply::NotFound { at: accepted }));
+    };
+    let have = old.meta().version;
+    if named != have {
+        return Ok(refused(Reply::Conflict { named, have }));
+    }
+    match revise(old, object, accepted + 1)? {
+        None => Ok(refused(Reply::Unchanged { version: have })),
+        Some(new) => write(shelf, key, new, accepted + 1),
+    }
+}
+
+pub fn update_status(
+    shelf: &mut Shelf,
+    accepted: u64,
+    object: &Object,
+    named: u64,
+) -> Result<Replied, AllocError>
+    requires { accepted + 1 < 2 ^ 64 }
+    ensures reply { IfOk result (λ r. IsRestated accepted object.now named (object_at shelf.old (key_of object.now)) r.reply) }
+    ensures answer { IfOk result (λ r. IsAnswer (key_of object.now) (from_old (λ old. restated (accepted + 1) old object.now) (object_at shelf.old (key_of object.now))) shelf.old shelf.new r) }
+    ensures err { OnErr result (shelf.new ≡ shelf.old) }
+{
+    let key = object.key()?;
+    let Some(old) = shelf.get(&key) else {
+        return Ok(refused(Reply::NotFound { at: accepted }));
+    };
+    let have = old.meta().version;
+    if named != have {
+        return Ok(refused(Reply::Conflict { named, have }));
+    }
+    match restate(old, object, accepted + 1)? {
+        None => Ok(refused(Reply::Unchanged { version: have })),
+        Some(new) => write(shelf, key, new, accepted + 1),
+    }
+}
+
+pub fn delete(
+    shelf: &mut Shelf,
+    accepted: u64,
+    key: &Key,
+    named: Option<u64>,
+) -> Result<Replied, AllocError>
+    requires { accepted + 1 < 2 ^ 64 }
+    ensures reply { IfOk result (λ r. IsDeleted accepted named key.now.name (object_at shelf.old key.now) r.reply) }
+    ensures answer { IfOk result (λ r. IsAnswer key.now None shelf.old shelf.new r) }
+    ensures err { OnErr result (shelf.new ≡ shelf.old) }
+{
+    let Some(old) = shelf.get(key) else {
+        return Ok(refused(Reply::NotFound { at: accepted }));
+    };
+    let have = old.meta().version;
+    match named {
+        Some(named) if named != have => Ok(refused(Reply::Conflict { named, have })),
+        _ => {
+            let name = key.name.copy()?;
+            let gone = key.copy()?;
+            shelf.remove(key);
+            Ok(Replied {
+                reply: Reply::Ok {
+                    version: accepted + 1,
+                    name,
+                },
+                key: Some(gone),
+                object: None,
+            })
+        }
+    }
+}
+
+pub fn get(shelf: &Shelf, accepted: u64, key: &Key) -> Result<Replied, AllocError>
+    ensures reply { IfOk result (λ r. IsGot accepted (object_at shelf.now key.now) r.reply) }
+    ensures answer { IfOk result (λ r. IsAnswer key.now (object_at shelf.now key.now) shelf.now shelf.now r) }
+{
+    match shelf.get(key) {
+        Some(old) => Ok(refused(Reply::Found {
+            object: old.copy()?,
+        })),
+        None => Ok(refused(Reply::NotFound { at: accepted })),
+    }
+}

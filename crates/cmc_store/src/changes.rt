@@ -1,0 +1,204 @@
+// What a create, an update and a status update make of objects.
+ghost use Rattle.std.specs.Prelude.{◌≡◌, IfOk};
+ghost use Rattle.cmc_model.specs.Specs.{keeps_spec, cert_spec_eq, request_spec_eq};
+ghost use Rattle.cmc_model.specs.Stored.{new_meta, created, merged_meta, updated, with_status, generation_after, numbered};
+ghost use Rattle.cmc_store.specs.Changes.{IsRevision, IsRestatement};
+
+use cmc_meta::ObjectMeta;
+use cmc_objects::{
+    CertSpec, CertStatus, Certificate, CertificateRequest, Object, RequestSpec, RequestStatus,
+    Secret,
+};
+use std::alloc::{AllocError, Global};
+
+fn fresh_meta(
+    meta: &ObjectMeta,
+    version: u64,
+    now: i64,
+    generation: u64,
+) -> Result<ObjectMeta, AllocError>
+    ensures { IfOk result (λ m. m ≡ new_meta version now generation meta.now) }
+{
+    Ok(ObjectMeta {
+        namespace: meta.namespace.copy()?,
+        name: meta.name.copy()?,
+        uid: version,
+        version,
+        generation,
+        created: now,
+        labels: meta.labels.copy()?,
+        annotations: meta.annotations.copy()?,
+        owners: meta.owners.copy()?,
+    })
+}
+
+/// What a create stores as this version.
+#[tactic(auto, unfolding(cmc_model::specs::Stored::created))]
+pub fn make(alloc: Global, object: &Object, version: u64, now: i64) -> Result<Object, AllocError>
+    ensures { IfOk result (λ o. o ≡ created version now object.now) }
+{
+    match object {
+        Object::Cert(c) => Ok(Object::Cert(Certificate {
+            meta: fresh_meta(&c.meta, version, now, 1)?,
+            spec: c.spec.copy()?,
+            status: CertStatus::new(alloc),
+        })),
+        Object::Request(r) => Ok(Object::Request(CertificateRequest {
+            meta: fresh_meta(&r.meta, version, now, 1)?,
+            spec: r.spec.copy()?,
+            status: RequestStatus::new(alloc),
+        })),
+        Object::Secret(s) => Ok(Object::Secret(Secret {
+            meta: fresh_meta(&s.meta, version, now, 0)?,
+            kind_text: s.kind_text.copy()?,
+            parts: s.parts.copy()?,
+        })),
+    }
+}
+
+fn merge_meta(old: &ObjectMeta, new: &ObjectMeta) -> Result<ObjectMeta, AllocError>
+    ensures { IfOk result (λ m. m ≡ merged_meta old.now new.now) }
+{
+    Ok(ObjectMeta {
+        namespace: old.namespace.copy()?,
+        name: old.name.copy()?,
+        uid: old.uid,
+        version: old.version,
+        generation: old.generation,
+        created: old.created,
+        labels: new.labels.copy()?,
+        annotations: new.annotations.copy()?,
+        owners: new.owners.copy()?,
+    })
+}
+
+/// The object after an update, under its old version.
+#[tactic(auto, unfolding(cmc_model::specs::Stored::updated))]
+fn merge(old: &Object, new: &Object) -> Result<Object, AllocError>
+    ensures { IfOk result (λ o. o ≡ updated old.now new.now) }
+{
+    match (old, new) {
+        (Object::Cert(a), Object::Cert(b)) => Ok(Object::Cert(Certificate {
+            meta: merge_meta(&a.meta, &b.meta)?,
+            spec: b.spec.copy()?,
+            status: a.status.copy()?,
+        })),
+        (Object::Request(a), Object::Request(b)) => Ok(Object::Request(CertificateRequest {
+            meta: merge_meta(&a.meta, &b.meta)?,
+            spec: b.spec.copy()?,
+            status: a.status.copy()?,
+        })),
+        (Object::Secret(a), Object::Secret(b)) => Ok(Object::Secret(Secret {
+            meta: merge_meta(&a.meta, &b.meta)?,
+            kind_text: a.kind_text.copy()?,
+            parts: b.parts.copy()?,
+        })),
+        _ => old.copy(),
+    }
+}
+
+/// The object after a status update, under its old version.
+#[tactic(auto, unfolding(cmc_model::specs::Stored::with_status))]
+fn merge_status(old: &Object, new: &Object) -> Result<Object, AllocError>
+    ensures { IfOk result (λ o. o ≡ with_status old.now new.now) }
+{
+    match (old, new) {
+        (Object::Cert(a), Object::Cert(b)) => Ok(Object::Cert(Certificate {
+            meta: a.meta.copy()?,
+            spec: a.spec.copy()?,
+            status: b.status.copy()?,
+        })),
+        (Object::Request(a), Object::Request(b)) => Ok(Object::Request(CertificateRequest {
+            meta: a.meta.copy()?,
+            spec: a.spec.copy()?,
+            status: b.status.copy()?,
+        })),
+        _ => old.copy(),
+    }
+}
+
+fn same_cert_spec(old: &CertSpec, new: &CertSpec) -> bool
+    ensures { result ≡ cert_spec_eq old.now new.now }
+{
+    old.same(new)
+}
+
+fn same_request_spec(old: &RequestSpec, new: &RequestSpec) -> bool
+    ensures { result ≡ request_spec_eq old.now new.now }
+{
+    old.same(new)
+}
+
+fn is_spec_kept(old: &Object, new: &Object) -> bool
+    ensures { result ≡ keeps_spec old.now new.now }
+{
+    match (old, new) {
+        (Object::Cert(a), Object::Cert(b)) => same_cert_spec(&a.spec, &b.spec),
+        (Object::Request(a), Object::Request(b)) => same_request_spec(&a.spec, &b.spec),
+        _ => true,
+    }
+}
+
+#[tactic(auto, unfolding(cmc_model::specs::Stored::generation_after))]
+fn next_generation(old: &Object, new: &Object) -> u64
+    ensures { result ≡ generation_after old.now new.now }
+{
+    let generation = old.meta().generation;
+    if is_spec_kept(old, new) {
+        generation
+    } else {
+        generation.saturating_add(1)
+    }
+}
+
+#[tactic(auto, unfolding(cmc_model::specs::Stored::numbered))]
+fn renumber(object: Object, version: u64, generation: u64) -> Object
+    ensures { result ≡ numbered version generation object }
+{
+    match object {
+        Object::Cert(c) => {
+            let mut c = c;
+            c.meta.version = version;
+            c.meta.generation = generation;
+            Object::Cert(c)
+        }
+        Object::Request(r) => {
+            let mut r = r;
+            r.meta.version = version;
+            r.meta.generation = generation;
+            Object::Request(r)
+        }
+        Object::Secret(s) => {
+            let mut s = s;
+            s.meta.version = version;
+            s.meta.generation = generation;
+            Object::Secret(s)
+        }
+    }
+}
+
+/// What an update of the object stores as this version; none where it would leave it as it is.
+pub fn revise(old: &Object, object: &Object, version: u64) -> Result<Option<Object>, AllocError>
+    ensures { IfOk result (λ o. IsRevision version old.now object.now o) }
+{
+    let new = merge(old, object)?;
+    if new.same(old) {
+        Ok(None)
+    } else {
+        let generation = next_generation(old, &new);
+        Ok(Some(renumber(new, version, generation)))
+    }
+}
+
+/// What a status update of the object stores as this version; none where it would leave it as it is.
+pub fn restate(old: &Object, object: &Object, version: u64) -> Result<Option<Object>, AllocError>
+    ensures { IfOk result (λ o. IsRestatement version old.now object.now o) }
+{
+    let new = merge_status(old, object)?;
+    if new.same(old) {
+        Ok(None)
+    } else {
+        let generation = old.meta().generation;
+        Ok(Some(renumber(new, version, generation)))
+    }
+}

@@ -1,0 +1,136 @@
+ghost use Rattle.std.specs.List.{list_any};
+ghost use Rattle.std.specs.Option.{option_copied};
+ghost use Rattle.std.specs.Prelude.{◌≡◌, ◌==◌, ◌+◌, ◌-◌, ◌<◌, ◌^◌, IfOk, OnErr, [], Some, None, if◌then◌else◌, false};
+ghost use Rattle.cmc_model.specs.Objects.{object_at};
+ghost use Rattle.cmc_model.specs.Replies.{IsReply, IsServed, empty_store, is_accepted, key_of_call, key_written, object_written, state_after, stored};
+ghost use Rattle.cmc_store.specs.Answers.{IsAnswer};
+ghost use Rattle.cmc_store.specs.Kept.{Kept};
+
+use crate::calls::{Replied, create, delete, get, update, update_status};
+use crate::shelf::Shelf;
+use cmc_meta::{Key, Numbers};
+use cmc_objects::{Call, Object, Reply};
+use std::alloc::{AllocError, Global};
+use std::marker::Model;
+
+/// The versioned store, which answers one call at a time.
+#[derive(Drop)]
+pub struct Store {
+    shelf: Shelf,
+    accepted: u64,
+    calls: u64,
+    faults: Numbers,
+}
+
+impl Model for Store {
+    ghost use Rattle.std.specs.Prelude.{◌≤◌};
+    ghost use Rattle.std.specs.Coded.{codes};
+    ghost use Rattle.cmc_store.specs.contracts.shelf.Shelf as shelf_row;
+    ghost use Rattle.cmc_store.specs.Kept.{Kept};
+
+    ghost Value = { Kept };
+
+    ghost coded = { Prim.hlevel (codes, shelf_row.the_row.coded) };
+
+    ghost view = { λ s. record { faults = s.faults; state = record { objects = s.shelf; accepted = s.accepted; calls = s.calls } } };
+
+    ghost invariant = { λ s. s.accepted ≤ s.calls };
+}
+
+impl Store {
+    /// An empty store, whose calls with these numbers (counted from 1) are answered Unavailable.
+    /// It takes no memory.
+    pub fn new(alloc: Global, faults: Numbers) -> Store
+        ensures { result ≡ record { faults = faults; state = empty_store } }
+    {
+        Store {
+            shelf: Shelf::new(alloc),
+            accepted: 0,
+            calls: 0,
+            faults,
+        }
+    }
+
+    /// The object under the key; `None` exactly where none stands.
+    pub fn peek(&self, key: &Key) -> Option<&Object>
+        ensures { option_copied result ≡ object_at self.now.state.objects key.now }
+    {
+        self.shelf.get(key)
+    }
+
+    /// How many writes were accepted.
+    pub fn accepted(&self) -> u64
+        ensures { result ≡ self.now.state.accepted }
+    {
+        self.accepted
+    }
+
+    /// How many calls were made, Gets and refused ones included.
+    pub fn calls(&self) -> u64
+        ensures { result ≡ self.now.state.calls }
+    {
+        self.calls
+    }
+
+    /// Makes one call at the moment `now` and answers it.
+    ///
+    /// A call that is not accepted leaves the objects and the count of accepted writes as they were;
+    /// want of memory leaves all.
+    pub fn call(&mut self, alloc: Global, now: i64, call: &Call) -> Result<Replied, AllocError>
+        requires room { self.old.state.calls < 2 ^ 64 - 1 }
+        ensures reply { IfOk result (λ r. IsReply self.old.faults self.old.state call.now r.reply) }
+        ensures after { IfOk result (λ r. self.new ≡ record { faults = self.old.faults; state = state_after now self.old.state call.now r.reply }) }
+        ensures key { IfOk result (λ r. r.key ≡ key_written call.now r.reply) }
+        ensures object { IfOk result (λ r. r.object ≡ object_written now self.old.state call.now r.reply) }
+        ensures err { OnErr result (self.new ≡ self.old) }
+    {
+        let number = self.calls + 1;
+        if stands_in(self.faults.as_slice(), number) {
+            self.calls = number;
+            return Ok(Replied {
+                reply: Reply::Unavailable { number },
+                key: None,
+                object: None,
+            });
+        }
+        let replied = serve(&mut self.shelf, alloc, self.accepted, now, call)?;
+        self.calls = number;
+        if is_ok(&replied.reply) {
+            self.accepted += 1;
+        }
+        Ok(replied)
+    }
+}
+
+fn stands_in(faults: &[u64], number: u64) -> bool
+    ensures { result ≡ list_any (λ n. n == number) faults.now }
+{
+    faults.iter().any(|n| *n == number)
+}
+
+fn is_ok(reply: &Reply) -> bool
+    ensures { result ≡ is_accepted reply.now }
+{
+    matches!(reply, Reply::Ok { .. })
+}
+
+fn serve(
+    shelf: &mut Shelf,
+    alloc: Global,
+    accepted: u64,
+    now: i64,
+    call: &Call,
+) -> Result<Replied, AllocError>
+    requires room { accepted + 1 < 2 ^ 64 }
+    ensures reply { IfOk result (λ r. IsServed accepted shelf.old call.now r.reply) }
+    ensures answer { IfOk result (λ r. IsAnswer (key_of_call call.now) (stored (accepted + 1) now shelf.old call.now) shelf.old shelf.new r) }
+    ensures err { OnErr result (shelf.new ≡ shelf.old) }
+{
+    match call {
+        Call::Create { object } => create(shelf, alloc, accepted, now, object),
+        Call::Update { object, version } => update(shelf, accepted, object, *version),
+        Call::UpdateStatus { object, version } => update_status(shelf, accepted, object, *version),
+        Call::Delete { key, version } => delete(shelf, accepted, key, *version),
+        Call::Get { key } => get(shelf, accepted, key),
+    }
+}

@@ -1,0 +1,122 @@
+// A source and a sink in memory, which fail at the calls of given numbers.
+ghost use Rattle.std.specs.Prelude.{◌≡◌, ◌≤◌, take, min, length};
+
+use crate::sink::Sink;
+use crate::source::{Failed, Source};
+use cmc_meta::{Bytes, Numbers};
+use std::alloc::{AllocError, Global};
+
+/// Bytes in memory as a source. It tells what is left.
+#[derive(Drop)]
+pub struct MemSource {
+    bytes: Bytes,
+    at: usize,
+    failing: Numbers,
+    calls: u64,
+    faults: u64,
+    ghost within: { at ≤ length bytes },
+}
+
+/// Bytes in memory as a sink. It tells what it holds.
+#[derive(Drop)]
+pub struct MemSink {
+    bytes: Vec<u8>,
+    failing: Numbers,
+    calls: u64,
+    faults: u64,
+}
+
+// Copies what fits to the front of `into`, and answers how much that is.
+fn copy_front(from: &[u8], into: &mut [u8]) -> usize
+    ensures count { result ≡ min (length from.now) (length into.old) }
+    ensures copied { take result into.new ≡ take result from.now }
+{
+    let count = from.len().min(into.len());
+    into[..count].copy_from_slice(&from[..count]);
+    count
+}
+
+impl MemSource {
+    ghost use Rattle.std.specs.Prelude.{IfOk};
+    ghost use Rattle.cmrun.specs.Memory.{left_in, read_faults};
+
+    /// A source of these bytes, at which the reads of the given numbers (from 1) fail.
+    pub fn new(_alloc: Global, bytes: Bytes, failing: Numbers) -> Result<Self, AllocError>
+        ensures left { IfOk result (λ s. left_in s ≡ bytes) }
+        ensures faults { IfOk result (λ s. read_faults s ≡ 0) }
+    {
+        Ok(MemSource {
+            bytes,
+            at: 0,
+            failing,
+            calls: 0,
+            faults: 0,
+        })
+    }
+}
+
+impl Source for MemSource {
+    ghost use Rattle.std.specs.Prelude.{Some};
+    ghost use Rattle.cmrun.specs.Memory.{left_in, read_faults};
+
+    ghost left = { λ s. Some (left_in s) };
+
+    ghost faults = { λ s. read_faults s };
+
+    fn read(&mut self, into: &mut [u8]) -> Result<usize, Failed> {
+        self.calls = self.calls.saturating_add(1);
+        if self.failing.as_slice().contains(&self.calls) {
+            self.faults = self.faults.saturating_add(1);
+            return Err(Failed);
+        }
+        let count = copy_front(&self.bytes.as_slice()[self.at..], into);
+        self.at += count;
+        Ok(count)
+    }
+}
+
+impl MemSink {
+    ghost use Rattle.std.specs.Prelude.{[], IfOk};
+    ghost use Rattle.cmrun.specs.Memory.{held_in, write_faults};
+
+    /// An empty sink, at which the writes of the given numbers (from 1) fail.
+    pub fn new(alloc: Global, failing: Numbers) -> Result<Self, AllocError>
+        ensures holds { IfOk result (λ s. held_in s ≡ []) }
+        ensures faults { IfOk result (λ s. write_faults s ≡ 0) }
+    {
+        Ok(MemSink {
+            bytes: Vec::new(alloc),
+            failing,
+            calls: 0,
+            faults: 0,
+        })
+    }
+
+    /// The bytes that it holds.
+    pub fn bytes(&self) -> &[u8]
+        ensures { result.now ≡ held_in self.now }
+    {
+        &self.bytes
+    }
+}
+
+impl Sink for MemSink {
+    ghost use Rattle.std.specs.Prelude.{Some};
+    ghost use Rattle.cmrun.specs.Memory.{held_in, write_faults};
+
+    ghost holds = { λ s. Some (held_in s) };
+
+    ghost faults = { λ s. write_faults s };
+
+    fn write(&mut self, piece: &[u8]) -> Result<usize, Failed> {
+        self.calls = self.calls.saturating_add(1);
+        // A sink that has no room for the piece has failed.
+        if self.failing.as_slice().contains(&self.calls)
+            || self.bytes.extend_from_slice(piece).is_err()
+        {
+            self.faults = self.faults.saturating_add(1);
+            return Err(Failed);
+        }
+        Ok(piece.len())
+    }
+}
