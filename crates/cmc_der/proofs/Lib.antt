@@ -1,0 +1,6 @@
+pub mod Steps
+pub mod Lengths
+pub mod Laws
+pub mod Sizes
+pub mod Spelled
+pub mod Shortest

@@ -1,0 +1,5 @@
+pub mod Values
+pub mod Reading
+pub mod Integers
+pub mod Building
+pub mod Keys

@@ -1,0 +1,334 @@
+ghost use Rattle.std.specs.Prelude.{◌≡◌, ◌≢◌, ℕ, List, [], ◌∷◌, ◌+◌, ◌^◌, ◌%◌, ◌<◌, ◌≤◌, ◌++◌, length, reverse, IfOk, OnOk, OnErr, vec_len};
+ghost use Rattle.cmc_der.specs.Values.{BeginsWith, number_after};
+ghost use Rattle.cmc_der.specs.Integers.{trimmed, signed, integer_of, IsIntegerOf};
+ghost use Rattle.cmc_der.specs.Building.{Building, Begun, length_octets, value, begun, closed, added, held, Closes};
+
+use crate::fields::without_zeros;
+use std::alloc::{AllocError, Global};
+use std::marker::Model;
+
+/// The first octets of a value: its identifier octet and its length octets.
+#[tactic(auto, unfolding(crate::specs::Building::length_octets))]
+fn header(alloc: Global, tag: u8, len: usize) -> Result<Vec<u8>, AllocError>
+    requires { len < 2 ^ 32 }
+    ensures { IfOk result (λ v. v.items ≡ tag ∷ length_octets len) }
+{
+    let n = len as u32;
+    if n < 128 {
+        Vec::from_slice(alloc, &[tag, n as u8])
+    } else if n < 256 {
+        Vec::from_slice(alloc, &[tag, 129, n as u8])
+    } else if n < 65536 {
+        Vec::from_slice(alloc, &[tag, 130, (n / 256) as u8, (n % 256) as u8])
+    } else if n < 16777216 {
+        Vec::from_slice(
+            alloc,
+            &[
+                tag,
+                131,
+                (n / 65536) as u8,
+                (n / 256 % 256) as u8,
+                (n % 256) as u8,
+            ],
+        )
+    } else {
+        Vec::from_slice(
+            alloc,
+            &[
+                tag,
+                132,
+                (n / 16777216) as u8,
+                (n / 65536 % 256) as u8,
+                (n / 256 % 256) as u8,
+                (n % 256) as u8,
+            ],
+        )
+    }
+}
+
+/// Two pieces more, both or none.
+fn append(out: &mut Vec<u8>, first: &[u8], second: &[u8]) -> Result<(), AllocError>
+    ensures ok { OnOk result (out.new.items ≡ out.old.items ++ (first.now ++ second.now)) }
+    ensures err { OnErr result (out.new.items ≡ out.old.items) }
+{
+    let before = out.len();
+    out.extend_from_slice(first)?;
+    match out.extend_from_slice(second) {
+        Ok(()) => Ok(()),
+        Err(e) => {
+            out.truncate(before);
+            Err(e)
+        }
+    }
+}
+
+/// One value more.
+#[tactic(auto, unfolding(crate::specs::Building::value))]
+fn put(alloc: Global, out: &mut Vec<u8>, tag: u8, body: &[u8]) -> Result<(), AllocError>
+    requires { length body.now < 2 ^ 32 }
+    ensures ok { OnOk result (out.new.items ≡ out.old.items ++ value tag body.now) }
+    ensures err { OnErr result (out.new.items ≡ out.old.items) }
+{
+    let head = header(alloc, tag, body.len())?;
+    append(out, &head, body)
+}
+
+/// A zero octet, and these octets behind it.
+fn behind_zero(alloc: Global, octets: &[u8]) -> Result<Vec<u8>, AllocError>
+    ensures { IfOk result (λ v. v.items ≡ 0 ∷ octets.now) }
+{
+    let mut body = Vec::from_slice(alloc, &[0])?;
+    body.extend_from_slice(octets)?;
+    Ok(body)
+}
+
+/// The contents octets of an INTEGER, of the octets of a number without zeros in front.
+fn signed_of(alloc: Global, octets: &[u8]) -> Result<Vec<u8>, AllocError>
+    ensures { IfOk result (λ v. v.items ≡ signed octets.now) }
+{
+    match octets {
+        [] => Vec::from_slice(alloc, &[0]),
+        [first, ..] => {
+            if *first < 128 {
+                Vec::from_slice(alloc, octets)
+            } else {
+                behind_zero(alloc, octets)
+            }
+        }
+    }
+}
+
+/// A begun value: its tag, and the octets that stood before it.
+#[derive(Drop)]
+struct Level {
+    tag: u8,
+    before: Vec<u8>,
+}
+
+impl Model for Level {
+    ghost Value = { ℕ × List ℕ };
+
+    ghost view = { λ l. (l.tag, l.before.items) };
+}
+
+impl Level {
+    /// Writes the value that ends behind the octets before it.
+    fn put_after(&mut self, alloc: Global, body: &[u8]) -> Result<(), AllocError>
+        requires { length body.now < 2 ^ 32 }
+        ensures ok { OnOk result (self.new ≡ (self.old.0, self.old.1 ++ value self.old.0 body.now)) }
+        ensures err { OnErr result (self.new ≡ self.old) }
+    {
+        put(alloc, &mut self.before, self.tag, body)
+    }
+
+    fn into_octets(self) -> Vec<u8>
+        ensures { result.items ≡ self.1 }
+    {
+        let Level { tag: _tag, before } = self;
+        before
+    }
+}
+
+/// The innermost begun value ends.
+fn close_level(
+    levels: &mut Vec<Level>,
+    octets: &mut Vec<u8>,
+    alloc: Global,
+) -> Result<(), AllocError>
+    requires begun { 0 < vec_len levels.old }
+    requires fits { length octets.old.items < 2 ^ 32 }
+    ensures ok { OnOk result (Closes levels.old.items levels.new.items octets.old.items octets.new.items) }
+    ensures err { OnErr result ((levels.new.items ≡ levels.old.items) × (octets.new.items ≡ octets.old.items)) }
+{
+    match levels.pop() {
+        None => unreachable!(),
+        Some(level) => {
+            let mut level = level;
+            match level.put_after(alloc, octets) {
+                Ok(()) => {
+                    *octets = level.into_octets();
+                    Ok(())
+                }
+                Err(e) => {
+                    levels.push(level).unwrap();
+                    Err(e)
+                }
+            }
+        }
+    }
+}
+
+/// One level more: what is written so far stands before it.
+fn open_level(
+    levels: &mut Vec<Level>,
+    octets: &mut Vec<u8>,
+    alloc: Global,
+    tag: u8,
+) -> Result<(), AllocError>
+    ensures ok { OnOk result ((levels.new.items ≡ levels.old.items ++ (tag, octets.old.items) ∷ []) × (octets.new.items ≡ [])) }
+    ensures err { OnErr result ((levels.new.items ≡ levels.old.items) × (octets.new.items ≡ octets.old.items)) }
+{
+    levels.reserve(1)?;
+    let before = std::mem::replace(octets, Vec::new(alloc));
+    levels.push(Level { tag, before }).unwrap();
+    Ok(())
+}
+
+/// Writes values, one behind and inside another.
+///
+/// Contracts see it as a `Building`: the values that are begun and not ended, the octets of the
+/// innermost of them (of the whole, where none is begun), and `len`. A call that finds no memory
+/// leaves it as it was. A tag is an identifier octet of a low tag number (X.690, 8.1.2.3), so its
+/// low five bits are not all set.
+#[derive(Drop)]
+pub struct Writer {
+    levels: Vec<Level>,
+    octets: Vec<u8>,
+    len: u64,
+}
+
+impl Model for Writer {
+    ghost Value = { Building };
+
+    ghost view = { λ w. record { outer = reverse w.levels.items; octets = w.octets.items; len = w.len } };
+
+    ghost invariant = { λ w. (held (reverse w.levels.items) + length w.octets.items ≤ w.len) × (w.len < 2 ^ 31) };
+}
+
+impl Writer {
+    /// A writer that has written nothing. It takes no memory.
+    pub fn new(alloc: Global) -> Writer
+        ensures { result ≡ record { outer = []; octets = []; len = 0 } }
+    {
+        Writer {
+            levels: Vec::new(alloc),
+            octets: Vec::new(alloc),
+            len: 0,
+        }
+    }
+
+    /// The sum of the octets that were handed in, and of eight for each value that was written or
+    /// begun. What is written is never longer.
+    pub fn len(&self) -> u64
+        ensures { result ≡ self.now.len }
+    {
+        self.len
+    }
+
+    /// Begins a value with this tag. What is written until its `end` is its contents.
+    ///
+    /// # Errors
+    ///
+    /// Only where there is no memory.
+    pub fn begin(&mut self, alloc: Global, tag: u8) -> Result<(), AllocError>
+        requires tag { tag % 32 ≢ 31 }
+        requires fits { self.old.len + 8 < 2 ^ 31 }
+        ensures ok { OnOk result (self.new ≡ begun tag self.old) }
+        ensures err { OnErr result (self.new ≡ self.old) }
+    {
+        open_level(&mut self.levels, &mut self.octets, alloc, tag)?;
+        self.len += 8;
+        Ok(())
+    }
+
+    /// Ends the value that was begun last.
+    ///
+    /// # Errors
+    ///
+    /// Only where there is no memory.
+    pub fn end(&mut self, alloc: Global) -> Result<(), AllocError>
+        requires { 0 < length self.old.outer }
+        ensures ok { OnOk result (self.new ≡ closed self.old) }
+        ensures err { OnErr result (self.new ≡ self.old) }
+    {
+        close_level(&mut self.levels, &mut self.octets, alloc)?;
+        Ok(())
+    }
+
+    /// Writes an INTEGER (X.690, 8.3): the number without a sign that the octets spell, the highest
+    /// first, in the fewest octets. No octets spell 0.
+    ///
+    /// # Errors
+    ///
+    /// Only where there is no memory.
+    pub fn integer(&mut self, alloc: Global, bytes: &[u8]) -> Result<(), AllocError>
+        requires { self.old.len + length bytes.now + 8 < 2 ^ 31 }
+        ensures ok { OnOk result (self.new ≡ added 2 (integer_of bytes.now) (length bytes.now) self.old) }
+        ensures err { OnErr result (self.new ≡ self.old) }
+    {
+        let body = signed_of(alloc, without_zeros(bytes))?;
+        put(alloc, &mut self.octets, 2, &body)?;
+        self.len += bytes.len() as u64 + 8;
+        Ok(())
+    }
+
+    /// Writes an OBJECT IDENTIFIER with these contents octets (X.690, 8.19).
+    ///
+    /// # Errors
+    ///
+    /// Only where there is no memory.
+    pub fn oid(&mut self, alloc: Global, body: &[u8]) -> Result<(), AllocError>
+        requires { self.old.len + length body.now + 8 < 2 ^ 31 }
+        ensures ok { OnOk result (self.new ≡ added 6 body.now (length body.now) self.old) }
+        ensures err { OnErr result (self.new ≡ self.old) }
+    {
+        self.octets(alloc, 6, body)
+    }
+
+    /// Writes a BIT STRING of these octets, with no unused bits (X.690, 8.6).
+    ///
+    /// # Errors
+    ///
+    /// Only where there is no memory.
+    pub fn bits(&mut self, alloc: Global, bytes: &[u8]) -> Result<(), AllocError>
+        requires { self.old.len + length bytes.now + 8 < 2 ^ 31 }
+        ensures ok { OnOk result (self.new ≡ added 3 (0 ∷ bytes.now) (length bytes.now) self.old) }
+        ensures err { OnErr result (self.new ≡ self.old) }
+    {
+        let body = behind_zero(alloc, bytes)?;
+        put(alloc, &mut self.octets, 3, &body)?;
+        self.len += bytes.len() as u64 + 8;
+        Ok(())
+    }
+
+    /// Writes a value with this tag and these contents octets.
+    ///
+    /// # Errors
+    ///
+    /// Only where there is no memory.
+    pub fn octets(&mut self, alloc: Global, tag: u8, bytes: &[u8]) -> Result<(), AllocError>
+        requires tag { tag % 32 ≢ 31 }
+        requires fits { self.old.len + length bytes.now + 8 < 2 ^ 31 }
+        ensures ok { OnOk result (self.new ≡ added tag bytes.now (length bytes.now) self.old) }
+        ensures err { OnErr result (self.new ≡ self.old) }
+    {
+        put(alloc, &mut self.octets, tag, bytes)?;
+        self.len += bytes.len() as u64 + 8;
+        Ok(())
+    }
+
+    /// The octets that were written. Every begun value is ended. It takes no memory.
+    pub fn finish(self) -> Vec<u8>
+        requires { self.outer ≡ [] }
+        ensures { result.items ≡ self.octets }
+    {
+        let Writer {
+            levels: _levels,
+            octets,
+            len: _len,
+        } = self;
+        octets
+    }
+}
+
+/// A law: the octets of a value are read again as that value, whatever stands behind them.
+pub fn written_is_read()
+    ensures { (tag : ℕ) (body rest : List ℕ) → tag % 32 ≢ 31 → length body < 2 ^ 32 →
+        BeginsWith (value tag body ++ rest) tag body rest }
+{}
+
+/// A law: what `Writer::integer` writes spells the number that it was given, in the fewest octets
+/// (X.690, 8.3.2).
+pub fn number_is_shortest()
+    ensures { (bytes : List ℕ) → IsIntegerOf (integer_of bytes) (number_after 0 bytes) }
+{}

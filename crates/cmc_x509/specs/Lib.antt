@@ -1,0 +1,11 @@
+pub mod Taking
+pub mod Lists
+pub mod PublicKeys
+pub mod Names
+pub mod KeyFiles
+pub mod Times
+pub mod Certificates
+pub mod ReadNames
+pub mod ReadKeys
+pub mod ReadCertificates
+pub mod Fronts
