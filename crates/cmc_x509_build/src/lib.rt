@@ -1,0 +1,8 @@
+//! Certification requests (RFC 2986) and certificates (RFC 5280), built in the Distinguished Encoding Rules.
+#![tactic(auto)]
+
+mod addresses;
+mod keys;
+mod names;
+mod oids;
+mod pieces;
