@@ -1,1 +1,5 @@
 pub mod AddressLaws
+pub mod ValueLaws
+pub mod BuiltKeyLaws
+pub mod BuiltNameLaws
+pub mod RequestLaws

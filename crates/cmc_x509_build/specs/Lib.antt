@@ -1,2 +1,4 @@
 pub mod Addresses
 pub mod Octets
+pub mod Keys
+pub mod Requests

@@ -6,3 +6,8 @@ mod keys;
 mod names;
 mod oids;
 mod pieces;
+mod requests;
+mod signatures;
+
+pub use addresses::address_at;
+pub use requests::{NameSet, csr_body, csr_whole};
