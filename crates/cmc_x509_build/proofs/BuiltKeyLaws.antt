@@ -29,9 +29,9 @@ rsa_is m e p q small =
     record {
       body = numbers;
       inner = value 2 (integer_of e);
-      whole = value_is 48 numbers (λ h. absurd cc) small;
-      modulus_is = (rw (← integer_of-magnitude m p) (value_first 2 (integer_of m) (value 2 (integer_of e)) (λ h. absurd cc) inside), p);
-      exponent_is = (rw (← integer_of-magnitude e q) (value_last 2 (integer_of e) (λ h. absurd cc) (back_small (value 2 (integer_of m)) (value 2 (integer_of e)) inside)), q);
+      whole = value_is 48 numbers (λ e. omega arith) small;
+      modulus_is = (rw (← integer_of-magnitude m p) (value_first 2 (integer_of m) (value 2 (integer_of e)) (λ e. omega arith) inside), p);
+      exponent_is = (rw (← integer_of-magnitude e q) (value_last 2 (integer_of e) (λ e. omega arith) (back_small (value 2 (integer_of m)) (value 2 (integer_of e)) inside)), q);
     }
 
 -- an AlgorithmIdentifier with one value as its parameter
@@ -41,8 +41,8 @@ algorithm_is oid tag parameter rest low small =
     record {
       body = value 6 oid ++ value tag parameter;
       inner = value tag parameter;
-      whole = value_first 48 (value 6 oid ++ value tag parameter) rest (λ h. absurd cc) small;
-      algorithm = value_first 6 oid (value tag parameter) (λ h. absurd cc) inside;
+      whole = value_first 48 (value 6 oid ++ value tag parameter) rest (λ e. omega arith) small;
+      algorithm = value_first 6 oid (value tag parameter) (λ e. omega arith) inside;
       parameters = value_is tag parameter low (back_small (value 6 oid) (value tag parameter) inside);
     }
 
@@ -57,9 +57,9 @@ key_info_is oid tag parameter bits key low small h =
       algorithm = record { oid = oid; parameter = Some (tag, parameter) };
       after = string;
       bits = bits;
-      whole = value_is 48 (identifier ++ string) (λ h. absurd cc) small;
+      whole = value_is 48 (identifier ++ string) (λ e. omega arith) small;
       algorithm_is = algorithm_is oid tag parameter string low inside;
-      bits_are = value_is 3 (0 ∷ bits) (λ h. absurd cc) (back_small identifier string inside);
+      bits_are = value_is 3 (0 ∷ bits) (λ e. omega arith) (back_small identifier string inside);
       key_is = h;
     }
 
@@ -80,9 +80,9 @@ pub spki_is : (key : PublicKey) → IsWritable key → IsSmall (spki_octets key)
 unfolding spki_octets
 spki_is (RsaKey m e) h small =
     let bits_small = key_bits_small RSA_ENCRYPTION (value 5 []) (rsa_octets m e) small in
-    key_info_is RSA_ENCRYPTION 5 [] (rsa_octets m e) (RsaKey m e) (λ h. absurd cc) small (refl, refl, rsa_is m e h.0 h.1 bits_small)
+    key_info_is RSA_ENCRYPTION 5 [] (rsa_octets m e) (RsaKey m e) (λ e. omega arith) small (refl, refl, rsa_is m e h.0 h.1 bits_small)
 spki_is (EcKey curve point) h small =
-    key_info_is EC_PUBLIC_KEY 6 (curve_oid curve) point (EcKey curve point) (λ h. absurd cc) small (refl, curve_is curve h.0, h.1, refl)
+    key_info_is EC_PUBLIC_KEY 6 (curve_oid curve) point (EcKey curve point) (λ e. omega arith) small (refl, curve_is curve h.0, h.1, refl)
 spki_is (OtherKey whole) h small = absurd h
 
 -- also where others stand behind it

@@ -21,8 +21,8 @@ attribute_is text small = record {
   rest = value 12 text;
   text = (12, text);
   sequence = refl;
-  type_is = value_first 6 COMMON_NAME (value 12 text) (λ h. absurd cc) small;
-  value_is = value_is 12 text (λ h. absurd cc) (back_small (value 6 COMMON_NAME) (value 12 text) small);
+  type_is = value_first 6 COMMON_NAME (value 12 text) (λ e. omega arith) small;
+  value_is = value_is 12 text (λ e. omega arith) (back_small (value 6 COMMON_NAME) (value 12 text) small);
   gives = refl;
 }
 
@@ -34,16 +34,16 @@ one_name_list text small =
     let attribute = value 48 (attribute_parts text) in
     let attribute_small = contents_small 49 attribute small in
     let is = attribute_is text (contents_small 48 (attribute_parts text) attribute_small) in
-    list_of_one IsRdn 49 attribute (Some text) (λ h. absurd cc) small
-    (refl, list_of_one IsAttribute 48 (attribute_parts text) (Some text) (λ h. absurd cc) attribute_small is)
+    list_of_one IsRdn 49 attribute (Some text) (λ e. omega arith) small
+    (refl, list_of_one IsAttribute 48 (attribute_parts text) (Some text) (λ e. omega arith) attribute_small is)
 
 one_name_first : (text rest : List ℕ) → IsSmall (value 48 (one_name text) ++ rest) → BeginsWithName (value 48 (one_name text) ++ rest) (Some text) rest
 one_name_first text rest small =
     let inside = contents_small 48 (one_name text) (front_small (value 48 (one_name text)) rest small) in
-    (one_name text, value_first 48 (one_name text) rest (λ h. absurd cc) small, one_name_list text inside)
+    (one_name text, value_first 48 (one_name text) rest (λ e. omega arith) small, one_name_list text inside)
 
 no_name_first : (rest : List ℕ) → IsSmall (value 48 [] ++ rest) → BeginsWithName (value 48 [] ++ rest) None rest
-no_name_first rest small = ([], value_first 48 [] rest (λ h. absurd cc) small, ([], refl, refl))
+no_name_first rest small = ([], value_first 48 [] rest (λ e. omega arith) small, ([], refl, refl))
 
 pub name_first : (common : Option (List ℕ)) (rest : List ℕ) → IsSmall (name_octets common ++ rest) → BeginsWithName (name_octets common ++ rest) common rest
 unfolding name_octets
@@ -52,7 +52,7 @@ name_first (Some text) rest small = one_name_first text rest small
 
 address_values : (octets : Option (List ℕ)) → IsSmall (address_value octets) → IsValueList (address_value octets)
 address_values None small = no_values
-address_values (Some octets) small = one_value 135 octets (λ h. absurd cc) small
+address_values (Some octets) small = one_value 135 octets (λ e. omega arith) small
 
 -- the alternative names are GeneralNames, one behind the other
 pub alternative_values : (names : NameSet) → IsSmall (alternative_of names) → IsValueList (alternative_of names)
@@ -64,10 +64,10 @@ alternative_values names small =
     let emails = flat_map (value 129) names.emails in
     let after_dns = back_small dns (ips ++ (uris ++ emails)) small in
     let after_ips = back_small ips (uris ++ emails) after_dns in
-    lists_joined dns (ips ++ (uris ++ emails)) (flat_values (value 130) (λ x s. one_value 130 x (λ h. absurd cc) s) names.dns (front_small dns (ips ++ (uris ++ emails)) small))
+    lists_joined dns (ips ++ (uris ++ emails)) (flat_values (value 130) (λ x s. one_value 130 x (λ e. omega arith) s) names.dns (front_small dns (ips ++ (uris ++ emails)) small))
     (lists_joined ips (uris ++ emails) (flat_values address_octets (λ x s. address_values (address_at x) s) names.ips (front_small ips (uris ++ emails) after_dns))
-    (lists_joined uris emails (flat_values (value 134) (λ x s. one_value 134 x (λ h. absurd cc) s) names.uris (front_small uris emails after_ips))
-    (flat_values (value 129) (λ x s. one_value 129 x (λ h. absurd cc) s) names.emails (back_small uris emails after_ips))))
+    (lists_joined uris emails (flat_values (value 134) (λ x s. one_value 134 x (λ e. omega arith) s) names.uris (front_small uris emails after_ips))
+    (flat_values (value 129) (λ x s. one_value 129 x (λ e. omega arith) s) names.emails (back_small uris emails after_ips))))
 
 abbrev extension_parts : List ℕ → List ℕ
 extension_parts names = value 6 SUBJECT_ALT_NAME ++ value 4 (value 48 names)
@@ -83,17 +83,17 @@ extension_is names are small =
       r0 = contents;
       r1 = contents;
       sequence = refl;
-      id_is = value_first 6 SUBJECT_ALT_NAME contents (λ h. absurd cc) small;
-      critical_stands = (refl, is_otherwise 1 4 (value 48 names) (λ h. absurd cc));
+      id_is = value_first 6 SUBJECT_ALT_NAME contents (λ e. omega arith) small;
+      critical_stands = (refl, is_otherwise 1 4 (value 48 names) (λ e. omega arith));
       critical_is = tt;
-      value_is = value_is 4 (value 48 names) (λ h. absurd cc) contents_is_small;
-      gives = (refl, value_is 48 names (λ h. absurd cc) (contents_small 4 (value 48 names) contents_is_small), are);
+      value_is = value_is 4 (value 48 names) (λ e. omega arith) contents_is_small;
+      gives = (refl, value_is 48 names (λ e. omega arith) (contents_small 4 (value 48 names) contents_is_small), are);
     }
 
 -- the extension is a list of one, which gives the names
 pub extension_list : (names : List ℕ) → IsValueList names → IsSmall (alternative_extension names) → IsListOf IsExtension (alternative_extension names) (Some names)
 extension_list names are small =
-    list_of_one IsExtension 48 (extension_parts names) (Some names) (λ h. absurd cc) small (extension_is names are (contents_small 48 (extension_parts names) small))
+    list_of_one IsExtension 48 (extension_parts names) (Some names) (λ e. omega arith) small (extension_is names are (contents_small 48 (extension_parts names) small))
 
 -- the names that the attributes give: none, where there are none
 abbrev pub names_found : List ℕ → Option (List ℕ)
@@ -116,14 +116,14 @@ request_attribute_is names are small =
       rest = set;
       set = extensions;
       sequence = refl;
-      type_is = value_first 6 EXTENSION_REQUEST set (λ h. absurd cc) small;
-      set_is = value_is 49 extensions (λ h. absurd cc) set_small;
-      gives = inr (refl, list_of_one IsExtensions 48 extension (Some names) (λ h. absurd cc) extensions_small (refl, extension_list names are extension_small));
+      type_is = value_first 6 EXTENSION_REQUEST set (λ e. omega arith) small;
+      set_is = value_is 49 extensions (λ e. omega arith) set_small;
+      gives = inr (refl, list_of_one IsExtensions 48 extension (Some names) (λ e. omega arith) extensions_small (refl, extension_list names are extension_small));
     }
 
 one_attribute : (names : List ℕ) → IsValueList names → IsSmall (value 48 (request_attribute names)) → IsListOf IsRequestAttribute (value 48 (request_attribute names)) (Some names)
 one_attribute names are small =
-    list_of_one IsRequestAttribute 48 (request_attribute names) (Some names) (λ h. absurd cc) small
+    list_of_one IsRequestAttribute 48 (request_attribute names) (Some names) (λ e. omega arith) small
     (request_attribute_is names are (contents_small 48 (request_attribute names) small))
 
 pub attributes_list : (names : List ℕ) → IsValueList names → IsSmall (attributes_of names) → IsListOf IsRequestAttribute (attributes_of names) (names_found names)

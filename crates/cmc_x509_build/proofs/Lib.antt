@@ -3,3 +3,4 @@ pub mod ValueLaws
 pub mod BuiltKeyLaws
 pub mod BuiltNameLaws
 pub mod RequestLaws
+pub mod CertificateBuiltLaws

@@ -31,16 +31,16 @@ request_body_is fields writable are small =
     let subject_small = back_small (value 2 (0 ∷ [])) after_version inside in
     let key_small = back_small (name_octets fields.names.common) after_subject subject_small in
     let tail_small = back_small (spki_octets fields.key) tail key_small in
-    (contents, value_is 48 contents (λ h. absurd cc) small, record {
+    (contents, value_is 48 contents (λ e. omega arith) small, record {
       r0 = after_version;
       r1 = after_subject;
       r2 = tail;
       attributes = attributes;
       found = names_found fields.names.alternative;
-      version = value_first 2 (0 ∷ []) after_version (λ h. absurd cc) inside;
+      version = value_first 2 (0 ∷ []) after_version (λ e. omega arith) inside;
       subject_is = name_first fields.names.common after_subject subject_small;
       key_is = spki_first fields.key tail writable key_small;
-      attributes_stand = value_is 160 attributes (λ h. absurd cc) tail_small;
+      attributes_stand = value_is 160 attributes (λ e. omega arith) tail_small;
       attributes_are = attributes_list fields.names.alternative are (contents_small 160 attributes tail_small);
       alternative_is = names_or_none fields.names.alternative;
     })
@@ -52,8 +52,8 @@ signature_algorithm_is rest small =
     record {
       body = value 6 ECDSA_WITH_SHA256;
       inner = [];
-      whole = value_first 48 (value 6 ECDSA_WITH_SHA256) rest (λ h. absurd cc) small;
-      algorithm = value_last 6 ECDSA_WITH_SHA256 (λ h. absurd cc) inside;
+      whole = value_first 48 (value 6 ECDSA_WITH_SHA256) rest (λ e. omega arith) small;
+      algorithm = value_last 6 ECDSA_WITH_SHA256 (λ e. omega arith) inside;
       parameters = refl;
     }
 
@@ -72,10 +72,10 @@ signed_is body contents signature h small =
       r1 = string;
       algorithm = record { oid = ECDSA_WITH_SHA256; parameter = None };
       signature = signature;
-      whole = value_is 48 parts (λ h. absurd cc) small;
+      whole = value_is 48 parts (λ e. omega arith) small;
       body_is = (body, h, refl);
       algorithm_is = signature_algorithm_is string rest_small;
-      signature_is = value_is 3 (0 ∷ signature) (λ h. absurd cc) (back_small signature_algorithm string rest_small);
+      signature_is = value_is 3 (0 ∷ signature) (λ e. omega arith) (back_small signature_algorithm string rest_small);
     }
 
 pub request_is : (body signature : List ℕ) (fields : RequestFields) → IsRequestBody body fields → IsSmall (signed_octets body signature) → IsRequest (signed_octets body signature) fields

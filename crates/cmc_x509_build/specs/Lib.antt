@@ -2,3 +2,4 @@ pub mod Addresses
 pub mod Octets
 pub mod Keys
 pub mod Requests
+pub mod Certificates

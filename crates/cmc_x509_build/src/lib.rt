@@ -2,6 +2,7 @@
 #![tactic(auto)]
 
 mod addresses;
+mod certificates;
 mod keys;
 mod names;
 mod oids;
@@ -9,5 +10,6 @@ mod pieces;
 mod requests;
 mod signatures;
 
+pub use certificates::{CertPlan, cert_body, cert_whole};
 pub use addresses::address_at;
 pub use requests::{NameSet, csr_body, csr_whole};
