@@ -156,7 +156,7 @@ unfolding certificate_body
 certificate_body_is issuer fields h small =
     let contents = head_octets fields.serial issuer fields.not_before fields.not_after ++ subject_octets fields.names fields.key in
     let same : contents ≡ chained issuer fields =
-        regrouped (value 160 (value 2 (2 ∷ []))) (value 2 fields.serial) signature_algorithm (name_octets (Some issuer)) (validity_octets fields.not_before fields.not_after) (subject_octets fields.names fields.key) in
+    regrouped (value 160 (value 2 (2 ∷ []))) (value 2 fields.serial) signature_algorithm (name_octets (Some issuer)) (validity_octets fields.not_before fields.not_after) (subject_octets fields.names fields.key) in
     let inside : IsSmall (chained issuer fields) = subst IsSmall same (contents_small 48 contents small) in
     (contents, value_is 48 contents (λ e. omega arith) small, subst (λ (octets : List ℕ). IsTbsCertificate octets fields) (sym same) (chained_is issuer fields h inside))
 

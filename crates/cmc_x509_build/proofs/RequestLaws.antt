@@ -30,20 +30,23 @@ request_body_is fields writable are small =
     let inside = contents_small 48 contents small in
     let subject_small = back_small (value 2 (0 ∷ [])) after_version inside in
     let key_small = back_small (name_octets fields.names.common) after_subject subject_small in
-    let tail_small = back_small (spki_octets fields.key) tail key_small in
-    (contents, value_is 48 contents (λ e. omega arith) small, record {
-      r0 = after_version;
-      r1 = after_subject;
-      r2 = tail;
-      attributes = attributes;
-      found = names_found fields.names.alternative;
-      version = value_first 2 (0 ∷ []) after_version (λ e. omega arith) inside;
-      subject_is = name_first fields.names.common after_subject subject_small;
-      key_is = spki_first fields.key tail writable key_small;
-      attributes_stand = value_is 160 attributes (λ e. omega arith) tail_small;
-      attributes_are = attributes_list fields.names.alternative are (contents_small 160 attributes tail_small);
-      alternative_is = names_or_none fields.names.alternative;
-    })
+    let tail_small = back_small (spki_octets fields.key) tail key_small in (
+      contents,
+      value_is 48 contents (λ e. omega arith) small,
+      record {
+        r0 = after_version;
+        r1 = after_subject;
+        r2 = tail;
+        attributes = attributes;
+        found = names_found fields.names.alternative;
+        version = value_first 2 (0 ∷ []) after_version (λ e. omega arith) inside;
+        subject_is = name_first fields.names.common after_subject subject_small;
+        key_is = spki_first fields.key tail writable key_small;
+        attributes_stand = value_is 160 attributes (λ e. omega arith) tail_small;
+        attributes_are = attributes_list fields.names.alternative are (contents_small 160 attributes tail_small);
+        alternative_is = names_or_none fields.names.alternative;
+      },
+    )
 
 -- the algorithm of signatures, with no parameter
 pub signature_algorithm_is : (rest : List ℕ) → IsSmall (signature_algorithm ++ rest) → BeginsWithAlgorithm (signature_algorithm ++ rest) (record { oid = ECDSA_WITH_SHA256; parameter = None }) rest

@@ -43,7 +43,10 @@ fn validity(alloc: Global, not_before: i64, not_after: i64) -> Result<Vec<u8>, A
     requires ends_in_range { IsCertificateTime not_after }
     ensures { IfOk result (λ octets. octets.items ≡ spec.validity_octets not_before not_after) }
 {
-    let times = joined(time_octets(alloc, not_before)?, time_octets(alloc, not_after)?)?;
+    let times = joined(
+        time_octets(alloc, not_before)?,
+        time_octets(alloc, not_after)?,
+    )?;
     value_of(alloc, 48, &times)
 }
 
@@ -128,7 +131,7 @@ pub fn cert_body(
     ensures is_read { IfOk result (λ body. plan.now.not_before ≤ℤ plan.now.not_after
         → IsWritable (key_shown key.now) → IsValueList csr.now.names.alternative.now
         → length body ≤ MAX_INPUT → spec.IsCertificateBody body
-            (spec.fields_of plan.now (names_shown csr.now.names) (key_shown key.now))) }
+        (spec.fields_of plan.now (names_shown csr.now.names) (key_shown key.now))) }
 {
     built(alloc, plan, csr, key)
 }

@@ -9,7 +9,9 @@ mod oids;
 mod pieces;
 mod requests;
 mod signatures;
+#[cfg(test)]
+mod tests;
 
-pub use certificates::{CertPlan, cert_body, cert_whole};
 pub use addresses::address_at;
+pub use certificates::{CertPlan, cert_body, cert_whole};
 pub use requests::{NameSet, csr_body, csr_whole};

@@ -66,7 +66,11 @@ fn common_of(names: &NameSet) -> Option<&[u8]>
     ensures { text_shown result ≡ spec.common_of names.now.common }
 {
     let common = names.common.as_slice();
-    if common.is_empty() { None } else { Some(common) }
+    if common.is_empty() {
+        None
+    } else {
+        Some(common)
+    }
 }
 
 #[tactic(auto, unfolding(crate::specs::Requests::request_body))]

@@ -11,4 +11,4 @@ returns-clause-is_read c =
     let key = key_shown c.args.key.now in
     IfOk-weaker c.built.result _ _
     (λ body e ordered writable are small. let Q : List ℕ → Type 0 = λ octets. length octets ≤ 16777216 → IsCertificateBody octets (fields_of c.args.plan.now names key) in
-        subst Q (sym e) (planned_body_is c.args.plan.now names key c.requires.begins_in_range c.requires.ends_in_range ordered writable are) small) c.built.ensures
+    subst Q (sym e) (planned_body_is c.args.plan.now names key c.requires.begins_in_range c.requires.ends_in_range ordered writable are) small) c.built.ensures

@@ -9,4 +9,4 @@ pub returns-clause-is_read : goal.returns-clause-is_read
 returns-clause-is_read c =
     IfOk-weaker c.built.result _ _
     (λ body e writable small. let Q : List ℕ → Type 0 = λ octets. length octets ≤ 16777216 → IsRequestBody octets (record { key = key_shown c.args.key.now; names = names_of c.args.names.now }) in
-        subst Q (sym e) (built_body_is (key_shown c.args.key.now) c.args.names.now writable) small) c.built.ensures
+    subst Q (sym e) (built_body_is (key_shown c.args.key.now) c.args.names.now writable) small) c.built.ensures
