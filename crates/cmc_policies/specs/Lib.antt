@@ -1,0 +1,3 @@
+pub mod Renewal
+pub mod Reasons
+pub mod Judges

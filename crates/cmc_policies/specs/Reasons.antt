@@ -1,0 +1,30 @@
+-- When a certificate must be issued, and why.
+use Rattle.std.specs.Prelude.{◌≡◌, Bool, not, false, if◌then◌else◌, List, [], ◌∷◌, Option, Some, None, int_lt}
+use Rattle.cmc_policies.specs.declared.facts.Facts.{Facts}
+use Rattle.cmc_policies.specs.declared.facts.Frame.{Frame}
+use Rattle.cmc_policies.specs.declared.facts.Reason.{Reason}
+use Rattle.cmc_policies.specs.declared.facts.Reason.TheVariants.{DoesNotExist, MissingData, InvalidKeyPair, IncorrectIssuer, IncorrectCertificate, SecretMismatch, RequestChanged, Renewing, Expired}
+use Rattle.cmc_policies.specs.Renewal.{renewal}
+
+-- the reason holds of these facts, at the moment and under the renewal of the frame
+abbrev pub holds : Reason → Frame → Facts → Bool
+holds DoesNotExist frame facts = not facts.secret
+holds MissingData frame facts = not facts.filled
+holds InvalidKeyPair frame facts = not facts.pair
+holds IncorrectIssuer frame facts = not facts.issuer
+holds IncorrectCertificate frame facts = not facts.owner
+holds SecretMismatch frame facts = not facts.kind
+holds RequestChanged frame facts = not facts.request
+holds Renewing frame facts = not (int_lt frame.now (renewal facts.not_before facts.not_after frame.renew))
+holds Expired frame facts = not (int_lt frame.now facts.not_after)
+
+-- the reason of the first check that holds, each by its own frame
+abbrev pub first_holding : List (Reason × Frame) → Facts → Option Reason
+first_holding [] facts = None
+first_holding (check ∷ checks) facts =
+    if holds check.0 check.1 facts then Some check.0 else first_holding checks facts
+
+-- no check of the list holds
+abbrev pub NoneHolds : List (Reason × Frame) → Facts → Type 0
+NoneHolds [] facts = Unit {0}
+NoneHolds (check ∷ checks) facts = (holds check.0 check.1 facts ≡ false) × NoneHolds checks facts

@@ -1,0 +1,29 @@
+-- When a certificate is renewed, and how long a failed issuance waits for the next try.
+use Rattle.std.specs.Prelude.{ℕ, ◌+◌, ◌-◌, ◌*◌, ◌/◌, ◌^◌, min, nat_lt, ◌&&◌, if◌then◌else◌, Option, Some, None, ℤ, pos, neg_ℤ, ◌+ℤ◌, ◌-ℤ◌, ◌≤ℤ◌, unsigned_abs}
+
+-- from 1950-01-01T00:00:00Z to 9999-12-31T23:59:59Z
+abbrev pub IsCertificateTime : ℤ → Type 0
+IsCertificateTime at = (neg_ℤ (pos 631_152_000) ≤ℤ at) × (at ≤ℤ pos 253_402_300_799)
+
+-- the seconds of a certificate's validity
+abbrev pub lifetime : ℤ → ℤ → ℕ
+lifetime not_before not_after = unsigned_abs (not_after -ℤ not_before)
+
+-- how long before the end of a lifetime the renewal begins: as asked, where that is above nothing and below the
+-- lifetime, and else a third of it, rounded up
+abbrev pub lead : ℕ → Option ℕ → ℕ
+lead lasts None = (lasts + 2) / 3
+lead lasts (Some before) = if nat_lt 0 before && nat_lt before lasts then before else (lasts + 2) / 3
+
+-- the moment from which the certificate is to be renewed
+abbrev pub renewal : ℤ → ℤ → Option ℕ → ℤ
+renewal not_before not_after renew = not_after -ℤ pos (lead (lifetime not_before not_after) renew)
+
+-- the hours to wait after so many failed attempts: one, doubled for each attempt after the first, to 32 at most
+abbrev pub backoff_hours : Option ℕ → ℕ
+backoff_hours None = 1
+backoff_hours (Some attempts) = 2 ^ min (attempts - 1) 5
+
+-- the moment up to which nothing is tried again
+abbrev pub backoff : ℤ → Option ℕ → ℤ
+backoff last attempts = last +ℤ pos (backoff_hours attempts * 3600)

@@ -1,0 +1,121 @@
+//! Certification requests.
+ghost use Rattle.std.specs.Prelude.{◌≡◌, ◌≤◌, ◌++◌, List, ℕ, length, IfOk};
+ghost use Rattle.cmc_der.specs.Keys.{key_shown, text_shown, PublicKey, RequestFields};
+ghost use Rattle.cmc_x509.specs.Certificates.{IsRequest};
+ghost use Rattle.cmc_x509.specs.declared.taking.TheConstants.{MAX_INPUT};
+ghost use Rattle.cmc_x509_build.specs.Requests as spec;
+ghost use Rattle.cmc_x509_build.specs.Keys.{IsWritable};
+ghost use Rattle.cmc_x509_build.specs.Octets.{signed_octets};
+
+use crate::keys::spki_octets;
+use crate::names::{alternative_extension, name_octets, push_addresses, push_names};
+use crate::oids;
+use crate::pieces::{joined, value_of};
+use crate::signatures::signed;
+use cmc_der::Spki;
+use cmc_meta::{Bytes, Text, Texts};
+use std::alloc::{AllocError, Global};
+
+/// What a request names its subject: a common name, empty for none, DNS names, IP addresses as texts, URIs and
+/// email addresses.
+pub struct NameSet {
+    pub common: Text,
+    pub dns: Texts,
+    pub ips: Texts,
+    pub uris: Texts,
+    pub emails: Texts,
+}
+
+impl Drop for NameSet {
+    fn drop(self) {
+        let NameSet {
+            common: _common,
+            dns: _dns,
+            ips: _ips,
+            uris: _uris,
+            emails: _emails,
+        } = self;
+    }
+}
+
+// The GeneralNames of the set, in the order DNS names, IP addresses, URIs, email addresses.
+#[tactic(auto, unfolding(crate::specs::Requests::alternative_of))]
+fn alternative_of(alloc: Global, names: &NameSet) -> Result<Vec<u8>, AllocError>
+    ensures { IfOk result (λ octets. octets.items ≡ spec.alternative_of names.now) }
+{
+    let dns = push_names(alloc, Vec::new(alloc), 130, names.dns.as_slice())?;
+    let ips = push_addresses(alloc, dns, names.ips.as_slice())?;
+    let uris = push_names(alloc, ips, 134, names.uris.as_slice())?;
+    push_names(alloc, uris, 129, names.emails.as_slice())
+}
+
+fn attributes_of(alloc: Global, alternative: &[u8]) -> Result<Vec<u8>, AllocError>
+    ensures { IfOk result (λ octets. octets.items ≡ spec.attributes_of alternative.now) }
+{
+    if alternative.is_empty() {
+        return Ok(Vec::new(alloc));
+    }
+    let extension = alternative_extension(alloc, alternative)?;
+    let extensions = value_of(alloc, 48, &extension)?;
+    let set = value_of(alloc, 49, &extensions)?;
+    let parts = joined(value_of(alloc, 6, &oids::EXTENSION_REQUEST)?, set)?;
+    value_of(alloc, 48, &parts)
+}
+
+fn common_of(names: &NameSet) -> Option<&[u8]>
+    ensures { text_shown result ≡ spec.common_of names.now.common }
+{
+    let common = names.common.as_slice();
+    if common.is_empty() {
+        None
+    } else {
+        Some(common)
+    }
+}
+
+#[tactic(auto, unfolding(crate::specs::Requests::request_body))]
+fn body_octets(alloc: Global, key: &Spki<'_>, names: &NameSet) -> Result<Vec<u8>, AllocError>
+    ensures { IfOk result (λ octets. octets.items
+        ≡ spec.request_body (record { key = key_shown key.now; names = spec.names_of names.now })) }
+{
+    let alternative = alternative_of(alloc, names)?;
+    let attributes = attributes_of(alloc, &alternative)?;
+    let tail = joined(spki_octets(alloc, key)?, value_of(alloc, 160, &attributes)?)?;
+    let subject = joined(name_octets(alloc, common_of(names))?, tail)?;
+    let parts = joined(value_of(alloc, 2, &[0])?, subject)?;
+    value_of(alloc, 48, &parts)
+}
+
+fn built(alloc: Global, key: &Spki<'_>, names: &NameSet) -> Result<Bytes, AllocError>
+    ensures { IfOk result (λ body. body
+        ≡ spec.request_body (record { key = key_shown key.now; names = spec.names_of names.now })) }
+{
+    let octets = body_octets(alloc, key, names)?;
+    Bytes::from_slice(alloc, &octets)
+}
+
+/// CertificationRequestInfo of the key and the names (RFC 2986, 4.1): version 0, the common name as a UTF8String
+/// where it is not empty, the key, and the attribute extensionRequest with the alternative names, where there are
+/// any. A text among the IP addresses that writes none is left out.
+///
+/// Within the size that is read, the octets are read as the body of a request with this key and these names, where
+/// the key is an RSA or an elliptic curve key of a SubjectPublicKeyInfo.
+pub fn csr_body(alloc: Global, key: &Spki<'_>, names: &NameSet) -> Result<Bytes, AllocError>
+    ensures octets { IfOk result (λ body. body
+        ≡ spec.request_body (record { key = key_shown key.now; names = spec.names_of names.now })) }
+    ensures is_read { IfOk result (λ body. IsWritable (key_shown key.now) → length body ≤ MAX_INPUT
+        → spec.IsRequestBody body (record { key = key_shown key.now; names = spec.names_of names.now })) }
+{
+    built(alloc, key, names)
+}
+
+/// CertificationRequest (RFC 2986, 4.2): the body, the algorithm ecdsa-with-SHA256, and the signature.
+///
+/// Within the size that is read, the octets are read as a request with the fields of the body.
+pub fn csr_whole(alloc: Global, body: &[u8], signature: &[u8]) -> Result<Bytes, AllocError>
+    ensures octets { IfOk result (λ whole. whole ≡ signed_octets body.now signature.now) }
+    ensures is_read { IfOk result (λ whole. (fields : RequestFields) → spec.IsRequestBody body.now fields
+        → length whole ≤ MAX_INPUT → IsRequest whole fields) }
+{
+    signed(alloc, body, signature)
+}
