@@ -1,8 +1,7 @@
 -- A history that goes on by a step of the script.
 use Rattle.std.proofs.Common.{◌≡◌, ℕ, ◌+◌, ◌-◌, ◌<◌, List, [], ◌∷◌, length, Some, None, refl, sym, ap, ◌∙◌, arith, get_or}
 use Rattle.std.proofs.lemmas.Option.{slice_get-get_or}
-use Rattle.std.specs.Prelude.{slice_get}
-use Rattle.std.specs.Option.{option_map}
+use Rattle.std.specs.Prelude.{slice_get, option_and_then}
 use Rattle.cmc_objects.specs.declared.call.Call.{Call}
 use Rattle.cmc_objects.specs.declared.call.Reply.{Reply}
 use Rattle.cmc_objects.specs.declared.entry.Who.TheVariants.{User}
@@ -24,20 +23,35 @@ pub record HasMade (s : Setting) (h : List Entry) (n : ℕ) : Type 0 where
   pub settled : owed s h ≡ None
   pub still : moment s h ≡ s.now
 
-pub one_step : (s : Setting) (h : List Entry) (n : ℕ) (step : Step) (reply : Reply) → HasMade s h n → n < length s.script → step ≡ get_or s.script n step
-    → IsReply s.faults (state s h) (call_of (objects s h) step) reply
-    → HasMade s (Called User (call_of (objects s h) step) reply ∷ Script (n + 1) ∷ h) (n + 1)
+pub one_step : (s : Setting) (h : List Entry) (n : ℕ) (step : Step) (call : Call) (reply : Reply) → HasMade s h n → n < length s.script → step ≡ get_or s.script n step
+    → call_of (objects s h) step ≡ Some call → IsReply s.faults (state s h) call reply
+    → HasMade s (Called User call reply ∷ Script (n + 1) ∷ h) (n + 1)
 unfolding IsLegal Follows
-one_step s h n step reply so room here right =
+one_step s h n step call reply so room here makes right =
     record {
       run = record {
         legal = (right, (tt, so.run.legal));
         follows = (
-          ap (option_map (call_of (objects s h))) (step_found s.script n step room ∙ ap Some (sym here)),
+          ap (option_and_then (call_of (objects s h))) (step_found s.script n step room ∙ ap Some (sym here)) ∙ makes,
           ((so.settled, ap (λ m. m + 1) (sym so.made), omega arith), so.run.follows),
         );
       };
       made = ap (λ m. m + 1) so.made;
       settled = refl;
+      still = so.still;
+    }
+
+-- a step that makes no call is an entry alone
+pub one_idle_step : (s : Setting) (h : List Entry) (n : ℕ) (step : Step) → HasMade s h n → n < length s.script → step ≡ get_or s.script n step
+    → call_of (objects s h) step ≡ None → HasMade s (Script (n + 1) ∷ h) (n + 1)
+unfolding IsLegal Follows
+one_idle_step s h n step so room here none =
+    record {
+      run = record {
+        legal = (tt, so.run.legal);
+        follows = ((so.settled, ap (λ m. m + 1) (sym so.made), omega arith), so.run.follows);
+      };
+      made = ap (λ m. m + 1) so.made;
+      settled = ap (option_and_then (call_of (objects s h))) (step_found s.script n step room ∙ ap Some (sym here)) ∙ none;
       still = so.still;
     }

@@ -1,2 +1,5 @@
 pub mod Defaults
 pub mod Objects
+pub mod Roles
+pub mod Materials
+pub mod Requests

@@ -16,6 +16,32 @@ pub enum Encoding {
     Pkcs8,
 }
 
+impl Algorithm {
+    /// Whether both are one.
+    pub fn same(self, other: Algorithm) -> bool
+        ensures { IsTrue result ↔ (self ≡ other) }
+    {
+        match (self, other) {
+            (Algorithm::Rsa, Algorithm::Rsa) => true,
+            (Algorithm::Ecdsa, Algorithm::Ecdsa) => true,
+            _ => false,
+        }
+    }
+}
+
+impl Encoding {
+    /// Whether both are one.
+    pub fn same(self, other: Encoding) -> bool
+        ensures { IsTrue result ↔ (self ≡ other) }
+    {
+        match (self, other) {
+            (Encoding::Pkcs1, Encoding::Pkcs1) => true,
+            (Encoding::Pkcs8, Encoding::Pkcs8) => true,
+            _ => false,
+        }
+    }
+}
+
 /// Whether a reissue makes a new private key (`privateKey.rotationPolicy`).
 #[derive(Clone, Copy)]
 pub enum Rotation {

@@ -1,5 +1,6 @@
 -- What the steps of a script leave.
-use Rattle.std.specs.Prelude.{◌≡◌, ℕ, ℤ, ◌+◌, List, [], ◌∷◌}
+use Rattle.std.specs.Prelude.{◌≡◌, ℕ, ℤ, List, [], ◌∷◌, MatchOption}
+use Rattle.cmc_objects.specs.declared.call.Call.{Call}
 use Rattle.cmc_objects.specs.declared.call.Reply.{Reply}
 use Rattle.cmc_objects.specs.declared.entry.Who.TheVariants.{User}
 use Rattle.cmc_objects.specs.declared.entry.Step.{Step}
@@ -11,12 +12,22 @@ use Rattle.cmc_model.specs.Following.{call_of, IsRun, IsFinished}
 use Rattle.cmc_store.specs.Kept.{Kept}
 use Rattle.cmrun.specs.declared.play.Played.{Played}
 
--- one step was made: its entry, and its call with the reply of the store that stood
-pub record Performs (now : ℤ) (number : ℕ) (step : Step) (old new : Kept) (before after : List Entry) : Type 0 where
+-- a call was made: the step's entry, and the call with the reply of the store that stood
+pub record MakesCall (now : ℤ) (number : ℕ) (call : Call) (old new : Kept) (before after : List Entry) : Type 0 where
   pub reply : Reply
-  pub right : IsReply old.faults old.state (call_of old.state.objects step) reply
-  pub store : new ≡ record { faults = old.faults; state = state_after now old.state (call_of old.state.objects step) reply }
-  pub entries : after ≡ Called User (call_of old.state.objects step) reply ∷ Script number ∷ before
+  pub right : IsReply old.faults old.state call reply
+  pub store : new ≡ record { faults = old.faults; state = state_after now old.state call reply }
+  pub entries : after ≡ Called User call reply ∷ Script number ∷ before
+
+-- no call was made: the step's entry alone
+pub record MakesNone (number : ℕ) (old new : Kept) (before after : List Entry) : Type 0 where
+  pub store : new ≡ old
+  pub entries : after ≡ Script number ∷ before
+
+-- one step was made, with the call that it makes on what stands in the store
+abbrev pub Performs : ℤ → ℕ → Step → Kept → Kept → List Entry → List Entry → Type 0
+Performs now number step old new before after =
+    MatchOption (call_of old.state.objects step) (MakesNone number old new before after) (λ call. MakesCall now number call old new before after)
 
 -- a run of users' steps that begins at this moment, with no call that fails
 abbrev pub setting_of : ℤ → List Step → Setting

@@ -1,9 +1,9 @@
 // Makes the steps of a script on a store, and keeps the history.
-ghost use Rattle.std.specs.Prelude.{◌≡◌, ◌+◌, ◌-◌, ◌<◌, ◌^◌, IfOk, OnOk, []};
+ghost use Rattle.std.specs.Prelude.{◌≡◌, ◌-◌, ◌<◌, ◌≤◌, ◌^◌, IfOk, OnOk};
 ghost use Rattle.cmc_objects.specs.Objects.{key_of};
 ghost use Rattle.cmc_model.specs.Objects.{object_at};
 ghost use Rattle.cmc_model.specs.Following.{apply_call, call_of};
-ghost use Rattle.cmrun.specs.Playing.{Performs, IsPlayed};
+ghost use Rattle.cmrun.specs.Playing.{MakesCall, Performs, IsPlayed};
 
 use cmc_history::History;
 use cmc_meta::Numbers;
@@ -35,21 +35,45 @@ fn call_of_apply(store: &Store, object: &Object, version: Option<u64>) -> Result
     }
 }
 
-/// The user call that the step makes on what stands in the store.
+/// The user call that the step makes on what stands in the store; none where it makes none.
 #[tactic(auto, unfolding(cmc_model::specs::Following::call_of))]
-fn call_for(store: &Store, step: &Step) -> Result<Call, AllocError>
+fn call_for(store: &Store, step: &Step) -> Result<Option<Call>, AllocError>
     ensures { IfOk result (λ c. c ≡ call_of store.now.state.objects step.now) }
 {
     match step {
-        Step::Apply { object, version } => call_of_apply(store, object, *version),
-        Step::Delete { key, version } => Ok(Call::Delete {
+        Step::Apply { object, version } => Ok(Some(call_of_apply(store, object, *version)?)),
+        Step::Delete { key, version } => Ok(Some(Call::Delete {
             key: key.copy()?,
             version: *version,
-        }),
+        })),
+        _ => Ok(None),
     }
 }
 
-/// Makes one step: its own entry, and that of its call.
+/// Makes the call of a step: the step's entry, and that of the call.
+fn make_call(
+    alloc: Global,
+    now: i64,
+    store: &mut Store,
+    history: &mut History,
+    number: u64,
+    call: Call,
+) -> Result<(), AllocError>
+    requires room { store.old.state.calls < 2 ^ 64 - 1 }
+    requires spare { 2 ≤ history.old.spare }
+    ensures { OnOk result (MakesCall now number call store.old store.new history.old.entries history.new.entries) }
+{
+    let replied = store.call(alloc, now, &call)?;
+    history.push(Entry::Script { step: number });
+    history.push(Entry::Call {
+        who: Who::User,
+        call,
+        reply: replied.reply,
+    });
+    Ok(())
+}
+
+/// Makes one step: its own entry, and that of its call, if it makes one.
 fn perform(
     alloc: Global,
     now: i64,
@@ -62,15 +86,13 @@ fn perform(
     ensures { OnOk result (Performs now number step.now store.old store.new history.old.entries history.new.entries) }
 {
     history.reserve(2)?;
-    let call = call_for(store, step)?;
-    let replied = store.call(alloc, now, &call)?;
-    history.push(Entry::Script { step: number });
-    history.push(Entry::Call {
-        who: Who::User,
-        call,
-        reply: replied.reply,
-    });
-    Ok(())
+    match call_for(store, step)? {
+        Some(call) => make_call(alloc, now, store, history, number, call),
+        None => {
+            history.push(Entry::Script { step: number });
+            Ok(())
+        }
+    }
 }
 
 /// Makes all steps of the script, one after another, from the moment `now` on, on an empty store.

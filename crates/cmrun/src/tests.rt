@@ -7,7 +7,11 @@ use std::alloc::{AllocError, Global};
 use std::process::Abort;
 use std::test::Fail;
 
-mod rows;
+/// The Certificate that `@` stands for in the rows.
+const WEB: &str = r#"{"apiVersion":"cert-manager.io/v1","kind":"Certificate","metadata":{"name":"web","namespace":"default"},"spec":{"dnsNames":["example.com"],"issuerRef":{"name":"ca"},"privateKey":{"algorithm":"ECDSA"},"secretName":"web-tls"}}"#;
+
+/// A scenario that is read.
+const GOOD: &str = r#"{"roles":[],"script":[{"do":"apply","object":@}]}"#;
 
 /// How a run of some bytes ended, and what it wrote.
 #[derive(Drop)]
@@ -63,7 +67,7 @@ fn end_of(alloc: Global, input: &str) -> Result<String, AllocError> {
 
 /// The input of a row: `@` stands for the Certificate of the rows.
 fn filled(alloc: Global, row: &str) -> Result<String, AllocError> {
-    row.replace(alloc, "@", rows::WEB)
+    row.replace(alloc, "@", WEB)
 }
 
 fn assert_written(
@@ -152,19 +156,73 @@ fn answers_an_old_version_with_a_conflict(rt: HostRuntime) -> Result<(), Fail> {
     Ok(())
 }
 
+/// Whole inputs, each with the path that fails first, or its end.
+const WHOLE: [(&str, &str); 18] = [
+    ("{}", "roles"),
+    (r#"{"x":1}"#, "x"),
+    ("[]", ""),
+    ("1.5", ""),
+    (r#"{"script":[]}"#, "roles"),
+    (r#"{"roles":[1.5]}"#, "roles.0"),
+    (r#"{"roles":[1],"a":1}"#, "a"),
+    (r#"{"roles":[1],"z":1}"#, "roles.0"),
+    (r#"{"roles":[],"script":{}}"#, "script"),
+    (r#"{"roles":[],"script":[5]}"#, "script.0"),
+    (r#"{"roles":[],"script":[{"a":1,"do":"x"}]}"#, "script.0.a"),
+    (r#"{"roles":[],"script":[{"DO":1}]}"#, "script.0.DO"),
+    (r#"{"roles":[],"script":[{"certificate":5,"do":"x"}]}"#, "script.0.do"),
+    (r#"{"roles":[],"script":[{"certificate":{"b":[0,1e3]},"do":"x"}]}"#, "script.0.certificate.b.1"),
+    (r#"{"roles":[],"script":[{"do":"delete","key":"Certificate/default"}]}"#, "script.0.key"),
+    (r#"{"roles":[],"script":[{"do":"delete","key":"Secret/a/b","version":-1}]}"#, "script.0.version"),
+    (r#"{"roles":[],"roles":[]}"#, "done"),
+    (r#"{"roles":[],"script":[{"do":"delete","key":"CertificateRequest/a/b","version":18446744073709551615}]}"#, "done"),
+];
+
+/// Edits of the good scenario: what is replaced, by what, and which path of the object then fails
+/// first.
+const EDITS: [(&str, &str, &str); 18] = [
+    (r#""cert-manager.io/v1""#, r#""v1""#, "apiVersion"),
+    (r#""Certificate""#, r#""Issuer""#, "kind"),
+    (r#""Certificate""#, r#""Secret""#, "apiVersion"),
+    (r#""namespace""#, r#""uid":1,"namespace""#, "metadata.uid"),
+    (r#""web""#, r#""Web""#, "metadata.name"),
+    (r#""default""#, "5", "metadata.namespace"),
+    (r#""default""#, r#""default","resourceVersion":"01""#, "metadata.resourceVersion"),
+    (r#"["example.com"]"#, "[]", "spec.dnsNames"),
+    (r#"["example.com"]"#, r#"["a",5]"#, "spec.dnsNames.1"),
+    (r#"["example.com"]"#, r#"["a","b","c","d","e","f","g","h","i","j","k"]"#, "spec.dnsNames.10"),
+    (r#""example.com""#, r#""\u007f""#, "spec.dnsNames.0"),
+    (r#""name":"ca""#, r#""kind":"Issuer","name":"ca""#, "spec.issuerRef.kind"),
+    (r#""ECDSA""#, r#""Ed25519""#, "spec.privateKey.algorithm"),
+    (r#""web-tls""#, r#""web""#, "spec.secretName"),
+    (r#""web-tls""#, "1.5", "spec.secretName"),
+    (r#""secretName""#, r#""secretNames""#, "spec.secretName"),
+    (r#""dnsNames""#, r#""dnsnames""#, "spec.dnsNames"),
+    (r#""issuerRef""#, r#""isCA":true,"issuerRef""#, "spec.isCA"),
+];
+
 #[test]
 fn fails_at_the_first_path(rt: HostRuntime) -> Result<(), Fail> {
     let alloc = rt.alloc();
-    for line in rows::FAILING.lines() {
-        let (row, path) = line.split_once(" => ").ok_or("a row without a path")?;
-        let input = filled(alloc, row)?;
-        let end = end_of(alloc, input.as_str())?;
-        assert_eq!(rt; end.as_str(), path, "at {row}");
+    for (input, path) in WHOLE {
+        let end = end_of(alloc, input)?;
+        assert_eq!(rt; end.as_str(), path, "at {input}");
     }
-    for row in rows::PASSING.lines() {
-        let input = filled(alloc, row)?;
+    let good = filled(alloc, GOOD)?;
+    let end = end_of(alloc, good.as_str())?;
+    assert_eq!(rt; end.as_str(), "done");
+    Ok(())
+}
+
+#[test]
+fn fails_at_the_path_of_an_edit(rt: HostRuntime) -> Result<(), Fail> {
+    let alloc = rt.alloc();
+    let good = filled(alloc, GOOD)?;
+    for (old, new, path) in EDITS {
+        let input = good.replace(alloc, old, new)?;
         let end = end_of(alloc, input.as_str())?;
-        assert_eq!(rt; end.as_str(), "done", "at {row}");
+        let expected = format!(in alloc; "script.0.object.{path}")?;
+        assert_eq!(rt; end.as_str(), expected.as_str(), "at {new}");
     }
     Ok(())
 }

@@ -1,0 +1,23 @@
+-- Only one role has a rank.
+use Rattle.std.proofs.Common.{◌≡◌, ℕ, sym, ap, ◌∙◌, refl}
+use Rattle.std.specs.Prelude.{◌==◌, if◌then◌else◌}
+use Rattle.cmc_objects.specs.declared.role.Role.{Role}
+use Rattle.cmc_objects.specs.declared.role.Role.TheVariants.{Trigger, KeyManager, RequestManager, Approver, Issuer, Issuing, Readiness, Revision}
+use Rattle.cmc_objects.specs.Roles.{role_rank}
+
+-- the role of a rank
+abbrev role_at : ℕ → Role
+role_at n = if n == 0 then Trigger else (if n == 1 then KeyManager else (if n == 2 then RequestManager else (if n == 3 then Approver else (if n == 4 then Issuer else (if n == 5 then Issuing else (if n == 6 then Readiness else Revision))))))
+
+role_at-rank : (r : Role) → role_at (role_rank r) ≡ r
+role_at-rank Trigger = refl
+role_at-rank KeyManager = refl
+role_at-rank RequestManager = refl
+role_at-rank Approver = refl
+role_at-rank Issuer = refl
+role_at-rank Issuing = refl
+role_at-rank Readiness = refl
+role_at-rank Revision = refl
+
+pub role_of_rank : (a b : Role) → role_rank a ≡ role_rank b → a ≡ b
+role_of_rank a b h = sym (role_at-rank a) ∙ ap role_at h ∙ role_at-rank b
