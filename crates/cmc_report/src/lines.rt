@@ -1,6 +1,6 @@
 // Lists of lines.
 ghost use Rattle.std.specs.List.{flat_map};
-ghost use Rattle.std.specs.Prelude.{◌≡◌, ◌++◌, ◌∷◌, [], OnOk, OnErr, map, string_bytes};
+ghost use Rattle.std.specs.Prelude.{◌≡◌, ◌++◌, ◌∷◌, [], IfOk, OnOk, OnErr, map, string_bytes};
 ghost use Rattle.cmc_report.specs.Text.{joined};
 
 use std::alloc::{AllocError, Global};
@@ -47,4 +47,23 @@ impl Lines {
     {
         self.items.as_slice()
     }
+
+    /// Equal lines.
+    pub fn copy(&self) -> Result<Lines, AllocError>
+        ensures { IfOk result (λ l. l ≡ self.now) }
+    {
+        Ok(Lines {
+            items: copy_strings(*self.items.allocator(), self.items.as_slice())?,
+        })
+    }
+}
+
+fn copy_strings(alloc: Global, strings: &[String]) -> Result<Vec<String>, AllocError>
+    ensures { IfOk result (λ v. map string_bytes v.items ≡ map string_bytes strings.now) }
+{
+    let mut items = Vec::new(alloc);
+    for string in strings {
+        items.push(string.clone()?)?;
+    }
+    Ok(items)
 }

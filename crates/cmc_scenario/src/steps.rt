@@ -1,5 +1,5 @@
 // Lists of steps.
-ghost use Rattle.std.specs.Prelude.{◌≡◌, ◌++◌, ◌∷◌, [], OnOk, OnErr};
+ghost use Rattle.std.specs.Prelude.{◌≡◌, ◌++◌, ◌∷◌, [], IfOk, OnOk, OnErr};
 ghost use Rattle.serde_json.specs.View.{view, items_view};
 ghost use Rattle.cmc_codec.specs.Reading.{Gives};
 ghost use Rattle.cmc_codec.specs.Seen.{shown_option};
@@ -53,6 +53,40 @@ impl Steps {
     {
         self.items.as_slice()
     }
+
+    /// An equal list.
+    pub fn copy(&self) -> Result<Steps, AllocError>
+        ensures { IfOk result (λ s. s ≡ self.now) }
+    {
+        Ok(Steps {
+            items: copy_steps(*self.items.allocator(), self.items.as_slice())?,
+        })
+    }
+}
+
+fn copy_step(step: &Step) -> Result<Step, AllocError>
+    ensures { IfOk result (λ s. s ≡ step.now) }
+{
+    match step {
+        Step::Apply { object, version } => Ok(Step::Apply {
+            object: object.copy()?,
+            version: *version,
+        }),
+        Step::Delete { key, version } => Ok(Step::Delete {
+            key: key.copy()?,
+            version: *version,
+        }),
+    }
+}
+
+fn copy_steps(alloc: Global, steps: &[Step]) -> Result<Vec<Step>, AllocError>
+    ensures { IfOk result (λ v. v.items ≡ steps.now) }
+{
+    let mut items = Vec::new(alloc);
+    for step in steps {
+        items.push(copy_step(step)?)?;
+    }
+    Ok(items)
 }
 
 #[tactic(auto, unfolding(crate::specs::Scripts::numbered_step_at))]
