@@ -14,6 +14,8 @@ use Rattle.cmc_objects.specs.declared.key_spec.Encoding.{Encoding}
 use Rattle.cmc_objects.specs.declared.key_spec.Encoding.TheVariants.{Pkcs1, Pkcs8}
 use Rattle.cmc_objects.specs.declared.key_spec.Rotation.{Rotation}
 use Rattle.cmc_objects.specs.declared.key_spec.Rotation.TheVariants.{Always, Never}
+use Rattle.cmc_objects.specs.declared.role.Role.{Role}
+use Rattle.cmc_objects.specs.declared.role.Role.TheVariants as roles
 use Rattle.cmc_time.specs.Rfc3339.{rfc3339}
 
 abbrev pub kind_name : Kind → List ℕ
@@ -49,6 +51,16 @@ encoding_name Pkcs8 = codes "PKCS8"
 abbrev pub rotation_name : Rotation → List ℕ
 rotation_name Always = codes "Always"
 rotation_name Never = codes "Never"
+
+abbrev pub role_name : Role → List ℕ
+role_name roles.Trigger = codes "trigger"
+role_name roles.KeyManager = codes "keymanager"
+role_name roles.RequestManager = codes "requestmanager"
+role_name roles.Approver = codes "approver"
+role_name roles.Issuer = codes "issuer"
+role_name roles.Issuing = codes "issuing"
+role_name roles.Readiness = codes "readiness"
+role_name roles.Revision = codes "revision"
 
 abbrev pub uid_text : ℕ → List ℕ
 uid_text uid = codes "uid-" ++ decimal uid

@@ -1,6 +1,6 @@
 // Members that may be left out.
 ghost use Rattle.std.specs.Prelude.{◌≡◌, IfOk, OnOk};
-ghost use Rattle.serde_json.specs.Data.{string, put};
+ghost use Rattle.serde_json.specs.Data.{boolean, string, put};
 ghost use Rattle.cmc_codec.specs.Puts.{put_option, put_list, put_true, put_object, strings, base64_text, map_tree};
 ghost use Rattle.cmc_codec.specs.Printed.{moment_tree, duration_tree};
 ghost use Rattle.cmc_codec.specs.Trees.{natural, data_of, members_of};
@@ -253,4 +253,29 @@ pub fn put_parts(
     }
     let tree = parts_tree(alloc, parts)?;
     members.put(alloc, name, tree)
+}
+
+/// Puts a flag, true or false.
+pub fn put_flag(
+    members: &mut Members,
+    alloc: Global,
+    name: &str,
+    flag: bool,
+) -> Result<(), AllocError>
+    ensures { OnOk result (members_of members.new ≡ put name.now (boolean flag) (members_of members.old)) }
+{
+    members.put(alloc, name, Tree::flag(flag))
+}
+
+/// Puts a moment, in seconds since 1970-01-01T00:00:00Z.
+pub fn put_time(
+    members: &mut Members,
+    alloc: Global,
+    name: &str,
+    at: i64,
+) -> Result<(), AllocError>
+    ensures { OnOk result (members_of members.new ≡ put name.now (moment_tree at) (members_of members.old)) }
+{
+    let text = moment_word(alloc, at)?;
+    put_text(members, alloc, name, text.as_str())
 }

@@ -1,9 +1,9 @@
 // The words and texts of the Kubernetes and cert-manager APIs.
 ghost use Rattle.std.specs.Prelude.{◌≡◌, IfOk, string_bytes};
-ghost use Rattle.cmc_codec.specs.Words.{kind_name, api_version, condition_name, tri_name, algorithm_name, encoding_name, rotation_name, uid_text, has_rfc3339, moment_text};
+ghost use Rattle.cmc_codec.specs.Words.{kind_name, api_version, condition_name, tri_name, algorithm_name, encoding_name, rotation_name, role_name, uid_text, has_rfc3339, moment_text};
 
 use cmc_meta::{ConditionKind, Kind, Tri};
-use cmc_objects::{Algorithm, Encoding, Rotation};
+use cmc_objects::{Algorithm, Encoding, Role, Rotation};
 use cmc_time::print_rfc3339;
 use std::alloc::{AllocError, Global};
 
@@ -105,4 +105,20 @@ pub fn moment_word(alloc: Global, at: i64) -> Result<String, AllocError>
         return print_rfc3339(alloc, at);
     }
     at.to_string(alloc)
+}
+
+/// A role, as scenarios and histories name it.
+pub fn role_word(role: Role) -> &'static str
+    ensures { result.now ≡ role_name role }
+{
+    match role {
+        Role::Trigger => "trigger",
+        Role::KeyManager => "keymanager",
+        Role::RequestManager => "requestmanager",
+        Role::Approver => "approver",
+        Role::Issuer => "issuer",
+        Role::Issuing => "issuing",
+        Role::Readiness => "readiness",
+        Role::Revision => "revision",
+    }
 }

@@ -7,6 +7,7 @@
 mod calls;
 mod entries;
 mod lines;
+mod orders;
 mod summaries;
 mod text;
 
