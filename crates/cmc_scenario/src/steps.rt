@@ -64,27 +64,12 @@ impl Steps {
     }
 }
 
-fn copy_step(step: &Step) -> Result<Step, AllocError>
-    ensures { IfOk result (λ s. s ≡ step.now) }
-{
-    match step {
-        Step::Apply { object, version } => Ok(Step::Apply {
-            object: object.copy()?,
-            version: *version,
-        }),
-        Step::Delete { key, version } => Ok(Step::Delete {
-            key: key.copy()?,
-            version: *version,
-        }),
-    }
-}
-
 fn copy_steps(alloc: Global, steps: &[Step]) -> Result<Vec<Step>, AllocError>
     ensures { IfOk result (λ v. v.items ≡ steps.now) }
 {
     let mut items = Vec::new(alloc);
     for step in steps {
-        items.push(copy_step(step)?)?;
+        items.push(step.copy()?)?;
     }
     Ok(items)
 }
