@@ -8,4 +8,3 @@ pub mod Certificates
 pub mod ReadNames
 pub mod ReadKeys
 pub mod ReadCertificates
-pub mod Fronts

@@ -1,6 +1,7 @@
 -- Reading certificates and certification requests from the left.
 use Rattle.std.specs.Prelude.{ℕ, ℤ, int_le, nat_le, cond, List, [], length, Option, Some, None}
 use Rattle.cmc_der.specs.Keys.{CertificateFields, RequestFields}
+use Rattle.cmc_x509.specs.declared.certificates.Front.{Front}
 use Rattle.cmc_x509.specs.declared.taking.TheConstants.{MAX_INPUT}
 use Rattle.cmc_x509.specs.Taking.{◌>>=◌, take_at, end_at, only_at, optional_at}
 use Rattle.cmc_x509.specs.Lists.{first_at}
@@ -43,6 +44,9 @@ extensions_in (Some bs) = only_at 48 bs >>= (λ body. first_at extension_of body
 pub record Head : Type 0 where
   pub serial : List ℕ
   pub times : ℤ × ℤ
+
+abbrev pub head_shown : Front → Head
+head_shown f = record { serial = f.serial.now; times = (f.validity.not_before, f.validity.not_after) }
 
 unfoldable pub head_at : List ℕ → Option (Head × List ℕ)
 head_at bs = do

@@ -5,8 +5,7 @@ ghost use Rattle.cmc_x509.specs.Taking.{Gives};
 ghost use Rattle.cmc_x509.specs.Lists.{IsValueList};
 ghost use Rattle.cmc_x509.specs.Times.{time_at};
 ghost use Rattle.cmc_x509.specs.Certificates.{IsCertificate, IsRequest, or_none};
-ghost use Rattle.cmc_x509.specs.ReadCertificates.{Head, signed_at, version_of, validity_at, unique_id_of, extensions_in, head_at, tail_at, tbs_certificate_at, request_info_at, certificate_at, request_at};
-ghost use Rattle.cmc_x509.specs.Fronts.{head_shown};
+ghost use Rattle.cmc_x509.specs.ReadCertificates.{head_shown, signed_at, version_of, validity_at, unique_id_of, extensions_in, head_at, tail_at, tbs_certificate_at, request_info_at, certificate_at, request_at};
 
 use crate::keys::{algorithm_of, bits, integer, spki, version};
 use crate::names::{Extension, RequestAttribute, first_in, name};
