@@ -18,3 +18,11 @@ read_faults s = s.faults
 -- How many writes have failed.
 abbrev pub write_faults : MemSink → ℕ
 write_faults s = s.faults
+
+-- The numbers of the reads that fail, from 1.
+abbrev pub failing_reads : MemSource → List ℕ
+failing_reads s = s.failing
+
+-- The numbers of the writes that fail, from 1.
+abbrev pub failing_writes : MemSink → List ℕ
+failing_writes s = s.failing

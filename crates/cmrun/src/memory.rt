@@ -38,12 +38,13 @@ fn copy_front(from: &[u8], into: &mut [u8]) -> usize
 
 impl MemSource {
     ghost use Rattle.std.specs.Prelude.{IfOk};
-    ghost use Rattle.cmrun.specs.Memory.{left_in, read_faults};
+    ghost use Rattle.cmrun.specs.Memory.{left_in, read_faults, failing_reads};
 
     /// A source of these bytes, at which the reads of the given numbers (from 1) fail.
     pub fn new(_alloc: Global, bytes: Bytes, failing: Numbers) -> Result<Self, AllocError>
         ensures left { IfOk result (λ s. left_in s ≡ bytes) }
         ensures faults { IfOk result (λ s. read_faults s ≡ 0) }
+        ensures failing { IfOk result (λ s. failing_reads s ≡ failing) }
     {
         Ok(MemSource {
             bytes,
@@ -77,12 +78,13 @@ impl Source for MemSource {
 
 impl MemSink {
     ghost use Rattle.std.specs.Prelude.{[], IfOk};
-    ghost use Rattle.cmrun.specs.Memory.{held_in, write_faults};
+    ghost use Rattle.cmrun.specs.Memory.{held_in, write_faults, failing_writes};
 
     /// An empty sink, at which the writes of the given numbers (from 1) fail.
     pub fn new(alloc: Global, failing: Numbers) -> Result<Self, AllocError>
         ensures holds { IfOk result (λ s. held_in s ≡ []) }
         ensures faults { IfOk result (λ s. write_faults s ≡ 0) }
+        ensures failing { IfOk result (λ s. failing_writes s ≡ failing) }
     {
         Ok(MemSink {
             bytes: Vec::new(alloc),
