@@ -1,5 +1,5 @@
 -- When a certificate must be issued, and why.
-use Rattle.std.specs.Prelude.{◌≡◌, Bool, not, false, if◌then◌else◌, List, [], ◌∷◌, Option, Some, None, int_lt}
+use Rattle.std.specs.Prelude.{◌≡◌, Bool, not, false, if◌then◌else◌, List, [], ◌∷◌, Option, Some, None, int_lt, map}
 use Rattle.cmc_policies.specs.declared.facts.Facts.{Facts}
 use Rattle.cmc_policies.specs.declared.facts.Frame.{Frame}
 use Rattle.cmc_policies.specs.declared.facts.Reason.{Reason}
@@ -23,6 +23,10 @@ abbrev pub first_holding : List (Reason × Frame) → Facts → Option Reason
 first_holding [] facts = None
 first_holding (check ∷ checks) facts =
     if holds check.0 check.1 facts then Some check.0 else first_holding checks facts
+
+-- the same where all checks share one frame
+abbrev pub first_of : List Reason → Frame → Facts → Option Reason
+first_of reasons frame facts = first_holding (map (λ reason. (reason, frame)) reasons) facts
 
 -- no check of the list holds
 abbrev pub NoneHolds : List (Reason × Frame) → Facts → Type 0

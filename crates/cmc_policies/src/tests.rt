@@ -1,13 +1,13 @@
 ghost use Rattle.std.specs.Prelude.{◌≡◌, [], ◌∷◌};
-ghost use Rattle.cmc_policies.specs.Reasons.{first_holding};
+ghost use Rattle.cmc_policies.specs.Reasons.{first_of as first_reason};
 
 use crate::*;
 use std::test::Fail;
 
 // As a controller builds its chain: each closure captures the frame alone.
 fn first_of(frame: Frame, facts: &Facts) -> Option<Reason>
-    ensures { result ≡ first_holding ((Reason.DoesNotExist, frame) ∷ (Reason.MissingData, frame)
-        ∷ (Reason.Renewing, frame) ∷ []) facts.now }
+    ensures { result ≡ first_reason
+        (Reason.DoesNotExist ∷ Reason.MissingData ∷ Reason.Renewing ∷ []) frame facts.now }
 {
     let renewing = Check::new(Reason::Renewing, frame, move |facts: &Facts| {
         facts.is_due(frame)

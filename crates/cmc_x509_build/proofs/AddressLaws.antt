@@ -1,5 +1,5 @@
 -- A text is read as the address that it writes, and no other text is read.
-use Rattle.std.proofs.Common.{◌≡◌, ℕ, ◌⊎◌, ◌==◌, inl, inr, Bool, true, false, cond, List, [], ◌++◌, length, Option, Some, None, option_and_then, refl, sym, ap, subst, ◌∙◌, lit≤, eqb-true, append-nil}
+use Rattle.std.proofs.Common.{◌≡◌, ℕ, ◌==◌, inl, inr, Bool, true, false, cond, List, [], length, Option, Some, None, refl, sym, subst, ◌∙◌, lit≤, eqb-true, append-nil}
 use Rattle.std.proofs.lemmas.List.{nil_from_length}
 use Rattle.std.proofs.lemmas.Option.{none-some, same_Some}
 use Rattle.std.proofs.NetLemmas.Ipv4.{read_ipv4_complete, read_ipv4_sound}

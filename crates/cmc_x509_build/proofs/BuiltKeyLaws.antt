@@ -1,14 +1,12 @@
 -- The SubjectPublicKeyInfo that is built of a key is that of the key.
-use Rattle.std.proofs.Common.{◌≡◌, ◌≢◌, ℕ, ◌%◌, ◌<◌, ◌≤◌, Bool, true, false, cond, List, [], ◌∷◌, ◌++◌, length, Option, Some, None, refl, sym, ap, ◌∙◌, arith, nat_lt}
+use Rattle.std.proofs.Common.{◌≡◌, ◌≢◌, ℕ, ◌%◌, true, List, [], ◌∷◌, ◌++◌, Some, refl, ap, arith, nat_lt}
 use Rattle.std.proofs.lemmas.Bool.Decides.{nat_tests}
 use Rattle.cmc_der.specs.declared.fields.KeyKind.{KeyKind}
 use Rattle.cmc_der.specs.declared.fields.KeyKind.TheVariants.{Rsa, P256, P384, P521}
-use Rattle.cmc_der.specs.Values.{IsValue, BeginsWith}
 use Rattle.cmc_der.specs.Building.{value}
 use Rattle.cmc_der.specs.Integers.{integer_of, signed, trimmed}
 use Rattle.cmc_der.specs.Keys.{PublicKey, RsaKey, EcKey, OtherKey}
-use Rattle.cmc_x509.specs.Taking.{Value, IsAtMostOne}
-use Rattle.cmc_x509.specs.PublicKeys.{AlgorithmIdentifier, BeginsWithAlgorithm, BeginsWithPositive, IsMagnitude, IsRsaPublicKey, IsCurve, NamesCurve, IsPoint, IsKeyOf, IsSpki, BeginsWithSpki}
+use Rattle.cmc_x509.specs.PublicKeys.{BeginsWithAlgorithm, IsMagnitude, IsRsaPublicKey, IsCurve, IsKeyOf, IsSpki, BeginsWithSpki}
 use Rattle.cmc_x509_build.specs.declared.oids.TheConstants.{RSA_ENCRYPTION, EC_PUBLIC_KEY}
 use Rattle.cmc_x509_build.specs.Octets.{key_info, rsa_octets, curve_oid, spki_octets}
 use Rattle.cmc_x509_build.specs.Keys.{IsNamedCurve, IsWritable}

@@ -1,8 +1,6 @@
 -- The names that are built are read again.
-use Rattle.std.proofs.Common.{◌≡◌, ◌≢◌, inr, ℕ, ◌%◌, ◌<◌, ◌≤◌, List, [], ◌∷◌, ◌++◌, length, Option, Some, None, refl, sym, ap, ◌∙◌, arith, flat_map}
-use Rattle.cmc_der.specs.Values.{IsValue, BeginsWith}
+use Rattle.std.proofs.Common.{inr, ℕ, List, [], ◌∷◌, ◌++◌, Option, Some, None, refl, arith, flat_map}
 use Rattle.cmc_der.specs.Building.{value}
-use Rattle.cmc_x509.specs.Taking.{Value, BeginsWithOptional}
 use Rattle.cmc_x509.specs.Lists.{IsValueList, IsListOf}
 use Rattle.cmc_x509.specs.Names.{IsAttribute, IsRdn, BeginsWithName, IsExtension, IsExtensions, IsRequestAttribute}
 use Rattle.cmc_x509_build.specs.declared.oids.TheConstants.{COMMON_NAME, SUBJECT_ALT_NAME, EXTENSION_REQUEST}
@@ -10,7 +8,7 @@ use Rattle.cmc_x509_build.specs.declared.requests.NameSet.{NameSet}
 use Rattle.cmc_x509_build.specs.Octets.{name_octets, address_value, address_octets, alternative_extension}
 use Rattle.cmc_x509_build.specs.Requests.{alternative_of, attributes_of}
 use Rattle.cmc_x509_build.specs.Addresses.{address_at}
-use Rattle.cmc_x509_build.proofs.ValueLaws.{IsSmall, contents_small, front_small, back_small, value_is, value_first, value_last, is_otherwise, list_of_one, lists_joined, no_values, one_value, flat_values}
+use Rattle.cmc_x509_build.proofs.ValueLaws.{IsSmall, contents_small, front_small, back_small, value_is, value_first, is_otherwise, list_of_one, lists_joined, no_values, one_value, flat_values}
 
 abbrev attribute_parts : List ℕ → List ℕ
 attribute_parts text = value 6 COMMON_NAME ++ value 12 text

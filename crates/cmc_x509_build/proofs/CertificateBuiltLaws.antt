@@ -1,23 +1,22 @@
 -- The certificate that is built is read with the fields that it was built of.
-use Rattle.std.proofs.Common.{◌≡◌, ◌≢◌, Bool, true, false, cond, nat_lt, ℕ, ◌%◌, ◌<◌, ◌≤◌, List, [], ◌∷◌, ◌++◌, length, Option, Some, None, ℤ, ◌≤ℤ◌, refl, sym, ap, subst, ◌∙◌, arith, append_assoc, append-nil}
+use Rattle.std.proofs.Common.{◌≡◌, ◌≢◌, Bool, true, false, cond, nat_lt, ℕ, ◌%◌, List, [], ◌∷◌, ◌++◌, Option, Some, None, ℤ, ◌≤ℤ◌, refl, sym, subst, arith, append_assoc}
 use Rattle.std.specs.Int.{w64, to_be_bytes}
-use Rattle.cmc_der.specs.Values.{IsValue, BeginsWith}
 use Rattle.cmc_der.specs.Building.{value}
-use Rattle.cmc_der.specs.Integers.{is_integer, integer_of}
+use Rattle.cmc_der.specs.Integers.{is_integer}
 use Rattle.cmc_der.specs.Keys.{PublicKey, CertificateFields, SubjectNames}
 use Rattle.cmc_der.proofs.Shortest.{integer_is}
-use Rattle.cmc_time.specs.Asn1.{IsAsn1Time, IsCertificateTime, asn1_tag, asn1_text}
+use Rattle.cmc_time.specs.Asn1.{IsCertificateTime, asn1_tag, asn1_text}
 use Rattle.cmc_time.specs.Moment.{moment_of}
 use Rattle.cmc_time.proofs.Printed.{asn1_is_text}
-use Rattle.cmc_x509.specs.Taking.{Value, BeginsOtherwise, BeginsWithOptional}
+use Rattle.cmc_x509.specs.Taking.{BeginsOtherwise, BeginsWithOptional}
 use Rattle.cmc_x509.specs.Lists.{IsValueList}
 use Rattle.cmc_x509.specs.Times.{BeginsWithTime}
-use Rattle.cmc_x509.specs.Certificates.{IsTbsCertificate, IsCertificate, IsSigned, BeginsWithValidity, AreExtensions, or_none}
+use Rattle.cmc_x509.specs.Certificates.{IsTbsCertificate, IsCertificate, BeginsWithValidity, AreExtensions}
 use Rattle.cmc_x509_build.specs.declared.oids.TheConstants.{ECDSA_WITH_SHA256}
 use Rattle.cmc_x509_build.specs.declared.certificates.CertPlan.{CertPlan}
 use Rattle.cmc_x509_build.specs.Keys.{IsWritable}
 use Rattle.cmc_x509_build.specs.Octets.{signature_algorithm, signed_octets, name_octets, spki_octets, alternative_extension}
-use Rattle.cmc_x509_build.specs.Certificates.{time_octets, validity_octets, serial_octets, fields_of, first_octets, head_octets, subject_octets, extensions_of, certificate_body, IsCertificateBody}
+use Rattle.cmc_x509_build.specs.Certificates.{time_octets, validity_octets, serial_octets, fields_of, head_octets, subject_octets, extensions_of, certificate_body, IsCertificateBody}
 use Rattle.cmc_x509_build.proofs.ValueLaws.{IsSmall, contents_small, front_small, back_small, value_is, value_first, value_last, is_otherwise}
 use Rattle.cmc_x509_build.proofs.BuiltKeyLaws.{spki_first}
 use Rattle.cmc_x509_build.proofs.BuiltNameLaws.{name_first, extension_list}

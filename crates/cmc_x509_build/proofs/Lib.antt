@@ -4,3 +4,4 @@ pub mod BuiltKeyLaws
 pub mod BuiltNameLaws
 pub mod RequestLaws
 pub mod CertificateBuiltLaws
+pub mod ServeLaws

@@ -1,16 +1,16 @@
 -- The request that is built is read with the fields that it was built of.
-use Rattle.std.proofs.Common.{◌≡◌, ◌≢◌, ℕ, ◌%◌, ◌<◌, ◌≤◌, List, [], ◌∷◌, ◌++◌, length, Option, Some, None, refl, sym, ap, ◌∙◌, arith}
-use Rattle.cmc_der.specs.Values.{IsValue, BeginsWith}
+use Rattle.std.proofs.Common.{◌≡◌, ℕ, List, [], ◌∷◌, ◌++◌, None, refl, arith}
+use Rattle.cmc_der.specs.Values.{IsValue}
 use Rattle.cmc_der.specs.Building.{value}
 use Rattle.cmc_der.specs.Keys.{PublicKey, RequestFields}
 use Rattle.cmc_x509.specs.Lists.{IsValueList}
-use Rattle.cmc_x509.specs.PublicKeys.{AlgorithmIdentifier, BeginsWithAlgorithm}
-use Rattle.cmc_x509.specs.Certificates.{IsSigned, IsRequestInfo, IsRequest, or_none}
+use Rattle.cmc_x509.specs.PublicKeys.{BeginsWithAlgorithm}
+use Rattle.cmc_x509.specs.Certificates.{IsSigned, IsRequest, or_none}
 use Rattle.cmc_x509_build.specs.declared.oids.TheConstants.{ECDSA_WITH_SHA256}
 use Rattle.cmc_x509_build.specs.declared.requests.NameSet.{NameSet}
 use Rattle.cmc_x509_build.specs.Keys.{IsWritable}
 use Rattle.cmc_x509_build.specs.Octets.{signature_algorithm, signed_octets, name_octets, spki_octets}
-use Rattle.cmc_x509_build.specs.Requests.{attributes_of, request_body, IsRequestBody, names_of, alternative_of}
+use Rattle.cmc_x509_build.specs.Requests.{attributes_of, request_body, IsRequestBody, names_of}
 use Rattle.cmc_x509_build.proofs.ValueLaws.{IsSmall, contents_small, front_small, back_small, value_is, value_first, value_last}
 use Rattle.cmc_x509_build.proofs.BuiltKeyLaws.{spki_first}
 use Rattle.cmc_x509_build.proofs.BuiltNameLaws.{name_first, alternative_values, names_found, attributes_list, names_small}

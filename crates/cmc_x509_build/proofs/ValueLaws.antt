@@ -1,11 +1,10 @@
 -- Values that are written, within the size that is read, are values of the grammar.
-use Rattle.std.proofs.Common.{◌≡◌, ◌≢◌, ℕ, zero, suc, ◌+◌, ◌%◌, ◌^◌, ◌<◌, ◌≤◌, List, [], ◌∷◌, ◌++◌, length, Option, Some, None, refl, sym, ap, ◌∙◌, arith, append_assoc, append-nil, length-append, flat_map}
+use Rattle.std.proofs.Common.{◌≡◌, ◌≢◌, ℕ, ◌%◌, ◌≤◌, List, [], ◌∷◌, ◌++◌, length, Option, Some, None, refl, sym, arith, append_assoc, append-nil, length-append, flat_map}
 use Rattle.cmc_der.specs.Values.{IsValue, BeginsWith}
 use Rattle.cmc_der.specs.Building.{value, length_octets}
 use Rattle.cmc_der.proofs.Spelled.{value_spelled, value_begins}
-use Rattle.cmc_x509.specs.declared.taking.TheConstants.{MAX_INPUT}
 use Rattle.cmc_x509.specs.Taking.{Value, BeginsOtherwise}
-use Rattle.cmc_x509.specs.Lists.{IsValues, IsValueList, FirstOf, IsListOf, or_first}
+use Rattle.cmc_x509.specs.Lists.{IsValues, IsValueList, IsListOf, or_first}
 
 -- within the size that is read
 abbrev pub IsSmall : List ℕ → Type 0

@@ -1,5 +1,5 @@
 -- Certificates that are built (RFC 5280).
-use Rattle.std.specs.Prelude.{◌≡◌, ℕ, ℤ, List, [], ◌∷◌, ◌++◌, Option, Some, None}
+use Rattle.std.specs.Prelude.{ℕ, ℤ, List, [], ◌∷◌, ◌++◌, Some}
 use Rattle.std.specs.Int.{w64, to_be_bytes}
 use Rattle.cmc_der.specs.Building.{value}
 use Rattle.cmc_der.specs.Integers.{integer_of}

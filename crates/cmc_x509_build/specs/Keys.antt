@@ -1,5 +1,4 @@
 -- Public keys that a SubjectPublicKeyInfo is built of.
-use Rattle.std.specs.Prelude.{List, ℕ}
 use Rattle.cmc_der.specs.Keys.{PublicKey, RsaKey, EcKey, OtherKey}
 use Rattle.cmc_der.specs.declared.fields.KeyKind.{KeyKind}
 use Rattle.cmc_der.specs.declared.fields.KeyKind.TheVariants.{Rsa, P256, P384, P521}

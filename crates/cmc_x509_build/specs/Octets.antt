@@ -1,5 +1,5 @@
 -- The octets that requests and certificates are built of.
-use Rattle.std.specs.Prelude.{ℕ, List, [], ◌∷◌, ◌++◌, Option, Some, None, flat_map}
+use Rattle.std.specs.Prelude.{ℕ, List, [], ◌∷◌, ◌++◌, Option, Some, None}
 use Rattle.cmc_der.specs.Building.{value}
 use Rattle.cmc_der.specs.Integers.{integer_of}
 use Rattle.cmc_der.specs.Keys.{PublicKey, RsaKey, EcKey, OtherKey}

@@ -1,8 +1,8 @@
 -- Certification requests that are built (RFC 2986).
-use Rattle.std.specs.Prelude.{◌≡◌, ℕ, List, [], ◌∷◌, ◌++◌, length, Option, Some, None, flat_map}
+use Rattle.std.specs.Prelude.{ℕ, List, [], ◌∷◌, ◌++◌, Option, Some, None, flat_map}
 use Rattle.cmc_der.specs.Building.{value}
 use Rattle.cmc_der.specs.Values.{IsValue}
-use Rattle.cmc_der.specs.Keys.{PublicKey, RequestFields, SubjectNames}
+use Rattle.cmc_der.specs.Keys.{RequestFields, SubjectNames}
 use Rattle.cmc_x509.specs.Certificates.{IsRequestInfo}
 use Rattle.cmc_x509_build.specs.declared.oids.TheConstants.{EXTENSION_REQUEST}
 use Rattle.cmc_x509_build.specs.declared.requests.NameSet.{NameSet}

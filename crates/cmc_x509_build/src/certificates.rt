@@ -30,6 +30,20 @@ pub struct CertPlan {
     pub not_after: i64,
 }
 
+impl CertPlan {
+    /// An equal plan.
+    pub fn copy(&self) -> Result<CertPlan, AllocError>
+        ensures { IfOk result (λ plan. plan ≡ self.now) }
+    {
+        Ok(CertPlan {
+            serial: self.serial,
+            issuer: self.issuer.copy()?,
+            not_before: self.not_before,
+            not_after: self.not_after,
+        })
+    }
+}
+
 fn time_octets(alloc: Global, at: i64) -> Result<Vec<u8>, AllocError>
     requires { IsCertificateTime at }
     ensures { IfOk result (λ octets. octets.items ≡ spec.time_octets at) }

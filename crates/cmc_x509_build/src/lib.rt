@@ -8,6 +8,7 @@ mod names;
 mod oids;
 mod pieces;
 mod requests;
+mod serving;
 mod signatures;
 #[cfg(test)]
 mod tests;
@@ -15,3 +16,4 @@ mod tests;
 pub use addresses::address_at;
 pub use certificates::{CertPlan, cert_body, cert_whole};
 pub use requests::{NameSet, csr_body, csr_whole};
+pub use serving::{key_file_serves, request_serves};

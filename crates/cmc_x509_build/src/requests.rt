@@ -38,6 +38,21 @@ impl Drop for NameSet {
     }
 }
 
+impl NameSet {
+    /// An equal set of names.
+    pub fn copy(&self) -> Result<NameSet, AllocError>
+        ensures { IfOk result (λ names. names ≡ self.now) }
+    {
+        Ok(NameSet {
+            common: self.common.copy()?,
+            dns: self.dns.copy()?,
+            ips: self.ips.copy()?,
+            uris: self.uris.copy()?,
+            emails: self.emails.copy()?,
+        })
+    }
+}
+
 // The GeneralNames of the set, in the order DNS names, IP addresses, URIs, email addresses.
 #[tactic(auto, unfolding(crate::specs::Requests::alternative_of))]
 fn alternative_of(alloc: Global, names: &NameSet) -> Result<Vec<u8>, AllocError>

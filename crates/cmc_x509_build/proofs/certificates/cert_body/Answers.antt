@@ -1,4 +1,4 @@
-use Rattle.std.proofs.Common.{◌≡◌, ◌≤◌, ℕ, List, length, sym, subst}
+use Rattle.std.proofs.Common.{◌≤◌, ℕ, List, length, sym, subst}
 use Rattle.std.proofs.lemmas.Result.{IfOk-weaker}
 use Rattle.cmc_der.specs.Keys.{key_shown, names_shown}
 use Rattle.cmc_x509_build.specs.Certificates.{IsCertificateBody, fields_of}

@@ -1,7 +1,6 @@
-use Rattle.std.proofs.Common.{◌≡◌, ◌≤◌, ℕ, List, length, sym, subst}
+use Rattle.std.proofs.Common.{◌≤◌, ℕ, List, length, sym, subst}
 use Rattle.std.proofs.lemmas.Result.{IfOk-weaker}
 use Rattle.cmc_x509.specs.Certificates.{IsCertificate}
-use Rattle.cmc_x509_build.specs.Octets.{signed_octets}
 use Rattle.cmc_x509_build.proofs.CertificateBuiltLaws.{certificate_is}
 use Rattle.cmc_x509_build.proofs.certificates.cert_whole.Goals as goal
 

@@ -1,7 +1,7 @@
-use Rattle.std.proofs.Common.{◌≡◌, ◌≤◌, ℕ, List, length, sym, subst}
+use Rattle.std.proofs.Common.{◌≤◌, ℕ, List, length, sym, subst}
 use Rattle.std.proofs.lemmas.Result.{IfOk-weaker}
-use Rattle.cmc_der.specs.Keys.{RequestFields, key_shown}
-use Rattle.cmc_x509_build.specs.Requests.{IsRequestBody, request_body, names_of}
+use Rattle.cmc_der.specs.Keys.{key_shown}
+use Rattle.cmc_x509_build.specs.Requests.{IsRequestBody, names_of}
 use Rattle.cmc_x509_build.proofs.RequestLaws.{built_body_is}
 use Rattle.cmc_x509_build.proofs.requests.csr_body.Goals as goal
 

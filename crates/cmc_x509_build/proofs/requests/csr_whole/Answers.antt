@@ -1,7 +1,6 @@
-use Rattle.std.proofs.Common.{◌≡◌, ◌≤◌, ℕ, List, length, sym, subst}
+use Rattle.std.proofs.Common.{◌≤◌, ℕ, List, length, sym, subst}
 use Rattle.std.proofs.lemmas.Result.{IfOk-weaker}
 use Rattle.cmc_x509.specs.Certificates.{IsRequest}
-use Rattle.cmc_x509_build.specs.Octets.{signed_octets}
 use Rattle.cmc_x509_build.proofs.RequestLaws.{request_is}
 use Rattle.cmc_x509_build.proofs.requests.csr_whole.Goals as goal
 
