@@ -1,16 +1,17 @@
 // Each type of the objects crate once, with ample memory: a copy is equal, and the printed objects have
 // every member. The expected texts follow the cert-manager.io/v1 API reference.
 use cmc_codec::value_of;
+use cmc_history::History;
 use cmc_meta::{
-    Bytes, Condition, ConditionKind, Conditions, Key, Kind, Name, Numbers, ObjectMeta, OwnerRef, Owners,
-    Pairs, Text, Texts, Tri,
+    Bytes, Condition, ConditionKind, Conditions, Key, Kind, Name, Numbers, ObjectMeta, OwnerRef,
+    Owners, Pairs, Text, Texts, Tri,
 };
 use cmc_objects::{
-    Algorithm, Call, CertSpec, CertStatus, Certificate, CertificateRequest, CsrOrder, Encoding, Entry,
-    IssuerRef, JudgeOrder, KeyOrder, KeyRow, KeyRows, KeySpec, Material, Object, Order, Parts, Reply,
-    RequestSpec, RequestStatus, Rotation, Rows, Rules, Secret, SignRow, SignRows, Signing, Step,
+    Algorithm, Call, CertSpec, CertStatus, Certificate, CertificateRequest, CsrOrder, Encoding,
+    Entry, IssuerRef, JudgeOrder, KeyOrder, KeyRow, KeyRows, KeySpec, Material, Object, Order,
+    Parts, Reply, RequestSpec, RequestStatus, Rotation, Rows, Rules, Secret, SignRow, SignRows,
+    Signing, Step,
 };
-use cmc_history::History;
 use cmc_store::Store;
 use std::alloc::Global;
 use std::process::Abort;
@@ -153,7 +154,12 @@ fn secret(alloc: Global) -> Result<Secret, Fail> {
     })
 }
 
-fn assert_printed(rt: &impl Abort, alloc: Global, object: Object, expected: &str) -> Result<(), Fail> {
+fn assert_printed(
+    rt: &impl Abort,
+    alloc: Global,
+    object: Object,
+    expected: &str,
+) -> Result<(), Fail> {
     let copy = object.copy()?;
     assert!(rt; copy.same(&object));
     let printed = value_of(alloc, &copy)?.to_string(alloc)?;
@@ -271,27 +277,62 @@ fn answers_each_call(rt: HostRuntime) -> Result<(), Fail> {
     let create = Call::Create {
         object: Object::Cert(certificate(alloc)?),
     };
-    assert!(rt; matches!(made(&mut store, alloc, &create)?, Reply::Ok { version: 1, .. }));
-    assert!(rt; matches!(made(&mut store, alloc, &create)?, Reply::AlreadyExists { have: 1 }));
+    assert!(rt;
+        matches!(
+            made(&mut store, alloc, &create)?,
+            Reply::Ok { version: 1, .. }
+        )
+    );
+    assert!(rt;
+        matches!(
+            made(&mut store, alloc, &create)?,
+            Reply::AlreadyExists { have: 1 }
+        )
+    );
     let state = Call::UpdateStatus {
         object: Object::Cert(certificate(alloc)?),
         version: 1,
     };
-    assert!(rt; matches!(made(&mut store, alloc, &state)?, Reply::Ok { version: 2, .. }));
-    assert!(rt; matches!(made(&mut store, alloc, &state)?, Reply::Conflict { named: 1, have: 2 }));
+    assert!(rt;
+        matches!(
+            made(&mut store, alloc, &state)?,
+            Reply::Ok { version: 2, .. }
+        )
+    );
+    assert!(rt;
+        matches!(
+            made(&mut store, alloc, &state)?,
+            Reply::Conflict { named: 1, have: 2 }
+        )
+    );
     let again = Call::UpdateStatus {
         object: Object::Cert(certificate(alloc)?),
         version: 2,
     };
-    assert!(rt; matches!(made(&mut store, alloc, &again)?, Reply::Unchanged { version: 2 }));
+    assert!(rt;
+        matches!(
+            made(&mut store, alloc, &again)?,
+            Reply::Unchanged { version: 2 }
+        )
+    );
     let get = Call::Get { key: web.copy()? };
     assert!(rt; matches!(made(&mut store, alloc, &get)?, Reply::Found { .. }));
-    assert!(rt; matches!(made(&mut store, alloc, &get)?, Reply::Unavailable { number: 7 }));
+    assert!(rt;
+        matches!(
+            made(&mut store, alloc, &get)?,
+            Reply::Unavailable { number: 7 }
+        )
+    );
     let gone = Call::Delete {
         key: web.copy()?,
         version: Some(2),
     };
-    assert!(rt; matches!(made(&mut store, alloc, &gone)?, Reply::Ok { version: 3, .. }));
+    assert!(rt;
+        matches!(
+            made(&mut store, alloc, &gone)?,
+            Reply::Ok { version: 3, .. }
+        )
+    );
     assert!(rt; matches!(made(&mut store, alloc, &get)?, Reply::NotFound { at: 3 }));
     assert!(rt; store.peek(&web).is_none());
     assert_eq!(rt; store.accepted(), 3);
