@@ -1,5 +1,5 @@
 -- When a controller asks for the issuance of a Certificate: the condition Issuing.
-use Rattle.std.specs.Prelude.{ℤ, Bool, false, List, ◌++◌, codes, Option, Some, None, if◌then◌else◌, int_lt}
+use Rattle.std.specs.Prelude.{ℤ, Bool, false, ◌++◌, codes, Option, Some, None, if◌then◌else◌, int_lt}
 use Rattle.cmc_meta.specs.declared.conditions.Condition.{Condition}
 use Rattle.cmc_meta.specs.declared.conditions.ConditionKind.TheVariants.{Issuing}
 use Rattle.cmc_meta.specs.declared.conditions.Tri.TheVariants.{True}
@@ -52,7 +52,7 @@ with_issuing moment reason certificate = record certificate { status = issuing_s
 unfoldable pub issue_call : ℤ → Reason → Certificate → Act
 issue_call moment reason certificate = Calls (UpdateStatus (Cert (with_issuing moment reason certificate)) certificate.meta.version)
 
--- In the back-off nothing is done: no view has a CertificateRequest yet, so none stands that the specification has outrun.
+-- In the back-off nothing is done. A CertificateRequest that the specification has outrun would end it, but none stands yet.
 abbrev pub for_reason : ℤ → Certificate → Option Reason → Act
 for_reason moment certificate None = Nothing
 for_reason moment certificate (Some reason) = if is_backing_off certificate.status moment then Nothing else issue_call moment reason certificate
