@@ -71,9 +71,9 @@ fn for_certificate(
 ///
 /// Want of memory alone.
 #[tactic(auto, unfolding(cmc_model::specs::Acts::act, cmc_model::specs::Triggering::trigger, cmc_model::specs::Triggering::HasDatedFailure))]
-pub fn act(alloc: Global, views: &Views, now: i64, _desk: &Desk) -> Result<Act, AllocError>
+pub fn act(alloc: Global, views: &Views, now: i64, desk: &Desk) -> Result<Act, AllocError>
     requires { HasDatedFailure views.now }
-    ensures { IfOk result (λ a. a ≡ acts.act Trigger views.now now _desk.now) }
+    ensures { IfOk result (λ a. a ≡ acts.act Trigger views.now now desk.now) }
 {
     match &views.certificate {
         None => Ok(Act::Nothing),
