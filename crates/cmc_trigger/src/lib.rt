@@ -7,6 +7,8 @@ mod acts;
 mod issuing;
 mod reasons;
 mod rights;
+#[cfg(test)]
+mod tests;
 
 pub use acts::act;
 pub use rights::changes_issuing_alone;
