@@ -6,3 +6,7 @@ pub mod Replies
 pub mod Histories
 pub mod Following
 pub mod Summaries
+pub mod Facts
+pub mod Triggering
+pub mod Acts
+pub mod Rights

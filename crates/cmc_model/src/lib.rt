@@ -3,6 +3,8 @@
 //! these types.
 #![tactic(auto)]
 
+mod pass;
 mod summary;
 
+pub use pass::{Act, Desk, IssuePlan, Requests, Secrets, Views};
 pub use summary::{Summary, WaitName, Waiting, Waits};
