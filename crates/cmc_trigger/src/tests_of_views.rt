@@ -1,9 +1,9 @@
 //! What no clause says: that each call has an answer where memory is ample.
-use crate::*;
 use cmc_meta::{Bytes, Conditions, Key, Kind, Name, ObjectMeta, Owners, Pairs, Text, Texts};
 use cmc_objects::{
     Call, CertificateRequest, CsrOrder, IssuerRef, Order, Parts, RequestSpec, RequestStatus, Secret,
 };
+use cmc_pass::{Act, IssuePlan, Views};
 use std::alloc::{AllocError, Global};
 use std::test::Fail;
 
