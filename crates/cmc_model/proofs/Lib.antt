@@ -2,3 +2,4 @@ pub mod SameSpecs
 pub mod Keys
 pub mod Maps
 pub mod Steps
+pub mod Writes

@@ -4,5 +4,7 @@ pub mod Stored
 pub mod Admission
 pub mod Replies
 pub mod Histories
+pub mod Writes
+pub mod Positions
 pub mod Following
 pub mod Summaries

@@ -4,5 +4,7 @@
 #![tactic(auto)]
 
 mod summary;
+mod write;
 
 pub use summary::{Summary, WaitName, Waiting, Waits};
+pub use write::Write;
