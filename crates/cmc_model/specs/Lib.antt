@@ -8,3 +8,7 @@ pub mod Writes
 pub mod Positions
 pub mod Following
 pub mod Summaries
+pub mod Facts
+pub mod Triggering
+pub mod Acts
+pub mod Rights

@@ -3,8 +3,10 @@
 //! these types.
 #![tactic(auto)]
 
+mod pass;
 mod summary;
 mod write;
 
+pub use pass::{Act, Desk, IssuePlan, Requests, Secrets, Views};
 pub use summary::{Summary, WaitName, Waiting, Waits};
 pub use write::Write;

@@ -1,10 +1,22 @@
 -- When a certificate must be issued, and why.
-use Rattle.std.specs.Prelude.{◌≡◌, Bool, not, false, if◌then◌else◌, List, [], ◌∷◌, Option, Some, None, int_lt, map}
+use Rattle.std.specs.Prelude.{◌≡◌, ℕ, codes, Bool, not, false, if◌then◌else◌, List, [], ◌∷◌, Option, Some, None, int_lt, map}
 use Rattle.cmc_policies.specs.declared.facts.Facts.{Facts}
 use Rattle.cmc_policies.specs.declared.facts.Frame.{Frame}
 use Rattle.cmc_policies.specs.declared.facts.Reason.{Reason}
 use Rattle.cmc_policies.specs.declared.facts.Reason.TheVariants.{DoesNotExist, MissingData, InvalidKeyPair, IncorrectIssuer, IncorrectCertificate, SecretMismatch, RequestChanged, Renewing, Expired}
 use Rattle.cmc_policies.specs.Renewal.{renewal}
+
+-- the name of the reason, as conditions have it
+abbrev pub reason_name : Reason → List ℕ
+reason_name DoesNotExist = codes "DoesNotExist"
+reason_name MissingData = codes "MissingData"
+reason_name InvalidKeyPair = codes "InvalidKeyPair"
+reason_name IncorrectIssuer = codes "IncorrectIssuer"
+reason_name IncorrectCertificate = codes "IncorrectCertificate"
+reason_name SecretMismatch = codes "SecretMismatch"
+reason_name RequestChanged = codes "RequestChanged"
+reason_name Renewing = codes "Renewing"
+reason_name Expired = codes "Expired"
 
 -- the reason holds of these facts, at the moment and under the renewal of the frame
 abbrev pub holds : Reason → Frame → Facts → Bool

@@ -18,6 +18,27 @@ pub enum Reason {
     Expired,
 }
 
+impl Reason {
+    ghost use Rattle.cmc_policies.specs.Reasons.{reason_name};
+
+    /// The reason's name, as the condition that gives it has it (Kubernetes API conventions: a word in CamelCase).
+    pub fn name(self) -> &'static str
+        ensures { result.now ≡ reason_name self }
+    {
+        match self {
+            Reason::DoesNotExist => "DoesNotExist",
+            Reason::MissingData => "MissingData",
+            Reason::InvalidKeyPair => "InvalidKeyPair",
+            Reason::IncorrectIssuer => "IncorrectIssuer",
+            Reason::IncorrectCertificate => "IncorrectCertificate",
+            Reason::SecretMismatch => "SecretMismatch",
+            Reason::RequestChanged => "RequestChanged",
+            Reason::Renewing => "Renewing",
+            Reason::Expired => "Expired",
+        }
+    }
+}
+
 /// What is known of a certificate's Secret. A flag that is true says that nothing is wrong.
 ///
 /// The times are those of the certificate, in seconds since 1970-01-01T00:00:00Z: the first is no later than the
