@@ -9,7 +9,8 @@ use Rattle.cmc_objects.specs.declared.entry.Step.{Step}
 use Rattle.cmc_objects.specs.declared.entry.Entry.{Entry}
 use Rattle.cmc_objects.specs.declared.entry.Entry.TheVariants.{Script, Call as Called}
 use Rattle.cmc_model.specs.Replies.{IsReply}
-use Rattle.cmc_model.specs.Histories.{Setting, moment, state, objects, IsLegal}
+use Rattle.cmc_model.specs.Histories.{Setting, moment, state, objects}
+use Rattle.cmc_model.specs.Legality.{IsLegal}
 use Rattle.cmc_model.specs.Following.{call_of, scripted, step_at, owed, Follows, IsRun}
 
 -- a step of the script, by its number
@@ -30,7 +31,7 @@ unfolding IsLegal Follows
 one_step s h n step call reply so room here makes right =
     record {
       run = record {
-        legal = (right, (tt, so.run.legal));
+        legal = ((right, tt), (tt, so.run.legal));
         follows = (
           ap (option_and_then (call_of (objects s h))) (step_found s.script n step room ∙ ap Some (sym here)) ∙ makes,
           ((so.settled, ap (λ m. m + 1) (sym so.made), omega arith), so.run.follows),

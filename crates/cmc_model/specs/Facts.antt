@@ -1,5 +1,5 @@
 -- What is known of the Secret of a Certificate, and the row of checks that say why it must be issued.
-use Rattle.std.specs.Prelude.{ℕ, ℤ, pos, Bool, true, false, ◌&&◌, not, List, [], ◌∷◌, codes, Option, Some, None}
+use Rattle.std.specs.Prelude.{ℕ, pos, Bool, true, false, ◌&&◌, List, [], ◌∷◌, codes, Option, Some, None}
 use Rattle.std.specs.Str.{bytes_eq}
 use Rattle.std.specs.Int.Signed.{≤ℤ_refl, le_z_yes}
 use Rattle.cmc_meta.specs.PairLists.{text_at}

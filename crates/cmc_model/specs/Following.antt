@@ -10,7 +10,8 @@ use Rattle.cmc_objects.specs.declared.entry.Entry.{Entry}
 use Rattle.cmc_objects.specs.declared.entry.Entry.TheVariants.{Script, Call as Called, Deliver, List as Listed, Begin, Ask, Made, Signed, Answered, Judged, End, Stop, Start, Tick}
 use Rattle.cmc_objects.specs.Objects.{key_of, version_of}
 use Rattle.cmc_model.specs.Objects.{Objects, object_at}
-use Rattle.cmc_model.specs.Histories.{Setting, objects, IsLegal}
+use Rattle.cmc_model.specs.Histories.{Setting, objects}
+use Rattle.cmc_model.specs.Legality.{IsLegal}
 
 -- an apply creates where the key is free; else, and wherever a version is named, it updates
 abbrev pub apply_call : Object → Option ℕ → Option Object → Call

@@ -1,14 +1,16 @@
 -- A history is the list of its entries, the newest first: what stood before an entry is the list below it.
 use Rattle.std.specs.Prelude.{ℕ, ℤ, ◌+◌, ◌==◌, Bool, true, false, List, [], ◌∷◌, if◌then◌else◌}
 use Rattle.std.specs.List.{list_any}
+use Rattle.cmc_meta.specs.declared.key.Key.{Key}
+use Rattle.cmc_objects.specs.declared.orders.Rules.{Rules}
+use Rattle.cmc_objects.specs.declared.rows.Rows.{Rows}
 use Rattle.cmc_objects.specs.declared.role.Role.{Role}
 use Rattle.cmc_objects.specs.declared.entry.Step.{Step}
 use Rattle.cmc_objects.specs.declared.entry.Entry.{Entry}
 use Rattle.cmc_objects.specs.declared.entry.Entry.TheVariants.{Script, Call as Called, Deliver, List as Listed, Begin, Ask, Made, Signed, Answered, Judged, End, Stop, Start, Tick}
 use Rattle.cmc_objects.specs.Roles.{role_rank}
 use Rattle.cmc_model.specs.Objects.{Objects}
-use Rattle.cmc_model.specs.Replies.{State, empty_store, IsReply, state_after}
-use Rattle.cmc_objects.specs.declared.entry.Who.TheVariants.{User, Pass}
+use Rattle.cmc_model.specs.Replies.{State, empty_store, state_after}
 
 -- what a scenario gives a run to begin with
 pub record Setting : Type 0 where
@@ -23,6 +25,9 @@ pub record Setting : Type 0 where
   pub window : ℕ
   -- the most entries that a history may have
   pub events : ℕ
+  -- what the scenario says of keys and issuers, and what its approver lets pass
+  pub material : List (Key × Rows)
+  pub rules : Rules
 
 abbrev pub moment_with : ℤ → Entry → ℤ
 moment_with before (Script step) = before
@@ -120,26 +125,3 @@ incarnation_with r n (Tick now) = n
 abbrev pub incarnation : Setting → List Entry → Role → ℕ
 incarnation s [] r = if list_any (λ role. role_eq role r) s.roles then 1 else 0
 incarnation s (e ∷ h) r = incarnation_with r (incarnation s h r) e
-
--- The reply of a call is that of the plain store. No role runs today: none is told of writes, begins a pass, stops or
--- starts, and the moment stays.
-abbrev pub IsLegalEntry : Setting → List Entry → Entry → Type 0
-IsLegalEntry s h (Script step) = Unit {0}
-IsLegalEntry s h (Called User call reply) = IsReply s.faults (state s h) call reply
-IsLegalEntry s h (Called (Pass number) call reply) = ⊥
-IsLegalEntry s h (Deliver role kind to) = ⊥
-IsLegalEntry s h (Listed role kind to) = ⊥
-IsLegalEntry s h (Begin pass role key at now) = ⊥
-IsLegalEntry s h (Ask pass order) = ⊥
-IsLegalEntry s h (Made pass key) = ⊥
-IsLegalEntry s h (Signed pass signature) = ⊥
-IsLegalEntry s h (Answered pass answer) = ⊥
-IsLegalEntry s h (Judged pass approved) = ⊥
-IsLegalEntry s h (End pass cause) = ⊥
-IsLegalEntry s h (Stop role) = ⊥
-IsLegalEntry s h (Start role at) = ⊥
-IsLegalEntry s h (Tick now) = ⊥
-
-unfoldable pub IsLegal : Setting → List Entry → Type 0
-IsLegal s [] = Unit {0}
-IsLegal s (e ∷ h) = IsLegalEntry s h e × IsLegal s h

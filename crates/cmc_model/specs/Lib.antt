@@ -6,6 +6,11 @@ pub mod Replies
 pub mod Histories
 pub mod Writes
 pub mod Positions
+pub mod Viewing
+pub mod Desks
+pub mod Passes
+pub mod Legality
+pub mod Causes
 pub mod Following
 pub mod Summaries
 pub mod Facts

@@ -4,9 +4,11 @@
 #![tactic(auto)]
 
 mod pass;
+mod progress;
 mod summary;
 mod write;
 
 pub use pass::{Act, Desk, IssuePlan, Requests, Secrets, Views};
+pub use progress::{Ending, LastPass, Obstacle, OpenPass, Past, Stage};
 pub use summary::{Summary, WaitName, Waiting, Waits};
 pub use write::Write;
