@@ -11,7 +11,10 @@ pub mod Desks
 pub mod Passes
 pub mod Legality
 pub mod Causes
+pub mod Scripting
+pub mod Resting
 pub mod Following
+pub mod Runs
 pub mod Summaries
 pub mod Facts
 pub mod Triggering
