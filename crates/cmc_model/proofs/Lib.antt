@@ -3,3 +3,4 @@ pub mod Keys
 pub mod Maps
 pub mod Steps
 pub mod Writes
+pub mod Positions
