@@ -1,13 +1,18 @@
 -- The readings of single values. A value of another type fails at the value itself.
-use Rattle.std.specs.Prelude.{ℕ, List, [], ◌∷◌, ◌++◌, ◌+◌, ◌^◌, decimal, Bool, not, ◌&&◌, ◌||◌, ◌==◌, if◌then◌else◌, nat_lt, nat_le, length, slice_index, Ok, Err, Some, None, option_and_then}
+use Rattle.std.specs.Prelude.{ℕ, List, [], ◌∷◌, ◌++◌, ◌+◌, ◌^◌, codes, decimal, Bool, not, ◌&&◌, ◌||◌, ◌==◌, if◌then◌else◌, nat_lt, nat_le, length, slice_index, Ok, Err, Some, None, option_and_then}
 use Rattle.std.specs.declared.option.Option.{Option}
 use Rattle.std.specs.Char.{is_ascii_digit}
 use Rattle.std.specs.List.{list_all}
 use Rattle.std.specs.Str.{bytes_eq}
 use Rattle.std.specs.Str.Parse.{digits_value}
+use Rattle.std.specs.declared.result.Result.{Result}
+use Rattle.base64.specs.Engines.{standard}
+use Rattle.base64.specs.GeneralPurpose.{decode_of}
+use Rattle.base64.specs.declared.decode.DecodeError.{DecodeError}
 use Rattle.serde_json.specs.Data.{Data, null, boolean, number, string, array, object, Items, no_items, item, Members, no_members, member}
 use Rattle.serde_json.specs.Find.{as_bool, as_number, as_str, as_u64, is_float}
 use Rattle.cmc_meta.specs.Names.{is_subdomain}
+use Rattle.cmc_meta.specs.PairLists.{with_text}
 use Rattle.cmc_codec.specs.Reading.{Read, Check, ◌>>=◌, under}
 
 -- The value that was found, if any.
@@ -78,6 +83,32 @@ texts_at (boolean b) = Err []
 texts_at (number n) = Err []
 texts_at (string s) = Err []
 texts_at (object ms) = Err []
+
+abbrev pub decoded : Result (List ℕ) DecodeError → Read (List ℕ)
+decoded (Ok bytes) = Ok bytes
+decoded (Err e) = Err []
+
+-- Bytes written as standard base64 with padding (RFC 4648), strictly: no other text of them is read.
+abbrev pub bytes_at : Data → Read (List ℕ)
+bytes_at d = text_at d >>= (λ t. decoded (decode_of standard t))
+
+-- An entry of a Secret's data. A certificate is not read yet: its entry fails, whatever it holds.
+abbrev pub part_at : List ℕ → Data → Read (List ℕ)
+part_at name d = if bytes_eq name (codes "tls.crt") then Err [] else bytes_at d
+
+-- The data with the bytes of each member put under its name, one after another.
+abbrev pub parts_with : List (List ℕ × List ℕ) → Members → Read (List (List ℕ × List ℕ))
+parts_with parts no_members = Ok parts
+parts_with parts (member name d ms) = under name (part_at name d) >>= (λ bytes. parts_with (with_text parts name bytes) ms)
+
+-- A Secret's data: an object of names to bytes.
+abbrev pub parts_at : Data → Read (List (List ℕ × List ℕ))
+parts_at (object ms) = parts_with [] ms
+parts_at null = Err []
+parts_at (boolean b) = Err []
+parts_at (number n) = Err []
+parts_at (string s) = Err []
+parts_at (array ds) = Err []
 
 -- No number in the value is kept as a float: the first that is fails at its own path.
 abbrev mutual

@@ -5,6 +5,7 @@
 //! missing one and one that fails come out at their places.
 #![tactic(auto)]
 
+mod contents;
 mod cursor;
 mod error;
 mod floats;
@@ -18,6 +19,7 @@ mod values;
 mod wording;
 mod words;
 
+pub use contents::{bytes, parts};
 pub use cursor::{Fields, at, check_end, fields, optional, required};
 pub use error::BadField;
 pub use floats::check_floats;

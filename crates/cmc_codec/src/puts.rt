@@ -268,12 +268,7 @@ pub fn put_flag(
 }
 
 /// Puts a moment, in seconds since 1970-01-01T00:00:00Z.
-pub fn put_time(
-    members: &mut Members,
-    alloc: Global,
-    name: &str,
-    at: i64,
-) -> Result<(), AllocError>
+pub fn put_time(members: &mut Members, alloc: Global, name: &str, at: i64) -> Result<(), AllocError>
     ensures { OnOk result (members_of members.new ≡ put name.now (moment_tree at) (members_of members.old)) }
 {
     let text = moment_word(alloc, at)?;

@@ -7,7 +7,7 @@ use Rattle.cmc_objects.specs.declared.entry.Step.{Step}
 use Rattle.cmc_objects.specs.declared.entry.Step.TheVariants.{Delete}
 use Rattle.cmc_codec.specs.Reading.{Read, ◌>>=◌, under, Field, fields_at, optional_at, required_at, at_end}
 use Rattle.cmc_codec.specs.Readers.{count_at}
-use Rattle.cmc_scenario.specs.Certificates.{passes, text_member, applied_at}
+use Rattle.cmc_scenario.specs.Applied.{passes, text_member, applied_at}
 use Rattle.cmc_scenario.specs.Keys.{key_at}
 
 -- `apply` has an object.

@@ -4,9 +4,12 @@
 //! members in byte order of their names, a missing member at its place, a list's items in order.
 #![tactic(auto)]
 
+mod applied;
 mod certificate;
 mod key;
+mod metadata;
 mod scenario;
+mod secret;
 mod step;
 mod steps;
 

@@ -5,7 +5,7 @@ ghost use Rattle.cmc_codec.specs.Reading.{Gives};
 ghost use Rattle.cmc_codec.specs.Seen.{shown, shown_option};
 ghost use Rattle.cmc_scenario.specs.Scripts.{apply_in, named_version_at, delete_in, stray_in, is_later_word, step_in, step_at};
 
-use crate::certificate::{applied, member, pass};
+use crate::applied::{applied, member, pass};
 use crate::key::key;
 use cmc_codec::{BadField, Fields, at, check_end, count, fields, optional, required};
 use cmc_meta::Text;

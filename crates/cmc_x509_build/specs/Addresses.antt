@@ -15,7 +15,8 @@ has_dot text = list_any (λ byte. byte == 46) text
 abbrev pub IsAddress : List ℕ → List ℕ → Type 0
 IsAddress text octets =
     IsDotted text octets
-    ⊎ ((segments : List ℕ) × IsColonHex text segments × (has_dot text ≡ false) × (octets ≡ octets_of segments))
+    ⊎ ((segments : List ℕ) × IsColonHex text segments × (has_dot text ≡ false)
+    × (octets ≡ octets_of segments))
 
 -- the octets of an address
 abbrev pub octets_of_address : IpAddr → List ℕ

@@ -56,4 +56,5 @@ certificate_body issuer fields =
 
 -- the octets are a TBSCertificate with these fields
 abbrev pub IsCertificateBody : List ℕ → CertificateFields → Type 0
-IsCertificateBody octets fields = (contents : List ℕ) × IsValue octets 48 contents × IsTbsCertificate contents fields
+IsCertificateBody octets fields =
+    (contents : List ℕ) × IsValue octets 48 contents × IsTbsCertificate contents fields

@@ -25,7 +25,8 @@ names_of names = record { common = common_of names.common; alternative = alterna
 -- the attributes: extensionRequest (RFC 2985, 5.4.2) with the alternative names, where there are any
 abbrev pub attributes_of : List ℕ → List ℕ
 attributes_of [] = []
-attributes_of (b ∷ bs) = value 48 (value 6 EXTENSION_REQUEST ++ value 49 (value 48 (alternative_extension (b ∷ bs))))
+attributes_of (b ∷ bs) =
+    value 48 (value 6 EXTENSION_REQUEST ++ value 49 (value 48 (alternative_extension (b ∷ bs))))
 
 -- CertificationRequestInfo of version 0
 unfoldable pub request_body : RequestFields → List ℕ

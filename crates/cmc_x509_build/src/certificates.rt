@@ -132,6 +132,10 @@ fn built(
 /// Within the size that is read, the octets are read as the body of a certificate with these fields, where the key is
 /// an RSA or an elliptic curve key of a SubjectPublicKeyInfo, the request's alternative names are values, and the
 /// validity does not end before it begins.
+///
+/// # Errors
+///
+/// Where there is no memory, or a value would have contents of more than 2^30 octets.
 pub fn cert_body(
     alloc: Global,
     plan: &CertPlan,
@@ -153,6 +157,10 @@ pub fn cert_body(
 /// Certificate (RFC 5280, 4.1): the body, the algorithm ecdsa-with-SHA256, and the signature.
 ///
 /// Within the size that is read, the octets are read as a certificate with the fields of the body.
+///
+/// # Errors
+///
+/// Where there is no memory, or a value would have contents of more than 2^30 octets.
 pub fn cert_whole(alloc: Global, body: &[u8], signature: &[u8]) -> Result<Bytes, AllocError>
     ensures octets { IfOk result (λ whole. whole ≡ signed_octets body.now signature.now) }
     ensures is_read { IfOk result (λ whole. (fields : CertificateFields)

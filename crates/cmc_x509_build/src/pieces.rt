@@ -6,7 +6,8 @@ ghost use Rattle.cmc_der.specs.Integers.{integer_of};
 use cmc_der::Writer;
 use std::alloc::{AllocError, Global};
 
-// No value is built of more octets. What is handed in with the leave of the callers' contracts stays far below.
+// No value is built of more octets, so that a Writer always has room for it: a longer one answers as if there
+// were no memory. Certificates and requests of that size are read by nobody.
 const MOST: usize = 1 << 30;
 
 /// The value with this tag and these contents octets.

@@ -115,6 +115,10 @@ fn built(alloc: Global, key: &Spki<'_>, names: &NameSet) -> Result<Bytes, AllocE
 ///
 /// Within the size that is read, the octets are read as the body of a request with this key and these names, where
 /// the key is an RSA or an elliptic curve key of a SubjectPublicKeyInfo.
+///
+/// # Errors
+///
+/// Where there is no memory, or a value would have contents of more than 2^30 octets.
 pub fn csr_body(alloc: Global, key: &Spki<'_>, names: &NameSet) -> Result<Bytes, AllocError>
     ensures octets { IfOk result (λ body. body
         ≡ spec.request_body (record { key = key_shown key.now; names = spec.names_of names.now })) }
@@ -127,6 +131,10 @@ pub fn csr_body(alloc: Global, key: &Spki<'_>, names: &NameSet) -> Result<Bytes,
 /// CertificationRequest (RFC 2986, 4.2): the body, the algorithm ecdsa-with-SHA256, and the signature.
 ///
 /// Within the size that is read, the octets are read as a request with the fields of the body.
+///
+/// # Errors
+///
+/// Where there is no memory, or a value would have contents of more than 2^30 octets.
 pub fn csr_whole(alloc: Global, body: &[u8], signature: &[u8]) -> Result<Bytes, AllocError>
     ensures octets { IfOk result (λ whole. whole ≡ signed_octets body.now signature.now) }
     ensures is_read { IfOk result (λ whole. (fields : RequestFields) → spec.IsRequestBody body.now fields

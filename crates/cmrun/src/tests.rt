@@ -8,7 +8,8 @@ use std::process::Abort;
 use std::test::Fail;
 
 /// The Certificate that `@` stands for in the rows.
-const WEB: &str = r#"{"apiVersion":"cert-manager.io/v1","kind":"Certificate","metadata":{"name":"web","namespace":"default"},"spec":{"dnsNames":["example.com"],"issuerRef":{"name":"ca"},"privateKey":{"algorithm":"ECDSA"},"secretName":"web-tls"}}"#;
+const WEB: &str =
+    r#"{"apiVersion":"cert-manager.io/v1","kind":"Certificate","metadata":{"name":"web","namespace":"default"},"spec":{"dnsNames":["example.com"],"issuerRef":{"name":"ca"},"privateKey":{"algorithm":"ECDSA"},"secretName":"web-tls"}}"#;
 
 /// A scenario that is read.
 const GOOD: &str = r#"{"roles":[],"script":[{"do":"apply","object":@}]}"#;
@@ -137,6 +138,24 @@ fn writes_the_worked_rows(rt: HostRuntime) -> Result<(), Fail> {
 }
 
 #[test]
+fn writes_a_run_of_secrets(rt: HostRuntime) -> Result<(), Fail> {
+    // The type of an applied Secret is Opaque, and its namespace the default one.
+    assert_written(
+        &rt,
+        rt.alloc(),
+        r#"{"roles":[],"script":[{"do":"apply","object":{"apiVersion":"v1","data":{"tls.key":"AAAA"},"kind":"Secret","metadata":{"name":"web-tls"}}},{"do":"delete","key":"Secret/default/web-tls","version":2}]}"#,
+        r#"{"scenario":{"roles":[],"script":[{"do":"apply","object":{"apiVersion":"v1","data":{"tls.key":"AAAA"},"kind":"Secret","metadata":{"name":"web-tls"}}},{"do":"delete","key":"Secret/default/web-tls","version":2}]}}
+{"is":"script","n":1,"step":1}
+{"call":"create","is":"call","key":"Secret/default/web-tls","n":2,"object":{"apiVersion":"v1","data":{"tls.key":"AAAA"},"kind":"Secret","metadata":{"name":"web-tls","namespace":"default"},"type":"Opaque"},"reply":{"name":"web-tls","ok":1},"who":"user"}
+{"is":"script","n":3,"step":2}
+{"call":"delete","is":"call","key":"Secret/default/web-tls","n":4,"reply":{"conflict":{"have":1,"named":2}},"version":2,"who":"user"}
+{"summary":{"certificates":0,"ready":0,"secrets":1,"waiting":[]}}
+"#,
+    )?;
+    Ok(())
+}
+
+#[test]
 fn answers_an_old_version_with_a_conflict(rt: HostRuntime) -> Result<(), Fail> {
     let alloc = rt.alloc();
     let versioned =
@@ -157,7 +176,23 @@ fn answers_an_old_version_with_a_conflict(rt: HostRuntime) -> Result<(), Fail> {
 }
 
 /// Whole inputs, each with the path that fails first, or its end.
-const WHOLE: [(&str, &str); 18] = [
+const WHOLE: [(&str, &str); 22] = [
+    (
+        r#"{"roles":[],"script":[{"do":"apply","object":{"apiVersion":"v1","data":{"a":"AAA"},"kind":"Secret","metadata":{"name":"s"}}}]}"#,
+        "script.0.object.data.a",
+    ),
+    (
+        r#"{"roles":[],"script":[{"do":"apply","object":{"apiVersion":"v1","data":{"tls.crt":"AAAA"},"kind":"Secret","metadata":{"name":"s"}}}]}"#,
+        "script.0.object.data.tls.crt",
+    ),
+    (
+        r#"{"roles":[],"script":[{"do":"apply","object":{"apiVersion":"v1","kind":"Secret","metadata":{"name":"s"},"type":"Opaque"}}]}"#,
+        "script.0.object.type",
+    ),
+    (
+        r#"{"roles":[],"script":[{"do":"apply","object":{"apiVersion":"v1","kind":"ConfigMap"}}]}"#,
+        "script.0.object.kind",
+    ),
     ("{}", "roles"),
     (r#"{"x":1}"#, "x"),
     ("[]", ""),
@@ -170,12 +205,27 @@ const WHOLE: [(&str, &str); 18] = [
     (r#"{"roles":[],"script":[5]}"#, "script.0"),
     (r#"{"roles":[],"script":[{"a":1,"do":"x"}]}"#, "script.0.a"),
     (r#"{"roles":[],"script":[{"DO":1}]}"#, "script.0.DO"),
-    (r#"{"roles":[],"script":[{"certificate":5,"do":"x"}]}"#, "script.0.do"),
-    (r#"{"roles":[],"script":[{"certificate":{"b":[0,1e3]},"do":"x"}]}"#, "script.0.certificate.b.1"),
-    (r#"{"roles":[],"script":[{"do":"delete","key":"Certificate/default"}]}"#, "script.0.key"),
-    (r#"{"roles":[],"script":[{"do":"delete","key":"Secret/a/b","version":-1}]}"#, "script.0.version"),
+    (
+        r#"{"roles":[],"script":[{"certificate":5,"do":"x"}]}"#,
+        "script.0.do",
+    ),
+    (
+        r#"{"roles":[],"script":[{"certificate":{"b":[0,1e3]},"do":"x"}]}"#,
+        "script.0.certificate.b.1",
+    ),
+    (
+        r#"{"roles":[],"script":[{"do":"delete","key":"Certificate/default"}]}"#,
+        "script.0.key",
+    ),
+    (
+        r#"{"roles":[],"script":[{"do":"delete","key":"Secret/a/b","version":-1}]}"#,
+        "script.0.version",
+    ),
     (r#"{"roles":[],"roles":[]}"#, "done"),
-    (r#"{"roles":[],"script":[{"do":"delete","key":"CertificateRequest/a/b","version":18446744073709551615}]}"#, "done"),
+    (
+        r#"{"roles":[],"script":[{"do":"delete","key":"CertificateRequest/a/b","version":18446744073709551615}]}"#,
+        "done",
+    ),
 ];
 
 /// Edits of the good scenario: what is replaced, by what, and which path of the object then fails
@@ -187,12 +237,24 @@ const EDITS: [(&str, &str, &str); 18] = [
     (r#""namespace""#, r#""uid":1,"namespace""#, "metadata.uid"),
     (r#""web""#, r#""Web""#, "metadata.name"),
     (r#""default""#, "5", "metadata.namespace"),
-    (r#""default""#, r#""default","resourceVersion":"01""#, "metadata.resourceVersion"),
+    (
+        r#""default""#,
+        r#""default","resourceVersion":"01""#,
+        "metadata.resourceVersion",
+    ),
     (r#"["example.com"]"#, "[]", "spec.dnsNames"),
     (r#"["example.com"]"#, r#"["a",5]"#, "spec.dnsNames.1"),
-    (r#"["example.com"]"#, r#"["a","b","c","d","e","f","g","h","i","j","k"]"#, "spec.dnsNames.10"),
+    (
+        r#"["example.com"]"#,
+        r#"["a","b","c","d","e","f","g","h","i","j","k"]"#,
+        "spec.dnsNames.10",
+    ),
     (r#""example.com""#, r#""\u007f""#, "spec.dnsNames.0"),
-    (r#""name":"ca""#, r#""kind":"Issuer","name":"ca""#, "spec.issuerRef.kind"),
+    (
+        r#""name":"ca""#,
+        r#""kind":"Issuer","name":"ca""#,
+        "spec.issuerRef.kind",
+    ),
     (r#""ECDSA""#, r#""Ed25519""#, "spec.privateKey.algorithm"),
     (r#""web-tls""#, r#""web""#, "spec.secretName"),
     (r#""web-tls""#, "1.5", "spec.secretName"),

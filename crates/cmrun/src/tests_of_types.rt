@@ -1,15 +1,18 @@
 // Each type of the objects crate once, with ample memory: a copy is equal, and the printed objects have
 // every member. The expected texts follow the cert-manager.io/v1 API reference.
 use cmc_codec::value_of;
+use cmc_history::History;
 use cmc_meta::{
-    Bytes, Condition, ConditionKind, Conditions, Key, Kind, Name, ObjectMeta, OwnerRef, Owners, Pairs,
-    Text, Texts, Tri,
+    Bytes, Condition, ConditionKind, Conditions, Key, Kind, Name, Numbers, ObjectMeta, OwnerRef,
+    Owners, Pairs, Text, Texts, Tri,
 };
 use cmc_objects::{
     Algorithm, Call, CertSpec, CertStatus, Certificate, CertificateRequest, CsrOrder, Encoding,
-    IssuerRef, JudgeOrder, KeyOrder, KeyRow, KeySpec, Object, Order, Parts, RequestSpec, RequestStatus,
-    Rotation, Rules, Secret, SignRow, Signing, Step,
+    Entry, IssuerRef, JudgeOrder, KeyOrder, KeyRow, KeyRows, KeySpec, Material, Object, Order,
+    Parts, Reply, RequestSpec, RequestStatus, Rotation, Rows, Rules, Secret, SignRow, SignRows,
+    Signing, Step,
 };
+use cmc_store::Store;
 use std::alloc::Global;
 use std::process::Abort;
 use std::test::Fail;
@@ -151,7 +154,12 @@ fn secret(alloc: Global) -> Result<Secret, Fail> {
     })
 }
 
-fn assert_printed(rt: &impl Abort, alloc: Global, object: Object, expected: &str) -> Result<(), Fail> {
+fn assert_printed(
+    rt: &impl Abort,
+    alloc: Global,
+    object: Object,
+    expected: &str,
+) -> Result<(), Fail> {
     let copy = object.copy()?;
     assert!(rt; copy.same(&object));
     let printed = value_of(alloc, &copy)?.to_string(alloc)?;
@@ -240,5 +248,140 @@ fn copies_are_equal(rt: HostRuntime) -> Result<(), Fail> {
         row,
     };
     assert!(rt; matches!(step.copy()?, Step::Answer { revision: 1, .. }));
+    Ok(())
+}
+
+fn key(alloc: Global, kind: Kind, word: &str) -> Result<Key, Fail> {
+    Ok(Key {
+        kind,
+        namespace: name(alloc, "default")?,
+        name: name(alloc, word)?,
+    })
+}
+
+/// Makes a call on a store that has room for more.
+fn made(store: &mut Store, alloc: Global, call: &Call) -> Result<Reply, Fail> {
+    if store.calls() >= 1_000 {
+        return Err(Fail::from("too many calls"));
+    }
+    Ok(store.call(alloc, 0, call)?.reply)
+}
+
+#[test]
+fn answers_each_call(rt: HostRuntime) -> Result<(), Fail> {
+    let alloc = rt.alloc();
+    let mut faults = Numbers::new(alloc);
+    faults.push(7)?;
+    let mut store = Store::new(alloc, faults);
+    let web = key(alloc, Kind::Certificate, "web")?;
+    let create = Call::Create {
+        object: Object::Cert(certificate(alloc)?),
+    };
+    assert!(rt;
+        matches!(
+            made(&mut store, alloc, &create)?,
+            Reply::Ok { version: 1, .. }
+        )
+    );
+    assert!(rt;
+        matches!(
+            made(&mut store, alloc, &create)?,
+            Reply::AlreadyExists { have: 1 }
+        )
+    );
+    let state = Call::UpdateStatus {
+        object: Object::Cert(certificate(alloc)?),
+        version: 1,
+    };
+    assert!(rt;
+        matches!(
+            made(&mut store, alloc, &state)?,
+            Reply::Ok { version: 2, .. }
+        )
+    );
+    assert!(rt;
+        matches!(
+            made(&mut store, alloc, &state)?,
+            Reply::Conflict { named: 1, have: 2 }
+        )
+    );
+    let again = Call::UpdateStatus {
+        object: Object::Cert(certificate(alloc)?),
+        version: 2,
+    };
+    assert!(rt;
+        matches!(
+            made(&mut store, alloc, &again)?,
+            Reply::Unchanged { version: 2 }
+        )
+    );
+    let get = Call::Get { key: web.copy()? };
+    assert!(rt; matches!(made(&mut store, alloc, &get)?, Reply::Found { .. }));
+    assert!(rt;
+        matches!(
+            made(&mut store, alloc, &get)?,
+            Reply::Unavailable { number: 7 }
+        )
+    );
+    let gone = Call::Delete {
+        key: web.copy()?,
+        version: Some(2),
+    };
+    assert!(rt;
+        matches!(
+            made(&mut store, alloc, &gone)?,
+            Reply::Ok { version: 3, .. }
+        )
+    );
+    assert!(rt; matches!(made(&mut store, alloc, &get)?, Reply::NotFound { at: 3 }));
+    assert!(rt; store.peek(&web).is_none());
+    assert_eq!(rt; store.accepted(), 3);
+    assert_eq!(rt; store.calls(), 9);
+    Ok(())
+}
+
+#[test]
+fn keeps_lists_and_maps(rt: HostRuntime) -> Result<(), Fail> {
+    let alloc = rt.alloc();
+    let mut conditions = conditions(alloc)?;
+    conditions.set(Condition {
+        kind: ConditionKind::Approved,
+        status: Tri::True,
+        reason: text(alloc, "again")?,
+        message: text(alloc, "")?,
+        since: 5,
+    })?;
+    let kept = conditions.get(ConditionKind::Approved).ok_or("none")?.since;
+    assert_eq!(rt; kept, 1_893_456_000);
+    conditions.renew(Condition {
+        kind: ConditionKind::Approved,
+        status: Tri::True,
+        reason: text(alloc, "again")?,
+        message: text(alloc, "")?,
+        since: 5,
+    })?;
+    let moved = conditions.get(ConditionKind::Approved).ok_or("none")?.since;
+    assert_eq!(rt; moved, 5);
+    assert!(rt; conditions.get(ConditionKind::Denied).is_none());
+    let web = key(alloc, Kind::Certificate, "web")?;
+    let mut keys = KeyRows::new(alloc);
+    keys.push(KeyRow::Default)?;
+    let mut material = Material::new(alloc);
+    material.set(
+        web.copy()?,
+        Rows {
+            keys,
+            replies: SignRows::new(alloc),
+        },
+    )?;
+    assert!(rt; material.get(&web).is_some());
+    material.remove(&web);
+    assert!(rt; material.get(&web).is_none());
+    let mut history = History::new(alloc);
+    history.reserve(1)?;
+    history.push(Entry::Script { step: 1 });
+    assert_eq!(rt; history.len(), 1);
+    assert!(rt; history.entry(0).is_none());
+    assert!(rt; matches!(history.entry(1), Some(Entry::Script { step: 1 })));
     Ok(())
 }
