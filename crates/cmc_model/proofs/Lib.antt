@@ -4,3 +4,4 @@ pub mod Maps
 pub mod Steps
 pub mod Writes
 pub mod Positions
+pub mod OneKey

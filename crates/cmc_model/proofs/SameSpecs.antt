@@ -16,7 +16,7 @@ use Rattle.cmc_objects.specs.declared.certificate.CertSpec.{CertSpec}
 use Rattle.cmc_objects.specs.declared.request.RequestSpec.{RequestSpec}
 use Rattle.cmc_model.specs.Specs.{option_eq, number_eq, flag_eq, texts_eq, algorithm_eq, encoding_eq, rotation_eq, issuer_eq, key_spec_eq, cert_spec_eq, request_spec_eq}
 
-and-Decides : {P Q : Type 0} (a b : Bool) → Decides a P → Decides b Q → Decides (a && b) (P × Q)
+pub and-Decides : {P Q : Type 0} (a b : Bool) → Decides a P → Decides b Q → Decides (a && b) (P × Q)
 and-Decides true true p q = (λ h. (p.0 refl, q.0 refl), λ h. refl)
 and-Decides true false p q = (λ h. absurd (cc), λ h. q.1 h.1)
 and-Decides false b p q = (λ h. absurd (cc), λ h. p.1 h.0)

@@ -6,6 +6,7 @@ use Rattle.cmc_meta.specs.declared.conditions.ConditionKind.TheVariants.{Issuing
 use Rattle.cmc_meta.specs.ConditionLists.{condition_rank}
 use Rattle.cmc_objects.specs.declared.certificate.Certificate.{Certificate}
 use Rattle.cmc_objects.specs.declared.object.Object.{Object}
+use Rattle.cmc_model.specs.declared.pass.Views.{Views}
 use Rattle.cmc_objects.specs.declared.object.Object.TheVariants.{Cert, Request, Secret}
 
 -- the conditions but that of this kind
@@ -34,3 +35,11 @@ abbrev pub TriggerMay : Option Object → Option Object → Type 0
 TriggerMay None new = ⊥
 TriggerMay (Some old) None = ⊥
 TriggerMay (Some old) (Some new) = TriggerMayObject old new
+
+-- the Certificate that a role sees, as an object
+abbrev pub seen_object : Option Certificate → Option Object
+seen_object None = None
+seen_object (Some certificate) = Some (Cert certificate)
+
+abbrev pub seen : Views → Option Object
+seen views = seen_object views.certificate

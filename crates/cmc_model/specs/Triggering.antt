@@ -52,7 +52,7 @@ with_issuing moment reason certificate = record certificate { status = issuing_s
 unfoldable pub issue_call : ℤ → Reason → Certificate → Act
 issue_call moment reason certificate = Calls (UpdateStatus (Cert (with_issuing moment reason certificate)) certificate.meta.version)
 
--- In the back-off nothing is done: no view has a CertificateRequest yet, so none stands that the specification has outrun.
+-- In the back-off nothing is done. A CertificateRequest that the specification has outrun would end it, but none stands yet.
 abbrev pub for_reason : ℤ → Certificate → Option Reason → Act
 for_reason moment certificate None = Nothing
 for_reason moment certificate (Some reason) = if is_backing_off certificate.status moment then Nothing else issue_call moment reason certificate

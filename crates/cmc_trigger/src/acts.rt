@@ -1,0 +1,82 @@
+//! The act, by the first line of its table that fits.
+ghost use Rattle.std.specs.Prelude.{◌≡◌, IfOk};
+ghost use Rattle.cmc_objects.specs.declared.role.Role.TheVariants.{Trigger};
+ghost use Rattle.cmc_model.specs.Acts as acts;
+ghost use Rattle.cmc_model.specs.Triggering as spec;
+ghost use Rattle.cmc_model.specs.Triggering.{IsDatedOption, HasDatedFailure};
+
+use crate::issuing::{is_issuing, issue_call};
+use crate::reasons::reason_for;
+use cmc_objects::{CertStatus, Certificate, Secret};
+use cmc_pass::{Act, Desk, Views};
+use cmc_policies::{Frame, Reason, backoff_until};
+use std::alloc::{AllocError, Global};
+
+fn is_backing_off(status: &CertStatus, moment: i64) -> bool
+    requires { IsDatedOption status.now.last_failure }
+    ensures { result ≡ spec.is_backing_off status.now moment }
+{
+    match status.last_failure {
+        None => false,
+        Some(last) => moment < backoff_until(last, status.attempts),
+    }
+}
+
+fn for_reason(
+    alloc: Global,
+    moment: i64,
+    certificate: &Certificate,
+    reason: Option<Reason>,
+) -> Result<Act, AllocError>
+    requires { IsDatedOption certificate.now.status.last_failure }
+    ensures { IfOk result (λ a. a ≡ spec.for_reason moment certificate.now reason) }
+{
+    let Some(reason) = reason else {
+        return Ok(Act::Nothing);
+    };
+    if is_backing_off(&certificate.status, moment) {
+        return Ok(Act::Nothing);
+    }
+    issue_call(alloc, moment, reason, certificate)
+}
+
+#[tactic(auto, unfolding(cmc_model::specs::Triggering::for_certificate))]
+fn for_certificate(
+    alloc: Global,
+    moment: i64,
+    secret: &Option<Secret>,
+    certificate: &Certificate,
+) -> Result<Act, AllocError>
+    requires { IsDatedOption certificate.now.status.last_failure }
+    ensures { IfOk result (λ a. a ≡ spec.for_certificate moment secret.now certificate.now) }
+{
+    if is_issuing(certificate.status.conditions.as_slice()) {
+        return Ok(Act::Nothing);
+    }
+    let frame = Frame {
+        now: moment,
+        renew: certificate.spec.renew_before,
+    };
+    let reason = reason_for(alloc, frame, secret)?;
+    for_reason(alloc, moment, certificate, reason)
+}
+
+/// What the controller does on these views at the moment `now`, in seconds since 1970-01-01T00:00:00Z.
+///
+/// It does nothing where there is no Certificate or its condition Issuing is True, where no reason holds, and
+/// where `now` lies in the back-off after a failure. Else it writes the status with Issuing True and the reason,
+/// at the version of the Certificate that it sees; all else stays as it is seen.
+///
+/// # Errors
+///
+/// Want of memory alone.
+#[tactic(auto, unfolding(cmc_model::specs::Acts::act, cmc_model::specs::Triggering::trigger, cmc_model::specs::Triggering::HasDatedFailure))]
+pub fn act(alloc: Global, views: &Views, now: i64, desk: &Desk) -> Result<Act, AllocError>
+    requires { HasDatedFailure views.now }
+    ensures { IfOk result (λ a. a ≡ acts.act Trigger views.now now desk.now) }
+{
+    match &views.certificate {
+        None => Ok(Act::Nothing),
+        Some(certificate) => for_certificate(alloc, now, &views.secret, certificate),
+    }
+}

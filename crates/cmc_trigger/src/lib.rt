@@ -1,0 +1,12 @@
+//! The controller that decides when a Certificate must be issued: it sets the condition Issuing.
+//!
+//! Its checks stand in a row of stored closures.
+#![tactic(auto)]
+
+mod acts;
+mod issuing;
+mod reasons;
+mod rights;
+
+pub use acts::act;
+pub use rights::changes_issuing_alone;
