@@ -5,3 +5,5 @@ pub mod Steps
 pub mod Writes
 pub mod Positions
 pub mod OneKey
+pub mod Stored
+pub mod Versions

@@ -20,3 +20,4 @@ pub mod Facts
 pub mod Triggering
 pub mod Acts
 pub mod Rights
+pub mod Versions
