@@ -2,4 +2,8 @@ pub mod SameSpecs
 pub mod Keys
 pub mod Maps
 pub mod Steps
+pub mod Writes
+pub mod Positions
 pub mod OneKey
+pub mod Stored
+pub mod Versions

@@ -1,11 +1,16 @@
 -- A history is the list of its entries, the newest first: what stood before an entry is the list below it.
-use Rattle.std.specs.Prelude.{ℕ, ℤ, List, [], ◌∷◌}
-use Rattle.cmc_objects.specs.declared.entry.Who.TheVariants.{User, Pass}
+use Rattle.std.specs.Prelude.{ℕ, ℤ, ◌+◌, ◌==◌, Bool, true, false, List, [], ◌∷◌, if◌then◌else◌}
+use Rattle.std.specs.List.{list_any}
+use Rattle.cmc_meta.specs.declared.key.Key.{Key}
+use Rattle.cmc_objects.specs.declared.orders.Rules.{Rules}
+use Rattle.cmc_objects.specs.declared.rows.Rows.{Rows}
+use Rattle.cmc_objects.specs.declared.role.Role.{Role}
 use Rattle.cmc_objects.specs.declared.entry.Step.{Step}
 use Rattle.cmc_objects.specs.declared.entry.Entry.{Entry}
 use Rattle.cmc_objects.specs.declared.entry.Entry.TheVariants.{Script, Call as Called, Deliver, List as Listed, Begin, Ask, Made, Signed, Answered, Judged, End, Stop, Start, Tick}
+use Rattle.cmc_objects.specs.Roles.{role_rank}
 use Rattle.cmc_model.specs.Objects.{Objects}
-use Rattle.cmc_model.specs.Replies.{State, empty_store, IsReply, state_after}
+use Rattle.cmc_model.specs.Replies.{State, empty_store, state_after}
 
 -- what a scenario gives a run to begin with
 pub record Setting : Type 0 where
@@ -14,6 +19,15 @@ pub record Setting : Type 0 where
   -- the numbers of the store calls that fail
   pub faults : List ℕ
   pub script : List Step
+  -- the roles that run from the beginning on
+  pub roles : List Role
+  -- over how many accepted writes a watch reaches back
+  pub window : ℕ
+  -- the most entries that a history may have
+  pub events : ℕ
+  -- what the scenario says of keys and issuers, and what its approver lets pass
+  pub material : List (Key × Rows)
+  pub rules : Rules
 
 abbrev pub moment_with : ℤ → Entry → ℤ
 moment_with before (Script step) = before
@@ -65,25 +79,49 @@ objects s h = (state s h).objects
 abbrev pub accepted : Setting → List Entry → ℕ
 accepted s h = (state s h).accepted
 
--- The reply of a call is that of the plain store. No role runs today: none is told of writes, begins a pass, stops or
--- starts, and the moment stays.
-abbrev pub IsLegalEntry : Setting → List Entry → Entry → Type 0
-IsLegalEntry s h (Script step) = Unit {0}
-IsLegalEntry s h (Called User call reply) = IsReply s.faults (state s h) call reply
-IsLegalEntry s h (Called (Pass number) call reply) = ⊥
-IsLegalEntry s h (Deliver role kind to) = ⊥
-IsLegalEntry s h (Listed role kind to) = ⊥
-IsLegalEntry s h (Begin pass role key at now) = ⊥
-IsLegalEntry s h (Ask pass order) = ⊥
-IsLegalEntry s h (Made pass key) = ⊥
-IsLegalEntry s h (Signed pass signature) = ⊥
-IsLegalEntry s h (Answered pass answer) = ⊥
-IsLegalEntry s h (Judged pass approved) = ⊥
-IsLegalEntry s h (End pass cause) = ⊥
-IsLegalEntry s h (Stop role) = ⊥
-IsLegalEntry s h (Start role at) = ⊥
-IsLegalEntry s h (Tick now) = ⊥
+-- ---- which roles run
 
-unfoldable pub IsLegal : Setting → List Entry → Type 0
-IsLegal s [] = Unit {0}
-IsLegal s (e ∷ h) = IsLegalEntry s h e × IsLegal s h
+abbrev pub role_eq : Role → Role → Bool
+role_eq a b = role_rank a == role_rank b
+
+abbrev pub runs_with : Role → Bool → Entry → Bool
+runs_with r before (Script step) = before
+runs_with r before (Called who call reply) = before
+runs_with r before (Deliver role kind to) = before
+runs_with r before (Listed role kind to) = before
+runs_with r before (Begin pass role key at now) = before
+runs_with r before (Ask pass order) = before
+runs_with r before (Made pass key) = before
+runs_with r before (Signed pass signature) = before
+runs_with r before (Answered pass answer) = before
+runs_with r before (Judged pass approved) = before
+runs_with r before (End pass cause) = before
+runs_with r before (Stop role) = if role_eq role r then false else before
+runs_with r before (Start role at) = if role_eq role r then true else before
+runs_with r before (Tick now) = before
+
+-- whether the role runs: its last stop or start is a start, or it has neither and runs from the beginning on
+abbrev pub runs : Setting → List Entry → Role → Bool
+runs s [] r = list_any (λ role. role_eq role r) s.roles
+runs s (e ∷ h) r = runs_with r (runs s h r) e
+
+abbrev pub incarnation_with : Role → ℕ → Entry → ℕ
+incarnation_with r n (Script step) = n
+incarnation_with r n (Called who call reply) = n
+incarnation_with r n (Deliver role kind to) = n
+incarnation_with r n (Listed role kind to) = n
+incarnation_with r n (Begin pass role key at now) = n
+incarnation_with r n (Ask pass order) = n
+incarnation_with r n (Made pass key) = n
+incarnation_with r n (Signed pass signature) = n
+incarnation_with r n (Answered pass answer) = n
+incarnation_with r n (Judged pass approved) = n
+incarnation_with r n (End pass cause) = n
+incarnation_with r n (Stop role) = n
+incarnation_with r n (Start role at) = if role_eq role r then n + 1 else n
+incarnation_with r n (Tick now) = n
+
+-- how many times the role has begun: once where it runs from the beginning on, and once for each start
+abbrev pub incarnation : Setting → List Entry → Role → ℕ
+incarnation s [] r = if list_any (λ role. role_eq role r) s.roles then 1 else 0
+incarnation s (e ∷ h) r = incarnation_with r (incarnation s h r) e

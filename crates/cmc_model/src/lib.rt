@@ -3,8 +3,14 @@
 //! these types.
 #![tactic(auto)]
 
+mod effect;
 mod pass;
+mod progress;
 mod summary;
+mod write;
 
+pub use effect::Effect;
 pub use pass::{Act, Desk, IssuePlan, Requests, Secrets, Views};
+pub use progress::{Ending, LastPass, Obstacle, OpenPass, Past, Stage};
 pub use summary::{Summary, WaitName, Waiting, Waits};
+pub use write::Write;

@@ -1,5 +1,5 @@
 -- What the steps of a script leave.
-use Rattle.std.specs.Prelude.{◌≡◌, ℕ, ℤ, List, [], ◌∷◌, MatchOption}
+use Rattle.std.specs.Prelude.{◌≡◌, ℕ, ℤ, ◌*◌, true, List, [], ◌∷◌, length, All, MatchOption}
 use Rattle.cmc_objects.specs.declared.call.Call.{Call}
 use Rattle.cmc_objects.specs.declared.call.Reply.{Reply}
 use Rattle.cmc_objects.specs.declared.entry.Who.TheVariants.{User}
@@ -8,7 +8,8 @@ use Rattle.cmc_objects.specs.declared.entry.Entry.{Entry}
 use Rattle.cmc_objects.specs.declared.entry.Entry.TheVariants.{Script, Call as Called}
 use Rattle.cmc_model.specs.Replies.{IsReply, state_after}
 use Rattle.cmc_model.specs.Histories.{Setting, state}
-use Rattle.cmc_model.specs.Following.{call_of, IsRun, IsFinished}
+use Rattle.cmc_model.specs.Following.{call_of, is_users}
+use Rattle.cmc_model.specs.Runs.{IsRun, IsFinished}
 use Rattle.cmc_store.specs.Kept.{Kept}
 use Rattle.cmrun.specs.declared.play.Played.{Played}
 
@@ -29,9 +30,22 @@ abbrev pub Performs : ℤ → ℕ → Step → Kept → Kept → List Entry → 
 Performs now number step old new before after =
     MatchOption (call_of old.state.objects step) (MakesNone number old new before after) (λ call. MakesCall now number call old new before after)
 
--- a run of users' steps that begins at this moment, with no call that fails
+-- each step of the script is one of users
+abbrev pub IsOfUsers : List Step → Type 0
+IsOfUsers script = All (λ (step : Step). is_users step ≡ true) script
+
+-- A run of users' steps that begins at this moment, with no call that fails and no role that runs. A step makes two entries at most.
 abbrev pub setting_of : ℤ → List Step → Setting
-setting_of now script = record { now = now; faults = []; script = script }
+setting_of now script = record {
+  now = now;
+  faults = [];
+  script = script;
+  roles = [];
+  window = 0;
+  events = 2 * length script;
+  material = [];
+  rules = record { issuers = []; refuse = [] };
+}
 
 -- all steps were made, and the store is what the history leaves
 pub record IsPlayed (now : ℤ) (script : List Step) (p : Played) : Type 0 where

@@ -3,7 +3,7 @@ ghost use Rattle.std.specs.Prelude.{◌≡◌, ◌-◌, ◌<◌, ◌≤◌, ◌^
 ghost use Rattle.cmc_objects.specs.Objects.{key_of};
 ghost use Rattle.cmc_model.specs.Objects.{object_at};
 ghost use Rattle.cmc_model.specs.Following.{apply_call, call_of};
-ghost use Rattle.cmrun.specs.Playing.{MakesCall, Performs, IsPlayed};
+ghost use Rattle.cmrun.specs.Playing.{MakesCall, Performs, IsOfUsers, IsPlayed};
 
 use cmc_history::History;
 use cmc_meta::Numbers;
@@ -95,8 +95,10 @@ fn perform(
     }
 }
 
-/// Makes all steps of the script, one after another, from the moment `now` on, on an empty store.
+/// Makes all steps of the script, one after another, from the moment `now` on, on an empty store. All
+/// of them are steps of users.
 pub fn play(alloc: Global, now: i64, script: &[Step]) -> Result<Played, AllocError>
+    requires { IsOfUsers script.now }
     ensures { IfOk result (λ p. IsPlayed now script.now p) }
 {
     let mut store = Store::new(alloc, Numbers::new(alloc));

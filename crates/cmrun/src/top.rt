@@ -7,6 +7,7 @@ ghost use Rattle.std.specs.Str.{IsUtf8};
 ghost use Rattle.cmc_report.specs.Text.{joined};
 ghost use Rattle.cmrun.specs.Ends.{Rose};
 ghost use Rattle.cmrun.specs.Headline.{Answers, IsRunOf, RunsOn};
+ghost use Rattle.cmrun.specs.Playing.{IsOfUsers};
 ghost use Rattle.cmrun.specs.Statuses.{Explains, Refuses, RefusesValue, is_run_words};
 
 use crate::play::play;
@@ -56,7 +57,8 @@ const START: i64 = 1_893_456_000;
 
 /// The lines of the run of a scenario, which the value is.
 fn run_of(alloc: Global, value: &Value, scenario: &Scenario) -> Result<Lines, AllocError>
-    requires { has_float (view value.now) ≡ false }
+    requires float_free { has_float (view value.now) ≡ false }
+    requires users { IsOfUsers scenario.now.script }
     ensures { IfOk result (λ lines. RunsOn (view value.now) scenario.now (joined lines)) }
 {
     let played = play(alloc, START, scenario.script.as_slice())?;
@@ -65,6 +67,7 @@ fn run_of(alloc: Global, value: &Value, scenario: &Scenario) -> Result<Lines, Al
 }
 
 /// The lines of the run of a value.
+#[tactic(auto, using(crate::proofs::Users::scenario_of_users))]
 fn answer(alloc: Global, value: &Value) -> Result<Lines, Status>
     ensures ok { IfOk result (λ lines. Answers (view value.now) (joined lines)) }
     ensures err { IfErr result (λ status. RefusesValue (view value.now) status) }

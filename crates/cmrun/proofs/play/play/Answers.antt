@@ -12,4 +12,4 @@ loop-place-init c = plays_nothing _ _ _ _ (c.new-store.ensures ∙ ap (λ (f : L
 pub loop-place-preserved : goal.loop-place-preserved
 loop-place-preserved c =
     plays_on _ c.args.script.now c.loop-place.store c.perform.new.store c.loop-place.history.entries c.perform.new.history.entries c.loop-place.place c.index-script-place.result
-    c.loop-place-test.true c.index-script-place.is c.loop-place.invariant c.in_ok-perform.ensures
+    c.loop-place-test.true c.index-script-place.is c.requires c.loop-place.invariant c.in_ok-perform.ensures
