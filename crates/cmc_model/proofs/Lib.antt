@@ -8,3 +8,4 @@ pub mod OneKey
 pub mod Stored
 pub mod Versions
 pub mod Seen
+pub mod Passes

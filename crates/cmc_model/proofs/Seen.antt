@@ -1,5 +1,5 @@
 -- What roles see are versions of accepted writes, and passes are numbered as they begin.
-use Rattle.std.proofs.Common.{◌≡◌, ◌==◌, ◌⊎◌, ℕ, ◌+◌, ◌<◌, ◌≤◌, List, [], ◌∷◌, length, Option, Some, None, Bool, true, false, cond, refl, ap, ◌∙◌, inl, inr, arith}
+use Rattle.std.proofs.Common.{◌≡◌, ◌==◌, ℕ, List, [], ◌∷◌, length, Some, Bool, true, false, cond, refl, ap, ◌∙◌, inl, inr, arith}
 use Rattle.std.proofs.lemmas.Bool.Decides.{nat_tests}
 use Rattle.std.specs.Prelude.{if◌then◌else◌, nat_le}
 use Rattle.cmc_meta.specs.declared.key.Key.{Key}
@@ -11,7 +11,7 @@ use Rattle.cmc_objects.specs.Objects.{version_of}
 use Rattle.cmc_model.specs.declared.write.Write.{Write}
 use Rattle.cmc_model.specs.Objects.{object_at}
 use Rattle.cmc_model.specs.Histories.{Setting}
-use Rattle.cmc_model.specs.Writes.{writes, contents, oldest, of_kind, kind_eq, write_at}
+use Rattle.cmc_model.specs.Writes.{writes, oldest, of_kind, kind_eq, write_at}
 use Rattle.cmc_model.specs.Positions.{position, cache}
 use Rattle.cmc_model.specs.Legality.{IsLegal}
 use Rattle.cmc_model.specs.Versions.{IsVersion, HasVersion}
