@@ -80,5 +80,5 @@ abbrev pub IsDatedCertificate : Option Certificate → Type 0
 IsDatedCertificate None = Unit {0}
 IsDatedCertificate (Some certificate) = IsDatedOption certificate.status.last_failure
 
-unfoldable pub HasDatedFailure : Views → Type 0
+abbrev pub HasDatedFailure : Views → Type 0
 HasDatedFailure views = IsDatedCertificate views.certificate

@@ -41,13 +41,27 @@ pub struct Positions {
 #[derive(Drop)]
 pub enum Entry {
     /// The script's step of this number, counted from 1, is made.
-    Script { step: u64 },
+    Script {
+        step: u64,
+    },
     /// One call on the store, with its reply.
-    Call { who: Who, call: Call, reply: Reply },
+    Call {
+        who: Who,
+        call: Call,
+        reply: Reply,
+    },
     /// The role is told of the accepted writes of the kind up to this version.
-    Deliver { role: Role, kind: Kind, to: u64 },
+    Deliver {
+        role: Role,
+        kind: Kind,
+        to: u64,
+    },
     /// The role lists the objects of the kind as they stand after this version.
-    List { role: Role, kind: Kind, to: u64 },
+    List {
+        role: Role,
+        kind: Kind,
+        to: u64,
+    },
     /// The pass of this number begins on the key, at these positions and this moment.
     Begin {
         pass: u64,
@@ -57,23 +71,48 @@ pub enum Entry {
         now: i64,
     },
     /// The pass hands out work.
-    Ask { pass: u64, order: Order },
+    Ask {
+        pass: u64,
+        order: Order,
+    },
     /// The pass is given a key file.
-    Made { pass: u64, key: Bytes },
+    Made {
+        pass: u64,
+        key: Bytes,
+    },
     /// The pass is given a signature.
-    Signed { pass: u64, signature: Bytes },
+    Signed {
+        pass: u64,
+        signature: Bytes,
+    },
     /// The pass is given an issuer's answer.
-    Answered { pass: u64, answer: Signing },
+    Answered {
+        pass: u64,
+        answer: Signing,
+    },
     /// The pass is given a judgement.
-    Judged { pass: u64, yes: bool },
+    Judged {
+        pass: u64,
+        yes: bool,
+    },
     /// The pass ends.
-    End { pass: u64, cause: Cause },
+    End {
+        pass: u64,
+        cause: Cause,
+    },
     /// The role stops, and its open passes end with it.
-    Stop { role: Role },
+    Stop {
+        role: Role,
+    },
     /// The role starts anew, told of the first `at` accepted writes of each of its kinds.
-    Start { role: Role, at: u64 },
+    Start {
+        role: Role,
+        at: u64,
+    },
     /// The moment rises to this one, in seconds since 1970-01-01T00:00:00Z.
-    Tick { now: i64 },
+    Tick {
+        now: i64,
+    },
 }
 
 /// One step of a script.
@@ -81,29 +120,64 @@ pub enum Entry {
 pub enum Step {
     /// Creates the object, or updates it where its key is taken. `version` is the resource version
     /// that the object names; where it names one, the step is always an update.
-    Apply { object: Object, version: Option<u64> },
+    Apply {
+        object: Object,
+        version: Option<u64>,
+    },
     /// Deletes the object, where a version is named only if it has that version.
-    Delete { key: Key, version: Option<u64> },
+    Delete {
+        key: Key,
+        version: Option<u64>,
+    },
     /// Approves the CertificateRequest of this revision of the Certificate.
-    Approve { certificate: Key, revision: u64 },
+    Approve {
+        certificate: Key,
+        revision: u64,
+    },
     /// Denies the CertificateRequest of this revision of the Certificate.
-    Deny { certificate: Key, revision: u64 },
+    Deny {
+        certificate: Key,
+        revision: u64,
+    },
     /// Answers the CertificateRequest of this revision of the Certificate, as an external issuer does.
-    Answer { certificate: Key, revision: u64, row: SignRow },
+    Answer {
+        certificate: Key,
+        revision: u64,
+        row: SignRow,
+    },
     /// Asks for a new issuance of the Certificate.
-    Renew { certificate: Key },
+    Renew {
+        certificate: Key,
+    },
     /// Lets so many seconds pass.
-    Tick { seconds: u64 },
+    Tick {
+        seconds: u64,
+    },
     /// Stops a role.
-    Stop { role: Role },
+    Stop {
+        role: Role,
+    },
     /// Starts a role that is told of all but the last `behind` accepted writes.
-    Start { role: Role, behind: u64 },
+    Start {
+        role: Role,
+        behind: u64,
+    },
     /// Keeps a role from being told of a kind.
-    Hold { role: Role, kind: Kind },
+    Hold {
+        role: Role,
+        kind: Kind,
+    },
     /// Lets a role be told of a kind again.
-    Release { role: Role, kind: Kind },
+    Release {
+        role: Role,
+        kind: Kind,
+    },
     /// Waits until the role has made so many accepted writes of the kind, or all is at rest.
-    Until { role: Role, kind: Kind, writes: u64 },
+    Until {
+        role: Role,
+        kind: Kind,
+        writes: u64,
+    },
     /// Waits until all is at rest.
     Settle,
 }

@@ -37,9 +37,13 @@ pub enum SignRow {
     /// The issuer has not decided yet.
     Pending,
     /// The issuer refuses.
-    Fail { message: Text },
+    Fail {
+        message: Text,
+    },
     /// The issuer answers these bytes as the certificate.
-    Raw { der: Bytes },
+    Raw {
+        der: Bytes,
+    },
     /// Any answer. No scenario that is read has this row.
     Free,
 }

@@ -2,7 +2,4 @@
 //! it can do.
 #![tactic(auto)]
 
-#[cfg(test)]
-mod tests;
-
 pub use cmc_model::{Act, Desk, IssuePlan, Requests, Secrets, Views};

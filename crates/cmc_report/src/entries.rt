@@ -72,23 +72,14 @@ fn cause(alloc: Global, cause: Cause) -> Result<Tree, AllocError>
     }
 }
 
-fn add_cause(
-    members: &mut Members,
-    alloc: Global,
-    given: Cause,
-) -> Result<(), AllocError>
+fn add_cause(members: &mut Members, alloc: Global, given: Cause) -> Result<(), AllocError>
     ensures { OnOk result (members_of members.new ≡ put (codes "cause") (cause_tree given) (members_of members.old)) }
 {
     let tree = cause(alloc, given)?;
     members.put(alloc, "cause", tree)
 }
 
-fn add_named(
-    members: &mut Members,
-    alloc: Global,
-    word: &str,
-    pass: u64,
-) -> Result<(), AllocError>
+fn add_named(members: &mut Members, alloc: Global, word: &str, pass: u64) -> Result<(), AllocError>
     ensures { OnOk result (members_of members.new ≡ put (codes "pass") (natural pass) (put (codes "is") (string word.now) (members_of members.old))) }
 {
     put_text(members, alloc, "is", word)?;

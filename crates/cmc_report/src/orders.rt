@@ -10,11 +10,7 @@ use cmc_meta::ObjectMeta;
 use cmc_objects::{CsrOrder, JudgeOrder, KeyOrder, Order, SignOrder, Signing};
 use std::alloc::{AllocError, Global};
 
-fn add_request(
-    members: &mut Members,
-    alloc: Global,
-    meta: &ObjectMeta,
-) -> Result<(), AllocError>
+fn add_request(members: &mut Members, alloc: Global, meta: &ObjectMeta) -> Result<(), AllocError>
     ensures { OnOk result (members_of members.new ≡ put_request meta.now (members_of members.old)) }
 {
     let namespace = meta.namespace.as_str();

@@ -43,7 +43,7 @@ others_renewed : (cs : List Condition) (new : Condition) → new.kind ≡ Issuin
 others_renewed [] new is = rw is refl
 others_renewed (c ∷ cs) new is =
     subst (λ (k : ConditionKind). other_conditions Issuing (match_ordering (nat_cmp (condition_rank k) (condition_rank c.kind)) (new ∷ c ∷ cs) (new ∷ cs) (c ∷ renewed cs new)) ≡ other_conditions Issuing (c ∷ cs))
-      (sym is) (others_step c.kind c new cs (renewed cs new) refl is (others_renewed cs new is))
+    (sym is) (others_step c.kind c new cs (renewed cs new) refl is (others_renewed cs new is))
 
 kept_kind : (old : Option Condition) (new : Condition) → (kept_since old new).kind ≡ new.kind
 kept_kind None new = refl
@@ -84,7 +84,7 @@ unfolding issue_call May
 may_issue moment now reason old objects version call is stands =
     let same : UpdateStatus (Cert (with_issuing moment reason old)) old.meta.version ≡ call = cc in
     subst (λ (k : Call). object_at objects (key_of_call k) ≡ Some (Cert old) → TriggerMay (object_at objects (key_of_call k)) (stored version now objects k)) same
-      (λ h. rw h (restated_may version moment reason old)) stands
+    (λ h. rw h (restated_may version moment reason old)) stands
 
 may_wait : (waits : Bool) (moment now : ℤ) (reason : Reason) (old : Certificate) (objects : Objects) (version : ℕ) (call : Call)
     → (if waits then Nothing else issue_call moment reason old) ≡ Calls call → object_at objects (key_of_call call) ≡ Some (Cert old) → May now objects version call

@@ -70,7 +70,7 @@ fn for_certificate(
 /// # Errors
 ///
 /// Want of memory alone.
-#[tactic(auto, unfolding(cmc_model::specs::Acts::act, cmc_model::specs::Triggering::trigger, cmc_model::specs::Triggering::HasDatedFailure))]
+#[tactic(auto, unfolding(cmc_model::specs::Acts::act, cmc_model::specs::Triggering::trigger))]
 pub fn act(alloc: Global, views: &Views, now: i64, desk: &Desk) -> Result<Act, AllocError>
     requires { HasDatedFailure views.now }
     ensures { IfOk result (λ a. a ≡ acts.act Trigger views.now now desk.now) }

@@ -289,6 +289,11 @@ fn fails_at_the_path_of_an_edit(rt: HostRuntime) -> Result<(), Fail> {
     Ok(())
 }
 
+/// So many blanks.
+fn blanks(alloc: Global, count: usize) -> Result<Vec<u8>, AllocError> {
+    vec![in alloc; b' '; count]
+}
+
 #[test]
 fn refuses_what_is_no_json(rt: HostRuntime) -> Result<(), Fail> {
     let alloc = rt.alloc();
@@ -299,10 +304,11 @@ fn refuses_what_is_no_json(rt: HostRuntime) -> Result<(), Fail> {
     let ended = run_with(alloc, "run", &[0xff, 0xfe], &[], &[])?;
     assert!(rt; matches!(ended.status, Status::NotJson));
     assert_eq!(rt; ended.written.len(), 0);
-    let spaces = vec![in alloc; b' '; 16_777_217]?;
-    let ended = run_with(alloc, "run", spaces.as_slice(), &[], &[])?;
+    let too_many = blanks(alloc, 16_777_217)?;
+    let ended = run_with(alloc, "run", too_many.as_slice(), &[], &[])?;
     assert!(rt; matches!(ended.status, Status::TooLong));
-    let ended = run_with(alloc, "run", &spaces[..16_777_216], &[], &[])?;
+    let as_many = blanks(alloc, 16_777_216)?;
+    let ended = run_with(alloc, "run", as_many.as_slice(), &[], &[])?;
     assert!(rt; matches!(ended.status, Status::NotJson));
     Ok(())
 }
@@ -310,8 +316,8 @@ fn refuses_what_is_no_json(rt: HostRuntime) -> Result<(), Fail> {
 #[test]
 fn ends_at_a_fault(rt: HostRuntime) -> Result<(), Fail> {
     let alloc = rt.alloc();
-    let spaces = vec![in alloc; b' '; 8_193]?;
-    let ended = run_with(alloc, "run", spaces.as_slice(), &[3], &[])?;
+    let blanks = blanks(alloc, 8_193)?;
+    let ended = run_with(alloc, "run", blanks.as_slice(), &[3], &[])?;
     assert!(rt; matches!(ended.status, Status::ReadFault));
     assert_eq!(rt; ended.written.len(), 0);
     let ended = run_with(alloc, "run", b"{\"roles\":[]}", &[], &[2])?;
