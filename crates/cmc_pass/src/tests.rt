@@ -86,8 +86,14 @@ fn views_are_copied(rt: HostRuntime) -> Result<(), Fail> {
     assert_eq!(rt; copied.requests.as_slice().len(), 1);
     assert!(rt; copied.secret.is_some());
     assert!(rt; copied.certificate.is_none());
-    assert_eq!(rt; copied.next.copy()?.as_slice()[1].meta.name.as_str(), "web-bbbbg");
-    assert_eq!(rt; copied.requests.copy()?.as_slice()[0].meta.name.as_str(), "web-bbbbh");
+    assert_eq!(rt;
+        copied.next.copy()?.as_slice()[1].meta.name.as_str(),
+        "web-bbbbg"
+    );
+    assert_eq!(rt;
+        copied.requests.copy()?.as_slice()[0].meta.name.as_str(),
+        "web-bbbbh"
+    );
     Ok(())
 }
 

@@ -1,5 +1,5 @@
 -- What asks for an issuance changes one condition, and leaves all else.
-use Rattle.std.proofs.Common.{◌≡◌, ◌≢◌, ℕ, ℤ, List, [], ◌∷◌, Bool, true, false, Option, Some, None, refl, sym, subst, ap, ◌∙◌}
+use Rattle.std.proofs.Common.{◌≡◌, ℕ, ℤ, List, [], ◌∷◌, Bool, true, false, Option, Some, None, refl, sym, subst, ◌∙◌}
 use Rattle.std.specs.Prelude.{if◌then◌else◌}
 use Rattle.std.specs.Ordering.{nat_cmp, match_ordering}
 use Rattle.cmc_meta.specs.declared.conditions.Condition.{Condition}
@@ -8,14 +8,11 @@ use Rattle.cmc_meta.specs.declared.conditions.ConditionKind.TheVariants.{Ready, 
 use Rattle.cmc_meta.specs.ConditionLists.{condition_rank, condition_at, kept_since, renewed, transitioned}
 use Rattle.cmc_objects.specs.declared.certificate.Certificate.{Certificate}
 use Rattle.cmc_objects.specs.declared.certificate.CertStatus.{CertStatus}
-use Rattle.cmc_objects.specs.declared.object.Object.{Object}
 use Rattle.cmc_objects.specs.declared.object.Object.TheVariants.{Cert}
 use Rattle.cmc_objects.specs.declared.call.Call.{Call}
 use Rattle.cmc_objects.specs.declared.call.Call.TheVariants.{UpdateStatus}
 use Rattle.cmc_objects.specs.declared.secret.Secret.{Secret}
-use Rattle.cmc_objects.specs.Objects.{key_of}
 use Rattle.cmc_policies.specs.declared.facts.Reason.{Reason}
-use Rattle.cmc_model.specs.declared.pass.Act.{Act}
 use Rattle.cmc_model.specs.declared.pass.Views.{Views}
 use Rattle.cmc_model.specs.declared.pass.Desk.{Desk}
 use Rattle.cmc_model.specs.Acts.{act}
@@ -26,7 +23,7 @@ use Rattle.cmc_model.specs.Stored.{with_status, numbered, restated}
 use Rattle.cmc_model.specs.Replies.{key_of_call, stored}
 use Rattle.cmc_model.specs.Facts.{trigger_reason}
 use Rattle.cmc_model.specs.Triggering.{is_issuing, is_backing_off, issuing_condition, issuing_status, with_issuing, issue_call, for_reason, frame_of, for_certificate, for_option, trigger}
-use Rattle.cmc_model.specs.Rights.{other_conditions, ChangesCondition, TriggerMay, seen_object, seen}
+use Rattle.cmc_model.specs.Rights.{other_conditions, TriggerMay, seen_object, seen}
 
 -- ---- the other conditions stay
 
@@ -43,7 +40,7 @@ others_renewed : (cs : List Condition) (new : Condition) → new.kind ≡ Issuin
 others_renewed [] new is = rw is refl
 others_renewed (c ∷ cs) new is =
     subst (λ (k : ConditionKind). other_conditions Issuing (match_ordering (nat_cmp (condition_rank k) (condition_rank c.kind)) (new ∷ c ∷ cs) (new ∷ cs) (c ∷ renewed cs new)) ≡ other_conditions Issuing (c ∷ cs))
-      (sym is) (others_step c.kind c new cs (renewed cs new) refl is (others_renewed cs new is))
+    (sym is) (others_step c.kind c new cs (renewed cs new) refl is (others_renewed cs new is))
 
 kept_kind : (old : Option Condition) (new : Condition) → (kept_since old new).kind ≡ new.kind
 kept_kind None new = refl
@@ -84,7 +81,7 @@ unfolding issue_call May
 may_issue moment now reason old objects version call is stands =
     let same : UpdateStatus (Cert (with_issuing moment reason old)) old.meta.version ≡ call = cc in
     subst (λ (k : Call). object_at objects (key_of_call k) ≡ Some (Cert old) → TriggerMay (object_at objects (key_of_call k)) (stored version now objects k)) same
-      (λ h. rw h (restated_may version moment reason old)) stands
+    (λ h. rw h (restated_may version moment reason old)) stands
 
 may_wait : (waits : Bool) (moment now : ℤ) (reason : Reason) (old : Certificate) (objects : Objects) (version : ℕ) (call : Call)
     → (if waits then Nothing else issue_call moment reason old) ≡ Calls call → object_at objects (key_of_call call) ≡ Some (Cert old) → May now objects version call
