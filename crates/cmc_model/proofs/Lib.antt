@@ -7,3 +7,5 @@ pub mod Positions
 pub mod OneKey
 pub mod Stored
 pub mod Versions
+pub mod Seen
+pub mod Passes

@@ -29,18 +29,18 @@ use Rattle.cmc_model.proofs.Writes.{writes_count, writes_leave}
 -- ---- what a legal write is
 
 -- an object as the write of this version leaves it: a new one of that uid, or one that has uid and key of the one that stood there
-abbrev IsNew : ℕ → Key → Object → Type 0
+abbrev pub IsNew : ℕ → Key → Object → Type 0
 IsNew n key o = (uid_of o ≡ n) × (key_of o ≡ key)
 
-abbrev IsHeir : Object → Option Object → Type 0
+abbrev pub IsHeir : Object → Option Object → Type 0
 IsHeir o None = ⊥
 IsHeir o (Some old) = (uid_of o ≡ uid_of old) × (key_of o ≡ key_of old)
 
-abbrev IsLawfulObject : ℕ → Key → Option Object → Option Object → Type 0
+abbrev pub IsLawfulObject : ℕ → Key → Option Object → Option Object → Type 0
 IsLawfulObject n key old None = Unit {0}
 IsLawfulObject n key old (Some o) = (version_of o ≡ n) × (IsNew n key o ⊎ IsHeir o old)
 
-abbrev IsLawful : List Write → Type 0
+abbrev pub IsLawful : List Write → Type 0
 IsLawful [] = Unit {0}
 IsLawful (w ∷ ws) = IsLawfulObject (length (w ∷ ws)) w.key (object_at (contents ws) w.key) w.object × IsLawful ws
 
@@ -83,7 +83,7 @@ lawful_called faults now st call reply ws true e count leaves right lawful =
     ] right in
     (lawful_write now st call ws count leaves (lawful_call st.accepted now st.objects call reply served e), lawful)
 
-lawful : (s : Setting) (h : List Entry) → IsLegal s h → IsLawful (writes s h)
+pub lawful : (s : Setting) (h : List Entry) → IsLegal s h → IsLawful (writes s h)
 unfolding IsLegal
 lawful s [] legal = tt
 lawful s (Script step ∷ h) legal = lawful s h legal.1
@@ -120,7 +120,7 @@ standing_in : (w : Write) (ws : List Write) (key : Key) (o : Object) (b : Bool) 
 standing_in w ws key o true e below is = inl (sym (found key w.key e), is)
 standing_in w ws key o false e below is = inr (below is)
 
-standing : (ws : List Write) (key : Key) (o : Object) → object_at (contents ws) key ≡ Some o → IsVersion key o ws
+pub standing : (ws : List Write) (key : Key) (o : Object) → object_at (contents ws) key ≡ Some o → IsVersion key o ws
 unfolding contents
 standing [] key o is = absurd (let none : object_at no_objects key ≡ None = get-empty key_cmp key in cc (none, is))
 standing (w ∷ ws) key o is =
@@ -140,7 +140,7 @@ born_by : (w : Write) (ws : List Write) (o : Object) → IsNew (length (w ∷ ws
 born_by w ws o (inl new) = inl new
 born_by w ws o (inr is) = heir w ws o (object_at (contents ws) w.key) refl is
 
-lawful_object : (w : Write) (ws : List Write) (o : Object) → IsLawful (w ∷ ws) → w.object ≡ Some o → IsLawfulObject (length (w ∷ ws)) w.key (object_at (contents ws) w.key) (Some o)
+pub lawful_object : (w : Write) (ws : List Write) (o : Object) → IsLawful (w ∷ ws) → w.object ≡ Some o → IsLawfulObject (length (w ∷ ws)) w.key (object_at (contents ws) w.key) (Some o)
 lawful_object w ws o law is = subst (λ (x : Option Object). IsLawfulObject (length (w ∷ ws)) w.key (object_at (contents ws) w.key) x) is law.0
 
 born : (w : Write) (ws : List Write) (o : Object) → IsLawful (w ∷ ws) → w.object ≡ Some o → IsBorn w ws o

@@ -1,5 +1,5 @@
 -- What asks for an issuance changes one condition, and leaves all else.
-use Rattle.std.proofs.Common.{◌≡◌, ◌≢◌, ℕ, ℤ, List, [], ◌∷◌, Bool, true, false, Option, Some, None, refl, sym, subst, ap, ◌∙◌}
+use Rattle.std.proofs.Common.{◌≡◌, ℕ, ℤ, List, [], ◌∷◌, Bool, true, false, Option, Some, None, refl, sym, subst, ◌∙◌}
 use Rattle.std.specs.Prelude.{if◌then◌else◌}
 use Rattle.std.specs.Ordering.{nat_cmp, match_ordering}
 use Rattle.cmc_meta.specs.declared.conditions.Condition.{Condition}
@@ -8,14 +8,11 @@ use Rattle.cmc_meta.specs.declared.conditions.ConditionKind.TheVariants.{Ready, 
 use Rattle.cmc_meta.specs.ConditionLists.{condition_rank, condition_at, kept_since, renewed, transitioned}
 use Rattle.cmc_objects.specs.declared.certificate.Certificate.{Certificate}
 use Rattle.cmc_objects.specs.declared.certificate.CertStatus.{CertStatus}
-use Rattle.cmc_objects.specs.declared.object.Object.{Object}
 use Rattle.cmc_objects.specs.declared.object.Object.TheVariants.{Cert}
 use Rattle.cmc_objects.specs.declared.call.Call.{Call}
 use Rattle.cmc_objects.specs.declared.call.Call.TheVariants.{UpdateStatus}
 use Rattle.cmc_objects.specs.declared.secret.Secret.{Secret}
-use Rattle.cmc_objects.specs.Objects.{key_of}
 use Rattle.cmc_policies.specs.declared.facts.Reason.{Reason}
-use Rattle.cmc_model.specs.declared.pass.Act.{Act}
 use Rattle.cmc_model.specs.declared.pass.Views.{Views}
 use Rattle.cmc_model.specs.declared.pass.Desk.{Desk}
 use Rattle.cmc_model.specs.Acts.{act}
@@ -26,7 +23,7 @@ use Rattle.cmc_model.specs.Stored.{with_status, numbered, restated}
 use Rattle.cmc_model.specs.Replies.{key_of_call, stored}
 use Rattle.cmc_model.specs.Facts.{trigger_reason}
 use Rattle.cmc_model.specs.Triggering.{is_issuing, is_backing_off, issuing_condition, issuing_status, with_issuing, issue_call, for_reason, frame_of, for_certificate, for_option, trigger}
-use Rattle.cmc_model.specs.Rights.{other_conditions, ChangesCondition, TriggerMay, seen_object, seen}
+use Rattle.cmc_model.specs.Rights.{other_conditions, TriggerMay, seen_object, seen}
 
 -- ---- the other conditions stay
 
