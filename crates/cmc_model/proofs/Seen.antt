@@ -1,4 +1,4 @@
--- What roles see are versions of accepted writes, and passes are numbered as they begin.
+-- What roles see are versions of accepted writes, and versions count up.
 use Rattle.std.proofs.Common.{◌≡◌, ◌==◌, ℕ, List, [], ◌∷◌, length, Some, Bool, true, false, cond, refl, ap, ◌∙◌, inl, inr, arith}
 use Rattle.std.proofs.lemmas.Bool.Decides.{nat_tests}
 use Rattle.std.specs.Prelude.{if◌then◌else◌, nat_le}
