@@ -14,7 +14,7 @@ use Rattle.cmc_model.specs.Replies.{IsReply}
 use Rattle.cmc_model.specs.Histories.{Setting, moment, state, accepted, runs}
 use Rattle.cmc_model.specs.Writes.{writes, write_at, is_known}
 use Rattle.cmc_model.specs.Positions.{has_informer, kind_of_work, position, positions}
-use Rattle.cmc_model.specs.Passes.{open_pass, begun, past, in_process}
+use Rattle.cmc_model.specs.Passes.{open_pass, begun, is_pass_of}
 
 abbrev pub IsOfKind : Kind → Option Write → Type 0
 IsOfKind kind None = ⊥
@@ -41,7 +41,7 @@ pub record IsBegin (s : Setting) (h : List Entry) (pass : ℕ) (role : Role) (ke
   pub numbered : pass ≡ begun h + 1
   pub work : key.kind ≡ kind_of_work role
   pub known : is_known key (writes s h) ≡ true
-  pub free : in_process (past s h role key) ≡ false
+  pub free : (n : ℕ) → is_pass_of role key (open_pass s h n) ≡ false
   pub told : at ≡ positions h role
   pub present : now ≡ moment s h
 

@@ -24,8 +24,9 @@ use Rattle.cmc_model.specs.declared.progress.Ending.{Ending}
 use Rattle.cmc_model.specs.declared.progress.Ending.TheVariants as endings
 use Rattle.cmc_model.specs.declared.progress.LastPass.{LastPass}
 use Rattle.cmc_model.specs.declared.progress.Past.{Past}
+use Rattle.cmc_model.specs.declared.progress.Origin.{Origin}
 use Rattle.cmc_model.specs.Replies.{is_accepted, key_of_call}
-use Rattle.cmc_model.specs.Histories.{Setting, accepted, role_eq}
+use Rattle.cmc_model.specs.Histories.{Setting, accepted, incarnation, role_eq}
 use Rattle.cmc_model.specs.Writes.{writes, last_under}
 use Rattle.cmc_model.specs.Positions.{position_of}
 use Rattle.cmc_model.specs.Viewing.{views}
@@ -103,6 +104,34 @@ abbrev pub begun : List Entry → ℕ
 begun [] = 0
 begun (e ∷ h) = begun_with (begun h) e
 
+-- ---- where passes come from
+
+abbrev pub origins_with : Setting → List Entry → List Origin → Entry → List Origin
+origins_with s h os (Script step) = os
+origins_with s h os (Called who call reply) = os
+origins_with s h os (Deliver role kind to) = os
+origins_with s h os (Listed role kind to) = os
+origins_with s h os (Begin pass role key at now) = record { role = role; incarnation = incarnation s h role } ∷ os
+origins_with s h os (Ask pass order) = os
+origins_with s h os (Made pass key) = os
+origins_with s h os (Signed pass signature) = os
+origins_with s h os (Answered pass answer) = os
+origins_with s h os (Judged pass approved) = os
+origins_with s h os (End pass cause) = os
+origins_with s h os (Stop role) = os
+origins_with s h os (Start role at) = os
+origins_with s h os (Tick now) = os
+
+-- the role of each pass that was begun, and how many times that role had begun itself; the newest pass first
+abbrev pub origins : Setting → List Entry → List Origin
+origins s [] = []
+origins s (e ∷ h) = origins_with s h (origins s h) e
+
+-- the origin of the pass of this number: passes are numbered from 1 as they begin
+unfoldable pub origin_at : ℕ → List Origin → Option Origin
+origin_at n [] = None
+origin_at n (o ∷ os) = if length (o ∷ os) == n then Some o else origin_at n os
+
 -- ---- what a role remembers of a key since it started
 
 abbrev pub no_past : Past
@@ -161,20 +190,6 @@ past_with s h r k past (Tick now) = past
 abbrev pub past : Setting → List Entry → Role → Key → Past
 past s [] r k = no_past
 past s (e ∷ h) r k = past_with s h r k (past s h r k) e
-
-abbrev pub is_open_ending : Ending → Bool
-is_open_ending endings.Open = true
-is_open_ending endings.Nothing = false
-is_open_ending endings.Wrote = false
-is_open_ending (endings.Refused obstacle) = false
-
-abbrev pub is_open_last : Option LastPass → Bool
-is_open_last None = false
-is_open_last (Some last) = is_open_ending last.ending
-
--- whether a pass of the running role on the key is open
-abbrev pub in_process : Past → Bool
-in_process past = is_open_last past.last
 
 -- ---- a Begin that would do the same again
 

@@ -11,6 +11,6 @@ mod write;
 
 pub use effect::Effect;
 pub use pass::{Act, Desk, IssuePlan, Requests, Secrets, Views};
-pub use progress::{Ending, LastPass, Obstacle, OpenPass, Past, Stage};
+pub use progress::{Ending, LastPass, Obstacle, OpenPass, Origin, Past, Stage};
 pub use summary::{Summary, WaitName, Waiting, Waits};
 pub use write::Write;

@@ -1,5 +1,5 @@
 //! What a pass of a controller sees, and what it does.
-ghost use Rattle.std.specs.Prelude.{◌≡◌, ◌++◌, ◌∷◌, [], None, IfOk, OnOk, OnErr};
+ghost use Rattle.std.specs.Prelude.{◌≡◌, ◌↔◌, ◌++◌, ◌∷◌, [], None, IsTrue, IfOk, OnOk, OnErr};
 
 use cmc_meta::Key;
 use cmc_objects::{Call, Certificate, CertificateRequest, Material, Order, Rules, Secret};
@@ -55,6 +55,27 @@ impl Secrets {
             items: copy_secrets(*self.items.allocator(), self.items.as_slice())?,
         })
     }
+
+    /// Whether both are equal, one after another.
+    pub fn same(&self, other: &Secrets) -> bool
+        ensures { IsTrue result ↔ (self.now ≡ other.now) }
+    {
+        same_secrets(self.items.as_slice(), other.items.as_slice())
+    }
+}
+
+fn same_secrets(left: &[Secret], right: &[Secret]) -> bool
+    ensures { IsTrue result ↔ (left.now ≡ right.now) }
+{
+    if left.len() != right.len() {
+        return false;
+    }
+    for (i, item) in left.iter().enumerate() {
+        if !item.same(&right[i]) {
+            return false;
+        }
+    }
+    true
 }
 
 fn copy_secrets(alloc: Global, secrets: &[Secret]) -> Result<Vec<Secret>, AllocError>
@@ -116,6 +137,27 @@ impl Requests {
             items: copy_requests(*self.items.allocator(), self.items.as_slice())?,
         })
     }
+
+    /// Whether both are equal, one after another.
+    pub fn same(&self, other: &Requests) -> bool
+        ensures { IsTrue result ↔ (self.now ≡ other.now) }
+    {
+        same_requests(self.items.as_slice(), other.items.as_slice())
+    }
+}
+
+fn same_requests(left: &[CertificateRequest], right: &[CertificateRequest]) -> bool
+    ensures { IsTrue result ↔ (left.now ≡ right.now) }
+{
+    if left.len() != right.len() {
+        return false;
+    }
+    for (i, item) in left.iter().enumerate() {
+        if !item.same(&right[i]) {
+            return false;
+        }
+    }
+    true
 }
 
 fn copy_requests(
@@ -173,6 +215,47 @@ impl Views {
             requests: self.requests.copy()?,
             request,
         })
+    }
+
+    /// Whether both are equal in each part.
+    pub fn same(&self, other: &Views) -> bool
+        ensures { IsTrue result ↔ (self.now ≡ other.now) }
+    {
+        same_certificate(&self.certificate, &other.certificate)
+            && same_secret(&self.secret, &other.secret)
+            && self.next.same(&other.next)
+            && self.requests.same(&other.requests)
+            && same_request(&self.request, &other.request)
+    }
+}
+
+fn same_certificate(left: &Option<Certificate>, right: &Option<Certificate>) -> bool
+    ensures { IsTrue result ↔ (left.now ≡ right.now) }
+{
+    match (left, right) {
+        (Some(left), Some(right)) => left.same(right),
+        (None, None) => true,
+        _ => false,
+    }
+}
+
+fn same_secret(left: &Option<Secret>, right: &Option<Secret>) -> bool
+    ensures { IsTrue result ↔ (left.now ≡ right.now) }
+{
+    match (left, right) {
+        (Some(left), Some(right)) => left.same(right),
+        (None, None) => true,
+        _ => false,
+    }
+}
+
+fn same_request(left: &Option<CertificateRequest>, right: &Option<CertificateRequest>) -> bool
+    ensures { IsTrue result ↔ (left.now ≡ right.now) }
+{
+    match (left, right) {
+        (Some(left), Some(right)) => left.same(right),
+        (None, None) => true,
+        _ => false,
     }
 }
 

@@ -49,6 +49,13 @@ impl Drop for OpenPass {
     }
 }
 
+/// Which role began a pass, and how many times the role itself had begun by then.
+#[derive(Clone, Copy)]
+pub struct Origin {
+    pub role: Role,
+    pub incarnation: u64,
+}
+
 /// How a pass ended.
 #[derive(Clone, Copy)]
 pub enum Ending {
