@@ -205,7 +205,7 @@ dated_owed s (Tick now ∷ h) = tt
 
 -- ---- calls of passes
 
-abbrev IsDatedAct : Act → Type 0
+abbrev pub IsDatedAct : Act → Type 0
 IsDatedAct Nothing = Unit {0}
 IsDatedAct (Calls call) = IsDatedCall call
 IsDatedAct (Asks order) = Unit {0}

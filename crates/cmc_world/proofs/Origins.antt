@@ -34,7 +34,7 @@ origins_count s (Start role at ∷ h) = origins_count s h
 origins_count s (Tick now ∷ h) = origins_count s h
 
 -- the number lies between 1 and n
-abbrev pub IsUpTo : ℕ → ℕ → Type 0
+abbrev IsUpTo : ℕ → ℕ → Type 0
 IsUpTo n number = (1 ≤ number) × (number ≤ n)
 
 low_at : (here : Bool) (number : ℕ) (o : Origin) (os : List Origin) (found : Origin) → (length (o ∷ os) == number) ≡ here
@@ -51,7 +51,7 @@ low_in number [] found given = absurd (cc)
 low_in number (o ∷ os) found given = low_at (length (o ∷ os) == number) number o os found refl (λ there. low_in number os found there) given
 
 -- only the numbers of passes that were begun have an origin
-pub origin_low : (s : Setting) (h : List Entry) (n : ℕ) (o : Origin) → origin_at n (origins s h) ≡ Some o → IsUpTo (begun h) n
+pub origin_low : (s : Setting) (h : List Entry) (n : ℕ) (o : Origin) → origin_at n (origins s h) ≡ Some o → (1 ≤ n) × (n ≤ begun h)
 origin_low s h n o given = let low = low_in n (origins s h) o given in (low.0, omega (arith, low.1, origins_count s h))
 
 -- ---- the origin of an open pass
