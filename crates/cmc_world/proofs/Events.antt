@@ -1,0 +1,297 @@
+-- What a world holds stays what its history says, with each entry that a move adds.
+use Rattle.std.proofs.Common.{◌≡◌, ℕ, ℤ, ◌+◌, ◌<◌, ◌≤◌, Bool, true, false, List, [], ◌∷◌, length, Option, Some, None, refl, sym, ap, subst, ◌∙◌, arith}
+use Rattle.std.specs.Prelude.{◌==◌, ◌&&◌, if◌then◌else◌, option_map}
+use Rattle.cmc_meta.specs.declared.key.Key.{Key}
+use Rattle.cmc_meta.specs.declared.key.Kind.{Kind}
+use Rattle.cmc_meta.specs.Keys.{key_eq}
+use Rattle.cmc_objects.specs.declared.role.Role.{Role}
+use Rattle.cmc_objects.specs.declared.call.Call.{Call}
+use Rattle.cmc_objects.specs.declared.call.Reply.{Reply}
+use Rattle.cmc_objects.specs.declared.entry.Step.{Step}
+use Rattle.cmc_objects.specs.declared.entry.Cause.{Cause}
+use Rattle.cmc_objects.specs.declared.entry.Who.TheVariants.{User, Pass}
+use Rattle.cmc_objects.specs.declared.entry.Entry.{Entry}
+use Rattle.cmc_objects.specs.declared.entry.Entry.TheVariants.{Script, Call as Called, Deliver, List as Listed, Begin, End, Stop, Start, Tick}
+use Rattle.cmc_model.specs.declared.effect.Effect.TheVariants as effects
+use Rattle.cmc_model.specs.declared.pass.Views.{Views}
+use Rattle.cmc_model.specs.declared.write.Write.{Write}
+use Rattle.cmc_model.specs.declared.progress.Stage.{Stage}
+use Rattle.cmc_model.specs.declared.progress.OpenPass.{OpenPass}
+use Rattle.cmc_model.specs.declared.progress.Origin.{Origin}
+use Rattle.cmc_model.specs.declared.progress.Past.{Past}
+use Rattle.cmc_model.specs.Replies.{State, IsReply, is_accepted, key_of_call, state_after}
+use Rattle.cmc_model.specs.Histories.{Setting, moment, state, accepted, incarnation, role_eq}
+use Rattle.cmc_model.specs.Writes.{writes, write_of}
+use Rattle.cmc_model.specs.Positions.{positions}
+use Rattle.cmc_model.specs.Viewing.{views}
+use Rattle.cmc_model.specs.Passes.{open_pass, begun, past, called, stage_after, with_stage, unless_of, new_pass, is_pass_of, no_past, with_begin, with_own, with_ending, ending_at, ending_of, past_called, IsDue}
+use Rattle.cmc_model.specs.Legality.{IsDelivery, IsListing, IsBegin, IsOpen, IsLegal}
+use Rattle.cmc_model.specs.Causes.{MayCall, MayEnd, IsCaused}
+use Rattle.cmc_model.specs.Scripting.{scripted, step_at, held}
+use Rattle.cmc_model.specs.Following.{owed, IsNextStep, Follows}
+use Rattle.cmc_model.specs.Runs.{IsRun}
+use Rattle.cmc_held.specs.declared.standings.Standing.{Standing}
+use Rattle.cmc_world.specs.Kept.{standing, Holdings, IsHeld, IsKept}
+use Rattle.cmc_world.proofs.Standings.{telling, stopping, starting, writing, scripted_standing, standing_delivered, standing_listed, standing_stopped, standing_started, standing_scripted, standing_called}
+
+-- what is kept pointwise may be kept in another way
+pub kept_same : (s : Setting) (h : List Entry) (w : Holdings) (pasts : Role → Key → Past) → IsKept s h w → ((r : Role) (k : Key) → pasts r k ≡ w.past r k) → IsKept s h (record w { past = pasts })
+kept_same s h w pasts k same = record {
+  held = record {
+    faults = k.held.faults; state = k.held.state; log = k.held.log; moment = k.held.moment; made = k.held.made;
+    standing = k.held.standing; origins = k.held.origins; opened = k.held.opened;
+    past = λ r key. same r key ∙ k.held.past r key;
+    run = k.held.run;
+  };
+  settled = k.settled;
+}
+
+-- ---- roles are told
+
+one_other : (s : Setting) (h : List Entry) (w : Holdings) (f : Standing → Standing) (role r : Role) → IsHeld s h w
+    → (if role_eq role r then f (w.standing role) else w.standing r) ≡ (if role_eq role r then f (standing s h role) else standing s h r)
+one_other s h w f role r k =
+    ap (λ (t : Standing). if role_eq role r then f t else w.standing r) (k.standing role) ∙ ap (λ (t : Standing). if role_eq role r then f (standing s h role) else t) (k.standing r)
+
+pub kept_delivered : (s : Setting) (h : List Entry) (w : Holdings) (role : Role) (kind : Kind) (to : ℕ) (t : Role → Standing)
+    → IsKept s h w → IsDelivery s h role kind to → held s h role kind ≡ false → length h < s.events
+    → ((r : Role) → t r ≡ (if role_eq role r then telling kind to (w.standing role) else w.standing r))
+    → IsKept s (Deliver role kind to ∷ h) (record w { standing = t })
+unfolding IsLegal IsCaused Follows
+kept_delivered s h w role kind to t k may free room put = record {
+  held = record {
+    faults = k.held.faults; state = k.held.state; log = k.held.log; moment = k.held.moment; made = k.held.made;
+    standing = λ r. put r ∙ one_other s h w (telling kind to) role r k.held ∙ standing_delivered s h role kind to r;
+    origins = k.held.origins; opened = k.held.opened; past = k.held.past;
+    run = record {
+      legal = (may, k.held.run.legal);
+      caused = (tt, k.held.run.caused);
+      follows = (record { settled = k.settled; free = free }, k.held.run.follows);
+      short = omega (arith, room);
+    };
+  };
+  settled = refl;
+}
+
+pub kept_listed : (s : Setting) (h : List Entry) (w : Holdings) (role : Role) (kind : Kind) (to : ℕ) (t : Role → Standing)
+    → IsKept s h w → IsListing s h role kind to → held s h role kind ≡ false → length h < s.events
+    → ((r : Role) → t r ≡ (if role_eq role r then telling kind to (w.standing role) else w.standing r))
+    → IsKept s (Listed role kind to ∷ h) (record w { standing = t })
+unfolding IsLegal IsCaused Follows
+kept_listed s h w role kind to t k may free room put = record {
+  held = record {
+    faults = k.held.faults; state = k.held.state; log = k.held.log; moment = k.held.moment; made = k.held.made;
+    standing = λ r. put r ∙ one_other s h w (telling kind to) role r k.held ∙ standing_listed s h role kind to r;
+    origins = k.held.origins; opened = k.held.opened; past = k.held.past;
+    run = record {
+      legal = (may, k.held.run.legal);
+      caused = (tt, k.held.run.caused);
+      follows = (record { settled = k.settled; free = free }, k.held.run.follows);
+      short = omega (arith, room);
+    };
+  };
+  settled = refl;
+}
+
+-- ---- passes
+
+one_past : (s : Setting) (h : List Entry) (w : Holdings) (b : Bool) (f : Past → Past) (r : Role) (key : Key) → IsHeld s h w
+    → (if b then f (w.past r key) else w.past r key) ≡ (if b then f (past s h r key) else past s h r key)
+one_past s h w b f r key k = ap (λ (p : Past). if b then f p else p) (k.past r key)
+
+pub kept_begun : (s : Setting) (h : List Entry) (w : Holdings) (role : Role) (key : Key) (os : List Origin) (opened : ℕ → Option OpenPass) (pasts : Role → Key → Past)
+    → IsKept s h w → IsBegin s h (begun h + 1) role key (positions h role) (moment s h)
+    → IsDue (past s h role key) (views s h role key) (moment s h) (positions h role) → length h < s.events
+    → os ≡ record { role = role; incarnation = incarnation s h role } ∷ w.origins
+    → ((n : ℕ) → opened n ≡ (if n == begun h + 1 then Some (new_pass role key (views s h role key) (moment s h)) else w.opened n))
+    → ((r : Role) (k : Key) → pasts r k ≡ (if role_eq role r && key_eq key k then with_begin (views s h role key) (moment s h) (w.past r k) else w.past r k))
+    → IsKept s (Begin (begun h + 1) role key (positions h role) (moment s h) ∷ h) (record w { origins = os; opened = opened; past = pasts })
+unfolding IsLegal IsCaused Follows
+kept_begun s h w role key os opened pasts k may due room came put noted = record {
+  held = record {
+    faults = k.held.faults; state = k.held.state; log = k.held.log; moment = k.held.moment; made = k.held.made;
+    standing = k.held.standing;
+    origins = came ∙ ap (λ (l : List Origin). let o : Origin = record { role = role; incarnation = incarnation s h role } in o ∷ l) k.held.origins;
+    opened = λ n. put n ∙ ap (λ (p : Option OpenPass). if n == begun h + 1 then Some (new_pass role key (views s h role key) (moment s h)) else p) (k.held.opened n);
+    past = λ r q. noted r q ∙ one_past s h w (role_eq role r && key_eq key q) (with_begin (views s h role key) (moment s h)) r q k.held;
+    run = record {
+      legal = (may, k.held.run.legal);
+      caused = (due, k.held.run.caused);
+      follows = (k.settled, k.held.run.follows);
+      short = omega (arith, room);
+    };
+  };
+  settled = refl;
+}
+
+past_of_call : (s : Setting) (h : List Entry) (n : ℕ) (p : OpenPass) (kind : Kind) (b : Bool) (r : Role) (key : Key) → open_pass s h n ≡ Some p
+    → (if b && (role_eq p.role r && key_eq p.key key) then with_own kind (accepted s h + 1) (past s h r key) else past s h r key)
+    ≡ past_called s h r key (past s h r key) (Pass n) kind b
+past_of_call s h n p kind b r key is = ap (λ (o : Option OpenPass). if b && is_pass_of r key o then with_own kind (accepted s h + 1) (past s h r key) else past s h r key) (sym is)
+
+pub kept_called : (s : Setting) (h : List Entry) (w : Holdings) (n : ℕ) (p : OpenPass) (call : Call) (reply : Reply) (st : State) (log : List Write) (t : Role → Standing) (opened : ℕ → Option OpenPass) (pasts : Role → Key → Past)
+    → IsKept s h w → open_pass s h n ≡ Some p → IsReply s.faults (state s h) call reply → MayCall s h (Some p) call → length h < s.events
+    → st ≡ state_after (moment s h) (state s h) call reply
+    → log ≡ (if is_accepted reply then write_of (moment s h) (state s h) call ∷ w.log else w.log)
+    → ((r : Role) → t r ≡ (if is_accepted reply && role_eq p.role r then writing (key_of_call call).kind (w.standing p.role) else w.standing r))
+    → ((m : ℕ) → opened m ≡ (if m == n then option_map (with_stage (stage_after s h call reply)) (w.opened m) else w.opened m))
+    → ((r : Role) (k : Key) → pasts r k ≡ (if is_accepted reply && (role_eq p.role r && key_eq p.key k) then with_own (key_of_call call).kind (accepted s h + 1) (w.past r k) else w.past r k))
+    → IsKept s (Called (Pass n) call reply ∷ h) (record w { state = st; log = log; standing = t; opened = opened; past = pasts })
+unfolding IsLegal IsCaused Follows
+kept_called s h w n p call reply st log t opened pasts k is right may room after logged counted staged noted = record {
+  held = record {
+    faults = k.held.faults;
+    state = after;
+    log = logged ∙ ap (λ (l : List Write). if is_accepted reply then write_of (moment s h) (state s h) call ∷ l else l) k.held.log;
+    moment = k.held.moment; made = k.held.made;
+    standing = λ r.
+      counted r
+      ∙ ap (λ (x : Standing). if is_accepted reply && role_eq p.role r then writing (key_of_call call).kind x else w.standing r) (k.held.standing p.role)
+      ∙ ap (λ (x : Standing). if is_accepted reply && role_eq p.role r then writing (key_of_call call).kind (standing s h p.role) else x) (k.held.standing r)
+      ∙ standing_called s h n p call reply r is;
+    origins = k.held.origins;
+    opened = λ m. staged m ∙ ap (λ (o : Option OpenPass). if m == n then option_map (with_stage (stage_after s h call reply)) o else o) (k.held.opened m);
+    past = λ r q.
+      noted r q
+      ∙ one_past s h w (is_accepted reply && (role_eq p.role r && key_eq p.key q)) (with_own (key_of_call call).kind (accepted s h + 1)) r q k.held
+      ∙ past_of_call s h n p (key_of_call call).kind (is_accepted reply) r q is;
+    run = record {
+      legal = ((right, subst IsOpen (sym is) tt), k.held.run.legal);
+      caused = (subst (λ (o : Option OpenPass). MayCall s h o call) (sym is) may, k.held.run.caused);
+      follows = (k.settled, k.held.run.follows);
+      short = omega (arith, room);
+    };
+  };
+  settled = refl;
+}
+
+past_of_end : (s : Setting) (h : List Entry) (n : ℕ) (p : OpenPass) (r : Role) (key : Key) → open_pass s h n ≡ Some p
+    → (if role_eq p.role r && key_eq p.key key then with_ending (ending_at p.stage) (past s h r key) else past s h r key)
+    ≡ (if is_pass_of r key (open_pass s h n) then with_ending (ending_of (open_pass s h n)) (past s h r key) else past s h r key)
+past_of_end s h n p r key is = ap (λ (o : Option OpenPass). if is_pass_of r key o then with_ending (ending_of o) (past s h r key) else past s h r key) (sym is)
+
+pub kept_ended : (s : Setting) (h : List Entry) (w : Holdings) (n : ℕ) (p : OpenPass) (cause : Cause) (opened : ℕ → Option OpenPass) (pasts : Role → Key → Past)
+    → IsKept s h w → open_pass s h n ≡ Some p → MayEnd s h (Some p) cause → length h < s.events
+    → ((m : ℕ) → opened m ≡ (if m == n then None else w.opened m))
+    → ((r : Role) (k : Key) → pasts r k ≡ (if role_eq p.role r && key_eq p.key k then with_ending (ending_at p.stage) (w.past r k) else w.past r k))
+    → IsKept s (End n cause ∷ h) (record w { opened = opened; past = pasts })
+unfolding IsLegal IsCaused Follows
+kept_ended s h w n p cause opened pasts k is may room closed noted = record {
+  held = record {
+    faults = k.held.faults; state = k.held.state; log = k.held.log; moment = k.held.moment; made = k.held.made;
+    standing = k.held.standing; origins = k.held.origins;
+    opened = λ m. closed m ∙ ap (λ (o : Option OpenPass). if m == n then None else o) (k.held.opened m);
+    past = λ r q. noted r q ∙ one_past s h w (role_eq p.role r && key_eq p.key q) (with_ending (ending_at p.stage)) r q k.held ∙ past_of_end s h n p r q is;
+    run = record {
+      legal = (subst IsOpen (sym is) tt, k.held.run.legal);
+      caused = (subst (λ (o : Option OpenPass). MayEnd s h o cause) (sym is) may, k.held.run.caused);
+      follows = (k.settled, k.held.run.follows);
+      short = omega (arith, room);
+    };
+  };
+  settled = refl;
+}
+
+-- ---- steps of the script
+
+-- the entry of a step: what it has happen may still be owed
+pub held_scripted : (s : Setting) (h : List Entry) (w : Holdings) (step : Step) (made : ℕ) (t : Role → Standing)
+    → IsKept s h w → IsNextStep s h (scripted h + 1) → step_at s.script (scripted h + 1) ≡ Some step → length h < s.events
+    → made ≡ w.made + 1 → ((r : Role) → t r ≡ scripted_standing step r (w.standing r))
+    → IsHeld s (Script (scripted h + 1) ∷ h) (record w { made = made; standing = t })
+unfolding IsLegal IsCaused Follows
+held_scripted s h w step made t k next is room counted put = record {
+  faults = k.held.faults; state = k.held.state; log = k.held.log; moment = k.held.moment;
+  made = counted ∙ ap (λ n. n + 1) k.held.made;
+  standing = λ r. put r ∙ ap (scripted_standing step r) (k.held.standing r) ∙ standing_scripted s h (scripted h + 1) step r is;
+  origins = k.held.origins; opened = k.held.opened; past = k.held.past;
+  run = record {
+    legal = (tt, k.held.run.legal);
+    caused = (tt, k.held.run.caused);
+    follows = (next, k.held.run.follows);
+    short = omega (arith, room);
+  };
+}
+
+-- a user's call that is owed
+pub kept_users : (s : Setting) (h : List Entry) (w : Holdings) (call : Call) (reply : Reply) (st : State) (log : List Write)
+    → IsHeld s h w → owed s h ≡ Some (effects.Call call) → IsReply s.faults (state s h) call reply → length h < s.events
+    → st ≡ state_after (moment s h) (state s h) call reply
+    → log ≡ (if is_accepted reply then write_of (moment s h) (state s h) call ∷ w.log else w.log)
+    → IsKept s (Called User call reply ∷ h) (record w { state = st; log = log })
+unfolding IsLegal IsCaused Follows
+kept_users s h w call reply st log k due right room after logged = record {
+  held = record {
+    faults = k.faults;
+    state = after;
+    log = logged ∙ ap (λ (l : List Write). if is_accepted reply then write_of (moment s h) (state s h) call ∷ l else l) k.log;
+    moment = k.moment; made = k.made;
+    standing = λ r. k.standing r ∙ uncounted (is_accepted reply) s h r;
+    origins = k.origins; opened = k.opened; past = k.past;
+    run = record {
+      legal = ((right, tt), k.run.legal);
+      caused = (tt, k.run.caused);
+      follows = (due, k.run.follows);
+      short = omega (arith, room);
+    };
+  };
+  settled = refl;
+} where
+  uncounted : (b : Bool) (s : Setting) (h : List Entry) (r : Role)
+    → standing s h r
+    ≡ record (standing s h r) { written = record {
+      certificates = if b && false then (standing s h r).written.certificates + 1 else (standing s h r).written.certificates;
+      requests = if b && false then (standing s h r).written.requests + 1 else (standing s h r).written.requests;
+      secrets = if b && false then (standing s h r).written.secrets + 1 else (standing s h r).written.secrets } }
+  uncounted true s h r = refl
+  uncounted false s h r = refl
+
+-- a tick that is owed
+pub kept_ticked : (s : Setting) (h : List Entry) (w : Holdings) (now : ℤ) → IsHeld s h w → owed s h ≡ Some (effects.Tick now) → length h < s.events
+    → IsKept s (Tick now ∷ h) (record w { moment = now })
+unfolding IsLegal IsCaused Follows
+kept_ticked s h w now k due room = record {
+  held = record {
+    faults = k.faults; state = k.state; log = k.log; moment = refl; made = k.made;
+    standing = k.standing; origins = k.origins; opened = k.opened; past = k.past;
+    run = record { legal = (tt, k.run.legal); caused = (tt, k.run.caused); follows = (due, k.run.follows); short = omega (arith, room) };
+  };
+  settled = refl;
+}
+
+-- a stop that is owed
+pub kept_stopped : (s : Setting) (h : List Entry) (w : Holdings) (role : Role) (t : Role → Standing) (opened : ℕ → Option OpenPass)
+    → IsHeld s h w → owed s h ≡ Some (effects.Stop role) → length h < s.events
+    → ((r : Role) → t r ≡ (if role_eq role r then stopping (w.standing role) else w.standing r))
+    → ((n : ℕ) → opened n ≡ unless_of role (w.opened n))
+    → IsKept s (Stop role ∷ h) (record w { standing = t; opened = opened })
+unfolding IsLegal IsCaused Follows
+kept_stopped s h w role t opened k due room put closed = record {
+  held = record {
+    faults = k.faults; state = k.state; log = k.log; moment = k.moment; made = k.made;
+    standing = λ r. put r ∙ one_other s h w stopping role r k ∙ standing_stopped s h role r;
+    origins = k.origins;
+    opened = λ n. closed n ∙ ap (unless_of role) (k.opened n);
+    past = k.past;
+    run = record { legal = (tt, k.run.legal); caused = (tt, k.run.caused); follows = (due, k.run.follows); short = omega (arith, room) };
+  };
+  settled = refl;
+}
+
+-- a start that is owed
+pub kept_started : (s : Setting) (h : List Entry) (w : Holdings) (role : Role) (at : ℕ) (t : Role → Standing) (pasts : Role → Key → Past)
+    → IsHeld s h w → owed s h ≡ Some (effects.Start role at) → at ≤ accepted s h → length h < s.events
+    → ((r : Role) → t r ≡ (if role_eq role r then starting at (w.standing role) else w.standing r))
+    → ((r : Role) (k : Key) → pasts r k ≡ (if role_eq role r then no_past else w.past r k))
+    → IsKept s (Start role at ∷ h) (record w { standing = t; past = pasts })
+unfolding IsLegal IsCaused Follows
+kept_started s h w role at t pasts k due low room put forgot = record {
+  held = record {
+    faults = k.faults; state = k.state; log = k.log; moment = k.moment; made = k.made;
+    standing = λ r. put r ∙ one_other s h w (starting at) role r k ∙ standing_started s h role at r;
+    origins = k.origins; opened = k.opened;
+    past = λ r q. forgot r q ∙ ap (λ (p : Past). if role_eq role r then no_past else p) (k.past r q);
+    run = record { legal = (low, k.run.legal); caused = (tt, k.run.caused); follows = (due, k.run.follows); short = omega (arith, room) };
+  };
+  settled = refl;
+}

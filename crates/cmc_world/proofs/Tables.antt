@@ -1,0 +1,205 @@
+-- The tests of the tables of answers decide what the tables say.
+use Rattle.std.proofs.Common.{◌≡◌, ◌⊎◌, ℕ, ◌+◌, ◌<◌, ◌≤◌, Bool, true, false, Option, Some, None, List, length, refl, inl, inr, arith}
+use Rattle.std.proofs.lemmas.Bool.Decides.{nat_tests}
+use Rattle.std.specs.Prelude.{◌↔◌, IsTrue, nat_le, if◌then◌else◌}
+use Rattle.cmc_meta.specs.declared.key.Key.{Key}
+use Rattle.cmc_meta.specs.declared.key.Kind.{Kind}
+use Rattle.cmc_objects.specs.declared.role.Role.{Role}
+use Rattle.cmc_objects.specs.declared.entry.Entry.{Entry}
+use Rattle.cmc_model.specs.Histories.{Setting, moment, runs}
+use Rattle.cmc_model.specs.Writes.{writes, last_of_kind}
+use Rattle.cmc_model.specs.Positions.{has_informer, position, positions}
+use Rattle.cmc_model.specs.Viewing.{views}
+use Rattle.cmc_model.specs.Passes.{open_pass, origins, origin_at, past, IsSame}
+use Rattle.cmc_model.specs.Legality.{IsOpen}
+use Rattle.cmc_model.specs.Scripting.{scripted, step_at, held}
+use Rattle.cmc_model.specs.Following.{IsReady}
+use Rattle.cmc_held.specs.Dues.{own_above}
+use Rattle.cmc_world.specs.declared.moves.Lack.{Lack}
+use Rattle.cmc_world.specs.declared.moves.Lack.TheVariants.{ScriptOver, ScriptWaits, Stopped, NoInformer, Held, Current, NotAWrite, NotQueued, InProcess, SameViews, OwnWrite, NoPass}
+use Rattle.cmc_world.specs.declared.moves.Stepped.{Stepped}
+use Rattle.cmc_world.specs.declared.moves.Stepped.TheVariants.{Done, NotNow, Ended, Spent}
+use Rattle.cmc_world.specs.Answers.{Need, Bar, BarOf, Fits, IsNews, IsWorking, IsQueued, outdated, entries_of, next_effect, AnswersScript, AnswersDelivery, AnswersBegin, AnswersNext}
+use Rattle.cmc_world.specs.Tables.{fitting, own_answer, outdated_answer, delivery_answer, begin_answer, next_answer, script_answer}
+
+-- a test decides whether a fact holds
+pub record Decides (fact : Type 0) (test : Bool) : Type 0 where
+  pub yes : test ≡ true → fact
+  pub no : test ≡ false → fact → ⊥
+
+pub decided : (fact : Type 0) (test : Bool) → (IsTrue test ↔ fact) → Decides fact test
+decided fact test e = record { yes = λ is. e.0 is; no = λ is so. let not = e.1 so in absurd (cc (is, not)) }
+
+fitted : (s : Setting) (h : List Entry) (more : ℕ) (answer : Stepped) (room : Bool) → Decides (length h + more ≤ s.events) room → answer ≡ fitting (length h) room → Fits s h more answer
+fitted s h more answer true d a = inr (d.yes refl, a)
+fitted s h more answer false d a = inl (d.no refl, a)
+
+newer : (s : Setting) (h : List Entry) (role : Role) (kind : Kind) (to : ℕ) (answer : Stepped) (is_news room : Bool)
+    → Decides (IsNews s h role kind to) is_news → Decides (length h + 1 ≤ s.events) room → answer ≡ (if is_news then fitting (length h) room else NotNow (NotAWrite to))
+    → Need (IsNews s h role kind to) (NotNow (NotAWrite to)) answer (Fits s h 1 answer)
+newer s h role kind to answer true room news d a = inr (news.yes refl, fitted s h 1 answer room d a)
+newer s h role kind to answer false room news d a = inl (news.no refl, a)
+
+behind : (s : Setting) (h : List Entry) (role : Role) (kind : Kind) (to : ℕ) (answer : Stepped) (late is_news room : Bool)
+    → nat_le (last_of_kind kind (writes s h)) (position h role kind) ≡ late
+    → Decides (IsNews s h role kind to) is_news → Decides (length h + 1 ≤ s.events) room
+    → answer ≡ (if late then NotNow (Current (position h role kind)) else (if is_news then fitting (length h) room else NotNow (NotAWrite to)))
+    → Bar (last_of_kind kind (writes s h) ≤ position h role kind) (NotNow (Current (position h role kind))) answer (Need (IsNews s h role kind to) (NotNow (NotAWrite to)) answer (Fits s h 1 answer))
+behind s h role kind to answer true is_news room e news d a = inl (grind (arith, nat_tests), a)
+behind s h role kind to answer false is_news room e news d a = inr ((λ le. absurd (grind (arith, nat_tests))), newer s h role kind to answer is_news room news d a)
+
+pub delivery_answers : (s : Setting) (h : List Entry) (role : Role) (kind : Kind) (to : ℕ) (answer : Stepped) (running informed kept is_news room : Bool)
+    → runs s h role ≡ running → has_informer role kind ≡ informed → held s h role kind ≡ kept
+    → Decides (IsNews s h role kind to) is_news → Decides (length h + 1 ≤ s.events) room
+    → answer ≡ delivery_answer running informed kept (position h role kind) (last_of_kind kind (writes s h)) to is_news (length h) room
+    → AnswersDelivery s h role kind to answer
+delivery_answers s h role kind to answer false informed kept is_news room on has stays news d a = inl ((λ off. absurd (cc (on, off))), a)
+delivery_answers s h role kind to answer true false kept is_news room on has stays news d a = inr (on, inl ((λ none. absurd (cc (has, none))), a))
+delivery_answers s h role kind to answer true true true is_news room on has stays news d a = inr (on, inr (has, inl ((λ other. absurd (cc (stays, other))), a)))
+delivery_answers s h role kind to answer true true false is_news room on has stays news d a =
+    inr (on, inr (has, inr (stays, behind s h role kind to answer (nat_le (last_of_kind kind (writes s h)) (position h role kind)) is_news room refl news d a)))
+
+queued : (s : Setting) (h : List Entry) (role : Role) (key : Key) (answer : Stepped) (is_queued room : Bool)
+    → Decides (IsQueued s h role key) is_queued → Decides (length h + 1 ≤ s.events) room → answer ≡ (if is_queued then fitting (length h) room else NotNow NotQueued)
+    → Need (IsQueued s h role key) (NotNow NotQueued) answer (Fits s h 1 answer)
+queued s h role key answer true room q d a = inr (q.yes refl, fitted s h 1 answer room d a)
+queued s h role key answer false room q d a = inl (q.no refl, a)
+
+anew : (s : Setting) (h : List Entry) (role : Role) (key : Key) (answer : Stepped) (same is_queued room : Bool)
+    → Decides (IsSame (past s h role key).last (views s h role key) (moment s h) (positions h role)) same
+    → Decides (IsQueued s h role key) is_queued → Decides (length h + 1 ≤ s.events) room → answer ≡ (if same then NotNow SameViews else (if is_queued then fitting (length h) room else NotNow NotQueued))
+    → Bar (IsSame (past s h role key).last (views s h role key) (moment s h) (positions h role)) (NotNow SameViews) answer (Need (IsQueued s h role key) (NotNow NotQueued) answer (Fits s h 1 answer))
+anew s h role key answer true is_queued room is q d a = inl (is.yes refl, a)
+anew s h role key answer false is_queued room is q d a = inr (is.no refl, queued s h role key answer is_queued room q d a)
+
+owning : (s : Setting) (h : List Entry) (role : Role) (key : Key) (answer : Stepped) (own : Option ℕ) (same is_queued room : Bool)
+    → Decides (IsSame (past s h role key).last (views s h role key) (moment s h) (positions h role)) same
+    → Decides (IsQueued s h role key) is_queued → Decides (length h + 1 ≤ s.events) room
+    → answer ≡ own_answer own (if same then NotNow SameViews else (if is_queued then fitting (length h) room else NotNow NotQueued))
+    → BarOf own (λ version. NotNow (OwnWrite version)) answer
+      (Bar (IsSame (past s h role key).last (views s h role key) (moment s h) (positions h role)) (NotNow SameViews) answer (Need (IsQueued s h role key) (NotNow NotQueued) answer (Fits s h 1 answer)))
+owning s h role key answer None same is_queued room is q d a = anew s h role key answer same is_queued room is q d a
+owning s h role key answer (Some version) same is_queued room is q d a = a
+
+pub begin_answers : (s : Setting) (h : List Entry) (role : Role) (key : Key) (answer : Stepped) (running working same is_queued room : Bool)
+    → runs s h role ≡ running → Decides (IsWorking s h role key) working
+    → Decides (IsSame (past s h role key).last (views s h role key) (moment s h) (positions h role)) same
+    → Decides (IsQueued s h role key) is_queued → Decides (length h + 1 ≤ s.events) room
+    → answer ≡ begin_answer running working (own_above (past s h role key).own (positions h role)) same is_queued (length h) room
+    → AnswersBegin s h role key answer
+begin_answers s h role key answer false working same is_queued room on busy is q d a = inl ((λ off. absurd (cc (on, off))), a)
+begin_answers s h role key answer true true same is_queued room on busy is q d a = inr (on, inl (busy.yes refl, a))
+begin_answers s h role key answer true false same is_queued room on busy is q d a =
+    inr (on, inr (busy.no refl, owning s h role key answer (own_above (past s h role key).own (positions h role)) same is_queued room is q d a))
+
+going : (s : Setting) (h : List Entry) (pass : ℕ) (answer : Stepped) (is_open room : Bool)
+    → Decides (IsOpen (open_pass s h pass)) is_open → Decides (length h + 1 ≤ s.events) room → answer ≡ (if is_open then fitting (length h) room else NotNow (NoPass pass))
+    → Need (IsOpen (open_pass s h pass)) (NotNow (NoPass pass)) answer (Fits s h 1 answer)
+going s h pass answer true room stands d a = inr (stands.yes refl, fitted s h 1 answer room d a)
+going s h pass answer false room stands d a = inl (stands.no refl, a)
+
+dated : (s : Setting) (h : List Entry) (pass : ℕ) (answer : Stepped) (old : Option ℕ) (is_open room : Bool)
+    → Decides (IsOpen (open_pass s h pass)) is_open → Decides (length h + 1 ≤ s.events) room
+    → answer ≡ outdated_answer old (if is_open then fitting (length h) room else NotNow (NoPass pass))
+    → BarOf old (λ present. Ended present) answer (Need (IsOpen (open_pass s h pass)) (NotNow (NoPass pass)) answer (Fits s h 1 answer))
+dated s h pass answer None is_open room stands d a = going s h pass answer is_open room stands d a
+dated s h pass answer (Some present) is_open room stands d a = a
+
+pub next_answers : (s : Setting) (h : List Entry) (pass named : ℕ) (answer : Stepped) (is_open room : Bool)
+    → Decides (IsOpen (open_pass s h pass)) is_open → Decides (length h + 1 ≤ s.events) room
+    → answer ≡ next_answer (outdated s h named (origin_at pass (origins s h))) is_open pass (length h) room
+    → AnswersNext s h pass named answer
+next_answers s h pass named answer is_open room stands d a = dated s h pass answer (outdated s h named (origin_at pass (origins s h))) is_open room stands d a
+
+pub script_answers : (s : Setting) (h : List Entry) (answer : Stepped) (left ready room : Bool)
+    → Decides (scripted h < length s.script) left → Decides (IsReady s h (step_at s.script (scripted h + 1))) ready
+    → Decides (length h + entries_of (next_effect s h) ≤ s.events) room
+    → answer ≡ script_answer left ready (length h) room
+    → AnswersScript s h answer
+script_answers s h answer false ready room l r d a = inl (l.no refl, a)
+script_answers s h answer true false room l r d a = inr (l.yes refl, inl (r.no refl, a))
+script_answers s h answer true true room l r d a = inr (l.yes refl, inr (r.yes refl, fitted s h (entries_of (next_effect s h)) answer room d a))
+
+-- ---- what a move that is made was given
+
+met : {fact rest : Type 0} → (refusal : Stepped) → (Done ≡ refusal → ⊥) → Need fact refusal Done rest → fact × rest
+met refusal other (inl bad) = absurd (other bad.1)
+met refusal other (inr good) = good
+
+free : {fact rest : Type 0} → (refusal : Stepped) → (Done ≡ refusal → ⊥) → Bar fact refusal Done rest → (fact → ⊥) × rest
+free refusal other (inl bad) = absurd (other bad.1)
+free refusal other (inr good) = good
+
+not_now : (lack : Lack) → Done ≡ NotNow lack → ⊥
+not_now lack e = absurd (cc e)
+
+not_spent : (n : ℕ) → Done ≡ Spent n → ⊥
+not_spent n e = absurd (cc e)
+
+pub record MayDeliver (s : Setting) (h : List Entry) (role : Role) (kind : Kind) (to : ℕ) : Type 0 where
+  pub running : runs s h role ≡ true
+  pub informed : has_informer role kind ≡ true
+  pub free : held s h role kind ≡ false
+  pub news : IsNews s h role kind to
+  pub room : length h + 1 ≤ s.events
+
+pub may_deliver : (s : Setting) (h : List Entry) (role : Role) (kind : Kind) (to : ℕ) → AnswersDelivery s h role kind to Done → MayDeliver s h role kind to
+may_deliver s h role kind to a =
+    let one = met (NotNow Stopped) (not_now Stopped) a in
+    let two = met (NotNow NoInformer) (not_now NoInformer) one.1 in
+    let three = met (NotNow Held) (not_now Held) two.1 in
+    let four = free (NotNow (Current (position h role kind))) (not_now (Current (position h role kind))) three.1 in
+    let five = met (NotNow (NotAWrite to)) (not_now (NotAWrite to)) four.1 in
+    let six = met (Spent (length h)) (not_spent (length h)) five.1 in
+    record { running = one.0; informed = two.0; free = three.0; news = five.0; room = six.0 }
+
+own_free : {rest : Type 0} → (own : Option ℕ) → BarOf own (λ version. NotNow (OwnWrite version)) Done rest → (own ≡ None) × rest
+own_free None a = (refl, a)
+own_free (Some version) a = absurd (not_now (OwnWrite version) a)
+
+pub record MayBegin (s : Setting) (h : List Entry) (role : Role) (key : Key) : Type 0 where
+  pub running : runs s h role ≡ true
+  pub idle : IsWorking s h role key → ⊥
+  pub own : own_above (past s h role key).own (positions h role) ≡ None
+  pub other : IsSame (past s h role key).last (views s h role key) (moment s h) (positions h role) → ⊥
+  pub queued : IsQueued s h role key
+  pub room : length h + 1 ≤ s.events
+
+pub may_begin : (s : Setting) (h : List Entry) (role : Role) (key : Key) → AnswersBegin s h role key Done → MayBegin s h role key
+may_begin s h role key a =
+    let one = met (NotNow Stopped) (not_now Stopped) a in
+    let two = free (NotNow InProcess) (not_now InProcess) one.1 in
+    let three = own_free (own_above (past s h role key).own (positions h role)) two.1 in
+    let four = free (NotNow SameViews) (not_now SameViews) three.1 in
+    let five = met (NotNow NotQueued) (not_now NotQueued) four.1 in
+    let six = met (Spent (length h)) (not_spent (length h)) five.1 in
+    record { running = one.0; idle = two.0; own = three.0; other = four.0; queued = five.0; room = six.0 }
+
+dated_free : {rest : Type 0} → (old : Option ℕ) → BarOf old (λ present. Ended present) Done rest → rest
+dated_free None a = a
+dated_free (Some present) a = absurd (not_ended present a) where
+  not_ended : (n : ℕ) → Done ≡ Ended n → ⊥
+  not_ended n e = absurd (cc e)
+
+pub record MayGoOn (s : Setting) (h : List Entry) (pass : ℕ) : Type 0 where
+  pub stands : IsOpen (open_pass s h pass)
+  pub room : length h + 1 ≤ s.events
+
+pub may_go_on : (s : Setting) (h : List Entry) (pass named : ℕ) → AnswersNext s h pass named Done → MayGoOn s h pass
+may_go_on s h pass named a =
+    let one = dated_free (outdated s h named (origin_at pass (origins s h))) a in
+    let two = met (NotNow (NoPass pass)) (not_now (NoPass pass)) one in
+    let three = met (Spent (length h)) (not_spent (length h)) two.1 in
+    record { stands = two.0; room = three.0 }
+
+pub record MayStep (s : Setting) (h : List Entry) : Type 0 where
+  pub left : scripted h < length s.script
+  pub ready : IsReady s h (step_at s.script (scripted h + 1))
+  pub room : length h + entries_of (next_effect s h) ≤ s.events
+
+pub may_step : (s : Setting) (h : List Entry) → AnswersScript s h Done → MayStep s h
+may_step s h a =
+    let one = met (NotNow ScriptOver) (not_now ScriptOver) a in
+    let two = met (NotNow ScriptWaits) (not_now ScriptWaits) one.1 in
+    let three = met (Spent (length h)) (not_spent (length h)) two.1 in
+    record { left = one.0; ready = two.0; room = three.0 }

@@ -1,0 +1,161 @@
+-- What a step answers: a move is made where all its needs are met and nothing bars it, and the first of these that is not so is the answer.
+-- And what a move that is made adds to the history.
+use Rattle.std.specs.Prelude.{◌≡◌, ◌⊎◌, ℕ, ◌+◌, ◌<◌, ◌≤◌, ◌==◌, Bool, true, false, ◌&&◌, nat_le, MatchBool, MatchOption, List, ◌∷◌, length, Option, Some, None, option_and_then, if◌then◌else◌}
+use Rattle.cmc_meta.specs.declared.key.Key.{Key}
+use Rattle.cmc_meta.specs.declared.key.Kind.{Kind}
+use Rattle.cmc_objects.specs.declared.call.Call.{Call}
+use Rattle.cmc_objects.specs.declared.call.Reply.{Reply}
+use Rattle.cmc_objects.specs.declared.role.Role.{Role}
+use Rattle.cmc_objects.specs.declared.entry.Who.TheVariants.{User, Pass}
+use Rattle.cmc_objects.specs.declared.entry.Cause.{Cause}
+use Rattle.cmc_objects.specs.declared.entry.Entry.{Entry}
+use Rattle.cmc_objects.specs.declared.entry.Entry.TheVariants as entries
+use Rattle.cmc_model.specs.declared.effect.Effect.{Effect}
+use Rattle.cmc_model.specs.declared.effect.Effect.TheVariants as effects
+use Rattle.cmc_model.specs.declared.progress.Origin.{Origin}
+use Rattle.cmc_model.specs.Histories.{Setting, moment, accepted, runs, incarnation}
+use Rattle.cmc_model.specs.Writes.{writes, write_at, last_of_kind, is_known}
+use Rattle.cmc_model.specs.Positions.{has_informer, kind_of_work, position, positions}
+use Rattle.cmc_model.specs.Viewing.{views}
+use Rattle.cmc_model.specs.Passes.{open_pass, begun, origins, origin_at, is_pass_of, past, IsSame}
+use Rattle.cmc_model.specs.Legality.{IsOfKind, IsOpen}
+use Rattle.cmc_model.specs.Scripting.{scripted, step_at, held}
+use Rattle.cmc_model.specs.Following.{effect_of, IsReady}
+use Rattle.cmc_held.specs.Dues.{own_above}
+use Rattle.cmc_world.specs.declared.moves.Move.{Move}
+use Rattle.cmc_world.specs.declared.moves.Move.TheVariants.{Script, Deliver, Begin, Next}
+use Rattle.cmc_world.specs.declared.moves.Lack.TheVariants.{ScriptOver, ScriptWaits, Stopped, NoInformer, Held, Current, NotAWrite, NotQueued, InProcess, SameViews, OwnWrite, NoPass}
+use Rattle.cmc_world.specs.declared.moves.Stepped.{Stepped}
+use Rattle.cmc_world.specs.declared.moves.Stepped.TheVariants.{Done, NotNow, Ended, Spent}
+
+abbrev pub is_done : Stepped → Bool
+is_done Done = true
+is_done (NotNow lack) = false
+is_done (Ended incarnation) = false
+is_done (Spent entries) = false
+
+-- ---- tables of answers
+
+-- A need of a move: where it is not met, this is the answer; else what stands behind it decides.
+abbrev pub Need : Type 0 → Stepped → Stepped → Type 0 → Type 0
+Need fact refusal answer rest = ((fact → ⊥) × (answer ≡ refusal)) ⊎ (fact × rest)
+
+-- what keeps a move from being made: where it is so, this is the answer
+abbrev pub Bar : Type 0 → Stepped → Stepped → Type 0 → Type 0
+Bar fact refusal answer rest = (fact × (answer ≡ refusal)) ⊎ ((fact → ⊥) × rest)
+
+-- a bar that there is where there is a number, which is answered
+abbrev pub BarOf : Option ℕ → (ℕ → Stepped) → Stepped → Type 0 → Type 0
+BarOf None refusal answer rest = rest
+BarOf (Some number) refusal answer rest = answer ≡ refusal number
+
+-- the last need of each move: so many entries more fit
+abbrev pub Fits : Setting → List Entry → ℕ → Stepped → Type 0
+Fits s h more answer = Need (length h + more ≤ s.events) (Spent (length h)) answer (answer ≡ Done)
+
+-- ---- the script
+
+-- what the next step has happen
+abbrev pub next_effect : Setting → List Entry → Option Effect
+next_effect s h = option_and_then (effect_of s h) (step_at s.script (scripted h + 1))
+
+-- a step is an entry, and one more for what it has happen
+abbrev pub entries_of : Option Effect → ℕ
+entries_of None = 1
+entries_of (Some effect) = 2
+
+abbrev pub AnswersScript : Setting → List Entry → Stepped → Type 0
+AnswersScript s h answer =
+    Need (scripted h < length s.script) (NotNow ScriptOver) answer
+      (Need (IsReady s h (step_at s.script (scripted h + 1))) (NotNow ScriptWaits) answer
+        (Fits s h (entries_of (next_effect s h)) answer))
+
+-- the entry of what a step has happen
+abbrev pub IsEffect : Effect → Entry → Type 0
+IsEffect (effects.Call call) e = (reply : Reply) × (e ≡ entries.Call User call reply)
+IsEffect (effects.Tick now) e = e ≡ entries.Tick now
+IsEffect (effects.Stop role) e = e ≡ entries.Stop role
+IsEffect (effects.Start role at) e = e ≡ entries.Start role at
+
+abbrev pub GrowsByScript : Setting → List Entry → List Entry → Type 0
+GrowsByScript s h k =
+    MatchOption (next_effect s h) (k ≡ entries.Script (scripted h + 1) ∷ h) (λ effect. (e : Entry) × IsEffect effect e × (k ≡ e ∷ entries.Script (scripted h + 1) ∷ h))
+
+-- ---- deliveries
+
+-- the version of an accepted write of the kind above the position
+abbrev pub IsNews : Setting → List Entry → Role → Kind → ℕ → Type 0
+IsNews s h role kind to = (position h role kind < to) × IsOfKind kind (write_at to (writes s h))
+
+abbrev pub AnswersDelivery : Setting → List Entry → Role → Kind → ℕ → Stepped → Type 0
+AnswersDelivery s h role kind to answer =
+    Need (runs s h role ≡ true) (NotNow Stopped) answer
+      (Need (has_informer role kind ≡ true) (NotNow NoInformer) answer
+        (Need (held s h role kind ≡ false) (NotNow Held) answer
+          (Bar (last_of_kind kind (writes s h) ≤ position h role kind) (NotNow (Current (position h role kind))) answer
+            (Need (IsNews s h role kind to) (NotNow (NotAWrite to)) answer (Fits s h 1 answer)))))
+
+-- the role is told so far, or lists what stands where the watch no longer reaches back to its position
+abbrev pub delivered : Setting → List Entry → Role → Kind → ℕ → Entry
+delivered s h role kind to =
+    if nat_le (accepted s h) (position h role kind + s.window) then entries.Deliver role kind to else entries.List role kind (accepted s h)
+
+-- ---- begins
+
+-- the role has an open pass on the key
+abbrev pub IsWorking : Setting → List Entry → Role → Key → Type 0
+IsWorking s h role key = (n : ℕ) × (is_pass_of role key (open_pass s h n) ≡ true)
+
+-- the key is one of the role's kind of work, and an accepted write named it
+abbrev pub IsQueued : Setting → List Entry → Role → Key → Type 0
+IsQueued s h role key = (key.kind ≡ kind_of_work role) × (is_known key (writes s h) ≡ true)
+
+abbrev pub AnswersBegin : Setting → List Entry → Role → Key → Stepped → Type 0
+AnswersBegin s h role key answer =
+    Need (runs s h role ≡ true) (NotNow Stopped) answer
+      (Bar (IsWorking s h role key) (NotNow InProcess) answer
+        (BarOf (own_above (past s h role key).own (positions h role)) (λ version. NotNow (OwnWrite version)) answer
+          (Bar (IsSame (past s h role key).last (views s h role key) (moment s h) (positions h role)) (NotNow SameViews) answer
+            (Need (IsQueued s h role key) (NotNow NotQueued) answer (Fits s h 1 answer)))))
+
+abbrev pub beginning : Setting → List Entry → Role → Key → Entry
+beginning s h role key = entries.Begin (begun h + 1) role key (positions h role) (moment s h)
+
+-- ---- passes that go on
+
+-- the present incarnation of the role of this origin, where it is another than the pass's or the move's
+abbrev pub outdated_at : ℕ → ℕ → ℕ → Option ℕ
+outdated_at present began named = if (began == present) && (named == present) then None else Some present
+
+abbrev pub outdated : Setting → List Entry → ℕ → Option Origin → Option ℕ
+outdated s h named None = None
+outdated s h named (Some origin) = outdated_at (incarnation s h origin.role) origin.incarnation named
+
+abbrev pub AnswersNext : Setting → List Entry → ℕ → ℕ → Stepped → Type 0
+AnswersNext s h pass named answer =
+    BarOf (outdated s h named (origin_at pass (origins s h))) (λ present. Ended present) answer
+      (Need (IsOpen (open_pass s h pass)) (NotNow (NoPass pass)) answer (Fits s h 1 answer))
+
+-- a call or the end of the pass
+abbrev pub IsOfPass : ℕ → Entry → Type 0
+IsOfPass pass e = ((call : Call) × (reply : Reply) × (e ≡ entries.Call (Pass pass) call reply)) ⊎ ((cause : Cause) × (e ≡ entries.End pass cause))
+
+-- ---- all moves
+
+-- what each move is answered
+abbrev pub Answers : Setting → List Entry → Move → Stepped → Type 0
+Answers s h Script answer = AnswersScript s h answer
+Answers s h (Deliver role kind to) answer = AnswersDelivery s h role kind to answer
+Answers s h (Begin role key) answer = AnswersBegin s h role key answer
+Answers s h (Next pass named) answer = AnswersNext s h pass named answer
+
+-- the entries that the move adds, below which the old history stands
+abbrev pub Grows : Setting → List Entry → Move → List Entry → Type 0
+Grows s h Script k = GrowsByScript s h k
+Grows s h (Deliver role kind to) k = k ≡ delivered s h role kind to ∷ h
+Grows s h (Begin role key) k = k ≡ beginning s h role key ∷ h
+Grows s h (Next pass named) k = (e : Entry) × IsOfPass pass e × (k ≡ e ∷ h)
+
+-- a move that is made adds its entries, and any other leaves the history as it was
+abbrev pub Leaves : Setting → List Entry → Move → Stepped → List Entry → Type 0
+Leaves s h move answer k = MatchBool (is_done answer) (Grows s h move k) (k ≡ h)

@@ -1,0 +1,4 @@
+pub mod Answers
+pub mod Tables
+pub mod Kept
+pub mod Acting

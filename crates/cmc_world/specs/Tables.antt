@@ -1,0 +1,39 @@
+-- The rows of a step's answers, as tests: the first one that fits gives the answer.
+use Rattle.std.specs.Prelude.{ℕ, Bool, Option, Some, None, if◌then◌else◌, nat_le, not}
+use Rattle.cmc_world.specs.declared.moves.Lack.TheVariants.{ScriptOver, ScriptWaits, Stopped, NoInformer, Held, Current, NotAWrite, NotQueued, InProcess, SameViews, OwnWrite, NoPass}
+use Rattle.cmc_world.specs.declared.moves.Stepped.{Stepped}
+use Rattle.cmc_world.specs.declared.moves.Stepped.TheVariants.{Done, NotNow, Ended, Spent}
+
+abbrev pub fitting : ℕ → Bool → Stepped
+fitting entries room = if room then Done else Spent entries
+
+abbrev pub delivery_answer : Bool → Bool → Bool → ℕ → ℕ → ℕ → Bool → ℕ → Bool → Stepped
+delivery_answer running informed held position newest to is_write entries room =
+    if running then
+      (if informed then
+        (if held then NotNow Held
+         else (if nat_le newest position then NotNow (Current position)
+               else (if is_write then fitting entries room else NotNow (NotAWrite to))))
+       else NotNow NoInformer)
+    else NotNow Stopped
+
+abbrev pub own_answer : Option ℕ → Stepped → Stepped
+own_answer None rest = rest
+own_answer (Some version) rest = NotNow (OwnWrite version)
+
+abbrev pub begin_answer : Bool → Bool → Option ℕ → Bool → Bool → ℕ → Bool → Stepped
+begin_answer running working own same queued entries room =
+    if running then
+      (if working then NotNow InProcess
+       else own_answer own (if same then NotNow SameViews else (if queued then fitting entries room else NotNow NotQueued)))
+    else NotNow Stopped
+
+abbrev pub outdated_answer : Option ℕ → Stepped → Stepped
+outdated_answer None rest = rest
+outdated_answer (Some incarnation) rest = Ended incarnation
+
+abbrev pub next_answer : Option ℕ → Bool → ℕ → ℕ → Bool → Stepped
+next_answer outdated is_open pass entries room = outdated_answer outdated (if is_open then fitting entries room else NotNow (NoPass pass))
+
+abbrev pub script_answer : Bool → Bool → ℕ → Bool → Stepped
+script_answer left ready entries room = if left then (if ready then fitting entries room else NotNow ScriptWaits) else NotNow ScriptOver

@@ -1,0 +1,13 @@
+//! The world: the store, the history of what was done on it, and the controllers that work on it.
+//!
+//! One call of [`World::step`] makes one move. Whatever the moves, the history stays legal, caused and
+//! following its script, and each accepted write of a controller keeps its rights.
+#![tactic(auto)]
+
+mod acts;
+mod moves;
+mod resting;
+mod world;
+
+pub use moves::{Lack, Move, Stepped};
+pub use world::World;

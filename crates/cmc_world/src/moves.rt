@@ -1,0 +1,180 @@
+//! Moves, and what a step answers.
+ghost use Rattle.std.specs.Prelude.{◌≡◌};
+ghost use Rattle.cmc_world.specs.Tables.{delivery_answer, begin_answer, next_answer, script_answer};
+ghost use Rattle.cmc_world.specs.Answers as answers;
+
+use cmc_meta::{Key, Kind};
+use cmc_objects::Role;
+
+/// What may happen next.
+#[derive(Drop)]
+pub enum Move {
+    /// The next step of the script is made, with what it has happen.
+    Script,
+    /// A role is told of the accepted writes of a kind up to this version.
+    Deliver { role: Role, kind: Kind, to: u64 },
+    /// A role begins a pass on a key.
+    Begin { role: Role, key: Key },
+    /// The pass of this number, begun while its role had this incarnation, goes on: it makes its call
+    /// or ends.
+    Next { pass: u64, incarnation: u64 },
+}
+
+/// Why a move is not possible now.
+#[derive(Clone, Copy)]
+pub enum Lack {
+    /// No step of the script is left.
+    ScriptOver,
+    /// The next step waits until all is at rest, or until its count is reached.
+    ScriptWaits,
+    /// The role does not run.
+    Stopped,
+    /// The role is not told of objects of this kind.
+    NoInformer,
+    /// The script keeps the role from being told of this kind.
+    Held,
+    /// The role has been told of all accepted writes of the kind: its position is this one.
+    Current { position: u64 },
+    /// No accepted write of the kind above the role's position has this version.
+    NotAWrite { to: u64 },
+    /// No accepted write named the key, or the role works on keys of another kind.
+    NotQueued,
+    /// The role has an open pass on the key.
+    InProcess,
+    /// The pass would do what the last one of the role on the key did.
+    SameViews,
+    /// The role has not been told of its own write of this version.
+    OwnWrite { version: u64 },
+    /// No pass of this number is open.
+    NoPass { pass: u64 },
+}
+
+/// What a step answers.
+#[derive(Clone, Copy)]
+pub enum Stepped {
+    /// The move was made: the history has its one or two entries more.
+    Done,
+    /// The move is not possible now; all is as it was.
+    NotNow(Lack),
+    /// The pass has this number, and it or the move is not of the role's present incarnation, which is
+    /// this one; all is as it was.
+    Ended { incarnation: u64 },
+    /// The entries of the move do not fit in the history, which has this many; all is as it was.
+    Spent { entries: u64 },
+}
+
+impl Stepped {
+    /// Whether the move was made.
+    pub fn is_done(self) -> bool
+        ensures { result ≡ answers.is_done self }
+    {
+        match self {
+            Stepped::Done => true,
+            Stepped::NotNow(_) => false,
+            Stepped::Ended { .. } => false,
+            Stepped::Spent { .. } => false,
+        }
+    }
+}
+
+pub(crate) fn answer_delivery(
+    running: bool,
+    informed: bool,
+    held: bool,
+    position: u64,
+    newest: u64,
+    to: u64,
+    is_write: bool,
+    entries: u64,
+    room: bool,
+) -> Stepped
+    ensures { result ≡ delivery_answer running informed held position newest to is_write entries room }
+{
+    if !running {
+        return Stepped::NotNow(Lack::Stopped);
+    }
+    if !informed {
+        return Stepped::NotNow(Lack::NoInformer);
+    }
+    if held {
+        return Stepped::NotNow(Lack::Held);
+    }
+    if newest <= position {
+        return Stepped::NotNow(Lack::Current { position });
+    }
+    if !is_write {
+        return Stepped::NotNow(Lack::NotAWrite { to });
+    }
+    if !room {
+        return Stepped::Spent { entries };
+    }
+    Stepped::Done
+}
+
+pub(crate) fn answer_begin(
+    running: bool,
+    working: bool,
+    own: Option<u64>,
+    same: bool,
+    queued: bool,
+    entries: u64,
+    room: bool,
+) -> Stepped
+    ensures { result ≡ begin_answer running working own same queued entries room }
+{
+    if !running {
+        return Stepped::NotNow(Lack::Stopped);
+    }
+    if working {
+        return Stepped::NotNow(Lack::InProcess);
+    }
+    if let Some(version) = own {
+        return Stepped::NotNow(Lack::OwnWrite { version });
+    }
+    if same {
+        return Stepped::NotNow(Lack::SameViews);
+    }
+    if !queued {
+        return Stepped::NotNow(Lack::NotQueued);
+    }
+    if !room {
+        return Stepped::Spent { entries };
+    }
+    Stepped::Done
+}
+
+pub(crate) fn answer_next(
+    outdated: Option<u64>,
+    is_open: bool,
+    pass: u64,
+    entries: u64,
+    room: bool,
+) -> Stepped
+    ensures { result ≡ next_answer outdated is_open pass entries room }
+{
+    if let Some(incarnation) = outdated {
+        return Stepped::Ended { incarnation };
+    }
+    if !is_open {
+        return Stepped::NotNow(Lack::NoPass { pass });
+    }
+    if !room {
+        return Stepped::Spent { entries };
+    }
+    Stepped::Done
+}
+
+pub(crate) fn answer_script(left: bool, ready: bool, entries: u64, room: bool) -> Stepped
+    ensures { result ≡ script_answer left ready entries room }
+{
+    if !left {
+        return Stepped::NotNow(Lack::ScriptOver);
+    }
+    if !ready {
+        return Stepped::NotNow(Lack::ScriptWaits);
+    }
+    if !room {
+        return Stepped::Spent { entries };
+    }
+    Stepped::Done
+}
