@@ -10,3 +10,10 @@ mod pasts;
 mod standings;
 mod tables;
 mod viewing;
+
+pub use log::Log;
+pub use tables::{
+    has_informer, kind_of_work, looks_at_next, looks_at_requests, looks_at_secret,
+    works_on_requests,
+};
+pub use viewing::{present, views_at, views_on};

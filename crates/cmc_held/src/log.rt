@@ -1,0 +1,197 @@
+//! The log of accepted writes, and what its first writes leave.
+ghost use Rattle.std.specs.Option.{option_copied};
+ghost use Rattle.std.specs.Prelude.{◌≡◌, ◌↔◌, ◌+◌, ◌<◌, ◌≤◌, [], ◌∷◌, IsTrue, IfOk, OnOk, OnErr, length, reverse, slice_get, if◌then◌else◌};
+ghost use Rattle.cmc_model.specs.Legality.{IsOfKind};
+ghost use Rattle.cmc_model.specs.Replies.{put_at};
+ghost use Rattle.cmc_model.specs.Writes as spec;
+
+use cmc_meta::{Key, Kind};
+use cmc_model::Write;
+use cmc_store::Shelf;
+use std::alloc::{AllocError, Global};
+use std::marker::Model;
+
+/// The accepted writes, numbered from 1 from the oldest on, and room for more of them.
+/// Contracts see the list of the writes, the newest first, and the number of writes for which there
+/// is room already.
+#[derive(Drop)]
+pub struct Log {
+    items: Vec<Write>,
+}
+
+impl Model for Log {
+    ghost use Rattle.std.specs.Prelude.{◌-◌, reverse, vec_len, vec_capacity};
+    ghost use Rattle.cmc_held.specs.Logs.{Logged};
+
+    ghost Value = { Logged };
+
+    ghost view = { λ l. record { writes = reverse l.items.items; spare = vec_capacity l.items - vec_len l.items } };
+}
+
+impl Log {
+    /// No writes. It takes no memory.
+    pub fn new(alloc: Global) -> Log
+        ensures { result.writes ≡ [] }
+    {
+        Log {
+            items: Vec::new(alloc),
+        }
+    }
+
+    /// Makes room for so many more writes, and changes nothing else. An `Err` is want of memory.
+    pub fn reserve(&mut self, more: u64) -> Result<(), AllocError>
+        ensures room { OnOk result (more ≤ self.new.spare) }
+        ensures same { self.new.writes ≡ self.old.writes }
+    {
+        self.items.reserve(more as usize)
+    }
+
+    /// Adds a write as the newest. It takes no memory.
+    pub fn push(&mut self, write: Write)
+        requires { 0 < self.old.spare }
+        ensures writes { self.new.writes ≡ write ∷ self.old.writes }
+        ensures spare { self.old.spare ≤ self.new.spare + 1 }
+    {
+        self.items.push(write).unwrap();
+    }
+
+    /// How many writes were accepted.
+    pub fn accepted(&self) -> u64
+        ensures { result ≡ length self.now.writes }
+    {
+        self.items.len() as u64
+    }
+
+    /// The writes, the oldest first.
+    pub fn as_slice(&self) -> &[Write]
+        ensures { reverse result.now ≡ self.now.writes }
+    {
+        self.items.as_slice()
+    }
+
+    /// Whether the write of this version is one of the kind; no write has version 0.
+    pub fn is_of_kind(&self, version: u64, kind: Kind) -> bool
+        ensures { IsTrue result ↔ IsOfKind kind (spec.write_at version self.now.writes) }
+    {
+        is_of_kind(self.as_slice(), version, kind)
+    }
+
+    /// The version of the last write of the kind, 0 where there is none.
+    pub fn last_of_kind(&self, kind: Kind) -> u64
+        ensures { result ≡ spec.last_of_kind kind self.now.writes }
+    {
+        last_of_kind(self.as_slice(), kind)
+    }
+
+    /// The version of the last write under the key, 0 where there is none.
+    pub fn last_under(&self, key: &Key) -> u64
+        ensures { result ≡ spec.last_under key.now self.now.writes }
+    {
+        last_under(self.as_slice(), key)
+    }
+
+    /// Whether an accepted write named the key.
+    pub fn knows(&self, key: &Key) -> bool
+        ensures { result ≡ spec.is_known key.now self.now.writes }
+    {
+        is_known(self.as_slice(), key)
+    }
+
+    /// The objects of the kind that the first `to` writes leave; all writes count where there are fewer.
+    /// An `Err` is want of memory.
+    pub fn replay(&self, alloc: Global, kind: Kind, to: u64) -> Result<Shelf, AllocError>
+        ensures { IfOk result (λ m. m ≡ spec.contents (spec.of_kind kind (spec.oldest to self.now.writes))) }
+    {
+        replay(alloc, self.as_slice(), kind, to)
+    }
+}
+
+fn write_in_place(writes: &[Write], place: u64) -> Option<&Write>
+    ensures { option_copied result ≡ slice_get writes.now place }
+{
+    writes.get(place as usize)
+}
+
+fn write_of(writes: &[Write], version: u64) -> Option<&Write>
+    ensures { option_copied result ≡ spec.write_at version (reverse writes.now) }
+{
+    if version == 0 {
+        return None;
+    }
+    write_in_place(writes, version - 1)
+}
+
+fn is_of_kind(writes: &[Write], version: u64, kind: Kind) -> bool
+    ensures { IsTrue result ↔ IsOfKind kind (spec.write_at version (reverse writes.now)) }
+{
+    match write_of(writes, version) {
+        Some(write) => write.key.kind.same(kind),
+        None => false,
+    }
+}
+
+fn last_of_kind(writes: &[Write], kind: Kind) -> u64
+    ensures { result ≡ spec.last_of_kind kind (reverse writes.now) }
+{
+    let mut last = 0;
+    for (i, write) in writes.iter().enumerate() {
+        if write.key.kind == kind {
+            last = i as u64 + 1;
+        }
+    }
+    last
+}
+
+fn last_under(writes: &[Write], key: &Key) -> u64
+    ensures { result ≡ spec.last_under key.now (reverse writes.now) }
+{
+    let mut last = 0;
+    for (i, write) in writes.iter().enumerate() {
+        if write.key == *key {
+            last = i as u64 + 1;
+        }
+    }
+    last
+}
+
+fn is_known(writes: &[Write], key: &Key) -> bool
+    ensures { result ≡ spec.is_known key.now writes.now }
+{
+    writes.iter().any(|write| write.key == *key)
+}
+
+fn replay(alloc: Global, writes: &[Write], kind: Kind, to: u64) -> Result<Shelf, AllocError>
+    ensures { IfOk result (λ m. m ≡ spec.contents (spec.of_kind kind (spec.oldest to (reverse writes.now)))) }
+{
+    let mut shelf = Shelf::new(alloc);
+    for (i, write) in writes.iter().enumerate() {
+        if i as u64 >= to {
+            return Ok(shelf);
+        }
+        apply_of_kind(&mut shelf, write, kind)?;
+    }
+    Ok(shelf)
+}
+
+fn apply_of_kind(shelf: &mut Shelf, write: &Write, kind: Kind) -> Result<(), AllocError>
+    ensures ok { OnOk result (shelf.new ≡ (if spec.kind_eq write.now.key.kind kind then put_at shelf.old write.now.key write.now.object else shelf.old)) }
+    ensures err { OnErr result (shelf.new ≡ shelf.old) }
+{
+    if write.key.kind == kind {
+        return apply(shelf, write);
+    }
+    Ok(())
+}
+
+fn apply(shelf: &mut Shelf, write: &Write) -> Result<(), AllocError>
+    ensures ok { OnOk result (shelf.new ≡ put_at shelf.old write.now.key write.now.object) }
+    ensures err { OnErr result (shelf.new ≡ shelf.old) }
+{
+    match &write.object {
+        Some(object) => shelf.put(write.key.copy()?, object.copy()?),
+        None => {
+            shelf.remove(&write.key);
+            Ok(())
+        }
+    }
+}

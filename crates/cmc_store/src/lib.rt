@@ -8,4 +8,5 @@ mod shelf;
 mod store;
 
 pub use calls::Replied;
+pub use shelf::Shelf;
 pub use store::Store;

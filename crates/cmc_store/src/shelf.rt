@@ -30,6 +30,7 @@ impl Model for Shelf {
 impl Shelf {
     ghost use Rattle.std.specs.FinMap as finite;
 
+    /// No objects. It takes no memory.
     pub fn new(alloc: Global) -> Shelf
         ensures { result ≡ no_objects }
     {
@@ -38,12 +39,14 @@ impl Shelf {
         }
     }
 
+    /// The object under the key; `None` exactly where none stands.
     pub fn get(&self, key: &Key) -> Option<&Object>
         ensures { option_copied result ≡ object_at self.now key.now }
     {
         self.map.get(key)
     }
 
+    /// Puts the object under the key, in place of an older one; want of memory leaves all as it was.
     pub fn put(&mut self, key: Key, object: Object) -> Result<(), AllocError>
         ensures ok { OnOk result (self.new ≡ with_object self.old key object) }
         ensures err { OnErr result (self.new ≡ self.old) }
@@ -52,12 +55,14 @@ impl Shelf {
         Ok(())
     }
 
+    /// Takes the object of the key away; where none stands, nothing changes.
     pub fn remove(&mut self, key: &Key)
         ensures { self.new ≡ without_object self.old key.now }
     {
         let _ = self.map.remove(key);
     }
 
+    /// The map that keeps the objects, to go over them in order of key.
     pub fn objects(&self) -> &BTreeMap<Key, Object>
         ensures { finite.entries self.now ≡ result.now.entries }
     {

@@ -60,6 +60,13 @@ impl Store {
         self.shelf.get(key)
     }
 
+    /// The objects under their keys.
+    pub fn shelf(&self) -> &Shelf
+        ensures { result.now ≡ self.now.state.objects }
+    {
+        &self.shelf
+    }
+
     /// The map that keeps the objects, to go over them in order of key.
     pub fn objects(&self) -> &BTreeMap<Key, Object>
         ensures { finite.entries self.now.state.objects ≡ result.now.entries }
