@@ -67,6 +67,9 @@ fn for_certificate(
 /// where `now` lies in the back-off after a failure. Else it writes the status with Issuing True and the reason,
 /// at the version of the Certificate that it sees; all else stays as it is seen.
 ///
+/// The moment of the Certificate's last failure, where there is one, has to lie in the years 1950 to 9999
+/// (`HasDatedFailure`): the back-off is counted from it.
+///
 /// # Errors
 ///
 /// Want of memory alone.
