@@ -16,7 +16,27 @@ use Rattle.cmc_model.specs.Passes.{open_pass, origins, past}
 use Rattle.cmc_model.specs.Scripting.{scripted, held}
 use Rattle.cmc_model.specs.Following.{owed, written}
 use Rattle.cmc_model.specs.Runs.{IsRun}
+use Rattle.cmc_scenario.specs.Setups.{Setup}
 use Rattle.cmc_held.specs.declared.standings.Standing.{Standing}
+
+-- what contracts see of a world
+pub record Seen : Type 0 where
+  pub scenario : Setup
+  -- the entries of the history, the newest first
+  pub history : List Entry
+
+-- what the scenario gives a run to begin with
+abbrev pub setting_of : Setup → Setting
+setting_of u = record {
+  now = u.moment;
+  faults = u.faults;
+  script = u.script;
+  roles = u.roles;
+  window = u.window;
+  events = u.events;
+  material = u.material;
+  rules = u.approver;
+}
 
 -- how the role stands after the history
 abbrev pub standing : Setting → List Entry → Role → Standing

@@ -1,0 +1,61 @@
+//! What the roles do.
+ghost use Rattle.std.specs.Prelude.{◌≡◌, IfOk};
+ghost use Rattle.cmc_model.specs.declared.pass.Desk.{Desk as DeskValue};
+ghost use Rattle.cmc_model.specs.Acts as acts;
+ghost use Rattle.cmc_model.specs.Triggering.{HasDatedFailure};
+ghost use Rattle.cmc_world.specs.Acting.{act_by};
+
+use cmc_meta::Texts;
+use cmc_objects::{Call, Material, Role, Rules};
+use cmc_pass::{Act, Desk, Views};
+use std::alloc::{AllocError, Global};
+
+/// A desk with nothing on it: no role of today looks at its desk.
+fn empty_desk(alloc: Global) -> Desk {
+    Desk {
+        material: Material::new(alloc),
+        asked: 0,
+        rules: Rules {
+            issuers: Texts::new(alloc),
+            refuse: Texts::new(alloc),
+        },
+    }
+}
+
+/// The trigger's call; none where it does nothing.
+fn trigger_call(alloc: Global, seen: &Views, now: i64) -> Result<Option<Call>, AllocError>
+    requires { HasDatedFailure seen.now }
+    ensures { IfOk result (λ call. (desk : DeskValue) → acts.act Role.Trigger seen.now now desk ≡ act_by call) }
+{
+    let desk = empty_desk(alloc);
+    match cmc_trigger::act(alloc, seen, now, &desk)? {
+        Act::Nothing => Ok(None),
+        Act::Call(call) => Ok(Some(call)),
+        Act::Ask(_) => unreachable!(),
+        Act::Issue(_) => unreachable!(),
+    }
+}
+
+/// The call that the role makes on these views at the moment `now`, in seconds since
+/// 1970-01-01T00:00:00Z; none where it does nothing.
+#[tactic(auto, unfolding(cmc_model::specs::Acts::act))]
+pub(crate) fn act_of(
+    alloc: Global,
+    role: Role,
+    seen: &Views,
+    now: i64,
+) -> Result<Option<Call>, AllocError>
+    requires { HasDatedFailure seen.now }
+    ensures { IfOk result (λ call. (desk : DeskValue) → acts.act role seen.now now desk ≡ act_by call) }
+{
+    match role {
+        Role::Trigger => trigger_call(alloc, seen, now),
+        Role::KeyManager => Ok(None),
+        Role::RequestManager => Ok(None),
+        Role::Approver => Ok(None),
+        Role::Issuer => Ok(None),
+        Role::Issuing => Ok(None),
+        Role::Readiness => Ok(None),
+        Role::Revision => Ok(None),
+    }
+}

@@ -1,0 +1,117 @@
+//! Roles are told of accepted writes.
+ghost use Rattle.std.specs.Prelude.{◌≡◌, ◌↔◌, ◌<◌, ◌≤◌, ◌+◌, ◌∷◌, IsTrue, IfOk, OnOk, OnErr, false, length};
+ghost use Rattle.cmc_model.specs.Histories.{accepted};
+ghost use Rattle.cmc_model.specs.Legality.{IsOfKind, IsDelivery, IsListing};
+ghost use Rattle.cmc_model.specs.Positions.{position};
+ghost use Rattle.cmc_model.specs.Scripting as spec;
+ghost use Rattle.cmc_model.specs.Writes.{write_at};
+ghost use Rattle.cmc_world.specs.Answers.{AnswersDelivery, Leaves, delivered};
+ghost use Rattle.cmc_world.specs.Kept.{setting_of};
+ghost use Rattle.cmc_world.specs.declared.moves.Move.TheVariants as moves;
+ghost use Rattle.cmc_world.specs.declared.moves.Stepped.TheVariants as answers;
+
+use crate::moves::{Stepped, answer_delivery};
+use crate::world::{World, has_room};
+use cmc_held::{Log, has_informer, is_held, told_of, with_told};
+use cmc_meta::Kind;
+use cmc_objects::{Entry, Role};
+use std::alloc::AllocError;
+
+fn is_news(log: &Log, position: u64, to: u64, kind: Kind) -> bool
+    ensures { IsTrue result ↔ ((position < to) × IsOfKind kind (write_at to log.now.writes)) }
+{
+    position < to && log.is_of_kind(to, kind)
+}
+
+impl World {
+    pub(crate) fn judge_delivery(&self, role: Role, kind: Kind, to: u64) -> Stepped
+        ensures { AnswersDelivery (setting_of self.now.scenario) self.now.history role kind to result }
+    {
+        let standing = self.standings.get(role);
+        let position = told_of(standing, kind);
+        let newest = self.log.last_of_kind(kind);
+        let news = is_news(&self.log, position, to, kind);
+        let entries = self.history.len();
+        let room = has_room(entries, self.scenario.events(), 1);
+        answer_delivery(
+            standing.running,
+            has_informer(role, kind),
+            is_held(standing, kind),
+            position,
+            newest,
+            to,
+            news,
+            entries,
+            room,
+        )
+    }
+
+    /// Whether the watch reaches back to the role's position.
+    fn reaches_back(&self, role: Role, kind: Kind) -> bool
+        ensures { IsTrue result ↔ (accepted (setting_of self.now.scenario) self.now.history ≤ position self.now.history role kind + self.now.scenario.window) }
+    {
+        let position = told_of(self.standings.get(role), kind);
+        let accepted = self.log.accepted();
+        accepted <= position || accepted - position <= self.scenario.window()
+    }
+
+    fn deliver(&mut self, role: Role, kind: Kind, to: u64) -> Result<(), AllocError>
+        requires may { IsDelivery (setting_of self.old.scenario) self.old.history role kind to }
+        requires free { spec.held (setting_of self.old.scenario) self.old.history role kind ≡ false }
+        requires room { length self.old.history < self.old.scenario.events }
+        ensures ok { OnOk result (self.new ≡ record { scenario = self.old.scenario; history = Entry.Deliver role kind to ∷ self.old.history }) }
+        ensures err { OnErr result (self.new ≡ self.old) }
+    {
+        self.history.reserve(1)?;
+        let standing = self.standings.get(role);
+        self.standings.set(role, with_told(standing, kind, to));
+        self.history.push(Entry::Deliver { role, kind, to });
+        Ok(())
+    }
+
+    fn list(&mut self, role: Role, kind: Kind, to: u64) -> Result<(), AllocError>
+        requires may { IsListing (setting_of self.old.scenario) self.old.history role kind to }
+        requires free { spec.held (setting_of self.old.scenario) self.old.history role kind ≡ false }
+        requires room { length self.old.history < self.old.scenario.events }
+        ensures ok { OnOk result (self.new ≡ record { scenario = self.old.scenario; history = Entry.List role kind to ∷ self.old.history }) }
+        ensures err { OnErr result (self.new ≡ self.old) }
+    {
+        self.history.reserve(1)?;
+        let standing = self.standings.get(role);
+        self.standings.set(role, with_told(standing, kind, to));
+        self.history.push(Entry::List { role, kind, to });
+        Ok(())
+    }
+
+    /// Tells the role so far, or lists what stands where the watch no longer reaches back.
+    fn tell(&mut self, role: Role, kind: Kind, to: u64) -> Result<(), AllocError>
+        requires { AnswersDelivery (setting_of self.old.scenario) self.old.history role kind to answers.Done }
+        ensures ok { OnOk result (self.new ≡ record { scenario = self.old.scenario; history = delivered (setting_of self.old.scenario) self.old.history role kind to ∷ self.old.history }) }
+        ensures err { OnErr result (self.new ≡ self.old) }
+    {
+        if self.reaches_back(role, kind) {
+            return self.deliver(role, kind, to);
+        }
+        let newest = self.log.accepted();
+        self.list(role, kind, newest)
+    }
+
+    pub(crate) fn step_deliver(
+        &mut self,
+        role: Role,
+        kind: Kind,
+        to: u64,
+    ) -> Result<Stepped, AllocError>
+        ensures answer { IfOk result (λ r. AnswersDelivery (setting_of self.old.scenario) self.old.history role kind to r) }
+        ensures scenario { self.new.scenario ≡ self.old.scenario }
+        ensures leaves { IfOk result (λ r. Leaves (setting_of self.old.scenario) self.old.history (moves.Deliver role kind to) r self.new.history) }
+        ensures err { OnErr result (self.new ≡ self.old) }
+    {
+        let answer = self.judge_delivery(role, kind, to);
+        if !answer.is_done() {
+            return Ok(answer);
+        }
+        self.tell(role, kind, to)?;
+        Ok(Stepped::Done)
+    }
+}

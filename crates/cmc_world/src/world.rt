@@ -1,0 +1,130 @@
+//! The world and its parts.
+ghost use Rattle.std.specs.Prelude.{◌≡◌, ◌↔◌, ◌+◌, ◌≤◌, ◌<◌, [], ◌∷◌, IsTrue, IfOk, OnOk, OnErr, length};
+ghost use Rattle.cmc_model.specs.Histories as spec;
+ghost use Rattle.cmc_world.specs.Kept.{setting_of};
+
+use cmc_held::{Log, Origins, Passes, Pasts, Standings};
+use cmc_history::History;
+use cmc_meta::Numbers;
+use cmc_objects::Role;
+use cmc_scenario::Scenario;
+use cmc_store::Store;
+use std::alloc::{AllocError, Global};
+use std::marker::Model;
+
+/// The store, the history of all that was done on it, and the roles that work on it.
+///
+/// Contracts see the scenario and the entries of the history, the newest first.
+pub struct World {
+    pub(crate) scenario: Scenario,
+    pub(crate) store: Store,
+    pub(crate) log: Log,
+    pub(crate) history: History,
+    pub(crate) moment: i64,
+    pub(crate) made: u64,
+    pub(crate) standings: Standings,
+    pub(crate) origins: Origins,
+    pub(crate) passes: Passes,
+    pub(crate) pasts: Pasts,
+}
+
+impl Model for World {
+    ghost use Rattle.cmc_held.specs.Open.{pass_at};
+    ghost use Rattle.cmc_held.specs.Remembered.{past_at};
+    ghost use Rattle.cmc_held.specs.Standing.{standing_of};
+    ghost use Rattle.cmc_world.specs.Kept.{setting_of, Seen, IsKept};
+
+    ghost Value = { Seen };
+
+    ghost view = { λ w. record { scenario = w.scenario; history = w.history.entries } };
+
+    ghost invariant = { λ w. IsKept (setting_of w.scenario) w.history.entries (record { faults = w.store.faults; state = w.store.state; log = w.log.writes; moment = w.moment; made = w.made; standing = λ role. standing_of w.standings role; origins = w.origins.origins; opened = λ n. pass_at w.passes n; past = λ role key. past_at w.pasts role key }) };
+}
+
+impl Drop for World {
+    fn drop(self) {
+        let World {
+            scenario: _scenario,
+            store: _store,
+            log: _log,
+            history: _history,
+            moment: _moment,
+            made: _made,
+            standings: _standings,
+            origins: _origins,
+            passes: _passes,
+            pasts: _pasts,
+        } = self;
+    }
+}
+
+fn numbers_of(alloc: Global, items: &[u64]) -> Result<Numbers, AllocError>
+    ensures { IfOk result (λ n. n ≡ items.now) }
+{
+    let mut numbers = Numbers::new(alloc);
+    for item in items {
+        numbers.push(*item)?;
+    }
+    Ok(numbers)
+}
+
+/// Whether so many entries more fit.
+pub(crate) fn has_room(entries: u64, events: u64, more: u64) -> bool
+    ensures { IsTrue result ↔ (entries + more ≤ events) }
+{
+    if events < entries {
+        return false;
+    }
+    more <= events - entries
+}
+
+impl World {
+    /// The world of the scenario before its first step: no object stands, nothing was done, and the
+    /// scenario's roles run, told of nothing.
+    ///
+    /// # Errors
+    ///
+    /// Want of memory alone.
+    pub fn new(alloc: Global, scenario: Scenario) -> Result<World, AllocError>
+        ensures { IfOk result (λ w. w ≡ record { scenario = scenario; history = [] }) }
+    {
+        let faults = numbers_of(alloc, scenario.faults())?;
+        let standings = Standings::new(alloc, scenario.roles())?;
+        let pasts = Pasts::new(alloc)?;
+        let moment = scenario.now();
+        Ok(World {
+            scenario,
+            store: Store::new(alloc, faults),
+            log: Log::new(alloc),
+            history: History::new(alloc),
+            moment,
+            made: 0,
+            standings,
+            origins: Origins::new(alloc),
+            passes: Passes::new(alloc),
+            pasts,
+        })
+    }
+
+    /// The scenario that the world was made of.
+    pub fn scenario(&self) -> &Scenario
+        ensures { result.now ≡ self.now.scenario }
+    {
+        &self.scenario
+    }
+
+    /// What was done so far.
+    pub fn history(&self) -> &History
+        ensures { result.now.entries ≡ self.now.history }
+    {
+        &self.history
+    }
+
+    /// How many times the role has begun: once where it runs from the beginning on, and once for each
+    /// start of the script.
+    pub fn incarnation(&self, role: Role) -> u64
+        ensures { result ≡ spec.incarnation (setting_of self.now.scenario) self.now.history role }
+    {
+        self.standings.get(role).incarnation
+    }
+}
