@@ -1,0 +1,155 @@
+-- Ticks of a script of short steps do not leave the range of the moments.
+use Rattle.std.proofs.Common.{◌≡◌, ℕ, ℤ, pos, ◌+◌, ◌-◌, ◌*◌, ◌≤◌, ◌+ℤ◌, List, [], ◌∷◌, length, zero, suc, Option, Some, None, subst, arith, w64, to_z, of_z}
+use Rattle.std.specs.Prelude.{◌≤ℤ◌, neg_ℤ, FitsSigned, option_and_then, slice_get}
+use Rattle.std.specs.List.{All}
+use Rattle.std.proofs.lemmas.Int.{ints}
+use Rattle.std.proofs.lemmas.List.Elements.{All-head, All-tail}
+use Rattle.cmc_objects.specs.declared.entry.Who.TheVariants.{User, Pass}
+use Rattle.cmc_objects.specs.declared.entry.Step.{Step}
+use Rattle.cmc_objects.specs.declared.entry.Step.TheVariants as steps
+use Rattle.cmc_objects.specs.declared.entry.Entry.{Entry}
+use Rattle.cmc_objects.specs.declared.entry.Entry.TheVariants.{Script, Call as Called, Deliver, List as Listed, Begin, Ask, Made, Signed, Answered, Judged, End, Stop, Start, Tick}
+use Rattle.cmc_model.specs.declared.effect.Effect.{Effect}
+use Rattle.cmc_model.specs.declared.effect.Effect.TheVariants as effects
+use Rattle.cmc_model.specs.Histories.{Setting, moment}
+use Rattle.cmc_model.specs.Scripting.{scripted, step_at}
+use Rattle.cmc_model.specs.Following.{call_of, effect_of, owed, Follows}
+use Rattle.cmc_world.specs.Short.{IsShortStep}
+
+-- ---- short steps
+
+abbrev pub IsShortOption : Option Step → Type 0
+IsShortOption None = Unit {0}
+IsShortOption (Some step) = IsShortStep step
+
+short_at : (script : List Step) (i : ℕ) → All IsShortStep script → IsShortOption (slice_get script i)
+short_at [] i short = tt
+short_at (step ∷ script) zero short = All-head IsShortStep step script short
+short_at (step ∷ script) (suc i) short = short_at script i (All-tail IsShortStep step script short)
+
+-- the step of any number is short
+pub short_step : (script : List Step) (number : ℕ) → All IsShortStep script → IsShortOption (step_at script number)
+short_step script number short = short_at script (number - 1) short
+
+-- ---- what so many short steps make of the moment
+
+-- the moment lies within what so many short steps make of the first one
+abbrev pub IsWithinSteps : ℤ → ℕ → ℤ → Type 0
+IsWithinSteps first steps at = (first ≤ℤ at) × (at ≤ℤ (first +ℤ pos (1000000000 * steps)))
+
+within_more : (first : ℤ) (n : ℕ) (at : ℤ) → IsWithinSteps first n at → IsWithinSteps first (n + 1) at
+within_more first n at within = (within.0, omega (arith, ints, within.1))
+
+within_tick : (first : ℤ) (n : ℕ) (at : ℤ) (seconds : ℕ) → seconds ≤ 1000000000 → IsWithinSteps first n at → IsWithinSteps first (n + 1) (at +ℤ pos seconds)
+within_tick first n at seconds short within = (omega (arith, ints, within.0), omega (arith, ints, within.1, short))
+
+-- the moment of a tick that is owed lies there too
+abbrev IsTimely : ℤ → ℕ → Option Effect → Type 0
+IsTimely first n None = Unit {0}
+IsTimely first n (Some (effects.Call call)) = Unit {0}
+IsTimely first n (Some (effects.Tick now)) = IsWithinSteps first n now
+IsTimely first n (Some (effects.Stop role)) = Unit {0}
+IsTimely first n (Some (effects.Start role at)) = Unit {0}
+
+timely_effect : (s : Setting) (h : List Entry) (step : Step) → IsShortStep step → IsWithinSteps s.now (scripted h) (moment s h)
+    → IsTimely s.now (scripted h + 1) (effect_of s h step)
+unfolding call_of
+timely_effect s h (steps.Apply object version) short within = tt
+timely_effect s h (steps.Delete key version) short within = tt
+timely_effect s h (steps.Approve certificate revision) short within = tt
+timely_effect s h (steps.Deny certificate revision) short within = tt
+timely_effect s h (steps.Answer certificate revision row) short within = tt
+timely_effect s h (steps.Renew certificate) short within = tt
+timely_effect s h (steps.Tick seconds) short within = within_tick s.now (scripted h) (moment s h) seconds short within
+timely_effect s h (steps.Stop role) short within = tt
+timely_effect s h (steps.Start role behind) short within = tt
+timely_effect s h (steps.Hold role kind) short within = tt
+timely_effect s h (steps.Release role kind) short within = tt
+timely_effect s h (steps.Until role kind writes) short within = tt
+timely_effect s h steps.Settle short within = tt
+
+timely_step : (s : Setting) (h : List Entry) (step : Option Step) → IsShortOption step → IsWithinSteps s.now (scripted h) (moment s h)
+    → IsTimely s.now (scripted h + 1) (option_and_then (effect_of s h) step)
+timely_step s h None short within = tt
+timely_step s h (Some step) short within = timely_effect s h step short within
+
+-- the moment and the tick that is owed, if one is
+abbrev IsOnTime : Setting → List Entry → Type 0
+IsOnTime s h = IsWithinSteps s.now (scripted h) (moment s h) × IsTimely s.now (scripted h) (owed s h)
+
+on_time : (s : Setting) (h : List Entry) → All IsShortStep s.script → Follows s h → IsOnTime s h
+unfolding Follows
+on_time s [] short follows = ((omega (arith, ints), omega (arith, ints)), tt)
+on_time s (Script step ∷ h) short follows =
+    let before = (on_time s h short follows.1).0 in
+    (within_more s.now (scripted h) (moment s h) before, timely_step s h (step_at s.script step) (short_step s.script step short) before)
+on_time s (Called who call reply ∷ h) short follows = ((on_time s h short follows.1).0, tt)
+on_time s (Deliver role kind to ∷ h) short follows = ((on_time s h short follows.1).0, tt)
+on_time s (Listed role kind to ∷ h) short follows = ((on_time s h short follows.1).0, tt)
+on_time s (Begin pass role key at now ∷ h) short follows = ((on_time s h short follows.1).0, tt)
+on_time s (Ask pass order ∷ h) short follows = ((on_time s h short follows.1).0, tt)
+on_time s (Made pass key ∷ h) short follows = ((on_time s h short follows.1).0, tt)
+on_time s (Signed pass signature ∷ h) short follows = ((on_time s h short follows.1).0, tt)
+on_time s (Answered pass answer ∷ h) short follows = ((on_time s h short follows.1).0, tt)
+on_time s (Judged pass approved ∷ h) short follows = ((on_time s h short follows.1).0, tt)
+on_time s (End pass cause ∷ h) short follows = ((on_time s h short follows.1).0, tt)
+on_time s (Stop role ∷ h) short follows = ((on_time s h short follows.1).0, tt)
+on_time s (Start role at ∷ h) short follows = ((on_time s h short follows.1).0, tt)
+on_time s (Tick now ∷ h) short follows = (subst (λ (e : Option Effect). IsTimely s.now (scripted h) e) follows.0 (on_time s h short follows.1).1, tt)
+
+-- the moment lies between the first one and what the steps so far can make of it
+pub moments_low : (s : Setting) (h : List Entry) → All IsShortStep s.script → Follows s h
+    → (s.now ≤ℤ moment s h) × (moment s h ≤ℤ (s.now +ℤ pos (1000000000 * scripted h)))
+moments_low s h short follows = (on_time s h short follows).0
+
+-- no more steps are made than the script has
+pub scripted_low : (s : Setting) (h : List Entry) → Follows s h → scripted h ≤ length s.script
+unfolding Follows
+scripted_low s [] follows = omega arith
+scripted_low s (Script step ∷ h) follows = omega (arith, follows.0.numbered, follows.0.stands)
+scripted_low s (Called User call reply ∷ h) follows = scripted_low s h follows.1
+scripted_low s (Called (Pass pass) call reply ∷ h) follows = scripted_low s h follows.1
+scripted_low s (Deliver role kind to ∷ h) follows = scripted_low s h follows.1
+scripted_low s (Listed role kind to ∷ h) follows = scripted_low s h follows.1
+scripted_low s (Begin pass role key at now ∷ h) follows = scripted_low s h follows.1
+scripted_low s (Ask pass order ∷ h) follows = scripted_low s h follows.1
+scripted_low s (Made pass key ∷ h) follows = scripted_low s h follows.1
+scripted_low s (Signed pass signature ∷ h) follows = scripted_low s h follows.1
+scripted_low s (Answered pass answer ∷ h) follows = scripted_low s h follows.1
+scripted_low s (Judged pass approved ∷ h) follows = scripted_low s h follows.1
+scripted_low s (End pass cause ∷ h) follows = scripted_low s h follows.1
+scripted_low s (Stop role ∷ h) follows = scripted_low s h follows.1
+scripted_low s (Start role at ∷ h) follows = scripted_low s h follows.1
+scripted_low s (Tick now ∷ h) follows = scripted_low s h follows.1
+
+-- ---- the tick that comes next
+
+-- how far the present moment and the tick that comes next can be from nothing
+pub tick_bounds : (s : Setting) (h : List Entry) (seconds : ℕ) → All IsShortStep s.script → Follows s h
+    → (neg_ℤ (pos 1000000000000) ≤ℤ s.now) → (s.now ≤ℤ pos 1000000000000) → length s.script ≤ 10000
+    → step_at s.script (scripted h + 1) ≡ Some (steps.Tick seconds)
+    → (neg_ℤ (pos 1000000000000) ≤ℤ moment s h) × (moment s h ≤ℤ pos 11000000000000) × (seconds ≤ 1000000000)
+tick_bounds s h seconds short follows low high few next =
+    let within = moments_low s h short follows in
+    let made = scripted_low s h follows in
+    let one : seconds ≤ 1000000000 = subst IsShortOption next (short_step s.script (scripted h + 1) short) in
+    (omega (arith, ints, within.0, low), omega (arith, ints, within.1, made, high, few), one)
+
+-- so their sum fits
+pub tick_fits : (s : Setting) (h : List Entry) (seconds : ℕ) → All IsShortStep s.script → Follows s h
+    → (neg_ℤ (pos 1000000000000) ≤ℤ s.now) → (s.now ≤ℤ pos 1000000000000) → length s.script ≤ 10000
+    → step_at s.script (scripted h + 1) ≡ Some (steps.Tick seconds) → FitsSigned w64 (moment s h +ℤ pos seconds)
+tick_fits s h seconds short follows low high few next =
+    let bounds = tick_bounds s h seconds short follows low high few next in
+    omega (arith, ints, bounds.0, bounds.1, bounds.2)
+
+-- the same of the sum as code makes it, of the moment that it keeps and of the seconds of the step, and what that sum is
+pub tick_sum_fits : (at : ℤ) (seconds : ℕ) (now : ℤ) → at ≡ now → FitsSigned w64 at
+    → (neg_ℤ (pos 1000000000000) ≤ℤ now) × (now ≤ℤ pos 11000000000000) × (seconds ≤ 1000000000)
+    → FitsSigned w64 (to_z w64 (of_z w64 at) +ℤ to_z w64 seconds)
+tick_sum_fits at seconds now same fits bounds = omega (arith, ints, same, fits, bounds.0, bounds.1, bounds.2)
+
+pub tick_sum_is : (at : ℤ) (seconds : ℕ) (now : ℤ) → at ≡ now → FitsSigned w64 at
+    → (neg_ℤ (pos 1000000000000) ≤ℤ now) × (now ≤ℤ pos 11000000000000) × (seconds ≤ 1000000000)
+    → to_z w64 (of_z w64 (to_z w64 (of_z w64 at) +ℤ to_z w64 seconds)) ≡ now +ℤ pos seconds
+tick_sum_is at seconds now same fits bounds = omega (arith, ints, same, fits, bounds.0, bounds.1, bounds.2)

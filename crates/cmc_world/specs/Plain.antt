@@ -1,0 +1,10 @@
+-- Acts that are one call or nothing.
+use Rattle.cmc_model.specs.declared.pass.Act.{Act}
+use Rattle.cmc_model.specs.declared.pass.Act.TheVariants.{Nothing, Call, Ask, Issue}
+
+-- the act asks no question and issues nothing
+abbrev pub IsPlain : Act → Type 0
+IsPlain Nothing = Unit {0}
+IsPlain (Call call) = Unit {0}
+IsPlain (Ask order) = ⊥
+IsPlain (Issue plan) = ⊥
