@@ -1,1 +1,5 @@
 pub mod OneMore
+pub mod Always
+pub mod Plain
+pub mod Orders
+pub mod Copies

@@ -4,4 +4,5 @@ pub mod Secrets
 pub mod Applied
 pub mod Keys
 pub mod Scripts
+pub mod Setups
 pub mod Scenarios

@@ -1,4 +1,4 @@
-//! Scenarios: what users ask of the store, read from JSON.
+//! Scenarios: all that a run is given, and the reading of them from JSON.
 //!
 //! A value that is no scenario fails at the first failing path of a walk in depth: an object's
 //! members in byte order of their names, a missing member at its place, a list's items in order.
@@ -8,10 +8,14 @@ mod applied;
 mod certificate;
 mod key;
 mod metadata;
+mod reading;
+mod roles;
 mod scenario;
 mod secret;
 mod step;
 mod steps;
 
-pub use scenario::{BadScenario, Scenario, read};
+pub use reading::{BadScenario, read};
+pub use roles::Roles;
+pub use scenario::Scenario;
 pub use steps::Steps;

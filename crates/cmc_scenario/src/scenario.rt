@@ -1,108 +1,171 @@
-// Scenarios.
-ghost use Rattle.std.specs.Prelude.{◌≡◌, false, OnOk};
-ghost use Rattle.serde_json.specs.View.{view, items_view};
-ghost use Rattle.serde_json.specs.Written.{has_float};
-ghost use Rattle.cmc_codec.specs.Reading.{Gives};
-ghost use Rattle.cmc_codec.specs.Seen.{shown_option};
-ghost use Rattle.cmc_scenario.specs.Scenarios.{no_items_at, empty_list_at, roles_at, with_roles, members_at, scenario_at, IsReading};
+// All that a run is given.
+ghost use Rattle.std.specs.Prelude.{◌≡◌, IfOk};
+ghost use Rattle.cmc_scenario.specs.Setups.{IsSetup};
 
-use crate::steps::{Steps, script};
-use cmc_codec::{BadField, at, check_end, check_floats, fields, optional};
-use cmc_meta::Text;
-use serde_json::Value;
-use std::alloc::Global;
+use crate::roles::Roles;
+use crate::steps::Steps;
+use cmc_meta::{Key, Numbers};
+use cmc_objects::{Material, Role, Rows, Rules, Step};
+use std::alloc::{AllocError, Global};
+use std::collections::BTreeMap;
+use std::marker::Model;
 
-/// What a run is given: the steps that users make, one after another.
-#[derive(Drop)]
+/// All that a run is given: the steps of its script, and the world in which they are made.
 pub struct Scenario {
-    pub script: Steps,
+    events: u64,
+    window: u64,
+    moment: i64,
+    roles: Roles,
+    faults: Numbers,
+    approver: Rules,
+    material: Material,
+    script: Steps,
 }
 
-/// Why a value is no scenario.
-#[derive(Drop)]
-pub enum BadScenario {
-    /// The value fails at this path first: member names and places in lists (from 0), joined by
-    /// dots. The empty path is the value itself.
-    Path(Text),
-    /// Memory ran out.
-    NoMemory,
+impl Model for Scenario {
+    ghost use Rattle.cmc_scenario.specs.Setups.{Setup, IsSetup};
+
+    ghost Value = { Setup };
+
+    ghost view = { λ s. record { events = s.events; window = s.window; moment = s.moment; roles = s.roles; faults = s.faults; approver = s.approver; material = s.material; script = s.script } };
+
+    ghost invariant = { λ s. IsSetup (record { events = s.events; window = s.window; moment = s.moment; roles = s.roles; faults = s.faults; approver = s.approver; material = s.material; script = s.script }) };
 }
 
-fn check_no_items(alloc: Global, items: &[Value]) -> Result<(), BadField>
-    ensures { Gives (λ t. t) result (no_items_at (items_view items.now)) }
-{
-    match items {
-        [] => Ok(()),
-        [_first, ..] => Err(BadField::Path(Text::from_str(alloc, "0")?)),
+impl Drop for Scenario {
+    fn drop(self) {
+        let Scenario {
+            events: _events,
+            window: _window,
+            moment: _moment,
+            roles: _roles,
+            faults: _faults,
+            approver: _approver,
+            material: _material,
+            script: _script,
+        } = self;
     }
 }
 
-fn check_empty_list(alloc: Global, value: &Value) -> Result<(), BadField>
-    ensures { Gives (λ t. t) result (empty_list_at (view value.now)) }
-{
-    match value {
-        Value::Array(items) => check_no_items(alloc, items.as_slice()),
-        _ => Err(BadField::Path(Text::new(alloc))),
+impl Scenario {
+    /// The scenario of these parts.
+    ///
+    /// A history has at most `events` entries, and a watch reaches back over `window` accepted writes
+    /// (both 1 to 250,000). The run begins at the moment `now`, in seconds since
+    /// 1970-01-01T00:00:00Z, not before 1951, and all its ticks end by 9900-01-01T00:00:00Z. The
+    /// `roles` run from the beginning on, the store calls of the numbers `faults`, from 1 and
+    /// ascending, fail, and `script` has at most 10,000 steps, whose ticks have 1 to 1,000,000,000
+    /// seconds each.
+    pub fn new(
+        events: u64,
+        window: u64,
+        now: i64,
+        roles: Roles,
+        faults: Numbers,
+        approver: Rules,
+        material: Material,
+        script: Steps,
+    ) -> Scenario
+        requires { IsSetup (record { events = events; window = window; moment = now; roles = roles; faults = faults; approver = approver; material = material; script = script }) }
+        ensures { result ≡ record { events = events; window = window; moment = now; roles = roles; faults = faults; approver = approver; material = material; script = script } }
+    {
+        Scenario {
+            events,
+            window,
+            moment: now,
+            roles,
+            faults,
+            approver,
+            material,
+            script,
+        }
+    }
+
+    /// The most entries that a history may have.
+    pub fn events(&self) -> u64
+        ensures value { result ≡ self.now.events }
+        ensures setup { IsSetup self.now }
+    {
+        self.events
+    }
+
+    /// Over how many accepted writes a watch reaches back.
+    pub fn window(&self) -> u64
+        ensures { result ≡ self.now.window }
+    {
+        self.window
+    }
+
+    /// The moment of the beginning, in seconds since 1970-01-01T00:00:00Z.
+    pub fn now(&self) -> i64
+        ensures { result ≡ self.now.moment }
+    {
+        self.moment
+    }
+
+    /// The roles that run from the beginning on, in their order.
+    pub fn roles(&self) -> &[Role]
+        ensures { result.now ≡ self.now.roles }
+    {
+        self.roles.as_slice()
+    }
+
+    /// The numbers of the store calls that fail, from 1 and ascending.
+    pub fn faults(&self) -> &[u64]
+        ensures { result.now ≡ self.now.faults }
+    {
+        self.faults.as_slice()
+    }
+
+    /// What the approver lets pass.
+    pub fn approver(&self) -> &Rules
+        ensures { result.now ≡ self.now.approver }
+    {
+        &self.approver
+    }
+
+    /// What is said of the keys and the issuers of Certificates.
+    pub fn material(&self) -> &Material
+        ensures { result.now ≡ self.now.material }
+    {
+        &self.material
+    }
+
+    /// The steps that are made, one after another.
+    pub fn script(&self) -> &[Step]
+        ensures { result.now ≡ self.now.script }
+    {
+        self.script.as_slice()
+    }
+
+    /// An equal scenario.
+    pub fn copy(&self) -> Result<Scenario, AllocError>
+        ensures { IfOk result (λ s. s ≡ self.now) }
+    {
+        let roles = self.roles.copy()?;
+        let faults = self.faults.copy()?;
+        let approver = self.approver.copy()?;
+        let material = copy_entries(self.roles.allocator(), self.material.as_map())?;
+        let script = self.script.copy()?;
+        Ok(Scenario {
+            events: self.events,
+            window: self.window,
+            moment: self.moment,
+            roles,
+            faults,
+            approver,
+            material,
+            script,
+        })
     }
 }
 
-fn check_roles(alloc: Global, value: Option<&Value>) -> Result<(), BadField>
-    ensures { Gives (λ t. t) result (roles_at (shown_option value.entry)) }
+fn copy_entries(alloc: Global, entries: &BTreeMap<Key, Rows>) -> Result<Material, AllocError>
+    ensures { IfOk result (λ m. m ≡ entries.now.entries) }
 {
-    match value {
-        None => Ok(()),
-        Some(value) => at(alloc, "roles", check_empty_list(alloc, value)),
+    let mut material = Material::new(alloc);
+    for (certificate, rows) in entries.iter() {
+        material.set(certificate.copy()?, rows.copy()?)?;
     }
-}
-
-fn check_given(alloc: Global, roles: Option<&Value>) -> Result<(), BadField>
-    ensures { Gives (λ t. t) result (with_roles (shown_option roles.entry)) }
-{
-    match roles {
-        None => Err(BadField::Path(Text::from_str(alloc, "roles")?)),
-        Some(_) => Ok(()),
-    }
-}
-
-#[tactic(auto, unfolding(crate::specs::Scenarios::members_at))]
-fn members(alloc: Global, value: &Value) -> Result<Scenario, BadField>
-    ensures { Gives (λ t. t) result (members_at (view value.now)) }
-{
-    let members = fields(alloc, value)?;
-    let (roles, rest) = optional(alloc, &members, "roles")?;
-    check_roles(alloc, roles)?;
-    let (given, rest) = optional(alloc, rest, "script")?;
-    let script = script(alloc, given)?;
-    check_end(alloc, rest)?;
-    check_given(alloc, roles)?;
-    Ok(Scenario { script })
-}
-
-#[tactic(auto, unfolding(crate::specs::Scenarios::scenario_at))]
-fn whole(alloc: Global, value: &Value) -> Result<Scenario, BadField>
-    ensures first { Gives (λ t. t) result (scenario_at (view value.now)) }
-    ensures none { OnOk result (has_float (view value.now) ≡ false) }
-{
-    let scenario = members(alloc, value)?;
-    check_floats(alloc, value)?;
-    Ok(scenario)
-}
-
-/// The scenario that a value describes.
-///
-/// It has `roles`, the empty list, and may have `script`, a list of at most 10,000 steps `apply`
-/// and `delete`. No other member may stand, and no number may be a float.
-///
-/// # Errors
-///
-/// `Path` exactly where the value is not of this form, with the first failing path.
-pub fn read(alloc: Global, value: &Value) -> Result<Scenario, BadScenario>
-    ensures form { IsReading (scenario_at (view value.now)) result }
-    ensures whole { OnOk result (has_float (view value.now) ≡ false) }
-{
-    match whole(alloc, value) {
-        Ok(scenario) => Ok(scenario),
-        Err(BadField::Path(path)) => Err(BadScenario::Path(path)),
-        Err(BadField::NoMemory) => Err(BadScenario::NoMemory),
-    }
+    Ok(material)
 }

@@ -1,8 +1,9 @@
 // One step of a script.
-ghost use Rattle.std.specs.Prelude.{◌≡◌, map, option_map};
+ghost use Rattle.std.specs.Prelude.{◌≡◌, false, IfOk, map, option_map};
 ghost use Rattle.serde_json.specs.View.{view};
 ghost use Rattle.cmc_codec.specs.Reading.{Gives};
 ghost use Rattle.cmc_codec.specs.Seen.{shown, shown_option};
+ghost use Rattle.cmc_scenario.specs.Setups.{is_tick};
 ghost use Rattle.cmc_scenario.specs.Scripts.{apply_in, named_version_at, delete_in, stray_in, is_later_word, step_in, step_at};
 
 use crate::applied::{applied, member, pass};
@@ -91,7 +92,8 @@ fn form(alloc: Global, word: Option<&str>, rest: Fields<'_, '_>) -> Result<Step,
 /// One step.
 #[tactic(auto, unfolding(crate::specs::Scripts::step_at))]
 pub fn step(alloc: Global, value: &Value) -> Result<Step, BadField>
-    ensures { Gives (λ t. t) result (step_at (view value.now)) }
+    ensures form { Gives (λ t. t) result (step_at (view value.now)) }
+    ensures still { IfOk result (λ s. is_tick s ≡ false) }
 {
     let members = fields(alloc, value)?;
     form(alloc, member(value, "do"), &members)

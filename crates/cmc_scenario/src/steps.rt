@@ -3,6 +3,7 @@ ghost use Rattle.std.specs.Prelude.{◌≡◌, ◌++◌, ◌∷◌, [], IfOk, On
 ghost use Rattle.serde_json.specs.View.{view, items_view};
 ghost use Rattle.cmc_codec.specs.Reading.{Gives};
 ghost use Rattle.cmc_codec.specs.Seen.{shown_option};
+ghost use Rattle.cmc_scenario.specs.Setups.{IsPlain};
 ghost use Rattle.cmc_scenario.specs.Scripts.{numbered_step_at, steps_from, steps_at, script_at};
 
 use crate::step::step;
@@ -109,7 +110,8 @@ fn listed(alloc: Global, value: &Value) -> Result<Steps, BadField>
 
 /// The steps of the member `script`.
 pub fn script(alloc: Global, value: Option<&Value>) -> Result<Steps, BadField>
-    ensures { Gives (λ t. t) result (script_at (shown_option value.entry)) }
+    ensures form { Gives (λ t. t) result (script_at (shown_option value.entry)) }
+    ensures plain { IfOk result IsPlain }
 {
     match value {
         None => Ok(Steps::new(alloc)),

@@ -9,10 +9,12 @@ use cmc_meta::{
 use cmc_objects::{
     Algorithm, Call, CertSpec, CertStatus, Certificate, CertificateRequest, CsrOrder, Encoding,
     Entry, IssuerRef, JudgeOrder, KeyOrder, KeyRow, KeyRows, KeySpec, Material, Object, Order,
-    Parts, Reply, RequestSpec, RequestStatus, Rotation, Rows, Rules, Secret, SignRow, SignRows,
-    Signing, Step,
+    Parts, Reply, RequestSpec, RequestStatus, Role, Rotation, Rows, Rules, Secret, SignRow,
+    SignRows, Signing, Step,
 };
+use cmc_scenario::{Roles, Scenario, read};
 use cmc_store::Store;
+use serde_json::Value;
 use std::alloc::Global;
 use std::process::Abort;
 use std::test::Fail;
@@ -383,5 +385,33 @@ fn keeps_lists_and_maps(rt: HostRuntime) -> Result<(), Fail> {
     assert_eq!(rt; history.len(), 1);
     assert!(rt; history.entry(0).is_none());
     assert!(rt; matches!(history.entry(1), Some(Entry::Script { step: 1 })));
+    Ok(())
+}
+
+fn scenario(alloc: Global, text: &str) -> Result<Scenario, Fail> {
+    match Value::from_str(alloc, text) {
+        Ok(value) => read(alloc, &value).map_err(|_| Fail::from("no scenario")),
+        Err(_) => Err(Fail::from("no JSON")),
+    }
+}
+
+#[test]
+fn fills_in_what_a_scenario_leaves_out(rt: HostRuntime) -> Result<(), Fail> {
+    let alloc = rt.alloc();
+    let text = r#"{"roles":[],"script":[{"do":"delete","key":"Secret/default/web"}]}"#;
+    let scenario = scenario(alloc, text)?.copy()?;
+    assert_eq!(rt; scenario.events(), 100_000);
+    assert_eq!(rt; scenario.window(), 1_000);
+    assert_eq!(rt; scenario.now(), 1_893_456_000);
+    assert!(rt; scenario.roles().is_empty());
+    assert!(rt; scenario.faults().is_empty());
+    assert_eq!(rt; scenario.approver().issuers.as_slice().len(), 1);
+    assert!(rt; scenario.approver().issuers.as_slice()[0].as_str() == "*");
+    assert!(rt; scenario.approver().refuse.as_slice().is_empty());
+    assert!(rt; scenario.material().as_map().is_empty());
+    assert!(rt; matches!(scenario.script(), [Step::Delete { version: None, .. }]));
+    let mut roles = Roles::new(alloc);
+    roles.push(Role::Trigger)?;
+    assert!(rt; matches!(roles.copy()?.as_slice(), [Role::Trigger]));
     Ok(())
 }

@@ -61,7 +61,7 @@ fn run_of(alloc: Global, value: &Value, scenario: &Scenario) -> Result<Lines, Al
     requires users { IsOfUsers scenario.now.script }
     ensures { IfOk result (λ lines. RunsOn (view value.now) scenario.now (joined lines)) }
 {
-    let played = play(alloc, START, scenario.script.as_slice())?;
+    let played = play(alloc, START, scenario.script())?;
     let summary = summarize(alloc, played.store.objects())?;
     history_text(alloc, value, &played.history, &summary)
 }

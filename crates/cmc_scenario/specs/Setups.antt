@@ -1,0 +1,114 @@
+-- What a scenario is: all that a run is given.
+use Rattle.std.specs.Prelude.{◌≡◌, ℕ, ℤ, pos, neg_ℤ, ◌+◌, ◌+ℤ◌, ◌<◌, ◌≤◌, ◌≤ℤ◌, Bool, true, false, List, [], ◌∷◌, length, All, sum_by}
+use Rattle.cmc_meta.specs.declared.key.Key.{Key}
+use Rattle.cmc_objects.specs.declared.entry.Step.{Step}
+use Rattle.cmc_objects.specs.declared.entry.Step.TheVariants.{Apply, Delete, Approve, Deny, Answer, Renew, Tick, Stop, Start, Hold, Release, Until, Settle}
+use Rattle.cmc_objects.specs.declared.orders.Rules.{Rules}
+use Rattle.cmc_objects.specs.declared.role.Role.{Role}
+use Rattle.cmc_objects.specs.declared.rows.Rows.{Rows}
+use Rattle.cmc_objects.specs.Roles.{role_rank}
+
+-- what contracts see of a scenario
+pub record Setup : Type 0 where
+  -- the most entries that a history may have
+  pub events : ℕ
+  -- over how many accepted writes a watch reaches back
+  pub window : ℕ
+  -- the moment of the beginning, in seconds since 1970-01-01T00:00:00Z
+  pub moment : ℤ
+  -- the roles that run from the beginning on
+  pub roles : List Role
+  -- the numbers of the store calls that fail
+  pub faults : List ℕ
+  -- what the approver lets pass
+  pub approver : Rules
+  -- what the scenario says of keys and issuers
+  pub material : List (Key × Rows)
+  pub script : List Step
+
+-- how many seconds a step lets pass
+abbrev pub seconds_of : Step → ℕ
+seconds_of (Apply object version) = 0
+seconds_of (Delete key version) = 0
+seconds_of (Approve certificate revision) = 0
+seconds_of (Deny certificate revision) = 0
+seconds_of (Answer certificate revision row) = 0
+seconds_of (Renew certificate) = 0
+seconds_of (Tick seconds) = seconds
+seconds_of (Stop role) = 0
+seconds_of (Start role behind) = 0
+seconds_of (Hold role kind) = 0
+seconds_of (Release role kind) = 0
+seconds_of (Until role kind writes) = 0
+seconds_of Settle = 0
+
+-- the step lets time pass
+abbrev pub is_tick : Step → Bool
+is_tick (Apply object version) = false
+is_tick (Delete key version) = false
+is_tick (Approve certificate revision) = false
+is_tick (Deny certificate revision) = false
+is_tick (Answer certificate revision row) = false
+is_tick (Renew certificate) = false
+is_tick (Tick seconds) = true
+is_tick (Stop role) = false
+is_tick (Start role behind) = false
+is_tick (Hold role kind) = false
+is_tick (Release role kind) = false
+is_tick (Until role kind writes) = false
+is_tick Settle = false
+
+-- no step of the script lets time pass
+abbrev pub HasNoTick : List Step → Type 0
+HasNoTick script = All (λ (step : Step). is_tick step ≡ false) script
+
+-- how many seconds all steps together let pass
+abbrev pub ticked : List Step → ℕ
+ticked script = sum_by seconds_of script
+
+-- a tick has 1 to 1,000,000,000 seconds
+pub record IsTickForm (step : Step) : Type 0 where
+  pub least : is_tick step ≡ true → 1 ≤ seconds_of step
+  pub most : seconds_of step ≤ 1000000000
+
+-- each number is above all before it, and the first above n
+abbrev pub RiseFrom : ℕ → List ℕ → Type 0
+RiseFrom n [] = Unit {0}
+RiseFrom n (m ∷ ms) = (n < m) × RiseFrom m ms
+
+-- the roles come in their order, each once, from this rank on
+abbrev pub AreInOrderFrom : ℕ → List Role → Type 0
+AreInOrderFrom n [] = Unit {0}
+AreInOrderFrom n (role ∷ roles) = (n ≤ role_rank role) × AreInOrderFrom (role_rank role + 1) roles
+
+abbrev pub AreInOrder : List Role → Type 0
+AreInOrder roles = AreInOrderFrom 0 roles
+
+-- the role comes after each of the roles
+abbrev pub IsAfter : List Role → Role → Type 0
+IsAfter roles last = All (λ (role : Role). role_rank role < role_rank last) roles
+
+-- 1951-01-01T00:00:00Z and 9900-01-01T00:00:00Z: all moments of a run lie there
+abbrev pub first_moment : ℤ
+first_moment = neg_ℤ (pos 599616000)
+
+abbrev pub last_moment : ℤ
+last_moment = pos 250246627200
+
+-- what is true of each scenario
+pub record IsSetup (setup : Setup) : Type 0 where
+  pub some_events : 1 ≤ setup.events
+  pub most_events : setup.events ≤ 250000
+  pub some_window : 1 ≤ setup.window
+  pub most_window : setup.window ≤ 250000
+  pub begins : first_moment ≤ℤ setup.moment
+  pub ends : (setup.moment +ℤ pos (ticked setup.script)) ≤ℤ last_moment
+  pub short : length setup.script ≤ 10000
+  pub ticks : All IsTickForm setup.script
+  pub faults : RiseFrom 0 setup.faults
+  pub roles : AreInOrder setup.roles
+
+-- what is true of each script that is read
+pub record IsPlain (script : List Step) : Type 0 where
+  pub short : length script ≤ 10000
+  pub still : HasNoTick script
