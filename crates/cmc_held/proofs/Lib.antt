@@ -1,2 +1,8 @@
 pub mod Numbered
 pub mod Told
+pub mod Rows
+pub mod ByNumber
+pub mod Behind
+pub mod OpenOnes
+pub mod Memories
+pub mod RowsOfPasts

@@ -1,2 +1,7 @@
 pub mod Logs
 pub mod Sight
+pub mod Standing
+pub mod Came
+pub mod Dues
+pub mod Open
+pub mod Remembered

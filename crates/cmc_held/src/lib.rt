@@ -11,7 +11,15 @@ mod standings;
 mod tables;
 mod viewing;
 
+pub use due::{is_same, own_above, shown_positions};
 pub use log::Log;
+pub use origins::Origins;
+pub use passes::Passes;
+pub use pasts::Pasts;
+pub use standings::{
+    Flags, Standing, Standings, at_kind, is_held, put_at_kind, told_of, with_held, with_told,
+    with_written, written_of,
+};
 pub use tables::{
     has_informer, kind_of_work, looks_at_next, looks_at_requests, looks_at_secret,
     works_on_requests,

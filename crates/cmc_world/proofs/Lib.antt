@@ -1,3 +1,12 @@
 pub mod Tables
 pub mod Standings
+pub mod Carrying
+pub mod Stages
+pub mod Origins
+pub mod Dated
+pub mod Rights
+pub mod Moments
+pub mod Acts
+pub mod Rest
+pub mod Views
 pub mod Events

@@ -1,4 +1,8 @@
+pub mod Short
+pub mod Plain
+pub mod Rest
 pub mod Answers
 pub mod Tables
-pub mod Kept
 pub mod Acting
+pub mod Prepared
+pub mod Kept

@@ -5,8 +5,10 @@
 #![tactic(auto)]
 
 mod acts;
+mod beginning;
+mod going;
 mod moves;
-mod resting;
+mod telling;
 mod world;
 
 pub use moves::{Lack, Move, Stepped};

@@ -1,0 +1,18 @@
+-- The rows of roles, in the order of roles.
+use Rattle.std.proofs.Common.{◌≡◌, [], ◌∷◌, refl}
+use Rattle.cmc_objects.specs.declared.role.Role.{Role}
+use Rattle.cmc_objects.specs.declared.role.Role.TheVariants.{Trigger, KeyManager, RequestManager, Approver, Issuer, Issuing, Readiness, Revision}
+use Rattle.cmc_held.specs.declared.standings.Standing.{Standing}
+use Rattle.cmc_held.specs.Standing.{standing_of}
+
+-- each of eight rows is that of its role
+pub row_of_each : (f : Role → Standing) (r : Role) → standing_of (f Trigger ∷ f KeyManager ∷ f RequestManager ∷ f Approver ∷ f Issuer ∷ f Issuing ∷ f Readiness ∷ f Revision ∷ []) r ≡ f r
+unfolding standing_of
+row_of_each f Trigger = refl
+row_of_each f KeyManager = refl
+row_of_each f RequestManager = refl
+row_of_each f Approver = refl
+row_of_each f Issuer = refl
+row_of_each f Issuing = refl
+row_of_each f Readiness = refl
+row_of_each f Revision = refl

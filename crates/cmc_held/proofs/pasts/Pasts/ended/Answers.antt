@@ -1,0 +1,6 @@
+use Rattle.cmc_model.specs.Passes.{with_ending}
+use Rattle.cmc_held.proofs.RowsOfPasts.{past_changed, row_here}
+use Rattle.cmc_held.proofs.pasts.Pasts.ended.Goals as goal
+
+pub returns : goal.returns
+returns c = rw (← c.self.view_is) (past_changed (with_ending c.args.ending) c.self.inside.rows.items c.rank.result c.args.role c.index_mut.result.now c.ended.new.self c.args.key.now (row_here c.self.inside.rows.items c.rank.result c.args.role c.index_mut.result.now c.self.invariant c.rank.ensures c.index_mut.ensures.value) c.ended.ensures)

@@ -1,0 +1,34 @@
+-- What each role remembers of each key.
+use Rattle.std.specs.Prelude.{Bool, List, [], Option, Some, None, is_some, slice_index_or}
+use Rattle.std.specs.BTreeMap.{is_at}
+use Rattle.std.specs.Map.{lookup}
+use Rattle.cmc_meta.specs.declared.key.Key.{Key}
+use Rattle.cmc_meta.specs.Keys.{key_cmp}
+use Rattle.cmc_objects.specs.declared.role.Role.{Role}
+use Rattle.cmc_objects.specs.Roles.{role_rank}
+use Rattle.cmc_model.specs.declared.progress.Past.{Past}
+use Rattle.cmc_model.specs.Passes.{no_past}
+
+-- what is kept of one role, under the keys in order
+abbrev pub Kept : Type 0
+Kept = List (Key × Past)
+
+abbrev pub past_or_new : Option Past → Past
+past_or_new None = no_past
+past_or_new (Some past) = past
+
+-- what one role remembers of the key
+unfoldable pub memory_at : Kept → Key → Past
+memory_at kept key = past_or_new (lookup (is_at (key_cmp key)) kept)
+
+-- whether something is kept of the key, be it that nothing was done on it
+unfoldable pub is_noted : Kept → Key → Bool
+is_noted kept key = is_some (lookup (is_at (key_cmp key)) kept)
+
+-- the rows stand in the order of roles
+unfoldable pub past_at : List Kept → Role → Key → Past
+past_at rows role key = memory_at (slice_index_or rows (role_rank role) []) key
+
+-- whether changes of what the role remembers of the key take no memory
+unfoldable pub is_ready : List Kept → Role → Key → Bool
+is_ready rows role key = is_noted (slice_index_or rows (role_rank role) []) key
