@@ -4,5 +4,4 @@ pub mod Rest
 pub mod Answers
 pub mod Tables
 pub mod Acting
-pub mod Prepared
 pub mod Kept
