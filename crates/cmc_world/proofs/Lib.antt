@@ -10,3 +10,4 @@ pub mod Acts
 pub mod Rest
 pub mod Views
 pub mod Events
+pub mod Counts

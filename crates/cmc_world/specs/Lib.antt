@@ -6,3 +6,5 @@ pub mod Tables
 pub mod Acting
 pub mod Prepared
 pub mod Kept
+pub mod Changes
+pub mod Noting
