@@ -32,7 +32,8 @@ use Rattle.cmc_model.specs.Following.{owed, IsNextStep, Follows}
 use Rattle.cmc_model.specs.Runs.{IsRun}
 use Rattle.cmc_held.specs.declared.standings.Standing.{Standing}
 use Rattle.cmc_world.specs.Kept.{standing, Holdings, IsHeld, IsKept}
-use Rattle.cmc_world.proofs.Standings.{telling, stopping, starting, writing, scripted_standing, standing_delivered, standing_listed, standing_stopped, standing_started, standing_scripted, standing_called}
+use Rattle.cmc_world.specs.Changes.{telling, stopping, starting, writing, scripted_standing}
+use Rattle.cmc_world.proofs.Standings.{standing_delivered, standing_listed, standing_stopped, standing_started, standing_scripted, standing_called}
 
 -- what is kept pointwise may be kept in another way
 pub kept_same : (s : Setting) (h : List Entry) (w : Holdings) (pasts : Role → Key → Past) → IsKept s h w → ((r : Role) (k : Key) → pasts r k ≡ w.past r k) → IsKept s h (record w { past = pasts })

@@ -12,3 +12,4 @@ pub mod Views
 pub mod Events
 pub mod Judging
 pub mod Starting
+pub mod Counts

@@ -18,20 +18,16 @@ use Rattle.cmc_model.specs.declared.progress.OpenPass.{OpenPass}
 use Rattle.cmc_model.specs.Replies.{is_accepted, key_of_call}
 use Rattle.cmc_model.specs.Histories.{Setting, runs, incarnation, role_eq}
 use Rattle.cmc_model.specs.Writes.{kind_eq}
-use Rattle.cmc_model.specs.Positions.{is_informer, position, position_of}
-use Rattle.cmc_model.specs.Passes.{open_pass, with_position}
+use Rattle.cmc_model.specs.Positions.{is_informer, position}
+use Rattle.cmc_model.specs.Passes.{open_pass}
 use Rattle.cmc_model.specs.Scripting.{held, held_by, step_at}
 use Rattle.cmc_model.specs.Following.{written, is_by}
 use Rattle.cmc_held.specs.declared.standings.Standing.{Standing}
-use Rattle.cmc_held.specs.Standing.{flag_of, with_flag}
+use Rattle.cmc_world.specs.Changes.{telling, stopping, starting, keeping, writing, scripted_standing}
 use Rattle.cmc_world.specs.Kept.{standing}
 
 pub same_role : (a b : Role) → role_eq a b ≡ true → a ≡ b
 same_role a b e = role_of_rank a b (grind (arith, nat_tests))
-
--- a role is told of a kind up to a write
-abbrev pub telling : Kind → ℕ → Standing → Standing
-telling kind to t = record t { told = with_position kind to t.told }
 
 told_kind : (s : Setting) (h : List Entry) (kind : Kind) (to : ℕ) (r : Role)
     → telling kind to (standing s h r)
@@ -54,10 +50,6 @@ pub standing_listed : (s : Setting) (h : List Entry) (role : Role) (kind : Kind)
     → (if role_eq role r then telling kind to (standing s h role) else standing s h r) ≡ standing s (Listed role kind to ∷ h) r
 standing_listed s h role kind to r = told_at (role_eq role r) s h role kind to r refl
 
--- a role stops
-abbrev pub stopping : Standing → Standing
-stopping t = record t { running = false }
-
 stopped_at : (b : Bool) (s : Setting) (h : List Entry) (role r : Role) → role_eq role r ≡ b
     → (if b then stopping (standing s h role) else standing s h r) ≡ record (standing s h r) { running = if b then false else runs s h r }
 stopped_at true s h role r e = ap (λ q. stopping (standing s h q)) (same_role role r e)
@@ -66,10 +58,6 @@ stopped_at false s h role r e = refl
 pub standing_stopped : (s : Setting) (h : List Entry) (role r : Role)
     → (if role_eq role r then stopping (standing s h role) else standing s h r) ≡ standing s (Stop role ∷ h) r
 standing_stopped s h role r = stopped_at (role_eq role r) s h role r refl
-
--- a role starts, told of the first so many writes
-abbrev pub starting : ℕ → Standing → Standing
-starting at t = record t { running = true; incarnation = t.incarnation + 1; told = record { certificates = at; requests = at; secrets = at } }
 
 started_at : (b : Bool) (s : Setting) (h : List Entry) (role : Role) (at : ℕ) (r : Role) → role_eq role r ≡ b
     → (if b then starting at (standing s h role) else standing s h r)
@@ -83,9 +71,6 @@ standing_started s h role at r = started_at (role_eq role r) s h role at r refl
 
 -- ---- steps that hold and release
 
-abbrev pub keeping : Kind → Bool → Standing → Standing
-keeping kind on t = record t { held = with_flag kind on t.held }
-
 kept_kind : (s : Setting) (h : List Entry) (kind : Kind) (on : Bool) (r : Role)
     → keeping kind on (standing s h r)
     ≡ record (standing s h r) { held = record { certificates = if kind_eq kind kinds.Certificate then on else held s h r kinds.Certificate; requests = if kind_eq kind kinds.CertificateRequest then on else held s h r kinds.CertificateRequest; secrets = if kind_eq kind kinds.Secret then on else held s h r kinds.Secret } }
@@ -98,22 +83,6 @@ held_one : (b : Bool) (s : Setting) (h : List Entry) (kind : Kind) (on : Bool) (
     ≡ record (standing s h r) { held = record { certificates = if b && kind_eq kind kinds.Certificate then on else held s h r kinds.Certificate; requests = if b && kind_eq kind kinds.CertificateRequest then on else held s h r kinds.CertificateRequest; secrets = if b && kind_eq kind kinds.Secret then on else held s h r kinds.Secret } }
 held_one true s h kind on r = kept_kind s h kind on r
 held_one false s h kind on r = refl
-
--- what a step makes of how one role stands
-abbrev pub scripted_standing : Step → Role → Standing → Standing
-scripted_standing (steps.Apply object version) r t = t
-scripted_standing (steps.Delete key version) r t = t
-scripted_standing (steps.Approve certificate revision) r t = t
-scripted_standing (steps.Deny certificate revision) r t = t
-scripted_standing (steps.Answer certificate revision row) r t = t
-scripted_standing (steps.Renew certificate) r t = t
-scripted_standing (steps.Tick seconds) r t = t
-scripted_standing (steps.Stop role) r t = t
-scripted_standing (steps.Start role behind) r t = t
-scripted_standing (steps.Hold role kind) r t = if role_eq role r then keeping kind true t else t
-scripted_standing (steps.Release role kind) r t = if role_eq role r then keeping kind false t else t
-scripted_standing (steps.Until role kind writes) r t = t
-scripted_standing steps.Settle r t = t
 
 step_standing : (s : Setting) (h : List Entry) (n : ℕ) (step : Step) (r : Role)
     → scripted_standing step r (standing s h r)
@@ -141,10 +110,6 @@ standing_scripted s h n step r is =
 
 -- ---- writes
 
--- a role wrote an object of the kind
-abbrev pub writing : Kind → Standing → Standing
-writing kind t = record t { written = with_position kind (position_of kind t.written + 1) t.written }
-
 wrote_kind : (s : Setting) (h : List Entry) (kind : Kind) (r : Role)
     → writing kind (standing s h r)
     ≡ record (standing s h r) { written = record { certificates = if kind_eq kind kinds.Certificate then written s h r kinds.Certificate + 1 else written s h r kinds.Certificate; requests = if kind_eq kind kinds.CertificateRequest then written s h r kinds.CertificateRequest + 1 else written s h r kinds.CertificateRequest; secrets = if kind_eq kind kinds.Secret then written s h r kinds.Secret + 1 else written s h r kinds.Secret } }
@@ -163,10 +128,13 @@ one_count b c n = ap (λ (d : Bool). if d then n + 1 else n) (flip b c)
 
 wrote_at : (a b : Bool) (s : Setting) (h : List Entry) (role : Role) (kind : Kind) (r : Role) → role_eq role r ≡ b
     → (if a && b then writing kind (standing s h role) else standing s h r)
-    ≡ record (standing s h r) { written = record {
-      certificates = if a && (kind_eq kind kinds.Certificate && b) then written s h r kinds.Certificate + 1 else written s h r kinds.Certificate;
-      requests = if a && (kind_eq kind kinds.CertificateRequest && b) then written s h r kinds.CertificateRequest + 1 else written s h r kinds.CertificateRequest;
-      secrets = if a && (kind_eq kind kinds.Secret && b) then written s h r kinds.Secret + 1 else written s h r kinds.Secret } }
+    ≡ record (standing s h r) {
+      written = record {
+        certificates = if a && (kind_eq kind kinds.Certificate && b) then written s h r kinds.Certificate + 1 else written s h r kinds.Certificate;
+        requests = if a && (kind_eq kind kinds.CertificateRequest && b) then written s h r kinds.CertificateRequest + 1 else written s h r kinds.CertificateRequest;
+        secrets = if a && (kind_eq kind kinds.Secret && b) then written s h r kinds.Secret + 1 else written s h r kinds.Secret;
+      };
+    }
 wrote_at true true s h role kind r e =
     let one = one_count true (kind_eq kind kinds.Certificate) (written s h r kinds.Certificate) in
     let two = one_count true (kind_eq kind kinds.CertificateRequest) (written s h r kinds.CertificateRequest) in
@@ -181,10 +149,13 @@ wrote_at true false s h role kind r e =
 wrote_at false b s h role kind r e = refl
 
 counting : Setting → List Entry → Call → Reply → Role → Option OpenPass → Standing
-counting s h call reply r p = record (standing s h r) { written = record {
-  certificates = if is_accepted reply && (kind_eq (key_of_call call).kind kinds.Certificate && is_by r p) then written s h r kinds.Certificate + 1 else written s h r kinds.Certificate;
-  requests = if is_accepted reply && (kind_eq (key_of_call call).kind kinds.CertificateRequest && is_by r p) then written s h r kinds.CertificateRequest + 1 else written s h r kinds.CertificateRequest;
-  secrets = if is_accepted reply && (kind_eq (key_of_call call).kind kinds.Secret && is_by r p) then written s h r kinds.Secret + 1 else written s h r kinds.Secret } }
+counting s h call reply r p = record (standing s h r) {
+  written = record {
+    certificates = if is_accepted reply && (kind_eq (key_of_call call).kind kinds.Certificate && is_by r p) then written s h r kinds.Certificate + 1 else written s h r kinds.Certificate;
+    requests = if is_accepted reply && (kind_eq (key_of_call call).kind kinds.CertificateRequest && is_by r p) then written s h r kinds.CertificateRequest + 1 else written s h r kinds.CertificateRequest;
+    secrets = if is_accepted reply && (kind_eq (key_of_call call).kind kinds.Secret && is_by r p) then written s h r kinds.Secret + 1 else written s h r kinds.Secret;
+  };
+}
 
 -- an accepted call of a pass counts for its role
 pub standing_called : (s : Setting) (h : List Entry) (n : ℕ) (p : OpenPass) (call : Call) (reply : Reply) (r : Role) → open_pass s h n ≡ Some p

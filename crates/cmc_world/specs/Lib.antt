@@ -5,3 +5,5 @@ pub mod Answers
 pub mod Tables
 pub mod Acting
 pub mod Kept
+pub mod Changes
+pub mod Noting

@@ -8,6 +8,7 @@ mod acts;
 
 
 mod moves;
+mod noting;
 mod telling;
 mod world;
 

@@ -1,0 +1,47 @@
+-- What changes of how a role stands.
+use Rattle.std.specs.Prelude.{ℕ, ◌+◌, Bool, true, false, if◌then◌else◌}
+use Rattle.cmc_meta.specs.declared.key.Kind.{Kind}
+use Rattle.cmc_objects.specs.declared.role.Role.{Role}
+use Rattle.cmc_objects.specs.declared.entry.Step.{Step}
+use Rattle.cmc_objects.specs.declared.entry.Step.TheVariants as steps
+use Rattle.cmc_model.specs.Histories.{role_eq}
+use Rattle.cmc_model.specs.Positions.{position_of}
+use Rattle.cmc_model.specs.Passes.{with_position}
+use Rattle.cmc_held.specs.declared.standings.Standing.{Standing}
+use Rattle.cmc_held.specs.Standing.{with_flag}
+
+-- a role is told of a kind up to a write
+abbrev pub telling : Kind → ℕ → Standing → Standing
+telling kind to t = record t { told = with_position kind to t.told }
+
+-- a role stops
+abbrev pub stopping : Standing → Standing
+stopping t = record t { running = false }
+
+-- a role starts, told of the first so many writes
+abbrev pub starting : ℕ → Standing → Standing
+starting at t = record t { running = true; incarnation = t.incarnation + 1; told = record { certificates = at; requests = at; secrets = at } }
+
+-- deliveries of a kind are held back from a role, or no longer
+abbrev pub keeping : Kind → Bool → Standing → Standing
+keeping kind on t = record t { held = with_flag kind on t.held }
+
+-- a role wrote an object of the kind
+abbrev pub writing : Kind → Standing → Standing
+writing kind t = record t { written = with_position kind (position_of kind t.written + 1) t.written }
+
+-- what a step makes of how one role stands
+abbrev pub scripted_standing : Step → Role → Standing → Standing
+scripted_standing (steps.Apply object version) r t = t
+scripted_standing (steps.Delete key version) r t = t
+scripted_standing (steps.Approve certificate revision) r t = t
+scripted_standing (steps.Deny certificate revision) r t = t
+scripted_standing (steps.Answer certificate revision row) r t = t
+scripted_standing (steps.Renew certificate) r t = t
+scripted_standing (steps.Tick seconds) r t = t
+scripted_standing (steps.Stop role) r t = t
+scripted_standing (steps.Start role behind) r t = t
+scripted_standing (steps.Hold role kind) r t = if role_eq role r then keeping kind true t else t
+scripted_standing (steps.Release role kind) r t = if role_eq role r then keeping kind false t else t
+scripted_standing (steps.Until role kind writes) r t = t
+scripted_standing steps.Settle r t = t

@@ -1,0 +1,96 @@
+//! What a call leaves in the log, in how roles stand and in what they remember.
+ghost use Rattle.std.specs.Prelude.{◌≡◌, ◌&&◌, ◌<◌, option_map, true};
+ghost use Rattle.cmc_meta.specs.declared.key.Key.{Key as KeyValue};
+ghost use Rattle.cmc_meta.specs.Keys.{key_eq};
+ghost use Rattle.cmc_objects.specs.declared.role.Role.{Role as RoleValue};
+ghost use Rattle.cmc_model.specs.Histories.{role_eq};
+ghost use Rattle.cmc_model.specs.declared.progress.Obstacle.TheVariants as obstacles;
+ghost use Rattle.cmc_model.specs.declared.progress.Stage.TheVariants as stages;
+ghost use Rattle.cmc_model.specs.Passes as spec;
+ghost use Rattle.cmc_held.specs.Remembered.{is_ready, past_at};
+ghost use Rattle.cmc_held.specs.Standing.{standing_of};
+ghost use Rattle.cmc_world.specs.Changes.{writing};
+ghost use Rattle.cmc_world.specs.Noting.{CanCount, counted, logged, noted};
+
+use cmc_held::{Log, Pasts, Standing, Standings, with_written, written_of};
+use cmc_meta::{Key, Kind};
+use cmc_model::{Obstacle, Stage, Write};
+use cmc_objects::{Object, Reply, Role};
+
+/// How far a pass has come whose call of an object of the kind was answered so in the entry of this
+/// number. `last` is the version of the last write under the key of the call.
+pub(crate) fn stage_by(entry: u64, kind: Kind, last: u64, reply: &Reply) -> Stage
+    ensures { result ≡ spec.stage_by entry kind last reply.now }
+{
+    match reply {
+        Reply::Ok { .. } => Stage::Wrote,
+        Reply::Unchanged { .. } => Stage::Wrote,
+        Reply::Found { object } => newer(entry, kind, object.meta().version),
+        Reply::Conflict { have, .. } => newer(entry, kind, *have),
+        Reply::NotFound { .. } => newer(entry, kind, last),
+        Reply::AlreadyExists { have } => newer(entry, kind, *have),
+        Reply::Invalid { .. } => Stage::Barred,
+        Reply::Unavailable { .. } => Stage::Refused {
+            entry,
+            obstacle: Obstacle::Failure,
+        },
+    }
+}
+
+fn newer(entry: u64, kind: Kind, version: u64) -> Stage
+    ensures { result ≡ stages.Refused entry (obstacles.Newer kind version) }
+{
+    Stage::Refused {
+        entry,
+        obstacle: Obstacle::Newer { kind, version },
+    }
+}
+
+/// Adds what a call wrote to the log, where it wrote a key. It takes no memory.
+pub(crate) fn log_write(log: &mut Log, key: Option<Key>, object: Option<Object>)
+    requires { 0 < log.old.spare }
+    ensures { log.new.writes ≡ logged key object log.old.writes }
+{
+    if let Some(key) = key {
+        log.push(Write { key, object });
+    }
+}
+
+/// The kind of the key that a call wrote, if it wrote one.
+pub(crate) fn kind_written(key: &Option<Key>) -> Option<Kind>
+    ensures { result ≡ option_map (λ (k : KeyValue). k.kind) key.now }
+{
+    match key {
+        Some(key) => Some(key.kind),
+        None => None,
+    }
+}
+
+/// Counts a write of a pass of the role on the key, and remembers it as this version, where the pass
+/// wrote an object of some kind. It takes no memory.
+pub(crate) fn note_write(
+    standings: &mut Standings,
+    pasts: &mut Pasts,
+    role: Role,
+    key: &Key,
+    written: Option<Kind>,
+    version: u64,
+)
+    requires ready { is_ready pasts.old role key.now ≡ true }
+    requires room { CanCount (standing_of standings.old role) }
+    ensures counted { (r : RoleValue) → standing_of standings.new r ≡ counted written (role_eq role r) (standing_of standings.old role) (standing_of standings.old r) }
+    ensures noted { (r : RoleValue) → (k : KeyValue) → past_at pasts.new r k ≡ noted written version (role_eq role r && key_eq key.now k) (past_at pasts.old r k) }
+{
+    if let Some(kind) = written {
+        let standing = standings.get(role);
+        standings.set(role, one_more(standing, kind));
+        pasts.wrote(role, key, kind, version);
+    }
+}
+
+fn one_more(standing: Standing, kind: Kind) -> Standing
+    requires { CanCount standing }
+    ensures { result ≡ writing kind standing }
+{
+    with_written(standing, kind, written_of(standing, kind) + 1)
+}
