@@ -17,13 +17,15 @@ use Rattle.cmc_model.specs.declared.progress.Past.{Past}
 use Rattle.cmc_model.specs.Histories.{Setting, moment, accepted, runs, incarnation}
 use Rattle.cmc_model.specs.Writes.{writes, write_at, last_of_kind, is_known}
 use Rattle.cmc_model.specs.Positions.{has_informer, kind_of_work, position, positions, position_of}
-use Rattle.cmc_model.specs.Viewing.{views}
+use Rattle.cmc_model.specs.Viewing.{views, views_in}
 use Rattle.cmc_model.specs.Passes.{open_pass, origins, origin_at, is_pass_of, past, IsSame}
 use Rattle.cmc_model.specs.Legality.{IsOfKind, IsListing, IsOpen}
 use Rattle.cmc_model.specs.Scripting.{held}
 use Rattle.cmc_held.specs.declared.standings.Standing.{Standing}
 use Rattle.cmc_held.specs.Standing.{flag_of}
 use Rattle.cmc_held.specs.Dues.{own_above, shown_positions}
+use Rattle.cmc_held.specs.Sight.{caches_at}
+use Rattle.cmc_held.proofs.Told.{views-told}
 use Rattle.cmc_model.proofs.Writes.{writes_count}
 use Rattle.cmc_world.specs.declared.moves.Stepped.{Stepped}
 use Rattle.cmc_world.specs.declared.moves.Stepped.TheVariants.{Done}
@@ -147,3 +149,18 @@ delivered_list s h role kind to newest b r off n =
 
 pub newest_is : (s : Setting) (h : List Entry) (w : Holdings) (n : ℕ) → IsKept s h w → n ≡ length w.log → n ≡ accepted s h
 newest_is s h w n k e = e ∙ ap length k.held.log ∙ writes_count s h
+
+-- what a role sees by what a world holds
+pub saw : (s : Setting) (h : List Entry) (w : Holdings) (role : Role) (key : Key) (t : Standing) (at : Positions) (seen : Views) → IsKept s h w → t ≡ w.standing role → at ≡ shown_positions role t.told
+    → seen ≡ views_in role (caches_at w.log at) key → seen ≡ views s h role key
+saw s h w role key t at seen k stood shown e =
+    let at_is : at ≡ positions h role = shown ∙ ap (λ (x : Standing). shown_positions role x.told) (stood ∙ k.held.standing role) in
+    e ∙ ap (λ (ws : List Write). views_in role (caches_at ws at) key) k.held.log ∙ ap (λ (p : Positions). views_in role (caches_at (writes s h) p) key) at_is ∙ views-told s h role key
+
+pub shown_is : (s : Setting) (h : List Entry) (w : Holdings) (role : Role) (t : Standing) (at : Positions) → IsKept s h w → t ≡ w.standing role → at ≡ shown_positions role t.told → at ≡ positions h role
+shown_is s h w role t at k stood shown = shown ∙ ap (λ (x : Standing). shown_positions role x.told) (stood ∙ k.held.standing role)
+
+-- ---- an open pass
+
+pub opened_is : (s : Setting) (h : List Entry) (w : Holdings) (n : ℕ) (p : OpenPass) → IsKept s h w → w.opened n ≡ Some p → open_pass s h n ≡ Some p
+opened_is s h w n p k e = sym (k.held.opened n) ∙ e

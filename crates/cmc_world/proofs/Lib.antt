@@ -13,3 +13,6 @@ pub mod Events
 pub mod Judging
 pub mod Starting
 pub mod Counts
+pub mod Calls
+pub mod Doing
+pub mod Begins

@@ -1,10 +1,72 @@
 -- What a pass does next.
-use Rattle.std.specs.Prelude.{Option, Some, None}
+use Rattle.std.specs.Prelude.{◌≡◌, ℕ, List, ◌∷◌, Option, Some, None}
 use Rattle.cmc_objects.specs.declared.call.Call.{Call}
+use Rattle.cmc_objects.specs.declared.call.Reply.{Reply}
+use Rattle.cmc_objects.specs.declared.entry.Who.TheVariants.{Pass}
+use Rattle.cmc_objects.specs.declared.entry.Entry.{Entry}
+use Rattle.cmc_objects.specs.declared.entry.Entry.TheVariants.{Call as Called}
 use Rattle.cmc_model.specs.declared.pass.Act.{Act}
 use Rattle.cmc_model.specs.declared.pass.Act.TheVariants.{Nothing, Call as Calls}
+use Rattle.cmc_model.specs.declared.progress.Stage.{Stage}
+use Rattle.cmc_model.specs.declared.progress.Stage.TheVariants.{Fresh, Wrote, Refused, Barred}
+use Rattle.cmc_model.specs.declared.progress.OpenPass.{OpenPass}
+use Rattle.cmc_model.specs.Replies.{key_of_call}
+use Rattle.cmc_model.specs.Histories.{Setting}
+use Rattle.cmc_model.specs.Writes.{writes, last_under}
+use Rattle.cmc_model.specs.Passes.{open_pass, ending_at}
+use Rattle.cmc_model.specs.Causes.{IsNextCall, EndsBy, MayCall, MayEnd}
+use Rattle.cmc_world.specs.Answers.{IsOfPass}
+use Rattle.cmc_world.specs.Kept.{Seen}
+use Rattle.cmc_world.specs.declared.going.Calling.{Calling}
+use Rattle.cmc_world.specs.declared.going.Closing.{Closing}
+use Rattle.cmc_world.specs.declared.going.Doing.{Doing}
+use Rattle.cmc_world.specs.declared.going.Doing.TheVariants.{Call as Makes, End as Ends}
 
 -- the act of a role that neither asks nor issues: nothing, or one call
 abbrev pub act_by : Option Call → Act
 act_by None = Nothing
 act_by (Some call) = Calls call
+
+-- no rule has barred the pass
+abbrev pub IsServed : Stage → Type 0
+IsServed Fresh = Unit {0}
+IsServed Wrote = Unit {0}
+IsServed (Refused entry obstacle) = Unit {0}
+IsServed Barred = ⊥
+
+-- what comes next of a pass that has come so far, with this act
+abbrev pub IsDoingBy : Stage → Act → Doing → Type 0
+IsDoingBy stage does (Makes call) = IsNextCall stage does call
+IsDoingBy stage does (Ends cause) = EndsBy stage does cause
+
+-- what comes next of the pass of this number
+abbrev pub IsDoing : Setting → List Entry → ℕ → Doing → Type 0
+IsDoing s h pass (Makes call) = MayCall s h (open_pass s h pass) call
+IsDoing s h pass (Ends cause) = MayEnd s h (open_pass s h pass) cause
+
+-- ---- what is known as a pass goes on
+
+-- the pass, with the kind of what the call writes and the last write under its key
+pub record IsCalling (s : Setting) (h : List Entry) (n : ℕ) (call : Call) (c : Calling) : Type 0 where
+  pub pass : OpenPass
+  pub opened : open_pass s h n ≡ Some pass
+  pub role : c.role ≡ pass.role
+  pub key : c.key ≡ pass.key
+  pub kind : c.kind ≡ (key_of_call call).kind
+  pub last : c.last ≡ last_under (key_of_call call) (writes s h)
+
+-- the pass, with how it ends
+pub record IsClosing (s : Setting) (h : List Entry) (n : ℕ) (c : Closing) : Type 0 where
+  pub pass : OpenPass
+  pub opened : open_pass s h n ≡ Some pass
+  pub role : c.role ≡ pass.role
+  pub key : c.key ≡ pass.key
+  pub ending : c.ending ≡ ending_at pass.stage
+
+-- the pass made the call, and was answered somehow
+abbrev pub MadeCall : ℕ → Call → Seen → Seen → Type 0
+MadeCall n call old new = (reply : Reply) × (new ≡ record { scenario = old.scenario; history = Called (Pass n) call reply ∷ old.history })
+
+-- the history has one more entry of the pass
+abbrev pub GoesOn : ℕ → Seen → Seen → Type 0
+GoesOn n old new = (e : Entry) × IsOfPass n e × (new ≡ record { scenario = old.scenario; history = e ∷ old.history })

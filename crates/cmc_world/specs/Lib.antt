@@ -7,3 +7,4 @@ pub mod Acting
 pub mod Kept
 pub mod Changes
 pub mod Noting
+pub mod Prepared

@@ -106,6 +106,14 @@ impl World {
         })
     }
 
+    /// A law: the history has at most 250,000 entries.
+    pub(crate) fn is_short(&self)
+        ensures { length self.now.history ≤ 250000 }
+    {
+        let _events = self.scenario.events();
+        let _entries = self.history.len();
+    }
+
     /// The scenario that the world was made of.
     pub fn scenario(&self) -> &Scenario
         ensures { result.now ≡ self.now.scenario }

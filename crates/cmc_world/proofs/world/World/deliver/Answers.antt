@@ -6,7 +6,7 @@ use Rattle.cmc_model.specs.Scripting.{held}
 use Rattle.cmc_held.specs.declared.standings.Standing.{Standing}
 use Rattle.cmc_held.specs.Standing.{standing_of}
 use Rattle.cmc_world.specs.Kept.{Seen, setting_of}
-use Rattle.cmc_world.proofs.Standings.{telling}
+use Rattle.cmc_world.specs.Changes.{telling}
 use Rattle.cmc_world.proofs.Events.{kept_delivered}
 use Rattle.cmc_world.proofs.world.World.deliver.Goals as goal
 

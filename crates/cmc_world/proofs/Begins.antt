@@ -1,0 +1,95 @@
+-- What a world holds after a pass has begun.
+use Rattle.std.proofs.Common.{◌≡◌, ℕ, ℤ, ◌+◌, Bool, true, false, List, ◌∷◌, length, Option, Some, None, refl, sym, ap, subst, ◌∙◌, arith}
+use Rattle.std.specs.Prelude.{◌==◌, ◌&&◌, ◌≤◌, if◌then◌else◌}
+use Rattle.cmc_meta.specs.declared.key.Key.{Key}
+use Rattle.cmc_meta.specs.Keys.{key_eq}
+use Rattle.cmc_objects.specs.declared.role.Role.{Role}
+use Rattle.cmc_objects.specs.declared.entry.Positions.{Positions}
+use Rattle.cmc_objects.specs.declared.entry.Entry.{Entry}
+use Rattle.cmc_objects.specs.declared.entry.Entry.TheVariants.{Begin}
+use Rattle.cmc_model.specs.declared.pass.Views.{Views}
+use Rattle.cmc_model.specs.declared.progress.OpenPass.{OpenPass}
+use Rattle.cmc_model.specs.declared.progress.Origin.{Origin}
+use Rattle.cmc_model.specs.declared.progress.Past.{Past}
+use Rattle.cmc_model.specs.Histories.{Setting, moment, incarnation, role_eq}
+use Rattle.cmc_model.specs.Positions.{positions}
+use Rattle.cmc_model.specs.Viewing.{views, views_in}
+use Rattle.cmc_model.specs.Passes.{open_pass, begun, past, origins, new_pass, is_pass_of, with_begin}
+use Rattle.cmc_model.specs.Legality.{IsBegin}
+use Rattle.cmc_model.proofs.Positions.{begun_short}
+use Rattle.cmc_held.specs.declared.standings.Standing.{Standing}
+use Rattle.cmc_held.specs.Dues.{shown_positions}
+use Rattle.cmc_held.specs.Sight.{caches_at}
+use Rattle.cmc_held.proofs.Behind.{due_by_tests}
+use Rattle.cmc_world.specs.declared.beginning.Prepared.{Prepared}
+use Rattle.cmc_world.specs.declared.moves.Stepped.TheVariants.{Done}
+use Rattle.cmc_world.specs.Answers.{IsWorking, AnswersBegin, beginning}
+use Rattle.cmc_world.specs.Kept.{Holdings, IsKept}
+use Rattle.cmc_world.specs.Prepared.{IsPrepared}
+use Rattle.cmc_world.proofs.Events.{kept_begun}
+use Rattle.cmc_world.proofs.Judging.{saw, shown_is}
+use Rattle.cmc_world.proofs.Origins.{origins_count}
+use Rattle.cmc_world.proofs.Tables.{may_begin}
+
+counted : (s : Setting) (h : List Entry) (w : Holdings) (n : ℕ) → IsKept s h w → n ≡ length w.origins → n ≡ begun h
+counted s h w n k e = e ∙ ap length k.held.origins ∙ origins_count s h
+
+pub number_fits : (s : Setting) (h : List Entry) (w : Holdings) (n : ℕ) → IsKept s h w → length h ≤ 250000 → n ≡ length w.origins → n ≤ 250000
+number_fits s h w n k short e =
+    let same : n ≡ begun h = counted s h w n k e in
+    let low : begun h ≤ length h = begun_short h in
+    omega (arith, same, low, short)
+
+pub prepared : (s : Setting) (h : List Entry) (w : Holdings) (role : Role) (key copied : Key) (t : Standing) (at : Positions) (seen twice : Views) (pass : OpenPass) (since : ℤ) (count : ℕ)
+    → IsKept s h w → t ≡ w.standing role → at ≡ shown_positions role t.told → seen ≡ views_in role (caches_at w.log at) key → copied ≡ key → twice ≡ seen
+    → since ≡ w.moment → pass ≡ new_pass role copied twice since → count ≡ length w.origins
+    → IsPrepared s h role key (record { number = count + 1; origin = record { role = role; incarnation = t.incarnation }; pass = pass; seen = seen; key = key; at = at })
+prepared s h w role key copied t at seen twice pass since count k stood shown e c2 s2 m p o =
+    let seen_is : seen ≡ views s h role key = saw s h w role key t at seen k stood shown e in
+    record {
+      number = ap (λ (x : ℕ). x + 1) (counted s h w count k o);
+      origin = ap (λ (x : Standing). let y : Origin = record { role = role; incarnation = x.incarnation } in y) (stood ∙ k.held.standing role);
+      pass = p ∙ ap (λ (x : Key). new_pass role x twice since) c2 ∙ ap (λ (x : Views). new_pass role key x since) (s2 ∙ seen_is) ∙ ap (λ (x : ℤ). new_pass role key (views s h role key) x) (m ∙ k.held.moment);
+      seen = seen_is;
+      key = refl;
+      at = shown_is s h w role t at k stood shown;
+    }
+
+not_so : (b : Bool) → (b ≡ true → ⊥) → b ≡ false
+not_so true other = absurd (other refl)
+not_so false other = refl
+
+pub kept_open : (s : Setting) (h : List Entry) (w : Holdings) (role : Role) (p : Prepared) (now later : ℤ) (os : List Origin) (opened : ℕ → Option OpenPass) (pasts : Role → Key → Past)
+    → IsKept s h w → now ≡ w.moment → later ≡ w.moment → AnswersBegin s h role p.key Done → IsPrepared s h role p.key p
+    → os ≡ p.origin ∷ w.origins
+    → ((n : ℕ) → opened n ≡ (if n == p.number then Some p.pass else w.opened n))
+    → ((r : Role) (k : Key) → pasts r k ≡ (if role_eq role r && key_eq p.key k then with_begin p.seen now (w.past r k) else w.past r k))
+    → IsKept s (Begin p.number role p.key p.at later ∷ h) (record w { origins = os; opened = opened; past = pasts })
+kept_open s h w role p now later os opened pasts k m1 m2 a is came put noted =
+    let now_is : now ≡ moment s h = m1 ∙ k.held.moment in
+    let later_is : later ≡ moment s h = m2 ∙ k.held.moment in
+    let may = may_begin s h role p.key a in
+    let due = due_by_tests (past s h role p.key) (views s h role p.key) (moment s h) (positions h role) may.own may.other in
+    let begins : IsBegin s h (begun h + 1) role p.key (positions h role) (moment s h) =
+    record {
+      running = may.running;
+      numbered = refl;
+      work = may.queued.0;
+      known = may.queued.1;
+      free = λ n. not_so (is_pass_of role p.key (open_pass s h n)) (λ busy. may.idle (n, busy));
+      told = refl;
+      present = refl;
+    } in
+    let kept =
+    kept_begun s h w role p.key os opened pasts k begins due (omega (arith, may.room))
+      (came ∙ ap (λ (o : Origin). o ∷ w.origins) is.origin)
+      (λ n. put n ∙ ap (λ (m : ℕ). if n == m then Some p.pass else w.opened n) is.number ∙ ap (λ (q : OpenPass). if n == begun h + 1 then Some q else w.opened n) is.pass)
+      (λ r q. noted r q ∙ ap (λ (v : Views). if role_eq role r && key_eq p.key q then with_begin v now (w.past r q) else w.past r q) is.seen ∙ ap (λ (m : ℤ). if role_eq role r && key_eq p.key q then with_begin (views s h role p.key) m (w.past r q) else w.past r q) now_is) in
+    subst (λ (m : ℕ). IsKept s (Begin m role p.key p.at later ∷ h) (record w { origins = os; opened = opened; past = pasts })) (sym is.number)
+      (subst (λ (q : Positions). IsKept s (Begin (begun h + 1) role p.key q later ∷ h) (record w { origins = os; opened = opened; past = pasts })) (sym is.at)
+        (subst (λ (m : ℤ). IsKept s (Begin (begun h + 1) role p.key (positions h role) m ∷ h) (record w { origins = os; opened = opened; past = pasts })) (sym later_is) kept))
+
+-- the entry is that of the pass that begins
+pub begins_so : (s : Setting) (h : List Entry) (w : Holdings) (role : Role) (p : Prepared) (later : ℤ) → IsKept s h w → later ≡ w.moment → IsPrepared s h role p.key p → Begin p.number role p.key p.at later ≡ beginning s h role p.key
+begins_so s h w role p later k m is =
+    ap (λ (n : ℕ). Begin n role p.key p.at later) is.number ∙ ap (λ (q : Positions). Begin (begun h + 1) role p.key q later) is.at ∙ ap (λ (n : ℤ). Begin (begun h + 1) role p.key (positions h role) n) (m ∙ k.held.moment)

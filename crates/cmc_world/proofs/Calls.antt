@@ -1,0 +1,113 @@
+-- What a world holds after a pass has made its call, or has ended.
+use Rattle.std.proofs.Common.{◌≡◌, ℕ, ℤ, ◌+◌, ◌-◌, ◌<◌, ◌≤◌, ◌^◌, Bool, List, ◌∷◌, length, Option, Some, None, refl, sym, ap, subst, ◌∙◌, arith}
+use Rattle.std.specs.Prelude.{◌==◌, ◌&&◌, if◌then◌else◌, option_map}
+use Rattle.cmc_meta.specs.declared.key.Key.{Key}
+use Rattle.cmc_meta.specs.declared.key.Kind.{Kind}
+use Rattle.cmc_meta.specs.declared.key.Kind.TheVariants as kinds
+use Rattle.cmc_meta.specs.Keys.{key_eq}
+use Rattle.cmc_objects.specs.declared.role.Role.{Role}
+use Rattle.cmc_objects.specs.declared.object.Object.{Object}
+use Rattle.cmc_objects.specs.declared.call.Call.{Call}
+use Rattle.cmc_objects.specs.declared.call.Reply.{Reply}
+use Rattle.cmc_objects.specs.declared.entry.Cause.{Cause}
+use Rattle.cmc_objects.specs.declared.entry.Who.TheVariants.{Pass}
+use Rattle.cmc_objects.specs.declared.entry.Entry.{Entry}
+use Rattle.cmc_objects.specs.declared.entry.Entry.TheVariants.{Call as Called, End}
+use Rattle.cmc_model.specs.declared.write.Write.{Write}
+use Rattle.cmc_model.specs.declared.progress.Stage.{Stage}
+use Rattle.cmc_model.specs.declared.progress.OpenPass.{OpenPass}
+use Rattle.cmc_model.specs.declared.progress.Past.{Past}
+use Rattle.cmc_model.specs.Replies.{State, IsReply, is_accepted, key_of_call, key_written, object_written, state_after}
+use Rattle.cmc_model.specs.Histories.{Setting, moment, state, accepted, role_eq}
+use Rattle.cmc_model.specs.Writes.{writes, write_of, last_under}
+use Rattle.cmc_model.specs.Positions.{position_of}
+use Rattle.cmc_model.specs.Passes.{open_pass, stage_by, stage_after, with_stage, with_own, with_ending}
+use Rattle.cmc_model.specs.Causes.{MayCall, MayEnd}
+use Rattle.cmc_model.specs.Following.{written}
+use Rattle.cmc_model.proofs.Writes.{writes_count}
+use Rattle.cmc_model.proofs.Positions.{calls_short, accepted_short}
+use Rattle.cmc_held.specs.declared.standings.Standing.{Standing}
+use Rattle.cmc_world.specs.declared.going.Calling.{Calling}
+use Rattle.cmc_world.specs.declared.going.Closing.{Closing}
+use Rattle.cmc_world.specs.Acting.{IsCalling, IsClosing}
+use Rattle.cmc_world.specs.Changes.{writing}
+use Rattle.cmc_world.specs.Noting.{logged, counted, noted, CanCount}
+use Rattle.cmc_world.specs.Kept.{standing, Holdings, IsHeld, IsKept}
+use Rattle.cmc_world.proofs.Counts.{logged_called, counted_called, noted_called, written_short}
+use Rattle.cmc_world.proofs.Events.{kept_called, kept_ended}
+
+-- ---- sums that fit
+
+pub calls_fit : (s : Setting) (h : List Entry) (w : Holdings) → IsKept s h w → length h ≤ 250000 → w.state.calls < 2 ^ 64 - 1
+calls_fit s h w k short =
+    let calls : w.state.calls ≤ length h = subst (λ (st : State). st.calls ≤ length h) (sym k.held.state) (calls_short s h) in
+    omega (arith, calls, short)
+
+written_is : (s : Setting) (h : List Entry) (role : Role) (kind : Kind) → position_of kind (standing s h role).written ≡ written s h role kind
+written_is s h role kinds.Certificate = refl
+written_is s h role kinds.CertificateRequest = refl
+written_is s h role kinds.Secret = refl
+
+pub counts_fit : (s : Setting) (h : List Entry) (w : Holdings) (role : Role) → IsKept s h w → length h ≤ 250000 → CanCount (w.standing role)
+counts_fit s h w role k short = λ kind.
+    let low : written s h role kind ≤ length h = written_short s h role kind in
+    let same : position_of kind (w.standing role).written ≡ written s h role kind = ap (λ (t : Standing). position_of kind t.written) (k.held.standing role) ∙ written_is s h role kind in
+    rw same (omega (arith, low, short))
+
+pub log_fits : (s : Setting) (h : List Entry) (w : Holdings) (n : ℕ) → IsKept s h w → length h ≤ 250000 → n ≡ length w.log → n ≤ 250000
+log_fits s h w n k short e =
+    let count : n ≡ accepted s h = e ∙ ap length k.held.log ∙ writes_count s h in
+    let low : accepted s h ≤ length h = accepted_short s h in
+    omega (arith, count, low, short)
+
+-- ---- calls
+
+pub kept_call : (s : Setting) (h : List Entry) (w : Holdings) (n : ℕ) (call : Call) (c : Calling) (reply : Reply) (key : Option Key) (object : Option Object) (stage : Stage) (now : ℤ) (version entry : ℕ)
+    (fs : List ℕ) (st : State) (log : List Write) (t : Role → Standing) (opened : ℕ → Option OpenPass) (pasts : Role → Key → Past)
+    → IsKept s h w → IsCalling s h n call c → MayCall s h (open_pass s h n) call → length h < s.events → now ≡ w.moment
+    → IsReply w.faults w.state call reply → fs ≡ w.faults → st ≡ state_after now w.state call reply → key ≡ key_written call reply → object ≡ object_written now w.state call reply
+    → entry ≡ length h + 1 → stage ≡ stage_by entry c.kind c.last reply → version ≡ length w.log + 1 → log ≡ logged key object w.log
+    → ((r : Role) → t r ≡ counted (option_map (λ (k : Key). k.kind) key) (role_eq c.role r) (w.standing c.role) (w.standing r))
+    → ((m : ℕ) → opened m ≡ (if m == n then option_map (with_stage stage) (w.opened m) else w.opened m))
+    → ((r : Role) (k : Key) → pasts r k ≡ noted (option_map (λ (q : Key). q.kind) key) version (role_eq c.role r && key_eq c.key k) (w.past r k))
+    → IsKept s (Called (Pass n) call reply ∷ h) (record w { faults = fs; state = st; log = log; standing = t; opened = opened; past = pasts })
+kept_call s h w n call c reply key object stage now version entry fs st log t opened pasts k is may room at right f after named stored e staged v logged_is counted_is opened_is noted_is =
+    let now_is : now ≡ moment s h = at ∙ k.held.moment in
+    let version_is : version ≡ accepted s h + 1 = v ∙ ap (λ (ws : List Write). length ws + 1) k.held.log ∙ ap (λ (m : ℕ). m + 1) (writes_count s h) in
+    let stage_is : stage ≡ stage_after s h call reply =
+    staged ∙ ap (λ (m : ℕ). stage_by m c.kind c.last reply) e ∙ ap (λ (kind : Kind). stage_by (length h + 1) kind c.last reply) is.kind ∙ ap (λ (m : ℕ). stage_by (length h + 1) (key_of_call call).kind m reply) is.last in
+    let right_is : IsReply s.faults (state s h) call reply = subst (λ (x : State). IsReply s.faults x call reply) k.held.state (subst (λ (x : List ℕ). IsReply x w.state call reply) k.held.faults right) in
+    let after_is : st ≡ state_after (moment s h) (state s h) call reply = after ∙ ap (λ (x : ℤ). state_after x w.state call reply) now_is ∙ ap (λ (x : State). state_after (moment s h) x call reply) k.held.state in
+    let log_is : log ≡ (if is_accepted reply then write_of (moment s h) (state s h) call ∷ w.log else w.log) =
+    logged_is ∙ ap (λ (x : Option Key). logged x object w.log) named ∙ ap (λ (x : Option Object). logged (key_written call reply) x w.log) stored
+    ∙ ap (λ (x : ℤ). logged (key_written call reply) (object_written x w.state call reply) w.log) now_is
+    ∙ ap (λ (x : State). logged (key_written call reply) (object_written (moment s h) x call reply) w.log) k.held.state
+    ∙ logged_called (moment s h) (state s h) call reply w.log in
+    subst (λ (x : List ℕ). IsKept s (Called (Pass n) call reply ∷ h) (record w { faults = x; state = st; log = log; standing = t; opened = opened; past = pasts })) (sym f)
+      (kept_called s h w n is.pass call reply st log t opened pasts k is.opened right_is (subst (λ (o : Option OpenPass). MayCall s h o call) is.opened may) room after_is log_is
+        (λ r.
+          counted_is r
+          ∙ ap (λ (x : Option Key). counted (option_map (λ (q : Key). q.kind) x) (role_eq c.role r) (w.standing c.role) (w.standing r)) named
+          ∙ ap (λ (x : Role). counted (option_map (λ (q : Key). q.kind) (key_written call reply)) (role_eq x r) (w.standing x) (w.standing r)) is.role
+          ∙ counted_called call reply (role_eq is.pass.role r) (w.standing is.pass.role) (w.standing r))
+        (λ m. opened_is m ∙ ap (λ (x : Stage). if m == n then option_map (with_stage x) (w.opened m) else w.opened m) stage_is)
+        (λ r q.
+          noted_is r q
+          ∙ ap (λ (x : Option Key). noted (option_map (λ (y : Key). y.kind) x) version (role_eq c.role r && key_eq c.key q) (w.past r q)) named
+          ∙ ap (λ (x : Role). noted (option_map (λ (y : Key). y.kind) (key_written call reply)) version (role_eq x r && key_eq c.key q) (w.past r q)) is.role
+          ∙ ap (λ (x : Key). noted (option_map (λ (y : Key). y.kind) (key_written call reply)) version (role_eq is.pass.role r && key_eq x q) (w.past r q)) is.key
+          ∙ ap (λ (x : ℕ). noted (option_map (λ (y : Key). y.kind) (key_written call reply)) x (role_eq is.pass.role r && key_eq is.pass.key q) (w.past r q)) version_is
+          ∙ noted_called call reply (accepted s h + 1) (role_eq is.pass.role r && key_eq is.pass.key q) (w.past r q)))
+
+pub kept_end : (s : Setting) (h : List Entry) (w : Holdings) (n : ℕ) (cause : Cause) (c : Closing) (opened : ℕ → Option OpenPass) (pasts : Role → Key → Past)
+    → IsKept s h w → IsClosing s h n c → MayEnd s h (open_pass s h n) cause → length h < s.events
+    → ((m : ℕ) → opened m ≡ (if m == n then None else w.opened m))
+    → ((r : Role) (k : Key) → pasts r k ≡ (if role_eq c.role r && key_eq c.key k then with_ending c.ending (w.past r k) else w.past r k))
+    → IsKept s (End n cause ∷ h) (record w { opened = opened; past = pasts })
+kept_end s h w n cause c opened pasts k is may room closed noted_is =
+    kept_ended s h w n is.pass cause opened pasts k is.opened (subst (λ (o : Option OpenPass). MayEnd s h o cause) is.opened may) room closed
+      (λ r q.
+        noted_is r q
+        ∙ ap (λ (x : Role). if role_eq x r && key_eq c.key q then with_ending c.ending (w.past r q) else w.past r q) is.role
+        ∙ ap (λ (x : Key). if role_eq is.pass.role r && key_eq x q then with_ending c.ending (w.past r q) else w.past r q) is.key
+        ∙ ap (λ x. if role_eq is.pass.role r && key_eq is.pass.key q then with_ending x (w.past r q) else w.past r q) is.ending)

@@ -1,0 +1,179 @@
+//! Roles begin passes.
+ghost use Rattle.std.specs.Option.{option_copied};
+ghost use Rattle.std.specs.Prelude.{◌≡◌, ◌↔◌, ◌<◌, ◌∷◌, IsTrue, IfOk, OnOk, OnErr, true, length};
+ghost use Rattle.cmc_held.specs.Dues as dues;
+ghost use Rattle.cmc_held.specs.Remembered.{past_or_new};
+ghost use Rattle.cmc_model.specs.Passes.{IsSame, new_pass};
+ghost use Rattle.cmc_model.specs.Positions as spec;
+ghost use Rattle.cmc_model.specs.Writes.{is_known};
+ghost use Rattle.cmc_world.specs.Answers.{AnswersBegin, Leaves, beginning};
+ghost use Rattle.cmc_world.specs.Kept.{setting_of};
+ghost use Rattle.cmc_world.specs.Prepared.{IsPrepared};
+ghost use Rattle.cmc_world.specs.declared.moves.Move.TheVariants as moves;
+ghost use Rattle.cmc_world.specs.declared.moves.Stepped.TheVariants as answers;
+
+use crate::moves::{Stepped, answer_begin};
+use crate::world::{World, has_room};
+use cmc_held::{Log, is_same, kind_of_work, own_above, shown_positions, views_at};
+use cmc_meta::Key;
+use cmc_model::{OpenPass, Origin, Past, Stage, Views};
+use cmc_objects::{Entry, Positions, Role};
+use std::alloc::{AllocError, Global};
+
+/// A pass that is ready to begin.
+#[derive(Drop)]
+pub(crate) struct Prepared {
+    pub number: u64,
+    pub origin: Origin,
+    pub pass: OpenPass,
+    pub seen: Views,
+    pub key: Key,
+    pub at: Positions,
+}
+
+/// The first own write of which the role was not told.
+fn own_write(past: Option<&Past>, at: Positions) -> Option<u64>
+    ensures { result ≡ dues.own_above (past_or_new (option_copied past.entry)).own at }
+{
+    let none = Positions {
+        certificates: 0,
+        requests: 0,
+        secrets: 0,
+    };
+    match past {
+        Some(past) => own_above(past.own, at),
+        None => own_above(none, at),
+    }
+}
+
+/// Whether a pass that sees this would be the last one again.
+fn is_again(past: Option<&Past>, seen: &Views, now: i64, at: Positions) -> bool
+    ensures { IsTrue result ↔ IsSame (past_or_new (option_copied past.entry)).last seen.now now at }
+{
+    match past {
+        Some(past) => is_same(&past.last, seen, now, at),
+        None => false,
+    }
+}
+
+/// Whether the key is one of the role's kind of work, and an accepted write named it.
+fn is_queued(log: &Log, role: Role, key: &Key) -> bool
+    ensures { IsTrue result ↔ ((key.now.kind ≡ spec.kind_of_work role) × (is_known key.now log.now.writes ≡ true)) }
+{
+    key.kind.same(kind_of_work(role)) && log.knows(key)
+}
+
+fn opened(role: Role, key: Key, seen: Views, since: i64) -> OpenPass
+    ensures { result ≡ new_pass role key seen since }
+{
+    OpenPass {
+        role,
+        key,
+        seen,
+        since,
+        stage: Stage::Fresh,
+    }
+}
+
+impl World {
+    pub(crate) fn judge_begin(
+        &self,
+        alloc: Global,
+        role: Role,
+        key: &Key,
+    ) -> Result<Stepped, AllocError>
+        ensures { IfOk result (λ a. AnswersBegin (setting_of self.now.scenario) self.now.history role key.now a) }
+    {
+        let standing = self.standings.get(role);
+        let at = shown_positions(role, standing.told);
+        let seen = views_at(alloc, &self.log, role, at, key)?;
+        let working = self.passes.is_on(role, key);
+        let past = self.pasts.get(role, key);
+        let own = own_write(past, at);
+        let same = is_again(past, &seen, self.moment, at);
+        let queued = is_queued(&self.log, role, key);
+        let entries = self.history.len();
+        let room = has_room(entries, self.scenario.events(), 1);
+        Ok(answer_begin(
+            standing.running,
+            working,
+            own,
+            same,
+            queued,
+            entries,
+            room,
+        ))
+    }
+
+    fn prepare(&self, alloc: Global, role: Role, key: Key) -> Result<Prepared, AllocError>
+        ensures { IfOk result (λ p. IsPrepared (setting_of self.now.scenario) self.now.history role key p) }
+    {
+        self.is_short();
+        let standing = self.standings.get(role);
+        let at = shown_positions(role, standing.told);
+        let seen = views_at(alloc, &self.log, role, at, &key)?;
+        let pass = opened(role, key.copy()?, seen.copy()?, self.moment);
+        Ok(Prepared {
+            number: self.origins.len() + 1,
+            origin: Origin {
+                role,
+                incarnation: standing.incarnation,
+            },
+            pass,
+            seen,
+            key,
+            at,
+        })
+    }
+
+    fn open(&mut self, role: Role, prepared: Prepared) -> Result<(), AllocError>
+        requires may { AnswersBegin (setting_of self.old.scenario) self.old.history role prepared.key answers.Done }
+        requires right { IsPrepared (setting_of self.old.scenario) self.old.history role prepared.key prepared }
+        ensures ok { OnOk result (self.new ≡ record { scenario = self.old.scenario; history = beginning (setting_of self.old.scenario) self.old.history role prepared.key ∷ self.old.history }) }
+        ensures err { OnErr result (self.new ≡ self.old) }
+    {
+        self.history.reserve(1)?;
+        self.origins.reserve(1)?;
+        self.pasts.ready(role, &prepared.key)?;
+        let Prepared {
+            number,
+            origin,
+            pass,
+            seen,
+            key,
+            at,
+        } = prepared;
+        let since = self.moment;
+        self.passes.open(number, pass)?;
+        self.pasts.begin(role, &key, seen, since);
+        self.origins.push(origin);
+        self.history.push(Entry::Begin {
+            pass: number,
+            role,
+            key,
+            at,
+            now: since,
+        });
+        Ok(())
+    }
+
+    pub(crate) fn step_begin(
+        &mut self,
+        alloc: Global,
+        role: Role,
+        key: Key,
+    ) -> Result<Stepped, AllocError>
+        ensures answer { IfOk result (λ r. AnswersBegin (setting_of self.old.scenario) self.old.history role key r) }
+        ensures scenario { self.new.scenario ≡ self.old.scenario }
+        ensures leaves { IfOk result (λ r. Leaves (setting_of self.old.scenario) self.old.history (moves.Begin role key) r self.new.history) }
+        ensures err { OnErr result (self.new ≡ self.old) }
+    {
+        let answer = self.judge_begin(alloc, role, &key)?;
+        if !answer.is_done() {
+            return Ok(answer);
+        }
+        let prepared = self.prepare(alloc, role, key)?;
+        self.open(role, prepared)?;
+        Ok(Stepped::Done)
+    }
+}
