@@ -11,3 +11,4 @@ pub mod Rest
 pub mod Views
 pub mod Events
 pub mod Counts
+pub mod Stepping

@@ -8,3 +8,4 @@ pub mod Prepared
 pub mod Kept
 pub mod Changes
 pub mod Noting
+pub mod Scripted
