@@ -6,9 +6,11 @@ pub mod Origins
 pub mod Dated
 pub mod Rights
 pub mod Moments
-pub mod Acts
+pub mod PlainActs
 pub mod Rest
 pub mod Views
 pub mod Events
+pub mod Judging
+pub mod Starting
 pub mod Counts
 pub mod Stepping

@@ -4,7 +4,6 @@ pub mod Rest
 pub mod Answers
 pub mod Tables
 pub mod Acting
-pub mod Prepared
 pub mod Kept
 pub mod Changes
 pub mod Noting

@@ -5,8 +5,8 @@
 #![tactic(auto)]
 
 mod acts;
-mod beginning;
-mod going;
+
+
 mod moves;
 mod noting;
 mod scripting;

@@ -23,6 +23,16 @@ fn is_news(log: &Log, position: u64, to: u64, kind: Kind) -> bool
     position < to && log.is_of_kind(to, kind)
 }
 
+/// Whether a watch over so many accepted writes reaches back to the position.
+fn reaches(accepted: u64, position: u64, window: u64) -> bool
+    ensures { IsTrue result ↔ (accepted ≤ position + window) }
+{
+    if accepted <= position {
+        return true;
+    }
+    accepted - position <= window
+}
+
 impl World {
     pub(crate) fn judge_delivery(&self, role: Role, kind: Kind, to: u64) -> Stepped
         ensures { AnswersDelivery (setting_of self.now.scenario) self.now.history role kind to result }
@@ -51,8 +61,7 @@ impl World {
         ensures { IsTrue result ↔ (accepted (setting_of self.now.scenario) self.now.history ≤ position self.now.history role kind + self.now.scenario.window) }
     {
         let position = told_of(self.standings.get(role), kind);
-        let accepted = self.log.accepted();
-        accepted <= position || accepted - position <= self.scenario.window()
+        reaches(self.log.accepted(), position, self.scenario.window())
     }
 
     fn deliver(&mut self, role: Role, kind: Kind, to: u64) -> Result<(), AllocError>

@@ -1,0 +1,26 @@
+-- What a new world holds is what the empty history says.
+use Rattle.std.proofs.Common.{◌≡◌, ℕ, [], None, arith, refl}
+use Rattle.std.specs.List.{list_any}
+use Rattle.cmc_meta.specs.declared.key.Key.{Key}
+use Rattle.cmc_objects.specs.declared.role.Role.{Role}
+use Rattle.cmc_model.specs.Replies.{empty_store}
+use Rattle.cmc_model.specs.Histories.{role_eq}
+use Rattle.cmc_model.specs.Passes.{no_past}
+use Rattle.cmc_model.specs.Legality.{IsLegal}
+use Rattle.cmc_model.specs.Causes.{IsCaused}
+use Rattle.cmc_model.specs.Following.{Follows}
+use Rattle.cmc_scenario.specs.Setups.{Setup}
+use Rattle.cmc_held.specs.Standing.{first_standing}
+use Rattle.cmc_world.specs.Kept.{Holdings, IsKept, setting_of}
+
+pub kept_new : (u : Setup) (w : Holdings) → w.faults ≡ u.faults → w.state ≡ empty_store → w.log ≡ [] → w.moment ≡ u.moment → w.made ≡ 0
+    → ((r : Role) → w.standing r ≡ first_standing (list_any (λ role. role_eq role r) u.roles)) → w.origins ≡ [] → ((n : ℕ) → w.opened n ≡ None)
+    → ((r : Role) (k : Key) → w.past r k ≡ no_past) → IsKept (setting_of u) [] w
+unfolding IsLegal IsCaused Follows
+kept_new u w f s l m n t o p q = record {
+  held = record {
+    faults = f; state = s; log = l; moment = m; made = n; standing = t; origins = o; opened = p; past = q;
+    run = record { legal = tt; caused = tt; follows = tt; short = omega arith };
+  };
+  settled = refl;
+}
