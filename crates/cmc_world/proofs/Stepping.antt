@@ -250,9 +250,9 @@ call_kept s h k w made call reply now store log grown key object kept may due co
     let stepped = step_made s h w made (effects.Call call) kept may due counted in
     let here : IsReply s.faults (state s h) call reply = subst (λ f. IsReply f (state s h) call reply) kept.held.faults (subst (λ st. IsReply w.faults st call reply) kept.held.state right) in
     let served : store.state ≡ state_after (moment s h) (state s h) call reply =
-      ap (λ (x : Kept). x.state) after
-      ∙ ap (λ m. state_after m w.state call reply) (same_now ∙ kept.held.moment)
-      ∙ ap (λ st. state_after (moment s h) st call reply) kept.held.state in
+    ap (λ (x : Kept). x.state) after
+    ∙ ap (λ m. state_after m w.state call reply) (same_now ∙ kept.held.moment)
+    ∙ ap (λ st. state_after (moment s h) st call reply) kept.held.state in
     let all = kept_users s (Script (scripted h + 1) ∷ h) (record w { made = made }) call reply store.state grown stepped.0 due here (omega (arith, stepped.1)) served (logged_kept s h w call reply now log grown key object kept.held same_now same_log told stored put) in
     subst (λ l. IsKept s l (record w { made = made; faults = store.faults; state = store.state; log = grown })) (sym (numbered s h k w made (Called User call reply) kept.held counted longer))
     (subst (λ f. IsKept s (Called User call reply ∷ Script (scripted h + 1) ∷ h) (record w { made = made; faults = f; state = store.state; log = grown })) (sym (ap (λ (x : Kept). x.faults) after)) all)

@@ -16,9 +16,11 @@ ghost use Rattle.cmc_scenario.specs.Setups.{IsSetup, IsTickForm, seconds_of};
 ghost use Rattle.cmc_world.specs.Answers as spec;
 ghost use Rattle.cmc_world.specs.Changes.{keeping, scripted_standing, starting, stopping};
 ghost use Rattle.cmc_world.specs.Kept.{setting_of};
-ghost use Rattle.cmc_world.specs.Scripted.{call_or, effect_besides, effect_in, effect_on, standing_after};
+ghost use Rattle.cmc_world.specs.Scripted.{effect_besides, effect_in, effect_on, standing_after};
+ghost use Rattle.cmc_world.specs.declared.moves.Move.TheVariants as moves;
 ghost use Rattle.cmc_world.specs.declared.moves.Stepped.TheVariants as answers;
 
+use crate::moves::Stepped;
 use crate::noting::log_write;
 use crate::world::World;
 use cmc_held::{Standing, Standings, with_held};
@@ -29,6 +31,7 @@ use cmc_scenario::Scenario;
 use cmc_store::{Replied, Store};
 use std::alloc::{AllocError, Global};
 
+/// The call that applies the object to what stands in the store. An `Err` is want of memory.
 fn call_of_apply(store: &Store, object: &Object, version: Option<u64>) -> Result<Call, AllocError>
     ensures { IfOk result (λ c. c ≡ apply_call object.now version (object_at store.now.state.objects (key_of object.now))) }
 {
@@ -46,7 +49,8 @@ fn call_of_apply(store: &Store, object: &Object, version: Option<u64>) -> Result
     }
 }
 
-/// The user call that the step makes on what stands in the store; none where it makes none.
+/// The user call that the step makes on what stands in the store; none where it makes none. An `Err`
+/// is want of memory.
 #[tactic(auto, unfolding(cmc_model::specs::Following::call_of))]
 fn call_for(store: &Store, step: &Step) -> Result<Option<Call>, AllocError>
     ensures { IfOk result (λ c. c ≡ call_of store.now.state.objects step.now) }
@@ -91,7 +95,7 @@ fn effect_besides(accepted: u64, moment: i64, step: &Step) -> Option<Effect>
     }
 }
 
-/// What a step has happen directly after it.
+/// What a step has happen directly after it. An `Err` is want of memory.
 fn effect_on(store: &Store, moment: i64, step: &Step) -> Result<Option<Effect>, AllocError>
     requires low { neg_ℤ (pos 1000000000000) ≤ℤ moment }
     requires high { moment ≤ℤ pos 11000000000000 }
@@ -109,7 +113,8 @@ fn script_of(scenario: &Scenario) -> &[Step]
     ensures value { result.now ≡ scenario.now.script }
     ensures setup { IsSetup scenario.now }
 {
-    let _known = scenario.events();
+    // Contracts learn by this call alone what is true of each scenario.
+    let _events = scenario.events();
     scenario.script()
 }
 
@@ -119,7 +124,7 @@ fn step_in(script: &[Step], place: u64) -> Option<&Step>
     script.get(place as usize)
 }
 
-/// What the step in this place of the script has happen.
+/// What the step in this place of the script has happen. An `Err` is want of memory.
 fn effect_in(
     store: &Store,
     moment: i64,
@@ -222,6 +227,7 @@ impl World {
         )
     }
 
+    /// Makes a step that has nothing happen: it may hold deliveries back, or no longer.
     fn make_quiet(&mut self) -> Result<(), AllocError>
         requires may { spec.AnswersScript (setting_of self.old.scenario) self.old.history answers.Done }
         requires setup { IsSetup self.old.scenario }
@@ -237,6 +243,7 @@ impl World {
         Ok(())
     }
 
+    /// Makes a step that has a user make this call.
     fn make_call(&mut self, alloc: Global, call: Call) -> Result<(), AllocError>
         requires may { spec.AnswersScript (setting_of self.old.scenario) self.old.history answers.Done }
         requires setup { IsSetup self.old.scenario }
@@ -258,6 +265,7 @@ impl World {
         Ok(())
     }
 
+    /// Makes a step that lets the moment rise to this one.
     fn make_tick(&mut self, now: i64) -> Result<(), AllocError>
         requires may { spec.AnswersScript (setting_of self.old.scenario) self.old.history answers.Done }
         requires setup { IsSetup self.old.scenario }
@@ -273,6 +281,7 @@ impl World {
         Ok(())
     }
 
+    /// Makes a step that stops the role: its passes are open no more.
     fn make_stop(&mut self, role: Role) -> Result<(), AllocError>
         requires may { spec.AnswersScript (setting_of self.old.scenario) self.old.history answers.Done }
         requires setup { IsSetup self.old.scenario }
@@ -289,6 +298,7 @@ impl World {
         Ok(())
     }
 
+    /// Makes a step that starts the role, told of the first `at` accepted writes: it remembers nothing.
     fn make_start(&mut self, role: Role, at: u64) -> Result<(), AllocError>
         requires may { spec.AnswersScript (setting_of self.old.scenario) self.old.history answers.Done }
         requires setup { IsSetup self.old.scenario }
@@ -323,5 +333,25 @@ impl World {
             Some(Effect::Stop { role }) => self.make_stop(role),
             Some(Effect::Start { role, at }) => self.make_start(role, at),
         }
+    }
+
+    /// Makes the next step of the script where this answer to it is that it is made, and gives the
+    /// answer back.
+    ///
+    /// # Errors
+    ///
+    /// Want of memory alone.
+    fn step_as_judged(&mut self, alloc: Global, answer: Stepped) -> Result<Stepped, AllocError>
+        requires { spec.AnswersScript (setting_of self.old.scenario) self.old.history answer }
+        ensures answer { IfOk result (λ r. spec.AnswersScript (setting_of self.old.scenario) self.old.history r) }
+        ensures scenario { self.new.scenario ≡ self.old.scenario }
+        ensures leaves { IfOk result (λ r. spec.Leaves (setting_of self.old.scenario) self.old.history moves.Script r self.new.history) }
+        ensures err { OnErr result (self.new ≡ self.old) }
+    {
+        if !answer.is_done() {
+            return Ok(answer);
+        }
+        self.make_step(alloc)?;
+        Ok(Stepped::Done)
     }
 }
