@@ -17,10 +17,8 @@ ghost use Rattle.cmc_world.specs.Answers as spec;
 ghost use Rattle.cmc_world.specs.Changes.{keeping, scripted_standing, starting, stopping};
 ghost use Rattle.cmc_world.specs.Kept.{setting_of};
 ghost use Rattle.cmc_world.specs.Scripted.{effect_besides, effect_in, effect_on, standing_after};
-ghost use Rattle.cmc_world.specs.declared.moves.Move.TheVariants as moves;
 ghost use Rattle.cmc_world.specs.declared.moves.Stepped.TheVariants as answers;
 
-use crate::moves::Stepped;
 use crate::noting::log_write;
 use crate::world::World;
 use cmc_held::{Standing, Standings, with_held};
@@ -333,25 +331,5 @@ impl World {
             Some(Effect::Stop { role }) => self.make_stop(role),
             Some(Effect::Start { role, at }) => self.make_start(role, at),
         }
-    }
-
-    /// Makes the next step of the script where this answer to it is that it is made, and gives the
-    /// answer back.
-    ///
-    /// # Errors
-    ///
-    /// Want of memory alone.
-    fn step_as_judged(&mut self, alloc: Global, answer: Stepped) -> Result<Stepped, AllocError>
-        requires { spec.AnswersScript (setting_of self.old.scenario) self.old.history answer }
-        ensures answer { IfOk result (λ r. spec.AnswersScript (setting_of self.old.scenario) self.old.history r) }
-        ensures scenario { self.new.scenario ≡ self.old.scenario }
-        ensures leaves { IfOk result (λ r. spec.Leaves (setting_of self.old.scenario) self.old.history moves.Script r self.new.history) }
-        ensures err { OnErr result (self.new ≡ self.old) }
-    {
-        if !answer.is_done() {
-            return Ok(answer);
-        }
-        self.make_step(alloc)?;
-        Ok(Stepped::Done)
     }
 }
