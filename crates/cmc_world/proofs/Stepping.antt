@@ -1,5 +1,5 @@
 -- What the next step of the script has happen, and that a world stays what its history says as the step is made.
-use Rattle.std.proofs.Common.{◌≡◌, ℕ, ℤ, pos, ◌+◌, ◌-◌, ◌<◌, ◌≤◌, ◌*◌, ◌^◌, ◌+ℤ◌, Bool, true, false, List, [], ◌∷◌, length, Option, Some, None, refl, sym, ap, subst, ◌∙◌, arith}
+use Rattle.std.proofs.Common.{◌≡◌, ℕ, ℤ, pos, ◌+◌, ◌-◌, ◌<◌, ◌≤◌, ◌^◌, List, ◌∷◌, length, Option, Some, None, refl, sym, ap, subst, ◌∙◌, arith}
 use Rattle.std.specs.List.{All}
 use Rattle.std.specs.Prelude.{◌≤ℤ◌, neg_ℤ, option_and_then, slice_get, slice_index_or, if◌then◌else◌}
 use Rattle.std.proofs.lemmas.Int.{ints}
@@ -31,8 +31,8 @@ use Rattle.cmc_store.specs.Kept.{Kept}
 use Rattle.cmc_held.specs.declared.standings.Standing.{Standing}
 use Rattle.cmc_world.specs.declared.moves.Stepped.TheVariants.{Done}
 use Rattle.cmc_world.specs.Answers.{AnswersScript, entries_of, next_effect}
-use Rattle.cmc_world.specs.Changes.{stopping, starting, keeping, scripted_standing}
-use Rattle.cmc_world.specs.Kept.{Seen, setting_of, standing, Holdings, IsHeld, IsKept}
+use Rattle.cmc_world.specs.Changes.{stopping, starting, scripted_standing}
+use Rattle.cmc_world.specs.Kept.{setting_of, Holdings, IsHeld, IsKept}
 use Rattle.cmc_world.specs.Noting.{logged}
 use Rattle.cmc_world.specs.Scripted.{effect_on, effect_in, standing_after}
 use Rattle.cmc_world.specs.Short.{IsShortStep}
