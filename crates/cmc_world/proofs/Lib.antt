@@ -16,3 +16,4 @@ pub mod Counts
 pub mod Calls
 pub mod Doing
 pub mod Begins
+pub mod Stepping

@@ -8,3 +8,4 @@ pub mod Kept
 pub mod Changes
 pub mod Noting
 pub mod Prepared
+pub mod Scripted

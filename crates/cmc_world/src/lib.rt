@@ -9,6 +9,7 @@ mod beginning;
 mod going;
 mod moves;
 mod noting;
+mod scripting;
 mod telling;
 mod world;
 

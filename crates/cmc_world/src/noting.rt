@@ -37,6 +37,7 @@ pub(crate) fn stage_by(entry: u64, kind: Kind, last: u64, reply: &Reply) -> Stag
     }
 }
 
+/// Refused in this entry, because of another object of the kind than the pass saw.
 fn newer(entry: u64, kind: Kind, version: u64) -> Stage
     ensures { result ≡ stages.Refused entry (obstacles.Newer kind version) }
 {

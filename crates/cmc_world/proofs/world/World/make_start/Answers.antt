@@ -1,0 +1,28 @@
+use Rattle.std.proofs.Common.{◌≡◌, ◌+◌, List, ◌∷◌, Some, ap, refl, subst, sym, ◌∙◌}
+use Rattle.cmc_objects.specs.declared.entry.Entry.{Entry}
+use Rattle.cmc_objects.specs.declared.entry.Entry.TheVariants as entries
+use Rattle.cmc_model.specs.declared.effect.Effect.TheVariants as effects
+use Rattle.cmc_scenario.specs.Setups.{IsSetup}
+use Rattle.cmc_held.specs.Remembered.{past_at}
+use Rattle.cmc_held.specs.Standing.{standing_of}
+use Rattle.cmc_world.specs.declared.moves.Stepped.TheVariants as answers
+use Rattle.cmc_world.specs.Answers as spec
+use Rattle.cmc_world.specs.Kept.{Seen, setting_of}
+use Rattle.cmc_world.proofs.Stepping.{incarnation_fits, start_kept}
+use Rattle.cmc_world.proofs.world.World.make_start.Goals as goal
+
+pub note_start-requires : goal.note_start-requires
+note_start-requires c =
+    let setup = subst (λ (v : Seen). IsSetup v.scenario) (sym c.self.view_is) c.requires.setup in
+    incarnation_fits c.self.inside.scenario c.self.inside.history.entries _ c.args.role setup c.self.invariant
+
+pub invariant_of-self-2 : goal.invariant_of-self-2
+invariant_of-self-2 c =
+    let u = c.self.inside.scenario in
+    let h = c.self.inside.history.entries in
+    let made = c.self.inside.made + 1 in
+    let may = subst (λ (v : Seen). spec.AnswersScript (setting_of v.scenario) v.history answers.Done) (sym c.self.view_is) c.requires.may in
+    let due = subst (λ (v : Seen). spec.next_effect (setting_of v.scenario) v.history ≡ Some (effects.Start c.args.role c.args.at)) (sym c.self.view_is) c.requires.effect in
+    start_kept (setting_of u) h c.push-2.new.self.entries _ made c.args.role c.args.at (λ r. standing_of c.note_start.new.standings r) (λ r key. past_at c.start.new.self r key) c.self.invariant may due refl
+    c.note_start.ensures c.start.ensures
+    (c.push-2.ensures.entries ∙ ap (λ (l : List Entry). entries.Start c.args.role c.args.at ∷ l) (c.push.ensures.entries ∙ ap (λ (l : List Entry). entries.Script made ∷ l) c.reserve.ensures.same))

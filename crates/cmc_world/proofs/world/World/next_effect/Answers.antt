@@ -1,0 +1,41 @@
+use Rattle.std.proofs.Common.{◌≡◌, ℤ, List, Option, ap, pos, rules, subst, sym, w64, ◌∙◌}
+use Rattle.std.specs.List.{All}
+use Rattle.std.specs.Prelude.{◌≤ℤ◌, neg_ℤ, IfOk}
+use Rattle.std.proofs.lemmas.Int.{to_z-of_z}
+use Rattle.cmc_objects.specs.declared.entry.Step.{Step}
+use Rattle.cmc_model.specs.declared.effect.Effect.{Effect}
+use Rattle.cmc_scenario.specs.Setups.{IsSetup, IsTickForm}
+use Rattle.cmc_world.specs.Answers as spec
+use Rattle.cmc_world.specs.Kept.{Seen, setting_of}
+use Rattle.cmc_world.specs.Scripted.{effect_in}
+use Rattle.cmc_world.proofs.Stepping.{effect_kept, moment_bounds}
+use Rattle.cmc_world.proofs.world.World.next_effect.Goals as goal
+
+pub effect_in-requires-clause-low : goal.effect_in-requires-clause-low
+effect_in-requires-clause-low c =
+    let bounds = moment_bounds c.self.inside.scenario c.self.inside.history.entries c.script_of.ensures.setup c.self.invariant.held.run.follows in
+    let same = to_z-of_z w64 c.self.inside.moment (search rules) in
+    subst (λ (m : ℤ). neg_ℤ (pos 1000000000000) ≤ℤ m) (sym (same ∙ c.self.invariant.held.moment)) bounds.0
+
+pub effect_in-requires-clause-high : goal.effect_in-requires-clause-high
+effect_in-requires-clause-high c =
+    let bounds = moment_bounds c.self.inside.scenario c.self.inside.history.entries c.script_of.ensures.setup c.self.invariant.held.run.follows in
+    let same = to_z-of_z w64 c.self.inside.moment (search rules) in
+    subst (λ (m : ℤ). m ≤ℤ pos 11000000000000) (sym (same ∙ c.self.invariant.held.moment)) bounds.1
+
+pub effect_in-requires-clause-ticks : goal.effect_in-requires-clause-ticks
+effect_in-requires-clause-ticks c = subst (λ (l : List Step). All IsTickForm l) (sym c.script_of.ensures.value) c.script_of.ensures.setup.ticks
+
+pub returns-clause-effect : goal.returns-clause-effect
+returns-clause-effect c =
+    let u = c.self.inside.scenario in
+    let h = c.self.inside.history.entries in
+    let state = c.self.inside.store.state in
+    let same = to_z-of_z w64 c.self.inside.moment (search rules) in
+    let kept = effect_kept (setting_of u) h _ c.script_of.result.now c.self.invariant c.script_of.ensures.value in
+    let is = ap (λ (m : ℤ). effect_in state.objects state.accepted m c.script_of.result.now c.self.inside.made) same ∙ kept in
+    subst (λ (v : Seen). IfOk c.effect_in.result (λ e. e ≡ spec.next_effect (setting_of v.scenario) v.history)) c.self.view_is
+    (subst (λ (x : Option Effect). IfOk c.effect_in.result (λ e. e ≡ x)) is c.effect_in.ensures)
+
+pub returns-clause-setup : goal.returns-clause-setup
+returns-clause-setup c = subst (λ (v : Seen). IsSetup v.scenario) c.self.view_is c.script_of.ensures.setup

@@ -1,0 +1,335 @@
+//! The next step of the script is made, with what it has happen.
+ghost use Rattle.std.specs.List.{All};
+ghost use Rattle.std.specs.Option.{option_copied};
+ghost use Rattle.std.specs.Prelude.{◌≡◌, ◌+◌, ◌-◌, ◌<◌, ◌≤◌, ◌^◌, ◌∷◌, ◌+ℤ◌, ◌≤ℤ◌, pos, neg_ℤ, IfOk, OnOk, OnErr, None, Some, slice_get, if◌then◌else◌};
+ghost use Rattle.cmc_objects.specs.declared.call.Reply.{Reply as ReplyValue};
+ghost use Rattle.cmc_objects.specs.declared.entry.Who.TheVariants as who;
+ghost use Rattle.cmc_objects.specs.declared.role.Role.{Role as RoleValue};
+ghost use Rattle.cmc_objects.specs.Objects.{key_of};
+ghost use Rattle.cmc_model.specs.declared.effect.Effect.TheVariants as effects;
+ghost use Rattle.cmc_model.specs.Following.{apply_call, call_of};
+ghost use Rattle.cmc_model.specs.Histories.{role_eq};
+ghost use Rattle.cmc_model.specs.Objects.{object_at};
+ghost use Rattle.cmc_model.specs.Scripting.{scripted};
+ghost use Rattle.cmc_held.specs.Standing.{standing_of};
+ghost use Rattle.cmc_scenario.specs.Setups.{IsSetup, IsTickForm, seconds_of};
+ghost use Rattle.cmc_world.specs.Answers as spec;
+ghost use Rattle.cmc_world.specs.Changes.{keeping, scripted_standing, starting, stopping};
+ghost use Rattle.cmc_world.specs.Kept.{setting_of};
+ghost use Rattle.cmc_world.specs.Scripted.{effect_besides, effect_in, effect_on, standing_after};
+ghost use Rattle.cmc_world.specs.declared.moves.Stepped.TheVariants as answers;
+
+use crate::noting::log_write;
+use crate::world::World;
+use cmc_held::{Standing, Standings, with_held};
+use cmc_meta::Kind;
+use cmc_model::Effect;
+use cmc_objects::{Call, Entry, Object, Positions, Role, Step, Who};
+use cmc_scenario::Scenario;
+use cmc_store::{Replied, Store};
+use std::alloc::{AllocError, Global};
+
+/// The call that applies the object to what stands in the store. An `Err` is want of memory.
+fn call_of_apply(store: &Store, object: &Object, version: Option<u64>) -> Result<Call, AllocError>
+    ensures { IfOk result (λ c. c ≡ apply_call object.now version (object_at store.now.state.objects (key_of object.now))) }
+{
+    let object = object.copy()?;
+    if let Some(version) = version {
+        return Ok(Call::Update { object, version });
+    }
+    let key = object.key()?;
+    match store.peek(&key) {
+        None => Ok(Call::Create { object }),
+        Some(old) => {
+            let version = old.meta().version;
+            Ok(Call::Update { object, version })
+        }
+    }
+}
+
+/// The user call that the step makes on what stands in the store; none where it makes none. An `Err`
+/// is want of memory.
+#[tactic(auto, unfolding(cmc_model::specs::Following::call_of))]
+fn call_for(store: &Store, step: &Step) -> Result<Option<Call>, AllocError>
+    ensures { IfOk result (λ c. c ≡ call_of store.now.state.objects step.now) }
+{
+    match step {
+        Step::Apply { object, version } => Ok(Some(call_of_apply(store, object, *version)?)),
+        Step::Delete { key, version } => Ok(Some(Call::Delete {
+            key: key.copy()?,
+            version: *version,
+        })),
+        _ => Ok(None),
+    }
+}
+
+/// The moment so many seconds later.
+fn later(moment: i64, seconds: u64) -> i64
+    requires low { neg_ℤ (pos 1000000000000) ≤ℤ moment }
+    requires high { moment ≤ℤ pos 11000000000000 }
+    requires short { seconds ≤ 1000000000 }
+    ensures { result ≡ moment +ℤ pos seconds }
+{
+    moment + seconds as i64
+}
+
+/// What a step that makes no call has happen.
+fn effect_besides(accepted: u64, moment: i64, step: &Step) -> Option<Effect>
+    requires low { neg_ℤ (pos 1000000000000) ≤ℤ moment }
+    requires high { moment ≤ℤ pos 11000000000000 }
+    requires short { seconds_of step.now ≤ 1000000000 }
+    ensures { result ≡ effect_besides accepted moment step.now }
+{
+    match step {
+        Step::Tick { seconds } => Some(Effect::Tick {
+            now: later(moment, *seconds),
+        }),
+        Step::Stop { role } => Some(Effect::Stop { role: *role }),
+        Step::Start { role, behind } => Some(Effect::Start {
+            role: *role,
+            at: accepted.saturating_sub(*behind),
+        }),
+        _ => None,
+    }
+}
+
+/// What a step has happen directly after it. An `Err` is want of memory.
+fn effect_on(store: &Store, moment: i64, step: &Step) -> Result<Option<Effect>, AllocError>
+    requires low { neg_ℤ (pos 1000000000000) ≤ℤ moment }
+    requires high { moment ≤ℤ pos 11000000000000 }
+    requires short { seconds_of step.now ≤ 1000000000 }
+    ensures { IfOk result (λ e. e ≡ effect_on store.now.state.objects store.now.state.accepted moment step.now) }
+{
+    match call_for(store, step)? {
+        Some(call) => Ok(Some(Effect::Call(call))),
+        None => Ok(effect_besides(store.accepted(), moment, step)),
+    }
+}
+
+/// The steps of the scenario, and what is true of each scenario.
+fn script_of(scenario: &Scenario) -> &[Step]
+    ensures value { result.now ≡ scenario.now.script }
+    ensures setup { IsSetup scenario.now }
+{
+    // Contracts learn by this call alone what is true of each scenario.
+    let _events = scenario.events();
+    scenario.script()
+}
+
+fn step_in(script: &[Step], place: u64) -> Option<&Step>
+    ensures { option_copied result ≡ slice_get script.now place }
+{
+    script.get(place as usize)
+}
+
+/// What the step in this place of the script has happen. An `Err` is want of memory.
+fn effect_in(
+    store: &Store,
+    moment: i64,
+    script: &[Step],
+    place: u64,
+) -> Result<Option<Effect>, AllocError>
+    requires low { neg_ℤ (pos 1000000000000) ≤ℤ moment }
+    requires high { moment ≤ℤ pos 11000000000000 }
+    requires ticks { All IsTickForm script.now }
+    ensures { IfOk result (λ e. e ≡ effect_in store.now.state.objects store.now.state.accepted moment script.now place) }
+{
+    match step_in(script, place) {
+        Some(step) => effect_on(store, moment, step),
+        None => Ok(None),
+    }
+}
+
+/// Holds deliveries of the kind back from the role, or no longer.
+fn set_held(standings: &mut Standings, role: Role, kind: Kind, held: bool)
+    ensures { (r : RoleValue) → standing_of standings.new r ≡ (if role_eq role r then keeping kind held (standing_of standings.old r) else standing_of standings.old r) }
+{
+    let standing = standings.get(role);
+    standings.set(role, with_held(standing, kind, held));
+}
+
+/// Lets the roles stand as the step leaves them.
+fn note_step(standings: &mut Standings, step: &Step)
+    ensures { (r : RoleValue) → standing_of standings.new r ≡ scripted_standing step.now r (standing_of standings.old r) }
+{
+    match step {
+        Step::Hold { role, kind } => set_held(standings, *role, *kind, true),
+        Step::Release { role, kind } => set_held(standings, *role, *kind, false),
+        _ => {}
+    }
+}
+
+/// Lets the roles stand as the step in this place of the script leaves them.
+fn note_step_in(standings: &mut Standings, script: &[Step], place: u64)
+    ensures { (r : RoleValue) → standing_of standings.new r ≡ standing_after (slice_get script.now place) r (standing_of standings.old r) }
+{
+    if let Some(step) = step_in(script, place) {
+        note_step(standings, step);
+    }
+}
+
+/// Lets the role be stopped.
+fn note_stop(standings: &mut Standings, role: Role)
+    ensures { (r : RoleValue) → standing_of standings.new r ≡ (if role_eq role r then stopping (standing_of standings.old role) else standing_of standings.old r) }
+{
+    let standing = standings.get(role);
+    standings.set(
+        role,
+        Standing {
+            running: false,
+            ..standing
+        },
+    );
+}
+
+fn started(standing: Standing, at: u64) -> Standing
+    requires { standing.incarnation < 2 ^ 64 - 1 }
+    ensures { result ≡ starting at standing }
+{
+    Standing {
+        running: true,
+        incarnation: standing.incarnation + 1,
+        told: Positions {
+            certificates: at,
+            requests: at,
+            secrets: at,
+        },
+        ..standing
+    }
+}
+
+/// Lets the role run, having begun once more and been told of the first `at` writes.
+fn note_start(standings: &mut Standings, role: Role, at: u64)
+    requires { (standing_of standings.old role).incarnation < 2 ^ 64 - 1 }
+    ensures { (r : RoleValue) → standing_of standings.new r ≡ (if role_eq role r then starting at (standing_of standings.old role) else standing_of standings.old r) }
+{
+    let standing = standings.get(role);
+    standings.set(role, started(standing, at));
+}
+
+impl World {
+    /// What the next step of the script has happen; none where it has nothing happen or no step is left.
+    ///
+    /// # Errors
+    ///
+    /// Want of memory alone.
+    pub(crate) fn next_effect(&self) -> Result<Option<Effect>, AllocError>
+        ensures effect { IfOk result (λ e. e ≡ spec.next_effect (setting_of self.now.scenario) self.now.history) }
+        ensures setup { IsSetup self.now.scenario }
+    {
+        effect_in(
+            &self.store,
+            self.moment,
+            script_of(&self.scenario),
+            self.made,
+        )
+    }
+
+    /// Makes a step that has nothing happen: it may hold deliveries back, or no longer.
+    fn make_quiet(&mut self) -> Result<(), AllocError>
+        requires may { spec.AnswersScript (setting_of self.old.scenario) self.old.history answers.Done }
+        requires setup { IsSetup self.old.scenario }
+        requires effect { spec.next_effect (setting_of self.old.scenario) self.old.history ≡ None }
+        ensures ok { OnOk result (self.new ≡ record { scenario = self.old.scenario; history = Entry.Script (scripted self.old.history + 1) ∷ self.old.history }) }
+        ensures err { OnErr result (self.new ≡ self.old) }
+    {
+        self.history.reserve(1)?;
+        let script = self.scenario.script();
+        note_step_in(&mut self.standings, script, self.made);
+        self.made += 1;
+        self.history.push(Entry::Script { step: self.made });
+        Ok(())
+    }
+
+    /// Makes a step that has a user make this call.
+    fn make_call(&mut self, alloc: Global, call: Call) -> Result<(), AllocError>
+        requires may { spec.AnswersScript (setting_of self.old.scenario) self.old.history answers.Done }
+        requires setup { IsSetup self.old.scenario }
+        requires effect { spec.next_effect (setting_of self.old.scenario) self.old.history ≡ Some (effects.Call call) }
+        ensures ok { OnOk result ((reply : ReplyValue) × (self.new ≡ record { scenario = self.old.scenario; history = Entry.Call who.User call reply ∷ Entry.Script (scripted self.old.history + 1) ∷ self.old.history })) }
+        ensures err { OnErr result (self.new ≡ self.old) }
+    {
+        self.history.reserve(2)?;
+        self.log.reserve(1)?;
+        let Replied { reply, key, object } = self.store.call(alloc, self.moment, &call)?;
+        log_write(&mut self.log, key, object);
+        self.made += 1;
+        self.history.push(Entry::Script { step: self.made });
+        self.history.push(Entry::Call {
+            who: Who::User,
+            call,
+            reply,
+        });
+        Ok(())
+    }
+
+    /// Makes a step that lets the moment rise to this one.
+    fn make_tick(&mut self, now: i64) -> Result<(), AllocError>
+        requires may { spec.AnswersScript (setting_of self.old.scenario) self.old.history answers.Done }
+        requires setup { IsSetup self.old.scenario }
+        requires effect { spec.next_effect (setting_of self.old.scenario) self.old.history ≡ Some (effects.Tick now) }
+        ensures ok { OnOk result (self.new ≡ record { scenario = self.old.scenario; history = Entry.Tick now ∷ Entry.Script (scripted self.old.history + 1) ∷ self.old.history }) }
+        ensures err { OnErr result (self.new ≡ self.old) }
+    {
+        self.history.reserve(2)?;
+        self.moment = now;
+        self.made += 1;
+        self.history.push(Entry::Script { step: self.made });
+        self.history.push(Entry::Tick { now });
+        Ok(())
+    }
+
+    /// Makes a step that stops the role: its passes are open no more.
+    fn make_stop(&mut self, role: Role) -> Result<(), AllocError>
+        requires may { spec.AnswersScript (setting_of self.old.scenario) self.old.history answers.Done }
+        requires setup { IsSetup self.old.scenario }
+        requires effect { spec.next_effect (setting_of self.old.scenario) self.old.history ≡ Some (effects.Stop role) }
+        ensures ok { OnOk result (self.new ≡ record { scenario = self.old.scenario; history = Entry.Stop role ∷ Entry.Script (scripted self.old.history + 1) ∷ self.old.history }) }
+        ensures err { OnErr result (self.new ≡ self.old) }
+    {
+        self.history.reserve(2)?;
+        self.passes.stop(role);
+        note_stop(&mut self.standings, role);
+        self.made += 1;
+        self.history.push(Entry::Script { step: self.made });
+        self.history.push(Entry::Stop { role });
+        Ok(())
+    }
+
+    /// Makes a step that starts the role, told of the first `at` accepted writes: it remembers nothing.
+    fn make_start(&mut self, role: Role, at: u64) -> Result<(), AllocError>
+        requires may { spec.AnswersScript (setting_of self.old.scenario) self.old.history answers.Done }
+        requires setup { IsSetup self.old.scenario }
+        requires effect { spec.next_effect (setting_of self.old.scenario) self.old.history ≡ Some (effects.Start role at) }
+        ensures ok { OnOk result (self.new ≡ record { scenario = self.old.scenario; history = Entry.Start role at ∷ Entry.Script (scripted self.old.history + 1) ∷ self.old.history }) }
+        ensures err { OnErr result (self.new ≡ self.old) }
+    {
+        self.history.reserve(2)?;
+        self.pasts.start(role);
+        note_start(&mut self.standings, role, at);
+        self.made += 1;
+        self.history.push(Entry::Script { step: self.made });
+        self.history.push(Entry::Start { role, at });
+        Ok(())
+    }
+
+    /// Makes the next step of the script, with what it has happen.
+    ///
+    /// # Errors
+    ///
+    /// Want of memory alone.
+    pub(crate) fn make_step(&mut self, alloc: Global) -> Result<(), AllocError>
+        requires { spec.AnswersScript (setting_of self.old.scenario) self.old.history answers.Done }
+        ensures ok { OnOk result (spec.GrowsByScript (setting_of self.old.scenario) self.old.history self.new.history) }
+        ensures scenario { self.new.scenario ≡ self.old.scenario }
+        ensures err { OnErr result (self.new ≡ self.old) }
+    {
+        match self.next_effect()? {
+            None => self.make_quiet(),
+            Some(Effect::Call(call)) => self.make_call(alloc, call),
+            Some(Effect::Tick { now }) => self.make_tick(now),
+            Some(Effect::Stop { role }) => self.make_stop(role),
+            Some(Effect::Start { role, at }) => self.make_start(role, at),
+        }
+    }
+}
