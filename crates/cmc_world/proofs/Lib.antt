@@ -13,3 +13,5 @@ pub mod Events
 pub mod Judging
 pub mod Starting
 pub mod Counts
+pub mod Idling
+pub mod Waiting

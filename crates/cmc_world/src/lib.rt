@@ -9,6 +9,7 @@ mod acts;
 
 mod moves;
 mod noting;
+mod resting;
 mod telling;
 mod world;
 
