@@ -17,3 +17,5 @@ pub mod Calls
 pub mod Doing
 pub mod Begins
 pub mod Stepping
+pub mod Idling
+pub mod Waiting

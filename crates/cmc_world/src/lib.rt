@@ -9,6 +9,7 @@ mod beginning;
 mod going;
 mod moves;
 mod noting;
+mod resting;
 mod scripting;
 mod telling;
 mod world;

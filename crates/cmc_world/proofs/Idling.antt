@@ -1,0 +1,121 @@
+-- What the tests of a scan say of a role and a key: that the role has nothing to do there, or may not begin.
+use Rattle.std.proofs.Common.{◌≡◌, ℕ, ℤ, List, Option, Some, None, Bool, true, false, refl, sym, ap, subst, ◌∙◌}
+use Rattle.std.proofs.lemmas.Result.{IfOk-weaker}
+use Rattle.std.specs.Prelude.{◌↔◌, ◌⊎◌, not, IsTrue, IfOk, MatchBool, Result, is_some}
+use Rattle.std.specs.declared.alloc.AllocError.{AllocError}
+use Rattle.cmc_meta.specs.declared.key.Key.{Key}
+use Rattle.cmc_objects.specs.declared.role.Role.{Role}
+use Rattle.cmc_objects.specs.declared.entry.Entry.{Entry}
+use Rattle.cmc_objects.specs.declared.entry.Positions.{Positions}
+use Rattle.cmc_model.specs.declared.pass.Act.TheVariants.{Nothing}
+use Rattle.cmc_model.specs.declared.pass.Desk.{Desk}
+use Rattle.cmc_model.specs.declared.pass.Views.{Views}
+use Rattle.cmc_model.specs.declared.progress.Past.{Past}
+use Rattle.cmc_model.specs.declared.write.Write.{Write}
+use Rattle.cmc_model.specs.Acts.{act}
+use Rattle.cmc_model.specs.Desks.{desk}
+use Rattle.cmc_model.specs.Histories.{Setting, moment}
+use Rattle.cmc_model.specs.Passes.{IsDue, IsSame, past}
+use Rattle.cmc_model.specs.Positions.{positions}
+use Rattle.cmc_model.specs.Replies.{State}
+use Rattle.cmc_model.specs.Resting.{IsIdle, IsPaused, RestsOn}
+use Rattle.cmc_model.specs.Scripting.{has_held}
+use Rattle.cmc_model.specs.Triggering.{HasDatedFailure}
+use Rattle.cmc_model.specs.Viewing.{views_in, views, present_views}
+use Rattle.cmc_model.specs.Writes.{writes}
+use Rattle.cmc_held.proofs.Behind.{due_by_tests, not_due_behind}
+use Rattle.cmc_held.proofs.Told.{views-told}
+use Rattle.cmc_held.specs.declared.standings.Standing.{Standing}
+use Rattle.cmc_held.specs.Dues.{own_above, shown_positions}
+use Rattle.cmc_held.specs.Sight.{caches_at}
+use Rattle.cmc_world.specs.Kept.{standing, Holdings, IsKept}
+use Rattle.cmc_world.proofs.Dated.{dated_views, dated_present}
+
+-- ---- what is seen
+
+-- what the store keeps is what there is to see
+pub seen_present : (s : Setting) (h : List Entry) (role : Role) (key : Key) (w : Holdings) (seen : Views) → IsKept s h w
+    → seen ≡ views_in role (record { certificates = w.state.objects; requests = w.state.objects; secrets = w.state.objects }) key → seen ≡ present_views s h role key
+seen_present s h role key w seen k is =
+    is ∙ ap (λ (st : State). views_in role (record { certificates = st.objects; requests = st.objects; secrets = st.objects }) key) k.held.state
+
+-- and its last failure is dated
+pub present_is_dated : (s : Setting) (h : List Entry) (role : Role) (key : Key) (w : Holdings) (seen : Views) → IsKept s h w
+    → seen ≡ views_in role (record { certificates = w.state.objects; requests = w.state.objects; secrets = w.state.objects }) key → HasDatedFailure seen
+present_is_dated s h role key w seen k is = subst HasDatedFailure (sym (seen_present s h role key w seen k is)) (dated_present s h k.held.run role key)
+
+-- the positions that are kept, shown to the role, are its own
+pub shown_at : (s : Setting) (h : List Entry) (role : Role) (w : Holdings) (at : Positions) → IsKept s h w
+    → at ≡ shown_positions role (w.standing role).told → at ≡ positions h role
+shown_at s h role w at k is = is ∙ ap (λ (t : Standing). shown_positions role t.told) (k.held.standing role)
+
+-- what the log leaves at these positions is what the role sees
+pub seen_told : (s : Setting) (h : List Entry) (role : Role) (key : Key) (w : Holdings) (at : Positions) (seen : Views) → IsKept s h w
+    → at ≡ shown_positions role (w.standing role).told → seen ≡ views_in role (caches_at w.log at) key → seen ≡ views s h role key
+seen_told s h role key w at seen k shown is =
+    is ∙ ap (λ (ws : List Write). views_in role (caches_at ws at) key) k.held.log
+    ∙ ap (λ (p : Positions). views_in role (caches_at (writes s h) p) key) (shown_at s h role w at k shown) ∙ views-told s h role key
+
+-- and its last failure is dated
+pub told_is_dated : (s : Setting) (h : List Entry) (role : Role) (key : Key) (w : Holdings) (at : Positions) (seen : Views) → IsKept s h w
+    → at ≡ shown_positions role (w.standing role).told → seen ≡ views_in role (caches_at w.log at) key → HasDatedFailure seen
+told_is_dated s h role key w at seen k shown is = subst HasDatedFailure (sym (seen_told s h role key w at seen k shown is)) (dated_views s h k.held.run role key)
+
+-- ---- nothing to do
+
+-- a test of the act at the present moment says whether the role is idle
+pub idle_by : (s : Setting) (h : List Entry) (role : Role) (seen : Views) (now : ℤ) (r : Result Bool AllocError) → now ≡ moment s h
+    → IfOk r (λ b. (d : Desk) → (IsTrue b ↔ (act role seen now d ≡ Nothing))) → IfOk r (λ b. IsTrue b ↔ IsIdle s h role seen)
+idle_by s h role seen now r is found =
+    IfOk-weaker r _ _ (λ b each. subst (λ (m : ℤ). IsTrue b ↔ (act role seen m (desk s h role seen) ≡ Nothing)) is (each (desk s h role seen))) found
+
+-- the same where what there is to see is looked at
+pub served_by : (s : Setting) (h : List Entry) (role : Role) (key : Key) (w : Holdings) (seen : Views) (now : ℤ) (r : Result Bool AllocError) → IsKept s h w
+    → now ≡ w.moment → seen ≡ views_in role (record { certificates = w.state.objects; requests = w.state.objects; secrets = w.state.objects }) key
+    → IfOk r (λ b. (d : Desk) → (IsTrue b ↔ (act role seen now d ≡ Nothing))) → IfOk r (λ b. IsTrue b ↔ IsIdle s h role (present_views s h role key))
+served_by s h role key w seen now r k at is found =
+    subst (λ (v : Views). IfOk r (λ b. IsTrue b ↔ IsIdle s h role v)) (seen_present s h role key w seen k is)
+    (idle_by s h role seen now r (at ∙ k.held.moment) found)
+
+-- ---- or no pass may begin
+
+-- what the two tests of a begin say: all own writes were told or not, and the pass is the last one again or not
+pub due_unless_same : (p : Past) (seen : Views) (now : ℤ) (at : Positions) (same : Bool) → own_above p.own at ≡ None → (IsTrue same ↔ IsSame p.last seen now at)
+    → IsTrue (not same) ↔ IsDue p seen now at
+due_unless_same p seen now at true told e = (λ bad. absurd (cc), λ due. absurd (due.other (e.0 refl)))
+due_unless_same p seen now at false told e = (λ on. due_by_tests p seen now at told (λ same. let bad = e.1 same in absurd (cc)), λ due. refl)
+
+never_due : (p : Past) (seen : Views) (now : ℤ) (at : Positions) (own : Option ℕ) → is_some own ≡ true → own_above p.own at ≡ own → IsDue p seen now at → ⊥
+never_due p seen now at None some is due = absurd (cc)
+never_due p seen now at (Some v) some is due = not_due_behind p seen now at v is due
+
+pub not_due_untold : (p : Past) (seen : Views) (now : ℤ) (at : Positions) (own : Option ℕ) (answer : Bool) → own ≡ own_above p.own at → is_some own ≡ true → answer ≡ false
+    → IsTrue answer ↔ IsDue p seen now at
+not_due_untold p seen now at own answer is some off = (λ on. absurd (cc (on, off)), λ due. absurd (never_due p seen now at own some (sym is) due))
+
+pub none_told : (own : Option ℕ) → is_some own ≡ false → own ≡ None
+none_told None off = refl
+none_told (Some v) off = absurd (cc)
+
+-- and what these say of a role on a key
+pub paused_by : (s : Setting) (h : List Entry) (role : Role) (key : Key) (w : Holdings) (p : Past) (seen : Views) (now : ℤ) (at : Positions) (r : Result Bool AllocError) → IsKept s h w
+    → p ≡ w.past role key → now ≡ w.moment → at ≡ shown_positions role (w.standing role).told → seen ≡ views_in role (caches_at w.log at) key
+    → IfOk r (λ b. (d : Desk) → (IsTrue b ↔ ((act role seen now d ≡ Nothing) ⊎ (IsDue p seen now at → ⊥)))) → IfOk r (λ b. IsTrue b ↔ IsPaused s h role key)
+paused_by s h role key w p seen now at r k own time shown is found =
+    let sees : seen ≡ views s h role key = seen_told s h role key w at seen k shown is in
+    let when : now ≡ moment s h = time ∙ k.held.moment in
+    let told : at ≡ positions h role = shown_at s h role w at k shown in
+    let did : p ≡ past s h role key = own ∙ k.held.past role key in
+    IfOk-weaker r _ _
+    (λ b each.
+    subst (λ (v : Views). IsTrue b ↔ ((act role v (moment s h) (desk s h role v) ≡ Nothing) ⊎ (IsDue (past s h role key) v (moment s h) (positions h role) → ⊥))) sees
+    (subst (λ (m : ℤ). IsTrue b ↔ ((act role seen m (desk s h role seen) ≡ Nothing) ⊎ (IsDue (past s h role key) seen m (positions h role) → ⊥))) when
+    (subst (λ (a : Positions). IsTrue b ↔ ((act role seen now (desk s h role seen) ≡ Nothing) ⊎ (IsDue (past s h role key) seen now a → ⊥))) told
+    (subst (λ (q : Past). IsTrue b ↔ ((act role seen now (desk s h role seen) ≡ Nothing) ⊎ (IsDue q seen now at → ⊥))) did (each (desk s h role seen))))))
+    found
+
+-- which of the two a role on a key has to be
+pub rests_on_by : (s : Setting) (h : List Entry) (role : Role) (key : Key) (back : Bool) (r : Result Bool AllocError) → has_held s h role ≡ back
+    → IfOk r (λ b. IsTrue b ↔ MatchBool back (IsPaused s h role key) (IsIdle s h role (present_views s h role key))) → IfOk r (λ b. IsTrue b ↔ RestsOn s h role key)
+rests_on_by s h role key back r is found =
+    subst (λ (q : Bool). IfOk r (λ b. IsTrue b ↔ MatchBool q (IsPaused s h role key) (IsIdle s h role (present_views s h role key)))) (sym is) found

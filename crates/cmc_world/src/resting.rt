@@ -1,0 +1,361 @@
+//! When nothing is left to do, and what the next step of the script waits for.
+ghost use Rattle.std.specs.Option.{option_copied};
+ghost use Rattle.std.specs.Prelude.{◌≡◌, ◌↔◌, ◌⊎◌, ◌+◌, ◌≤◌, ◌||◌, ℕ, Some, None, IsTrue, IfOk, All, List};
+ghost use Rattle.cmc_objects.specs.declared.entry.Entry.{Entry};
+ghost use Rattle.cmc_model.specs.declared.write.Write.{Write as WriteValue};
+ghost use Rattle.cmc_model.specs.declared.pass.Act.TheVariants.{Nothing};
+ghost use Rattle.cmc_model.specs.declared.pass.Desk.{Desk as DeskValue};
+ghost use Rattle.cmc_model.specs.Acts as acts;
+ghost use Rattle.cmc_model.specs.Following as following;
+ghost use Rattle.cmc_model.specs.Histories.{Setting, runs};
+ghost use Rattle.cmc_model.specs.Passes.{IsDue, open_pass};
+ghost use Rattle.cmc_model.specs.Resting as spec;
+ghost use Rattle.cmc_model.specs.Scripting as scripting;
+ghost use Rattle.cmc_model.specs.Triggering.{HasDatedFailure};
+ghost use Rattle.cmc_model.specs.Viewing.{present_views};
+ghost use Rattle.cmc_model.specs.Writes.{writes};
+ghost use Rattle.cmc_held.specs.Remembered.{past_or_new};
+ghost use Rattle.cmc_world.specs.Answers.{AnswersScript, entries_of};
+ghost use Rattle.cmc_world.specs.Kept.{setting_of};
+ghost use Rattle.cmc_world.specs.Rest.{IsToldAll, EachKind, RestsIn};
+
+use crate::acts::act_of;
+use crate::moves::{Lack, Stepped, answer_script};
+use crate::world::{World, has_room};
+use cmc_held::{
+    Standing, has_informer, is_held, is_same, own_above, present, shown_positions, told_of,
+    views_at, written_of,
+};
+use cmc_meta::{Key, Kind};
+use cmc_model::{Past, Views, Write};
+use cmc_objects::{Positions, Role, Step};
+use std::alloc::{AllocError, Global};
+
+/// Whether the role has nothing to do where it sees this.
+fn has_nothing(alloc: Global, role: Role, seen: &Views, now: i64) -> Result<bool, AllocError>
+    requires { HasDatedFailure seen.now }
+    ensures { IfOk result (λ b. (desk : DeskValue) → (IsTrue b ↔ (acts.act role seen.now now desk ≡ Nothing))) }
+{
+    match act_of(alloc, role, seen, now)? {
+        None => Ok(true),
+        Some(_) => Ok(false),
+    }
+}
+
+/// Whether a role that has done this on the key may begin a pass on it that sees this.
+fn is_due_after(past: &Past, seen: &Views, now: i64, at: Positions) -> bool
+    ensures { IsTrue result ↔ IsDue past.now seen.now now at }
+{
+    own_above(past.own, at).is_none() && !is_same(&past.last, seen, now, at)
+}
+
+/// Whether the role may begin a pass on the key that sees this.
+fn is_due(past: Option<&Past>, seen: &Views, now: i64, at: Positions) -> bool
+    ensures { IsTrue result ↔ IsDue (past_or_new (option_copied past.entry)) seen.now now at }
+{
+    match past {
+        Some(past) => is_due_after(past, seen, now, at),
+        None => true,
+    }
+}
+
+/// Whether the role has nothing to do where it sees this, or may not begin.
+fn is_paused(
+    alloc: Global,
+    role: Role,
+    past: Option<&Past>,
+    seen: &Views,
+    now: i64,
+    at: Positions,
+) -> Result<bool, AllocError>
+    requires { HasDatedFailure seen.now }
+    ensures { IfOk result (λ b. (desk : DeskValue) → (IsTrue b ↔ ((acts.act role seen.now now desk ≡ Nothing) ⊎ (IsDue (past_or_new (option_copied past.entry)) seen.now now at → ⊥)))) }
+{
+    if !is_due(past, seen, now, at) {
+        return Ok(true);
+    }
+    has_nothing(alloc, role, seen, now)
+}
+
+/// Whether an informer of a role that stands so is held.
+fn has_held(standing: Standing) -> bool
+    ensures { result ≡ (standing.held.certificates || (standing.held.requests || standing.held.secrets)) }
+{
+    standing.held.certificates || standing.held.requests || standing.held.secrets
+}
+
+/// How many entries the step makes: its own, and one for what it has happen.
+#[tactic(auto, unfolding(cmc_model::specs::Following::call_of))]
+fn entries_needed(step: &Step) -> u64
+    ensures { (s : Setting) → (h : List Entry) → result ≡ entries_of (following.effect_of s h step.now) }
+{
+    match step {
+        Step::Apply { .. }
+        | Step::Delete { .. }
+        | Step::Tick { .. }
+        | Step::Stop { .. }
+        | Step::Start { .. } => 2,
+        Step::Approve { .. }
+        | Step::Deny { .. }
+        | Step::Answer { .. }
+        | Step::Renew { .. }
+        | Step::Hold { .. }
+        | Step::Release { .. }
+        | Step::Until { .. }
+        | Step::Settle => 1,
+    }
+}
+
+/// Whether the role rests on the key of each of these writes.
+fn rests_on_each(
+    world: &World,
+    alloc: Global,
+    role: Role,
+    writes: &[Write],
+) -> Result<bool, AllocError>
+    ensures { IfOk result (λ b. IsTrue b ↔ All (λ (w : WriteValue). spec.RestsOn (setting_of world.now.scenario) world.now.history role w.key) writes.now) }
+{
+    for write in writes {
+        if !world.rests_on(alloc, role, &write.key)? {
+            return Ok(false);
+        }
+    }
+    Ok(true)
+}
+
+/// Whether each of these roles rests.
+fn rests_in_each(world: &World, alloc: Global, roles: &[Role]) -> Result<bool, AllocError>
+    ensures { IfOk result (λ b. IsTrue b ↔ All (λ role. RestsIn (setting_of world.now.scenario) world.now.history role) roles.now) }
+{
+    for role in roles {
+        if !world.rests_in(alloc, *role)? {
+            return Ok(false);
+        }
+    }
+    Ok(true)
+}
+
+impl World {
+    /// Whether the role has nothing to do where it sees this.
+    ///
+    /// # Errors
+    ///
+    /// Want of memory alone.
+    pub(crate) fn is_idle(
+        &self,
+        alloc: Global,
+        role: Role,
+        seen: &Views,
+    ) -> Result<bool, AllocError>
+        requires { HasDatedFailure seen.now }
+        ensures { IfOk result (λ b. IsTrue b ↔ spec.IsIdle (setting_of self.now.scenario) self.now.history role seen.now) }
+    {
+        has_nothing(alloc, role, seen, self.moment)
+    }
+
+    /// Whether the role would have nothing to do on the key if it were told of all.
+    fn is_idle_on(&self, alloc: Global, role: Role, key: &Key) -> Result<bool, AllocError>
+        ensures { IfOk result (λ b. IsTrue b ↔ spec.IsIdle (setting_of self.now.scenario) self.now.history role (present_views (setting_of self.now.scenario) self.now.history role key.now)) }
+    {
+        let seen = present(alloc, self.store.shelf(), role, key)?;
+        has_nothing(alloc, role, &seen, self.moment)
+    }
+
+    /// Whether the role has nothing to do on the key by what it was told, or may not begin.
+    fn is_paused_on(&self, alloc: Global, role: Role, key: &Key) -> Result<bool, AllocError>
+        ensures { IfOk result (λ b. IsTrue b ↔ spec.IsPaused (setting_of self.now.scenario) self.now.history role key.now) }
+    {
+        let at = shown_positions(role, self.standings.get(role).told);
+        let seen = views_at(alloc, &self.log, role, at, key)?;
+        is_paused(
+            alloc,
+            role,
+            self.pasts.get(role, key),
+            &seen,
+            self.moment,
+            at,
+        )
+    }
+
+    /// Whether an informer of the role is held.
+    fn has_held_informer(&self, role: Role) -> bool
+        ensures { result ≡ scripting.has_held (setting_of self.now.scenario) self.now.history role }
+    {
+        has_held(self.standings.get(role))
+    }
+
+    /// Whether the role has nothing to do on the key.
+    ///
+    /// # Errors
+    ///
+    /// Want of memory alone.
+    pub(crate) fn rests_on(&self, alloc: Global, role: Role, key: &Key) -> Result<bool, AllocError>
+        ensures { IfOk result (λ b. IsTrue b ↔ spec.RestsOn (setting_of self.now.scenario) self.now.history role key.now) }
+    {
+        if self.has_held_informer(role) {
+            return self.is_paused_on(alloc, role, key);
+        }
+        self.is_idle_on(alloc, role, key)
+    }
+
+    /// Whether the role was told of the last write of the kind, if it looks at the kind and its
+    /// informer is not held.
+    fn is_told_all(&self, role: Role, kind: Kind) -> bool
+        ensures { IsTrue result ↔ IsToldAll (setting_of self.now.scenario) self.now.history role kind }
+    {
+        let standing = self.standings.get(role);
+        !has_informer(role, kind)
+            || is_held(standing, kind)
+            || self.log.last_of_kind(kind) <= told_of(standing, kind)
+    }
+
+    /// Whether the role was so told of each kind.
+    fn is_told_of_each(&self, role: Role) -> bool
+        ensures { IsTrue result ↔ EachKind (IsToldAll (setting_of self.now.scenario) self.now.history role) }
+    {
+        self.is_told_all(role, Kind::Certificate)
+            && self.is_told_all(role, Kind::CertificateRequest)
+            && self.is_told_all(role, Kind::Secret)
+    }
+
+    fn is_running(&self, role: Role) -> bool
+        ensures { result ≡ runs (setting_of self.now.scenario) self.now.history role }
+    {
+        self.standings.get(role).running
+    }
+
+    /// Whether the role has nothing to do on any key that an accepted write named.
+    fn rests_on_known(&self, alloc: Global, role: Role) -> Result<bool, AllocError>
+        ensures { IfOk result (λ b. IsTrue b ↔ All (λ (w : WriteValue). spec.RestsOn (setting_of self.now.scenario) self.now.history role w.key) (writes (setting_of self.now.scenario) self.now.history)) }
+    {
+        rests_on_each(self, alloc, role, self.log.as_slice())
+    }
+
+    /// Whether the role, where it runs, was told of all kinds and has nothing to do.
+    ///
+    /// # Errors
+    ///
+    /// Want of memory alone.
+    pub(crate) fn rests_in(&self, alloc: Global, role: Role) -> Result<bool, AllocError>
+        ensures { IfOk result (λ b. IsTrue b ↔ RestsIn (setting_of self.now.scenario) self.now.history role) }
+    {
+        if !self.is_running(role) {
+            return Ok(true);
+        }
+        if !self.is_told_of_each(role) {
+            return Ok(false);
+        }
+        self.rests_on_known(alloc, role)
+    }
+
+    /// Whether no pass is open.
+    fn is_closed(&self) -> bool
+        ensures { IsTrue result ↔ ((pass : ℕ) → open_pass (setting_of self.now.scenario) self.now.history pass ≡ None) }
+    {
+        self.passes.is_empty()
+    }
+
+    /// Whether nothing is left to do.
+    ///
+    /// # Errors
+    ///
+    /// Want of memory alone.
+    pub(crate) fn is_at_rest(&self, alloc: Global) -> Result<bool, AllocError>
+        ensures { IfOk result (λ b. IsTrue b ↔ spec.IsAtRest (setting_of self.now.scenario) self.now.history) }
+    {
+        if !self.is_closed() {
+            return Ok(false);
+        }
+        let roles = [
+            Role::Trigger,
+            Role::KeyManager,
+            Role::RequestManager,
+            Role::Approver,
+            Role::Issuer,
+            Role::Issuing,
+            Role::Readiness,
+            Role::Revision,
+        ];
+        rests_in_each(self, alloc, &roles)
+    }
+
+    /// Whether the role's passes made so many writes of the kind.
+    fn has_written(&self, role: Role, kind: Kind, writes: u64) -> bool
+        ensures { IsTrue result ↔ (writes ≤ following.written (setting_of self.now.scenario) self.now.history role kind) }
+    {
+        writes <= written_of(self.standings.get(role), kind)
+    }
+
+    /// Whether the count is reached, or all is at rest.
+    fn is_reached(
+        &self,
+        alloc: Global,
+        role: Role,
+        kind: Kind,
+        writes: u64,
+    ) -> Result<bool, AllocError>
+        ensures { IfOk result (λ b. IsTrue b ↔ ((writes ≤ following.written (setting_of self.now.scenario) self.now.history role kind) ⊎ spec.IsAtRest (setting_of self.now.scenario) self.now.history)) }
+    {
+        if self.has_written(role, kind, writes) {
+            return Ok(true);
+        }
+        self.is_at_rest(alloc)
+    }
+
+    /// Whether the step waits no longer.
+    ///
+    /// # Errors
+    ///
+    /// Want of memory alone.
+    pub(crate) fn is_ready(&self, alloc: Global, step: &Step) -> Result<bool, AllocError>
+        ensures { IfOk result (λ b. IsTrue b ↔ following.IsReady (setting_of self.now.scenario) self.now.history (Some step.now)) }
+    {
+        match step {
+            Step::Apply { .. }
+            | Step::Delete { .. }
+            | Step::Approve { .. }
+            | Step::Deny { .. }
+            | Step::Answer { .. }
+            | Step::Renew { .. }
+            | Step::Tick { .. }
+            | Step::Stop { .. }
+            | Step::Start { .. }
+            | Step::Hold { .. }
+            | Step::Release { .. } => Ok(true),
+            Step::Until { role, kind, writes } => self.is_reached(alloc, *role, *kind, *writes),
+            Step::Settle => self.is_at_rest(alloc),
+        }
+    }
+
+    /// The next step of the script; `None` exactly where all are made.
+    fn next_step(&self) -> Option<&Step>
+        ensures { option_copied result ≡ scripting.step_at self.now.scenario.script (scripting.scripted self.now.history + 1) }
+    {
+        self.scenario.script().get(self.made as usize)
+    }
+
+    /// What the next step, which is this one, is answered now.
+    fn judge_step(&self, alloc: Global, step: &Step) -> Result<Stepped, AllocError>
+        requires { scripting.step_at self.now.scenario.script (scripting.scripted self.now.history + 1) ≡ Some step.now }
+        ensures { IfOk result (λ a. AnswersScript (setting_of self.now.scenario) self.now.history a) }
+    {
+        let ready = self.is_ready(alloc, step)?;
+        let entries = self.history.len();
+        let room = has_room(entries, self.scenario.events(), entries_needed(step));
+        Ok(answer_script(true, ready, entries, room))
+    }
+
+    /// What the next step of the script is answered now.
+    ///
+    /// # Errors
+    ///
+    /// Want of memory alone.
+    pub(crate) fn judge_script(&self, alloc: Global) -> Result<Stepped, AllocError>
+        ensures { IfOk result (λ a. AnswersScript (setting_of self.now.scenario) self.now.history a) }
+    {
+        match self.next_step() {
+            Some(step) => self.judge_step(alloc, step),
+            None => Ok(Stepped::NotNow(Lack::ScriptOver)),
+        }
+    }
+}
