@@ -17,8 +17,10 @@ ghost use Rattle.cmc_world.specs.Answers as spec;
 ghost use Rattle.cmc_world.specs.Changes.{keeping, scripted_standing, starting, stopping};
 ghost use Rattle.cmc_world.specs.Kept.{setting_of};
 ghost use Rattle.cmc_world.specs.Scripted.{effect_besides, effect_in, effect_on, standing_after};
+ghost use Rattle.cmc_world.specs.declared.moves.Move.TheVariants as moves;
 ghost use Rattle.cmc_world.specs.declared.moves.Stepped.TheVariants as answers;
 
+use crate::moves::Stepped;
 use crate::noting::log_write;
 use crate::world::World;
 use cmc_held::{Standing, Standings, with_held};
@@ -331,5 +333,24 @@ impl World {
             Some(Effect::Stop { role }) => self.make_stop(role),
             Some(Effect::Start { role, at }) => self.make_start(role, at),
         }
+    }
+
+    /// Makes the next step of the script, where it is possible now.
+    ///
+    /// # Errors
+    ///
+    /// Want of memory alone.
+    pub(crate) fn step_script(&mut self, alloc: Global) -> Result<Stepped, AllocError>
+        ensures answer { IfOk result (λ r. spec.AnswersScript (setting_of self.old.scenario) self.old.history r) }
+        ensures scenario { self.new.scenario ≡ self.old.scenario }
+        ensures leaves { IfOk result (λ r. spec.Leaves (setting_of self.old.scenario) self.old.history moves.Script r self.new.history) }
+        ensures err { OnErr result (self.new ≡ self.old) }
+    {
+        let answer = self.judge_script(alloc)?;
+        if !answer.is_done() {
+            return Ok(answer);
+        }
+        self.make_step(alloc)?;
+        Ok(Stepped::Done)
     }
 }
