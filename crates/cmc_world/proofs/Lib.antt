@@ -19,3 +19,4 @@ pub mod Begins
 pub mod Stepping
 pub mod Idling
 pub mod Waiting
+pub mod Leading

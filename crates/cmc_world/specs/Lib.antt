@@ -9,3 +9,4 @@ pub mod Changes
 pub mod Noting
 pub mod Prepared
 pub mod Scripted
+pub mod Leading

@@ -1,8 +1,16 @@
 //! The world and its parts.
-ghost use Rattle.std.specs.Prelude.{◌≡◌, ◌↔◌, ◌+◌, ◌≤◌, ◌<◌, [], ◌∷◌, IsTrue, IfOk, OnOk, OnErr, length};
+ghost use Rattle.std.specs.Prelude.{◌≡◌, ◌↔◌, ◌+◌, ◌≤◌, [], List, IsTrue, IfOk, OnErr, length};
+ghost use Rattle.cmc_objects.specs.declared.entry.Entry.{Entry};
 ghost use Rattle.cmc_model.specs.Histories as spec;
+ghost use Rattle.cmc_model.specs.Rights.{KeepsRights};
+ghost use Rattle.cmc_model.specs.Runs.{IsRun};
+ghost use Rattle.cmc_scenario.specs.Setups.{Setup};
+ghost use Rattle.cmc_world.specs.Answers.{Answers, Leaves};
 ghost use Rattle.cmc_world.specs.Kept.{setting_of};
+ghost use Rattle.cmc_world.specs.Leading.{Lead, Extends};
+ghost use Rattle.cmc_world.specs.declared.moves.Move.{Move as MoveValue};
 
+use crate::moves::{Move, Stepped};
 use cmc_held::{Log, Origins, Passes, Pasts, Standings};
 use cmc_history::History;
 use cmc_meta::Numbers;
@@ -135,4 +143,60 @@ impl World {
     {
         self.standings.get(role).incarnation
     }
+
+    /// A law: whatever moves led to this world, its history is legal, caused, and follows the script with
+    /// at most as many entries as the scenario allows, and each accepted write of a pass changes only what
+    /// its role may change.
+    pub fn is_run(&self)
+        ensures run { IsRun (setting_of self.now.scenario) self.now.history }
+        ensures rights { KeepsRights (setting_of self.now.scenario) self.now.history }
+    {
+        let _entries = self.history.len();
+    }
+
+    fn make(&mut self, alloc: Global, step: Move) -> Result<Stepped, AllocError>
+        ensures answer { IfOk result (λ r. Answers (setting_of self.old.scenario) self.old.history step r) }
+        ensures scenario { self.new.scenario ≡ self.old.scenario }
+        ensures leaves { IfOk result (λ r. Leaves (setting_of self.old.scenario) self.old.history step r self.new.history) }
+        ensures err { OnErr result (self.new ≡ self.old) }
+    {
+        match step {
+            Move::Script => self.step_script(alloc),
+            Move::Deliver { role, kind, to } => self.step_deliver(role, kind, to),
+            Move::Begin { role, key } => self.step_begin(alloc, role, key),
+            Move::Next { pass, incarnation } => self.step_next(alloc, pass, incarnation),
+        }
+    }
+
+    /// Makes one move, and answers whether it was made, or what kept it from being made: of all that does,
+    /// the first in the order of the move's table (`Answers`).
+    ///
+    /// A move that is made adds one or two entries to the history, those of its kind (`Grows`): a step of the
+    /// script its own and that of what it has happen, a delivery that of the delivery or of a list, a begin its
+    /// own, and a pass that goes on its call or its end. Any other answer leaves the world as it was.
+    ///
+    /// # Errors
+    ///
+    /// Want of memory alone, which leaves the world as it was.
+    pub fn step(&mut self, alloc: Global, step: Move) -> Result<Stepped, AllocError>
+        ensures answer { IfOk result (λ r. Answers (setting_of self.old.scenario) self.old.history step r) }
+        ensures leaves { IfOk result (λ r. Leaves (setting_of self.old.scenario) self.old.history step r self.new.history) }
+        ensures scenario { self.new.scenario ≡ self.old.scenario }
+        ensures run { IsRun (setting_of self.new.scenario) self.new.history }
+        ensures rights { KeepsRights (setting_of self.new.scenario) self.new.history }
+        ensures err { OnErr result (self.new ≡ self.old) }
+    {
+        self.is_run();
+        let answer = self.make(alloc, step)?;
+        self.is_run();
+        Ok(answer)
+    }
 }
+
+/// A law: whatever list of moves is made, one after another, on a new world, the history that they lead to is
+/// legal, caused, and follows the script, and keeps the rights of the roles; and no move changes what stood in
+/// the history before.
+pub fn every_list_of_moves()
+    ensures keeps { (u : Setup) (moves : List MoveValue) (h : List Entry) → Lead u moves [] h → IsRun (setting_of u) h × KeepsRights (setting_of u) h }
+    ensures grows { (u : Setup) (moves : List MoveValue) (h k : List Entry) → Lead u moves h k → Extends h k }
+{}
