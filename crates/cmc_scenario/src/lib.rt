@@ -6,6 +6,7 @@
 
 mod applied;
 mod certificate;
+mod fitting;
 mod key;
 mod metadata;
 mod reading;
@@ -15,6 +16,7 @@ mod secret;
 mod step;
 mod steps;
 
+pub use fitting::is_setup;
 pub use reading::{BadScenario, read};
 pub use roles::Roles;
 pub use scenario::Scenario;
