@@ -82,12 +82,12 @@ kept_open s h w role p now later os opened pasts k m1 m2 a is came put noted =
     } in
     let kept =
     kept_begun s h w role p.key os opened pasts k begins due (omega (arith, may.room))
-      (came ∙ ap (λ (o : Origin). o ∷ w.origins) is.origin)
-      (λ n. put n ∙ ap (λ (m : ℕ). if n == m then Some p.pass else w.opened n) is.number ∙ ap (λ (q : OpenPass). if n == begun h + 1 then Some q else w.opened n) is.pass)
-      (λ r q. noted r q ∙ ap (λ (v : Views). if role_eq role r && key_eq p.key q then with_begin v now (w.past r q) else w.past r q) is.seen ∙ ap (λ (m : ℤ). if role_eq role r && key_eq p.key q then with_begin (views s h role p.key) m (w.past r q) else w.past r q) now_is) in
+    (came ∙ ap (λ (o : Origin). o ∷ w.origins) is.origin)
+    (λ n. put n ∙ ap (λ (m : ℕ). if n == m then Some p.pass else w.opened n) is.number ∙ ap (λ (q : OpenPass). if n == begun h + 1 then Some q else w.opened n) is.pass)
+    (λ r q. noted r q ∙ ap (λ (v : Views). if role_eq role r && key_eq p.key q then with_begin v now (w.past r q) else w.past r q) is.seen ∙ ap (λ (m : ℤ). if role_eq role r && key_eq p.key q then with_begin (views s h role p.key) m (w.past r q) else w.past r q) now_is) in
     subst (λ (m : ℕ). IsKept s (Begin m role p.key p.at later ∷ h) (record w { origins = os; opened = opened; past = pasts })) (sym is.number)
-      (subst (λ (q : Positions). IsKept s (Begin (begun h + 1) role p.key q later ∷ h) (record w { origins = os; opened = opened; past = pasts })) (sym is.at)
-        (subst (λ (m : ℤ). IsKept s (Begin (begun h + 1) role p.key (positions h role) m ∷ h) (record w { origins = os; opened = opened; past = pasts })) (sym later_is) kept))
+    (subst (λ (q : Positions). IsKept s (Begin (begun h + 1) role p.key q later ∷ h) (record w { origins = os; opened = opened; past = pasts })) (sym is.at)
+    (subst (λ (m : ℤ). IsKept s (Begin (begun h + 1) role p.key (positions h role) m ∷ h) (record w { origins = os; opened = opened; past = pasts })) (sym later_is) kept))
 
 -- the entry is that of the pass that begins
 pub begins_so : (s : Setting) (h : List Entry) (w : Holdings) (role : Role) (p : Prepared) (later : ℤ) → IsKept s h w → later ≡ w.moment → IsPrepared s h role p.key p → Begin p.number role p.key p.at later ≡ beginning s h role p.key

@@ -84,20 +84,20 @@ kept_call s h w n call c reply key object stage now version entry fs st log t op
     ∙ ap (λ (x : State). logged (key_written call reply) (object_written (moment s h) x call reply) w.log) k.held.state
     ∙ logged_called (moment s h) (state s h) call reply w.log in
     subst (λ (x : List ℕ). IsKept s (Called (Pass n) call reply ∷ h) (record w { faults = x; state = st; log = log; standing = t; opened = opened; past = pasts })) (sym f)
-      (kept_called s h w n is.pass call reply st log t opened pasts k is.opened right_is (subst (λ (o : Option OpenPass). MayCall s h o call) is.opened may) room after_is log_is
-        (λ r.
-          counted_is r
-          ∙ ap (λ (x : Option Key). counted (option_map (λ (q : Key). q.kind) x) (role_eq c.role r) (w.standing c.role) (w.standing r)) named
-          ∙ ap (λ (x : Role). counted (option_map (λ (q : Key). q.kind) (key_written call reply)) (role_eq x r) (w.standing x) (w.standing r)) is.role
-          ∙ counted_called call reply (role_eq is.pass.role r) (w.standing is.pass.role) (w.standing r))
-        (λ m. opened_is m ∙ ap (λ (x : Stage). if m == n then option_map (with_stage x) (w.opened m) else w.opened m) stage_is)
-        (λ r q.
-          noted_is r q
-          ∙ ap (λ (x : Option Key). noted (option_map (λ (y : Key). y.kind) x) version (role_eq c.role r && key_eq c.key q) (w.past r q)) named
-          ∙ ap (λ (x : Role). noted (option_map (λ (y : Key). y.kind) (key_written call reply)) version (role_eq x r && key_eq c.key q) (w.past r q)) is.role
-          ∙ ap (λ (x : Key). noted (option_map (λ (y : Key). y.kind) (key_written call reply)) version (role_eq is.pass.role r && key_eq x q) (w.past r q)) is.key
-          ∙ ap (λ (x : ℕ). noted (option_map (λ (y : Key). y.kind) (key_written call reply)) x (role_eq is.pass.role r && key_eq is.pass.key q) (w.past r q)) version_is
-          ∙ noted_called call reply (accepted s h + 1) (role_eq is.pass.role r && key_eq is.pass.key q) (w.past r q)))
+    (kept_called s h w n is.pass call reply st log t opened pasts k is.opened right_is (subst (λ (o : Option OpenPass). MayCall s h o call) is.opened may) room after_is log_is
+    (λ r.
+    counted_is r
+    ∙ ap (λ (x : Option Key). counted (option_map (λ (q : Key). q.kind) x) (role_eq c.role r) (w.standing c.role) (w.standing r)) named
+    ∙ ap (λ (x : Role). counted (option_map (λ (q : Key). q.kind) (key_written call reply)) (role_eq x r) (w.standing x) (w.standing r)) is.role
+    ∙ counted_called call reply (role_eq is.pass.role r) (w.standing is.pass.role) (w.standing r))
+    (λ m. opened_is m ∙ ap (λ (x : Stage). if m == n then option_map (with_stage x) (w.opened m) else w.opened m) stage_is)
+    (λ r q.
+    noted_is r q
+    ∙ ap (λ (x : Option Key). noted (option_map (λ (y : Key). y.kind) x) version (role_eq c.role r && key_eq c.key q) (w.past r q)) named
+    ∙ ap (λ (x : Role). noted (option_map (λ (y : Key). y.kind) (key_written call reply)) version (role_eq x r && key_eq c.key q) (w.past r q)) is.role
+    ∙ ap (λ (x : Key). noted (option_map (λ (y : Key). y.kind) (key_written call reply)) version (role_eq is.pass.role r && key_eq x q) (w.past r q)) is.key
+    ∙ ap (λ (x : ℕ). noted (option_map (λ (y : Key). y.kind) (key_written call reply)) x (role_eq is.pass.role r && key_eq is.pass.key q) (w.past r q)) version_is
+    ∙ noted_called call reply (accepted s h + 1) (role_eq is.pass.role r && key_eq is.pass.key q) (w.past r q)))
 
 pub kept_end : (s : Setting) (h : List Entry) (w : Holdings) (n : ℕ) (cause : Cause) (c : Closing) (opened : ℕ → Option OpenPass) (pasts : Role → Key → Past)
     → IsKept s h w → IsClosing s h n c → MayEnd s h (open_pass s h n) cause → length h < s.events
@@ -106,8 +106,8 @@ pub kept_end : (s : Setting) (h : List Entry) (w : Holdings) (n : ℕ) (cause : 
     → IsKept s (End n cause ∷ h) (record w { opened = opened; past = pasts })
 kept_end s h w n cause c opened pasts k is may room closed noted_is =
     kept_ended s h w n is.pass cause opened pasts k is.opened (subst (λ (o : Option OpenPass). MayEnd s h o cause) is.opened may) room closed
-      (λ r q.
-        noted_is r q
-        ∙ ap (λ (x : Role). if role_eq x r && key_eq c.key q then with_ending c.ending (w.past r q) else w.past r q) is.role
-        ∙ ap (λ (x : Key). if role_eq is.pass.role r && key_eq x q then with_ending c.ending (w.past r q) else w.past r q) is.key
-        ∙ ap (λ x. if role_eq is.pass.role r && key_eq is.pass.key q then with_ending x (w.past r q) else w.past r q) is.ending)
+    (λ r q.
+    noted_is r q
+    ∙ ap (λ (x : Role). if role_eq x r && key_eq c.key q then with_ending c.ending (w.past r q) else w.past r q) is.role
+    ∙ ap (λ (x : Key). if role_eq is.pass.role r && key_eq x q then with_ending c.ending (w.past r q) else w.past r q) is.key
+    ∙ ap (λ x. if role_eq is.pass.role r && key_eq is.pass.key q then with_ending x (w.past r q) else w.past r q) is.ending)

@@ -39,8 +39,14 @@ use Rattle.cmc_world.proofs.Standings.{standing_delivered, standing_listed, stan
 pub kept_same : (s : Setting) (h : List Entry) (w : Holdings) (pasts : Role → Key → Past) → IsKept s h w → ((r : Role) (k : Key) → pasts r k ≡ w.past r k) → IsKept s h (record w { past = pasts })
 kept_same s h w pasts k same = record {
   held = record {
-    faults = k.held.faults; state = k.held.state; log = k.held.log; moment = k.held.moment; made = k.held.made;
-    standing = k.held.standing; origins = k.held.origins; opened = k.held.opened;
+    faults = k.held.faults;
+    state = k.held.state;
+    log = k.held.log;
+    moment = k.held.moment;
+    made = k.held.made;
+    standing = k.held.standing;
+    origins = k.held.origins;
+    opened = k.held.opened;
     past = λ r key. same r key ∙ k.held.past r key;
     run = k.held.run;
   };
@@ -61,9 +67,15 @@ pub kept_delivered : (s : Setting) (h : List Entry) (w : Holdings) (role : Role)
 unfolding IsLegal IsCaused Follows
 kept_delivered s h w role kind to t k may free room put = record {
   held = record {
-    faults = k.held.faults; state = k.held.state; log = k.held.log; moment = k.held.moment; made = k.held.made;
+    faults = k.held.faults;
+    state = k.held.state;
+    log = k.held.log;
+    moment = k.held.moment;
+    made = k.held.made;
     standing = λ r. put r ∙ one_other s h w (telling kind to) role r k.held ∙ standing_delivered s h role kind to r;
-    origins = k.held.origins; opened = k.held.opened; past = k.held.past;
+    origins = k.held.origins;
+    opened = k.held.opened;
+    past = k.held.past;
     run = record {
       legal = (may, k.held.run.legal);
       caused = (tt, k.held.run.caused);
@@ -81,9 +93,15 @@ pub kept_listed : (s : Setting) (h : List Entry) (w : Holdings) (role : Role) (k
 unfolding IsLegal IsCaused Follows
 kept_listed s h w role kind to t k may free room put = record {
   held = record {
-    faults = k.held.faults; state = k.held.state; log = k.held.log; moment = k.held.moment; made = k.held.made;
+    faults = k.held.faults;
+    state = k.held.state;
+    log = k.held.log;
+    moment = k.held.moment;
+    made = k.held.made;
     standing = λ r. put r ∙ one_other s h w (telling kind to) role r k.held ∙ standing_listed s h role kind to r;
-    origins = k.held.origins; opened = k.held.opened; past = k.held.past;
+    origins = k.held.origins;
+    opened = k.held.opened;
+    past = k.held.past;
     run = record {
       legal = (may, k.held.run.legal);
       caused = (tt, k.held.run.caused);
@@ -110,7 +128,11 @@ pub kept_begun : (s : Setting) (h : List Entry) (w : Holdings) (role : Role) (ke
 unfolding IsLegal IsCaused Follows
 kept_begun s h w role key os opened pasts k may due room came put noted = record {
   held = record {
-    faults = k.held.faults; state = k.held.state; log = k.held.log; moment = k.held.moment; made = k.held.made;
+    faults = k.held.faults;
+    state = k.held.state;
+    log = k.held.log;
+    moment = k.held.moment;
+    made = k.held.made;
     standing = k.held.standing;
     origins = came ∙ ap (λ (l : List Origin). let o : Origin = record { role = role; incarnation = incarnation s h role } in o ∷ l) k.held.origins;
     opened = λ n. put n ∙ ap (λ (p : Option OpenPass). if n == begun h + 1 then Some (new_pass role key (views s h role key) (moment s h)) else p) (k.held.opened n);
@@ -144,18 +166,19 @@ kept_called s h w n p call reply st log t opened pasts k is right may room after
     faults = k.held.faults;
     state = after;
     log = logged ∙ ap (λ (l : List Write). if is_accepted reply then write_of (moment s h) (state s h) call ∷ l else l) k.held.log;
-    moment = k.held.moment; made = k.held.made;
+    moment = k.held.moment;
+    made = k.held.made;
     standing = λ r.
-      counted r
-      ∙ ap (λ (x : Standing). if is_accepted reply && role_eq p.role r then writing (key_of_call call).kind x else w.standing r) (k.held.standing p.role)
-      ∙ ap (λ (x : Standing). if is_accepted reply && role_eq p.role r then writing (key_of_call call).kind (standing s h p.role) else x) (k.held.standing r)
-      ∙ standing_called s h n p call reply r is;
+        counted r
+        ∙ ap (λ (x : Standing). if is_accepted reply && role_eq p.role r then writing (key_of_call call).kind x else w.standing r) (k.held.standing p.role)
+        ∙ ap (λ (x : Standing). if is_accepted reply && role_eq p.role r then writing (key_of_call call).kind (standing s h p.role) else x) (k.held.standing r)
+        ∙ standing_called s h n p call reply r is;
     origins = k.held.origins;
     opened = λ m. staged m ∙ ap (λ (o : Option OpenPass). if m == n then option_map (with_stage (stage_after s h call reply)) o else o) (k.held.opened m);
     past = λ r q.
-      noted r q
-      ∙ one_past s h w (is_accepted reply && (role_eq p.role r && key_eq p.key q)) (with_own (key_of_call call).kind (accepted s h + 1)) r q k.held
-      ∙ past_of_call s h n p (key_of_call call).kind (is_accepted reply) r q is;
+        noted r q
+        ∙ one_past s h w (is_accepted reply && (role_eq p.role r && key_eq p.key q)) (with_own (key_of_call call).kind (accepted s h + 1)) r q k.held
+        ∙ past_of_call s h n p (key_of_call call).kind (is_accepted reply) r q is;
     run = record {
       legal = ((right, subst IsOpen (sym is) tt), k.held.run.legal);
       caused = (subst (λ (o : Option OpenPass). MayCall s h o call) (sym is) may, k.held.run.caused);
@@ -179,8 +202,13 @@ pub kept_ended : (s : Setting) (h : List Entry) (w : Holdings) (n : ℕ) (p : Op
 unfolding IsLegal IsCaused Follows
 kept_ended s h w n p cause opened pasts k is may room closed noted = record {
   held = record {
-    faults = k.held.faults; state = k.held.state; log = k.held.log; moment = k.held.moment; made = k.held.made;
-    standing = k.held.standing; origins = k.held.origins;
+    faults = k.held.faults;
+    state = k.held.state;
+    log = k.held.log;
+    moment = k.held.moment;
+    made = k.held.made;
+    standing = k.held.standing;
+    origins = k.held.origins;
     opened = λ m. closed m ∙ ap (λ (o : Option OpenPass). if m == n then None else o) (k.held.opened m);
     past = λ r q. noted r q ∙ one_past s h w (role_eq p.role r && key_eq p.key q) (with_ending (ending_at p.stage)) r q k.held ∙ past_of_end s h n p r q is;
     run = record {
@@ -202,10 +230,15 @@ pub held_scripted : (s : Setting) (h : List Entry) (w : Holdings) (step : Step) 
     → IsHeld s (Script (scripted h + 1) ∷ h) (record w { made = made; standing = t })
 unfolding IsLegal IsCaused Follows
 held_scripted s h w step made t k next is room counted put = record {
-  faults = k.held.faults; state = k.held.state; log = k.held.log; moment = k.held.moment;
+  faults = k.held.faults;
+  state = k.held.state;
+  log = k.held.log;
+  moment = k.held.moment;
   made = counted ∙ ap (λ n. n + 1) k.held.made;
   standing = λ r. put r ∙ ap (scripted_standing step r) (k.held.standing r) ∙ standing_scripted s h (scripted h + 1) step r is;
-  origins = k.held.origins; opened = k.held.opened; past = k.held.past;
+  origins = k.held.origins;
+  opened = k.held.opened;
+  past = k.held.past;
   run = record {
     legal = (tt, k.held.run.legal);
     caused = (tt, k.held.run.caused);
@@ -226,9 +259,12 @@ kept_users s h w call reply st log k due right room after logged = record {
     faults = k.faults;
     state = after;
     log = logged ∙ ap (λ (l : List Write). if is_accepted reply then write_of (moment s h) (state s h) call ∷ l else l) k.log;
-    moment = k.moment; made = k.made;
+    moment = k.moment;
+    made = k.made;
     standing = λ r. k.standing r ∙ uncounted (is_accepted reply) s h r;
-    origins = k.origins; opened = k.opened; past = k.past;
+    origins = k.origins;
+    opened = k.opened;
+    past = k.past;
     run = record {
       legal = ((right, tt), k.run.legal);
       caused = (tt, k.run.caused);
@@ -239,11 +275,14 @@ kept_users s h w call reply st log k due right room after logged = record {
   settled = refl;
 } where
   uncounted : (b : Bool) (s : Setting) (h : List Entry) (r : Role)
-    → standing s h r
-    ≡ record (standing s h r) { written = record {
-      certificates = if b && false then (standing s h r).written.certificates + 1 else (standing s h r).written.certificates;
-      requests = if b && false then (standing s h r).written.requests + 1 else (standing s h r).written.requests;
-      secrets = if b && false then (standing s h r).written.secrets + 1 else (standing s h r).written.secrets } }
+      → standing s h r
+      ≡ record (standing s h r) {
+        written = record {
+          certificates = if b && false then (standing s h r).written.certificates + 1 else (standing s h r).written.certificates;
+          requests = if b && false then (standing s h r).written.requests + 1 else (standing s h r).written.requests;
+          secrets = if b && false then (standing s h r).written.secrets + 1 else (standing s h r).written.secrets;
+        };
+      }
   uncounted true s h r = refl
   uncounted false s h r = refl
 
@@ -253,8 +292,15 @@ pub kept_ticked : (s : Setting) (h : List Entry) (w : Holdings) (now : ℤ) → 
 unfolding IsLegal IsCaused Follows
 kept_ticked s h w now k due room = record {
   held = record {
-    faults = k.faults; state = k.state; log = k.log; moment = refl; made = k.made;
-    standing = k.standing; origins = k.origins; opened = k.opened; past = k.past;
+    faults = k.faults;
+    state = k.state;
+    log = k.log;
+    moment = refl;
+    made = k.made;
+    standing = k.standing;
+    origins = k.origins;
+    opened = k.opened;
+    past = k.past;
     run = record { legal = (tt, k.run.legal); caused = (tt, k.run.caused); follows = (due, k.run.follows); short = omega (arith, room) };
   };
   settled = refl;
@@ -269,7 +315,11 @@ pub kept_stopped : (s : Setting) (h : List Entry) (w : Holdings) (role : Role) (
 unfolding IsLegal IsCaused Follows
 kept_stopped s h w role t opened k due room put closed = record {
   held = record {
-    faults = k.faults; state = k.state; log = k.log; moment = k.moment; made = k.made;
+    faults = k.faults;
+    state = k.state;
+    log = k.log;
+    moment = k.moment;
+    made = k.made;
     standing = λ r. put r ∙ one_other s h w stopping role r k ∙ standing_stopped s h role r;
     origins = k.origins;
     opened = λ n. closed n ∙ ap (unless_of role) (k.opened n);
@@ -288,9 +338,14 @@ pub kept_started : (s : Setting) (h : List Entry) (w : Holdings) (role : Role) (
 unfolding IsLegal IsCaused Follows
 kept_started s h w role at t pasts k due low room put forgot = record {
   held = record {
-    faults = k.faults; state = k.state; log = k.log; moment = k.moment; made = k.made;
+    faults = k.faults;
+    state = k.state;
+    log = k.log;
+    moment = k.moment;
+    made = k.made;
     standing = λ r. put r ∙ one_other s h w (starting at) role r k ∙ standing_started s h role at r;
-    origins = k.origins; opened = k.opened;
+    origins = k.origins;
+    opened = k.opened;
     past = λ r q. forgot r q ∙ ap (λ (p : Past). if role_eq role r then no_past else p) (k.past r q);
     run = record { legal = (low, k.run.legal); caused = (tt, k.run.caused); follows = (due, k.run.follows); short = omega (arith, room) };
   };

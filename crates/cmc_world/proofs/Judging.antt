@@ -65,12 +65,12 @@ judged_delivery s h w role kind to t place newest entries events informed kept n
     let news_is : IsTrue news ↔ IsNews s h role kind to =
     subst (λ (m : ℕ). IsTrue news ↔ ((m < to) × IsOfKind kind (write_at to (writes s h)))) place_is (subst (λ (ws : List Write). IsTrue news ↔ ((place < to) × IsOfKind kind (write_at to ws))) k.held.log n) in
     delivery_answers s h role kind to answer t.running informed kept news room
-      (sym (ap (λ (x : Standing). x.running) stands)) (sym i) (sym (f ∙ ap (λ (x : Standing). flag_of kind x.held) stands ∙ held_is s h role kind))
-      (decided (IsNews s h role kind to) news news_is) (fits_by s h 1 entries events room e g r)
-      (a
-        ∙ ap (λ (m : ℕ). delivery_answer t.running informed kept m newest to news entries room) place_is
-        ∙ ap (λ (m : ℕ). delivery_answer t.running informed kept (position h role kind) m to news entries room) newest_is
-        ∙ ap (λ (m : ℕ). delivery_answer t.running informed kept (position h role kind) (last_of_kind kind (writes s h)) to news m room) e)
+    (sym (ap (λ (x : Standing). x.running) stands)) (sym i) (sym (f ∙ ap (λ (x : Standing). flag_of kind x.held) stands ∙ held_is s h role kind))
+    (decided (IsNews s h role kind to) news news_is) (fits_by s h 1 entries events room e g r)
+    (a
+    ∙ ap (λ (m : ℕ). delivery_answer t.running informed kept m newest to news entries room) place_is
+    ∙ ap (λ (m : ℕ). delivery_answer t.running informed kept (position h role kind) m to news entries room) newest_is
+    ∙ ap (λ (m : ℕ). delivery_answer t.running informed kept (position h role kind) (last_of_kind kind (writes s h)) to news m room) e)
 
 pub judged_begin : (s : Setting) (h : List Entry) (w : Holdings) (role : Role) (key : Key) (t : Standing) (at : Positions) (seen : Views) (before : Past) (now : ℤ) (own : Option ℕ) (entries events : ℕ) (working same is_queued room : Bool) (answer : Stepped)
     → IsKept s h w → t ≡ w.standing role → at ≡ shown_positions role t.told → seen ≡ views s h role key → before ≡ w.past role key → now ≡ w.moment
@@ -88,16 +88,16 @@ judged_begin s h w role key t at seen before now own entries events working same
     let working_is : IsTrue working ↔ IsWorking s h role key = (λ y. let found = busy.0 y in (found.0, ap (is_pass_of role key) (sym (k.held.opened found.0)) ∙ found.1), λ y. busy.1 (y.0, ap (is_pass_of role key) (k.held.opened y.0) ∙ y.1)) in
     let same_is : IsTrue same ↔ IsSame (past s h role key).last (views s h role key) (moment s h) (positions h role) =
     subst (λ (x : Past). IsTrue same ↔ IsSame x.last (views s h role key) (moment s h) (positions h role)) before_is
-      (subst (λ (x : Views). IsTrue same ↔ IsSame before.last x (moment s h) (positions h role)) saw
-        (subst (λ (x : ℤ). IsTrue same ↔ IsSame before.last seen x (positions h role)) now_is
-          (subst (λ (x : Positions). IsTrue same ↔ IsSame before.last seen now x) at_is same_as))) in
+    (subst (λ (x : Views). IsTrue same ↔ IsSame before.last x (moment s h) (positions h role)) saw
+    (subst (λ (x : ℤ). IsTrue same ↔ IsSame before.last seen x (positions h role)) now_is
+    (subst (λ (x : Positions). IsTrue same ↔ IsSame before.last seen now x) at_is same_as))) in
     let queued_is : IsTrue is_queued ↔ IsQueued s h role key = subst (λ (ws : List Write). IsTrue is_queued ↔ ((key.kind ≡ kind_of_work role) × (is_known key ws ≡ true))) k.held.log q in
     begin_answers s h role key answer t.running working same is_queued room
-      (sym (ap (λ (x : Standing). x.running) stands)) (decided (IsWorking s h role key) working working_is)
-      (decided (IsSame (past s h role key).last (views s h role key) (moment s h) (positions h role)) same same_is)
-      (decided (IsQueued s h role key) is_queued queued_is) (fits_by s h 1 entries events room e g r)
-      (a ∙ ap (λ (x : Option ℕ). begin_answer t.running working x same is_queued entries room) own_is
-        ∙ ap (λ (n : ℕ). begin_answer t.running working (own_above (past s h role key).own (positions h role)) same is_queued n room) e)
+    (sym (ap (λ (x : Standing). x.running) stands)) (decided (IsWorking s h role key) working working_is)
+    (decided (IsSame (past s h role key).last (views s h role key) (moment s h) (positions h role)) same same_is)
+    (decided (IsQueued s h role key) is_queued queued_is) (fits_by s h 1 entries events room e g r)
+    (a ∙ ap (λ (x : Option ℕ). begin_answer t.running working x same is_queued entries room) own_is
+    ∙ ap (λ (n : ℕ). begin_answer t.running working (own_above (past s h role key).own (positions h role)) same is_queued n room) e)
 
 open_by : (p : Option OpenPass) → IsTrue (is_some p) ↔ IsOpen p
 open_by None = (λ e. absurd (cc e), λ e. absurd e)
@@ -112,8 +112,8 @@ judged_next s h w pass named old stands entries events is_open room answer k o p
     let old_is : old ≡ outdated s h named (origin_at pass (origins s h)) = o ∙ ap (λ (os : List Origin). outdated s h named (origin_at pass os)) k.held.origins in
     let open_is : is_open ≡ is_some (open_pass s h pass) = i ∙ ap is_some (p ∙ k.held.opened pass) in
     next_answers s h pass named answer is_open room
-      (decided (IsOpen (open_pass s h pass)) is_open (subst (λ (b : Bool). IsTrue b ↔ IsOpen (open_pass s h pass)) (sym open_is) (open_by (open_pass s h pass)))) (fits_by s h 1 entries events room e g r)
-      (a ∙ ap (λ (x : Option ℕ). next_answer x is_open pass entries room) old_is ∙ ap (λ (n : ℕ). next_answer (outdated s h named (origin_at pass (origins s h))) is_open pass n room) e)
+    (decided (IsOpen (open_pass s h pass)) is_open (subst (λ (b : Bool). IsTrue b ↔ IsOpen (open_pass s h pass)) (sym open_is) (open_by (open_pass s h pass)))) (fits_by s h 1 entries events room e g r)
+    (a ∙ ap (λ (x : Option ℕ). next_answer x is_open pass entries room) old_is ∙ ap (λ (n : ℕ). next_answer (outdated s h named (origin_at pass (origins s h))) is_open pass n room) e)
 
 -- the watch reaches back to the position
 pub reached : (s : Setting) (h : List Entry) (w : Holdings) (role : Role) (kind : Kind) (t : Standing) (place count window : ℕ) (b : Bool)
@@ -123,7 +123,7 @@ reached s h w role kind t place count window b k at p n v r =
     let place_is : place ≡ position h role kind = p ∙ ap (λ (x : Standing). position_of kind x.told) at ∙ told_is s h w role kind k in
     let count_is : count ≡ accepted s h = n ∙ ap length k.held.log ∙ writes_count s h in
     subst (λ (m : ℕ). IsTrue b ↔ (accepted s h ≤ position h role kind + m)) v
-      (subst (λ (m : ℕ). IsTrue b ↔ (accepted s h ≤ m + window)) place_is (subst (λ (m : ℕ). IsTrue b ↔ (m ≤ place + window)) count_is r))
+    (subst (λ (m : ℕ). IsTrue b ↔ (accepted s h ≤ m + window)) place_is (subst (λ (m : ℕ). IsTrue b ↔ (m ≤ place + window)) count_is r))
 
 -- where it does not, the role lists
 pub listing : (s : Setting) (h : List Entry) (role : Role) (kind : Kind) (to newest : ℕ) (b : Bool) → AnswersDelivery s h role kind to Done
@@ -131,8 +131,8 @@ pub listing : (s : Setting) (h : List Entry) (role : Role) (kind : Kind) (to new
 listing s h role kind to newest b a r off n =
     let may = may_deliver s h role kind to a in
     record { running = may.running; informed = may.informed; beyond = beyond (decided (accepted s h ≤ position h role kind + s.window) b r).no; newest = n } where
-  beyond : (b ≡ false → accepted s h ≤ position h role kind + s.window → ⊥) → position h role kind + s.window < accepted s h
-  beyond over = let not = over off in grind (arith, not)
+      beyond : (b ≡ false → accepted s h ≤ position h role kind + s.window → ⊥) → position h role kind + s.window < accepted s h
+      beyond over = let not = over off in grind (arith, not)
 
 pub delivered_deliver : (s : Setting) (h : List Entry) (role : Role) (kind : Kind) (to : ℕ) (b : Bool) → (IsTrue b ↔ (accepted s h ≤ position h role kind + s.window)) → b ≡ true → delivered s h role kind to ≡ Deliver role kind to
 delivered_deliver s h role kind to b r on =

@@ -53,13 +53,14 @@ by_step s h move (NotNow lack) k same = ([], same)
 by_step s h move (Ended incarnation) k same = ([], same)
 by_step s h move (Spent entries) k same = ([], same)
 
-assoc : (xs ys zs : List Entry) → xs ++ ys ++ zs ≡ (xs ++ ys) ++ zs
+assoc : (xs ys zs : List Entry) → (xs ++ (ys ++ zs)) ≡ ((xs ++ ys) ++ zs)
 assoc [] ys zs = refl
 assoc (x ∷ xs) ys zs = ap (λ (l : List Entry). x ∷ l) (assoc xs ys zs)
+
+joined : {h g k : List Entry} → Extends h g → Extends g k → Extends h k
+joined {h} {g} {k} (xs, one) (ys, two) = (ys ++ xs, two ∙ (ap (λ (l : List Entry). ys ++ l) one ∙ assoc ys xs h))
 
 pub grows : (u : Setup) (ms : List Move) (h k : List Entry) → Lead u ms h k → Extends h k
 grows u [] h k same = ([], same)
 grows u (move ∷ ms) h k (g, step, rest) =
-    let first = by_step (setting_of u) h move step.answer g step.leaves in
-    let later = grows u ms g k rest in
-    (later.0 ++ first.0, later.1 ∙ ap (λ (l : List Entry). later.0 ++ l) first.1 ∙ assoc later.0 first.0 h)
+    joined (by_step (setting_of u) h move step.answer g step.leaves) (grows u ms g k rest)

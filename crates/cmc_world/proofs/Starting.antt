@@ -19,7 +19,15 @@ pub kept_new : (u : Setup) (w : Holdings) → w.faults ≡ u.faults → w.state 
 unfolding IsLegal IsCaused Follows
 kept_new u w f s l m n t o p q = record {
   held = record {
-    faults = f; state = s; log = l; moment = m; made = n; standing = t; origins = o; opened = p; past = q;
+    faults = f;
+    state = s;
+    log = l;
+    moment = m;
+    made = n;
+    standing = t;
+    origins = o;
+    opened = p;
+    past = q;
     run = record { legal = tt; caused = tt; follows = tt; short = omega arith };
   };
   settled = refl;

@@ -19,7 +19,7 @@ use Rattle.cmc_world.specs.declared.moves.Lack.{Lack}
 use Rattle.cmc_world.specs.declared.moves.Lack.TheVariants.{ScriptOver, ScriptWaits, Stopped, NoInformer, Held, Current, NotAWrite, NotQueued, InProcess, SameViews, OwnWrite, NoPass}
 use Rattle.cmc_world.specs.declared.moves.Stepped.{Stepped}
 use Rattle.cmc_world.specs.declared.moves.Stepped.TheVariants.{Done, NotNow, Ended, Spent}
-use Rattle.cmc_world.specs.Answers.{Need, Bar, BarOf, Fits, IsNews, IsWorking, IsQueued, outdated, entries_of, next_effect, AnswersScript, AnswersDelivery, AnswersBegin, AnswersNext}
+use Rattle.cmc_world.specs.Answers.{is_done, Need, Bar, BarOf, Fits, IsNews, IsWorking, IsQueued, outdated, entries_of, next_effect, AnswersScript, AnswersDelivery, AnswersBegin, AnswersNext}
 use Rattle.cmc_world.specs.Tables.{fitting, own_answer, outdated_answer, delivery_answer, begin_answer, next_answer, script_answer}
 
 -- a test decides whether a fact holds
@@ -77,7 +77,7 @@ owning : (s : Setting) (h : List Entry) (role : Role) (key : Key) (answer : Step
     → Decides (IsQueued s h role key) is_queued → Decides (length h + 1 ≤ s.events) room
     → answer ≡ own_answer own (if same then NotNow SameViews else (if is_queued then fitting (length h) room else NotNow NotQueued))
     → BarOf own (λ version. NotNow (OwnWrite version)) answer
-      (Bar (IsSame (past s h role key).last (views s h role key) (moment s h) (positions h role)) (NotNow SameViews) answer (Need (IsQueued s h role key) (NotNow NotQueued) answer (Fits s h 1 answer)))
+    (Bar (IsSame (past s h role key).last (views s h role key) (moment s h) (positions h role)) (NotNow SameViews) answer (Need (IsQueued s h role key) (NotNow NotQueued) answer (Fits s h 1 answer)))
 owning s h role key answer None same is_queued room is q d a = anew s h role key answer same is_queued room is q d a
 owning s h role key answer (Some version) same is_queued room is q d a = a
 
@@ -203,3 +203,9 @@ may_step s h a =
     let two = met (NotNow ScriptWaits) (not_now ScriptWaits) one.1 in
     let three = met (Spent (length h)) (not_spent (length h)) two.1 in
     record { left = one.0; ready = two.0; room = three.0 }
+
+pub the_done : (answer : Stepped) → is_done answer ≡ true → answer ≡ Done
+the_done Done e = refl
+the_done (NotNow lack) e = absurd (cc e)
+the_done (Ended incarnation) e = absurd (cc e)
+the_done (Spent entries) e = absurd (cc e)

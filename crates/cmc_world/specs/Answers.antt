@@ -67,8 +67,8 @@ entries_of (Some effect) = 2
 abbrev pub AnswersScript : Setting → List Entry → Stepped → Type 0
 AnswersScript s h answer =
     Need (scripted h < length s.script) (NotNow ScriptOver) answer
-      (Need (IsReady s h (step_at s.script (scripted h + 1))) (NotNow ScriptWaits) answer
-        (Fits s h (entries_of (next_effect s h)) answer))
+    (Need (IsReady s h (step_at s.script (scripted h + 1))) (NotNow ScriptWaits) answer
+    (Fits s h (entries_of (next_effect s h)) answer))
 
 -- the entry of what a step has happen
 abbrev pub IsEffect : Effect → Entry → Type 0
@@ -90,10 +90,10 @@ IsNews s h role kind to = (position h role kind < to) × IsOfKind kind (write_at
 abbrev pub AnswersDelivery : Setting → List Entry → Role → Kind → ℕ → Stepped → Type 0
 AnswersDelivery s h role kind to answer =
     Need (runs s h role ≡ true) (NotNow Stopped) answer
-      (Need (has_informer role kind ≡ true) (NotNow NoInformer) answer
-        (Need (held s h role kind ≡ false) (NotNow Held) answer
-          (Bar (last_of_kind kind (writes s h) ≤ position h role kind) (NotNow (Current (position h role kind))) answer
-            (Need (IsNews s h role kind to) (NotNow (NotAWrite to)) answer (Fits s h 1 answer)))))
+    (Need (has_informer role kind ≡ true) (NotNow NoInformer) answer
+    (Need (held s h role kind ≡ false) (NotNow Held) answer
+    (Bar (last_of_kind kind (writes s h) ≤ position h role kind) (NotNow (Current (position h role kind))) answer
+    (Need (IsNews s h role kind to) (NotNow (NotAWrite to)) answer (Fits s h 1 answer)))))
 
 -- the role is told so far, or lists what stands where the watch no longer reaches back to its position
 abbrev pub delivered : Setting → List Entry → Role → Kind → ℕ → Entry
@@ -113,10 +113,10 @@ IsQueued s h role key = (key.kind ≡ kind_of_work role) × (is_known key (write
 abbrev pub AnswersBegin : Setting → List Entry → Role → Key → Stepped → Type 0
 AnswersBegin s h role key answer =
     Need (runs s h role ≡ true) (NotNow Stopped) answer
-      (Bar (IsWorking s h role key) (NotNow InProcess) answer
-        (BarOf (own_above (past s h role key).own (positions h role)) (λ version. NotNow (OwnWrite version)) answer
-          (Bar (IsSame (past s h role key).last (views s h role key) (moment s h) (positions h role)) (NotNow SameViews) answer
-            (Need (IsQueued s h role key) (NotNow NotQueued) answer (Fits s h 1 answer)))))
+    (Bar (IsWorking s h role key) (NotNow InProcess) answer
+    (BarOf (own_above (past s h role key).own (positions h role)) (λ version. NotNow (OwnWrite version)) answer
+    (Bar (IsSame (past s h role key).last (views s h role key) (moment s h) (positions h role)) (NotNow SameViews) answer
+    (Need (IsQueued s h role key) (NotNow NotQueued) answer (Fits s h 1 answer)))))
 
 abbrev pub beginning : Setting → List Entry → Role → Key → Entry
 beginning s h role key = entries.Begin (begun h + 1) role key (positions h role) (moment s h)
@@ -134,7 +134,7 @@ outdated s h named (Some origin) = outdated_at (incarnation s h origin.role) ori
 abbrev pub AnswersNext : Setting → List Entry → ℕ → ℕ → Stepped → Type 0
 AnswersNext s h pass named answer =
     BarOf (outdated s h named (origin_at pass (origins s h))) (λ present. Ended present) answer
-      (Need (IsOpen (open_pass s h pass)) (NotNow (NoPass pass)) answer (Fits s h 1 answer))
+    (Need (IsOpen (open_pass s h pass)) (NotNow (NoPass pass)) answer (Fits s h 1 answer))
 
 -- a call or the end of the pass
 abbrev pub IsOfPass : ℕ → Entry → Type 0

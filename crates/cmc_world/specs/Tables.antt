@@ -10,11 +10,11 @@ fitting entries room = if room then Done else Spent entries
 abbrev pub delivery_answer : Bool → Bool → Bool → ℕ → ℕ → ℕ → Bool → ℕ → Bool → Stepped
 delivery_answer running informed held position newest to is_write entries room =
     if running then
-      (if informed then
-        (if held then NotNow Held
-         else (if nat_le newest position then NotNow (Current position)
-               else (if is_write then fitting entries room else NotNow (NotAWrite to))))
-       else NotNow NoInformer)
+    (if informed then
+    (if held then NotNow Held
+    else (if nat_le newest position then NotNow (Current position)
+    else (if is_write then fitting entries room else NotNow (NotAWrite to))))
+    else NotNow NoInformer)
     else NotNow Stopped
 
 abbrev pub own_answer : Option ℕ → Stepped → Stepped
@@ -24,8 +24,8 @@ own_answer (Some version) rest = NotNow (OwnWrite version)
 abbrev pub begin_answer : Bool → Bool → Option ℕ → Bool → Bool → ℕ → Bool → Stepped
 begin_answer running working own same queued entries room =
     if running then
-      (if working then NotNow InProcess
-       else own_answer own (if same then NotNow SameViews else (if queued then fitting entries room else NotNow NotQueued)))
+    (if working then NotNow InProcess
+    else own_answer own (if same then NotNow SameViews else (if queued then fitting entries room else NotNow NotQueued)))
     else NotNow Stopped
 
 abbrev pub outdated_answer : Option ℕ → Stepped → Stepped

@@ -94,15 +94,7 @@ impl World {
         let queued = is_queued(&self.log, role, key);
         let entries = self.history.len();
         let room = has_room(entries, self.scenario.events(), 1);
-        Ok(answer_begin(
-            standing.running,
-            working,
-            own,
-            same,
-            queued,
-            entries,
-            room,
-        ))
+        Ok(answer_begin(standing.running, working, own, same, queued, entries, room))
     }
 
     fn prepare(&self, alloc: Global, role: Role, key: Key) -> Result<Prepared, AllocError>

@@ -67,12 +67,7 @@ impl Drop for Closing {
 }
 
 /// What a pass that has just begun does.
-fn first_doing(
-    alloc: Global,
-    role: Role,
-    seen: &Views,
-    since: i64,
-) -> Result<Doing, AllocError>
+fn first_doing(alloc: Global, role: Role, seen: &Views, since: i64) -> Result<Doing, AllocError>
     requires { HasDatedFailure seen.now }
     ensures { IfOk result (λ d. (desk : Desk) → IsDoingBy Stage.Fresh (act role seen.now since desk) d) }
 {
@@ -238,8 +233,7 @@ impl World {
         let closing = self.closing(pass)?;
         self.history.reserve(1)?;
         self.passes.close(pass);
-        self.pasts
-            .ended(closing.role, &closing.key, closing.ending);
+        self.pasts.ended(closing.role, &closing.key, closing.ending);
         self.history.push(Entry::End { pass, cause });
         Ok(())
     }

@@ -12,7 +12,9 @@ mod noting;
 mod resting;
 mod scripting;
 mod telling;
+#[cfg(test)]
+mod tests;
 mod world;
 
 pub use moves::{Lack, Move, Stepped};
-pub use world::World;
+pub use world::{World, every_list_of_moves};

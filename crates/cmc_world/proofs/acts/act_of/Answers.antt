@@ -10,4 +10,4 @@ use Rattle.cmc_world.proofs.acts.act_of.Goals as goal
 pub returns-in-Trigger : goal.returns-in-Trigger
 returns-in-Trigger c =
     subst (λ (role : Role). IfOk c.trigger_call.result (λ call. (desk : Desk) → act role c.args.seen.now c.args.now desk ≡ act_by call)) (sym c.in-Trigger.is)
-      (subst (λ (n : ℤ). IfOk c.trigger_call.result (λ call. (desk : Desk) → act Trigger c.args.seen.now n desk ≡ act_by call)) (to_z-of_z w64 c.args.now (search rules)) c.trigger_call.ensures)
+    (subst (λ (n : ℤ). IfOk c.trigger_call.result (λ call. (desk : Desk) → act Trigger c.args.seen.now n desk ≡ act_by call)) (to_z-of_z w64 c.args.now (search rules)) c.trigger_call.ensures)

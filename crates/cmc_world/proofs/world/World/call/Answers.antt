@@ -39,22 +39,22 @@ note_write-requires-clause-room c = counts_fit _ _ _ c.in_ok-calling.calling.rol
 pub invariant_of-self-2 : goal.invariant_of-self-2
 invariant_of-self-2 c =
     rw (c.push.ensures.entries, c.in_ok-reserve.ensures.same)
-      (kept_call _ _ _ c.args.pass c.args.call c.in_ok-calling.calling c.in_ok-replied.replied.reply c.in_ok-replied.replied.key c.in_ok-replied.replied.object c.stage_by-stage.result (to_z w64 (of_z w64 c.self.inside.moment)) (c.accepted-version.result + 1) (c.len-entry.result + 1)
-        c.call.new.self.faults c.call.new.self.state c.log_write.new.log.writes (λ r. standing_of c.note_write.new.standings r) (λ n. pass_at c.advance.new.self n) (λ r k. past_at c.note_write.new.pasts r k)
-        c.self.invariant
-        (subst (λ (v : Seen). IsCalling (setting_of v.scenario) v.history c.args.pass c.args.call c.in_ok-calling.calling) (sym c.self.view_is) c.in_ok-calling.ensures)
-        (subst (λ (v : Seen). MayCall (setting_of v.scenario) v.history (open_pass (setting_of v.scenario) v.history c.args.pass) c.args.call) (sym c.self.view_is) c.requires.may)
-        (subst (λ (v : Seen). length v.history < v.scenario.events) (sym c.self.view_is) c.requires.room)
-        (to_z-of_z w64 c.self.inside.moment (search rules))
-        c.in_ok-replied.ensures.reply
-        (ap (λ (k : Kept). k.faults) c.in_ok-replied.ensures.after)
-        (ap (λ (k : Kept). k.state) c.in_ok-replied.ensures.after)
-        c.in_ok-replied.ensures.key
-        c.in_ok-replied.ensures.object
-        (ap (λ (n : ℕ). n + 1) (c.len-entry.ensures ∙ ap (λ (l : List Entry). length l) c.in_ok-reserve.ensures.same))
-        c.stage_by-stage.ensures
-        (ap (λ (n : ℕ). n + 1) (c.accepted-version.ensures ∙ ap (λ (l : List Write). length l) c.in_ok-reserve-2.ensures.same))
-        (c.log_write.ensures ∙ ap (λ (l : List Write). logged c.in_ok-replied.replied.key c.in_ok-replied.replied.object l) c.in_ok-reserve-2.ensures.same)
-        (λ r. c.note_write.ensures.counted r ∙ ap (λ (x : Option Kind). counted x (role_eq c.in_ok-calling.calling.role r) (standing_of c.self.inside.standings c.in_ok-calling.calling.role) (standing_of c.self.inside.standings r)) c.kind_written-written.ensures)
-        c.advance.ensures
-        (λ r k. c.note_write.ensures.noted r k ∙ ap (λ (p : Past). noted c.kind_written-written.result (c.accepted-version.result + 1) (role_eq c.in_ok-calling.calling.role r && key_eq c.in_ok-calling.calling.key k) p) (c.in_ok-ready.ensures.same r k) ∙ ap (λ (x : Option Kind). noted x (c.accepted-version.result + 1) (role_eq c.in_ok-calling.calling.role r && key_eq c.in_ok-calling.calling.key k) (past_at c.self.inside.pasts r k)) c.kind_written-written.ensures))
+    (kept_call _ _ _ c.args.pass c.args.call c.in_ok-calling.calling c.in_ok-replied.replied.reply c.in_ok-replied.replied.key c.in_ok-replied.replied.object c.stage_by-stage.result (to_z w64 (of_z w64 c.self.inside.moment)) (c.accepted-version.result + 1) (c.len-entry.result + 1)
+    c.call.new.self.faults c.call.new.self.state c.log_write.new.log.writes (λ r. standing_of c.note_write.new.standings r) (λ n. pass_at c.advance.new.self n) (λ r k. past_at c.note_write.new.pasts r k)
+    c.self.invariant
+    (subst (λ (v : Seen). IsCalling (setting_of v.scenario) v.history c.args.pass c.args.call c.in_ok-calling.calling) (sym c.self.view_is) c.in_ok-calling.ensures)
+    (subst (λ (v : Seen). MayCall (setting_of v.scenario) v.history (open_pass (setting_of v.scenario) v.history c.args.pass) c.args.call) (sym c.self.view_is) c.requires.may)
+    (subst (λ (v : Seen). length v.history < v.scenario.events) (sym c.self.view_is) c.requires.room)
+    (to_z-of_z w64 c.self.inside.moment (search rules))
+    c.in_ok-replied.ensures.reply
+    (ap (λ (k : Kept). k.faults) c.in_ok-replied.ensures.after)
+    (ap (λ (k : Kept). k.state) c.in_ok-replied.ensures.after)
+    c.in_ok-replied.ensures.key
+    c.in_ok-replied.ensures.object
+    (ap (λ (n : ℕ). n + 1) (c.len-entry.ensures ∙ ap (λ (l : List Entry). length l) c.in_ok-reserve.ensures.same))
+    c.stage_by-stage.ensures
+    (ap (λ (n : ℕ). n + 1) (c.accepted-version.ensures ∙ ap (λ (l : List Write). length l) c.in_ok-reserve-2.ensures.same))
+    (c.log_write.ensures ∙ ap (λ (l : List Write). logged c.in_ok-replied.replied.key c.in_ok-replied.replied.object l) c.in_ok-reserve-2.ensures.same)
+    (λ r. c.note_write.ensures.counted r ∙ ap (λ (x : Option Kind). counted x (role_eq c.in_ok-calling.calling.role r) (standing_of c.self.inside.standings c.in_ok-calling.calling.role) (standing_of c.self.inside.standings r)) c.kind_written-written.ensures)
+    c.advance.ensures
+    (λ r k. c.note_write.ensures.noted r k ∙ ap (λ (p : Past). noted c.kind_written-written.result (c.accepted-version.result + 1) (role_eq c.in_ok-calling.calling.role r && key_eq c.in_ok-calling.calling.key k) p) (c.in_ok-ready.ensures.same r k) ∙ ap (λ (x : Option Kind). noted x (c.accepted-version.result + 1) (role_eq c.in_ok-calling.calling.role r && key_eq c.in_ok-calling.calling.key k) (past_at c.self.inside.pasts r k)) c.kind_written-written.ensures))

@@ -16,4 +16,4 @@ doing_of-requires-clause-served c = served_of _ _ _ c.args.pass c.in-Some.open.n
 pub returns : goal.returns
 returns c =
     subst (λ (v : Seen). IfOk c.doing_of.result (λ d. IsDoing (setting_of v.scenario) v.history c.args.pass d)) c.self.view_is
-      (doing_is _ _ _ c.args.pass c.in-Some.open.now c.doing_of.result c.self.invariant (sym c.in-Some.ensures) c.doing_of.ensures)
+    (doing_is _ _ _ c.args.pass c.in-Some.open.now c.doing_of.result c.self.invariant (sym c.in-Some.ensures) c.doing_of.ensures)

@@ -10,7 +10,7 @@ use Rattle.cmc_world.proofs.world.World.judge_begin.Goals as goal
 pub returns : goal.returns
 returns c =
     subst (λ (v : Seen). AnswersBegin (setting_of v.scenario) v.history c.args.role c.args.key.now c.answer_begin.result) c.self.view_is
-      (judged_begin _ _ _ c.args.role c.args.key.now c.get-standing.result c.shown_positions-at.result c.in_ok-seen.seen (past_or_new (option_copied c.get-past.result)) (to_z w64 (of_z w64 c.self.inside.moment)) c.own_write-own.result c.len-entries.result c.events.result c.is_on-working.result c.is_again-same.result c.is_queued-queued.result c.has_room-room.result c.answer_begin.result
-        c.self.invariant c.get-standing.ensures c.shown_positions-at.ensures
-        (saw _ _ _ c.args.role c.args.key.now c.get-standing.result c.shown_positions-at.result c.in_ok-seen.seen c.self.invariant c.get-standing.ensures c.shown_positions-at.ensures c.in_ok-seen.ensures)
-        c.get-past.ensures (to_z-of_z w64 c.self.inside.moment (search rules)) c.is_on-working.ensures.some c.own_write-own.ensures c.is_again-same.ensures c.is_queued-queued.ensures c.len-entries.ensures c.events.ensures.value c.has_room-room.ensures c.answer_begin.ensures)
+    (judged_begin _ _ _ c.args.role c.args.key.now c.get-standing.result c.shown_positions-at.result c.in_ok-seen.seen (past_or_new (option_copied c.get-past.result)) (to_z w64 (of_z w64 c.self.inside.moment)) c.own_write-own.result c.len-entries.result c.events.result c.is_on-working.result c.is_again-same.result c.is_queued-queued.result c.has_room-room.result c.answer_begin.result
+    c.self.invariant c.get-standing.ensures c.shown_positions-at.ensures
+    (saw _ _ _ c.args.role c.args.key.now c.get-standing.result c.shown_positions-at.result c.in_ok-seen.seen c.self.invariant c.get-standing.ensures c.shown_positions-at.ensures c.in_ok-seen.ensures)
+    c.get-past.ensures (to_z-of_z w64 c.self.inside.moment (search rules)) c.is_on-working.ensures.some c.own_write-own.ensures c.is_again-same.ensures c.is_queued-queued.ensures c.len-entries.ensures c.events.ensures.value c.has_room-room.ensures c.answer_begin.ensures)

@@ -9,4 +9,4 @@ use Rattle.cmc_world.proofs.world.World.reaches_back.Goals as goal
 pub returns : goal.returns
 returns c =
     subst (λ (v : Seen). IsTrue c.reaches.result ↔ (accepted (setting_of v.scenario) v.history ≤ position v.history c.args.role c.args.kind + v.scenario.window)) c.self.view_is
-      (reached _ _ _ c.args.role c.args.kind c.get.result c.told_of-position.result c.accepted.result c.window.result c.reaches.result c.self.invariant c.get.ensures c.told_of-position.ensures c.accepted.ensures c.window.ensures c.reaches.ensures)
+    (reached _ _ _ c.args.role c.args.kind c.get.result c.told_of-position.result c.accepted.result c.window.result c.reaches.result c.self.invariant c.get.ensures c.told_of-position.ensures c.accepted.ensures c.window.ensures c.reaches.ensures)
