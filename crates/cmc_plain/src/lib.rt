@@ -1,0 +1,4 @@
+//! The plain order: a run by one hand, whose history is a function of its scenario.
+#![tactic(auto)]
+
+mod laws;
