@@ -1,0 +1,4 @@
+pub mod OneReply
+pub mod OneGrowth
+pub mod OneMove
+pub mod Determined
