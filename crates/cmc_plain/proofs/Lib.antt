@@ -2,3 +2,5 @@ pub mod OneReply
 pub mod OneGrowth
 pub mod OneMove
 pub mod Determined
+pub mod OneKind
+pub mod Newest
