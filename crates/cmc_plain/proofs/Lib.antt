@@ -1,0 +1,6 @@
+pub mod OneReply
+pub mod OneGrowth
+pub mod OneMove
+pub mod Determined
+pub mod OneKind
+pub mod Newest

@@ -2,3 +2,5 @@
 #![tactic(auto)]
 
 mod laws;
+
+pub use laws::plain_histories_agree;
