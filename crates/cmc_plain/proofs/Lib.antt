@@ -4,3 +4,4 @@ pub mod OneMove
 pub mod Determined
 pub mod OneKind
 pub mod Newest
+pub mod Driving

@@ -1,0 +1,54 @@
+-- Runs by the plain order.
+use Rattle.std.proofs.Common.{◌≡◌, ◌∙◌, ◌⊎◌, ℕ, ◌+◌, ◌≤◌, Bool, true, false, List, [], ◌∷◌, ◌++◌, length, Option, Some, None, inl, inr, refl, sym, ap, subst, arith}
+use Rattle.cmc_objects.specs.declared.entry.Entry.{Entry}
+use Rattle.cmc_model.specs.declared.progress.OpenPass.{OpenPass}
+use Rattle.cmc_model.specs.Histories.{Setting, incarnation}
+use Rattle.cmc_model.specs.Writes.{writes, last_of_kind}
+use Rattle.cmc_model.specs.Passes.{open_pass}
+use Rattle.cmc_model.specs.Runs.{IsRun, IsFinished}
+use Rattle.cmc_world.specs.declared.moves.Move.{Move}
+use Rattle.cmc_world.specs.declared.moves.Move.TheVariants as moves
+use Rattle.cmc_world.specs.declared.moves.Stepped.{Stepped}
+use Rattle.cmc_world.specs.declared.moves.Stepped.TheVariants.{Done, NotNow, Ended, Spent}
+use Rattle.cmc_world.specs.Answers.{Answers, Grows, is_done}
+use Rattle.cmc_plain.specs.Plain.{IsPossible, IsGoingPass, IsOfPresent, IsAccepted, IsChosen, IsPlainMove}
+use Rattle.cmc_plain.specs.Histories.{IsPlainStep, LeadsPlainly, IsPlain, IsFull}
+use Rattle.cmc_plain.specs.Driving.{GoesOn}
+
+-- ---- a chosen move is possible
+
+pass_possible : (s : Setting) (h : List Entry) (n named : ℕ) (p : Option OpenPass) → IsGoingPass s h n p → IsOfPresent s h named p → IsPossible s h (moves.Next n named)
+pass_possible s h n named None going present = absurd going
+pass_possible s h n named (Some p) going present = subst (λ (m : ℕ). IsPossible s h (moves.Next n m)) (sym present) going
+
+pub chosen_possible : (s : Setting) (h : List Entry) (move : Move) → IsChosen s h move → IsPossible s h move
+chosen_possible s h moves.Script c = c
+chosen_possible s h (moves.Next n named) c = pass_possible s h n named (open_pass s h n) c.1.going c.1.present
+chosen_possible s h (moves.Deliver role kind to) c = subst (λ (m : ℕ). IsPossible s h (moves.Deliver role kind m)) (sym c.3) c.2.behind
+chosen_possible s h (moves.Begin role key) c = c.3.fits.possible
+
+-- an accepted answer that is not Done wants room
+wants_room : (s : Setting) (h : List Entry) (move : Move) (answer : Stepped) → IsAccepted answer → is_done answer ≡ false → Answers s h move answer → (n : ℕ) × Answers s h move (Spent n)
+wants_room s h move Done ok off a = absurd (cc off)
+wants_room s h move (NotNow lack) ok off a = absurd ok
+wants_room s h move (Ended incarnation) ok off a = absurd ok
+wants_room s h move (Spent entries) ok off a = (entries, a)
+
+pub full : (s : Setting) (h : List Entry) (move : Move) (answer : Stepped) → ((a b : Stepped) → Answers s h move a → Answers s h move b → a ≡ b)
+    → IsPlainMove s h (Some move) → Answers s h move answer → is_done answer ≡ false → IsFull s h
+full s h move answer one plain a off =
+    let possible = chosen_possible s h move plain.1 in
+    let room = wants_room s h move answer (subst IsAccepted (one possible.answer answer possible.answers a) possible.accepted) off a in
+    record { move = move; plain = plain; entries = room.0; spent = room.1 }
+
+-- ---- one plain step more
+
+led_on : (s : Setting) (ms : List Move) (g h k : List Entry) (move : Move) → LeadsPlainly s ms g h → IsPlainStep s h move k → LeadsPlainly s (ms ++ move ∷ []) g k
+led_on s [] g h k move same step = (k, subst (λ (l : List Entry). IsPlainStep s l move k) same step, refl)
+led_on s (m ∷ ms) g h k move (a, x, rest) step = (a, x, led_on s ms a h k move rest step)
+
+pub plain_on : (s : Setting) (h k : List Entry) → IsPlain s h → GoesOn s h k → IsPlain s k
+plain_on s h k (ms, led) on = (ms ++ on.move ∷ [], led_on s ms [] h k on.move led on.step)
+
+pub plain_begin : (s : Setting) → IsPlain s []
+plain_begin s = ([], refl)

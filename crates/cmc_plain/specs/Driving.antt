@@ -1,0 +1,36 @@
+-- How a run by the plain order goes on, and ends.
+use Rattle.std.specs.Prelude.{◌≡◌, ◌+◌, ◌≤◌, List, length}
+use Rattle.cmc_objects.specs.declared.entry.Entry.{Entry}
+use Rattle.cmc_model.specs.Histories.{Setting}
+use Rattle.cmc_model.specs.Runs.{IsFinished}
+use Rattle.cmc_scenario.specs.Setups.{Setup}
+use Rattle.cmc_world.specs.declared.moves.Move.{Move}
+use Rattle.cmc_world.specs.Kept.{Seen, setting_of}
+use Rattle.cmc_plain.specs.declared.driving.Turn.{Turn}
+use Rattle.cmc_plain.specs.declared.driving.Turn.TheVariants as turns
+use Rattle.cmc_plain.specs.declared.driving.Driven.{Driven}
+use Rattle.cmc_plain.specs.declared.driving.Driven.TheVariants.{Finished, Spent}
+use Rattle.cmc_plain.specs.Histories.{IsPlainStep, IsPlain, IsFull}
+
+-- the plain move was made, and the history grew
+pub record GoesOn (s : Setting) (h k : List Entry) : Type 0 where
+  pub move : Move
+  pub step : IsPlainStep s h move k
+  pub longer : length h + 1 ≤ length k
+
+-- what one turn of the plain order does
+abbrev pub IsTurn : Setting → List Entry → List Entry → Turn → Type 0
+IsTurn s h k turns.On = GoesOn s h k
+IsTurn s h k turns.Finished = IsFinished s h × (k ≡ h)
+IsTurn s h k turns.Spent = IsFull s h × (k ≡ h)
+
+-- a world of the scenario whose history is plain, and has this end
+pub record EndsPlainly (setup : Setup) (End : Setting → List Entry → Type 0) (world : Seen) : Type 0 where
+  pub same : world.scenario ≡ setup
+  pub plain : IsPlain (setting_of setup) world.history
+  pub comes : End (setting_of setup) world.history
+
+-- the run came to its end, or to the end of its room
+abbrev pub IsDriven : Setup → Driven → Type 0
+IsDriven setup (Finished world) = EndsPlainly setup IsFinished world
+IsDriven setup (Spent world) = EndsPlainly setup IsFull world
