@@ -4,4 +4,5 @@ pub mod OneMove
 pub mod Determined
 pub mod OneKind
 pub mod Newest
-pub mod Driving
+pub mod Turns
+pub mod OneAnswer

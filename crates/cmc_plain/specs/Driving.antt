@@ -1,5 +1,5 @@
 -- How a run by the plain order goes on, and ends.
-use Rattle.std.specs.Prelude.{◌≡◌, ◌+◌, ◌≤◌, List, length}
+use Rattle.std.specs.Prelude.{◌≡◌, ℕ, ◌+◌, ◌≤◌, List, length}
 use Rattle.cmc_objects.specs.declared.entry.Entry.{Entry}
 use Rattle.cmc_model.specs.Histories.{Setting}
 use Rattle.cmc_model.specs.Runs.{IsFinished}
@@ -34,3 +34,9 @@ pub record EndsPlainly (setup : Setup) (End : Setting → List Entry → Type 0)
 abbrev pub IsDriven : Setup → Driven → Type 0
 IsDriven setup (Finished world) = EndsPlainly setup IsFinished world
 IsDriven setup (Spent world) = EndsPlainly setup IsFull world
+
+-- so many turns were taken, and the run goes on
+pub record IsDriving (setup : Setup) (world : Seen) (turns : ℕ) : Type 0 where
+  pub same : world.scenario ≡ setup
+  pub plain : IsPlain (setting_of setup) world.history
+  pub long : turns ≤ length world.history

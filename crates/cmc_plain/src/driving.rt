@@ -3,7 +3,7 @@ ghost use Rattle.std.specs.Prelude.{◌≡◌, [], IfOk};
 ghost use Rattle.cmc_world.specs.Kept.{setting_of};
 ghost use Rattle.cmc_plain.specs.Driving.{IsTurn, IsDriven};
 
-use crate::plain::plain;
+use crate::choosing::plain;
 use cmc_scenario::Scenario;
 use cmc_world::World;
 use std::alloc::{AllocError, Global};
@@ -28,7 +28,7 @@ pub(crate) enum Turn {
     Spent,
 }
 
-fn turn(alloc: Global, world: &mut World) -> Result<Turn, AllocError>
+fn take_turn(alloc: Global, world: &mut World) -> Result<Turn, AllocError>
     ensures turn { IfOk result (λ t. IsTurn (setting_of world.old.scenario) world.old.history world.new.history t) }
     ensures scenario { world.new.scenario ≡ world.old.scenario }
 {
@@ -50,18 +50,15 @@ fn drive(alloc: Global, mut world: World) -> Result<Driven, AllocError>
     ensures { IfOk result (λ d. IsDriven world.scenario d) }
 {
     let events = world.scenario().events();
-    let mut ended = Turn::On;
     for _turn in 0..=events {
-        ended = turn(alloc, &mut world)?;
-        if !is_on(ended) {
-            break;
+        match take_turn(alloc, &mut world)? {
+            Turn::On => {}
+            Turn::Finished => return Ok(Driven::Finished(world)),
+            Turn::Spent => return Ok(Driven::Spent(world)),
         }
     }
-    match ended {
-        Turn::Finished => Ok(Driven::Finished(world)),
-        Turn::Spent => Ok(Driven::Spent(world)),
-        Turn::On => unreachable!(),
-    }
+    world.is_run();
+    unreachable!()
 }
 
 /// Runs the scenario by the plain order: as long as the run is not finished, the first that is possible of
@@ -76,8 +73,4 @@ pub fn drive_plain(alloc: Global, scenario: Scenario) -> Result<Driven, AllocErr
 {
     let world = World::new(alloc, scenario)?;
     drive(alloc, world)
-}
-
-fn is_on(turn: Turn) -> bool {
-    matches!(turn, Turn::On)
 }

@@ -1,4 +1,5 @@
 //! The world and its parts.
+ghost use Rattle.std.specs.FinMap as finite;
 ghost use Rattle.std.specs.Prelude.{◌≡◌, ◌↔◌, ◌+◌, ◌≤◌, [], List, IsTrue, IfOk, OnErr, length};
 ghost use Rattle.cmc_objects.specs.declared.entry.Entry.{Entry};
 ghost use Rattle.cmc_model.specs.Histories as spec;
@@ -13,11 +14,12 @@ ghost use Rattle.cmc_world.specs.declared.moves.Move.{Move as MoveValue};
 use crate::moves::{Move, Stepped};
 use cmc_held::{Log, Origins, Passes, Pasts, Standings};
 use cmc_history::History;
-use cmc_meta::Numbers;
-use cmc_objects::Role;
+use cmc_meta::{Key, Numbers};
+use cmc_objects::{Object, Role};
 use cmc_scenario::Scenario;
 use cmc_store::Store;
 use std::alloc::{AllocError, Global};
+use std::collections::BTreeMap;
 use std::marker::Model;
 
 /// The store, the history of all that was done on it, and the roles that work on it.
@@ -134,6 +136,13 @@ impl World {
         ensures { result.now.entries ≡ self.now.history }
     {
         &self.history
+    }
+
+    /// The map of the objects that stand, to go over them in order of key.
+    pub fn objects(&self) -> &BTreeMap<Key, Object>
+        ensures { finite.entries (spec.objects (setting_of self.now.scenario) self.now.history) ≡ result.now.entries }
+    {
+        self.store.objects()
     }
 
     /// How many times the role has begun: once where it runs from the beginning on, and once for each

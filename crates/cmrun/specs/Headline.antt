@@ -1,32 +1,32 @@
 -- What a run writes for what it reads.
-use Rattle.std.specs.Prelude.{◌≡◌, ◌⊎◌, ◌<◌, ℕ, pos, List, Some, None, Ok, Err}
+use Rattle.std.specs.Prelude.{◌≡◌, ◌⊎◌, ℕ, List, Some, None, Ok, Err}
 use Rattle.std.specs.Str.{IsUtf8}
 use Rattle.serde_json.specs.Data.{Data}
 use Rattle.serde_json.specs.Read.{read}
 use Rattle.cmc_objects.specs.declared.entry.Entry.{Entry}
-use Rattle.cmc_model.specs.Histories.{Setting, objects}
+use Rattle.cmc_model.specs.Histories.{objects}
+use Rattle.cmc_model.specs.Rights.{KeepsRights}
 use Rattle.cmc_model.specs.Runs.{IsRun, IsFinished}
 use Rattle.cmc_model.specs.Summaries.{summary_of}
 use Rattle.cmc_report.specs.Text.{history_lines}
 use Rattle.cmc_scenario.specs.declared.scenario.Scenario.{Scenario}
 use Rattle.cmc_scenario.specs.Scenarios.{scenario_at}
-use Rattle.cmrun.specs.Playing.{setting_of}
-
--- a run of a scenario begins at 2030-01-01T00:00:00Z
-abbrev pub setting : Scenario → Setting
-setting scenario = setting_of (pos 1893456000) scenario.script
+use Rattle.cmc_world.specs.Kept.{setting_of}
+use Rattle.cmc_plain.specs.Histories.{IsPlain, IsFull}
 
 -- the bytes are UTF-8, and the JSON text of this value
 pub record Reads (bytes : List ℕ) (value : Data) : Type 0 where
   pub utf8 : IsUtf8 bytes
   pub json : read bytes ≡ Some value
 
--- the text is that of a finished history of the scenario, which is read from this value
+-- the text is that of a finished history of the scenario, which is read from this value: of the one that the plain order makes
 pub record RunsOn (value : Data) (scenario : Scenario) (text : List ℕ) : Type 0 where
   pub history : List Entry
-  pub run : IsRun (setting scenario) history
-  pub finished : IsFinished (setting scenario) history
-  pub is : text ≡ history_lines value history (summary_of (objects (setting scenario) history))
+  pub run : IsRun (setting_of scenario) history
+  pub rights : KeepsRights (setting_of scenario) history
+  pub plain : IsPlain (setting_of scenario) history
+  pub finished : IsFinished (setting_of scenario) history
+  pub is : text ≡ history_lines value history (summary_of (objects (setting_of scenario) history))
 
 -- the value is that of a scenario, and the text that of a finished history of it
 pub record Answers (value : Data) (text : List ℕ) : Type 0 where
@@ -49,3 +49,19 @@ pub record FailsAt (bytes path : List ℕ) : Type 0 where
   pub value : Data
   pub reads : Reads bytes value
   pub form : scenario_at value ≡ Err path
+
+-- the history that the plain order makes of the scenario comes to need more entries than it may have
+pub record Spends (scenario : Scenario) : Type 0 where
+  pub history : List Entry
+  pub plain : IsPlain (setting_of scenario) history
+  pub full : IsFull (setting_of scenario) history
+
+pub record SpendsValue (value : Data) : Type 0 where
+  pub scenario : Scenario
+  pub form : scenario_at value ≡ Ok scenario
+  pub spends : Spends scenario
+
+pub record SpendsAll (bytes : List ℕ) : Type 0 where
+  pub value : Data
+  pub reads : Reads bytes value
+  pub spends : SpendsValue value

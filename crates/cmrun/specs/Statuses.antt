@@ -5,11 +5,12 @@ use Rattle.std.specs.declared.option.Option.{Option}
 use Rattle.std.specs.Str.{bytes_eq}
 use Rattle.std.specs.Io.KnownBytes.{Appends, Keeps}
 use Rattle.serde_json.specs.Data.{Data}
+use Rattle.cmc_scenario.specs.declared.scenario.Scenario.{Scenario}
 use Rattle.cmc_scenario.specs.Scenarios.{scenario_at}
 use Rattle.cmrun.specs.Ends.{AppendsPrefix}
-use Rattle.cmrun.specs.Headline.{IsRunOf, HasNoReading, FailsAt}
+use Rattle.cmrun.specs.Headline.{IsRunOf, HasNoReading, FailsAt, Spends, SpendsValue, SpendsAll}
 use Rattle.cmrun.specs.declared.top.Status.{Status}
-use Rattle.cmrun.specs.declared.top.Status.TheVariants.{Done, TooLong, NotJson, BadScenario, Usage, ReadFault, WriteFault, NoMemory}
+use Rattle.cmrun.specs.declared.top.Status.TheVariants.{Done, TooLong, NotJson, BadScenario, Usage, ReadFault, WriteFault, NoMemory, Spent}
 
 -- the words are the one word `run`
 abbrev pub is_run_words : List (String Global) → Bool
@@ -17,9 +18,22 @@ is_run_words [] = false
 is_run_words (word ∷ []) = bytes_eq (string_bytes word) (codes "run")
 is_run_words (word ∷ other ∷ words) = false
 
+-- why a scenario was not run to its end
+abbrev pub SpendsOn : Scenario → Status → Type 0
+SpendsOn scenario Spent = Spends scenario
+SpendsOn scenario NoMemory = Unit {0}
+SpendsOn scenario (BadScenario path) = ⊥
+SpendsOn scenario NotJson = ⊥
+SpendsOn scenario Done = ⊥
+SpendsOn scenario TooLong = ⊥
+SpendsOn scenario Usage = ⊥
+SpendsOn scenario ReadFault = ⊥
+SpendsOn scenario WriteFault = ⊥
+
 -- why a value was not run
 abbrev pub RefusesValue : Data → Status → Type 0
 RefusesValue value (BadScenario path) = scenario_at value ≡ Err path
+RefusesValue value Spent = SpendsValue value
 RefusesValue value NoMemory = Unit {0}
 RefusesValue value NotJson = ⊥
 RefusesValue value Done = ⊥
@@ -32,6 +46,7 @@ RefusesValue value WriteFault = ⊥
 abbrev pub Refuses : List ℕ → Status → Type 0
 Refuses bytes NotJson = HasNoReading bytes
 Refuses bytes (BadScenario path) = FailsAt bytes path
+Refuses bytes Spent = SpendsAll bytes
 Refuses bytes NoMemory = Unit {0}
 Refuses bytes Done = ⊥
 Refuses bytes TooLong = ⊥
@@ -54,6 +69,7 @@ Explains WriteFault bytes old new = IsShort bytes × ((text : List ℕ) × IsRun
 Explains TooLong bytes old new = IsLong bytes × Keeps old new
 Explains NotJson bytes old new = IsShort bytes × (HasNoReading bytes × Keeps old new)
 Explains (BadScenario path) bytes old new = IsShort bytes × (FailsAt bytes path × Keeps old new)
+Explains Spent bytes old new = IsShort bytes × (SpendsAll bytes × Keeps old new)
 Explains Usage bytes old new = Keeps old new
 Explains ReadFault bytes old new = Keeps old new
 Explains NoMemory bytes old new = Keeps old new

@@ -1,11 +1,10 @@
 // Runs cert-manager's certificate controllers over a modelled Kubernetes API store.
 //
-// `cmrun run` reads a scenario of user calls from standard input, makes the calls on an empty store,
-// and prints the history of the calls and a summary to standard output.
+// `cmrun run` reads a scenario from standard input, runs its script and its controllers on an empty store,
+// and prints the history of the run and a summary to standard output.
 #![tactic(auto)]
 
 mod memory;
-mod play;
 mod sink;
 mod source;
 mod summary;
@@ -53,6 +52,7 @@ fn main(rt: HostRuntime) -> ExitCode {
         Status::ReadFault => ended(&rt, "read failed", 3),
         Status::WriteFault => ended(&rt, "write failed", 4),
         Status::NoMemory => ended(&rt, "out of memory", 5),
+        Status::Spent => ended(&rt, "history is full", 6),
     }
 }
 

@@ -6,17 +6,19 @@ ghost use Rattle.std.specs.Prelude.{◌≡◌, ◌↔◌, false, IfOk, IfErr, If
 ghost use Rattle.std.specs.Str.{IsUtf8};
 ghost use Rattle.cmc_report.specs.Text.{joined};
 ghost use Rattle.cmrun.specs.Ends.{Rose};
+ghost use Rattle.cmc_plain.specs.Driving.{EndsPlainly};
+ghost use Rattle.cmc_model.specs.Runs.{IsFinished};
 ghost use Rattle.cmrun.specs.Headline.{Answers, IsRunOf, RunsOn};
-ghost use Rattle.cmrun.specs.Playing.{IsOfUsers};
-ghost use Rattle.cmrun.specs.Statuses.{Explains, Refuses, RefusesValue, is_run_words};
+ghost use Rattle.cmrun.specs.Statuses.{Explains, Refuses, RefusesValue, SpendsOn, is_run_words};
 
-use crate::play::play;
 use crate::sink::{Sink, write_lines};
 use crate::source::{ReadError, Source, read_all};
 use crate::summary::summarize;
 use cmc_meta::Text;
+use cmc_plain::{Driven, drive_plain};
 use cmc_report::{Lines, history_text};
 use cmc_scenario::{BadScenario, Scenario, read};
+use cmc_world::World;
 use serde_json::{Category, Value};
 use std::alloc::{AllocError, Global};
 use std::str;
@@ -40,6 +42,8 @@ pub enum Status {
     WriteFault,
     /// Memory ran out.
     NoMemory,
+    /// The run needs more entries than the scenario allows.
+    Spent,
 }
 
 impl From<AllocError> for Status {
@@ -52,31 +56,36 @@ impl From<AllocError> for Status {
     }
 }
 
-/// The moment at which a run begins: 2030-01-01T00:00:00Z.
-const START: i64 = 1_893_456_000;
+/// The lines of a finished world, whose scenario the value is.
+fn lines_of(alloc: Global, value: &Value, world: &World) -> Result<Lines, AllocError>
+    requires float_free { has_float (view value.now) ≡ false }
+    requires ends { EndsPlainly world.now.scenario IsFinished world.now }
+    ensures { IfOk result (λ lines. RunsOn (view value.now) world.now.scenario (joined lines)) }
+{
+    world.is_run();
+    let summary = summarize(alloc, world.objects())?;
+    history_text(alloc, value, world.history(), &summary)
+}
 
 /// The lines of the run of a scenario, which the value is.
-fn run_of(alloc: Global, value: &Value, scenario: &Scenario) -> Result<Lines, AllocError>
+fn run_of(alloc: Global, value: &Value, scenario: Scenario) -> Result<Lines, Status>
     requires float_free { has_float (view value.now) ≡ false }
-    requires users { IsOfUsers scenario.now.script }
-    ensures { IfOk result (λ lines. RunsOn (view value.now) scenario.now (joined lines)) }
+    ensures ok { IfOk result (λ lines. RunsOn (view value.now) scenario (joined lines)) }
+    ensures err { IfErr result (λ status. SpendsOn scenario status) }
 {
-    let played = play(alloc, START, scenario.script())?;
-    let summary = summarize(alloc, played.store.objects())?;
-    history_text(alloc, value, &played.history, &summary)
+    match drive_plain(alloc, scenario)? {
+        Driven::Finished(world) => Ok(lines_of(alloc, value, &world)?),
+        Driven::Spent(_) => Err(Status::Spent),
+    }
 }
 
 /// The lines of the run of a value.
-#[tactic(auto, using(crate::proofs::Users::scenario_of_users))]
 fn answer(alloc: Global, value: &Value) -> Result<Lines, Status>
     ensures ok { IfOk result (λ lines. Answers (view value.now) (joined lines)) }
     ensures err { IfErr result (λ status. RefusesValue (view value.now) status) }
 {
     match read(alloc, value) {
-        Ok(scenario) => match run_of(alloc, value, &scenario) {
-            Ok(lines) => Ok(lines),
-            Err(_) => Err(Status::NoMemory),
-        },
+        Ok(scenario) => run_of(alloc, value, scenario),
         Err(BadScenario::Path(path)) => Err(Status::BadScenario(path)),
         Err(BadScenario::NoMemory) => Err(Status::NoMemory),
     }
@@ -117,7 +126,7 @@ fn is_run(words: &[String]) -> bool
     }
 }
 
-/// Does all that the program does: reads a scenario from the source, makes its user calls on an empty
+/// Does all that the program does: reads a scenario from the source, runs it by the plain order on an empty
 /// store, and writes the history and its summary to the sink.
 ///
 /// The lines are made before the first of them is written. Each status has its cause, as its variant

@@ -1,5 +1,5 @@
 -- Runs by the plain order.
-use Rattle.std.proofs.Common.{◌≡◌, ◌∙◌, ◌⊎◌, ℕ, ◌+◌, ◌≤◌, Bool, true, false, List, [], ◌∷◌, ◌++◌, length, Option, Some, None, inl, inr, refl, sym, ap, subst, arith}
+use Rattle.std.proofs.Common.{◌≡◌, ◌∙◌, ◌⊎◌, ℕ, ◌+◌, ◌<◌, ◌≤◌, Bool, true, false, List, [], ◌∷◌, ◌++◌, length, Option, Some, None, inl, inr, refl, sym, ap, subst, arith}
 use Rattle.cmc_objects.specs.declared.entry.Entry.{Entry}
 use Rattle.cmc_model.specs.declared.progress.OpenPass.{OpenPass}
 use Rattle.cmc_model.specs.Histories.{Setting, incarnation}
@@ -10,10 +10,13 @@ use Rattle.cmc_world.specs.declared.moves.Move.{Move}
 use Rattle.cmc_world.specs.declared.moves.Move.TheVariants as moves
 use Rattle.cmc_world.specs.declared.moves.Stepped.{Stepped}
 use Rattle.cmc_world.specs.declared.moves.Stepped.TheVariants.{Done, NotNow, Ended, Spent}
-use Rattle.cmc_world.specs.Answers.{Answers, Grows, is_done}
+use Rattle.std.specs.Prelude.{MatchBool}
+use Rattle.cmc_world.specs.Answers.{Answers, Grows, Leaves, is_done}
 use Rattle.cmc_plain.specs.Plain.{IsPossible, IsGoingPass, IsOfPresent, IsAccepted, IsChosen, IsPlainMove}
 use Rattle.cmc_plain.specs.Histories.{IsPlainStep, LeadsPlainly, IsPlain, IsFull}
-use Rattle.cmc_plain.specs.Driving.{GoesOn}
+use Rattle.cmc_scenario.specs.Setups.{Setup}
+use Rattle.cmc_world.specs.Kept.{Seen, setting_of}
+use Rattle.cmc_plain.specs.Driving.{GoesOn, EndsPlainly, IsDriving}
 
 -- ---- a chosen move is possible
 
@@ -41,6 +44,13 @@ full s h move answer one plain a off =
     let room = wants_room s h move answer (subst IsAccepted (one possible.answer answer possible.answers a) possible.accepted) off a in
     record { move = move; plain = plain; entries = room.0; spent = room.1 }
 
+left_by : (s : Setting) (h : List Entry) (move : Move) (b : Bool) (k : List Entry) → b ≡ false → MatchBool b (Grows s h move k) (k ≡ h) → k ≡ h
+left_by s h move true k off left = absurd (cc off)
+left_by s h move false k off left = left
+
+pub left_as_it_was : (s : Setting) (h : List Entry) (move : Move) (answer : Stepped) (k : List Entry) → is_done answer ≡ false → Leaves s h move answer k → k ≡ h
+left_as_it_was s h move answer k off left = left_by s h move (is_done answer) k off left
+
 -- ---- one plain step more
 
 led_on : (s : Setting) (ms : List Move) (g h k : List Entry) (move : Move) → LeadsPlainly s ms g h → IsPlainStep s h move k → LeadsPlainly s (ms ++ move ∷ []) g k
@@ -52,3 +62,30 @@ plain_on s h k (ms, led) on = (ms ++ on.move ∷ [], led_on s ms [] h k on.move 
 
 pub plain_begin : (s : Setting) → IsPlain s []
 plain_begin s = ([], refl)
+
+-- ---- turns
+
+pub driving_begin : (world : Seen) → world.history ≡ [] → IsDriving world.scenario world 0
+driving_begin world none = record { same = refl; plain = subst (IsPlain (setting_of world.scenario)) (sym none) (plain_begin (setting_of world.scenario)); long = omega arith }
+
+pub driving_on : (setup : Setup) (old new : Seen) (n : ℕ) → IsDriving setup old n → new.scenario ≡ old.scenario → GoesOn (setting_of old.scenario) old.history new.history → IsDriving setup new (n + 1)
+driving_on setup old new n d stays on =
+    let on_is = subst (λ (u : Setup). GoesOn (setting_of u) old.history new.history) d.same on in
+    record {
+      same = stays ∙ d.same;
+      plain = plain_on (setting_of setup) old.history new.history d.plain on_is;
+      long = omega (arith, d.long, on.longer);
+    }
+
+pub driven : (setup : Setup) (End : Setting → List Entry → Type 0) (old new : Seen) (n : ℕ) → IsDriving setup old n → new.scenario ≡ old.scenario → End (setting_of old.scenario) old.history → new.history ≡ old.history
+    → EndsPlainly setup End new
+driven setup End old new n d stays ends left = record {
+  same = stays ∙ d.same;
+  plain = subst (IsPlain (setting_of setup)) (sym left) d.plain;
+  comes = subst (End (setting_of setup)) (sym left) (subst (λ (u : Setup). End (setting_of u) old.history) d.same ends);
+}
+
+pub too_long : (setup : Setup) (world : Seen) (n : ℕ) → IsDriving setup world n → setup.events < n → IsRun (setting_of world.scenario) world.history → ⊥
+too_long setup world n d over run =
+    let short : length world.history ≤ setup.events = subst (λ (u : Setup). length world.history ≤ u.events) d.same run.short in
+    absurd (omega (arith, d.long, over, short))

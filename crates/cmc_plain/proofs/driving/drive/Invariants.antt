@@ -1,0 +1,5 @@
+use Rattle.cmc_plain.specs.Driving.{IsDriving}
+use Rattle.cmc_plain.proofs.driving.drive.Given as goal
+
+abbrev pub invariant-loop-turn : goal.invariant-loop-turn
+invariant-loop-turn l = IsDriving l.fn.world.scenario l.world l._turn
