@@ -1,5 +1,6 @@
 -- What a scenario is: all that a run is given.
-use Rattle.std.specs.Prelude.{◌≡◌, ℕ, ℤ, pos, neg_ℤ, ◌+◌, ◌+ℤ◌, ◌<◌, ◌≤◌, ◌≤ℤ◌, Bool, true, false, List, [], ◌∷◌, length, All, sum_by}
+use Rattle.std.specs.Prelude.{◌≡◌, ℕ, ℤ, pos, neg_ℤ, ◌+◌, ◌+ℤ◌, ◌<◌, ◌≤◌, ◌≤ℤ◌, ◌==◌, nat_lt, Bool, true, false, if◌then◌else◌, List, [], ◌∷◌, length, All, sum_by}
+use Rattle.std.specs.List.{list_any, insert, position_or_len}
 use Rattle.cmc_meta.specs.declared.key.Key.{Key}
 use Rattle.cmc_objects.specs.declared.entry.Step.{Step}
 use Rattle.cmc_objects.specs.declared.entry.Step.TheVariants.{Apply, Delete, Approve, Deny, Answer, Renew, Tick, Stop, Start, Hold, Release, Until, Settle}
@@ -62,6 +63,26 @@ is_tick Settle = false
 abbrev pub HasNoTick : List Step → Type 0
 HasNoTick script = All (λ (step : Step). is_tick step ≡ false) script
 
+-- the step stops or starts a role
+abbrev pub is_switch : Step → Bool
+is_switch (Apply object version) = false
+is_switch (Delete key version) = false
+is_switch (Approve certificate revision) = false
+is_switch (Deny certificate revision) = false
+is_switch (Answer certificate revision row) = false
+is_switch (Renew certificate) = false
+is_switch (Tick seconds) = false
+is_switch (Stop role) = true
+is_switch (Start role behind) = true
+is_switch (Hold role kind) = false
+is_switch (Release role kind) = false
+is_switch (Until role kind writes) = false
+is_switch Settle = false
+
+-- no step of the script stops or starts a role
+abbrev pub HasNoSwitch : List Step → Type 0
+HasNoSwitch script = All (λ (step : Step). is_switch step ≡ false) script
+
 -- how many seconds all steps together let pass
 abbrev pub ticked : List Step → ℕ
 ticked script = sum_by seconds_of script
@@ -83,6 +104,18 @@ AreInOrderFrom n (role ∷ roles) = (n ≤ role_rank role) × AreInOrderFrom (ro
 
 abbrev pub AreInOrder : List Role → Type 0
 AreInOrder roles = AreInOrderFrom 0 roles
+
+-- the role is among the roles
+abbrev pub is_among : List Role → Role → Bool
+is_among roles role = list_any (λ (other : Role). role_rank other == role_rank role) roles
+
+-- how many of the roles come before the first that comes after the role
+abbrev pub place_among : List Role → Role → ℕ
+place_among roles role = position_or_len (λ (other : Role). nat_lt (role_rank role) (role_rank other)) roles
+
+-- the roles with one more at its place; a role that is among them counts once
+abbrev pub with_role : List Role → Role → List Role
+with_role roles role = if is_among roles role then roles else insert roles (place_among roles role) role
 
 -- the role comes after each of the roles
 abbrev pub IsAfter : List Role → Role → Type 0
@@ -112,3 +145,4 @@ pub record IsSetup (setup : Setup) : Type 0 where
 pub record IsPlain (script : List Step) : Type 0 where
   pub short : length script ≤ 10000
   pub still : HasNoTick script
+  pub steady : HasNoSwitch script
