@@ -1,5 +1,5 @@
 -- What is read lets no time pass, stops and starts no role, and is a scenario.
-use Rattle.std.proofs.Common.{◌≡◌, Ok, ℕ, zero, suc, ◌+◌, List, [], ◌∷◌, false, Option, refl, sym, ◌∙◌, subst, arith}
+use Rattle.std.proofs.Common.{◌≡◌, Ok, ℕ, zero, suc, ◌+◌, List, [], ◌∷◌, false, Bool, None, Option, refl, sym, ◌∙◌, subst, arith}
 use Rattle.std.specs.Prelude.{codes, pos, ◌+ℤ◌, ◌≤ℤ◌, IfOk, fold}
 use Rattle.std.specs.declared.result.Result.{Result}
 use Rattle.std.specs.Int.Signed.{le_z_yes}
@@ -11,7 +11,7 @@ use Rattle.cmc_codec.specs.declared.error.BadField.{BadField}
 use Rattle.cmc_codec.specs.Reading.{Gives, Field, fields_at, optional_at, at_end}
 use Rattle.cmc_codec.specs.Readers.{floats_at}
 use Rattle.cmc_scenario.specs.Scripts.{step_in, script_at}
-use Rattle.cmc_scenario.specs.Setups.{Setup, IsSetup, IsPlain, IsTickForm, AreInOrder, HasNoTick, seconds_of, is_tick, is_switch, ticked}
+use Rattle.cmc_scenario.specs.Setups.{Setup, IsSetup, IsPlain, IsTickForm, AreInOrder, HasNoTick, HasNoSwitch, IsOrderlyFrom, IsInTurn, running_after, seconds_of, is_tick, switch_of, ticked}
 use Rattle.cmc_scenario.specs.Scenarios.{plain_setup, roles_at, with_roles, members_at, scenario_at}
 use Rattle.cmc_scenario.proofs.Always.{Always, IsOfRead, IsReadScript, is_given, so, next, after, of_step, of_script}
 
@@ -22,7 +22,7 @@ all_still : IsOfRead IsStill
 all_still = record { apply = λ object version. refl; delete = λ key version. refl; settle = refl }
 
 abbrev IsSteady : Step → Type 0
-IsSteady step = is_switch step ≡ false
+IsSteady step = switch_of step ≡ None
 
 all_steady : IsOfRead IsSteady
 all_steady = record { apply = λ object version. refl; delete = λ key version. refl; settle = refl }
@@ -69,6 +69,12 @@ no_more (step ∷ rest) still a =
 none_ticked : (script : List Step) → HasNoTick script → ticked script ≡ 0
 none_ticked script still = no_more script still 0
 
+none_switched : (running : List Role) (script : List Step) → HasNoSwitch script → IsOrderlyFrom running script
+none_switched running [] steady = tt
+none_switched running (step ∷ rest) steady =
+    let later : IsOrderlyFrom running rest = none_switched running rest (λ k d h. steady (suc k) d (omega (arith, h))) in
+    subst (λ (s : Option (Role × Bool)). IsInTurn running s × IsOrderlyFrom (running_after running s) rest) (sym (steady zero step (omega arith))) (tt, later)
+
 -- roles in their order and a script that is read make a scenario
 pub plain_is_setup : (roles : List Role) (script : List Step) → AreInOrder roles → IsPlain script → IsSetup (plain_setup roles script)
 plain_is_setup roles script order plain = record {
@@ -82,6 +88,7 @@ plain_is_setup roles script order plain = record {
   ticks = λ k d h. still_form _ (plain.still k d h);
   faults = tt;
   roles = order;
+  orderly = none_switched roles script plain.steady;
 }
 
 of_members : (P : Step → Type 0) → IsOfRead P → (d : Data) → Always (λ (setup : Setup). IsReadScript P setup.script) (members_at d)

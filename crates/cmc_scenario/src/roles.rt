@@ -80,7 +80,8 @@ impl Roles {
     }
 }
 
-fn contains(roles: &[Role], role: Role) -> bool
+/// Whether the role is in the list.
+pub fn contains(roles: &[Role], role: Role) -> bool
     ensures { result ≡ is_among roles.now role }
 {
     roles.iter().any(|other| other.rank() == role.rank())

@@ -1,9 +1,9 @@
 // One step of a script.
-ghost use Rattle.std.specs.Prelude.{◌≡◌, false, IfOk, map, option_map};
+ghost use Rattle.std.specs.Prelude.{◌≡◌, false, None, IfOk, map, option_map};
 ghost use Rattle.serde_json.specs.View.{view};
 ghost use Rattle.cmc_codec.specs.Reading.{Gives};
 ghost use Rattle.cmc_codec.specs.Seen.{shown, shown_option};
-ghost use Rattle.cmc_scenario.specs.Setups.{is_switch, is_tick};
+ghost use Rattle.cmc_scenario.specs.Setups.{is_tick, switch_of};
 ghost use Rattle.cmc_scenario.specs.Scripts.{apply_in, named_version_at, delete_in, settle_in, stray_in, is_later_word, step_in, step_at};
 
 use crate::applied::{applied, member, pass};
@@ -103,7 +103,7 @@ fn form(alloc: Global, word: Option<&str>, rest: Fields<'_, '_>) -> Result<Step,
 pub fn step(alloc: Global, value: &Value) -> Result<Step, BadField>
     ensures form { Gives (λ t. t) result (step_at (view value.now)) }
     ensures still { IfOk result (λ s. is_tick s ≡ false) }
-    ensures steady { IfOk result (λ s. is_switch s ≡ false) }
+    ensures steady { IfOk result (λ s. switch_of s ≡ None) }
 {
     let members = fields(alloc, value)?;
     form(alloc, member(value, "do"), &members)
