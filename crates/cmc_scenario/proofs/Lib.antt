@@ -3,3 +3,4 @@ pub mod Always
 pub mod Plain
 pub mod Orders
 pub mod Copies
+pub mod Orderly

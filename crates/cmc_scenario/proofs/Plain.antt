@@ -1,33 +1,44 @@
--- What is read lets no time pass, and is a scenario.
-use Rattle.std.proofs.Common.{◌≡◌, Ok, ℕ, zero, suc, ◌+◌, List, [], ◌∷◌, false, Option, refl, sym, ◌∙◌, subst, arith}
+-- What is read lets no time pass, stops and starts no role, and is a scenario.
+use Rattle.std.proofs.Common.{◌≡◌, Ok, ℕ, zero, suc, ◌+◌, List, [], ◌∷◌, false, Bool, None, Option, refl, sym, ◌∙◌, subst, arith}
 use Rattle.std.specs.Prelude.{codes, pos, ◌+ℤ◌, ◌≤ℤ◌, IfOk, fold}
 use Rattle.std.specs.declared.result.Result.{Result}
 use Rattle.std.specs.Int.Signed.{le_z_yes}
 use Rattle.serde_json.specs.Data.{Data}
+use Rattle.cmc_objects.specs.declared.role.Role.{Role}
 use Rattle.cmc_objects.specs.declared.entry.Step.{Step}
 use Rattle.cmc_objects.specs.declared.entry.Step.TheVariants.{Apply, Delete, Approve, Deny, Answer, Renew, Tick, Stop, Start, Hold, Release, Until, Settle}
 use Rattle.cmc_codec.specs.declared.error.BadField.{BadField}
 use Rattle.cmc_codec.specs.Reading.{Gives, Field, fields_at, optional_at, at_end}
 use Rattle.cmc_codec.specs.Readers.{floats_at}
 use Rattle.cmc_scenario.specs.Scripts.{step_in, script_at}
-use Rattle.cmc_scenario.specs.Setups.{Setup, IsSetup, IsPlain, IsTickForm, HasNoTick, seconds_of, is_tick, ticked}
+use Rattle.cmc_scenario.specs.Setups.{Setup, IsSetup, IsPlain, IsTickForm, AreInOrder, HasNoTick, HasNoSwitch, IsOrderlyFrom, IsInTurn, running_after, seconds_of, is_tick, switch_of, ticked}
 use Rattle.cmc_scenario.specs.Scenarios.{plain_setup, roles_at, with_roles, members_at, scenario_at}
-use Rattle.cmc_scenario.proofs.Always.{Always, IsOfBoth, IsReadScript, is_given, so, next, after, of_step, of_script}
+use Rattle.cmc_scenario.proofs.Always.{Always, IsOfRead, IsReadScript, is_given, so, next, after, of_step, of_script}
 
 abbrev IsStill : Step → Type 0
 IsStill step = is_tick step ≡ false
 
-both_still : IsOfBoth IsStill
-both_still = record { apply = λ object version. refl; delete = λ key version. refl }
+all_still : IsOfRead IsStill
+all_still = record { apply = λ object version. refl; delete = λ key version. refl; settle = refl }
+
+abbrev IsSteady : Step → Type 0
+IsSteady step = switch_of step ≡ None
+
+all_steady : IsOfRead IsSteady
+all_steady = record { apply = λ object version. refl; delete = λ key version. refl; settle = refl }
 
 pub step_is_still : (result : Result Step BadField) (word : Option (List ℕ)) (fs : List Field) → Gives (λ t. t) result (step_in word fs) → IfOk result IsStill
-step_is_still result word fs gives = is_given IsStill result (step_in word fs) (of_step IsStill both_still word fs) gives
+step_is_still result word fs gives = is_given IsStill result (step_in word fs) (of_step IsStill all_still word fs) gives
 
-as_plain : (script : List Step) → IsReadScript IsStill script → IsPlain script
-as_plain script is = record { short = is.short; still = is.each }
+pub step_is_steady : (result : Result Step BadField) (word : Option (List ℕ)) (fs : List Field) → Gives (λ t. t) result (step_in word fs) → IfOk result IsSteady
+step_is_steady result word fs gives = is_given IsSteady result (step_in word fs) (of_step IsSteady all_steady word fs) gives
+
+as_plain : (script : List Step) → IsReadScript IsStill script → IsReadScript IsSteady script → IsPlain script
+as_plain script still steady = record { short = still.short; still = still.each; steady = steady.each }
 
 pub script_is_plain : (result : Result (List Step) BadField) (d : Option Data) → Gives (λ t. t) result (script_at d) → IfOk result IsPlain
-script_is_plain result d gives = is_given IsPlain result (script_at d) (record { each = λ script e. as_plain script ((of_script IsStill both_still d).each script e) }) gives
+script_is_plain result d gives =
+    is_given IsPlain result (script_at d) (record { each = λ script e. as_plain script ((of_script IsStill all_still d).each script e) ((of_script IsSteady all_steady d).each script e) }) gives
 
 -- a step that is no tick lets no second pass
 no_seconds : (step : Step) → is_tick step ≡ false → seconds_of step ≡ 0
@@ -58,9 +69,15 @@ no_more (step ∷ rest) still a =
 none_ticked : (script : List Step) → HasNoTick script → ticked script ≡ 0
 none_ticked script still = no_more script still 0
 
--- a script that is read makes a scenario
-pub plain_is_setup : (script : List Step) → IsPlain script → IsSetup (plain_setup script)
-plain_is_setup script plain = record {
+none_switched : (running : List Role) (script : List Step) → HasNoSwitch script → IsOrderlyFrom running script
+none_switched running [] steady = tt
+none_switched running (step ∷ rest) steady =
+    let later : IsOrderlyFrom running rest = none_switched running rest (λ k d h. steady (suc k) d (omega (arith, h))) in
+    subst (λ (s : Option (Role × Bool)). IsInTurn running s × IsOrderlyFrom (running_after running s) rest) (sym (steady zero step (omega arith))) (tt, later)
+
+-- roles in their order and a script that is read make a scenario
+pub plain_is_setup : (roles : List Role) (script : List Step) → AreInOrder roles → IsPlain script → IsSetup (plain_setup roles script)
+plain_is_setup roles script order plain = record {
   some_events = omega arith;
   most_events = omega arith;
   some_window = omega arith;
@@ -70,21 +87,22 @@ plain_is_setup script plain = record {
   short = plain.short;
   ticks = λ k d h. still_form _ (plain.still k d h);
   faults = tt;
-  roles = tt;
+  roles = order;
+  orderly = none_switched roles script plain.steady;
 }
 
-of_members : (P : Step → Type 0) → IsOfBoth P → (d : Data) → Always (λ (setup : Setup). IsReadScript P setup.script) (members_at d)
+of_members : (P : Step → Type 0) → IsOfRead P → (d : Data) → Always (λ (setup : Setup). IsReadScript P setup.script) (members_at d)
 unfolding members_at
-of_members P both d =
+of_members P facts d =
     let Q : Setup → Type 0 = λ setup. IsReadScript P setup.script in
-    next Q (fields_at d) _ (λ fs. next Q (optional_at (codes "roles") fs) _ (λ roles. next Q (roles_at roles.0) _ (λ none. next Q (optional_at (codes "script") roles.1) _ (λ script. after (IsReadScript P) Q (script_at script.0) _ (of_script P both script.0) (λ steps all. next Q (at_end script.1) _ (λ end. next Q (with_roles roles.0) _ (λ given. so all)))))))
+    next Q (fields_at d) _ (λ fs. next Q (optional_at (codes "roles") fs) _ (λ roles. next Q (roles_at roles.0) _ (λ named. next Q (optional_at (codes "script") roles.1) _ (λ script. after (IsReadScript P) Q (script_at script.0) _ (of_script P facts script.0) (λ steps all. next Q (at_end script.1) _ (λ end. next Q (with_roles roles.0) _ (λ given. so all)))))))
 
-of_scenario : (P : Step → Type 0) → IsOfBoth P → (d : Data) → Always (λ (setup : Setup). IsReadScript P setup.script) (scenario_at d)
+of_scenario : (P : Step → Type 0) → IsOfRead P → (d : Data) → Always (λ (setup : Setup). IsReadScript P setup.script) (scenario_at d)
 unfolding scenario_at
-of_scenario P both d =
+of_scenario P facts d =
     let Q : Setup → Type 0 = λ setup. IsReadScript P setup.script in
-    after Q Q (members_at d) _ (of_members P both d) (λ setup all. next Q (floats_at d) _ (λ none. so all))
+    after Q Q (members_at d) _ (of_members P facts d) (λ setup all. next Q (floats_at d) _ (λ none. so all))
 
--- what is so of applying and of deleting is so of each step of a scenario that is read
-pub script_of_scenario : (P : Step → Type 0) → IsOfBoth P → (d : Data) (setup : Setup) → scenario_at d ≡ Ok setup → IsReadScript P setup.script
-script_of_scenario P both d setup is = (of_scenario P both d).each setup is
+-- what is so of applying, of deleting and of settling is so of each step of a scenario that is read
+pub script_of_scenario : (P : Step → Type 0) → IsOfRead P → (d : Data) (setup : Setup) → scenario_at d ≡ Ok setup → IsReadScript P setup.script
+script_of_scenario P facts d setup is = (of_scenario P facts d).each setup is

@@ -5,4 +5,5 @@ pub mod Applied
 pub mod Keys
 pub mod Scripts
 pub mod Setups
+pub mod Running
 pub mod Scenarios

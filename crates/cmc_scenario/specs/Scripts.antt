@@ -4,7 +4,7 @@ use Rattle.std.specs.declared.option.Option.{Option}
 use Rattle.std.specs.Str.{bytes_eq}
 use Rattle.serde_json.specs.Data.{Data, null, boolean, number, string, array, object, Items, no_items, item}
 use Rattle.cmc_objects.specs.declared.entry.Step.{Step}
-use Rattle.cmc_objects.specs.declared.entry.Step.TheVariants.{Delete}
+use Rattle.cmc_objects.specs.declared.entry.Step.TheVariants.{Delete, Settle}
 use Rattle.cmc_codec.specs.Reading.{Read, ◌>>=◌, under, Field, fields_at, optional_at, required_at, at_end}
 use Rattle.cmc_codec.specs.Readers.{count_at}
 use Rattle.cmc_scenario.specs.Applied.{passes, text_member, applied_at}
@@ -34,6 +34,13 @@ delete_in fs = do
   end ← at_end version.1
   Ok (Delete key named)
 
+-- `settle` has nothing else.
+unfoldable pub settle_in : List Field → Read Step
+settle_in fs = do
+  word ← required_at (codes "do") fs
+  end ← at_end word.1
+  Ok Settle
+
 -- No step has the word: it fails at `do`, unless a member before that fails. The members that some
 -- step has before `do` may hold anything but a float.
 unfoldable pub stray_in : List Field → Read Step
@@ -49,14 +56,15 @@ stray_in fs = do
 abbrev pub is_later_word : List ℕ → Bool
 is_later_word t = bytes_eq t (codes "approve") || bytes_eq t (codes "deny") || bytes_eq t (codes "answer") || bytes_eq t (codes "renew")
     || bytes_eq t (codes "tick") || bytes_eq t (codes "stop") || bytes_eq t (codes "start") || bytes_eq t (codes "hold")
-    || bytes_eq t (codes "release") || bytes_eq t (codes "until") || bytes_eq t (codes "settle")
+    || bytes_eq t (codes "release") || bytes_eq t (codes "until")
 
 -- The word decides the form of the members. A step that is not built fails as a whole.
 abbrev pub step_in : Option (List ℕ) → List Field → Read Step
 step_in None fs = stray_in fs
 step_in (Some word) fs = if bytes_eq word (codes "apply") then apply_in fs
     else (if bytes_eq word (codes "delete") then delete_in fs
-    else (if is_later_word word then Err [] else stray_in fs))
+    else (if bytes_eq word (codes "settle") then settle_in fs
+    else (if is_later_word word then Err [] else stray_in fs)))
 
 unfoldable pub step_at : Data → Read Step
 step_at d = fields_at d >>= step_in (text_member (codes "do") d)

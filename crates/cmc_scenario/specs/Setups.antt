@@ -1,5 +1,7 @@
 -- What a scenario is: all that a run is given.
-use Rattle.std.specs.Prelude.{◌≡◌, ℕ, ℤ, pos, neg_ℤ, ◌+◌, ◌+ℤ◌, ◌<◌, ◌≤◌, ◌≤ℤ◌, Bool, true, false, List, [], ◌∷◌, length, All, sum_by}
+use Rattle.std.specs.Prelude.{◌≡◌, ℕ, ℤ, pos, neg_ℤ, ◌+◌, ◌+ℤ◌, ◌<◌, ◌≤◌, ◌≤ℤ◌, ◌==◌, nat_lt, Bool, true, false, not, if◌then◌else◌, Some, None, List, [], ◌∷◌, length, All, sum_by}
+use Rattle.std.specs.declared.option.Option.{Option}
+use Rattle.std.specs.List.{list_any, filter, insert, position_or_len}
 use Rattle.cmc_meta.specs.declared.key.Key.{Key}
 use Rattle.cmc_objects.specs.declared.entry.Step.{Step}
 use Rattle.cmc_objects.specs.declared.entry.Step.TheVariants.{Apply, Delete, Approve, Deny, Answer, Renew, Tick, Stop, Start, Hold, Release, Until, Settle}
@@ -62,6 +64,26 @@ is_tick Settle = false
 abbrev pub HasNoTick : List Step → Type 0
 HasNoTick script = All (λ (step : Step). is_tick step ≡ false) script
 
+-- the role that the step stops or starts, and whether it runs then
+abbrev pub switch_of : Step → Option (Role × Bool)
+switch_of (Apply object version) = None
+switch_of (Delete key version) = None
+switch_of (Approve certificate revision) = None
+switch_of (Deny certificate revision) = None
+switch_of (Answer certificate revision row) = None
+switch_of (Renew certificate) = None
+switch_of (Tick seconds) = None
+switch_of (Stop role) = Some (role, false)
+switch_of (Start role behind) = Some (role, true)
+switch_of (Hold role kind) = None
+switch_of (Release role kind) = None
+switch_of (Until role kind writes) = None
+switch_of Settle = None
+
+-- no step of the script stops or starts a role
+abbrev pub HasNoSwitch : List Step → Type 0
+HasNoSwitch script = All (λ (step : Step). switch_of step ≡ None) script
+
 -- how many seconds all steps together let pass
 abbrev pub ticked : List Step → ℕ
 ticked script = sum_by seconds_of script
@@ -84,9 +106,41 @@ AreInOrderFrom n (role ∷ roles) = (n ≤ role_rank role) × AreInOrderFrom (ro
 abbrev pub AreInOrder : List Role → Type 0
 AreInOrder roles = AreInOrderFrom 0 roles
 
+-- the role is among the roles
+abbrev pub is_among : List Role → Role → Bool
+is_among roles role = list_any (λ (other : Role). role_rank other == role_rank role) roles
+
+-- how many of the roles come before the first that comes after the role
+abbrev pub place_among : List Role → Role → ℕ
+place_among roles role = position_or_len (λ (other : Role). nat_lt (role_rank role) (role_rank other)) roles
+
+-- the roles with one more at its place; a role that is among them counts once
+abbrev pub with_role : List Role → Role → List Role
+with_role roles role = if is_among roles role then roles else insert roles (place_among roles role) role
+
 -- the role comes after each of the roles
 abbrev pub IsAfter : List Role → Role → Type 0
 IsAfter roles last = All (λ (role : Role). role_rank role < role_rank last) roles
+
+-- the roles without this one
+abbrev pub without_role : List Role → Role → List Role
+without_role roles role = filter (λ (other : Role). not (role_rank other == role_rank role)) roles
+
+-- a role that runs may be stopped, and one that does not may be started
+abbrev pub IsInTurn : List Role → Option (Role × Bool) → Type 0
+IsInTurn running None = Unit {0}
+IsInTurn running (Some (role, on)) = is_among running role ≡ not on
+
+-- the roles that run then
+abbrev pub running_after : List Role → Option (Role × Bool) → List Role
+running_after running None = running
+running_after running (Some (role, on)) = if on then role ∷ running else without_role running role
+
+-- where these roles run at first, each step of the script that stops a role stops one that runs when its turn comes, and each
+-- that starts one starts one that does not
+abbrev pub IsOrderlyFrom : List Role → List Step → Type 0
+IsOrderlyFrom running [] = Unit {0}
+IsOrderlyFrom running (step ∷ rest) = IsInTurn running (switch_of step) × IsOrderlyFrom (running_after running (switch_of step)) rest
 
 -- 1951-01-01T00:00:00Z and 9900-01-01T00:00:00Z: all moments of a run lie there
 abbrev pub first_moment : ℤ
@@ -107,8 +161,10 @@ pub record IsSetup (setup : Setup) : Type 0 where
   pub ticks : All IsTickForm setup.script
   pub faults : RiseFrom 0 setup.faults
   pub roles : AreInOrder setup.roles
+  pub orderly : IsOrderlyFrom setup.roles setup.script
 
 -- what is true of each script that is read
 pub record IsPlain (script : List Step) : Type 0 where
   pub short : length script ≤ 10000
   pub still : HasNoTick script
+  pub steady : HasNoSwitch script

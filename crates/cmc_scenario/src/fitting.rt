@@ -6,6 +6,7 @@ ghost use Rattle.cmc_objects.specs.declared.rows.Rows.{Rows};
 ghost use Rattle.cmc_scenario.specs.Setups.{IsSetup, IsTickForm, RiseFrom, first_moment, last_moment, seconds_of, ticked};
 
 use crate::roles::Roles;
+use crate::running::are_orderly;
 use crate::steps::Steps;
 use cmc_meta::Numbers;
 use cmc_objects::Step;
@@ -132,8 +133,9 @@ fn fit(now: i64, steps: &[Step]) -> bool
 
 /// Whether these parts make a scenario: `events` and `window` are 1 to 250,000, the beginning `now`
 /// is not before 1951-01-01T00:00:00Z, all ticks end by 9900-01-01T00:00:00Z, `faults` ascend from 1,
-/// and `script` has at most 10,000 steps, whose ticks have 1 to 1,000,000,000 seconds each. `Roles`
-/// are always in their order, and whatever the approver and the material are, they fit.
+/// and `script` has at most 10,000 steps, whose ticks have 1 to 1,000,000,000 seconds each, and which
+/// stop a role only where it runs and start it only where it does not, `roles` running at first.
+/// `Roles` are always in their order, and whatever the approver and the material are, they fit.
 pub fn is_setup(
     events: u64,
     window: u64,
@@ -144,6 +146,9 @@ pub fn is_setup(
 ) -> bool
     ensures { (approver : Rules) → (material : List (Key × Rows)) → (IsTrue result ↔ IsSetup (record { events = events; window = window; moment = now; roles = roles.now; faults = faults.now; approver = approver; material = material; script = script.now })) }
 {
-    let _roles = roles.as_slice();
-    is_size(events) && is_size(window) && rise(faults.as_slice()) && fit(now, script.as_slice())
+    is_size(events)
+        && is_size(window)
+        && rise(faults.as_slice())
+        && fit(now, script.as_slice())
+        && are_orderly(roles.as_slice(), script.as_slice())
 }

@@ -11,6 +11,7 @@ mod key;
 mod metadata;
 mod reading;
 mod roles;
+mod running;
 mod scenario;
 mod secret;
 mod step;

@@ -1,18 +1,18 @@
 // Reads scenarios.
-ghost use Rattle.std.specs.Prelude.{◌≡◌, false, IfOk, OnOk};
+ghost use Rattle.std.specs.Prelude.{◌≡◌, [], decimal, false, IfOk, OnOk};
 ghost use Rattle.serde_json.specs.View.{view, items_view};
 ghost use Rattle.serde_json.specs.Written.{has_float};
-ghost use Rattle.cmc_codec.specs.Reading.{Gives};
+ghost use Rattle.cmc_codec.specs.Reading.{Gives, under};
 ghost use Rattle.cmc_codec.specs.Seen.{shown_option};
 ghost use Rattle.cmc_scenario.specs.Setups.{IsPlain};
-ghost use Rattle.cmc_scenario.specs.Scenarios.{no_items_at, empty_list_at, roles_at, with_roles, plain_approver_rules, plain_setup, members_at, scenario_at, IsReading};
+ghost use Rattle.cmc_scenario.specs.Scenarios.{role_at, roles_with, named_roles_at, roles_at, with_roles, plain_approver_rules, plain_setup, members_at, scenario_at, IsReading};
 
 use crate::roles::Roles;
 use crate::scenario::Scenario;
 use crate::steps::{Steps, script};
 use cmc_codec::{BadField, at, check_end, check_floats, fields, optional};
 use cmc_meta::{Numbers, Text, Texts};
-use cmc_objects::{Material, Rules};
+use cmc_objects::{Material, Role, Rules};
 use serde_json::Value;
 use std::alloc::{AllocError, Global};
 
@@ -26,30 +26,54 @@ pub enum BadScenario {
     NoMemory,
 }
 
-fn check_no_items(alloc: Global, items: &[Value]) -> Result<(), BadField>
-    ensures { Gives (λ t. t) result (no_items_at (items_view items.now)) }
+fn role_of(alloc: Global, value: &Value) -> Result<Role, BadField>
+    ensures { Gives (λ t. t) result (role_at (view value.now)) }
 {
-    match items {
-        [] => Ok(()),
-        [_first, ..] => Err(BadField::Path(Text::from_str(alloc, "0")?)),
-    }
-}
-
-fn check_empty_list(alloc: Global, value: &Value) -> Result<(), BadField>
-    ensures { Gives (λ t. t) result (empty_list_at (view value.now)) }
-{
-    match value {
-        Value::Array(items) => check_no_items(alloc, items.as_slice()),
+    match value.as_str() {
+        Some("trigger") => Ok(Role::Trigger),
         _ => Err(BadField::Path(Text::new(alloc))),
     }
 }
 
-fn check_roles(alloc: Global, value: Option<&Value>) -> Result<(), BadField>
+fn numbered_role(alloc: Global, place: usize, value: &Value) -> Result<Role, BadField>
+    ensures { Gives (λ t. t) result (under (decimal place) (role_at (view value.now))) }
+{
+    at(
+        alloc,
+        place.to_string(alloc)?.as_str(),
+        role_of(alloc, value),
+    )
+}
+
+fn roles_of(alloc: Global, items: &[Value]) -> Result<Roles, BadField>
+    ensures { Gives (λ t. t) result (roles_with 0 [] (items_view items.now)) }
+{
+    let mut roles = Roles::new(alloc);
+    for (place, item) in items.iter().enumerate() {
+        match numbered_role(alloc, place, item) {
+            Ok(role) => roles.add(role)?,
+            Err(error) => return Err(error),
+        }
+    }
+    Ok(roles)
+}
+
+fn named_roles(alloc: Global, value: &Value) -> Result<Roles, BadField>
+    ensures { Gives (λ t. t) result (named_roles_at (view value.now)) }
+{
+    match value {
+        Value::Array(items) => roles_of(alloc, items.as_slice()),
+        _ => Err(BadField::Path(Text::new(alloc))),
+    }
+}
+
+/// The roles of the member `roles`.
+fn given_roles(alloc: Global, value: Option<&Value>) -> Result<Roles, BadField>
     ensures { Gives (λ t. t) result (roles_at (shown_option value.entry)) }
 {
     match value {
-        None => Ok(()),
-        Some(value) => at(alloc, "roles", check_empty_list(alloc, value)),
+        None => Ok(Roles::new(alloc)),
+        Some(value) => at(alloc, "roles", named_roles(alloc, value)),
     }
 }
 
@@ -72,13 +96,13 @@ fn plain_approver(alloc: Global) -> Result<Rules, AllocError>
     Ok(Rules { issuers, refuse })
 }
 
-/// The scenario that says no more than its script.
-fn plain(alloc: Global, script: Steps) -> Result<Scenario, AllocError>
+/// The scenario that says no more than its roles and its script.
+fn plain(alloc: Global, roles: Roles, script: Steps) -> Result<Scenario, AllocError>
     requires { IsPlain script }
-    ensures { IfOk result (λ s. s ≡ plain_setup script) }
+    ensures { IfOk result (λ s. s ≡ plain_setup roles script) }
 {
     let approver = plain_approver(alloc)?;
-    let roles = Roles::new(alloc);
+    let _order = roles.as_slice();
     let faults = Numbers::new(alloc);
     let material = Material::new(alloc);
     Ok(Scenario::new(
@@ -98,13 +122,13 @@ fn members(alloc: Global, value: &Value) -> Result<Scenario, BadField>
     ensures { Gives (λ t. t) result (members_at (view value.now)) }
 {
     let members = fields(alloc, value)?;
-    let (roles, rest) = optional(alloc, &members, "roles")?;
-    check_roles(alloc, roles)?;
+    let (named, rest) = optional(alloc, &members, "roles")?;
+    let roles = given_roles(alloc, named)?;
     let (given, rest) = optional(alloc, rest, "script")?;
     let script = script(alloc, given)?;
     check_end(alloc, rest)?;
-    check_given(alloc, roles)?;
-    Ok(plain(alloc, script)?)
+    check_given(alloc, named)?;
+    Ok(plain(alloc, roles, script)?)
 }
 
 #[tactic(auto, unfolding(crate::specs::Scenarios::scenario_at))]
@@ -119,8 +143,9 @@ fn whole(alloc: Global, value: &Value) -> Result<Scenario, BadField>
 
 /// The scenario that a value describes.
 ///
-/// It has `roles`, the empty list, and may have `script`, a list of at most 10,000 steps `apply`
-/// and `delete`. No other member may stand, and no number may be a float.
+/// It has `roles`, a list of the roles that run from the beginning on, and may have `script`, a list
+/// of at most 10,000 steps `apply`, `delete` and `settle`. The one role that is known is `trigger`,
+/// and named again it counts once. No other member may stand, and no number may be a float.
 ///
 /// # Errors
 ///

@@ -1,6 +1,7 @@
 // Lists of roles.
-ghost use Rattle.std.specs.Prelude.{◌≡◌, ◌++◌, ◌∷◌, [], IfOk, OnOk, OnErr};
-ghost use Rattle.cmc_scenario.specs.Setups.{AreInOrder, IsAfter};
+ghost use Rattle.std.specs.Prelude.{◌≡◌, ◌≤◌, ◌++◌, ◌∷◌, [], length, nat_lt, position, IfOk, OnOk, OnErr};
+ghost use Rattle.cmc_objects.specs.Roles.{role_rank};
+ghost use Rattle.cmc_scenario.specs.Setups.{AreInOrder, IsAfter, is_among, place_among, with_role};
 
 use cmc_objects::Role;
 use std::alloc::{AllocError, Global};
@@ -44,6 +45,18 @@ impl Roles {
         Ok(())
     }
 
+    /// Adds a role at its place in the order. One that is in the list already counts once.
+    pub fn add(&mut self, role: Role) -> Result<(), AllocError>
+        ensures ok { OnOk result (self.new ≡ with_role self.old role) }
+        ensures err { OnErr result (self.new ≡ self.old) }
+    {
+        if !contains(self.items.as_slice(), role) {
+            let place = place_of(self.items.as_slice(), role);
+            self.items.insert(place, role)?;
+        }
+        Ok(())
+    }
+
     /// The roles, as a slice.
     pub fn as_slice(&self) -> &[Role]
         ensures value { result.now ≡ self.now }
@@ -64,6 +77,29 @@ impl Roles {
         Ok(Roles {
             items: copy_roles(*self.items.allocator(), self.items.as_slice())?,
         })
+    }
+}
+
+/// Whether the role is in the list.
+pub fn contains(roles: &[Role], role: Role) -> bool
+    ensures { result ≡ is_among roles.now role }
+{
+    roles.iter().any(|other| other.rank() == role.rank())
+}
+
+fn first_after(roles: &[Role], role: Role) -> Option<usize>
+    ensures { result ≡ position (λ other. nat_lt (role_rank role) (role_rank other)) roles.now }
+{
+    roles.iter().position(|other| role.rank() < other.rank())
+}
+
+fn place_of(roles: &[Role], role: Role) -> usize
+    ensures value { result ≡ place_among roles.now role }
+    ensures most { result ≤ length roles.now }
+{
+    match first_after(roles, role) {
+        Some(place) => place,
+        None => roles.len(),
     }
 }
 

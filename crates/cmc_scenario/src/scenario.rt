@@ -55,7 +55,8 @@ impl Scenario {
     /// 1970-01-01T00:00:00Z, not before 1951, and all its ticks end by 9900-01-01T00:00:00Z. The
     /// `roles` run from the beginning on, the store calls of the numbers `faults`, from 1 and
     /// ascending, fail, and `script` has at most 10,000 steps, whose ticks have 1 to 1,000,000,000
-    /// seconds each.
+    /// seconds each. It stops a role only where it runs when the step's turn comes, and starts it only
+    /// where it does not.
     pub fn new(
         events: u64,
         window: u64,

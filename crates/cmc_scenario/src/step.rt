@@ -1,10 +1,10 @@
 // One step of a script.
-ghost use Rattle.std.specs.Prelude.{◌≡◌, false, IfOk, map, option_map};
+ghost use Rattle.std.specs.Prelude.{◌≡◌, false, None, IfOk, map, option_map};
 ghost use Rattle.serde_json.specs.View.{view};
 ghost use Rattle.cmc_codec.specs.Reading.{Gives};
 ghost use Rattle.cmc_codec.specs.Seen.{shown, shown_option};
-ghost use Rattle.cmc_scenario.specs.Setups.{is_tick};
-ghost use Rattle.cmc_scenario.specs.Scripts.{apply_in, named_version_at, delete_in, stray_in, is_later_word, step_in, step_at};
+ghost use Rattle.cmc_scenario.specs.Setups.{is_tick, switch_of};
+ghost use Rattle.cmc_scenario.specs.Scripts.{apply_in, named_version_at, delete_in, settle_in, stray_in, is_later_word, step_in, step_at};
 
 use crate::applied::{applied, member, pass};
 use crate::key::key;
@@ -47,6 +47,15 @@ fn delete(alloc: Global, rest: Fields<'_, '_>) -> Result<Step, BadField>
     Ok(Step::Delete { key, version })
 }
 
+#[tactic(auto, unfolding(crate::specs::Scripts::settle_in))]
+fn settle(alloc: Global, rest: Fields<'_, '_>) -> Result<Step, BadField>
+    ensures { Gives (λ t. t) result (settle_in (map shown rest.now)) }
+{
+    let (_, rest) = required(alloc, rest, "do")?;
+    check_end(alloc, rest)?;
+    Ok(Step::Settle)
+}
+
 #[tactic(auto, unfolding(crate::specs::Scripts::stray_in))]
 fn stray(alloc: Global, rest: Fields<'_, '_>) -> Result<Step, BadField>
     ensures { Gives (λ t. t) result (stray_in (map shown rest.now)) }
@@ -72,8 +81,7 @@ fn is_later(word: &str) -> bool
         | "start"
         | "hold"
         | "release"
-        | "until"
-        | "settle" => true,
+        | "until" => true,
         _ => false,
     }
 }
@@ -84,6 +92,7 @@ fn form(alloc: Global, word: Option<&str>, rest: Fields<'_, '_>) -> Result<Step,
     match word {
         Some("apply") => apply(alloc, rest),
         Some("delete") => delete(alloc, rest),
+        Some("settle") => settle(alloc, rest),
         Some(word) if is_later(word) => Err(BadField::Path(Text::new(alloc))),
         _ => stray(alloc, rest),
     }
@@ -94,6 +103,7 @@ fn form(alloc: Global, word: Option<&str>, rest: Fields<'_, '_>) -> Result<Step,
 pub fn step(alloc: Global, value: &Value) -> Result<Step, BadField>
     ensures form { Gives (λ t. t) result (step_at (view value.now)) }
     ensures still { IfOk result (λ s. is_tick s ≡ false) }
+    ensures steady { IfOk result (λ s. switch_of s ≡ None) }
 {
     let members = fields(alloc, value)?;
     form(alloc, member(value, "do"), &members)
