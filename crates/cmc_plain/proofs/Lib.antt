@@ -6,3 +6,4 @@ pub mod OneKind
 pub mod Newest
 pub mod Newer
 pub mod Remembering
+pub mod Finishing

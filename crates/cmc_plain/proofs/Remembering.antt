@@ -21,7 +21,6 @@ use Rattle.cmc_objects.specs.declared.entry.Who.TheVariants.{User, Pass}
 use Rattle.cmc_objects.specs.declared.entry.Entry.{Entry}
 use Rattle.cmc_objects.specs.declared.entry.Entry.TheVariants.{Script, Call as Called, Deliver, List as Listed, Begin, Ask, Made, Signed, Answered, Judged, End, Stop, Start, Tick}
 use Rattle.cmc_objects.specs.Roles.{role_rank}
-use Rattle.cmc_policies.specs.declared.facts.Reason.{Reason}
 use Rattle.cmc_model.specs.declared.write.Write.{Write}
 use Rattle.cmc_model.specs.declared.pass.Views.{Views}
 use Rattle.cmc_model.specs.declared.pass.Desk.{Desk}
@@ -64,24 +63,19 @@ WritesKnown role (Calls call) = has_informer role (key_of_call call).kind ≡ tr
 WritesKnown role (Asks order) = Unit {0}
 WritesKnown role (Issue plan) = Unit {0}
 
-known_issue : (now : ℤ) (reason : Reason) (c : Certificate) → WritesKnown Trigger (issue_call now reason c)
-unfolding issue_call
-known_issue now reason c = refl
-
 known_unless : (b : Bool) (does : Act) → WritesKnown Trigger does → WritesKnown Trigger (if b then Nothing else does)
 known_unless true does known = tt
 known_unless false does known = known
 
-known_reason : (now : ℤ) (c : Certificate) (reason : Option Reason) → WritesKnown Trigger (for_reason now c reason)
-known_reason now c None = tt
-known_reason now c (Some reason) = known_unless (is_backing_off c.status now) (issue_call now reason c) (known_issue now reason c)
-
 known_option : (now : ℤ) (secret : Option SecretObject) (c : Option Certificate) → WritesKnown Trigger (for_option now secret c)
-unfolding for_certificate
+unfolding for_certificate issue_call
 known_option now secret None = tt
 known_option now secret (Some c) =
-    let reason = trigger_reason (frame_of now c) secret in
-    known_unless (is_issuing c) (for_reason now c reason) (known_reason now c reason)
+    known_unless (is_issuing c) (for_reason now c (trigger_reason (frame_of now c) secret))
+    (elim (trigger_reason (frame_of now c) secret) as (λ r. WritesKnown Trigger (for_reason now c r)) [
+      | None ↦ tt
+      | Some given ↦ known_unless (is_backing_off c.status now) (issue_call now given c) refl
+    ])
 
 -- it is so of each role: the trigger writes the status of Certificates, the others write nothing yet
 pub writes_known : (role : Role) (seen : Views) (now : ℤ) (desk : Desk) → WritesKnown role (act role seen now desk)
