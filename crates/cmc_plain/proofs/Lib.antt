@@ -4,3 +4,5 @@ pub mod OneMove
 pub mod Determined
 pub mod OneKind
 pub mod Newest
+pub mod Starting
+pub mod Going
