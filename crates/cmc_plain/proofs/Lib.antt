@@ -6,3 +6,5 @@ pub mod OneKind
 pub mod Newest
 pub mod Starting
 pub mod Going
+pub mod Orderly
+pub mod Switches
