@@ -1,5 +1,5 @@
 -- A run of an orderly script starts no role that runs.
-use Rattle.std.proofs.Common.{◌≡◌, ℕ, ◌+◌, ◌-◌, ◌<◌, List, [], ◌∷◌, length, drop, get_or, slice_get, Option, Some, None, option_and_then, Bool, true, false, ◌||◌, cond, filter, refl, sym, ap, subst, ◌∙◌, arith}
+use Rattle.std.proofs.Common.{◌≡◌, ℕ, ◌+◌, ◌-◌, ◌<◌, List, [], ◌∷◌, length, drop, get_or, slice_get, Option, Some, None, option_and_then, Bool, true, false, ◌||◌, cond, not, refl, sym, ap, subst, ◌∙◌, arith}
 use Rattle.std.proofs.lemmas.Bool.Decides.{nat_tests}
 use Rattle.std.proofs.lemmas.List.{drop_more}
 use Rattle.std.proofs.lemmas.Option.{slice_get-get_or}
@@ -18,7 +18,7 @@ use Rattle.cmc_model.specs.Following.{call_of, effect_of, owed, IsNextStep, Foll
 use Rattle.cmc_scenario.specs.Setups.{Setup}
 use Rattle.cmc_world.specs.Kept.{setting_of}
 use Rattle.cmc_plain.proofs.Starting.{StartsStopped}
-use Rattle.cmc_plain.proofs.Orderly.{is_among, is_other, IsOrderlyFrom}
+use Rattle.cmc_plain.proofs.Orderly.{is_among, without_role, IsOrderlyFrom}
 
 -- ---- what runs once what is owed is done
 
@@ -62,7 +62,7 @@ with_started false among before same = same
 
 without_at : (role r other : Role) (kept rest : List Role) (of own : Bool) → role_eq other role ≡ of → role_eq role r ≡ own
     → is_among kept r ≡ (if own then false else is_among rest r)
-    → is_among (cond (if of then false else true) (other ∷ kept) kept) r ≡ (if own then false else (role_eq other r || is_among rest r))
+    → is_among (cond (not of) (other ∷ kept) kept) r ≡ (if own then false else (role_eq other r || is_among rest r))
 without_at role r other kept rest true true is here same = same
 without_at role r other kept rest true false is here same =
     let off : role_eq other r ≡ false = grind (arith, nat_tests) in
@@ -77,23 +77,23 @@ none_but true = refl
 none_but false = refl
 
 -- the roles without one of them
-without : (role r : Role) (roles : List Role) → is_among (filter (is_other role) roles) r ≡ (if role_eq role r then false else is_among roles r)
+without : (role r : Role) (roles : List Role) → is_among (without_role roles role) r ≡ (if role_eq role r then false else is_among roles r)
 without role r [] = none_but (role_eq role r)
 without role r (other ∷ roles) =
-    without_at role r other (filter (is_other role) roles) roles (role_eq other role) (role_eq role r) refl refl (without role r roles)
+    without_at role r other (without_role roles role) roles (role_eq other role) (role_eq role r) refl refl (without role r roles)
 
 next_step : (s : Setting) (h : List Entry) (step : Step) (roles : List Role) (left : List Step) → ((r : Role) → is_among roles r ≡ runs s h r)
     → IsOrderlyFrom roles (step ∷ left) → IsOrderlyAfter (runs s h) (effect_of s h step) left
 unfolding call_of
-next_step s h (steps.Apply object version) roles left same ahead = record { roles = roles; same = same; stopped = tt; ahead = ahead }
-next_step s h (steps.Delete key version) roles left same ahead = record { roles = roles; same = same; stopped = tt; ahead = ahead }
-next_step s h (steps.Approve certificate revision) roles left same ahead = record { roles = roles; same = same; stopped = tt; ahead = ahead }
-next_step s h (steps.Deny certificate revision) roles left same ahead = record { roles = roles; same = same; stopped = tt; ahead = ahead }
-next_step s h (steps.Answer certificate revision row) roles left same ahead = record { roles = roles; same = same; stopped = tt; ahead = ahead }
-next_step s h (steps.Renew certificate) roles left same ahead = record { roles = roles; same = same; stopped = tt; ahead = ahead }
-next_step s h (steps.Tick seconds) roles left same ahead = record { roles = roles; same = same; stopped = tt; ahead = ahead }
+next_step s h (steps.Apply object version) roles left same ahead = record { roles = roles; same = same; stopped = tt; ahead = ahead.1 }
+next_step s h (steps.Delete key version) roles left same ahead = record { roles = roles; same = same; stopped = tt; ahead = ahead.1 }
+next_step s h (steps.Approve certificate revision) roles left same ahead = record { roles = roles; same = same; stopped = tt; ahead = ahead.1 }
+next_step s h (steps.Deny certificate revision) roles left same ahead = record { roles = roles; same = same; stopped = tt; ahead = ahead.1 }
+next_step s h (steps.Answer certificate revision row) roles left same ahead = record { roles = roles; same = same; stopped = tt; ahead = ahead.1 }
+next_step s h (steps.Renew certificate) roles left same ahead = record { roles = roles; same = same; stopped = tt; ahead = ahead.1 }
+next_step s h (steps.Tick seconds) roles left same ahead = record { roles = roles; same = same; stopped = tt; ahead = ahead.1 }
 next_step s h (steps.Stop role) roles left same ahead = record {
-  roles = filter (is_other role) roles;
+  roles = without_role roles role;
   same = λ r. without role r roles ∙ ap (λ (b : Bool). if role_eq role r then false else b) (same r);
   stopped = tt;
   ahead = ahead.1;
@@ -104,10 +104,10 @@ next_step s h (steps.Start role behind) roles left same ahead = record {
   stopped = sym (same role) ∙ ahead.0;
   ahead = ahead.1;
 }
-next_step s h (steps.Hold role kind) roles left same ahead = record { roles = roles; same = same; stopped = tt; ahead = ahead }
-next_step s h (steps.Release role kind) roles left same ahead = record { roles = roles; same = same; stopped = tt; ahead = ahead }
-next_step s h (steps.Until role kind writes) roles left same ahead = record { roles = roles; same = same; stopped = tt; ahead = ahead }
-next_step s h steps.Settle roles left same ahead = record { roles = roles; same = same; stopped = tt; ahead = ahead }
+next_step s h (steps.Hold role kind) roles left same ahead = record { roles = roles; same = same; stopped = tt; ahead = ahead.1 }
+next_step s h (steps.Release role kind) roles left same ahead = record { roles = roles; same = same; stopped = tt; ahead = ahead.1 }
+next_step s h (steps.Until role kind writes) roles left same ahead = record { roles = roles; same = same; stopped = tt; ahead = ahead.1 }
+next_step s h steps.Settle roles left same ahead = record { roles = roles; same = same; stopped = tt; ahead = ahead.1 }
 
 over_script : (s : Setting) (h : List Entry) (number : ℕ) → IsNextStep s h number → IsOrderlyAfter (runs s h) (owed s h) (drop (scripted h) s.script)
     → IsOrderlyAfter (runs s h) (option_and_then (effect_of s h) (step_at s.script number)) (drop (scripted h + 1) s.script)
