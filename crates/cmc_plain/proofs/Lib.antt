@@ -7,3 +7,7 @@ pub mod Newest
 pub mod Newer
 pub mod Remembering
 pub mod Finishing
+pub mod Starting
+pub mod Going
+pub mod Orderly
+pub mod Switches
