@@ -6,3 +6,10 @@ pub mod OneKind
 pub mod Newest
 pub mod Turns
 pub mod OneAnswer
+pub mod Newer
+pub mod Remembering
+pub mod Finishing
+pub mod Starting
+pub mod Going
+pub mod Orderly
+pub mod Switches

@@ -1,0 +1,345 @@
+-- Where the plain order has no move, the run is finished.
+use Rattle.std.proofs.Common.{◌≡◌, ◌==◌, ◌⊎◌, ◌+◌, ◌-◌, ◌<◌, ◌≤◌, ℕ, ℤ, List, [], ◌∷◌, length, Option, Some, None, Bool, true, false, cond, refl, sym, ap, subst, ◌∙◌, inl, inr, arith, option_and_then, get_or}
+use Rattle.std.proofs.lemmas.Bool.Decides.{Decides-eqb, nat_tests}
+use Rattle.std.proofs.lemmas.Option.{slice_get_cases}
+use Rattle.std.specs.Prelude.{◌||◌, if◌then◌else◌, MatchBool, nat_le, nat_lt, slice_get}
+use Rattle.cmc_meta.specs.declared.key.Key.{Key}
+use Rattle.cmc_meta.specs.declared.key.Kind.{Kind}
+use Rattle.cmc_meta.specs.declared.key.Kind.TheVariants as kinds
+use Rattle.cmc_objects.specs.declared.certificate.Certificate.{Certificate}
+use Rattle.cmc_objects.specs.declared.request.CertificateRequest.{CertificateRequest}
+use Rattle.cmc_objects.specs.declared.object.Object.{Object}
+use Rattle.cmc_objects.specs.declared.role.Role.{Role}
+use Rattle.cmc_objects.specs.declared.role.Role.TheVariants.{Trigger, KeyManager, RequestManager, Approver, Issuer, Issuing, Readiness, Revision}
+use Rattle.cmc_objects.specs.declared.entry.Positions.{Positions}
+use Rattle.cmc_objects.specs.declared.entry.Step.{Step}
+use Rattle.cmc_objects.specs.declared.entry.Step.TheVariants as steps
+use Rattle.cmc_objects.specs.declared.entry.Entry.{Entry}
+use Rattle.cmc_model.specs.declared.write.Write.{Write}
+use Rattle.cmc_model.specs.declared.pass.Views.{Views}
+use Rattle.cmc_model.specs.declared.pass.Desk.{Desk}
+use Rattle.cmc_model.specs.declared.pass.Act.{Act}
+use Rattle.cmc_model.specs.declared.pass.Act.TheVariants.{Nothing, Call as Calls, Ask as Asks, Issue}
+use Rattle.cmc_model.specs.declared.progress.Obstacle.{Obstacle}
+use Rattle.cmc_model.specs.declared.progress.Obstacle.TheVariants.{Failure, Newer}
+use Rattle.cmc_model.specs.declared.progress.OpenPass.{OpenPass}
+use Rattle.cmc_model.specs.declared.progress.Ending.{Ending}
+use Rattle.cmc_model.specs.declared.progress.Ending.TheVariants as endings
+use Rattle.cmc_model.specs.declared.progress.LastPass.{LastPass}
+use Rattle.cmc_model.specs.Objects.{object_at}
+use Rattle.cmc_model.specs.Histories.{Setting, moment, runs}
+use Rattle.cmc_model.specs.Writes.{writes, contents, oldest, write_at, kind_eq, last_of_kind, is_known}
+use Rattle.cmc_model.specs.Positions.{works_on_requests, kind_of_work, has_informer, position, position_of, positions, cache}
+use Rattle.cmc_model.specs.Viewing.{certificate_in, request_in, certificate_at, request_at, views_of, views_in, views, present_views}
+use Rattle.cmc_model.specs.Desks.{desk}
+use Rattle.cmc_model.specs.Triggering.{for_option, trigger}
+use Rattle.cmc_model.specs.Acts.{act}
+use Rattle.cmc_model.specs.Passes.{open_pass, is_pass_of, past, IsStillBehind, EndsAlike, IsSame, IsDue}
+use Rattle.cmc_model.specs.Legality.{IsOfKind}
+use Rattle.cmc_model.specs.Scripting.{scripted, held, has_held}
+use Rattle.cmc_model.specs.Following.{owed, IsReady}
+use Rattle.cmc_model.specs.Resting.{IsIdle, IsPaused, RestsOn, IsAtRest}
+use Rattle.cmc_model.specs.Runs.{IsRun, IsFinished}
+use Rattle.cmc_held.specs.Dues.{own_above}
+use Rattle.cmc_held.proofs.Behind.{not_all_told}
+use Rattle.cmc_world.specs.declared.moves.Move.TheVariants as moves
+use Rattle.cmc_world.specs.declared.moves.Lack.TheVariants.{NotQueued, SameViews, OwnWrite}
+use Rattle.cmc_world.specs.declared.moves.Stepped.{Stepped}
+use Rattle.cmc_world.specs.declared.moves.Stepped.TheVariants.{Done, NotNow, Spent}
+use Rattle.cmc_world.specs.Answers.{Need, Bar, BarOf, Fits as HasRoom, IsWorking, IsQueued, entries_of, next_effect}
+use Rattle.cmc_world.proofs.Moments.{scripted_low}
+use Rattle.cmc_world.proofs.Rest.{same_kind}
+use Rattle.cmc_plain.specs.Plain.{IsAccepted, IsPossible, IsGoing, IsBehind, Fits, HasNoScript, HasNoPass, HasNoDelivery}
+use Rattle.cmc_plain.proofs.OneKind.{last_low, object_at-of_kind}
+use Rattle.cmc_plain.proofs.Newest.{IsToldOfAll, views_newest}
+use Rattle.cmc_plain.proofs.Newer.{newest_known}
+use Rattle.cmc_plain.proofs.Remembering.{own_low, IsLowObstacle, IsFairEnding, IsFairLast, last_fair}
+
+-- ---- room
+
+room_by : (fits : Bool) (s : Setting) (h : List Entry) (more : ℕ) → nat_le (length h + more) s.events ≡ fits → (answer : Stepped) × HasRoom s h more answer × IsAccepted answer
+room_by true s h more e = (Done, inr (grind (arith, nat_tests), refl), tt)
+room_by false s h more e = (Spent (length h), inl ((λ le. absurd (grind (arith, nat_tests))), refl), tt)
+
+-- whether or not there is room, the answer is one that makes a move possible
+room : (s : Setting) (h : List Entry) (more : ℕ) → (answer : Stepped) × HasRoom s h more answer × IsAccepted answer
+room s h more = room_by (nat_le (length h + more) s.events) s h more refl
+
+-- ---- all passes are closed
+
+closed_by : (s : Setting) (h : List Entry) (n : ℕ) (p : Option OpenPass) → open_pass s h n ≡ p → ((q : OpenPass) → open_pass s h n ≡ Some q → ⊥) → p ≡ None
+closed_by s h n None is none = refl
+closed_by s h n (Some p) is none = absurd (none p is)
+
+closed : (s : Setting) (h : List Entry) → HasNoPass s h → ((n : ℕ) (p : OpenPass) → open_pass s h n ≡ Some p → IsGoing s h n) → (n : ℕ) → open_pass s h n ≡ None
+closed s h none going n = closed_by s h n (open_pass s h n) refl (λ p is. none n (going n p is))
+
+-- ---- all roles are told
+
+last_at : (here : Bool) (kind : Kind) (w : Write) (ws : List Write) → kind_eq w.key.kind kind ≡ here
+    → (1 ≤ last_of_kind kind ws → IsOfKind kind (write_at (last_of_kind kind ws) ws)) → 1 ≤ (if here then length (w ∷ ws) else last_of_kind kind ws)
+    → IsOfKind kind (write_at (if here then length (w ∷ ws) else last_of_kind kind ws) (w ∷ ws))
+unfolding write_at
+last_at true kind w ws same below some =
+    subst (λ (b : Bool). IsOfKind kind (if b then Some w else write_at (length (w ∷ ws)) ws)) (sym ((Decides-eqb (length (w ∷ ws)) (length (w ∷ ws))).1 refl)) (same_kind w.key.kind kind same)
+last_at false kind w ws other below some =
+    let low = last_low kind ws in
+    let later : (length (w ∷ ws) == last_of_kind kind ws) ≡ false = grind (arith, nat_tests) in
+    subst (λ (b : Bool). IsOfKind kind (if b then Some w else write_at (last_of_kind kind ws) ws)) (sym later) (below some)
+
+-- the last write of a kind, if there is one, is of the kind
+last_is : (kind : Kind) (ws : List Write) → 1 ≤ last_of_kind kind ws → IsOfKind kind (write_at (last_of_kind kind ws) ws)
+unfolding last_of_kind
+last_is kind [] some = absurd (omega (arith, some))
+last_is kind (w ∷ ws) some = last_at (kind_eq w.key.kind kind) kind w ws refl (last_is kind ws) some
+
+behind : (s : Setting) (h : List Entry) (role : Role) (kind : Kind) → runs s h role ≡ true → has_informer role kind ≡ true → held s h role kind ≡ false
+    → position h role kind < last_of_kind kind (writes s h) → IsBehind s h role kind
+behind s h role kind running informed free above =
+    let left = room s h 1 in
+    record {
+      answer = left.0;
+      answers = inr (running, inr (informed, inr (free, inr ((λ le. absurd (omega (arith, above, le))), inr ((above, last_is kind (writes s h) (omega (arith, above))), left.1)))));
+      accepted = left.2;
+    }
+
+told_by : (up : Bool) (s : Setting) (h : List Entry) (role : Role) (kind : Kind) → nat_le (last_of_kind kind (writes s h)) (position h role kind) ≡ up
+    → runs s h role ≡ true → has_informer role kind ≡ true → held s h role kind ≡ false → (IsBehind s h role kind → ⊥) → last_of_kind kind (writes s h) ≤ position h role kind
+told_by true s h role kind e running informed free none = grind (arith, nat_tests)
+told_by false s h role kind e running informed free none =
+    let above : position h role kind < last_of_kind kind (writes s h) = grind (arith, nat_tests) in
+    absurd (none (behind s h role kind running informed free above))
+
+told : (s : Setting) (h : List Entry) → HasNoDelivery s h → (role : Role) (kind : Kind) → runs s h role ≡ true → has_informer role kind ≡ true → held s h role kind ≡ false
+    → last_of_kind kind (writes s h) ≤ position h role kind
+told s h none role kind running informed free =
+    told_by (nat_le (last_of_kind kind (writes s h)) (position h role kind)) s h role kind refl running informed free (none role kind)
+
+-- ---- on which keys there is something to do
+
+-- on views of no Certificate and no CertificateRequest there is not
+no_work : (role : Role) (seen : Views) (now : ℤ) (by : Desk) → seen.certificate ≡ None → seen.request ≡ None → act role seen now by ≡ Nothing
+unfolding act trigger
+no_work Trigger seen now by certificate request = ap (for_option now seen.secret) certificate
+no_work KeyManager seen now by certificate request = refl
+no_work RequestManager seen now by certificate request = refl
+no_work Approver seen now by certificate request = refl
+no_work Issuer seen now by certificate request = refl
+no_work Issuing seen now by certificate request = refl
+no_work Readiness seen now by certificate request = refl
+no_work Revision seen now by certificate request = refl
+
+not_cached : {A : Type 0} (s : Setting) (h : List Entry) (role : Role) (kind : Kind) (f : Object → Option A) (key : Key) → kind_eq key.kind kind ≡ false
+    → option_and_then f (object_at (cache s h role kind) key) ≡ None
+not_cached s h role kind f key other =
+    let ws : List Write = oldest (position h role kind) (writes s h) in
+    ap (option_and_then f) (object_at-of_kind kind ws key ∙ ap (λ (b : Bool). cond b (object_at (contents ws) key) None) other)
+
+unseen_by : (requests : Bool) (key : Key) (c : Option Certificate) (r : Option CertificateRequest) → kind_eq key.kind (if requests then kinds.CertificateRequest else kinds.Certificate) ≡ false
+    → (kind_eq key.kind kinds.Certificate ≡ false → c ≡ None) → (kind_eq key.kind kinds.CertificateRequest ≡ false → r ≡ None)
+    → ((if requests then None else c) ≡ None) × ((if requests then r else None) ≡ None)
+unseen_by true key c r other certificate request = (refl, request other)
+unseen_by false key c r other certificate request = (certificate other, refl)
+
+-- of a key of another kind than its work a role sees neither
+unseen : (s : Setting) (h : List Entry) (role : Role) (key : Key) → kind_eq key.kind (kind_of_work role) ≡ false
+    → ((views s h role key).certificate ≡ None) × ((views s h role key).request ≡ None)
+unfolding views_in views_of
+unseen s h role key other =
+    unseen_by (works_on_requests role) key (certificate_at (cache s h role kinds.Certificate) key) (request_at (cache s h role kinds.CertificateRequest) key) other
+    (not_cached s h role kinds.Certificate certificate_in key) (not_cached s h role kinds.CertificateRequest request_in key)
+
+-- the role has something to do by what it sees of the key
+abbrev IsBusy : Setting → List Entry → Role → Key → Type 0
+IsBusy s h role key = IsIdle s h role (views s h role key) → ⊥
+
+work_by : (same : Bool) (s : Setting) (h : List Entry) (role : Role) (key : Key) → kind_eq key.kind (kind_of_work role) ≡ same → IsBusy s h role key → key.kind ≡ kind_of_work role
+work_by true s h role key is busy = same_kind key.kind (kind_of_work role) is
+work_by false s h role key is busy =
+    let none = unseen s h role key is in
+    absurd (busy (no_work role (views s h role key) (moment s h) (desk s h role (views s h role key)) none.0 none.1))
+
+work : (s : Setting) (h : List Entry) (role : Role) (key : Key) → IsBusy s h role key → key.kind ≡ kind_of_work role
+work s h role key busy = work_by (kind_eq key.kind (kind_of_work role)) s h role key refl busy
+
+-- ---- begins
+
+none_above : (o : Option ℕ) (own at : Positions) → own_above own at ≡ o → (own.certificates ≤ at.certificates) × (own.requests ≤ at.requests) × (own.secrets ≤ at.secrets) → o ≡ None
+none_above None own at is low = refl
+none_above (Some v) own at is low = absurd (not_all_told own at v is low)
+
+-- what is left of the table of begins where the role works on the key in no pass
+abbrev AnswersOwn : Setting → List Entry → Role → Key → Stepped → Option ℕ → Type 0
+AnswersOwn s h role key answer own =
+    BarOf own (λ version. NotNow (OwnWrite version)) answer
+    (Bar (IsSame (past s h role key).last (views s h role key) (moment s h) (positions h role)) (NotNow SameViews) answer
+    (Need (IsQueued s h role key) (NotNow NotQueued) answer (HasRoom s h 1 answer)))
+
+abbrev IsDueNow : Setting → List Entry → Role → Key → Type 0
+IsDueNow s h role key = IsDue (past s h role key) (views s h role key) (moment s h) (positions h role)
+
+idle_of : (s : Setting) (h : List Entry) (role : Role) (key : Key) → ((n : ℕ) → open_pass s h n ≡ None) → IsWorking s h role key → ⊥
+idle_of s h role key shut working = let free = ap (is_pass_of role key) (shut working.0) in absurd (cc (free, working.1))
+
+-- a role that runs and has something to do can begin, where it is due and no pass is open
+fits : (s : Setting) (h : List Entry) (role : Role) (key : Key) → runs s h role ≡ true → is_known key (writes s h) ≡ true → ((n : ℕ) → open_pass s h n ≡ None)
+    → IsBusy s h role key → IsDueNow s h role key → Fits s h role key
+fits s h role key running known shut busy due =
+    let left = room s h 1 in
+    let none : own_above (past s h role key).own (positions h role) ≡ None =
+    none_above (own_above (past s h role key).own (positions h role)) (past s h role key).own (positions h role) refl (due.certificates, due.requests, due.secrets) in
+    record {
+      possible = record {
+        answer = left.0;
+        answers = inr (running, inr (idle_of s h role key shut, subst (AnswersOwn s h role key left.0) (sym none) (inr (due.other, inr ((work s h role key busy, known), left.1)))));
+        accepted = left.2;
+      };
+      worth = inl busy;
+    }
+
+-- ---- a role that is told of all is due where it has something to do
+
+bound_by : (b : Bool) (n p : ℕ) → (b ≡ true → n ≤ p) → (if b then n else 0) ≤ (if b then p else 0)
+bound_by true n p le = le refl
+bound_by false n p le = omega arith
+
+known_told : (s : Setting) (h : List Entry) (role : Role) → IsToldOfAll s h role → (kind : Kind) → newest_known role kind (writes s h) ≤ position_of kind (positions h role)
+known_told s h role all kinds.Certificate = bound_by (has_informer role kinds.Certificate) (last_of_kind kinds.Certificate (writes s h)) (position h role kinds.Certificate) (all kinds.Certificate)
+known_told s h role all kinds.CertificateRequest = bound_by (has_informer role kinds.CertificateRequest) (last_of_kind kinds.CertificateRequest (writes s h)) (position h role kinds.CertificateRequest) (all kinds.CertificateRequest)
+known_told s h role all kinds.Secret = bound_by (has_informer role kinds.Secret) (last_of_kind kinds.Secret (writes s h)) (position h role kinds.Secret) (all kinds.Secret)
+
+own_told : (s : Setting) (h : List Entry) (role : Role) (key : Key) → IsRun s h → IsToldOfAll s h role → (kind : Kind) → position_of kind (past s h role key).own ≤ position_of kind (positions h role)
+own_told s h role key run all kind =
+    let low = own_low s h role key kind run.caused in
+    let known = known_told s h role all kind in
+    omega (arith, low, known)
+
+not_behind : (role : Role) (ws : List Write) (obstacle : Obstacle) (at : Positions) → IsLowObstacle role ws obstacle → ((kind : Kind) → newest_known role kind ws ≤ position_of kind at)
+    → IsStillBehind obstacle at → ⊥
+not_behind role ws Failure at low known late = late
+not_behind role ws (Newer kind version) at low known late = let up = known kind in absurd (omega (arith, low, up, late))
+
+not_alike : (role : Role) (ws : List Write) (before : Views) (since : ℤ) (ending : Ending) (seen : Views) (now : ℤ) (at : Positions) (by : Desk) → IsFairEnding role ws before since ending
+    → ((kind : Kind) → newest_known role kind ws ≤ position_of kind at) → (act role seen now by ≡ Nothing → ⊥) → before ≡ seen → EndsAlike ending since now at → ⊥
+not_alike role ws before since endings.Open seen now at by fair known busy same alike = alike
+not_alike role ws before since endings.Nothing seen now at by fair known busy same alike =
+    busy (subst (λ (v : Views). act role v now by ≡ Nothing) same (subst (λ (m : ℤ). act role before m by ≡ Nothing) alike (fair by)))
+not_alike role ws before since endings.Wrote seen now at by fair known busy same alike = alike
+not_alike role ws before since (endings.Refused obstacle) seen now at by fair known busy same alike = not_behind role ws obstacle at fair known alike
+
+-- a pass that has something to do would not be the last one again
+not_same : (role : Role) (ws : List Write) (last : Option LastPass) (seen : Views) (now : ℤ) (at : Positions) (by : Desk) → IsFairLast role ws last
+    → ((kind : Kind) → newest_known role kind ws ≤ position_of kind at) → (act role seen now by ≡ Nothing → ⊥) → IsSame last seen now at → ⊥
+not_same role ws None seen now at by fair known busy same = same
+not_same role ws (Some l) seen now at by fair known busy same = not_alike role ws l.seen l.since l.ending seen now at by fair known busy same.0 same.1
+
+due_told : (s : Setting) (h : List Entry) (role : Role) (key : Key) → IsRun s h → IsToldOfAll s h role → IsBusy s h role key → IsDueNow s h role key
+due_told s h role key run all busy = record {
+  certificates = own_told s h role key run all kinds.Certificate;
+  requests = own_told s h role key run all kinds.CertificateRequest;
+  secrets = own_told s h role key run all kinds.Secret;
+  other = not_same role (writes s h) (past s h role key).last (views s h role key) (moment s h) (positions h role) (desk s h role (views s h role key))
+      (last_fair s h role key run.legal run.caused) (known_told s h role all) busy;
+}
+
+-- ---- all roles rest
+
+is_nothing : (does : Act) → (does ≡ Nothing) ⊎ (does ≡ Nothing → ⊥)
+is_nothing Nothing = inl refl
+is_nothing (Calls call) = inr (λ is. absurd (cc is))
+is_nothing (Asks order) = inr (λ is. absurd (cc is))
+is_nothing (Issue plan) = inr (λ is. absurd (cc is))
+
+is_idle : (s : Setting) (h : List Entry) (role : Role) (key : Key) → IsIdle s h role (views s h role key) ⊎ IsBusy s h role key
+is_idle s h role key = is_nothing (act role (views s h role key) (moment s h) (desk s h role (views s h role key)))
+
+paused : (s : Setting) (h : List Entry) (role : Role) (key : Key) → (IsBusy s h role key → IsDueNow s h role key → ⊥) → IsIdle s h role (views s h role key) ⊎ IsBusy s h role key → IsPaused s h role key
+paused s h role key never (inl idle) = inl idle
+paused s h role key never (inr busy) = inr (never busy)
+
+served : (s : Setting) (h : List Entry) (role : Role) (key : Key) → IsRun s h → IsToldOfAll s h role → (IsBusy s h role key → IsDueNow s h role key → ⊥)
+    → IsIdle s h role (views s h role key) ⊎ IsBusy s h role key → IsIdle s h role (present_views s h role key)
+served s h role key run all never (inl idle) = subst (λ (v : Views). IsIdle s h role v) (views_newest s h role key run.legal all) idle
+served s h role key run all never (inr busy) = absurd (never busy (due_told s h role key run all busy))
+
+neither : (a b : Bool) → (a || b) ≡ false → (a ≡ false) × (b ≡ false)
+neither true b off = absurd (cc)
+neither false b off = (refl, off)
+
+none_held : (s : Setting) (h : List Entry) (role : Role) → has_held s h role ≡ false → (kind : Kind) → held s h role kind ≡ false
+none_held s h role none kinds.Certificate = (neither (held s h role kinds.Certificate) (held s h role kinds.CertificateRequest || held s h role kinds.Secret) none).0
+none_held s h role none kinds.CertificateRequest =
+    (neither (held s h role kinds.CertificateRequest) (held s h role kinds.Secret) (neither (held s h role kinds.Certificate) (held s h role kinds.CertificateRequest || held s h role kinds.Secret) none).1).0
+none_held s h role none kinds.Secret =
+    (neither (held s h role kinds.CertificateRequest) (held s h role kinds.Secret) (neither (held s h role kinds.Certificate) (held s h role kinds.CertificateRequest || held s h role kinds.Secret) none).1).1
+
+by_held : (b : Bool) (P Q : Type 0) → (b ≡ true → P) → (b ≡ false → Q) → MatchBool b P Q
+by_held true P Q back free = back refl
+by_held false P Q back free = free refl
+
+rests : (s : Setting) (h : List Entry) (role : Role) (key : Key) → IsRun s h → ((n : ℕ) → open_pass s h n ≡ None) → HasNoDelivery s h → ((r : Role) (k : Key) → Fits s h r k → ⊥)
+    → runs s h role ≡ true → is_known key (writes s h) ≡ true → RestsOn s h role key
+rests s h role key run shut no_delivery no_begin running known =
+    let never = λ (busy : IsBusy s h role key) (due : IsDueNow s h role key). no_begin role key (fits s h role key running known shut busy due) in
+    by_held (has_held s h role) (IsPaused s h role key) (IsIdle s h role (present_views s h role key))
+    (λ some. paused s h role key never (is_idle s h role key))
+    (λ none. served s h role key run (λ kind informed. told s h no_delivery role kind running informed (none_held s h role none kind)) never (is_idle s h role key))
+
+at_rest : (s : Setting) (h : List Entry) → IsRun s h → ((n : ℕ) → open_pass s h n ≡ None) → HasNoDelivery s h → ((r : Role) (k : Key) → Fits s h r k → ⊥) → IsAtRest s h
+at_rest s h run shut no_delivery no_begin = record {
+  closed = shut;
+  told = told s h no_delivery;
+  idle = λ role key running known. rests s h role key run shut no_delivery no_begin running known;
+}
+
+-- ---- all steps are made
+
+-- a step that waits is ready where all is at rest
+ready_step : (s : Setting) (h : List Entry) (step : Step) → IsAtRest s h → IsReady s h (Some step)
+ready_step s h (steps.Apply object version) rest = tt
+ready_step s h (steps.Delete key version) rest = tt
+ready_step s h (steps.Approve certificate revision) rest = tt
+ready_step s h (steps.Deny certificate revision) rest = tt
+ready_step s h (steps.Answer certificate revision row) rest = tt
+ready_step s h (steps.Renew certificate) rest = tt
+ready_step s h (steps.Tick seconds) rest = tt
+ready_step s h (steps.Stop role) rest = tt
+ready_step s h (steps.Start role behind) rest = tt
+ready_step s h (steps.Hold role kind) rest = tt
+ready_step s h (steps.Release role kind) rest = tt
+ready_step s h (steps.Until role kind writes) rest = inr rest
+ready_step s h steps.Settle rest = rest
+
+ready_at : (s : Setting) (h : List Entry) (i : ℕ) → i < length s.script → IsAtRest s h
+    → ((x : Step) × (i < length s.script) × (slice_get s.script i ≡ Some x) × (get_or s.script i x ≡ x)) ⊎ ((length s.script ≤ i) × (slice_get s.script i ≡ None))
+    → IsReady s h (slice_get s.script i)
+ready_at s h i left rest (inl found) = subst (IsReady s h) (sym found.2) (ready_step s h found.0 rest)
+ready_at s h i left rest (inr beyond) = absurd (omega (arith, left, beyond.0))
+
+script_goes : (s : Setting) (h : List Entry) → scripted h < length s.script → IsAtRest s h → IsPossible s h moves.Script
+script_goes s h left rest =
+    let i : ℕ = scripted h + 1 - 1 in
+    let within : i < length s.script = omega (arith, left) in
+    let more = room s h (entries_of (next_effect s h)) in
+    record {
+      answer = more.0;
+      answers = inr (left, inr (ready_at s h i within rest (slice_get_cases s.script i).1, more.1));
+      accepted = more.2;
+    }
+
+all_made : (left : Bool) (s : Setting) (h : List Entry) → nat_lt (scripted h) (length s.script) ≡ left → IsRun s h → HasNoScript s h → IsAtRest s h → scripted h ≡ length s.script
+all_made true s h e run none rest =
+    let left : scripted h < length s.script = grind (arith, nat_tests) in
+    absurd (none (script_goes s h left rest))
+all_made false s h e run none rest = let low = scripted_low s h run.follows in grind (arith, nat_tests)
+
+-- where nothing is owed and no step, no pass, no delivery and no begin can go on, all is finished
+pub nothing_left : (s : Setting) (h : List Entry) → IsRun s h → owed s h ≡ None → HasNoScript s h → HasNoPass s h → HasNoDelivery s h → ((role : Role) (key : Key) → Fits s h role key → ⊥)
+    → ((n : ℕ) (p : OpenPass) → open_pass s h n ≡ Some p → IsGoing s h n) → IsFinished s h
+nothing_left s h run settled no_script no_pass no_delivery no_begin going =
+    let rest = at_rest s h run (closed s h no_pass going) no_delivery no_begin in
+    record {
+      all_steps = all_made (nat_lt (scripted h) (length s.script)) s h refl run no_script rest;
+      all_effects = settled;
+      rest = rest;
+    }

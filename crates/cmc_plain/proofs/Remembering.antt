@@ -1,0 +1,460 @@
+-- What a role remembers of a key: its own writes, and a last pass that had nothing to do or was refused by what stands.
+use Rattle.std.proofs.Common.{◌≡◌, ◌==◌, ◌+◌, ℕ, ℤ, ◌≤◌, List, [], ◌∷◌, length, Option, Some, None, Bool, true, false, refl, sym, ap, subst, ◌∙◌, arith}
+use Rattle.std.proofs.lemmas.Bool.{and_parts, and_from}
+use Rattle.std.proofs.lemmas.Bool.Decides.{Decides-eqb}
+use Rattle.std.specs.Prelude.{◌&&◌, if◌then◌else◌, IfSome, option_map}
+use Rattle.cmc_meta.specs.declared.key.Key.{Key}
+use Rattle.cmc_meta.specs.declared.key.Kind.{Kind}
+use Rattle.cmc_meta.specs.declared.key.Kind.TheVariants as kinds
+use Rattle.cmc_meta.specs.Keys.{key_eq}
+use Rattle.cmc_objects.specs.declared.certificate.Certificate.{Certificate}
+use Rattle.cmc_objects.specs.declared.secret.Secret.{Secret as SecretObject}
+use Rattle.cmc_objects.specs.declared.call.Call.{Call}
+use Rattle.cmc_objects.specs.declared.call.Reply.{Reply}
+use Rattle.cmc_objects.specs.declared.call.Reply.TheVariants.{Ok, Unchanged, Found, Conflict, NotFound, AlreadyExists, Invalid, Unavailable}
+use Rattle.cmc_objects.specs.declared.role.Role.{Role}
+use Rattle.cmc_objects.specs.declared.role.Role.TheVariants.{Trigger, KeyManager, RequestManager, Approver, Issuer, Issuing, Readiness, Revision}
+use Rattle.cmc_objects.specs.declared.entry.Cause.{Cause}
+use Rattle.cmc_objects.specs.declared.entry.Positions.{Positions}
+use Rattle.cmc_objects.specs.declared.entry.Who.{Who}
+use Rattle.cmc_objects.specs.declared.entry.Who.TheVariants.{User, Pass}
+use Rattle.cmc_objects.specs.declared.entry.Entry.{Entry}
+use Rattle.cmc_objects.specs.declared.entry.Entry.TheVariants.{Script, Call as Called, Deliver, List as Listed, Begin, Ask, Made, Signed, Answered, Judged, End, Stop, Start, Tick}
+use Rattle.cmc_objects.specs.Roles.{role_rank}
+use Rattle.cmc_model.specs.declared.write.Write.{Write}
+use Rattle.cmc_model.specs.declared.pass.Views.{Views}
+use Rattle.cmc_model.specs.declared.pass.Desk.{Desk}
+use Rattle.cmc_model.specs.declared.pass.Act.{Act}
+use Rattle.cmc_model.specs.declared.pass.Act.TheVariants.{Nothing, Call as Calls, Ask as Asks, Issue}
+use Rattle.cmc_model.specs.declared.progress.Obstacle.{Obstacle}
+use Rattle.cmc_model.specs.declared.progress.Obstacle.TheVariants.{Failure, Newer}
+use Rattle.cmc_model.specs.declared.progress.OpenPass.{OpenPass}
+use Rattle.cmc_model.specs.declared.progress.Stage.{Stage}
+use Rattle.cmc_model.specs.declared.progress.Stage.TheVariants.{Fresh, Wrote, Refused, Barred}
+use Rattle.cmc_model.specs.declared.progress.Ending.{Ending}
+use Rattle.cmc_model.specs.declared.progress.Ending.TheVariants as endings
+use Rattle.cmc_model.specs.declared.progress.LastPass.{LastPass}
+use Rattle.cmc_model.specs.declared.progress.Past.{Past}
+use Rattle.cmc_model.specs.Replies.{is_accepted, key_of_call}
+use Rattle.cmc_model.specs.Histories.{Setting, moment, state, accepted, role_eq}
+use Rattle.cmc_model.specs.Writes.{writes, write_of, last_of_kind, last_under}
+use Rattle.cmc_model.specs.Positions.{has_informer, position_of}
+use Rattle.cmc_model.specs.Viewing.{views}
+use Rattle.cmc_model.specs.Desks.{desk}
+use Rattle.cmc_model.specs.Facts.{trigger_reason}
+use Rattle.cmc_model.specs.Triggering.{is_issuing, is_backing_off, issue_call, for_reason, frame_of, for_certificate, for_option, trigger}
+use Rattle.cmc_model.specs.Acts.{act}
+use Rattle.cmc_model.specs.Passes.{open_pass, called, new_pass, stage_by, stage_after, with_stage, past, past_called, no_past, with_begin, with_own, with_position, with_ending, ending_at, ending_of, is_pass_of}
+use Rattle.cmc_model.specs.Legality.{IsLegal}
+use Rattle.cmc_model.specs.Causes.{act_of, IsCaused, IsFirstCall, IsNextCall, MayCall, EndsBy, MayEnd}
+use Rattle.cmc_model.proofs.Writes.{writes_count}
+use Rattle.cmc_world.proofs.Carrying.{over_call, over_begin, over_end, over_stop}
+use Rattle.cmc_world.proofs.PlainActs.{act_desk}
+use Rattle.cmc_world.proofs.Rest.{same_key, key_eq-refl}
+use Rattle.cmc_world.proofs.Standings.{same_role}
+use Rattle.cmc_plain.proofs.Newer.{last_here, under_low, newest_known, known_more, known_grown, known_is, IsLowReply, low_reply}
+
+-- ---- which kinds roles write
+
+-- a call is on an object of a kind that the role looks at
+abbrev pub WritesKnown : Role → Act → Type 0
+WritesKnown role Nothing = Unit {0}
+WritesKnown role (Calls call) = has_informer role (key_of_call call).kind ≡ true
+WritesKnown role (Asks order) = Unit {0}
+WritesKnown role (Issue plan) = Unit {0}
+
+known_unless : (b : Bool) (does : Act) → WritesKnown Trigger does → WritesKnown Trigger (if b then Nothing else does)
+known_unless true does known = tt
+known_unless false does known = known
+
+known_option : (now : ℤ) (secret : Option SecretObject) (c : Option Certificate) → WritesKnown Trigger (for_option now secret c)
+unfolding for_certificate issue_call
+known_option now secret None = tt
+known_option now secret (Some c) =
+    known_unless (is_issuing c) (for_reason now c (trigger_reason (frame_of now c) secret))
+    (elim (trigger_reason (frame_of now c) secret) as (λ r. WritesKnown Trigger (for_reason now c r)) [
+      | None ↦ tt
+      | Some given ↦ known_unless (is_backing_off c.status now) (issue_call now given c) refl
+    ])
+
+-- it is so of each role: the trigger writes the status of Certificates, the others write nothing yet
+pub writes_known : (role : Role) (seen : Views) (now : ℤ) (desk : Desk) → WritesKnown role (act role seen now desk)
+unfolding act trigger
+writes_known Trigger seen now desk = known_option now seen.secret seen.certificate
+writes_known KeyManager seen now desk = tt
+writes_known RequestManager seen now desk = tt
+writes_known Approver seen now desk = tt
+writes_known Issuer seen now desk = tt
+writes_known Issuing seen now desk = tt
+writes_known Readiness seen now desk = tt
+writes_known Revision seen now desk = tt
+
+first_known : (role : Role) (does : Act) (call : Call) → WritesKnown role does → IsFirstCall does call → has_informer role (key_of_call call).kind ≡ true
+first_known role Nothing call known first = absurd first
+first_known role (Calls one) call known first = ap (λ (c : Call). has_informer role (key_of_call c).kind) first ∙ known
+first_known role (Asks order) call known first = absurd first
+first_known role (Issue plan) call known first = absurd first
+
+next_known : (role : Role) (stage : Stage) (does : Act) (call : Call) → WritesKnown role does → IsNextCall stage does call → has_informer role (key_of_call call).kind ≡ true
+next_known role Fresh does call known next = first_known role does call known next
+next_known role Wrote does call known next = absurd next
+next_known role (Refused entry obstacle) does call known next = absurd next
+next_known role Barred does call known next = absurd next
+
+pass_known : (s : Setting) (h : List Entry) (p : OpenPass) (call : Call) → IsNextCall p.stage (act_of s h p) call → has_informer p.role (key_of_call call).kind ≡ true
+pass_known s h p call next = next_known p.role p.stage (act_of s h p) call (writes_known p.role p.seen p.since (desk s h p.role p.seen)) next
+
+-- a call of a pass of the role is on a kind that it looks at
+call_known : (s : Setting) (h : List Entry) (role : Role) (key : Key) (call : Call) (p : Option OpenPass) → is_pass_of role key p ≡ true → MayCall s h p call
+    → has_informer role (key_of_call call).kind ≡ true
+call_known s h role key call None is may = absurd may
+call_known s h role key call (Some p) is may =
+    ap (λ (r : Role). has_informer r (key_of_call call).kind) (sym (same_role p.role role (and_parts _ _ is).0)) ∙ pass_known s h p call may
+
+-- ---- own writes
+
+placed_low : (written kind : Kind) (version bound : ℕ) (own : Positions) → (written ≡ kind → version ≤ bound) → position_of kind own ≤ bound
+    → position_of kind (with_position written version own) ≤ bound
+placed_low kinds.Certificate kinds.Certificate version bound own new old = new refl
+placed_low kinds.Certificate kinds.CertificateRequest version bound own new old = old
+placed_low kinds.Certificate kinds.Secret version bound own new old = old
+placed_low kinds.CertificateRequest kinds.Certificate version bound own new old = old
+placed_low kinds.CertificateRequest kinds.CertificateRequest version bound own new old = new refl
+placed_low kinds.CertificateRequest kinds.Secret version bound own new old = old
+placed_low kinds.Secret kinds.Certificate version bound own new old = old
+placed_low kinds.Secret kinds.CertificateRequest version bound own new old = old
+placed_low kinds.Secret kinds.Secret version bound own new old = new refl
+
+no_own : (kind : Kind) (bound : ℕ) → position_of kind no_past.own ≤ bound
+no_own kinds.Certificate bound = omega arith
+no_own kinds.CertificateRequest bound = omega arith
+no_own kinds.Secret bound = omega arith
+
+own_written : (ok mine : Bool) (role : Role) (kind : Kind) (w : Write) (ws : List Write) (n : ℕ) (p : Past) → length ws ≡ n → (mine ≡ true → has_informer role w.key.kind ≡ true)
+    → position_of kind p.own ≤ newest_known role kind ws
+    → position_of kind (if ok && mine then with_own w.key.kind (n + 1) p else p).own ≤ newest_known role kind (if ok then w ∷ ws else ws)
+own_written false mine role kind w ws n p count known low = low
+own_written true false role kind w ws n p count known low = let more = known_more role kind w ws in omega (arith, low, more)
+own_written true true role kind w ws n p count known low =
+    placed_low w.key.kind kind (n + 1) (newest_known role kind (w ∷ ws)) p.own
+    (λ same.
+    let last : last_of_kind kind (w ∷ ws) ≡ length (w ∷ ws) = last_here kind w ws same in
+    let is : newest_known role kind (w ∷ ws) ≡ last_of_kind kind (w ∷ ws) = known_is role kind (w ∷ ws) (ap (has_informer role) (sym same) ∙ known refl) in
+    omega (arith, last, is, count))
+    (let more = known_more role kind w ws in omega (arith, low, more))
+
+own_started : (b : Bool) (kind : Kind) (bound : ℕ) (p : Past) → position_of kind p.own ≤ bound → position_of kind (if b then no_past else p).own ≤ bound
+own_started true kind bound p low = no_own kind bound
+own_started false kind bound p low = low
+
+own_begun : (b : Bool) (kind : Kind) (bound : ℕ) (seen : Views) (since : ℤ) (p : Past) → position_of kind p.own ≤ bound → position_of kind (if b then with_begin seen since p else p).own ≤ bound
+own_begun true kind bound seen since p low = low
+own_begun false kind bound seen since p low = low
+
+own_ended : (b : Bool) (kind : Kind) (bound : ℕ) (ending : Ending) (p : Past) → position_of kind p.own ≤ bound → position_of kind (if b then with_ending ending p else p).own ≤ bound
+own_ended true kind bound ending p low = low
+own_ended false kind bound ending p low = low
+
+-- each own write is at most the last write of its kind, which the role looks at
+pub own_low : (s : Setting) (h : List Entry) (role : Role) (key : Key) (kind : Kind) → IsCaused s h
+    → position_of kind (past s h role key).own ≤ newest_known role kind (writes s h)
+unfolding IsCaused
+own_low s [] role key kind caused = no_own kind (newest_known role kind [])
+own_low s (Script step ∷ h) role key kind caused = own_low s h role key kind caused.1
+own_low s (Called User call reply ∷ h) role key kind caused =
+    let low = own_low s h role key kind caused.1 in
+    let more = known_grown (is_accepted reply) role kind (write_of (moment s h) (state s h) call) (writes s h) in
+    omega (arith, low, more)
+own_low s (Called (Pass pass) call reply ∷ h) role key kind caused =
+    own_written (is_accepted reply) (is_pass_of role key (open_pass s h pass)) role kind (write_of (moment s h) (state s h) call) (writes s h) (accepted s h) (past s h role key) (writes_count s h)
+    (λ mine. call_known s h role key call (open_pass s h pass) mine caused.0) (own_low s h role key kind caused.1)
+own_low s (Deliver who what to ∷ h) role key kind caused = own_low s h role key kind caused.1
+own_low s (Listed who what to ∷ h) role key kind caused = own_low s h role key kind caused.1
+own_low s (Begin pass who at told now ∷ h) role key kind caused =
+    own_begun (role_eq who role && key_eq at key) kind (newest_known role kind (writes s h)) (views s h who at) now (past s h role key) (own_low s h role key kind caused.1)
+own_low s (Ask pass order ∷ h) role key kind caused = own_low s h role key kind caused.1
+own_low s (Made pass made ∷ h) role key kind caused = own_low s h role key kind caused.1
+own_low s (Signed pass signature ∷ h) role key kind caused = own_low s h role key kind caused.1
+own_low s (Answered pass answer ∷ h) role key kind caused = own_low s h role key kind caused.1
+own_low s (Judged pass approved ∷ h) role key kind caused = own_low s h role key kind caused.1
+own_low s (End pass cause ∷ h) role key kind caused =
+    own_ended (is_pass_of role key (open_pass s h pass)) kind (newest_known role kind (writes s h)) (ending_of (open_pass s h pass)) (past s h role key) (own_low s h role key kind caused.1)
+own_low s (Stop who ∷ h) role key kind caused = own_low s h role key kind caused.1
+own_low s (Start who at ∷ h) role key kind caused =
+    own_started (role_eq who role) kind (newest_known role kind (writes s h)) (past s h role key) (own_low s h role key kind caused.1)
+own_low s (Tick now ∷ h) role key kind caused = own_low s h role key kind caused.1
+
+-- ---- what refuses calls
+
+-- what refused is at most the last write of a kind that the role looks at
+abbrev pub IsLowObstacle : Role → List Write → Obstacle → Type 0
+IsLowObstacle role ws Failure = Unit {0}
+IsLowObstacle role ws (Newer kind version) = version ≤ newest_known role kind ws
+
+abbrev pub IsLowStage : Role → List Write → Stage → Type 0
+IsLowStage role ws Fresh = Unit {0}
+IsLowStage role ws Wrote = Unit {0}
+IsLowStage role ws (Refused entry obstacle) = IsLowObstacle role ws obstacle
+IsLowStage role ws Barred = Unit {0}
+
+abbrev pub HasLowStage : List Write → OpenPass → Type 0
+HasLowStage ws p = IsLowStage p.role ws p.stage
+
+grown_obstacle : (b : Bool) (role : Role) (w : Write) (ws : List Write) (obstacle : Obstacle) → IsLowObstacle role ws obstacle → IsLowObstacle role (if b then w ∷ ws else ws) obstacle
+grown_obstacle b role w ws Failure low = tt
+grown_obstacle b role w ws (Newer kind version) low = let more = known_grown b role kind w ws in omega (arith, low, more)
+
+grown_stage : (b : Bool) (role : Role) (w : Write) (ws : List Write) (stage : Stage) → IsLowStage role ws stage → IsLowStage role (if b then w ∷ ws else ws) stage
+grown_stage b role w ws Fresh low = tt
+grown_stage b role w ws Wrote low = tt
+grown_stage b role w ws (Refused entry obstacle) low = grown_obstacle b role w ws obstacle low
+grown_stage b role w ws Barred low = tt
+
+grown_pass : (b : Bool) (w : Write) (ws : List Write) (p : Option OpenPass) → IfSome p (HasLowStage ws) → IfSome p (HasLowStage (if b then w ∷ ws else ws))
+grown_pass b w ws None low = tt
+grown_pass b w ws (Some p) low = grown_stage b p.role w ws p.stage low
+
+stage_low : (entry last : ℕ) (role : Role) (kind : Kind) (ws : List Write) (reply : Reply) → has_informer role kind ≡ true → last ≤ last_of_kind kind ws → IsLowReply (last_of_kind kind ws) reply
+    → IsLowStage role ws (stage_by entry kind last reply)
+stage_low entry last role kind ws (Ok version name) known below low = tt
+stage_low entry last role kind ws (Unchanged version) known below low = tt
+stage_low entry last role kind ws (Found object) known below low = let is = known_is role kind ws known in omega (arith, is, low)
+stage_low entry last role kind ws (Conflict named have) known below low = let is = known_is role kind ws known in omega (arith, is, low)
+stage_low entry last role kind ws (NotFound at) known below low = let is = known_is role kind ws known in omega (arith, is, below)
+stage_low entry last role kind ws (AlreadyExists have) known below low = let is = known_is role kind ws known in omega (arith, is, low)
+stage_low entry last role kind ws (Invalid rule) known below low = tt
+stage_low entry last role kind ws (Unavailable number) known below low = tt
+
+stage_called : (s : Setting) (h : List Entry) (call : Call) (reply : Reply) (p : Option OpenPass) → IsLowReply (last_of_kind (key_of_call call).kind (writes s h)) reply → MayCall s h p call
+    → IfSome (option_map (with_stage (stage_after s h call reply)) p) (HasLowStage (writes s h))
+stage_called s h call reply None low may = tt
+stage_called s h call reply (Some p) low may =
+    stage_low (length h + 1) (last_under (key_of_call call) (writes s h)) p.role (key_of_call call).kind (writes s h) reply (pass_known s h p call may)
+    (under_low (key_of_call call) (writes s h)) low
+
+pass_called : (own : Bool) (s : Setting) (h : List Entry) (n pass : ℕ) (call : Call) (reply : Reply) → (n == pass) ≡ own → IsLowReply (last_of_kind (key_of_call call).kind (writes s h)) reply
+    → MayCall s h (open_pass s h pass) call → IfSome (open_pass s h n) (HasLowStage (writes s h))
+    → IfSome (if own then option_map (with_stage (stage_after s h call reply)) (open_pass s h n) else open_pass s h n) (HasLowStage (writes s h))
+pass_called true s h n pass call reply is low may old =
+    let same : pass ≡ n = sym ((Decides-eqb n pass).0 is) in
+    stage_called s h call reply (open_pass s h n) low (subst (λ (m : ℕ). MayCall s h (open_pass s h m) call) same may)
+pass_called false s h n pass call reply is low may old = old
+
+-- what refused the call of an open pass
+pub refused_low : (s : Setting) (h : List Entry) (n : ℕ) → IsLegal s h → IsCaused s h → IfSome (open_pass s h n) (HasLowStage (writes s h))
+unfolding IsLegal IsCaused
+refused_low s [] n legal caused = tt
+refused_low s (Script step ∷ h) n legal caused = refused_low s h n legal.1 caused.1
+refused_low s (Called User call reply ∷ h) n legal caused =
+    grown_pass (is_accepted reply) (write_of (moment s h) (state s h) call) (writes s h) (open_pass s h n) (refused_low s h n legal.1 caused.1)
+refused_low s (Called (Pass pass) call reply ∷ h) n legal caused =
+    grown_pass (is_accepted reply) (write_of (moment s h) (state s h) call) (writes s h) (called n (Pass pass) (stage_after s h call reply) (open_pass s h n))
+    (pass_called (n == pass) s h n pass call reply refl (low_reply s h call reply legal.1 legal.0.0) caused.0 (refused_low s h n legal.1 caused.1))
+refused_low s (Deliver role kind to ∷ h) n legal caused = refused_low s h n legal.1 caused.1
+refused_low s (Listed role kind to ∷ h) n legal caused = refused_low s h n legal.1 caused.1
+refused_low s (Begin pass role key at now ∷ h) n legal caused =
+    over_begin (HasLowStage (writes s h)) (n == pass) (new_pass role key (views s h role key) now) (open_pass s h n) tt (refused_low s h n legal.1 caused.1)
+refused_low s (Ask pass order ∷ h) n legal caused = refused_low s h n legal.1 caused.1
+refused_low s (Made pass key ∷ h) n legal caused = refused_low s h n legal.1 caused.1
+refused_low s (Signed pass signature ∷ h) n legal caused = refused_low s h n legal.1 caused.1
+refused_low s (Answered pass answer ∷ h) n legal caused = refused_low s h n legal.1 caused.1
+refused_low s (Judged pass approved ∷ h) n legal caused = refused_low s h n legal.1 caused.1
+refused_low s (End pass cause ∷ h) n legal caused = over_end (HasLowStage (writes s h)) (n == pass) (open_pass s h n) (refused_low s h n legal.1 caused.1)
+refused_low s (Stop role ∷ h) n legal caused = over_stop (HasLowStage (writes s h)) role (open_pass s h n) (refused_low s h n legal.1 caused.1)
+refused_low s (Start role at ∷ h) n legal caused = refused_low s h n legal.1 caused.1
+refused_low s (Tick now ∷ h) n legal caused = refused_low s h n legal.1 caused.1
+
+-- ---- what is remembered of an open pass
+
+-- the last pass, if one is remembered, saw this at this moment
+abbrev pub IsRemembered : Views → ℤ → Option LastPass → Type 0
+IsRemembered seen since None = Unit {0}
+IsRemembered seen since (Some l) = (l.seen ≡ seen) × (l.since ≡ since)
+
+abbrev pub RemembersPass : Setting → List Entry → OpenPass → Type 0
+RemembersPass s h p = IsRemembered p.seen p.since (past s h p.role p.key).last
+
+last_called : (s : Setting) (h : List Entry) (role : Role) (key : Key) (p : Past) (who : Who) (kind : Kind) (ok : Bool) → (past_called s h role key p who kind ok).last ≡ p.last
+last_called s h role key p User kind ok = refl
+last_called s h role key p (Pass pass) kind ok = kept (ok && is_pass_of role key (open_pass s h pass)) where
+  kept : (b : Bool) → (if b then with_own kind (accepted s h + 1) p else p).last ≡ p.last
+  kept true = refl
+  kept false = refl
+
+remembered_ending : (seen : Views) (since : ℤ) (ending : Ending) (l : Option LastPass) → IsRemembered seen since l
+    → IsRemembered seen since (option_map (λ (l : LastPass). record l { ending = ending }) l)
+remembered_ending seen since ending None same = tt
+remembered_ending seen since ending (Some l) same = same
+
+remembered_ended : (b : Bool) (seen : Views) (since : ℤ) (ending : Ending) (p : Past) → IsRemembered seen since p.last
+    → IsRemembered seen since (if b then with_ending ending p else p).last
+remembered_ended true seen since ending p same = remembered_ending seen since ending p.last same
+remembered_ended false seen since ending p same = same
+
+remembered_started : (b : Bool) (seen : Views) (since : ℤ) (p : Past) → IsRemembered seen since p.last → IsRemembered seen since (if b then no_past else p).last
+remembered_started true seen since p same = tt
+remembered_started false seen since p same = same
+
+-- a fact about the pass, if one is open, from another one about it
+carried : (P Q : OpenPass → Type 0) (o : Option OpenPass) → ((p : OpenPass) → o ≡ Some p → P p → Q p) → IfSome o P → IfSome o Q
+carried P Q None each holds = tt
+carried P Q (Some p) each holds = each p refl holds
+
+remembered_called : (s : Setting) (h : List Entry) (who : Who) (call : Call) (reply : Reply) (p : Option OpenPass) → IfSome p (RemembersPass s h)
+    → IfSome p (RemembersPass s (Called who call reply ∷ h))
+remembered_called s h who call reply p holds =
+    carried (RemembersPass s h) (RemembersPass s (Called who call reply ∷ h)) p
+    (λ q is same. subst (IsRemembered q.seen q.since) (sym (last_called s h q.role q.key (past s h q.role q.key) who (key_of_call call).kind (is_accepted reply))) same) holds
+
+same_pass : (role : Role) (key : Key) (p : OpenPass) → (role_eq role p.role && key_eq key p.key) ≡ true → is_pass_of role key (Some p) ≡ true
+same_pass role key p is =
+    let role_is : role ≡ p.role = same_role role p.role (and_parts _ _ is).0 in
+    let key_is : key ≡ p.key = same_key key p.key (and_parts _ _ is).1 in
+    and_from _ _ ((Decides-eqb (role_rank p.role) (role_rank role)).1 (ap role_rank (sym role_is)))
+    (subst (λ (k : Key). key_eq p.key k ≡ true) (sym key_is) (key_eq-refl p.key))
+
+begun_other : (b : Bool) (role : Role) (key : Key) (p : OpenPass) (seen : Views) (since : ℤ) (old : Past) → (role_eq role p.role && key_eq key p.key) ≡ b
+    → is_pass_of role key (Some p) ≡ false → IsRemembered p.seen p.since old.last → IsRemembered p.seen p.since (if b then with_begin seen since old else old).last
+begun_other true role key p seen since old is free same = absurd (let mine = same_pass role key p is in cc (mine, free))
+begun_other false role key p seen since old is free same = same
+
+begun_itself : (b : Bool) (seen : Views) (since : ℤ) (old : Past) → b ≡ true → IsRemembered seen since (if b then with_begin seen since old else old).last
+begun_itself true seen since old is = (refl, refl)
+begun_itself false seen since old is = absurd (cc)
+
+itself : (role : Role) (key : Key) → (role_eq role role && key_eq key key) ≡ true
+itself role key = and_from _ _ ((Decides-eqb (role_rank role) (role_rank role)).1 refl) (key_eq-refl key)
+
+remembered_begun : (s : Setting) (h : List Entry) (n pass : ℕ) (role : Role) (key : Key) (at : Positions) (now : ℤ) → is_pass_of role key (open_pass s h n) ≡ false
+    → IfSome (open_pass s h n) (RemembersPass s h)
+    → IfSome (if n == pass then Some (new_pass role key (views s h role key) now) else open_pass s h n) (RemembersPass s (Begin pass role key at now ∷ h))
+remembered_begun s h n pass role key at now free holds =
+    over_begin (RemembersPass s (Begin pass role key at now ∷ h)) (n == pass) (new_pass role key (views s h role key) now) (open_pass s h n)
+    (begun_itself (role_eq role role && key_eq key key) (views s h role key) now (past s h role key) (itself role key))
+    (carried (RemembersPass s h) (RemembersPass s (Begin pass role key at now ∷ h)) (open_pass s h n)
+    (λ p is same.
+    begun_other (role_eq role p.role && key_eq key p.key) role key p (views s h role key) now (past s h p.role p.key) refl
+    (ap (is_pass_of role key) (sym is) ∙ free) same) holds)
+
+-- the role remembers of an open pass what it saw, unless it started since
+pub remembered : (s : Setting) (h : List Entry) (n : ℕ) → IsLegal s h → IfSome (open_pass s h n) (RemembersPass s h)
+unfolding IsLegal
+remembered s [] n legal = tt
+remembered s (Script step ∷ h) n legal = remembered s h n legal.1
+remembered s (Called who call reply ∷ h) n legal =
+    remembered_called s h who call reply (called n who (stage_after s h call reply) (open_pass s h n))
+    (over_call (RemembersPass s h) n who (stage_after s h call reply) (open_pass s h n) (λ p same. same) (remembered s h n legal.1))
+remembered s (Deliver role kind to ∷ h) n legal = remembered s h n legal.1
+remembered s (Listed role kind to ∷ h) n legal = remembered s h n legal.1
+remembered s (Begin pass role key at now ∷ h) n legal = remembered_begun s h n pass role key at now (legal.0.free n) (remembered s h n legal.1)
+remembered s (Ask pass order ∷ h) n legal = remembered s h n legal.1
+remembered s (Made pass key ∷ h) n legal = remembered s h n legal.1
+remembered s (Signed pass signature ∷ h) n legal = remembered s h n legal.1
+remembered s (Answered pass answer ∷ h) n legal = remembered s h n legal.1
+remembered s (Judged pass approved ∷ h) n legal = remembered s h n legal.1
+remembered s (End pass cause ∷ h) n legal =
+    over_end (RemembersPass s (End pass cause ∷ h)) (n == pass) (open_pass s h n)
+    (carried (RemembersPass s h) (RemembersPass s (End pass cause ∷ h)) (open_pass s h n)
+    (λ p is same. remembered_ended (is_pass_of p.role p.key (open_pass s h pass)) p.seen p.since (ending_of (open_pass s h pass)) (past s h p.role p.key) same)
+    (remembered s h n legal.1))
+remembered s (Stop role ∷ h) n legal = over_stop (RemembersPass s h) role (open_pass s h n) (remembered s h n legal.1)
+remembered s (Start role at ∷ h) n legal =
+    carried (RemembersPass s h) (RemembersPass s (Start role at ∷ h)) (open_pass s h n)
+    (λ p is same. remembered_started (role_eq role p.role) p.seen p.since (past s h p.role p.key) same) (remembered s h n legal.1)
+remembered s (Tick now ∷ h) n legal = remembered s h n legal.1
+
+-- ---- how the last pass ended
+
+-- a pass that ended with nothing had nothing to do, and one that was refused was so by a write that the role can be told of
+abbrev pub IsFairEnding : Role → List Write → Views → ℤ → Ending → Type 0
+IsFairEnding role ws seen since endings.Open = Unit {0}
+IsFairEnding role ws seen since endings.Nothing = (d : Desk) → act role seen since d ≡ Nothing
+IsFairEnding role ws seen since endings.Wrote = Unit {0}
+IsFairEnding role ws seen since (endings.Refused obstacle) = IsLowObstacle role ws obstacle
+
+abbrev pub IsFairPass : Role → List Write → LastPass → Type 0
+IsFairPass role ws l = IsFairEnding role ws l.seen l.since l.ending
+
+abbrev pub IsFairLast : Role → List Write → Option LastPass → Type 0
+IsFairLast role ws last = IfSome last (IsFairPass role ws)
+
+grown_ending : (b : Bool) (role : Role) (w : Write) (ws : List Write) (seen : Views) (since : ℤ) (ending : Ending) → IsFairEnding role ws seen since ending
+    → IsFairEnding role (if b then w ∷ ws else ws) seen since ending
+grown_ending b role w ws seen since endings.Open fair = tt
+grown_ending b role w ws seen since endings.Nothing fair = fair
+grown_ending b role w ws seen since endings.Wrote fair = tt
+grown_ending b role w ws seen since (endings.Refused obstacle) fair = grown_obstacle b role w ws obstacle fair
+
+grown_last : (b : Bool) (role : Role) (w : Write) (ws : List Write) (last : Option LastPass) → IsFairLast role ws last → IsFairLast role (if b then w ∷ ws else ws) last
+grown_last b role w ws None fair = tt
+grown_last b role w ws (Some l) fair = grown_ending b role w ws l.seen l.since l.ending fair
+
+fair_begun : (b : Bool) (role : Role) (ws : List Write) (seen : Views) (since : ℤ) (p : Past) → IsFairLast role ws p.last → IsFairLast role ws (if b then with_begin seen since p else p).last
+fair_begun true role ws seen since p fair = tt
+fair_begun false role ws seen since p fair = fair
+
+fair_started : (b : Bool) (role : Role) (ws : List Write) (p : Past) → IsFairLast role ws p.last → IsFairLast role ws (if b then no_past else p).last
+fair_started true role ws p fair = tt
+fair_started false role ws p fair = fair
+
+-- the ending of a pass that may end so
+fair_stage : (role : Role) (ws : List Write) (seen : Views) (since : ℤ) (by : Desk) (stage : Stage) (cause : Cause) → IsLowStage role ws stage → EndsBy stage (act role seen since by) cause
+    → IsFairEnding role ws seen since (ending_at stage)
+fair_stage role ws seen since by Fresh cause low ends = λ d. act_desk role seen since d by ∙ ends.0
+fair_stage role ws seen since by Wrote cause low ends = tt
+fair_stage role ws seen since by (Refused entry obstacle) cause low ends = low
+fair_stage role ws seen since by Barred cause low ends = tt
+
+fair_same : (role : Role) (ws : List Write) (l : LastPass) (seen : Views) (since : ℤ) (ending : Ending) → (l.seen ≡ seen) × (l.since ≡ since) → IsFairEnding role ws seen since ending
+    → IsFairPass role ws (record l { ending = ending })
+fair_same role ws l seen since ending same fair =
+    subst (λ (v : Views). IsFairEnding role ws v l.since ending) (sym same.0)
+    (subst (λ (m : ℤ). IsFairEnding role ws seen m ending) (sym same.1) fair)
+
+fair_last_by : (role : Role) (ws : List Write) (seen : Views) (since : ℤ) (ending : Ending) (last : Option LastPass) → IsRemembered seen since last → IsFairEnding role ws seen since ending
+    → IsFairLast role ws (option_map (λ (l : LastPass). record l { ending = ending }) last)
+fair_last_by role ws seen since ending None same fair = tt
+fair_last_by role ws seen since ending (Some l) same fair = fair_same role ws l seen since ending same fair
+
+-- the end of the pass, by which role it is
+fair_end_of : (s : Setting) (h : List Entry) (role : Role) (key : Key) (cause : Cause) (p : OpenPass) → p.role ≡ role → p.key ≡ key → MayEnd s h (Some p) cause
+    → IsLowStage p.role (writes s h) p.stage → RemembersPass s h p
+    → IsFairLast role (writes s h) (with_ending (ending_at p.stage) (past s h role key)).last
+fair_end_of s h role key cause p role_is key_is ends low same =
+    subst (λ (r : Role). IsFairLast r (writes s h) (with_ending (ending_at p.stage) (past s h r key)).last) role_is
+    (subst (λ (k : Key). IsFairLast p.role (writes s h) (with_ending (ending_at p.stage) (past s h p.role k)).last) key_is
+    (fair_last_by p.role (writes s h) p.seen p.since (ending_at p.stage) (past s h p.role p.key).last same
+    (fair_stage p.role (writes s h) p.seen p.since (desk s h p.role p.seen) p.stage cause low ends)))
+
+fair_ended : (b : Bool) (s : Setting) (h : List Entry) (role : Role) (key : Key) (cause : Cause) (p : Option OpenPass) → is_pass_of role key p ≡ b → MayEnd s h p cause
+    → IfSome p (HasLowStage (writes s h)) → IfSome p (RemembersPass s h) → IsFairLast role (writes s h) (past s h role key).last
+    → IsFairLast role (writes s h) (if b then with_ending (ending_of p) (past s h role key) else past s h role key).last
+fair_ended false s h role key cause p is ends low same fair = fair
+fair_ended true s h role key cause None is ends low same fair = absurd ends
+fair_ended true s h role key cause (Some p) is ends low same fair =
+    fair_end_of s h role key cause p (same_role p.role role (and_parts _ _ is).0) (same_key p.key key (and_parts _ _ is).1) ends low same
+
+-- the last pass of the role on the key ended fairly
+pub last_fair : (s : Setting) (h : List Entry) (role : Role) (key : Key) → IsLegal s h → IsCaused s h → IsFairLast role (writes s h) (past s h role key).last
+unfolding IsLegal IsCaused
+last_fair s [] role key legal caused = tt
+last_fair s (Script step ∷ h) role key legal caused = last_fair s h role key legal.1 caused.1
+last_fair s (Called who call reply ∷ h) role key legal caused =
+    subst (IsFairLast role (writes s (Called who call reply ∷ h))) (sym (last_called s h role key (past s h role key) who (key_of_call call).kind (is_accepted reply)))
+    (grown_last (is_accepted reply) role (write_of (moment s h) (state s h) call) (writes s h) (past s h role key).last (last_fair s h role key legal.1 caused.1))
+last_fair s (Deliver who kind to ∷ h) role key legal caused = last_fair s h role key legal.1 caused.1
+last_fair s (Listed who kind to ∷ h) role key legal caused = last_fair s h role key legal.1 caused.1
+last_fair s (Begin pass who at told now ∷ h) role key legal caused =
+    fair_begun (role_eq who role && key_eq at key) role (writes s h) (views s h who at) now (past s h role key) (last_fair s h role key legal.1 caused.1)
+last_fair s (Ask pass order ∷ h) role key legal caused = last_fair s h role key legal.1 caused.1
+last_fair s (Made pass made ∷ h) role key legal caused = last_fair s h role key legal.1 caused.1
+last_fair s (Signed pass signature ∷ h) role key legal caused = last_fair s h role key legal.1 caused.1
+last_fair s (Answered pass answer ∷ h) role key legal caused = last_fair s h role key legal.1 caused.1
+last_fair s (Judged pass approved ∷ h) role key legal caused = last_fair s h role key legal.1 caused.1
+last_fair s (End pass cause ∷ h) role key legal caused =
+    fair_ended (is_pass_of role key (open_pass s h pass)) s h role key cause (open_pass s h pass) refl caused.0 (refused_low s h pass legal.1 caused.1) (remembered s h pass legal.1)
+    (last_fair s h role key legal.1 caused.1)
+last_fair s (Stop who ∷ h) role key legal caused = last_fair s h role key legal.1 caused.1
+last_fair s (Start who at ∷ h) role key legal caused =
+    fair_started (role_eq who role) role (writes s h) (past s h role key) (last_fair s h role key legal.1 caused.1)
+last_fair s (Tick now ∷ h) role key legal caused = last_fair s h role key legal.1 caused.1
