@@ -66,9 +66,39 @@ fn end_of(alloc: Global, input: &str) -> Result<String, AllocError> {
     }
 }
 
-/// The input of a row: `@` stands for the Certificate of the rows.
+/// What stands behind the spec of the Certificate once an issuance was asked for.
+const ASKED: &str =
+    r#","status":{"conditions":[{"lastTransitionTime":"2030-01-01T00:00:00Z","message":"Certificate must be issued: ?","reason":"?","status":"True","type":"Issuing"}]}}"#;
+
+/// The Secret that `$` stands for in the rows, and the same as it is printed.
+const KEYED: &str =
+    r#"{"apiVersion":"v1","data":{"tls.key":"AAAA"},"kind":"Secret","metadata":{"name":"web-tls","namespace":"default"}}"#;
+
+const PRINTED: &str =
+    r#"{"apiVersion":"v1","data":{"tls.key":"AAAA"},"kind":"Secret","metadata":{"name":"web-tls","namespace":"default"},"type":"Opaque"}"#;
+
+/// The Certificate of the rows, asked to be issued for this reason.
+fn asked(alloc: Global, reason: &str) -> Result<String, AllocError> {
+    let status = ASKED.replace(alloc, "?", reason)?;
+    let mut object = String::from_str(alloc, WEB)?;
+    let _ = object.pop();
+    object.push_str(status.as_str())?;
+    Ok(object)
+}
+
+/// The input of a row: `@` stands for the Certificate of the rows, `$` and `%` for its Secret, and
+/// `#REASON#` for the Certificate that is asked to be issued.
 fn filled(alloc: Global, row: &str) -> Result<String, AllocError> {
-    row.replace(alloc, "@", WEB)
+    let row = row.replace(alloc, "@", WEB)?;
+    let row = row.as_str().replace(alloc, "$", KEYED)?;
+    let row = row.as_str().replace(alloc, "%", PRINTED)?;
+    let absent = asked(alloc, "DoesNotExist")?;
+    let row = row
+        .as_str()
+        .replace(alloc, "#DoesNotExist#", absent.as_str())?;
+    let missing = asked(alloc, "MissingData")?;
+    row.as_str()
+        .replace(alloc, "#MissingData#", missing.as_str())
 }
 
 fn assert_written(
@@ -82,6 +112,67 @@ fn assert_written(
     let ended = run_on(alloc, input.as_str())?;
     assert!(rt; matches!(ended.status, Status::Done));
     assert!(rt; ended.written.as_slice() == expected.as_bytes());
+    Ok(())
+}
+
+#[test]
+fn writes_the_rows_of_the_trigger(rt: HostRuntime) -> Result<(), Fail> {
+    let alloc = rt.alloc();
+    // A Certificate whose Secret does not stand is asked to be issued, once.
+    assert_written(
+        &rt,
+        alloc,
+        r#"{"roles":["trigger"],"script":[{"do":"apply","object":@}]}"#,
+        r#"{"scenario":{"roles":["trigger"],"script":[{"do":"apply","object":@}]}}
+{"is":"script","n":1,"step":1}
+{"call":"create","is":"call","key":"Certificate/default/web","n":2,"object":@,"reply":{"name":"web","ok":1},"who":"user"}
+{"is":"deliver","kind":"Certificate","n":3,"role":"trigger","to":1}
+{"at":{"Certificate":1,"CertificateRequest":0,"Secret":0},"is":"begin","key":"default/web","n":4,"now":"2030-01-01T00:00:00Z","pass":1,"role":"trigger"}
+{"call":"updateStatus","is":"call","key":"Certificate/default/web","n":5,"object":#DoesNotExist#,"reply":{"ok":2},"version":1,"who":1}
+{"cause":"wrote","is":"end","n":6,"pass":1}
+{"is":"deliver","kind":"Certificate","n":7,"role":"trigger","to":2}
+{"summary":{"certificates":1,"ready":0,"secrets":0,"waiting":[{"certificate":"default/web","wait":"stopped"}]}}
+"#,
+    )?;
+    // With a Secret that has a key alone, the reason is another.
+    assert_written(
+        &rt,
+        alloc,
+        r#"{"roles":["trigger"],"script":[{"do":"apply","object":$},{"do":"apply","object":@}]}"#,
+        r#"{"scenario":{"roles":["trigger"],"script":[{"do":"apply","object":$},{"do":"apply","object":@}]}}
+{"is":"script","n":1,"step":1}
+{"call":"create","is":"call","key":"Secret/default/web-tls","n":2,"object":%,"reply":{"name":"web-tls","ok":1},"who":"user"}
+{"is":"script","n":3,"step":2}
+{"call":"create","is":"call","key":"Certificate/default/web","n":4,"object":@,"reply":{"name":"web","ok":2},"who":"user"}
+{"is":"deliver","kind":"Certificate","n":5,"role":"trigger","to":2}
+{"is":"deliver","kind":"Secret","n":6,"role":"trigger","to":1}
+{"at":{"Certificate":2,"CertificateRequest":0,"Secret":1},"is":"begin","key":"default/web","n":7,"now":"2030-01-01T00:00:00Z","pass":1,"role":"trigger"}
+{"call":"updateStatus","is":"call","key":"Certificate/default/web","n":8,"object":#MissingData#,"reply":{"ok":3},"version":2,"who":1}
+{"cause":"wrote","is":"end","n":9,"pass":1}
+{"is":"deliver","kind":"Certificate","n":10,"role":"trigger","to":3}
+{"summary":{"certificates":1,"ready":0,"secrets":1,"waiting":[{"certificate":"default/web","wait":"stopped"}]}}
+"#,
+    )?;
+    // A script that settles goes on when the trigger has nothing to do any more.
+    assert_written(
+        &rt,
+        alloc,
+        r#"{"roles":["trigger","trigger"],"script":[{"do":"apply","object":@},{"do":"settle"},{"do":"delete","key":"Certificate/default/web"}]}"#,
+        r#"{"scenario":{"roles":["trigger","trigger"],"script":[{"do":"apply","object":@},{"do":"settle"},{"do":"delete","key":"Certificate/default/web"}]}}
+{"is":"script","n":1,"step":1}
+{"call":"create","is":"call","key":"Certificate/default/web","n":2,"object":@,"reply":{"name":"web","ok":1},"who":"user"}
+{"is":"deliver","kind":"Certificate","n":3,"role":"trigger","to":1}
+{"at":{"Certificate":1,"CertificateRequest":0,"Secret":0},"is":"begin","key":"default/web","n":4,"now":"2030-01-01T00:00:00Z","pass":1,"role":"trigger"}
+{"call":"updateStatus","is":"call","key":"Certificate/default/web","n":5,"object":#DoesNotExist#,"reply":{"ok":2},"version":1,"who":1}
+{"cause":"wrote","is":"end","n":6,"pass":1}
+{"is":"deliver","kind":"Certificate","n":7,"role":"trigger","to":2}
+{"is":"script","n":8,"step":2}
+{"is":"script","n":9,"step":3}
+{"call":"delete","is":"call","key":"Certificate/default/web","n":10,"reply":{"ok":3},"who":"user"}
+{"is":"deliver","kind":"Certificate","n":11,"role":"trigger","to":3}
+{"summary":{"certificates":0,"ready":0,"secrets":0,"waiting":[]}}
+"#,
+    )?;
     Ok(())
 }
 
@@ -199,6 +290,14 @@ const WHOLE: [(&str, &str); 22] = [
     ("1.5", ""),
     (r#"{"script":[]}"#, "roles"),
     (r#"{"roles":[1.5]}"#, "roles.0"),
+    (r#"{"roles":"trigger"}"#, "roles"),
+    (r#"{"roles":["trigger","keymanager"]}"#, "roles.1"),
+    (r#"{"roles":["Trigger"]}"#, "roles.0"),
+    (r#"{"roles":["trigger"],"script":[{"do":"settle"}]}"#, "done"),
+    (
+        r#"{"roles":[],"script":[{"a":1,"do":"settle"}]}"#,
+        "script.0.a",
+    ),
     (r#"{"roles":[1],"a":1}"#, "a"),
     (r#"{"roles":[1],"z":1}"#, "roles.0"),
     (r#"{"roles":[],"script":{}}"#, "script"),
