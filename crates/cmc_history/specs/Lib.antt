@@ -1,2 +1,3 @@
 pub mod Told
 pub mod Places
+pub mod Replaying

@@ -1,8 +1,13 @@
 ghost use Rattle.std.specs.Option.{option_copied};
-ghost use Rattle.std.specs.Prelude.{◌≡◌, ◌+◌, ◌-◌, ◌<◌, ◌≤◌, ◌∷◌, [], OnOk, OnErr, None, length, reverse, slice_get, if◌then◌else◌, nat_eq};
+ghost use Rattle.std.specs.Prelude.{◌≡◌, ◌+◌, ◌-◌, ◌<◌, ◌≤◌, ◌∷◌, [], IfOk, OnOk, OnErr, None, length, reverse, slice_get, if◌then◌else◌, nat_eq};
+ghost use Rattle.cmc_model.specs.Histories.{Setting};
+ghost use Rattle.cmc_model.specs.Objects.{object_at};
+ghost use Rattle.cmc_model.specs.Writes.{objects_at};
 ghost use Rattle.cmc_history.specs.Places.{entry_at};
 
-use cmc_objects::Entry;
+use crate::standing::{Standing, replay};
+use cmc_meta::Key;
+use cmc_objects::{Entry, Object};
 use std::alloc::{AllocError, Global};
 use std::marker::Model;
 
@@ -79,5 +84,25 @@ impl History {
         ensures { reverse result.now ≡ self.now.entries }
     {
         self.items.as_slice()
+    }
+
+    /// The object under the key after the first `position` accepted writes; `None` where none stands there.
+    /// The run began at the moment `now`, in seconds since 1970-01-01T00:00:00Z: what a create stores depends on it.
+    /// `Err` where there is no memory.
+    pub fn at_version(
+        &self,
+        alloc: Global,
+        now: i64,
+        key: &Key,
+        position: u64,
+    ) -> Result<Option<Object>, AllocError>
+        ensures { IfOk result (λ o. (s : Setting) → s.now ≡ now → o ≡ object_at (objects_at s self.now.entries position) key.now) }
+    {
+        let Standing {
+            moment: _,
+            accepted: _,
+            object,
+        } = replay(alloc, self.as_slice(), now, key, position)?;
+        Ok(object)
     }
 }

@@ -2,5 +2,6 @@
 #![tactic(auto)]
 
 mod history;
+mod standing;
 
 pub use history::History;

@@ -1,7 +1,7 @@
 // What a create, an update and a status update make of objects.
 ghost use Rattle.std.specs.Prelude.{◌≡◌, IfOk};
 ghost use Rattle.cmc_model.specs.Specs.{keeps_spec, cert_spec_eq, request_spec_eq};
-ghost use Rattle.cmc_model.specs.Stored.{new_meta, created, merged_meta, updated, with_status, generation_after, numbered};
+ghost use Rattle.cmc_model.specs.Stored.{new_meta, created, merged_meta, updated, with_status, generation_after, numbered, revised, restated};
 ghost use Rattle.cmc_store.specs.Changes.{IsRevision, IsRestatement};
 
 use cmc_meta::ObjectMeta;
@@ -32,7 +32,8 @@ fn fresh_meta(
     })
 }
 
-/// What a create stores as this version.
+/// What a create of the object stores as this version at the moment `now`: its uid is the version, its
+/// status is empty. `Err` where there is no memory.
 #[tactic(auto, unfolding(cmc_model::specs::Stored::created))]
 pub fn make(alloc: Global, object: &Object, version: u64, now: i64) -> Result<Object, AllocError>
     ensures { IfOk result (λ o. o ≡ created version now object.now) }
@@ -201,4 +202,24 @@ pub fn restate(old: &Object, object: &Object, version: u64) -> Result<Option<Obj
         let generation = old.meta().generation;
         Ok(Some(renumber(new, version, generation)))
     }
+}
+
+/// What an accepted update of the object that stands stores as this version, whether it changes the object or not.
+/// `Err` where there is no memory.
+pub fn revision(old: &Object, object: &Object, version: u64) -> Result<Object, AllocError>
+    ensures { IfOk result (λ o. o ≡ revised version old.now object.now) }
+{
+    let new = merge(old, object)?;
+    let generation = next_generation(old, &new);
+    Ok(renumber(new, version, generation))
+}
+
+/// What an accepted status update of the object that stands stores as this version, whether it changes the object
+/// or not. `Err` where there is no memory.
+pub fn restatement(old: &Object, object: &Object, version: u64) -> Result<Object, AllocError>
+    ensures { IfOk result (λ o. o ≡ restated version old.now object.now) }
+{
+    let new = merge_status(old, object)?;
+    let generation = old.meta().generation;
+    Ok(renumber(new, version, generation))
 }

@@ -8,5 +8,6 @@ mod shelf;
 mod store;
 
 pub use calls::Replied;
+pub use changes::{make, restatement, revision};
 pub use shelf::Shelf;
 pub use store::Store;

@@ -1,5 +1,5 @@
 -- What a world holds after a pass has begun.
-use Rattle.std.proofs.Common.{◌≡◌, ℕ, ℤ, ◌+◌, Bool, true, false, List, ◌∷◌, length, Option, Some, None, refl, sym, ap, subst, ◌∙◌, arith}
+use Rattle.std.proofs.Common.{◌≡◌, ℕ, ℤ, ◌+◌, Bool, true, false, List, ◌∷◌, length, Option, Some, refl, sym, ap, subst, ◌∙◌, arith}
 use Rattle.std.specs.Prelude.{◌==◌, ◌&&◌, ◌≤◌, if◌then◌else◌}
 use Rattle.cmc_meta.specs.declared.key.Key.{Key}
 use Rattle.cmc_meta.specs.Keys.{key_eq}
@@ -11,10 +11,10 @@ use Rattle.cmc_model.specs.declared.pass.Views.{Views}
 use Rattle.cmc_model.specs.declared.progress.OpenPass.{OpenPass}
 use Rattle.cmc_model.specs.declared.progress.Origin.{Origin}
 use Rattle.cmc_model.specs.declared.progress.Past.{Past}
-use Rattle.cmc_model.specs.Histories.{Setting, moment, incarnation, role_eq}
+use Rattle.cmc_model.specs.Histories.{Setting, moment, role_eq}
 use Rattle.cmc_model.specs.Positions.{positions}
 use Rattle.cmc_model.specs.Viewing.{views, views_in}
-use Rattle.cmc_model.specs.Passes.{open_pass, begun, past, origins, new_pass, is_pass_of, with_begin}
+use Rattle.cmc_model.specs.Passes.{open_pass, begun, past, new_pass, is_pass_of, with_begin}
 use Rattle.cmc_model.specs.Legality.{IsBegin}
 use Rattle.cmc_model.proofs.Positions.{begun_short}
 use Rattle.cmc_held.specs.declared.standings.Standing.{Standing}
@@ -23,7 +23,7 @@ use Rattle.cmc_held.specs.Sight.{caches_at}
 use Rattle.cmc_held.proofs.Behind.{due_by_tests}
 use Rattle.cmc_world.specs.declared.beginning.Prepared.{Prepared}
 use Rattle.cmc_world.specs.declared.moves.Stepped.TheVariants.{Done}
-use Rattle.cmc_world.specs.Answers.{IsWorking, AnswersBegin, beginning}
+use Rattle.cmc_world.specs.Answers.{AnswersBegin, beginning}
 use Rattle.cmc_world.specs.Kept.{Holdings, IsKept}
 use Rattle.cmc_world.specs.Prepared.{IsPrepared}
 use Rattle.cmc_world.proofs.Events.{kept_begun}

@@ -1,5 +1,5 @@
 -- What a world holds after a pass has made its call, or has ended.
-use Rattle.std.proofs.Common.{◌≡◌, ℕ, ℤ, ◌+◌, ◌-◌, ◌<◌, ◌≤◌, ◌^◌, Bool, List, ◌∷◌, length, Option, Some, None, refl, sym, ap, subst, ◌∙◌, arith}
+use Rattle.std.proofs.Common.{◌≡◌, ℕ, ℤ, ◌+◌, ◌-◌, ◌<◌, ◌≤◌, ◌^◌, List, ◌∷◌, length, Option, None, refl, sym, ap, subst, ◌∙◌, arith}
 use Rattle.std.specs.Prelude.{◌==◌, ◌&&◌, if◌then◌else◌, option_map}
 use Rattle.cmc_meta.specs.declared.key.Key.{Key}
 use Rattle.cmc_meta.specs.declared.key.Kind.{Kind}
@@ -19,9 +19,9 @@ use Rattle.cmc_model.specs.declared.progress.OpenPass.{OpenPass}
 use Rattle.cmc_model.specs.declared.progress.Past.{Past}
 use Rattle.cmc_model.specs.Replies.{State, IsReply, is_accepted, key_of_call, key_written, object_written, state_after}
 use Rattle.cmc_model.specs.Histories.{Setting, moment, state, accepted, role_eq}
-use Rattle.cmc_model.specs.Writes.{writes, write_of, last_under}
+use Rattle.cmc_model.specs.Writes.{write_of}
 use Rattle.cmc_model.specs.Positions.{position_of}
-use Rattle.cmc_model.specs.Passes.{open_pass, stage_by, stage_after, with_stage, with_own, with_ending}
+use Rattle.cmc_model.specs.Passes.{open_pass, stage_by, stage_after, with_stage, with_ending}
 use Rattle.cmc_model.specs.Causes.{MayCall, MayEnd}
 use Rattle.cmc_model.specs.Following.{written}
 use Rattle.cmc_model.proofs.Writes.{writes_count}
@@ -30,9 +30,8 @@ use Rattle.cmc_held.specs.declared.standings.Standing.{Standing}
 use Rattle.cmc_world.specs.declared.going.Calling.{Calling}
 use Rattle.cmc_world.specs.declared.going.Closing.{Closing}
 use Rattle.cmc_world.specs.Acting.{IsCalling, IsClosing}
-use Rattle.cmc_world.specs.Changes.{writing}
 use Rattle.cmc_world.specs.Noting.{logged, counted, noted, CanCount}
-use Rattle.cmc_world.specs.Kept.{standing, Holdings, IsHeld, IsKept}
+use Rattle.cmc_world.specs.Kept.{standing, Holdings, IsKept}
 use Rattle.cmc_world.proofs.Counts.{logged_called, counted_called, noted_called, written_short}
 use Rattle.cmc_world.proofs.Events.{kept_called, kept_ended}
 

@@ -28,7 +28,7 @@ use Rattle.cmc_held.proofs.Told.{views-told}
 use Rattle.cmc_held.specs.declared.standings.Standing.{Standing}
 use Rattle.cmc_held.specs.Dues.{own_above, shown_positions}
 use Rattle.cmc_held.specs.Sight.{caches_at}
-use Rattle.cmc_world.specs.Kept.{standing, Holdings, IsKept}
+use Rattle.cmc_world.specs.Kept.{Holdings, IsKept}
 use Rattle.cmc_world.proofs.Dated.{dated_views, dated_present}
 
 -- ---- what is seen

@@ -14,7 +14,7 @@ use Rattle.cmc_model.specs.declared.write.Write.{Write}
 use Rattle.cmc_model.specs.declared.progress.OpenPass.{OpenPass}
 use Rattle.cmc_model.specs.declared.progress.Origin.{Origin}
 use Rattle.cmc_model.specs.declared.progress.Past.{Past}
-use Rattle.cmc_model.specs.Histories.{Setting, moment, accepted, runs, incarnation}
+use Rattle.cmc_model.specs.Histories.{Setting, moment, accepted}
 use Rattle.cmc_model.specs.Writes.{writes, write_at, last_of_kind, is_known}
 use Rattle.cmc_model.specs.Positions.{has_informer, kind_of_work, position, positions, position_of}
 use Rattle.cmc_model.specs.Viewing.{views, views_in}
@@ -29,7 +29,7 @@ use Rattle.cmc_held.proofs.Told.{views-told}
 use Rattle.cmc_model.proofs.Writes.{writes_count}
 use Rattle.cmc_world.specs.declared.moves.Stepped.{Stepped}
 use Rattle.cmc_world.specs.declared.moves.Stepped.TheVariants.{Done}
-use Rattle.cmc_world.specs.Kept.{standing, Holdings, IsHeld, IsKept}
+use Rattle.cmc_world.specs.Kept.{standing, Holdings, IsKept}
 use Rattle.cmc_world.specs.Answers.{IsNews, delivered, IsWorking, IsQueued, outdated, AnswersDelivery, AnswersBegin, AnswersNext}
 use Rattle.cmc_world.specs.Tables.{delivery_answer, begin_answer, next_answer}
 use Rattle.cmc_world.proofs.Tables.{Decides, decided, delivery_answers, begin_answers, next_answers, may_deliver}

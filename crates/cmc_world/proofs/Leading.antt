@@ -1,6 +1,6 @@
 -- Lists of moves keep what each step keeps.
-use Rattle.std.proofs.Common.{◌≡◌, ◌∙◌, ◌+◌, Bool, true, false, List, [], ◌∷◌, ◌++◌, Option, Some, None, refl, sym, ap, subst, arith}
-use Rattle.std.specs.Prelude.{MatchBool, MatchOption}
+use Rattle.std.proofs.Common.{◌≡◌, ◌∙◌, ◌+◌, List, [], ◌∷◌, ◌++◌, Option, Some, None, refl, sym, ap, subst, arith}
+use Rattle.std.specs.Prelude.{MatchOption}
 use Rattle.cmc_objects.specs.declared.entry.Entry.{Entry}
 use Rattle.cmc_objects.specs.declared.entry.Entry.TheVariants.{Script}
 use Rattle.cmc_model.specs.declared.effect.Effect.{Effect}
@@ -18,7 +18,7 @@ use Rattle.cmc_world.specs.declared.moves.Stepped.{Stepped}
 use Rattle.cmc_world.specs.declared.moves.Stepped.TheVariants.{Done, NotNow, Ended, Spent}
 use Rattle.cmc_world.specs.Answers.{IsEffect, next_effect, delivered, beginning, Grows, Leaves}
 use Rattle.cmc_world.specs.Kept.{setting_of}
-use Rattle.cmc_world.specs.Leading.{IsStep, Lead, Extends}
+use Rattle.cmc_world.specs.Leading.{Lead, Extends}
 
 pub begins_as_run : (s : Setting) → IsRun s []
 unfolding IsLegal IsCaused Follows

@@ -20,7 +20,7 @@ use Rattle.cmc_model.specs.declared.write.Write.{Write}
 use Rattle.cmc_model.specs.declared.progress.OpenPass.{OpenPass}
 use Rattle.cmc_model.specs.declared.progress.Past.{Past}
 use Rattle.cmc_model.specs.Replies.{State, IsReply, is_accepted, key_written, object_written, state_after}
-use Rattle.cmc_model.specs.Histories.{Setting, moment, state, objects, accepted, incarnation, role_eq}
+use Rattle.cmc_model.specs.Histories.{Setting, moment, state, objects, accepted, role_eq}
 use Rattle.cmc_model.specs.Writes.{write_of}
 use Rattle.cmc_model.specs.Passes.{unless_of, no_past}
 use Rattle.cmc_model.specs.Scripting.{scripted, step_at}

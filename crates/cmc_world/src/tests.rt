@@ -159,6 +159,28 @@ fn last_steps(alloc: Global, steps: &mut Steps) -> Result<(), Fail> {
     Ok(())
 }
 
+fn scenario_of(
+    roles: Roles,
+    faults: Numbers,
+    approver: Rules,
+    material: Material,
+    script: Steps,
+) -> Result<Scenario, Fail> {
+    if is_setup(45, 2, 1_893_456_000, &roles, &faults, &script) {
+        return Ok(Scenario::new(
+            45,
+            2,
+            1_893_456_000,
+            roles,
+            faults,
+            approver,
+            material,
+            script,
+        ));
+    }
+    Err(Fail::from("no scenario"))
+}
+
 fn scenario(alloc: Global) -> Result<Scenario, Fail> {
     let mut steps = Steps::new(alloc);
     first_steps(alloc, &mut steps)?;
@@ -172,19 +194,7 @@ fn scenario(alloc: Global) -> Result<Scenario, Fail> {
         issuers: Texts::new(alloc),
         refuse: Texts::new(alloc),
     };
-    if !is_setup(45, 2, 1_893_456_000, &roles, &faults, &steps) {
-        return Err(Fail::from("no scenario"));
-    }
-    Ok(Scenario::new(
-        45,
-        2,
-        1_893_456_000,
-        roles,
-        faults,
-        approver,
-        Material::new(alloc),
-        steps,
-    ))
+    scenario_of(roles, faults, approver, Material::new(alloc), steps)
 }
 
 /// A number below `bound`, of a linear congruential generator.

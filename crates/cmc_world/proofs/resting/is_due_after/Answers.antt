@@ -1,7 +1,5 @@
-use Rattle.std.proofs.Common.{sym, rules, w64, ◌∙◌, ◌≡◌, false, true}
+use Rattle.std.proofs.Common.{sym, rules, w64, ◌∙◌}
 use Rattle.std.proofs.lemmas.Int.{to_z-of_z}
-use Rattle.std.proofs.lemmas.Bool.{not-true}
-use Rattle.std.specs.Prelude.{is_some}
 use Rattle.cmc_world.proofs.Idling.{due_unless_same, not_due_untold, none_told}
 use Rattle.cmc_world.proofs.resting.is_due_after.Goals as goal
 

@@ -1,10 +1,7 @@
-use Rattle.std.proofs.Common.{◌≡◌, sym, subst, Option, Some, IfOk}
-use Rattle.cmc_model.specs.declared.progress.OpenPass.{OpenPass}
-use Rattle.cmc_model.specs.Passes.{open_pass}
+use Rattle.std.proofs.Common.{sym, subst, IfOk}
 use Rattle.cmc_world.specs.Kept.{Seen, setting_of}
 use Rattle.cmc_world.specs.Acting.{IsDoing}
 use Rattle.cmc_world.proofs.Doing.{dated_of, served_of, doing_is}
-use Rattle.cmc_world.proofs.Judging.{opened_is}
 use Rattle.cmc_world.proofs.world.World.doing.Goals as goal
 
 pub doing_of-requires-clause-dated : goal.doing_of-requires-clause-dated

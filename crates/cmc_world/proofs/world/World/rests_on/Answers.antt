@@ -1,4 +1,4 @@
-use Rattle.std.proofs.Common.{sym, ◌∙◌, true}
+use Rattle.std.proofs.Common.{sym, true}
 use Rattle.cmc_world.specs.Kept.{setting_of}
 use Rattle.cmc_world.proofs.Idling.{rests_on_by}
 use Rattle.cmc_world.proofs.world.World.rests_on.Goals as goal

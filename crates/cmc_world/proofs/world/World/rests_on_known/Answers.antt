@@ -1,6 +1,4 @@
 use Rattle.std.proofs.Common.{◌≡◌, subst}
-use Rattle.std.specs.Prelude.{◌↔◌, IsTrue, IfOk}
-use Rattle.std.specs.List.{All}
 use Rattle.cmc_model.specs.declared.write.Write.{Write}
 use Rattle.cmc_model.specs.Resting.{RestsOn}
 use Rattle.cmc_model.specs.Writes.{writes}

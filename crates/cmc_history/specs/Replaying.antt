@@ -1,0 +1,67 @@
+-- What stands under one key as the entries of a run are read in order of time, up to a number of accepted writes.
+use Rattle.std.specs.Prelude.{ℕ, ℤ, ◌+◌, nat_lt, List, [], ◌∷◌, Option, Some, None, if◌then◌else◌}
+use Rattle.cmc_meta.specs.declared.key.Key.{Key}
+use Rattle.cmc_meta.specs.Keys.{key_eq}
+use Rattle.cmc_objects.specs.declared.object.Object.{Object}
+use Rattle.cmc_objects.specs.declared.call.Call.{Call}
+use Rattle.cmc_objects.specs.declared.call.Call.TheVariants.{Create, Update, UpdateStatus, Delete, Get}
+use Rattle.cmc_objects.specs.declared.entry.Entry.{Entry}
+use Rattle.cmc_objects.specs.declared.entry.Entry.TheVariants.{Script, Call as Called, Deliver, List as Listed, Begin, Ask, Made, Signed, Answered, Judged, End, Stop, Start, Tick}
+use Rattle.cmc_model.specs.Stored.{created, revised, restated}
+use Rattle.cmc_model.specs.Replies.{is_accepted, key_of_call, from_old}
+use Rattle.cmc_model.specs.Histories.{moment_with}
+use Rattle.cmc_history.specs.declared.standing.Standing.{Standing}
+
+-- the call of an entry that is an accepted write
+abbrev pub written_call : Entry → Option Call
+written_call (Script step) = None
+written_call (Called who call reply) = if is_accepted reply then Some call else None
+written_call (Deliver role kind to) = None
+written_call (Listed role kind to) = None
+written_call (Begin pass role key at now) = None
+written_call (Ask pass order) = None
+written_call (Made pass key) = None
+written_call (Signed pass signature) = None
+written_call (Answered pass answer) = None
+written_call (Judged pass approved) = None
+written_call (End pass cause) = None
+written_call (Stop role) = None
+written_call (Start role at) = None
+written_call (Tick now) = None
+
+-- what the call, accepted as this version, leaves under its own key, where this stood there
+abbrev pub stored_over : ℕ → ℤ → Option Object → Call → Option Object
+stored_over version now old (Create object) = Some (created version now object)
+stored_over version now old (Update object named) = from_old (λ o. revised version o object) old
+stored_over version now old (UpdateStatus object named) = from_old (λ o. restated version o object) old
+stored_over version now old (Delete key named) = None
+stored_over version now old (Get key) = old
+
+-- what it leaves under this key
+abbrev pub written_over : Key → ℕ → ℤ → Option Object → Call → Option Object
+written_over key version now old call = if key_eq key (key_of_call call) then stored_over version now old call else old
+
+-- one accepted write more, but no more than so many
+abbrev pub count_after : ℕ → ℕ → Option Call → ℕ
+count_after position n None = n
+count_after position n (Some call) = if nat_lt n position then n + 1 else n
+
+-- the object after an accepted write, if it is among the first so many
+abbrev pub object_after : ℕ → Key → Standing → Option Call → Option Object
+object_after position key standing None = standing.object
+object_after position key standing (Some call) =
+    if nat_lt standing.accepted position then written_over key (standing.accepted + 1) standing.moment standing.object call else standing.object
+
+-- one entry more is read
+abbrev pub standing_after : ℕ → Key → Standing → Entry → Standing
+standing_after position key standing e =
+    record {
+      moment = moment_with standing.moment e;
+      accepted = count_after position standing.accepted (written_call e);
+      object = object_after position key standing (written_call e);
+    }
+
+-- the entries, the newest first, are read from the moment of the beginning on
+abbrev pub replayed : ℤ → ℕ → Key → List Entry → Standing
+replayed now position key [] = record { moment = now; accepted = 0; object = None }
+replayed now position key (e ∷ h) = standing_after position key (replayed now position key h) e

@@ -1,0 +1,187 @@
+// What stands under one key as the entries of a run are read in order of time.
+ghost use Rattle.std.specs.Option.{option_copied};
+ghost use Rattle.std.specs.Prelude.{◌≡◌, reverse, IfOk};
+ghost use Rattle.cmc_meta.specs.Keys.{key_eq};
+ghost use Rattle.cmc_objects.specs.Objects.{key_of};
+ghost use Rattle.cmc_model.specs.Histories.{moment_with};
+ghost use Rattle.cmc_model.specs.Replies.{is_accepted, key_of_call, from_old};
+ghost use Rattle.cmc_model.specs.Stored.{revised, restated};
+ghost use Rattle.cmc_history.specs.Replaying.{written_call, stored_over, written_over, standing_after, replayed};
+
+use cmc_meta::Key;
+use cmc_objects::{Call, Entry, Object, Reply};
+use cmc_store::{make, restatement, revision};
+use std::alloc::{AllocError, Global};
+
+/// What the entries that were read come to for one key.
+#[derive(Drop)]
+pub struct Standing {
+    /// The moment of the last tick, or of the beginning.
+    pub moment: i64,
+    /// How many of the first accepted writes were read.
+    pub accepted: u64,
+    /// The object that they leave under the key.
+    pub object: Option<Object>,
+}
+
+fn is_ok(reply: &Reply) -> bool
+    ensures { result ≡ is_accepted reply.now }
+{
+    matches!(reply, Reply::Ok { .. })
+}
+
+fn call_of_write(entry: &Entry) -> Option<&Call>
+    ensures { option_copied result ≡ written_call entry.now }
+{
+    match entry {
+        Entry::Call { call, reply, .. } if is_ok(reply) => Some(call),
+        _ => None,
+    }
+}
+
+fn moment_after(entry: &Entry, before: i64) -> i64
+    ensures { result ≡ moment_with before entry.now }
+{
+    match entry {
+        Entry::Tick { now } => *now,
+        _ => before,
+    }
+}
+
+fn is_under(key: &Key, object: &Object) -> bool
+    ensures { result ≡ key_eq key.now (key_of object.now) }
+{
+    let meta = object.meta();
+    key.kind == object.kind() && key.namespace == meta.namespace && key.name == meta.name
+}
+
+fn is_spoken_of(key: &Key, call: &Call) -> bool
+    ensures { result ≡ key_eq key.now (key_of_call call.now) }
+{
+    match call {
+        Call::Create { object } => is_under(key, object),
+        Call::Update { object, version: _ } => is_under(key, object),
+        Call::UpdateStatus { object, version: _ } => is_under(key, object),
+        Call::Delete {
+            key: named,
+            version: _,
+        } => *key == *named,
+        Call::Get { key: named } => *key == *named,
+    }
+}
+
+fn revise(old: Option<Object>, object: &Object, version: u64) -> Result<Option<Object>, AllocError>
+    ensures { IfOk result (λ o. o ≡ from_old (λ x. revised version x object.now) old) }
+{
+    match old {
+        Some(old) => Ok(Some(revision(&old, object, version)?)),
+        None => Ok(None),
+    }
+}
+
+fn restate(old: Option<Object>, object: &Object, version: u64) -> Result<Option<Object>, AllocError>
+    ensures { IfOk result (λ o. o ≡ from_old (λ x. restated version x object.now) old) }
+{
+    match old {
+        Some(old) => Ok(Some(restatement(&old, object, version)?)),
+        None => Ok(None),
+    }
+}
+
+fn store(
+    alloc: Global,
+    now: i64,
+    version: u64,
+    old: Option<Object>,
+    call: &Call,
+) -> Result<Option<Object>, AllocError>
+    ensures { IfOk result (λ o. o ≡ stored_over version now old call.now) }
+{
+    match call {
+        Call::Create { object } => Ok(Some(make(alloc, object, version, now)?)),
+        Call::Update { object, version: _ } => revise(old, object, version),
+        Call::UpdateStatus { object, version: _ } => restate(old, object, version),
+        Call::Delete { key: _, version: _ } => Ok(None),
+        Call::Get { key: _ } => Ok(old),
+    }
+}
+
+fn write(
+    alloc: Global,
+    now: i64,
+    version: u64,
+    key: &Key,
+    old: Option<Object>,
+    call: &Call,
+) -> Result<Option<Object>, AllocError>
+    ensures { IfOk result (λ o. o ≡ written_over key.now version now old call.now) }
+{
+    if is_spoken_of(key, call) {
+        store(alloc, now, version, old, call)
+    } else {
+        Ok(old)
+    }
+}
+
+/// The standing after one entry more, where only the first `position` accepted writes count.
+/// `Err` where there is no memory.
+fn read(
+    alloc: Global,
+    standing: Standing,
+    entry: &Entry,
+    key: &Key,
+    position: u64,
+) -> Result<Standing, AllocError>
+    ensures { IfOk result (λ s. s ≡ standing_after position key.now standing entry.now) }
+{
+    let Standing {
+        moment,
+        accepted,
+        object,
+    } = standing;
+    let after = moment_after(entry, moment);
+    match call_of_write(entry) {
+        Some(call) => {
+            if accepted < position {
+                Ok(Standing {
+                    moment: after,
+                    accepted: accepted + 1,
+                    object: write(alloc, moment, accepted + 1, key, object, call)?,
+                })
+            } else {
+                Ok(Standing {
+                    moment: after,
+                    accepted,
+                    object,
+                })
+            }
+        }
+        None => Ok(Standing {
+            moment: after,
+            accepted,
+            object,
+        }),
+    }
+}
+
+/// What the entries, the oldest first, come to for the key, where the run began at the moment `now` and
+/// only the first `position` accepted writes count. `Err` where there is no memory.
+pub fn replay(
+    alloc: Global,
+    entries: &[Entry],
+    now: i64,
+    key: &Key,
+    position: u64,
+) -> Result<Standing, AllocError>
+    ensures { IfOk result (λ s. s ≡ replayed now position key.now (reverse entries.now)) }
+{
+    let mut standing = Standing {
+        moment: now,
+        accepted: 0,
+        object: None,
+    };
+    for entry in entries {
+        standing = read(alloc, standing, entry, key, position)?;
+    }
+    Ok(standing)
+}
