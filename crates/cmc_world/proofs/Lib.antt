@@ -20,3 +20,4 @@ pub mod Stepping
 pub mod Idling
 pub mod Waiting
 pub mod Leading
+pub mod Ending

@@ -1,6 +1,6 @@
 //! When nothing is left to do, and what the next step of the script waits for.
 ghost use Rattle.std.specs.Option.{option_copied};
-ghost use Rattle.std.specs.Prelude.{◌≡◌, ◌↔◌, ◌⊎◌, ◌+◌, ◌≤◌, ◌||◌, ℕ, Some, None, IsTrue, IfOk, All, List};
+ghost use Rattle.std.specs.Prelude.{◌≡◌, ◌↔◌, ◌⊎◌, ◌+◌, ◌≤◌, ◌||◌, ℕ, Some, None, IsTrue, IfOk, All, List, length};
 ghost use Rattle.cmc_objects.specs.declared.entry.Entry.{Entry};
 ghost use Rattle.cmc_model.specs.declared.write.Write.{Write as WriteValue};
 ghost use Rattle.cmc_model.specs.declared.pass.Act.TheVariants.{Nothing};
@@ -10,6 +10,7 @@ ghost use Rattle.cmc_model.specs.Following as following;
 ghost use Rattle.cmc_model.specs.Histories.{Setting, runs};
 ghost use Rattle.cmc_model.specs.Passes.{IsDue, open_pass};
 ghost use Rattle.cmc_model.specs.Resting as spec;
+ghost use Rattle.cmc_model.specs.Runs.{IsFinished};
 ghost use Rattle.cmc_model.specs.Scripting as scripting;
 ghost use Rattle.cmc_model.specs.Triggering.{HasDatedFailure};
 ghost use Rattle.cmc_model.specs.Viewing.{present_views};
@@ -277,6 +278,29 @@ impl World {
             Role::Revision,
         ];
         rests_in_each(self, alloc, &roles)
+    }
+
+    /// Whether all steps of the script were made.
+    fn has_made_all(&self) -> bool
+        ensures made { IsTrue result ↔ (scripting.scripted self.now.history ≡ length self.now.scenario.script) }
+        ensures settled { following.owed (setting_of self.now.scenario) self.now.history ≡ None }
+    {
+        self.made == self.scenario.script().len() as u64
+    }
+
+    /// Whether the run is finished: all steps of the script were made, with all that they have happen, and nothing
+    /// is left to do.
+    ///
+    /// # Errors
+    ///
+    /// Want of memory alone.
+    pub fn finished(&self, alloc: Global) -> Result<bool, AllocError>
+        ensures { IfOk result (λ b. IsTrue b ↔ IsFinished (setting_of self.now.scenario) self.now.history) }
+    {
+        if !self.has_made_all() {
+            return Ok(false);
+        }
+        self.is_at_rest(alloc)
     }
 
     /// Whether the role's passes made so many writes of the kind.
