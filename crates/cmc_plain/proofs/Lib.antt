@@ -1,0 +1,5 @@
+pub mod OneAnswer
+pub mod Beginning
+pub mod Ordering
+pub mod Passing
+pub mod Keys
