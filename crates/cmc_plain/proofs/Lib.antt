@@ -1,3 +1,9 @@
+pub mod OneReply
+pub mod OneGrowth
+pub mod OneMove
+pub mod Determined
+pub mod OneKind
+pub mod Newest
 pub mod OneAnswer
 pub mod Beginning
 pub mod Ordering

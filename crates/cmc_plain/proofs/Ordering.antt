@@ -5,7 +5,7 @@ use Rattle.std.specs.Prelude.{nat_lt, Some, None}
 use Rattle.cmc_meta.specs.declared.key.Key.{Key}
 use Rattle.cmc_meta.specs.declared.key.Kind.{Kind}
 use Rattle.cmc_meta.specs.declared.key.Kind.TheVariants.{Certificate, CertificateRequest, Secret}
-use Rattle.std.specs.Ordering.{Less}
+use Rattle.std.specs.declared.cmp.Ordering.TheVariants.{Less}
 use Rattle.cmc_meta.specs.Keys.{kind_rank, key_cmp}
 use Rattle.cmc_objects.specs.Roles.{role_rank}
 use Rattle.cmc_objects.specs.declared.role.Role.{Role}

@@ -9,4 +9,5 @@ mod plain;
 mod possible;
 mod roles;
 
+pub use laws::plain_histories_agree;
 pub use plain::plain;

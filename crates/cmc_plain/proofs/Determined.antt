@@ -1,0 +1,51 @@
+-- Plain histories of one setting agree: the one begins the other.
+use Rattle.std.proofs.Common.{◌≡◌, ◌∙◌, ◌⊎◌, ◌+◌, List, [], ◌∷◌, ◌++◌, Option, Some, None, MatchOption, append_assoc, inl, inr, sym, ap, subst}
+use Rattle.cmc_objects.specs.declared.entry.Entry.{Entry}
+use Rattle.cmc_objects.specs.declared.entry.Entry.TheVariants.{Script}
+use Rattle.cmc_model.specs.declared.effect.Effect.{Effect}
+use Rattle.cmc_model.specs.Histories.{Setting}
+use Rattle.cmc_model.specs.Scripting.{scripted}
+use Rattle.cmc_world.specs.declared.moves.Move.{Move}
+use Rattle.cmc_world.specs.declared.moves.Move.TheVariants as moves
+use Rattle.cmc_world.specs.Answers.{IsEffect, next_effect, delivered, beginning, Grows}
+use Rattle.cmc_world.specs.Leading.{Extends}
+use Rattle.cmc_plain.specs.Histories.{IsPlainStep, LeadsPlainly, IsPlain}
+use Rattle.cmc_plain.proofs.OneMove.{one_move}
+use Rattle.cmc_plain.proofs.OneGrowth.{one_growth}
+
+-- ---- the old history stands below
+
+by_script : (o : Option Effect) (n : Entry) (h k : List Entry) → MatchOption o (k ≡ n ∷ h) (λ effect. (e : Entry) × IsEffect effect e × (k ≡ e ∷ n ∷ h)) → Extends h k
+by_script None n h k is = (n ∷ [], is)
+by_script (Some effect) n h k (e, right, is) = (e ∷ n ∷ [], is)
+
+by_move : (s : Setting) (h : List Entry) (move : Move) (k : List Entry) → Grows s h move k → Extends h k
+by_move s h moves.Script k grown = by_script (next_effect s h) (Script (scripted h + 1)) h k grown
+by_move s h (moves.Deliver role kind to) k grown = (delivered s h role kind to ∷ [], grown)
+by_move s h (moves.Begin role key) k grown = (beginning s h role key ∷ [], grown)
+by_move s h (moves.Next pass named) k (e, right, is) = (e ∷ [], is)
+
+joined : (h g k : List Entry) → Extends h g → Extends g k → Extends h k
+joined h g k (xs, one) (ys, two) = (ys ++ xs, two ∙ (ap (λ (l : List Entry). ys ++ l) one ∙ sym (append_assoc ys xs h)))
+
+-- where plain moves lead, what they led from stands below
+pub extends_plainly : (s : Setting) (ms : List Move) (h k : List Entry) → LeadsPlainly s ms h k → Extends h k
+extends_plainly s [] h k same = ([], same)
+extends_plainly s (move ∷ ms) h k (g, step, rest) = joined h g k (by_move s h move g step.grows) (extends_plainly s ms g k rest)
+
+-- ---- the law
+
+one_step : (s : Setting) (h : List Entry) (m n : Move) (g k : List Entry) → IsPlainStep s h m g → IsPlainStep s h n k → g ≡ k
+one_step s h m n g k x y =
+    let same = one_move s h m n x.plain y.plain in
+    one_growth s h n g k (subst (λ (move : Move). Grows s h move g) same x.grows) x.run y.grows y.run
+
+agree : (s : Setting) (ms ns : List Move) (g h k : List Entry) → LeadsPlainly s ms g h → LeadsPlainly s ns g k → Extends h k ⊎ Extends k h
+agree s [] ns g h k same led = inl (subst (λ (l : List Entry). Extends l k) (sym same) (extends_plainly s ns g k led))
+agree s (m ∷ ms) [] g h k led same = inr (subst (λ (l : List Entry). Extends l h) (sym same) (extends_plainly s (m ∷ ms) g h led))
+agree s (m ∷ ms) (n ∷ ns) g h k (a, x, rest) (b, y, others) =
+    agree s ms ns a h k rest (subst (λ (l : List Entry). LeadsPlainly s ns l k) (sym (one_step s g m n a b x y)) others)
+
+-- of two plain histories of one setting the one begins the other
+pub plain_agree : (s : Setting) (h k : List Entry) → IsPlain s h → IsPlain s k → Extends h k ⊎ Extends k h
+plain_agree s h k (ms, x) (ns, y) = agree s ms ns [] h k x y
