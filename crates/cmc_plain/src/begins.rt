@@ -76,13 +76,20 @@ fn is_free(world: &World, role: Role, key: &Key) -> bool
     key.kind.same(kind_of_work(role)) && !world.passes().is_on(role, key)
 }
 
+/// Whether this is no object.
+fn is_nothing(alloc: Global, seen: &Views) -> bool
+    ensures { IsTrue result ↔ (seen.now ≡ spec.no_views) }
+{
+    seen.same(&Views::new(alloc))
+}
+
 /// Whether a last pass saw this; where there was none, whether this is no object.
 fn saw(alloc: Global, last: &Option<LastPass>, seen: &Views) -> bool
     ensures { IsTrue result ↔ (seen.now ≡ spec.seen_last last.now) }
 {
     match last {
         Some(last) => seen.same(&last.seen),
-        None => seen.same(&Views::new(alloc)),
+        None => is_nothing(alloc, seen),
     }
 }
 
@@ -92,7 +99,7 @@ fn saw_last(alloc: Global, before: Option<&Past>, seen: &Views) -> bool
 {
     match before {
         Some(past) => saw(alloc, &past.last, seen),
-        None => saw(alloc, &None, seen),
+        None => is_nothing(alloc, seen),
     }
 }
 

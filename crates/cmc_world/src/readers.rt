@@ -1,6 +1,7 @@
 //! What a world holds, and what it would answer: all that chooses a move reads.
 ghost use Rattle.std.specs.Option.{option_copied};
-ghost use Rattle.std.specs.Prelude.{◌≡◌, ◌↔◌, ℕ, IsTrue, IfOk};
+ghost use Rattle.std.specs.Prelude.{◌≡◌, ◌↔◌, ℕ, None, IsTrue, IfOk};
+ghost use Rattle.cmc_model.specs.Following.{owed};
 ghost use Rattle.cmc_model.specs.Histories as spec;
 ghost use Rattle.cmc_model.specs.Passes.{IsDue, open_pass, past};
 ghost use Rattle.cmc_model.specs.Positions.{positions};
@@ -34,6 +35,13 @@ impl World {
             Move::Begin { role, key } => self.judge_begin(alloc, *role, key),
             Move::Next { pass, incarnation } => Ok(self.judge_next(*pass, *incarnation)),
         }
+    }
+
+    /// A law: all that the steps that were made have happen has happened.
+    pub fn is_settled(&self)
+        ensures { owed (setting_of self.now.scenario) self.now.history ≡ None }
+    {
+        let _entries = self.history.len();
     }
 
     /// The accepted writes.
