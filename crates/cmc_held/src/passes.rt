@@ -49,6 +49,13 @@ impl Passes {
         self.map.get(&number)
     }
 
+    /// The map that keeps the passes, to go over them in order of number.
+    pub fn by_number(&self) -> &BTreeMap<u64, OpenPass>
+        ensures { result.now.entries ≡ self.now }
+    {
+        &self.map
+    }
+
     /// Opens the pass under this number, and changes no other. An error is one of memory, and
     /// leaves all passes as they were.
     #[tactic(auto, unfolding(crate::specs::Open::pass_at))]

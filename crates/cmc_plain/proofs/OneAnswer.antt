@@ -71,5 +71,5 @@ one_answer s h (Next pass named) a b x y = one_next s h pass named a b x y
 
 -- so the one that is given tells whether the move is possible
 pub possible_by : (s : Setting) (h : List Entry) (move : Move) (answer : Stepped) (b : Bool) → Answers s h move answer → (IsTrue b ↔ IsAccepted answer) → IsTrue b ↔ IsPossible s h move
-possible_by s h move answer b is yes =
-    (λ on. record { answer = answer; answers = is; accepted = yes.0 on }, λ p. yes.1 (subst IsAccepted (one_answer s h move p.answer answer p.answers is) p.accepted))
+possible_by s h move answer b is test =
+    (λ on. record { answer = answer; answers = is; accepted = test.0 on }, λ p. test.1 (subst IsAccepted (one_answer s h move p.answer answer p.answers is) p.accepted))

@@ -1,6 +1,5 @@
 -- A run of an orderly script starts no role that runs.
-use Rattle.std.proofs.Common.{◌≡◌, ℕ, ◌+◌, ◌-◌, ◌<◌, List, [], ◌∷◌, length, drop, get_or, slice_get, Option, Some, None, option_and_then, Bool, true, false, ◌||◌, cond, not, refl, sym, ap, subst, ◌∙◌, arith}
-use Rattle.std.proofs.lemmas.Bool.Decides.{nat_tests}
+use Rattle.std.proofs.Common.{◌≡◌, ℕ, ◌+◌, ◌-◌, ◌<◌, List, [], ◌∷◌, length, drop, get_or, slice_get, Option, Some, None, option_and_then, Bool, true, false, refl, sym, ap, subst, ◌∙◌, arith}
 use Rattle.std.proofs.lemmas.List.{drop_more}
 use Rattle.std.proofs.lemmas.Option.{slice_get-get_or}
 use Rattle.std.specs.Prelude.{if◌then◌else◌}
@@ -15,10 +14,10 @@ use Rattle.cmc_model.specs.declared.effect.Effect.TheVariants as effects
 use Rattle.cmc_model.specs.Histories.{Setting, runs, role_eq}
 use Rattle.cmc_model.specs.Scripting.{scripted, step_at}
 use Rattle.cmc_model.specs.Following.{call_of, effect_of, owed, IsNextStep, Follows}
-use Rattle.cmc_scenario.specs.Setups.{Setup}
+use Rattle.cmc_scenario.specs.Setups.{Setup, is_among, without_role, IsOrderlyFrom}
+use Rattle.cmc_scenario.proofs.Orderly.{among_after}
 use Rattle.cmc_world.specs.Kept.{setting_of}
 use Rattle.cmc_plain.proofs.Starting.{StartsStopped}
-use Rattle.cmc_plain.proofs.Orderly.{is_among, without_role, IsOrderlyFrom}
 
 -- ---- what runs once what is owed is done
 
@@ -56,32 +55,6 @@ done running owes effect left is o = record {
 
 -- ---- a step
 
-with_started : (own among before : Bool) → among ≡ before → (own || among) ≡ (if own then true else before)
-with_started true among before same = refl
-with_started false among before same = same
-
-without_at : (role r other : Role) (kept rest : List Role) (of own : Bool) → role_eq other role ≡ of → role_eq role r ≡ own
-    → is_among kept r ≡ (if own then false else is_among rest r)
-    → is_among (cond (not of) (other ∷ kept) kept) r ≡ (if own then false else (role_eq other r || is_among rest r))
-without_at role r other kept rest true true is here same = same
-without_at role r other kept rest true false is here same =
-    let off : role_eq other r ≡ false = grind (arith, nat_tests) in
-    same ∙ ap (λ (b : Bool). b || is_among rest r) (sym off)
-without_at role r other kept rest false true is here same =
-    let off : role_eq other r ≡ false = grind (arith, nat_tests) in
-    ap (λ (b : Bool). b || is_among kept r) off ∙ same
-without_at role r other kept rest false false is here same = ap (λ (b : Bool). role_eq other r || b) same
-
-none_but : (own : Bool) → false ≡ (if own then false else false)
-none_but true = refl
-none_but false = refl
-
--- the roles without one of them
-without : (role r : Role) (roles : List Role) → is_among (without_role roles role) r ≡ (if role_eq role r then false else is_among roles r)
-without role r [] = none_but (role_eq role r)
-without role r (other ∷ roles) =
-    without_at role r other (without_role roles role) roles (role_eq other role) (role_eq role r) refl refl (without role r roles)
-
 next_step : (s : Setting) (h : List Entry) (step : Step) (roles : List Role) (left : List Step) → ((r : Role) → is_among roles r ≡ runs s h r)
     → IsOrderlyFrom roles (step ∷ left) → IsOrderlyAfter (runs s h) (effect_of s h step) left
 unfolding call_of
@@ -94,13 +67,13 @@ next_step s h (steps.Renew certificate) roles left same ahead = record { roles =
 next_step s h (steps.Tick seconds) roles left same ahead = record { roles = roles; same = same; stopped = tt; ahead = ahead.1 }
 next_step s h (steps.Stop role) roles left same ahead = record {
   roles = without_role roles role;
-  same = λ r. without role r roles ∙ ap (λ (b : Bool). if role_eq role r then false else b) (same r);
+  same = λ r. among_after roles role false r ∙ ap (λ (b : Bool). if role_eq role r then false else b) (same r);
   stopped = tt;
   ahead = ahead.1;
 }
 next_step s h (steps.Start role behind) roles left same ahead = record {
   roles = role ∷ roles;
-  same = λ r. with_started (role_eq role r) (is_among roles r) (runs s h r) (same r);
+  same = λ r. among_after roles role true r ∙ ap (λ (b : Bool). if role_eq role r then true else b) (same r);
   stopped = sym (same role) ∙ ahead.0;
   ahead = ahead.1;
 }

@@ -1,3 +1,4 @@
 pub mod Plain
+pub mod Searches
 pub mod Histories
 pub mod Driving

@@ -1,14 +1,64 @@
-//! stub
-ghost use Rattle.std.specs.Prelude.{◌≡◌, IfOk};
+//! The move that a run by one hand makes next.
+ghost use Rattle.std.specs.Prelude.{IfOk};
 ghost use Rattle.cmc_world.specs.Kept.{setting_of};
 ghost use Rattle.cmc_plain.specs.Plain.{IsPlainMove};
+ghost use Rattle.cmc_plain.specs.Searches.{FindsMove};
 
+use crate::begins::{Beginning, first_begin};
+use crate::deliveries::first_delivery;
+use crate::passes::first_pass;
+use crate::possible::is_possible;
 use cmc_world::{Move, World};
 use std::alloc::{AllocError, Global};
 
+/// The first move that is possible, and a begin only where it is worth it.
+fn first_move(alloc: Global, world: &World) -> Result<Option<Move>, AllocError>
+    ensures { IfOk result (λ m. FindsMove (setting_of world.now.scenario) world.now.history m) }
+{
+    if is_possible(alloc, world, &Move::Script)? {
+        return Ok(Some(Move::Script));
+    }
+    if let Some(going) = first_pass(alloc, world)? {
+        return Ok(Some(Move::Next {
+            pass: going.pass,
+            incarnation: going.incarnation,
+        }));
+    }
+    if let Some(delivery) = first_delivery(alloc, world)? {
+        return Ok(Some(Move::Deliver {
+            role: delivery.role,
+            kind: delivery.kind,
+            to: world.log().last_of_kind(delivery.kind),
+        }));
+    }
+    match first_begin(alloc, world)? {
+        Some(Beginning { role, key }) => Ok(Some(Move::Begin { role, key })),
+        None => Ok(None),
+    }
+}
+
+/// The move that a run by one hand makes next; `None` exactly where the run is finished.
+///
+/// It is the first of: the next step of the script, where it does not wait; the next phase of the first
+/// open pass; a delivery to the newest accepted write of a kind, by role, then by kind; and the begin of
+/// the first role with a key on which it has something to do or sees something new, the first such key.
+///
+/// # Errors
+///
+/// Want of memory alone.
 pub fn plain(alloc: Global, world: &World) -> Result<Option<Move>, AllocError>
     ensures { IfOk result (λ m. IsPlainMove (setting_of world.now.scenario) world.now.history m) }
 {
-    let _f = world.finished(alloc)?;
-    Err(AllocError)
+    if world.finished(alloc)? {
+        return Ok(None);
+    }
+    match first_move(alloc, world)? {
+        Some(step) => Ok(Some(step)),
+        None => {
+            world.is_run();
+            world.is_settled();
+            let _events = world.scenario().events();
+            unreachable!()
+        }
+    }
 }

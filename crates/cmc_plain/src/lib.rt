@@ -1,9 +1,14 @@
 //! The plain order: a run by one hand, whose history is a function of its scenario.
 #![tactic(auto)]
 
+mod begins;
 mod choosing;
+mod deliveries;
 mod driving;
 mod laws;
+mod passes;
+mod possible;
+mod roles;
 
 pub use choosing::plain;
 pub use driving::{Driven, drive_plain};

@@ -9,6 +9,7 @@ mod beginning;
 mod going;
 mod moves;
 mod noting;
+mod readers;
 mod resting;
 mod scripting;
 mod telling;

@@ -51,7 +51,7 @@ fn is_due_after(past: &Past, seen: &Views, now: i64, at: Positions) -> bool
 }
 
 /// Whether the role may begin a pass on the key that sees this.
-fn is_due(past: Option<&Past>, seen: &Views, now: i64, at: Positions) -> bool
+pub(crate) fn is_due(past: Option<&Past>, seen: &Views, now: i64, at: Positions) -> bool
     ensures { IsTrue result ↔ IsDue (past_or_new (option_copied past.entry)) seen.now now at }
 {
     match past {
@@ -142,7 +142,7 @@ impl World {
     /// # Errors
     ///
     /// Want of memory alone.
-    pub(crate) fn is_idle(
+    pub fn is_idle(
         &self,
         alloc: Global,
         role: Role,

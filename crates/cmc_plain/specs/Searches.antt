@@ -1,0 +1,93 @@
+-- What the searches for the plain move find.
+use Rattle.std.specs.Prelude.{◌≡◌, ℕ, ◌<◌, true, List, Option, Some, None}
+use Rattle.std.specs.declared.cmp.Ordering.TheVariants.{Less}
+use Rattle.cmc_meta.specs.declared.key.Key.{Key}
+use Rattle.cmc_meta.specs.declared.key.Kind.{Kind}
+use Rattle.cmc_meta.specs.Keys.{kind_rank, key_cmp}
+use Rattle.cmc_objects.specs.Roles.{role_rank}
+use Rattle.cmc_objects.specs.declared.role.Role.{Role}
+use Rattle.cmc_objects.specs.declared.entry.Entry.{Entry}
+use Rattle.cmc_model.specs.Histories.{Setting, moment, runs}
+use Rattle.cmc_model.specs.Positions.{kind_of_work, positions}
+use Rattle.cmc_model.specs.Viewing.{views_in, views}
+use Rattle.cmc_model.specs.Passes.{past, IsDue}
+use Rattle.cmc_world.specs.declared.moves.Move.{Move}
+use Rattle.cmc_world.specs.Answers.{IsWorking, IsQueued}
+use Rattle.cmc_plain.specs.declared.passes.Going.{Going}
+use Rattle.cmc_plain.specs.declared.deliveries.Delivery.{Delivery}
+use Rattle.cmc_plain.specs.declared.begins.Beginning.{Beginning}
+use Rattle.cmc_plain.specs.declared.begins.Caches.{Caches}
+use Rattle.cmc_plain.specs.Plain.{IsBehind, Fits, HasNoScript, HasNoPass, HasNoDelivery, IsFirstPass, IsFirstDelivery, IsFirstBegin, IsChosen}
+
+-- it is so of no role before this place
+abbrev pub HasNoneBefore : (Role → Type 0) → ℕ → Type 0
+HasNoneBefore P n = (r : Role) → role_rank r < n → P r → ⊥
+
+-- ---- passes
+
+-- the first pass that can go on, none where there is none
+abbrev pub FindsPass : Setting → List Entry → Option Going → Type 0
+FindsPass s h None = HasNoPass s h
+FindsPass s h (Some g) = IsFirstPass s h g.pass g.incarnation
+
+-- ---- deliveries
+
+-- the role is behind in some kind
+abbrev pub IsBehindInSome : Setting → List Entry → Role → Type 0
+IsBehindInSome s h role = (kind : Kind) × IsBehind s h role kind
+
+-- the first kind in which the role is behind
+abbrev pub FindsKind : Setting → List Entry → Role → Option Kind → Type 0
+FindsKind s h role None = IsBehindInSome s h role → ⊥
+FindsKind s h role (Some kind) = IsBehind s h role kind × ((k : Kind) → kind_rank k < kind_rank kind → IsBehind s h role k → ⊥)
+
+abbrev pub FindsDelivery : Setting → List Entry → Option Delivery → Type 0
+FindsDelivery s h None = HasNoDelivery s h
+FindsDelivery s h (Some d) = IsFirstDelivery s h d.role d.kind
+
+-- ---- begins
+
+-- the role sees in these shelves what it was told of
+abbrev pub AreCaches : Setting → List Entry → Role → Caches → Type 0
+AreCaches s h role c = (key : Key) → views_in role (record { certificates = c.certificates; requests = c.requests; secrets = c.secrets }) key ≡ views s h role key
+
+-- the key is one of the role's kind of work, and no pass of it on the key is open
+pub record IsFree (s : Setting) (h : List Entry) (role : Role) (key : Key) : Type 0 where
+  pub kind : key.kind ≡ kind_of_work role
+  pub idle : IsWorking s h role key → ⊥
+
+-- what a begin needs beside room
+pub record MayBegin (s : Setting) (h : List Entry) (role : Role) (key : Key) : Type 0 where
+  pub running : runs s h role ≡ true
+  pub idle : IsWorking s h role key → ⊥
+  pub due : IsDue (past s h role key) (views s h role key) (moment s h) (positions h role)
+  pub queued : IsQueued s h role key
+
+-- some key fits the role
+abbrev pub FitsSome : Setting → List Entry → Role → Type 0
+FitsSome s h role = (key : Key) × Fits s h role key
+
+-- the first key that fits the role
+abbrev pub FindsKey : Setting → List Entry → Role → Option Key → Type 0
+FindsKey s h role None = FitsSome s h role → ⊥
+FindsKey s h role (Some key) = Fits s h role key × ((k : Key) → key_cmp k key ≡ Less → Fits s h role k → ⊥)
+
+abbrev pub HasNoBegin : Setting → List Entry → Type 0
+HasNoBegin s h = (role : Role) (key : Key) → Fits s h role key → ⊥
+
+abbrev pub FindsBegin : Setting → List Entry → Option Beginning → Type 0
+FindsBegin s h None = HasNoBegin s h
+FindsBegin s h (Some b) = IsFirstBegin s h b.role b.key
+
+-- ---- all moves
+
+-- no move is possible, or worth it
+pub record HasNoMove (s : Setting) (h : List Entry) : Type 0 where
+  pub script : HasNoScript s h
+  pub passes : HasNoPass s h
+  pub deliveries : HasNoDelivery s h
+  pub begins : HasNoBegin s h
+
+abbrev pub FindsMove : Setting → List Entry → Option Move → Type 0
+FindsMove s h None = HasNoMove s h
+FindsMove s h (Some move) = IsChosen s h move

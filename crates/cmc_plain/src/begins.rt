@@ -1,0 +1,226 @@
+//! The first begin that is worth it.
+ghost use Rattle.std.specs.Option.{option_copied};
+ghost use Rattle.std.specs.Prelude.{◌≡◌, ◌↔◌, ℕ, IsTrue, IfOk, true};
+ghost use Rattle.std.specs.BTreeSet.{contains};
+ghost use Rattle.cmc_meta.specs.declared.key.Key.{Key as KeyValue};
+ghost use Rattle.cmc_meta.specs.Keys.{key_cmp};
+ghost use Rattle.cmc_model.specs.Histories as histories;
+ghost use Rattle.cmc_model.specs.Passes.{past};
+ghost use Rattle.cmc_model.specs.Viewing.{views};
+ghost use Rattle.cmc_model.specs.Writes.{is_known, writes};
+ghost use Rattle.cmc_held.specs.Remembered.{past_or_new};
+ghost use Rattle.cmc_world.specs.Kept.{setting_of};
+ghost use Rattle.cmc_plain.specs.Plain as spec;
+ghost use Rattle.cmc_plain.specs.Searches.{AreCaches, FindsBegin, FindsKey, IsFree};
+
+use crate::roles::role_in;
+use cmc_held::{kind_of_work, views_on};
+use cmc_meta::{Key, Kind};
+use cmc_model::{LastPass, Past, Views, Write};
+use cmc_objects::Role;
+use cmc_store::Shelf;
+use cmc_world::World;
+use std::alloc::{AllocError, Global};
+use std::collections::BTreeSet;
+
+/// A role that begins a pass on a key.
+#[derive(Drop)]
+pub(crate) struct Beginning {
+    pub role: Role,
+    pub key: Key,
+}
+
+/// The objects of each kind that a role was told of.
+#[derive(Drop)]
+pub(crate) struct Caches {
+    pub certificates: Shelf,
+    pub requests: Shelf,
+    pub secrets: Shelf,
+}
+
+/// The keys of these writes, in order.
+fn keys_of(alloc: Global, writes: &[Write]) -> Result<BTreeSet<Key>, AllocError>
+    ensures { IfOk result (λ keys. (k : KeyValue) → contains key_cmp keys k ≡ is_known k writes.now) }
+{
+    let mut keys = BTreeSet::new(alloc);
+    for write in writes {
+        keys.insert(write.key.copy()?)?;
+    }
+    Ok(keys)
+}
+
+/// The keys that accepted writes named, in order.
+fn known_keys(alloc: Global, world: &World) -> Result<BTreeSet<Key>, AllocError>
+    ensures { IfOk result (λ keys. (k : KeyValue) → contains key_cmp keys k ≡ is_known k (writes (setting_of world.now.scenario) world.now.history)) }
+{
+    keys_of(alloc, world.log().as_slice())
+}
+
+/// What the role was told of.
+fn caches_of(alloc: Global, world: &World, role: Role) -> Result<Caches, AllocError>
+    ensures { IfOk result (λ c. AreCaches (setting_of world.now.scenario) world.now.history role c) }
+{
+    let at = world.told(role);
+    let log = world.log();
+    Ok(Caches {
+        certificates: log.replay(alloc, Kind::Certificate, at.certificates)?,
+        requests: log.replay(alloc, Kind::CertificateRequest, at.requests)?,
+        secrets: log.replay(alloc, Kind::Secret, at.secrets)?,
+    })
+}
+
+/// Whether the key is one of the role's kind of work, and no pass of it on the key is open.
+fn is_free(world: &World, role: Role, key: &Key) -> bool
+    ensures { IsTrue result ↔ IsFree (setting_of world.now.scenario) world.now.history role key.now }
+{
+    key.kind.same(kind_of_work(role)) && !world.passes().is_on(role, key)
+}
+
+/// Whether this is no object.
+fn is_nothing(alloc: Global, seen: &Views) -> bool
+    ensures { IsTrue result ↔ (seen.now ≡ spec.no_views) }
+{
+    seen.same(&Views::new(alloc))
+}
+
+/// Whether a last pass saw this; where there was none, whether this is no object.
+fn saw(alloc: Global, last: &Option<LastPass>, seen: &Views) -> bool
+    ensures { IsTrue result ↔ (seen.now ≡ spec.seen_last last.now) }
+{
+    match last {
+        Some(last) => seen.same(&last.seen),
+        None => is_nothing(alloc, seen),
+    }
+}
+
+/// Whether the role saw this as it last began on the key.
+fn saw_last(alloc: Global, before: Option<&Past>, seen: &Views) -> bool
+    ensures { IsTrue result ↔ (seen.now ≡ spec.seen_last (past_or_new (option_copied before.entry)).last) }
+{
+    match before {
+        Some(past) => saw(alloc, &past.last, seen),
+        None => is_nothing(alloc, seen),
+    }
+}
+
+/// Whether the role, which sees this of the key, has something to do there, or sees what it did not see
+/// as it last began.
+fn is_worth(
+    alloc: Global,
+    world: &World,
+    role: Role,
+    key: &Key,
+    seen: &Views,
+) -> Result<bool, AllocError>
+    requires { seen.now ≡ views (setting_of world.now.scenario) world.now.history role key.now }
+    ensures { IfOk result (λ b. IsTrue b ↔ spec.IsWorth (setting_of world.now.scenario) world.now.history role key.now) }
+{
+    world.is_run();
+    if !saw_last(alloc, world.past(role, key), seen) {
+        return Ok(true);
+    }
+    Ok(!world.is_idle(alloc, role, seen)?)
+}
+
+/// Whether the key, which an accepted write named, fits the role, which runs and sees it so.
+fn fits_seen(
+    alloc: Global,
+    world: &World,
+    role: Role,
+    key: &Key,
+    seen: &Views,
+) -> Result<bool, AllocError>
+    requires sees { seen.now ≡ views (setting_of world.now.scenario) world.now.history role key.now }
+    requires running { histories.runs (setting_of world.now.scenario) world.now.history role ≡ true }
+    requires known { is_known key.now (writes (setting_of world.now.scenario) world.now.history) ≡ true }
+    requires free { IsFree (setting_of world.now.scenario) world.now.history role key.now }
+    ensures { IfOk result (λ b. IsTrue b ↔ spec.Fits (setting_of world.now.scenario) world.now.history role key.now) }
+{
+    if !world.is_due(role, key, seen) {
+        return Ok(false);
+    }
+    is_worth(alloc, world, role, key, seen)
+}
+
+/// Whether the key, which an accepted write named, fits the role, which runs and was told of this.
+fn fits(
+    alloc: Global,
+    world: &World,
+    role: Role,
+    caches: &Caches,
+    key: &Key,
+) -> Result<bool, AllocError>
+    requires caches { AreCaches (setting_of world.now.scenario) world.now.history role caches.now }
+    requires running { histories.runs (setting_of world.now.scenario) world.now.history role ≡ true }
+    requires known { is_known key.now (writes (setting_of world.now.scenario) world.now.history) ≡ true }
+    ensures { IfOk result (λ b. IsTrue b ↔ spec.Fits (setting_of world.now.scenario) world.now.history role key.now) }
+{
+    if !is_free(world, role, key) {
+        return Ok(false);
+    }
+    let seen = views_on(
+        alloc,
+        role,
+        &caches.certificates,
+        &caches.requests,
+        &caches.secrets,
+        key,
+    )?;
+    fits_seen(alloc, world, role, key, &seen)
+}
+
+/// The first of the keys that fits the role, which runs and was told of this.
+fn first_among(
+    alloc: Global,
+    world: &World,
+    role: Role,
+    caches: &Caches,
+    keys: &BTreeSet<Key>,
+) -> Result<Option<Key>, AllocError>
+    requires caches { AreCaches (setting_of world.now.scenario) world.now.history role caches.now }
+    requires running { histories.runs (setting_of world.now.scenario) world.now.history role ≡ true }
+    requires known { (k : KeyValue) → contains key_cmp keys.now k ≡ is_known k (writes (setting_of world.now.scenario) world.now.history) }
+    ensures { IfOk result (λ k. FindsKey (setting_of world.now.scenario) world.now.history role k) }
+{
+    for key in keys.iter() {
+        if fits(alloc, world, role, caches, key)? {
+            return Ok(Some(key.copy()?));
+        }
+    }
+    Ok(None)
+}
+
+/// The first of the keys that fits the role.
+fn first_key(
+    alloc: Global,
+    world: &World,
+    role: Role,
+    keys: &BTreeSet<Key>,
+) -> Result<Option<Key>, AllocError>
+    requires { (k : KeyValue) → contains key_cmp keys.now k ≡ is_known k (writes (setting_of world.now.scenario) world.now.history) }
+    ensures { IfOk result (λ k. FindsKey (setting_of world.now.scenario) world.now.history role k) }
+{
+    if !world.runs(role) {
+        return Ok(None);
+    }
+    let caches = caches_of(alloc, world, role)?;
+    first_among(alloc, world, role, &caches, keys)
+}
+
+/// The first role that a key fits, with the first such key; `None` exactly where there is none.
+///
+/// # Errors
+///
+/// Want of memory alone.
+pub(crate) fn first_begin(alloc: Global, world: &World) -> Result<Option<Beginning>, AllocError>
+    ensures { IfOk result (λ b. FindsBegin (setting_of world.now.scenario) world.now.history b) }
+{
+    let keys = known_keys(alloc, world)?;
+    for place in 0..8 {
+        let role = role_in(place);
+        if let Some(key) = first_key(alloc, world, role, &keys)? {
+            return Ok(Some(Beginning { role, key }));
+        }
+    }
+    Ok(None)
+}

@@ -1,0 +1,61 @@
+//! The first delivery that brings a role up to date in a kind.
+ghost use Rattle.std.specs.Prelude.{◌↔◌, IsTrue, IfOk};
+ghost use Rattle.cmc_world.specs.Kept.{setting_of};
+ghost use Rattle.cmc_plain.specs.Plain.{IsBehind};
+ghost use Rattle.cmc_plain.specs.Searches.{FindsKind, FindsDelivery};
+
+use crate::possible::is_possible;
+use crate::roles::role_in;
+use cmc_meta::Kind;
+use cmc_objects::Role;
+use cmc_world::{Move, World};
+use std::alloc::{AllocError, Global};
+
+/// A role that is behind in a kind.
+#[derive(Clone, Copy)]
+pub(crate) struct Delivery {
+    pub role: Role,
+    pub kind: Kind,
+}
+
+/// Whether the role can be told of all accepted writes of the kind.
+fn is_behind(alloc: Global, world: &World, role: Role, kind: Kind) -> Result<bool, AllocError>
+    ensures { IfOk result (λ b. IsTrue b ↔ IsBehind (setting_of world.now.scenario) world.now.history role kind) }
+{
+    let to = world.log().last_of_kind(kind);
+    is_possible(alloc, world, &Move::Deliver { role, kind, to })
+}
+
+/// The first kind in which the role is behind.
+fn first_kind(alloc: Global, world: &World, role: Role) -> Result<Option<Kind>, AllocError>
+    ensures { IfOk result (λ k. FindsKind (setting_of world.now.scenario) world.now.history role k) }
+{
+    if is_behind(alloc, world, role, Kind::Certificate)? {
+        return Ok(Some(Kind::Certificate));
+    }
+    if is_behind(alloc, world, role, Kind::CertificateRequest)? {
+        return Ok(Some(Kind::CertificateRequest));
+    }
+    if is_behind(alloc, world, role, Kind::Secret)? {
+        return Ok(Some(Kind::Secret));
+    }
+    Ok(None)
+}
+
+/// The first role that is behind in a kind, with the first such kind; `None` exactly where there is
+/// none.
+///
+/// # Errors
+///
+/// Want of memory alone.
+pub(crate) fn first_delivery(alloc: Global, world: &World) -> Result<Option<Delivery>, AllocError>
+    ensures { IfOk result (λ d. FindsDelivery (setting_of world.now.scenario) world.now.history d) }
+{
+    for place in 0..8 {
+        let role = role_in(place);
+        if let Some(kind) = first_kind(alloc, world, role)? {
+            return Ok(Some(Delivery { role, kind }));
+        }
+    }
+    Ok(None)
+}

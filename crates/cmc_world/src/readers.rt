@@ -1,0 +1,96 @@
+//! What a world holds, and what it would answer: all that chooses a move reads.
+ghost use Rattle.std.specs.Option.{option_copied};
+ghost use Rattle.std.specs.Prelude.{◌≡◌, ◌↔◌, ℕ, None, IsTrue, IfOk};
+ghost use Rattle.cmc_model.specs.Following.{owed};
+ghost use Rattle.cmc_model.specs.Histories as spec;
+ghost use Rattle.cmc_model.specs.Passes.{IsDue, open_pass, past};
+ghost use Rattle.cmc_model.specs.Positions.{positions};
+ghost use Rattle.cmc_model.specs.Writes.{writes};
+ghost use Rattle.cmc_held.specs.Open.{pass_at};
+ghost use Rattle.cmc_held.specs.Remembered.{past_or_new};
+ghost use Rattle.cmc_world.specs.Answers.{Answers};
+ghost use Rattle.cmc_world.specs.Kept.{setting_of};
+
+use crate::moves::{Move, Stepped};
+use crate::resting;
+use crate::world::World;
+use cmc_held::{Log, Passes, shown_positions};
+use cmc_meta::Key;
+use cmc_model::{Past, Views};
+use cmc_objects::{Positions, Role};
+use std::alloc::{AllocError, Global};
+
+impl World {
+    /// What a step would answer the move now.
+    ///
+    /// # Errors
+    ///
+    /// Want of memory alone.
+    pub fn answer(&self, alloc: Global, step: &Move) -> Result<Stepped, AllocError>
+        ensures { IfOk result (λ a. Answers (setting_of self.now.scenario) self.now.history step.now a) }
+    {
+        match step {
+            Move::Script => self.judge_script(alloc),
+            Move::Deliver { role, kind, to } => Ok(self.judge_delivery(*role, *kind, *to)),
+            Move::Begin { role, key } => self.judge_begin(alloc, *role, key),
+            Move::Next { pass, incarnation } => Ok(self.judge_next(*pass, *incarnation)),
+        }
+    }
+
+    /// A law: all that the steps that were made have happen has happened.
+    pub fn is_settled(&self)
+        ensures { owed (setting_of self.now.scenario) self.now.history ≡ None }
+    {
+        let _entries = self.history.len();
+    }
+
+    /// The accepted writes.
+    pub fn log(&self) -> &Log
+        ensures { result.now.writes ≡ writes (setting_of self.now.scenario) self.now.history }
+    {
+        &self.log
+    }
+
+    /// The passes that are open.
+    pub fn passes(&self) -> &Passes
+        ensures { (n : ℕ) → pass_at result.now n ≡ open_pass (setting_of self.now.scenario) self.now.history n }
+    {
+        &self.passes
+    }
+
+    /// What the role remembers of the key; `None` only where it did nothing on it since it started.
+    pub fn past(&self, role: Role, key: &Key) -> Option<&Past>
+        ensures { past_or_new (option_copied result) ≡ past (setting_of self.now.scenario) self.now.history role key.now }
+    {
+        self.pasts.get(role, key)
+    }
+
+    /// The newest write of each kind that the role is told of, 0 of each other kind.
+    pub fn told(&self, role: Role) -> Positions
+        ensures { result ≡ positions self.now.history role }
+    {
+        shown_positions(role, self.standings.get(role).told)
+    }
+
+    /// Whether the role runs.
+    pub fn runs(&self, role: Role) -> bool
+        ensures { result ≡ spec.runs (setting_of self.now.scenario) self.now.history role }
+    {
+        self.standings.get(role).running
+    }
+
+    /// The present moment, in seconds since the beginning of 1970.
+    pub fn moment(&self) -> i64
+        ensures { result ≡ spec.moment (setting_of self.now.scenario) self.now.history }
+    {
+        self.moment
+    }
+
+    /// Whether a pass of the role on the key that sees this would be due: the role was told of its own
+    /// writes, and the pass would not be the last one again.
+    pub fn is_due(&self, role: Role, key: &Key, seen: &Views) -> bool
+        ensures { IsTrue result ↔ IsDue (past (setting_of self.now.scenario) self.now.history role key.now) seen.now (spec.moment (setting_of self.now.scenario) self.now.history) (positions self.now.history role) }
+    {
+        resting::is_due(self.past(role, key), seen, self.moment(), self.told(role))
+    }
+}
