@@ -3,7 +3,9 @@ use Rattle.std.proofs.Common.{◌≡◌, ◌⊎◌, ℕ, ◌+◌, ◌<◌, List,
 use Rattle.std.proofs.lemmas.Bool.Decides.{same_from_decides}
 use Rattle.std.proofs.lemmas.List.Elements.{All-head, All-tail}
 use Rattle.std.proofs.lemmas.Map.Keys.{sorted_head, sorted_tail}
-use Rattle.std.specs.Prelude.{◌↔◌, ◌||◌, IsTrue}
+use Rattle.std.proofs.lemmas.Result.{IfOk-weaker}
+use Rattle.std.specs.Prelude.{◌↔◌, ◌||◌, IsTrue, IfOk, Result, reverse}
+use Rattle.std.specs.declared.alloc.AllocError.{AllocError}
 use Rattle.std.specs.Bool.{Decides}
 use Rattle.std.specs.BTreeMap.{is_at}
 use Rattle.std.specs.BTreeSet.{BTreeSet, contains}
@@ -18,6 +20,7 @@ use Rattle.cmc_objects.specs.declared.entry.Entry.{Entry}
 use Rattle.cmc_model.specs.declared.write.Write.{Write}
 use Rattle.cmc_model.specs.Histories.{Setting}
 use Rattle.cmc_model.specs.Writes.{writes, is_known}
+use Rattle.cmc_held.proofs.Numbered.{list_any-reverse}
 use Rattle.cmc_model.proofs.Keys.{key_cmp-total, key_cmp-IsAntisymmetric}
 use Rattle.cmc_world.proofs.Rest.{key_eq-Decides}
 use Rattle.cmc_plain.specs.Plain.{Fits}
@@ -54,6 +57,15 @@ known_push k (v ∷ ws) w = ap (λ b. key_eq v.key k || b) (known_push k ws w) �
 pub keys_more : (k : Key) (ws more : List Write) (w : Write) (had has : Bool) → more ≡ ws ++ w ∷ [] → had ≡ is_known k ws → has ≡ cond (is_at (key_cmp w.key) k) true had → has ≡ is_known k more
 keys_more k ws more w had has is before after =
     after ∙ ap (λ t. cond t true had) (one_test w.key k) ∙ chosen (key_eq w.key k) had ∙ ap (λ b. key_eq w.key k || b) before ∙ sym (known_push k ws w) ∙ ap (is_known k) (sym is)
+
+known_swap : (k : Key) (ws : List Write) → is_known k (reverse ws) ≡ is_known k ws
+known_swap k ws = list_any-reverse (λ w. key_eq w.key k) ws
+
+-- the keys of the log are those that accepted writes named
+pub known_by_log : (s : Setting) (h : List Entry) (items ws : List Write) (r : Result (BTreeSet Key) AllocError) → reverse items ≡ ws → ws ≡ writes s h
+    → IfOk r (λ keys. (k : Key) → contains key_cmp keys k ≡ is_known k items) → IfOk r (λ keys. (k : Key) → contains key_cmp keys k ≡ is_known k (writes s h))
+known_by_log s h items ws r turned is found =
+    IfOk-weaker r _ _ (λ keys each k. each k ∙ sym (known_swap k items) ∙ ap (is_known k) (turned ∙ is)) found
 
 -- ---- the search
 

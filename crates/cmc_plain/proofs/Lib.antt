@@ -15,4 +15,6 @@ pub mod Beginning
 pub mod Ordering
 pub mod Passing
 pub mod Keys
+pub mod Sights
+pub mod Ending
 pub mod Turns

@@ -293,7 +293,10 @@ const WHOLE: [(&str, &str); 22] = [
     (r#"{"roles":"trigger"}"#, "roles"),
     (r#"{"roles":["trigger","keymanager"]}"#, "roles.1"),
     (r#"{"roles":["Trigger"]}"#, "roles.0"),
-    (r#"{"roles":["trigger"],"script":[{"do":"settle"}]}"#, "done"),
+    (
+        r#"{"roles":["trigger"],"script":[{"do":"settle"}]}"#,
+        "done",
+    ),
     (
         r#"{"roles":[],"script":[{"a":1,"do":"settle"}]}"#,
         "script.0.a",

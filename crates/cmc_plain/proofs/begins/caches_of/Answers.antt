@@ -1,4 +1,14 @@
+use Rattle.std.proofs.Common.{◌≡◌, List, subst, ◌∙◌, ap}
+use Rattle.cmc_objects.specs.declared.entry.Positions.{Positions}
+use Rattle.cmc_model.specs.declared.write.Write.{Write}
+use Rattle.cmc_model.specs.Writes.{writes}
+use Rattle.cmc_model.specs.Viewing.{views_in}
+use Rattle.cmc_held.specs.Sight.{caches_at}
+use Rattle.cmc_world.specs.Kept.{setting_of}
+use Rattle.cmc_plain.proofs.Sights.{sees_told}
 use Rattle.cmc_plain.proofs.begins.caches_of.Goals as goal
 
 pub returns : goal.returns
-returns c = ?
+returns c =
+    sees_told (setting_of c.args.world.now.scenario) c.args.world.now.history c.args.role c.log-log.result.now.writes c.told-at.result c.in_ok-replay.field-0 c.in_ok-replay-2.field-0 c.in_ok-replay-3.field-0
+    c.log-log.ensures c.told-at.ensures c.in_ok-replay.ensures c.in_ok-replay-2.ensures c.in_ok-replay-3.ensures
