@@ -142,12 +142,7 @@ impl World {
     /// # Errors
     ///
     /// Want of memory alone.
-    pub fn is_idle(
-        &self,
-        alloc: Global,
-        role: Role,
-        seen: &Views,
-    ) -> Result<bool, AllocError>
+    pub fn is_idle(&self, alloc: Global, role: Role, seen: &Views) -> Result<bool, AllocError>
         requires { HasDatedFailure seen.now }
         ensures { IfOk result (λ b. IsTrue b ↔ spec.IsIdle (setting_of self.now.scenario) self.now.history role seen.now) }
     {

@@ -267,7 +267,7 @@ fn answers_an_old_version_with_a_conflict(rt: HostRuntime) -> Result<(), Fail> {
 }
 
 /// Whole inputs, each with the path that fails first, or its end.
-const WHOLE: [(&str, &str); 22] = [
+const WHOLE: [(&str, &str); 27] = [
     (
         r#"{"roles":[],"script":[{"do":"apply","object":{"apiVersion":"v1","data":{"a":"AAA"},"kind":"Secret","metadata":{"name":"s"}}}]}"#,
         "script.0.object.data.a",

@@ -8,4 +8,4 @@ use Rattle.cmc_world.proofs.world.World.objects.Goals as goal
 pub returns : goal.returns
 returns c =
     subst (λ (v : Seen). finite.entries (objects (setting_of v.scenario) v.history) ≡ c.objects.result.now.entries) c.self.view_is
-      (ap (λ (st : State). finite.entries st.objects) (sym c.self.invariant.held.state) ∙ c.objects.ensures)
+    (ap (λ (st : State). finite.entries st.objects) (sym c.self.invariant.held.state) ∙ c.objects.ensures)
