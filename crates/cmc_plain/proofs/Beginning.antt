@@ -74,9 +74,14 @@ may_begin s h role key m =
     let r = room_or_spent s h (nat_le (length h + 1) s.events) refl in
     record {
       answer = r.answer;
-      answers = inr (m.running, inr (m.idle,
-      told_own (own_above (past s h role key).own (positions h role)) r.answer (λ v e. not_due_behind (past s h role key) (views s h role key) (moment s h) (positions h role) v e m.due)
-      (inr (m.due.other, inr (m.queued, r.room)))));
+      answers = inr (
+        m.running,
+        inr (
+          m.idle,
+          told_own (own_above (past s h role key).own (positions h role)) r.answer (λ v e. not_due_behind (past s h role key) (views s h role key) (moment s h) (positions h role) v e m.due)
+              (inr (m.due.other, inr (m.queued, r.room))),
+        ),
+      );
       accepted = r.accepted;
     }
 
@@ -88,9 +93,11 @@ unfit_busy s h role key b free off =
 
 pub unfit_undue : (s : Setting) (h : List Entry) (role : Role) (key : Key) (seen : Views) (b : Bool) → seen ≡ views s h role key → (IsTrue b ↔ IsDue (past s h role key) seen (moment s h) (positions h role)) → b ≡ false
     → IsTrue false ↔ Fits s h role key
-unfit_undue s h role key seen b is due off =
-    (λ bad. absurd (cc), λ f. let m = begins_by s h role key f.possible in
-    let on = due.1 (subst (λ (v : Views). IsDue (past s h role key) v (moment s h) (positions h role)) (sym is) m.due) in absurd (cc (on, off)))
+unfit_undue s h role key seen b is due off = (
+  λ bad. absurd (cc),
+  λ f. let m = begins_by s h role key f.possible in
+      let on = due.1 (subst (λ (v : Views). IsDue (past s h role key) v (moment s h) (positions h role)) (sym is) m.due) in absurd (cc (on, off)),
+)
 
 pub fit_worth : (s : Setting) (h : List Entry) (role : Role) (key : Key) (seen : Views) (b : Bool) (r : Result Bool AllocError) → seen ≡ views s h role key
     → runs s h role ≡ true → is_known key (writes s h) ≡ true → IsFree s h role key

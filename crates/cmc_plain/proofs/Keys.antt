@@ -113,10 +113,10 @@ pub key_found : (s : Setting) (h : List Entry) (role : Role) (key : Key) (rest :
 key_found s h role key rest fits l = (fits, below) where
   below : (k : Key) → key_cmp k key ≡ Less → Fits s h role k → ⊥
   below k low f =
-    let some : (is_eq (key_cmp k key) || list_any (is_at (key_cmp k)) rest) ≡ true = l.left k f in
-    let none : (is_eq (key_cmp k key) || list_any (is_at (key_cmp k)) rest) ≡ false =
-    ap (λ r. is_eq r || list_any (is_at (key_cmp k)) rest) low ∙ none_at k key rest low (sorted_head key_cmp key rest l.ordered) in
-    absurd (cc (some, none))
+      let some : (is_eq (key_cmp k key) || list_any (is_at (key_cmp k)) rest) ≡ true = l.left k f in
+      let none : (is_eq (key_cmp k key) || list_any (is_at (key_cmp k)) rest) ≡ false =
+      ap (λ r. is_eq r || list_any (is_at (key_cmp k)) rest) low ∙ none_at k key rest low (sorted_head key_cmp key rest l.ordered) in
+      absurd (cc (some, none))
 
 -- and where none is left, none does
 pub no_key_left : (s : Setting) (h : List Entry) (role : Role) → KeysLeft s h role [] → FindsKey s h role None

@@ -74,14 +74,18 @@ pub fewer_left : (s : Setting) (h : List Entry) (e : ℕ × OpenPass) (es : List
 fewer_left s h e es b possible off l = record { ordered = sorted_tail nat_cmp e.0 (keys_of es) l.ordered; opened = opened; left = left } where
   not_here : IsGoing s h e.0 → ⊥
   not_here going = let on = possible.1 (going_first s h e es l going) in absurd (cc (on, off))
+
   opened_by : (n : ℕ) (p : OpenPass) → (n ≡ e.0) ⊎ (n ≡ e.0 → ⊥) → pass_at es n ≡ Some p → open_pass s h n ≡ Some p
   opened_by n p (inl same) is = let none : pass_at es n ≡ None = ap (pass_at es) same ∙ absent e.0 es (sorted_head nat_cmp e.0 (keys_of es) l.ordered) in absurd (cc (none, is))
   opened_by n p (inr apart) is = l.opened n p (at_other n e es apart ∙ is)
+
   opened : (n : ℕ) (p : OpenPass) → pass_at es n ≡ Some p → open_pass s h n ≡ Some p
   opened n p is = opened_by n p (apart_or_same (n == e.0) n e.0 refl) is
+
   left_by : (n : ℕ) → (n ≡ e.0) ⊎ (n ≡ e.0 → ⊥) → IsGoing s h n → pass_at es n ≡ open_pass s h n
   left_by n (inl same) going = absurd (not_here (subst (IsGoing s h) same going))
   left_by n (inr apart) going = sym (at_other n e es apart) ∙ l.left n going
+
   left : (n : ℕ) → IsGoing s h n → pass_at es n ≡ open_pass s h n
   left n going = left_by n (apart_or_same (n == e.0) n e.0 refl) going
 
@@ -95,9 +99,9 @@ first_going s h e es possible l = record {
 } where
   none_below : (m : ℕ) → nat_cmp m e.0 ≡ Less → IsGoing s h m → ⊥
   none_below m low going =
-    subst (IsGoingPass s h m)
-    (sym (l.left m going) ∙ absent m (e ∷ es) (low, below_all m e.0 (keys_of es) low (sorted_head nat_cmp e.0 (keys_of es) l.ordered)))
-    going
+      subst (IsGoingPass s h m)
+      (sym (l.left m going) ∙ absent m (e ∷ es) (low, below_all m e.0 (keys_of es) low (sorted_head nat_cmp e.0 (keys_of es) l.ordered)))
+      going
 
 -- and where none is left, none does
 pub none_going : (s : Setting) (h : List Entry) → AreLeft s h [] → HasNoPass s h

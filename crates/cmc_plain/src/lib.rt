@@ -3,6 +3,7 @@
 
 mod begins;
 mod choosing;
+mod counting;
 mod deliveries;
 mod driving;
 mod laws;
@@ -11,5 +12,6 @@ mod possible;
 mod roles;
 
 pub use choosing::plain;
+pub use counting::summary;
 pub use driving::{Driven, drive_plain};
 pub use laws::plain_histories_agree;

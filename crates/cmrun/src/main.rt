@@ -7,7 +7,6 @@
 mod memory;
 mod sink;
 mod source;
-mod summary;
 mod top;
 
 use sink::StdSink;

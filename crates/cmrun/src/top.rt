@@ -13,9 +13,8 @@ ghost use Rattle.cmrun.specs.Statuses.{Explains, Refuses, RefusesValue, SpendsOn
 
 use crate::sink::{Sink, write_lines};
 use crate::source::{ReadError, Source, read_all};
-use crate::summary::summarize;
 use cmc_meta::Text;
-use cmc_plain::{Driven, drive_plain};
+use cmc_plain::{Driven, drive_plain, summary};
 use cmc_report::{Lines, history_text};
 use cmc_scenario::{BadScenario, Scenario, read};
 use cmc_world::World;
@@ -63,8 +62,8 @@ fn lines_of(alloc: Global, value: &Value, world: &World) -> Result<Lines, AllocE
     ensures { IfOk result (λ lines. RunsOn (view value.now) world.now.scenario (joined lines)) }
 {
     world.is_run();
-    let summary = summarize(alloc, world.objects())?;
-    history_text(alloc, value, world.history(), &summary)
+    let counts = summary(alloc, world)?;
+    history_text(alloc, value, world.history(), &counts)
 }
 
 /// The lines of the run of a scenario, which the value is.

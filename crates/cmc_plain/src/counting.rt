@@ -1,11 +1,14 @@
-// What stands at the end of a run.
+//! What stands at the end of a run.
 ghost use Rattle.std.specs.List.{list_any};
 ghost use Rattle.std.specs.Prelude.{◌≡◌, ◌&&◌, IfOk, count_by};
-ghost use Rattle.cmc_model.specs.Summaries.{is_ready_kind, is_true, says_ready, is_certificate, is_secret, is_ready, is_waiting, waits, summary_of_entries};
+ghost use Rattle.cmc_model.specs.Histories.{objects};
+ghost use Rattle.cmc_model.specs.Summaries.{is_ready_kind, is_true, says_ready, is_certificate, is_secret, is_ready, is_waiting, waits, summary_of, summary_of_entries};
+ghost use Rattle.cmc_world.specs.Kept.{setting_of};
 
 use cmc_meta::{Condition, ConditionKind, Key, Tri};
 use cmc_model::{Summary, WaitName, Waiting, Waits};
 use cmc_objects::Object;
+use cmc_world::World;
 use std::alloc::{AllocError, Global};
 use std::collections::BTreeMap;
 
@@ -97,8 +100,8 @@ fn waiting(alloc: Global, objects: &Objects) -> Result<Waits, AllocError>
     Ok(waiting)
 }
 
-/// The summary of the objects that stand.
-pub fn summarize(alloc: Global, objects: &Objects) -> Result<Summary, AllocError>
+/// The summary of these objects.
+fn summarize(alloc: Global, objects: &Objects) -> Result<Summary, AllocError>
     ensures { IfOk result (λ s. s ≡ summary_of_entries objects.now.entries) }
 {
     Ok(Summary {
@@ -107,4 +110,16 @@ pub fn summarize(alloc: Global, objects: &Objects) -> Result<Summary, AllocError
         secrets: secrets(objects),
         waiting: waiting(alloc, objects)?,
     })
+}
+
+/// The summary of a world: how many Certificates stand, how many of them are Ready, how many Secrets
+/// stand, and what each Certificate that is not Ready waits for, in order of key.
+///
+/// # Errors
+///
+/// Want of memory alone.
+pub fn summary(alloc: Global, world: &World) -> Result<Summary, AllocError>
+    ensures { IfOk result (λ s. s ≡ summary_of (objects (setting_of world.now.scenario) world.now.history)) }
+{
+    summarize(alloc, world.objects())
 }
