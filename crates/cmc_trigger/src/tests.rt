@@ -1,6 +1,6 @@
 //! What no clause says: what is written, as texts, and that there is an answer where memory is ample.
 ghost use Rattle.std.specs.Prelude.{◌≡◌, IfOk};
-ghost use Rattle.cmc_model.specs.Triggering.{IsDatedOption, HasDatedFailure};
+ghost use Rattle.cmc_rules.specs.Triggering.{IsDatedOption, HasDatedFailure};
 
 use crate::{act, changes_issuing_alone};
 use cmc_meta::{
@@ -108,6 +108,7 @@ fn spec(alloc: Global) -> Result<CertSpec, AllocError> {
             encoding: None,
             rotation: None,
         },
+        renew_percent: None,
         history_limit: None,
     })
 }

@@ -1,8 +1,8 @@
 //! What the roles do.
 ghost use Rattle.std.specs.Prelude.{◌≡◌, IfOk};
-ghost use Rattle.cmc_model.specs.declared.pass.Desk.{Desk as DeskValue};
-ghost use Rattle.cmc_model.specs.Acts as acts;
-ghost use Rattle.cmc_model.specs.Triggering.{HasDatedFailure};
+ghost use Rattle.cmc_pass.specs.declared.pass.Desk.{Desk as DeskValue};
+ghost use Rattle.cmc_rules.specs.Acts as acts;
+ghost use Rattle.cmc_rules.specs.Triggering.{HasDatedFailure};
 ghost use Rattle.cmc_world.specs.Acting.{act_by};
 
 use cmc_meta::Texts;
@@ -38,7 +38,7 @@ fn trigger_call(alloc: Global, seen: &Views, now: i64) -> Result<Option<Call>, A
 
 /// The call that the role makes on these views at the moment `now`, in seconds since
 /// 1970-01-01T00:00:00Z; none where it does nothing.
-#[tactic(auto, unfolding(cmc_model::specs::Acts::act))]
+#[tactic(auto, unfolding(cmc_rules::specs::Acts::act))]
 pub(crate) fn act_of(
     alloc: Global,
     role: Role,

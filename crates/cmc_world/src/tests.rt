@@ -75,6 +75,7 @@ fn spec(alloc: Global, secret: &str, host: &str) -> Result<CertSpec, Fail> {
             encoding: None,
             rotation: None,
         },
+        renew_percent: None,
         history_limit: None,
     })
 }
