@@ -7,10 +7,6 @@ mod acts;
 mod issuing;
 mod reasons;
 mod rights;
-#[cfg(test)]
-mod tests;
-#[cfg(test)]
-mod tests_of_views;
 
 pub use acts::act;
 pub use rights::changes_issuing_alone;

@@ -62,5 +62,3 @@ fn ended(rt: &impl Eprint, text: &str, code: u8) -> ExitCode {
 
 #[cfg(test)]
 mod tests;
-#[cfg(test)]
-mod tests_of_types;

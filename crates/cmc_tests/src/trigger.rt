@@ -2,16 +2,12 @@
 ghost use Rattle.std.specs.Prelude.{◌≡◌, IfOk};
 ghost use Rattle.cmc_rules.specs.Triggering.{IsDatedOption, HasDatedFailure};
 
-use crate::{act, changes_issuing_alone};
-use cmc_meta::{
-    Bytes, Condition, ConditionKind, Conditions, Name, ObjectMeta, Owners, Pairs, Text, Texts, Tri,
-};
-use cmc_objects::{
-    Call, CertSpec, CertStatus, Certificate, IssuerRef, KeySpec, Material, Object, Parts, Rules,
-    Secret,
-};
+use crate::values::{least_spec, new_meta, octets, text};
+use cmc_meta::{Bytes, Condition, ConditionKind, Conditions, Text, Texts, Tri};
+use cmc_objects::{Call, CertStatus, Certificate, Material, Object, Parts, Rules, Secret};
 use cmc_pass::{Act, Desk, Views};
 use cmc_policy_rules::Policies;
+use cmc_trigger::{act, changes_issuing_alone};
 use std::alloc::{AllocError, Global};
 use std::test::Fail;
 
@@ -38,86 +34,14 @@ struct Case {
     attempts: Option<u32>,
 }
 
-fn digit(letter: u8) -> u8 {
-    match letter {
-        b'0'..=b'9' => letter - b'0',
-        b'a'..=b'f' => letter - b'a' + 10,
-        _ => 0,
-    }
+fn bytes(alloc: Global, text: &str) -> Result<Bytes, AllocError> {
+    Bytes::from_slice(alloc, octets(alloc, text)?.as_slice())
 }
 
-fn octets(alloc: Global, text: &str) -> Result<Bytes, AllocError> {
-    let mut octets = Bytes::new(alloc);
-    let mut high = None;
-    for letter in text.bytes() {
-        match high {
-            None => high = Some(digit(letter)),
-            Some(first) => {
-                octets.push(first << 4 | digit(letter))?;
-                high = None;
-            }
-        }
-    }
-    Ok(octets)
-}
-
-fn name(alloc: Global, text: &str) -> Result<Name, AllocError> {
-    match Name::read(alloc, text) {
-        Ok(name) => Ok(name),
-        Err(_) => Err(AllocError),
-    }
-}
-
-fn meta(alloc: Global, text: &str) -> Result<ObjectMeta, AllocError> {
-    let namespace = name(alloc, "default")?;
-    let name = name(alloc, text)?;
-    Ok(ObjectMeta {
-        namespace,
-        name,
-        uid: 1,
-        version: 3,
-        generation: 1,
-        created: 0,
-        labels: Pairs::new(alloc),
-        annotations: Pairs::new(alloc),
-        owners: Owners::new(alloc),
-    })
-}
-
-fn spec(alloc: Global) -> Result<CertSpec, AllocError> {
-    let secret_name = name(alloc, "web-tls")?;
-    let issuer = Text::from_str(alloc, "ca")?;
-    Ok(CertSpec {
-        secret_name,
-        issuer: IssuerRef {
-            name: issuer,
-            kind: None,
-            group: None,
-        },
-        common_name: Text::new(alloc),
-        dns_names: Texts::new(alloc),
-        ip_addresses: Texts::new(alloc),
-        uris: Texts::new(alloc),
-        emails: Texts::new(alloc),
-        is_ca: false,
-        usages: Texts::new(alloc),
-        duration: None,
-        renew_before: None,
-        key: KeySpec {
-            algorithm: None,
-            size: None,
-            encoding: None,
-            rotation: None,
-        },
-        renew_percent: None,
-        history_limit: None,
-    })
-}
-
-fn conditions(alloc: Global, issuing: Option<Tri>) -> Result<Conditions, AllocError> {
+fn conditions(alloc: Global, issuing: Option<Tri>) -> Result<Conditions, Fail> {
     let mut conditions = Conditions::new(alloc);
     if let Some(status) = issuing {
-        let reason = Text::from_str(alloc, "Failed")?;
+        let reason = text(alloc, "Failed")?;
         conditions.set(Condition {
             kind: ConditionKind::Issuing,
             status,
@@ -134,11 +58,12 @@ fn certificate(
     conditions: Conditions,
     failed: Option<i64>,
     attempts: Option<u32>,
-) -> Result<Certificate, AllocError>
+) -> Result<Certificate, Fail>
     ensures { IfOk result (λ c. c.status.last_failure ≡ failed) }
 {
-    let meta = meta(alloc, "web")?;
-    let spec = spec(alloc)?;
+    let mut meta = new_meta(alloc, "web")?;
+    meta.version = 3;
+    let spec = least_spec(alloc, "web-tls", "example.com")?;
     Ok(Certificate {
         meta,
         spec,
@@ -156,19 +81,16 @@ fn certificate(
 }
 
 /// The Secret, without the parts that are empty texts.
-fn secret(alloc: Global, key: &str, certificate: &str) -> Result<Secret, AllocError> {
+fn secret(alloc: Global, key: &str, certificate: &str) -> Result<Secret, Fail> {
     let mut parts = Parts::new(alloc);
     if !key.is_empty() {
-        parts.set(Text::from_str(alloc, "tls.key")?, octets(alloc, key)?)?;
+        parts.set(text(alloc, "tls.key")?, bytes(alloc, key)?)?;
     }
     if !certificate.is_empty() {
-        parts.set(
-            Text::from_str(alloc, "tls.crt")?,
-            octets(alloc, certificate)?,
-        )?;
+        parts.set(text(alloc, "tls.crt")?, bytes(alloc, certificate)?)?;
     }
-    let meta = meta(alloc, "web-tls")?;
-    let kind_text = Text::from_str(alloc, "Opaque")?;
+    let meta = new_meta(alloc, "web-tls")?;
+    let kind_text = text(alloc, "Opaque")?;
     Ok(Secret {
         meta,
         kind_text,
@@ -207,7 +129,7 @@ fn desk(alloc: Global) -> Desk {
     }
 }
 
-fn views(alloc: Global, case: &Case) -> Result<Views, AllocError>
+fn views(alloc: Global, case: &Case) -> Result<Views, Fail>
     requires { IsDatedOption case.now.failed }
     ensures { IfOk result HasDatedFailure }
 {
@@ -223,13 +145,13 @@ fn views(alloc: Global, case: &Case) -> Result<Views, AllocError>
     Ok(views)
 }
 
-fn told_of(alloc: Global, case: &Case) -> Result<String, AllocError>
+fn told_of(alloc: Global, case: &Case) -> Result<String, Fail>
     requires { IsDatedOption case.now.failed }
 {
     let views = views(alloc, case)?;
     let desk = desk(alloc);
     let act = act(alloc, &views, NOW, &desk)?;
-    told(alloc, &act)
+    Ok(told(alloc, &act)?)
 }
 
 #[test]

@@ -1,89 +1,20 @@
 // What no clause says: that each answer of a step can come, and that passes write, find nothing to do and are
 // refused. Pseudo-random moves are made on a world of several Certificates and Secrets, with lag, stops and starts.
-use crate::moves::{Lack, Move, Stepped};
-use crate::world::World;
+use crate::values::{key, least_spec, new_meta, text};
 use cmc_history::History;
-use cmc_meta::{
-    Bytes, Conditions, Key, Kind, Name, Numbers, ObjectMeta, Owners, Pairs, Text, Texts,
-};
+use cmc_meta::{Bytes, Conditions, Key, Kind, Numbers, Texts};
 use cmc_objects::{
-    Cause, CertSpec, CertStatus, Certificate, Entry, IssuerRef, KeySpec, Material, Object, Parts,
-    Role, Rules, Secret, Step,
+    Cause, CertStatus, Certificate, Entry, Material, Object, Parts, Role, Rules, Secret, Step,
 };
 use cmc_policy_rules::Policies;
 use cmc_scenario::{Roles, Scenario, Steps, is_setup};
+use cmc_world::{Lack, Move, Stepped, World};
 use std::alloc::Global;
 use std::test::Fail;
 
-fn text(alloc: Global, text: &str) -> Result<Text, Fail> {
-    Ok(Text::from_str(alloc, text)?)
-}
-
-fn name(alloc: Global, text: &str) -> Result<Name, Fail> {
-    match Name::read(alloc, text) {
-        Ok(name) => Ok(name),
-        Err(_) => Err(Fail::from("no name")),
-    }
-}
-
-fn key(alloc: Global, kind: Kind, text: &str) -> Result<Key, Fail> {
-    let namespace = name(alloc, "default")?;
-    Ok(Key {
-        kind,
-        namespace,
-        name: name(alloc, text)?,
-    })
-}
-
-fn meta(alloc: Global, text: &str) -> Result<ObjectMeta, Fail> {
-    let namespace = name(alloc, "default")?;
-    Ok(ObjectMeta {
-        namespace,
-        name: name(alloc, text)?,
-        uid: 0,
-        version: 0,
-        generation: 0,
-        created: 0,
-        labels: Pairs::new(alloc),
-        annotations: Pairs::new(alloc),
-        owners: Owners::new(alloc),
-    })
-}
-
-fn spec(alloc: Global, secret: &str, host: &str) -> Result<CertSpec, Fail> {
-    let issuer = IssuerRef {
-        name: text(alloc, "ca")?,
-        kind: None,
-        group: None,
-    };
-    let mut dns_names = Texts::new(alloc);
-    dns_names.push(text(alloc, host)?)?;
-    Ok(CertSpec {
-        secret_name: name(alloc, secret)?,
-        issuer,
-        common_name: Text::new(alloc),
-        dns_names,
-        ip_addresses: Texts::new(alloc),
-        uris: Texts::new(alloc),
-        emails: Texts::new(alloc),
-        is_ca: false,
-        usages: Texts::new(alloc),
-        duration: None,
-        renew_before: None,
-        key: KeySpec {
-            algorithm: None,
-            size: None,
-            encoding: None,
-            rotation: None,
-        },
-        renew_percent: None,
-        history_limit: None,
-    })
-}
-
 fn certificate(alloc: Global, word: &str, secret: &str, host: &str) -> Result<Step, Fail> {
-    let meta = meta(alloc, word)?;
-    let spec = spec(alloc, secret, host)?;
+    let meta = new_meta(alloc, word)?;
+    let spec = least_spec(alloc, secret, host)?;
     let status = CertStatus {
         conditions: Conditions::new(alloc),
         last_failure: None,
@@ -101,7 +32,7 @@ fn certificate(alloc: Global, word: &str, secret: &str, host: &str) -> Result<St
 }
 
 fn secret(alloc: Global, word: &str) -> Result<Step, Fail> {
-    let meta = meta(alloc, word)?;
+    let meta = new_meta(alloc, word)?;
     let mut bytes = Bytes::new(alloc);
     bytes.push(0)?;
     let mut parts = Parts::new(alloc);

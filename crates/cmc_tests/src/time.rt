@@ -1,4 +1,4 @@
-use crate::*;
+use cmc_time::*;
 use std::test::Fail;
 
 // The seconds are those of Python's datetime and of `date -u -d .. +%s`.

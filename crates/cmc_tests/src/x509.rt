@@ -1,37 +1,15 @@
 //! What no clause says: that material which openssl made is read with the fields that it prints.
 ghost use Rattle.cmc_x509.specs.Lists.{IsValueList};
 
-use crate::{
-    CertFields, CsrFields, KeyKind, Names, Spki, key_public, made_certificates, made_keys,
-    made_requests, next_name, read_cert, read_csr, read_key,
+use crate::values::octets;
+use crate::{made_certificates, made_keys, made_requests};
+use cmc_x509::{
+    CertFields, CsrFields, KeyKind, Names, Spki, key_public, next_name, read_cert, read_csr,
+    read_key,
 };
 use std::alloc::{AllocError, Global};
 use std::process::Abort;
 use std::test::Fail;
-
-fn digit(letter: u8) -> u8 {
-    match letter {
-        b'0'..=b'9' => letter - b'0',
-        b'a'..=b'f' => letter - b'a' + 10,
-        _ => 0,
-    }
-}
-
-/// The octets that a text of two hexadecimal digits each spells.
-fn octets(alloc: Global, text: &str) -> Result<Vec<u8>, AllocError> {
-    let mut octets = Vec::new(alloc);
-    let mut high = None;
-    for letter in text.bytes() {
-        match high {
-            None => high = Some(digit(letter)),
-            Some(first) => {
-                octets.push(first << 4 | digit(letter))?;
-                high = None;
-            }
-        }
-    }
-    Ok(octets)
-}
 
 fn hex(alloc: Global, octets: &[u8]) -> Result<String, AllocError> {
     let mut text = String::new(alloc);

@@ -1,7 +1,7 @@
 ghost use Rattle.std.specs.Prelude.{◌≡◌, [], ◌∷◌};
 ghost use Rattle.cmc_policies.specs.Reasons.{first_of as first_reason};
 
-use crate::*;
+use cmc_policies::*;
 use std::test::Fail;
 
 // As a controller builds its chain: each closure captures the frame alone.
@@ -57,7 +57,10 @@ fn first_reason(rt: HostRuntime) -> Result<(), Fail> {
 
 #[test]
 fn times(rt: HostRuntime) -> Result<(), Fail> {
-    assert_eq!(rt; renewal_time(0, 7_776_000, Renew::Before(7_776_000)), 5_184_000);
+    assert_eq!(rt;
+        renewal_time(0, 7_776_000, Renew::Before(7_776_000)),
+        5_184_000
+    );
     assert_eq!(rt; renewal_time(0, 7_776_000, Renew::Before(7_775_999)), 1);
     assert_eq!(rt; renewal_time(0, 10, Renew::Default), 6);
     assert_eq!(rt; renewal_time(0, 3600, Renew::Percent(25)), 2700);

@@ -1,35 +1,12 @@
 //! What no clause says: values that openssl made and wrote, and the vectors of the refusals.
 ghost use Rattle.std.specs.Prelude.{◌^◌, ◌<◌, length};
 
-use crate::made::{EC_PUBLIC, MADE, RSA_PUBLIC};
-use crate::{DerFault, KeyKind, Spki, Tlv, Writer, read_one};
+use crate::made_values::{EC_PUBLIC, MADE, RSA_PUBLIC};
+use crate::values::octets;
+use cmc_der::{DerFault, KeyKind, Spki, Tlv, Writer, read_one};
 use std::alloc::{AllocError, Global};
 use std::process::Abort;
 use std::test::Fail;
-
-fn digit(letter: u8) -> u8 {
-    match letter {
-        b'0'..=b'9' => letter - b'0',
-        b'a'..=b'f' => letter - b'a' + 10,
-        _ => 0,
-    }
-}
-
-/// The octets that a text of two hexadecimal digits each spells.
-fn octets(alloc: Global, text: &str) -> Result<Vec<u8>, AllocError> {
-    let mut octets = Vec::new(alloc);
-    let mut high = None;
-    for letter in text.bytes() {
-        match high {
-            None => high = Some(digit(letter)),
-            Some(first) => {
-                octets.push(first << 4 | digit(letter))?;
-                high = None;
-            }
-        }
-    }
-    Ok(octets)
-}
 
 /// What was read: the tag, the body and the rest, or the fault.
 fn told(alloc: Global, input: &str) -> Result<String, AllocError> {

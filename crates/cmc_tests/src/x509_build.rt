@@ -1,9 +1,12 @@
 //! Tests against what openssl 3.0.19 made: `openssl req -new` of the names below, and `openssl ca` of that request, with
 //! no other extension, from 2030-01-01 to 2050-01-01.
-use crate::*;
 use cmc_der::{KeyKind, Spki};
 use cmc_meta::{Text, Texts};
 use cmc_x509::{read_cert, read_csr};
+use cmc_x509_build::{
+    CertPlan, NameSet, address_at, cert_body, cert_whole, csr_body, csr_whole, key_file_serves,
+    request_serves,
+};
 use std::alloc::{AllocError, Global};
 use std::test::Fail;
 
@@ -144,4 +147,24 @@ fn addresses(rt: HostRuntime) {
     ] {
         assert!(rt; address_at(text).is_none(), "{text}");
     }
+}
+
+#[test]
+fn copies_plans_and_names(rt: HostRuntime) -> Result<(), Fail> {
+    let alloc = rt.alloc();
+    key_file_serves();
+    request_serves();
+    let copied = names(alloc)?.copy()?;
+    assert_eq!(rt; copied.common.as_str(), "example.com");
+    assert_eq!(rt; copied.ips.as_slice().len(), 2);
+    let plan = CertPlan {
+        serial: 10,
+        issuer: Text::from_str(alloc, "ca")?,
+        not_before: 1_893_456_000,
+        not_after: 2_524_608_000,
+    };
+    let copied = plan.copy()?;
+    assert_eq!(rt; copied.issuer.as_str(), "ca");
+    assert_eq!(rt; copied.not_after, 2_524_608_000);
+    Ok(())
 }
