@@ -157,7 +157,7 @@ stop_kept s h k w made role t opened kept may due counted put closed grown =
     (kept_stopped s (Script (scripted h + 1) ∷ h) (record w { made = made }) role t opened stepped.0 due (omega (arith, stepped.1)) put closed)
 
 -- a start tells of no more than was written
-low_start : (s : Setting) (h : List Entry) (step : Step) (role : Role) (at : ℕ) → effect_of s h step ≡ Some (effects.Start role at) → at ≤ accepted s h
+pub low_start : (s : Setting) (h : List Entry) (step : Step) (role : Role) (at : ℕ) → effect_of s h step ≡ Some (effects.Start role at) → at ≤ accepted s h
 unfolding call_of
 low_start s h (steps.Start other behind) role at has = let is : accepted s h - behind ≡ at = cc has in omega (arith, is)
 low_start s h other role at has = absurd (cc has)

@@ -191,6 +191,15 @@ may_step s h a =
     let three = met (Spent (length h)) (not_spent (length h)) two.1 in
     record { left = one.0; ready = two.0; room = three.0 }
 
+last_row : (s : Setting) (h : List Entry) (pass : ℕ) (out : Option ℕ)
+    → BarOf out (λ present. Ended present) Done (Need (IsOpen (open_pass s h pass)) (NotNow (NoPass pass)) Done (Fits s h 1 Done)) → length h + 1 ≤ s.events
+last_row s h pass None a = (met (Spent (length h)) (not_spent (length h)) (met (NotNow (NoPass pass)) (not_now (NoPass pass)) a).1).0
+last_row s h pass (Some present) a = absurd (cc a)
+
+-- there is room for the entry of a pass that goes on
+pub room_next : (s : Setting) (h : List Entry) (pass named : ℕ) → AnswersNext s h pass named Done → length h + 1 ≤ s.events
+room_next s h pass named a = last_row s h pass (outdated s h named (origin_at pass (origins s h))) a
+
 pub the_done : (answer : Stepped) → is_done answer ≡ true → answer ≡ Done
 the_done Done e = refl
 the_done (NotNow lack) e = absurd (cc e)

@@ -179,7 +179,7 @@ impl World {
     fn call(&mut self, alloc: Global, pass: u64, call: Call) -> Result<(), AllocError>
         requires may { MayCall (setting_of self.old.scenario) self.old.history (spec.open_pass (setting_of self.old.scenario) self.old.history pass) call }
         requires room { length self.old.history < self.old.scenario.events }
-        ensures ok { OnOk result (MadeCall pass call self.old self.new) }
+        ensures ok { OnOk result (MadeCall (Who.Pass pass) call self.old self.new) }
         ensures err { OnErr result (self.new ≡ self.old) }
     {
         self.is_short();
