@@ -1,30 +1,20 @@
 -- What a begin needs beside room, and when a key fits a role.
-use Rattle.std.proofs.Common.{◌≡◌, ◌⊎◌, ℕ, ◌+◌, ◌≤◌, Bool, true, false, Option, Some, None, List, length, refl, sym, subst, ◌∙◌, inl, inr, arith}
-use Rattle.std.proofs.lemmas.Bool.Decides.{nat_tests}
+use Rattle.std.proofs.Common.{◌≡◌, Bool, true, false, List, sym, subst}
 use Rattle.std.proofs.lemmas.Result.{IfOk-weaker}
-use Rattle.std.specs.Prelude.{◌↔◌, IsTrue, IfOk, Result, nat_le, not}
+use Rattle.std.specs.Prelude.{◌↔◌, IsTrue, IfOk, Result}
 use Rattle.std.specs.declared.alloc.AllocError.{AllocError}
 use Rattle.cmc_plain.specs.Plain.{MayBegin}
 use Rattle.cmc_meta.specs.declared.key.Key.{Key}
 use Rattle.cmc_objects.specs.declared.role.Role.{Role}
 use Rattle.cmc_objects.specs.declared.entry.Entry.{Entry}
 use Rattle.cmc_pass.specs.declared.pass.Views.{Views}
-use Rattle.cmc_rules.specs.declared.progress.Past.{Past}
 use Rattle.cmc_model.specs.Histories.{Setting, moment, runs}
 use Rattle.cmc_model.specs.Writes.{writes, is_known}
-use Rattle.cmc_rules.specs.Positions.{kind_of_work, positions}
+use Rattle.cmc_rules.specs.Positions.{positions}
 use Rattle.cmc_rules.specs.Viewing.{views}
 use Rattle.cmc_rules.specs.Memory.{past}
-use Rattle.cmc_rules.specs.Sameness.{IsDue, IsSame}
-use Rattle.cmc_rules.specs.Resting.{IsIdle}
-use Rattle.cmc_rules.specs.Sameness.{own_above}
-use Rattle.cmc_world.specs.declared.moves.Move.TheVariants.{Begin}
-use Rattle.cmc_world.specs.declared.moves.Lack.TheVariants.{Stopped, NotQueued, InProcess, SameViews, OwnWrite}
-use Rattle.cmc_world.specs.declared.moves.Stepped.{Stepped}
-use Rattle.cmc_world.specs.declared.moves.Stepped.TheVariants.{Done, NotNow, Spent}
-use Rattle.cmc_world.specs.Answers.{Need, Bar, BarOf, Fits as HasRoom, AnswersBegin, IsQueued}
-use Rattle.cmc_rules.specs.Passes.{IsWorking}
-use Rattle.cmc_plain.specs.Plain.{IsWorth, Fits, seen_last}
+use Rattle.cmc_rules.specs.Sameness.{IsDue}
+use Rattle.cmc_plain.specs.Plain.{IsWorth, Fits}
 use Rattle.cmc_plain.specs.Searches.{IsFree}
 
 -- ---- when a key fits

@@ -1,6 +1,6 @@
 -- Where the plain order has no move, the run is finished.
-use Rattle.std.proofs.Common.{◌≡◌, ◌==◌, ◌⊎◌, ◌+◌, ◌-◌, ◌<◌, ◌≤◌, ℕ, ℤ, List, [], ◌∷◌, length, Option, Some, None, Bool, true, false, cond, refl, sym, ap, subst, ◌∙◌, inl, inr, arith, option_and_then, get_or}
-use Rattle.std.proofs.lemmas.Bool.Decides.{Decides-eqb, nat_tests}
+use Rattle.std.proofs.Common.{◌≡◌, ◌⊎◌, ◌+◌, ◌-◌, ◌<◌, ◌≤◌, ℕ, ℤ, List, length, Option, Some, None, Bool, true, false, cond, refl, sym, ap, subst, ◌∙◌, inl, inr, arith, option_and_then, get_or}
+use Rattle.std.proofs.lemmas.Bool.Decides.{nat_tests}
 use Rattle.std.proofs.lemmas.Option.{slice_get_cases}
 use Rattle.std.specs.Prelude.{◌||◌, if◌then◌else◌, MatchBool, nat_le, nat_lt, slice_get}
 use Rattle.cmc_rules.specs.Legality.{IsOpen}
@@ -13,7 +13,6 @@ use Rattle.cmc_objects.specs.declared.request.CertificateRequest.{CertificateReq
 use Rattle.cmc_objects.specs.declared.object.Object.{Object}
 use Rattle.cmc_objects.specs.declared.orders.Rules.{Rules}
 use Rattle.cmc_objects.specs.declared.role.Role.{Role}
-use Rattle.cmc_objects.specs.declared.role.Role.TheVariants.{Trigger, KeyManager, RequestManager, Approver, Issuer, Issuing, Readiness, Revision}
 use Rattle.cmc_objects.specs.declared.entry.Positions.{Positions}
 use Rattle.cmc_objects.specs.declared.entry.Step.{Step}
 use Rattle.cmc_objects.specs.declared.entry.Step.TheVariants as steps
@@ -31,32 +30,25 @@ use Rattle.cmc_rules.specs.declared.progress.Ending.TheVariants as endings
 use Rattle.cmc_rules.specs.declared.progress.LastPass.{LastPass}
 use Rattle.cmc_model.specs.Objects.{object_at}
 use Rattle.cmc_model.specs.Histories.{Setting, moment, runs}
-use Rattle.cmc_model.specs.Writes.{writes, contents, oldest, write_at, kind_eq, last_of_kind, is_known}
+use Rattle.cmc_model.specs.Writes.{writes, contents, oldest, kind_eq, last_of_kind, is_known}
 use Rattle.cmc_rules.specs.Positions.{works_on_requests, kind_of_work, has_informer, position, position_of, positions, cache}
 use Rattle.cmc_rules.specs.Viewing.{certificate_in, request_in, certificate_at, request_at, views_of, views_in, views, present_views}
 use Rattle.cmc_rules.specs.Desks.{desk}
-use Rattle.cmc_rules.specs.Triggering.{for_option, trigger}
 use Rattle.cmc_rules.specs.Acts.{act}
 use Rattle.cmc_rules.specs.Passes.{open_pass, is_pass_of}
 use Rattle.cmc_rules.specs.Memory.{past}
 use Rattle.cmc_rules.specs.Sameness.{IsStillBehind, EndsAlike, IsSame, IsDue}
-use Rattle.cmc_rules.specs.Legality.{IsOfKind}
 use Rattle.cmc_rules.specs.Scripting.{scripted, held, has_held}
 use Rattle.cmc_rules.specs.Following.{owed, IsReady}
 use Rattle.cmc_rules.specs.Resting.{IsIdle, IsPaused, RestsOn, IsAtRest}
 use Rattle.cmc_rules.specs.Runs.{IsRun, IsFinished}
 use Rattle.cmc_rules.specs.Sameness.{own_above}
 use Rattle.cmc_world.proofs.Sounds.{each_sound}
-use Rattle.cmc_world.specs.declared.moves.Move.TheVariants as moves
-use Rattle.cmc_world.specs.declared.moves.Lack.TheVariants.{NotQueued, SameViews, OwnWrite}
-use Rattle.cmc_world.specs.declared.moves.Stepped.{Stepped}
-use Rattle.cmc_world.specs.declared.moves.Stepped.TheVariants.{Done, NotNow, Spent}
-use Rattle.cmc_world.specs.Answers.{Need, Bar, BarOf, Fits as HasRoom, IsQueued, entries_of, next_effect}
 use Rattle.cmc_rules.specs.Passes.{IsWorking}
 use Rattle.cmc_world.proofs.Moments.{scripted_low}
 use Rattle.cmc_world.proofs.Rest.{same_kind}
 use Rattle.cmc_plain.specs.Plain.{IsBehind, Fits, HasNoScript, HasNoPass, HasNoDelivery}
-use Rattle.cmc_plain.proofs.OneKind.{last_low, object_at-of_kind}
+use Rattle.cmc_plain.proofs.OneKind.{object_at-of_kind}
 use Rattle.cmc_plain.proofs.Newest.{IsToldOfAll, views_newest}
 use Rattle.cmc_plain.proofs.Newer.{newest_known}
 use Rattle.cmc_plain.proofs.Remembering.{own_low, IsLowObstacle, IsFairEnding, IsFairLast, last_fair}

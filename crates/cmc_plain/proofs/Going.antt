@@ -1,11 +1,9 @@
 -- An open pass is of the present incarnation of its role.
-use Rattle.std.proofs.Common.{◌≡◌, ◌==◌, ℕ, List, Option, Some, None, Bool, true, false, refl, ap, ◌∙◌, arith}
+use Rattle.std.proofs.Common.{◌≡◌, ◌==◌, ℕ, List, Some, None, Bool, true, false, refl, ap, ◌∙◌, arith}
 use Rattle.std.proofs.lemmas.Bool.Decides.{nat_tests}
 use Rattle.std.specs.Prelude.{◌&&◌, if◌then◌else◌}
 use Rattle.cmc_objects.specs.declared.entry.Entry.{Entry}
-use Rattle.cmc_rules.specs.declared.progress.OpenPass.{OpenPass}
-use Rattle.cmc_model.specs.Histories.{Setting, incarnation}
-use Rattle.cmc_rules.specs.Passes.{open_pass}
+use Rattle.cmc_model.specs.Histories.{incarnation}
 use Rattle.cmc_rules.specs.Runs.{IsRun}
 use Rattle.cmc_scenario.specs.Setups.{Setup, IsOrderlyFrom}
 use Rattle.cmc_world.specs.Kept.{setting_of}

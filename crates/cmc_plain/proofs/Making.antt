@@ -1,7 +1,7 @@
 -- The plain move is made, where it fits.
-use Rattle.std.proofs.Common.{◌≡◌, ◌⊎◌, ◌==◌, ◌+◌, ◌<◌, ◌≤◌, ℕ, List, Option, Some, None, Bool, true, false, length, refl, sym, ap, subst, ◌∙◌, inl, inr, arith}
+use Rattle.std.proofs.Common.{◌≡◌, ◌⊎◌, ◌==◌, ◌+◌, ◌<◌, ◌≤◌, ℕ, List, Option, Some, None, Bool, true, false, length, refl, sym, subst, inl, inr, arith}
 use Rattle.std.proofs.lemmas.Bool.Decides.{nat_tests, Decides-eqb}
-use Rattle.std.specs.Prelude.{◌↔◌, ◌&&◌, ◌∷◌, [], IsTrue, MatchBool, if◌then◌else◌}
+use Rattle.std.specs.Prelude.{◌↔◌, ◌∷◌, [], IsTrue, if◌then◌else◌}
 use Rattle.cmc_meta.specs.declared.key.Key.{Key}
 use Rattle.cmc_meta.specs.declared.key.Kind.{Kind}
 use Rattle.cmc_objects.specs.declared.role.Role.{Role}
@@ -19,9 +19,9 @@ use Rattle.cmc_world.specs.declared.moves.Move.TheVariants.{Script, Deliver, Beg
 use Rattle.cmc_world.specs.declared.moves.Stepped.{Stepped}
 use Rattle.cmc_world.specs.declared.moves.Stepped.TheVariants.{Done, NotNow, Ended, Spent}
 use Rattle.cmc_world.specs.declared.moves.Lack.TheVariants.{ScriptOver, ScriptWaits, Stopped, NoInformer, Held, Current, NotAWrite, InProcess, OwnWrite, SameViews, NotQueued, NoPass}
-use Rattle.cmc_world.specs.Answers.{is_done, Need, Bar, BarOf, Fits as HasRoom, outdated, outdated_at, entries_of, next_effect, AnswersScript, AnswersDelivery, AnswersBegin, AnswersNext, Answers}
+use Rattle.cmc_world.specs.Answers.{Need, Bar, BarOf, Fits as HasRoom, outdated, entries_of, next_effect, AnswersScript, AnswersDelivery, AnswersBegin, AnswersNext, Answers}
 use Rattle.cmc_world.proofs.Rest.{same_kind}
-use Rattle.cmc_plain.specs.Plain.{IsStepReady, IsBehind, IsFirstPass, IsOfPresent, MayBegin, IsChosen}
+use Rattle.cmc_plain.specs.Plain.{IsStepReady, IsBehind, IsOfPresent, MayBegin, IsChosen}
 use Rattle.cmc_plain.specs.Histories.{entries_for}
 use Rattle.cmc_plain.specs.Searches.{IsAccepted}
 use Rattle.cmc_plain.proofs.OneKind.{last_low}

@@ -1,20 +1,18 @@
 -- Searches over the roles and the kinds in their order.
-use Rattle.std.proofs.Common.{◌≡◌, ◌⊎◌, ℕ, ◌+◌, ◌<◌, Bool, true, false, List, refl, sym, subst, ap, inl, inr, arith}
+use Rattle.std.proofs.Common.{◌≡◌, ◌⊎◌, ℕ, ◌+◌, ◌<◌, Bool, true, false, List, refl, subst, inl, inr, arith}
 use Rattle.std.proofs.lemmas.Bool.Decides.{nat_tests}
-use Rattle.std.specs.Prelude.{nat_lt, Some, None}
+use Rattle.std.specs.Prelude.{nat_lt, Some}
 use Rattle.cmc_meta.specs.declared.key.Key.{Key}
-use Rattle.cmc_meta.specs.declared.key.Kind.{Kind}
-use Rattle.cmc_meta.specs.declared.key.Kind.TheVariants.{Certificate, CertificateRequest, Secret}
 use Rattle.std.specs.declared.cmp.Ordering.TheVariants.{Less}
-use Rattle.cmc_meta.specs.Keys.{kind_rank, key_cmp}
+use Rattle.cmc_meta.specs.Keys.{key_cmp}
 use Rattle.cmc_objects.specs.Roles.{role_rank}
 use Rattle.cmc_objects.specs.declared.role.Role.{Role}
-use Rattle.cmc_objects.specs.declared.role.Role.TheVariants.{Trigger, KeyManager, RequestManager, Approver, Issuer, Issuing, Readiness, Revision}
+use Rattle.cmc_objects.specs.declared.role.Role.TheVariants.{Trigger}
 use Rattle.cmc_objects.specs.declared.entry.Entry.{Entry}
 use Rattle.cmc_objects.proofs.Ranks.{role_of_rank}
 use Rattle.cmc_model.specs.Histories.{Setting}
-use Rattle.cmc_plain.specs.Plain.{IsBehind, IsBefore, HasNoDelivery, IsFirstDelivery, Fits, IsFirstBegin}
-use Rattle.cmc_plain.specs.Searches.{HasNoneBefore, IsBehindInSome, FindsKind, FitsSome, FindsKey, HasNoBegin}
+use Rattle.cmc_plain.specs.Plain.{HasNoDelivery, Fits, IsFirstBegin}
+use Rattle.cmc_plain.specs.Searches.{HasNoneBefore, IsBehindInSome, FitsSome, FindsKey, HasNoBegin}
 
 -- ---- roles
 

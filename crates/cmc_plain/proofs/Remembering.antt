@@ -7,26 +7,22 @@ use Rattle.cmc_meta.specs.declared.key.Key.{Key}
 use Rattle.cmc_meta.specs.declared.key.Kind.{Kind}
 use Rattle.cmc_meta.specs.declared.key.Kind.TheVariants as kinds
 use Rattle.cmc_meta.specs.Keys.{key_eq}
-use Rattle.cmc_objects.specs.declared.certificate.Certificate.{Certificate}
-use Rattle.cmc_objects.specs.declared.secret.Secret.{Secret as SecretObject}
 use Rattle.cmc_objects.specs.declared.call.Call.{Call}
 use Rattle.cmc_objects.specs.declared.call.Reply.{Reply}
-use Rattle.cmc_objects.specs.declared.call.Reply.TheVariants.{Ok, Unchanged, Found, Conflict, NotFound, AlreadyExists, Invalid, Unavailable}
+use Rattle.cmc_objects.specs.declared.call.Reply.TheVariants.{Found, Conflict, NotFound, AlreadyExists}
 use Rattle.cmc_objects.specs.declared.orders.Rules.{Rules}
 use Rattle.cmc_objects.specs.declared.role.Role.{Role}
-use Rattle.cmc_objects.specs.declared.role.Role.TheVariants.{Trigger, KeyManager, RequestManager, Approver, Issuer, Issuing, Readiness, Revision}
 use Rattle.cmc_objects.specs.declared.entry.Cause.{Cause}
 use Rattle.cmc_objects.specs.declared.entry.Positions.{Positions}
 use Rattle.cmc_objects.specs.declared.entry.Who.{Who}
 use Rattle.cmc_objects.specs.declared.entry.Who.TheVariants.{User, Pass}
 use Rattle.cmc_objects.specs.declared.entry.Entry.{Entry}
-use Rattle.cmc_objects.specs.declared.entry.Entry.TheVariants.{Script, Call as Called, Deliver, List as Listed, Begin, Ask, Made, Signed, Answered, Judged, End, Stop, Start, Tick}
+use Rattle.cmc_objects.specs.declared.entry.Entry.TheVariants.{Call as Called, Begin, End, Stop, Start}
 use Rattle.cmc_objects.specs.Roles.{role_rank}
 use Rattle.cmc_model.specs.declared.write.Write.{Write}
 use Rattle.cmc_pass.specs.declared.pass.Views.{Views}
 use Rattle.cmc_pass.specs.declared.pass.Desk.{Desk}
-use Rattle.cmc_pass.specs.declared.pass.Act.{Act}
-use Rattle.cmc_pass.specs.declared.pass.Act.TheVariants.{Nothing, Call as Calls, Ask as Asks, Issue}
+use Rattle.cmc_pass.specs.declared.pass.Act.TheVariants.{Nothing}
 use Rattle.cmc_rules.specs.declared.progress.Obstacle.{Obstacle}
 use Rattle.cmc_rules.specs.declared.progress.Obstacle.TheVariants.{Failure, Newer}
 use Rattle.cmc_rules.specs.declared.progress.OpenPass.{OpenPass}
@@ -42,13 +38,11 @@ use Rattle.cmc_model.specs.Writes.{writes, write_of, last_of_kind, last_under}
 use Rattle.cmc_rules.specs.Positions.{has_informer, position_of}
 use Rattle.cmc_rules.specs.Viewing.{views}
 use Rattle.cmc_rules.specs.Desks.{desk}
-use Rattle.cmc_rules.specs.Facts.{trigger_reason}
-use Rattle.cmc_rules.specs.Triggering.{is_issuing, is_backing_off, issue_call, for_reason, frame_of, for_certificate, for_option, trigger}
 use Rattle.cmc_rules.specs.Acts.{act}
 use Rattle.cmc_rules.specs.Passes.{open_pass, called, new_pass, stage_by, stage_after, with_stage, is_pass_of, IsWorking}
 use Rattle.cmc_rules.specs.Memory.{past, past_called, no_past, with_begin, with_own, with_position, with_ending, ending_at, ending_of}
 use Rattle.cmc_rules.specs.Legality.{IsLegal}
-use Rattle.cmc_rules.specs.Causes.{act_of, IsCaused, IsFirstCall, IsNextCall, MayCall, EndsBy, MayEnd}
+use Rattle.cmc_rules.specs.Causes.{act_of, IsCaused, IsNextCall, MayCall, EndsBy, MayEnd}
 use Rattle.cmc_model.proofs.Writes.{writes_count}
 use Rattle.cmc_rules.proofs.Carrying.{over_call, over_begin, over_end, over_stop}
 use Rattle.cmc_world.proofs.Sounds.{any_desk}

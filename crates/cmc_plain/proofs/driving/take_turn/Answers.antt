@@ -1,5 +1,4 @@
-use Rattle.std.proofs.Common.{◌≡◌, ◌∙◌, sym, subst, Option, Some}
-use Rattle.cmc_world.specs.declared.moves.Move.{Move}
+use Rattle.std.proofs.Common.{◌∙◌, sym, subst}
 use Rattle.cmc_rules.specs.Runs.{IsRun}
 use Rattle.cmc_scenario.specs.Setups.{Setup}
 use Rattle.cmc_world.specs.Kept.{setting_of}
