@@ -5,6 +5,7 @@
 #![tactic(auto)]
 
 mod decision;
+mod matching;
 mod optional;
 mod pattern;
 mod patterns;
@@ -13,6 +14,7 @@ mod policy;
 mod wanted;
 
 pub use decision::{Decision, Field};
+pub use matching::matches;
 pub use pattern::Pattern;
 pub use patterns::Patterns;
 pub use policies::Policies;
