@@ -1,2 +1,4 @@
 pub mod Pieces
 pub mod Places
+pub mod Each
+pub mod Refusals

@@ -1,1 +1,3 @@
 pub mod Matching
+pub mod Allowing
+pub mod Deciding

@@ -4,8 +4,11 @@
 //! Each list type is a small newtype that contracts see as a plain list.
 #![tactic(auto)]
 
+mod allowing;
+mod deciding;
 mod decision;
 mod matching;
+mod names;
 mod optional;
 mod pattern;
 mod patterns;
@@ -13,6 +16,8 @@ mod policies;
 mod policy;
 mod wanted;
 
+pub use allowing::allows;
+pub use deciding::decide;
 pub use decision::{Decision, Field};
 pub use matching::matches;
 pub use pattern::Pattern;

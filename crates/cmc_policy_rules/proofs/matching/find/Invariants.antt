@@ -6,7 +6,7 @@ use Rattle.cmc_policy_rules.proofs.matching.find.Given as goal
 abbrev pub invariant-loop-rest : goal.invariant-loop-rest
 invariant-loop-rest l = record {
   is_end : EndsWith l.text l.left;
-  has_each : (after : List ℕ) → EndsWith l.text (l.piece ++ after) → EndsWith l.left (l.piece ++ after)
+  has_each : (after : List ℕ) → EndsWith l.text (l.piece ++ after) → EndsWith l.left (l.piece ++ after);
 }
 
 abbrev pub decreases-loop-rest : goal.decreases-loop-rest
