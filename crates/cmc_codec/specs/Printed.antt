@@ -96,8 +96,9 @@ put_names s ms =
 unfoldable pub put_terms : CertSpec → Members → Members
 put_terms s ms =
     put_option natural (codes "revisionHistoryLimit") s.history_limit
+    (put_option natural (codes "renewBeforePercentage") s.renew_percent
     (put_option duration_tree (codes "renewBefore") s.renew_before
-    (put_option duration_tree (codes "duration") s.duration ms))
+    (put_option duration_tree (codes "duration") s.duration ms)))
 
 unfoldable pub spec_tree : CertSpec → Data
 spec_tree s = object

@@ -120,6 +120,7 @@ fn add_terms(members: &mut Members, alloc: Global, spec: &CertSpec) -> Result<()
 {
     put_duration(members, alloc, "duration", spec.duration)?;
     put_duration(members, alloc, "renewBefore", spec.renew_before)?;
+    put_small_count_option(members, alloc, "renewBeforePercentage", spec.renew_percent)?;
     put_small_count_option(members, alloc, "revisionHistoryLimit", spec.history_limit)
 }
 

@@ -7,10 +7,10 @@ use Rattle.cmc_meta.specs.declared.key.Kind.TheVariants.{Certificate, Certificat
 use Rattle.cmc_objects.specs.declared.entry.Entry.{Entry}
 use Rattle.cmc_objects.specs.declared.entry.Positions.{Positions}
 use Rattle.cmc_objects.specs.declared.role.Role.{Role}
-use Rattle.cmc_model.specs.declared.pass.Views.{Views}
-use Rattle.cmc_model.specs.declared.progress.Past.{Past}
-use Rattle.cmc_model.specs.Passes.{IsDue, IsSame}
-use Rattle.cmc_model.specs.Positions.{has_informer, position, position_of, positions}
+use Rattle.cmc_pass.specs.declared.pass.Views.{Views}
+use Rattle.cmc_rules.specs.declared.progress.Past.{Past}
+use Rattle.cmc_rules.specs.Passes.{IsDue, IsSame}
+use Rattle.cmc_rules.specs.Positions.{has_informer, position, position_of, positions}
 use Rattle.cmc_held.specs.Dues.{if_above, own_above, shown_positions}
 
 not_above : (b : Bool) (own at : ℕ) (rest : Option ℕ) → nat_lt at own ≡ b → (if b then Some own else rest) ≡ None → (own ≤ at) × (rest ≡ None)

@@ -11,9 +11,9 @@ use Rattle.std.specs.Ordering.{nat_cmp}
 use Rattle.std.specs.Prelude.{if◌then◌else◌, slice_get, ◌||◌, ◌↔◌, IsTrue}
 use Rattle.cmc_meta.specs.declared.key.Key.{Key}
 use Rattle.cmc_objects.specs.declared.role.Role.{Role}
-use Rattle.cmc_model.specs.declared.progress.OpenPass.{OpenPass}
+use Rattle.cmc_rules.specs.declared.progress.OpenPass.{OpenPass}
 use Rattle.cmc_model.specs.Histories.{role_eq}
-use Rattle.cmc_model.specs.Passes.{unless_of, is_pass_of}
+use Rattle.cmc_rules.specs.Passes.{unless_of, is_pass_of}
 use Rattle.cmc_held.specs.Open.{pass_at, IsWorkedOn}
 
 abbrev pub is_of_other : Role → OpenPass → Bool

@@ -9,10 +9,4 @@ use Rattle.cmc_held.specs.Standing.{standing_of}
 pub row_of_each : (f : Role → Standing) (r : Role) → standing_of (f Trigger ∷ f KeyManager ∷ f RequestManager ∷ f Approver ∷ f Issuer ∷ f Issuing ∷ f Readiness ∷ f Revision ∷ []) r ≡ f r
 unfolding standing_of
 row_of_each f Trigger = refl
-row_of_each f KeyManager = refl
-row_of_each f RequestManager = refl
-row_of_each f Approver = refl
-row_of_each f Issuer = refl
-row_of_each f Issuing = refl
-row_of_each f Readiness = refl
-row_of_each f Revision = refl
+row_of_each f other = refl

@@ -6,17 +6,11 @@ use Rattle.cmc_objects.specs.declared.role.Role.TheVariants.{Trigger, KeyManager
 use Rattle.cmc_objects.specs.declared.entry.Entry.{Entry}
 use Rattle.cmc_model.specs.Histories.{Setting}
 use Rattle.cmc_model.specs.Writes.{writes}
-use Rattle.cmc_model.specs.Positions.{positions}
-use Rattle.cmc_model.specs.Viewing.{views_in, views_of, views}
+use Rattle.cmc_rules.specs.Positions.{positions}
+use Rattle.cmc_rules.specs.Viewing.{views_in, views_of, views}
 use Rattle.cmc_held.specs.Sight.{caches_at}
 
 pub views-told : (s : Setting) (h : List Entry) (role : Role) (key : Key) → views_in role (caches_at (writes s h) (positions h role)) key ≡ views s h role key
 unfolding views_in views_of
 views-told s h Trigger key = refl
-views-told s h KeyManager key = refl
-views-told s h RequestManager key = refl
-views-told s h Approver key = refl
-views-told s h Issuer key = refl
-views-told s h Issuing key = refl
-views-told s h Readiness key = refl
-views-told s h Revision key = refl
+views-told s h other key = refl

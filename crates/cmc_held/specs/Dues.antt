@@ -3,7 +3,7 @@ use Rattle.std.specs.Prelude.{ℕ, Option, Some, None, nat_lt, if◌then◌else�
 use Rattle.cmc_meta.specs.declared.key.Kind.TheVariants.{Certificate, CertificateRequest, Secret}
 use Rattle.cmc_objects.specs.declared.role.Role.{Role}
 use Rattle.cmc_objects.specs.declared.entry.Positions.{Positions}
-use Rattle.cmc_model.specs.Positions.{has_informer}
+use Rattle.cmc_rules.specs.Positions.{has_informer}
 
 -- the one number where it is above the other, and else what follows
 abbrev pub if_above : ℕ → ℕ → Option ℕ → Option ℕ

@@ -9,7 +9,7 @@ use Rattle.cmc_objects.specs.declared.object.Object.{Object}
 use Rattle.cmc_objects.specs.declared.entry.Positions.{Positions}
 use Rattle.cmc_model.specs.declared.write.Write.{Write}
 use Rattle.cmc_model.specs.Writes.{contents, oldest, of_kind}
-use Rattle.cmc_model.specs.Viewing.{Caches, next_in, owned_in}
+use Rattle.cmc_rules.specs.Viewing.{Caches, next_in, owned_in}
 
 -- of each kind, what the first accepted writes up to its position leave
 abbrev pub caches_at : List Write → Positions → Caches

@@ -1,13 +1,14 @@
 //! Whether a role may begin a pass: it was told of its own writes, and the pass would not be the one
 //! before again.
 ghost use Rattle.std.specs.Prelude.{◌≡◌, ◌↔◌, IsTrue, if◌then◌else◌};
-ghost use Rattle.cmc_model.specs.Passes.{EndsAlike, IsSame, IsStillBehind};
-ghost use Rattle.cmc_model.specs.Positions.{has_informer};
+ghost use Rattle.cmc_rules.specs.Passes.{EndsAlike, IsSame, IsStillBehind};
+ghost use Rattle.cmc_rules.specs.Positions.{has_informer};
 ghost use Rattle.cmc_held.specs.Dues.{own_above, shown_positions};
 
 use crate::standings::at_kind;
 use cmc_meta::Kind;
-use cmc_model::{Ending, LastPass, Obstacle, Views};
+use cmc_pass::Views;
+use cmc_rules::{Ending, LastPass, Obstacle};
 use cmc_objects::{Positions, Role};
 
 /// The first of the own writes of which the role was not told: the one that is above the position of

@@ -1,7 +1,7 @@
 //! The log of accepted writes, and what its first writes leave.
 ghost use Rattle.std.specs.Option.{option_copied};
 ghost use Rattle.std.specs.Prelude.{◌≡◌, ◌↔◌, ◌+◌, ◌<◌, ◌≤◌, [], ◌∷◌, IsTrue, IfOk, OnOk, OnErr, length, reverse, slice_get, if◌then◌else◌};
-ghost use Rattle.cmc_model.specs.Legality.{IsOfKind};
+ghost use Rattle.cmc_rules.specs.Legality.{IsOfKind};
 ghost use Rattle.cmc_model.specs.Replies.{put_at};
 ghost use Rattle.cmc_model.specs.Writes as spec;
 

@@ -1,8 +1,8 @@
 //! Where the passes come from.
 ghost use Rattle.std.specs.Prelude.{◌≡◌, ◌+◌, ◌-◌, ◌<◌, ◌≤◌, ◌∷◌, [], OnOk, length, slice_get};
-ghost use Rattle.cmc_model.specs.Passes.{origin_at};
+ghost use Rattle.cmc_rules.specs.Passes.{origin_at};
 
-use cmc_model::Origin;
+use cmc_rules::Origin;
 use std::alloc::{AllocError, Global};
 use std::marker::Model;
 

@@ -5,11 +5,11 @@ ghost use Rattle.std.specs.Map.{values_of};
 ghost use Rattle.std.specs.Option.{option_copied};
 ghost use Rattle.std.specs.Ordering.{nat_cmp};
 ghost use Rattle.std.specs.Prelude.{◌≡◌, ◌==◌, ◌↔◌, ℕ, IsTrue, None, OnErr, OnOk, Some, false, if◌then◌else◌, option_map};
-ghost use Rattle.cmc_model.specs.Passes.{is_pass_of, unless_of, with_stage};
+ghost use Rattle.cmc_rules.specs.Passes.{is_pass_of, unless_of, with_stage};
 ghost use Rattle.cmc_held.specs.Open.{IsWorkedOn, pass_at};
 
 use cmc_meta::Key;
-use cmc_model::{OpenPass, Stage};
+use cmc_rules::{OpenPass, Stage};
 use cmc_objects::Role;
 use std::alloc::{AllocError, Global};
 use std::collections::BTreeMap;
@@ -23,7 +23,7 @@ pub struct Passes {
 
 impl Model for Passes {
     ghost use Rattle.std.specs.Prelude.{ℕ, List};
-    ghost use Rattle.cmc_model.specs.declared.progress.OpenPass.{OpenPass};
+    ghost use Rattle.cmc_rules.specs.declared.progress.OpenPass.{OpenPass};
 
     ghost Value = { List (ℕ × OpenPass) };
 

@@ -1,6 +1,6 @@
 //! What each role looks at.
 ghost use Rattle.std.specs.Prelude.{◌≡◌};
-ghost use Rattle.cmc_model.specs.Positions as tables;
+ghost use Rattle.cmc_rules.specs.Positions as tables;
 
 use cmc_meta::Kind;
 use cmc_objects::Role;

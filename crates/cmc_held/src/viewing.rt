@@ -2,14 +2,14 @@
 ghost use Rattle.std.specs.List.{list_any};
 ghost use Rattle.std.specs.Prelude.{◌≡◌, ◌==◌, ◌&&◌, ◌++◌, Some, None, [], IfOk, OnOk, OnErr, codes, option_to_list, option_and_then, if◌then◌else◌};
 ghost use Rattle.cmc_model.specs.Objects.{Objects};
-ghost use Rattle.cmc_model.specs.Positions as tables;
-ghost use Rattle.cmc_model.specs.Viewing as seen;
+ghost use Rattle.cmc_rules.specs.Positions as tables;
+ghost use Rattle.cmc_rules.specs.Viewing as seen;
 ghost use Rattle.cmc_held.specs.Sight as sight;
 
 use crate::log::Log;
 use crate::tables::{looks_at_next, looks_at_requests, looks_at_secret, works_on_requests};
 use cmc_meta::{Key, Kind, ObjectMeta, OwnerRef, Text};
-use cmc_model::{Requests, Secrets, Views};
+use cmc_pass::{Requests, Secrets, Views};
 use cmc_objects::{Certificate, CertificateRequest, Object, Positions, Role, Secret};
 use cmc_store::Shelf;
 use std::alloc::{AllocError, Global};
@@ -308,7 +308,7 @@ fn request_seen(
     Ok(None)
 }
 
-#[tactic(auto, unfolding(cmc_model::specs::Viewing::views_of))]
+#[tactic(auto, unfolding(cmc_rules::specs::Viewing::views_of))]
 fn views_of(
     alloc: Global,
     role: Role,
@@ -332,7 +332,7 @@ fn views_of(
 }
 
 /// What a role sees of the key among these objects of each kind. An `Err` is want of memory.
-#[tactic(auto, unfolding(cmc_model::specs::Viewing::views_in))]
+#[tactic(auto, unfolding(cmc_rules::specs::Viewing::views_in))]
 pub fn views_on(
     alloc: Global,
     role: Role,

@@ -29,10 +29,7 @@ use Rattle.cmc_history.specs.Replaying.{stored_over, written_over, count_after, 
 -- a call stores by what stands under its own key
 stored-over : (v : ℕ) (now : ℤ) (m : Objects) (call : Call) → stored v now m call ≡ stored_over v now (object_at m (key_of_call call)) call
 stored-over v now m (Create object) = refl
-stored-over v now m (Update object named) = refl
-stored-over v now m (UpdateStatus object named) = refl
-stored-over v now m (Delete key named) = refl
-stored-over v now m (Get key) = refl
+stored-over v now m other = refl
 
 key_eq-by_cmp : (a b : Key) → key_eq a b ≡ eq_by_cmp key_cmp a b
 key_eq-by_cmp = search (comparing, rules)

@@ -14,20 +14,8 @@ use Rattle.cmc_history.specs.declared.standing.Standing.{Standing}
 
 -- the call of an entry that is an accepted write
 abbrev pub written_call : Entry → Option Call
-written_call (Script step) = None
 written_call (Called who call reply) = if is_accepted reply then Some call else None
-written_call (Deliver role kind to) = None
-written_call (Listed role kind to) = None
-written_call (Begin pass role key at now) = None
-written_call (Ask pass order) = None
-written_call (Made pass key) = None
-written_call (Signed pass signature) = None
-written_call (Answered pass answer) = None
-written_call (Judged pass approved) = None
-written_call (End pass cause) = None
-written_call (Stop role) = None
-written_call (Start role at) = None
-written_call (Tick now) = None
+written_call other = None
 
 -- what the call, accepted as this version, leaves under its own key, where this stood there
 abbrev pub stored_over : ℕ → ℤ → Option Object → Call → Option Object

@@ -1,11 +1,6 @@
 pub mod SameSpecs
 pub mod Keys
 pub mod Maps
-pub mod Steps
 pub mod Writes
-pub mod Positions
-pub mod OneKey
 pub mod Stored
 pub mod Versions
-pub mod Seen
-pub mod Passes

@@ -89,7 +89,7 @@ request_spec_eq-Decides a b =
 pub cert_spec_eq-Decides : (a b : CertSpec) → Decides (cert_spec_eq a b) (a ≡ b)
 unfolding cert_spec_eq
 cert_spec_eq-Decides a b =
-    let last = and-Decides _ _ (key_spec_eq-Decides a.key b.key) (numbers a.history_limit b.history_limit) in
+    let last = and-Decides _ _ (numbers a.renew_percent b.renew_percent) (and-Decides _ _ (key_spec_eq-Decides a.key b.key) (numbers a.history_limit b.history_limit)) in
     let times = and-Decides _ _ (numbers a.duration b.duration) (and-Decides _ _ (numbers a.renew_before b.renew_before) last) in
     let uses = and-Decides _ _ (flag_eq-Decides a.is_ca b.is_ca) (and-Decides _ _ (texts_eq-Decides a.usages b.usages) times) in
     let others = and-Decides _ _ (texts_eq-Decides a.uris b.uris) (and-Decides _ _ (texts_eq-Decides a.emails b.emails) uses) in
@@ -107,8 +107,9 @@ cert_spec_eq-Decides a b =
         usages = u.1.0 i;
         duration = t.0 i;
         renew_before = t.1.0 i;
-        key = t.1.1.0 i;
-        history_limit = t.1.1.1 i;
+        renew_percent = t.1.1.0 i;
+        key = t.1.1.1.0 i;
+        history_limit = t.1.1.1.1 i;
       },
       λ h.
           parts.1 (
@@ -133,7 +134,10 @@ cert_spec_eq-Decides a b =
                               ap (λ (r : CertSpec). r.duration) h,
                               (
                                 ap (λ (r : CertSpec). r.renew_before) h,
-                                (ap (λ (r : CertSpec). r.key) h, ap (λ (r : CertSpec). r.history_limit) h),
+                                (
+                                  ap (λ (r : CertSpec). r.renew_percent) h,
+                                  (ap (λ (r : CertSpec). r.key) h, ap (λ (r : CertSpec). r.history_limit) h),
+                                ),
                               ),
                             ),
                           ),

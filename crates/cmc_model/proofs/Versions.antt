@@ -20,7 +20,6 @@ use Rattle.cmc_model.specs.Stored.{revised, restated}
 use Rattle.cmc_model.specs.Replies.{State, IsReply, IsServed, IsGot, is_accepted, key_of_call, from_old, stored, put_at}
 use Rattle.cmc_model.specs.Histories.{Setting, moment, state, objects, accepted}
 use Rattle.cmc_model.specs.Writes.{writes, write_of, contents}
-use Rattle.cmc_model.specs.Legality.{IsLegal}
 use Rattle.cmc_model.specs.Versions.{uid_of, IsVersion, HasVersion}
 use Rattle.cmc_model.proofs.Keys.{key_cmp-total, key_cmp-IsAntisymmetric}
 use Rattle.cmc_model.proofs.Stored.{version_of-created, uid_of-created, key_of-created, version_of-revised, uid_of-revised, key_of-revised, version_of-restated, uid_of-restated, key_of-restated}
@@ -72,7 +71,7 @@ lawful_write now st call ws count leaves right =
     let there = subst (λ (v : ℕ). IsLawfulObject v (key_of_call call) (object_at st.objects (key_of_call call)) (stored (st.accepted + 1) now st.objects call)) n right in
     subst (λ (m : Objects). IsLawfulObject (length (write_of now st call ∷ ws)) (key_of_call call) (object_at m (key_of_call call)) (stored (st.accepted + 1) now st.objects call)) (sym leaves) there
 
-lawful_called : (faults : List ℕ) (now : ℤ) (st : State) (call : Call) (reply : Reply) (ws : List Write) (b : Bool) → is_accepted reply ≡ b
+pub lawful_called : (faults : List ℕ) (now : ℤ) (st : State) (call : Call) (reply : Reply) (ws : List Write) (b : Bool) → is_accepted reply ≡ b
     → length ws ≡ st.accepted → contents ws ≡ st.objects → IsReply faults st call reply → IsLawful ws → IsLawful (if b then write_of now st call ∷ ws else ws)
 lawful_called faults now st call reply ws false e count leaves right lawful = lawful
 lawful_called faults now st call reply ws true e count leaves right lawful =
@@ -82,24 +81,6 @@ lawful_called faults now st call reply ws true e count leaves right lawful =
       | false ↦ λ r. r
     ] right in
     (lawful_write now st call ws count leaves (lawful_call st.accepted now st.objects call reply served e), lawful)
-
-pub lawful : (s : Setting) (h : List Entry) → IsLegal s h → IsLawful (writes s h)
-unfolding IsLegal
-lawful s [] legal = tt
-lawful s (Script step ∷ h) legal = lawful s h legal.1
-lawful s (Called who call reply ∷ h) legal = lawful_called s.faults (moment s h) (state s h) call reply (writes s h) (is_accepted reply) refl (writes_count s h) (writes_leave s h) legal.0.0 (lawful s h legal.1)
-lawful s (Deliver role kind to ∷ h) legal = lawful s h legal.1
-lawful s (Listed role kind to ∷ h) legal = lawful s h legal.1
-lawful s (Begin pass role key at now ∷ h) legal = lawful s h legal.1
-lawful s (Ask pass order ∷ h) legal = lawful s h legal.1
-lawful s (Made pass key ∷ h) legal = lawful s h legal.1
-lawful s (Signed pass signature ∷ h) legal = lawful s h legal.1
-lawful s (Answered pass answer ∷ h) legal = lawful s h legal.1
-lawful s (Judged pass approved ∷ h) legal = lawful s h legal.1
-lawful s (End pass cause ∷ h) legal = lawful s h legal.1
-lawful s (Stop role ∷ h) legal = lawful s h legal.1
-lawful s (Start role at ∷ h) legal = lawful s h legal.1
-lawful s (Tick now ∷ h) legal = lawful s h legal.1
 
 -- ---- what stands is a version
 
@@ -146,7 +127,7 @@ lawful_object w ws o law is = subst (λ (x : Option Object). IsLawfulObject (len
 born : (w : Write) (ws : List Write) (o : Object) → IsLawful (w ∷ ws) → w.object ≡ Some o → IsBorn w ws o
 born w ws o law is = born_by w ws o (lawful_object w ws o law is).1
 
-versions_low : (ws : List Write) (key : Key) (o : Object) → IsLawful ws → IsVersion key o ws → version_of o ≤ length ws
+pub versions_low : (ws : List Write) (key : Key) (o : Object) → IsLawful ws → IsVersion key o ws → version_of o ≤ length ws
 versions_low [] key o law has = absurd has
 versions_low (w ∷ ws) key o law (inl is) = omega (arith, (lawful_object w ws o law is.1).0)
 versions_low (w ∷ ws) key o law (inr has) = omega (arith, versions_low ws key o law.1 has)
@@ -155,7 +136,7 @@ keyed_by : (w : Write) (ws : List Write) (o : Object) → ((old : Object) → Is
 keyed_by w ws o below (inl new) = new.1
 keyed_by w ws o below (inr older) = older.3 ∙ below older.0 older.1
 
-keyed : (ws : List Write) (key : Key) (o : Object) → IsLawful ws → IsVersion key o ws → key_of o ≡ key
+pub keyed : (ws : List Write) (key : Key) (o : Object) → IsLawful ws → IsVersion key o ws → key_of o ≡ key
 keyed [] key o law has = absurd has
 keyed (w ∷ ws) key o law (inl is) = keyed_by w ws o (λ old has. keyed ws w.key old law.1 has) (born w ws o law is.1) ∙ is.0
 keyed (w ∷ ws) key o law (inr has) = keyed ws key o law.1 has
@@ -164,7 +145,7 @@ uids_by : (w : Write) (ws : List Write) (o : Object) → ((old : Object) → IsV
 uids_by w ws o below (inl new) = omega (arith, new.0)
 uids_by w ws o below (inr older) = omega (arith, older.2, below older.0 older.1)
 
-uids_low : (ws : List Write) (key : Key) (o : Object) → IsLawful ws → IsVersion key o ws → uid_of o ≤ length ws
+pub uids_low : (ws : List Write) (key : Key) (o : Object) → IsLawful ws → IsVersion key o ws → uid_of o ≤ length ws
 uids_low [] key o law has = absurd has
 uids_low (w ∷ ws) key o law (inl is) = uids_by w ws o (λ old has. uids_low ws w.key old law.1 has) (born w ws o law is.1)
 uids_low (w ∷ ws) key o law (inr has) = omega (arith, uids_low ws key o law.1 has)
@@ -175,7 +156,7 @@ one_key_by : (w : Write) (ws : List Write) (o : Object) (key : Key) (p : Object)
 one_key_by w ws o key p low below (inl new) same = absurd (omega (arith, low, new.0, same))
 one_key_by w ws o key p low below (inr older) same = below older.0 older.1 (sym older.2 ∙ same)
 
-one_key : (ws : List Write) (j k : Key) (o p : Object) → IsLawful ws → IsVersion j o ws → IsVersion k p ws → uid_of o ≡ uid_of p → j ≡ k
+pub one_key : (ws : List Write) (j k : Key) (o p : Object) → IsLawful ws → IsVersion j o ws → IsVersion k p ws → uid_of o ≡ uid_of p → j ≡ k
 one_key [] j k o p law a b same = absurd a
 one_key (w ∷ ws) j k o p law (inl a) (inl b) same = sym a.0 ∙ b.0
 one_key (w ∷ ws) j k o p law (inl a) (inr b) same =
@@ -183,25 +164,3 @@ one_key (w ∷ ws) j k o p law (inl a) (inr b) same =
 one_key (w ∷ ws) j k o p law (inr a) (inl b) same =
     sym (sym b.0 ∙ one_key_by w ws p j o (uids_low ws j o law.1 a) (λ old has e. one_key ws w.key j old o law.1 has a e) (born w ws p law b.1) (sym same))
 one_key (w ∷ ws) j k o p law (inr a) (inr b) same = one_key ws j k o p law.1 a b same
-
--- ---- the same of histories
-
--- what stands is the version of an accepted write
-pub stands_is_version : (s : Setting) (h : List Entry) (key : Key) (o : Object) → object_at (objects s h) key ≡ Some o → HasVersion s h key o
-stands_is_version s h key o is = standing (writes s h) key o (ap (λ (m : Objects). object_at m key) (writes_leave s h) ∙ is)
-
--- versions count the accepted writes
-pub version_accepted : (s : Setting) (h : List Entry) (key : Key) (o : Object) → IsLegal s h → HasVersion s h key o → version_of o ≤ accepted s h
-version_accepted s h key o legal has = omega (arith, versions_low (writes s h) key o (lawful s h legal) has, writes_count s h)
-
--- a version stands under its own key
-pub version_keyed : (s : Setting) (h : List Entry) (key : Key) (o : Object) → IsLegal s h → HasVersion s h key o → key_of o ≡ key
-version_keyed s h key o legal has = keyed (writes s h) key o (lawful s h legal) has
-
--- a uid is the number of an accepted write
-pub uid_accepted : (s : Setting) (h : List Entry) (key : Key) (o : Object) → IsLegal s h → HasVersion s h key o → uid_of o ≤ accepted s h
-uid_accepted s h key o legal has = omega (arith, uids_low (writes s h) key o (lawful s h legal) has, writes_count s h)
-
--- no uid stands under two keys
-pub uid_has_one_key : (s : Setting) (h : List Entry) (j k : Key) (o p : Object) → IsLegal s h → HasVersion s h j o → HasVersion s h k p → uid_of o ≡ uid_of p → j ≡ k
-uid_has_one_key s h j k o p legal a b same = one_key (writes s h) j k o p (lawful s h legal) a b same

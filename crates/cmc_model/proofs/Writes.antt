@@ -38,20 +38,8 @@ counted false w ws n h = h
 -- there are as many writes as were accepted
 pub writes_count : (s : Setting) (h : List Entry) → length (writes s h) ≡ accepted s h
 writes_count s [] = refl
-writes_count s (Script step ∷ h) = writes_count s h
 writes_count s (Called who call reply ∷ h) = counted (is_accepted reply) (write_of (moment s h) (state s h) call) (writes s h) (accepted s h) (writes_count s h)
-writes_count s (Deliver role kind to ∷ h) = writes_count s h
-writes_count s (Listed role kind to ∷ h) = writes_count s h
-writes_count s (Begin pass role key at now ∷ h) = writes_count s h
-writes_count s (Ask pass order ∷ h) = writes_count s h
-writes_count s (Made pass key ∷ h) = writes_count s h
-writes_count s (Signed pass signature ∷ h) = writes_count s h
-writes_count s (Answered pass answer ∷ h) = writes_count s h
-writes_count s (Judged pass approved ∷ h) = writes_count s h
-writes_count s (End pass cause ∷ h) = writes_count s h
-writes_count s (Stop role ∷ h) = writes_count s h
-writes_count s (Start role at ∷ h) = writes_count s h
-writes_count s (Tick now ∷ h) = writes_count s h
+writes_count s (other ∷ h) = writes_count s h
 
 left : (b : Bool) (now : ℤ) (st : State) (call : Call) (ws : List Write) → contents ws ≡ st.objects
     → contents (if b then write_of now st call ∷ ws else ws) ≡ (if b then put_at st.objects (key_of_call call) (stored (st.accepted + 1) now st.objects call) else st.objects)
@@ -63,20 +51,8 @@ left false now st call ws h = h
 pub writes_leave : (s : Setting) (h : List Entry) → contents (writes s h) ≡ objects s h
 unfolding contents
 writes_leave s [] = refl
-writes_leave s (Script step ∷ h) = writes_leave s h
 writes_leave s (Called who call reply ∷ h) = left (is_accepted reply) (moment s h) (state s h) call (writes s h) (writes_leave s h)
-writes_leave s (Deliver role kind to ∷ h) = writes_leave s h
-writes_leave s (Listed role kind to ∷ h) = writes_leave s h
-writes_leave s (Begin pass role key at now ∷ h) = writes_leave s h
-writes_leave s (Ask pass order ∷ h) = writes_leave s h
-writes_leave s (Made pass key ∷ h) = writes_leave s h
-writes_leave s (Signed pass signature ∷ h) = writes_leave s h
-writes_leave s (Answered pass answer ∷ h) = writes_leave s h
-writes_leave s (Judged pass approved ∷ h) = writes_leave s h
-writes_leave s (End pass cause ∷ h) = writes_leave s h
-writes_leave s (Stop role ∷ h) = writes_leave s h
-writes_leave s (Start role at ∷ h) = writes_leave s h
-writes_leave s (Tick now ∷ h) = writes_leave s h
+writes_leave s (other ∷ h) = writes_leave s h
 
 older : (b : Bool) (p : ℕ) (w : Write) (ws : List Write) → p ≤ length ws → oldest p (if b then w ∷ ws else ws) ≡ oldest p ws
 older true p w ws h = oldest-older p w ws h
@@ -84,20 +60,8 @@ older false p w ws h = refl
 
 -- the first writes are the same after any entry
 pub oldest-entry : (s : Setting) (e : Entry) (h : List Entry) (p : ℕ) → p ≤ accepted s h → oldest p (writes s (e ∷ h)) ≡ oldest p (writes s h)
-oldest-entry s (Script step) h p le = refl
 oldest-entry s (Called who call reply) h p le = older (is_accepted reply) p (write_of (moment s h) (state s h) call) (writes s h) (omega (arith, le, writes_count s h))
-oldest-entry s (Deliver role kind to) h p le = refl
-oldest-entry s (Listed role kind to) h p le = refl
-oldest-entry s (Begin pass role key at now) h p le = refl
-oldest-entry s (Ask pass order) h p le = refl
-oldest-entry s (Made pass key) h p le = refl
-oldest-entry s (Signed pass signature) h p le = refl
-oldest-entry s (Answered pass answer) h p le = refl
-oldest-entry s (Judged pass approved) h p le = refl
-oldest-entry s (End pass cause) h p le = refl
-oldest-entry s (Stop role) h p le = refl
-oldest-entry s (Start role at) h p le = refl
-oldest-entry s (Tick now) h p le = refl
+oldest-entry s other h p le = refl
 
 -- what a reader saw at a position, it sees there after any entry
 pub objects_at-older : (s : Setting) (e : Entry) (h : List Entry) (p : ℕ) → p ≤ accepted s h → objects_at s (e ∷ h) p ≡ objects_at s h p

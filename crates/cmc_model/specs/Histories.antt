@@ -30,20 +30,8 @@ pub record Setting : Type 0 where
   pub rules : Rules
 
 abbrev pub moment_with : ℤ → Entry → ℤ
-moment_with before (Script step) = before
-moment_with before (Called who call reply) = before
-moment_with before (Deliver role kind to) = before
-moment_with before (Listed role kind to) = before
-moment_with before (Begin pass role key at now) = before
-moment_with before (Ask pass order) = before
-moment_with before (Made pass key) = before
-moment_with before (Signed pass signature) = before
-moment_with before (Answered pass answer) = before
-moment_with before (Judged pass approved) = before
-moment_with before (End pass cause) = before
-moment_with before (Stop role) = before
-moment_with before (Start role at) = before
 moment_with before (Tick now) = now
+moment_with before other = before
 
 -- the present moment: that of the last tick, or that of the beginning
 abbrev pub moment : Setting → List Entry → ℤ
@@ -51,20 +39,8 @@ moment s [] = s.now
 moment s (e ∷ h) = moment_with (moment s h) e
 
 abbrev pub state_with : ℤ → State → Entry → State
-state_with moment state (Script step) = state
 state_with moment state (Called who call reply) = state_after moment state call reply
-state_with moment state (Deliver role kind to) = state
-state_with moment state (Listed role kind to) = state
-state_with moment state (Begin pass role key at now) = state
-state_with moment state (Ask pass order) = state
-state_with moment state (Made pass key) = state
-state_with moment state (Signed pass signature) = state
-state_with moment state (Answered pass answer) = state
-state_with moment state (Judged pass approved) = state
-state_with moment state (End pass cause) = state
-state_with moment state (Stop role) = state
-state_with moment state (Start role at) = state
-state_with moment state (Tick now) = state
+state_with moment state other = state
 
 -- what the store has come to
 abbrev pub state : Setting → List Entry → State
@@ -85,20 +61,9 @@ abbrev pub role_eq : Role → Role → Bool
 role_eq a b = role_rank a == role_rank b
 
 abbrev pub runs_with : Role → Bool → Entry → Bool
-runs_with r before (Script step) = before
-runs_with r before (Called who call reply) = before
-runs_with r before (Deliver role kind to) = before
-runs_with r before (Listed role kind to) = before
-runs_with r before (Begin pass role key at now) = before
-runs_with r before (Ask pass order) = before
-runs_with r before (Made pass key) = before
-runs_with r before (Signed pass signature) = before
-runs_with r before (Answered pass answer) = before
-runs_with r before (Judged pass approved) = before
-runs_with r before (End pass cause) = before
 runs_with r before (Stop role) = if role_eq role r then false else before
 runs_with r before (Start role at) = if role_eq role r then true else before
-runs_with r before (Tick now) = before
+runs_with r before other = before
 
 -- whether the role runs: its last stop or start is a start, or it has neither and runs from the beginning on
 abbrev pub runs : Setting → List Entry → Role → Bool
@@ -106,20 +71,8 @@ runs s [] r = list_any (λ role. role_eq role r) s.roles
 runs s (e ∷ h) r = runs_with r (runs s h r) e
 
 abbrev pub incarnation_with : Role → ℕ → Entry → ℕ
-incarnation_with r n (Script step) = n
-incarnation_with r n (Called who call reply) = n
-incarnation_with r n (Deliver role kind to) = n
-incarnation_with r n (Listed role kind to) = n
-incarnation_with r n (Begin pass role key at now) = n
-incarnation_with r n (Ask pass order) = n
-incarnation_with r n (Made pass key) = n
-incarnation_with r n (Signed pass signature) = n
-incarnation_with r n (Answered pass answer) = n
-incarnation_with r n (Judged pass approved) = n
-incarnation_with r n (End pass cause) = n
-incarnation_with r n (Stop role) = n
 incarnation_with r n (Start role at) = if role_eq role r then n + 1 else n
-incarnation_with r n (Tick now) = n
+incarnation_with r n other = n
 
 -- how many times the role has begun: once where it runs from the beginning on, and once for each start
 abbrev pub incarnation : Setting → List Entry → Role → ℕ

@@ -65,7 +65,8 @@ cert_spec_eq a b =
     && (texts_eq a.dns_names b.dns_names && (texts_eq a.ip_addresses b.ip_addresses && (texts_eq a.uris b.uris
     && (texts_eq a.emails b.emails && (flag_eq a.is_ca b.is_ca && (texts_eq a.usages b.usages
     && (option_eq number_eq a.duration b.duration && (option_eq number_eq a.renew_before b.renew_before
-    && (key_spec_eq a.key b.key && option_eq number_eq a.history_limit b.history_limit)))))))))))
+    && (option_eq number_eq a.renew_percent b.renew_percent
+    && (key_spec_eq a.key b.key && option_eq number_eq a.history_limit b.history_limit))))))))))))
 
 unfoldable pub request_spec_eq : RequestSpec → RequestSpec → Bool
 request_spec_eq a b =

@@ -17,20 +17,8 @@ abbrev pub write_of : ℤ → State → Call → Write
 write_of now state call = record { key = key_of_call call; object = stored (state.accepted + 1) now state.objects call }
 
 abbrev pub writes_with : ℤ → State → List Write → Entry → List Write
-writes_with moment state ws (Script step) = ws
 writes_with moment state ws (Called who call reply) = if is_accepted reply then write_of moment state call ∷ ws else ws
-writes_with moment state ws (Deliver role kind to) = ws
-writes_with moment state ws (Listed role kind to) = ws
-writes_with moment state ws (Begin pass role key at now) = ws
-writes_with moment state ws (Ask pass order) = ws
-writes_with moment state ws (Made pass key) = ws
-writes_with moment state ws (Signed pass signature) = ws
-writes_with moment state ws (Answered pass answer) = ws
-writes_with moment state ws (Judged pass approved) = ws
-writes_with moment state ws (End pass cause) = ws
-writes_with moment state ws (Stop role) = ws
-writes_with moment state ws (Start role at) = ws
-writes_with moment state ws (Tick now) = ws
+writes_with moment state ws other = ws
 
 -- the accepted writes, the newest first: the version of a write is its place, counted from the oldest
 abbrev pub writes : Setting → List Entry → List Write

@@ -3,14 +3,8 @@
 //! these types.
 #![tactic(auto)]
 
-mod effect;
-mod pass;
-mod progress;
 mod summary;
 mod write;
 
-pub use effect::Effect;
-pub use pass::{Act, Desk, IssuePlan, Requests, Secrets, Views};
-pub use progress::{Ending, LastPass, Obstacle, OpenPass, Origin, Past, Stage};
 pub use summary::{Summary, WaitName, Waiting, Waits};
 pub use write::Write;

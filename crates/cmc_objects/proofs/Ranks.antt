@@ -11,13 +11,7 @@ role_at n = if n == 0 then Trigger else (if n == 1 then KeyManager else (if n ==
 
 role_at-rank : (r : Role) → role_at (role_rank r) ≡ r
 role_at-rank Trigger = refl
-role_at-rank KeyManager = refl
-role_at-rank RequestManager = refl
-role_at-rank Approver = refl
-role_at-rank Issuer = refl
-role_at-rank Issuing = refl
-role_at-rank Readiness = refl
-role_at-rank Revision = refl
+role_at-rank other = refl
 
 pub role_of_rank : (a b : Role) → role_rank a ≡ role_rank b → a ≡ b
 role_of_rank a b h = sym (role_at-rank a) ∙ ap role_at h ∙ role_at-rank b

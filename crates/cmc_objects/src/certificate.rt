@@ -23,6 +23,8 @@ pub struct CertSpec {
     pub duration: Option<u64>,
     /// How long before its end a certificate is renewed, in seconds.
     pub renew_before: Option<u64>,
+    /// At which remaining part of its lifetime a certificate is renewed, in percent.
+    pub renew_percent: Option<u32>,
     pub key: KeySpec,
     /// How many CertificateRequests are kept; all where absent.
     pub history_limit: Option<u32>,
@@ -79,6 +81,7 @@ impl CertSpec {
             usages: self.usages.copy()?,
             duration: self.duration,
             renew_before: self.renew_before,
+            renew_percent: self.renew_percent,
             key: self.key,
             history_limit: self.history_limit,
         })
@@ -99,6 +102,7 @@ impl CertSpec {
             && self.usages.same(&other.usages)
             && same_u64(self.duration, other.duration)
             && same_u64(self.renew_before, other.renew_before)
+            && same_u32(self.renew_percent, other.renew_percent)
             && self.key.same(&other.key)
             && same_u32(self.history_limit, other.history_limit)
     }
@@ -190,6 +194,7 @@ impl Drop for CertSpec {
             usages: _usages,
             duration: _duration,
             renew_before: _renew_before,
+            renew_percent: _renew_percent,
             key: _key,
             history_limit: _history_limit,
         } = self;

@@ -2,4 +2,6 @@
 //! it can do.
 #![tactic(auto)]
 
-pub use cmc_model::{Act, Desk, IssuePlan, Requests, Secrets, Views};
+mod pass;
+
+pub use pass::{Act, Desk, IssuePlan, Requests, Secrets, Views};

@@ -7,14 +7,14 @@ use Rattle.std.specs.declared.alloc.AllocError.{AllocError}
 use Rattle.cmc_meta.specs.declared.key.Key.{Key}
 use Rattle.cmc_objects.specs.declared.role.Role.{Role}
 use Rattle.cmc_objects.specs.declared.entry.Entry.{Entry}
-use Rattle.cmc_model.specs.declared.pass.Views.{Views}
-use Rattle.cmc_model.specs.declared.progress.Past.{Past}
+use Rattle.cmc_pass.specs.declared.pass.Views.{Views}
+use Rattle.cmc_rules.specs.declared.progress.Past.{Past}
 use Rattle.cmc_model.specs.Histories.{Setting, moment, runs}
 use Rattle.cmc_model.specs.Writes.{writes, is_known}
-use Rattle.cmc_model.specs.Positions.{kind_of_work, positions}
-use Rattle.cmc_model.specs.Viewing.{views}
-use Rattle.cmc_model.specs.Passes.{past, IsDue, IsSame}
-use Rattle.cmc_model.specs.Resting.{IsIdle}
+use Rattle.cmc_rules.specs.Positions.{kind_of_work, positions}
+use Rattle.cmc_rules.specs.Viewing.{views}
+use Rattle.cmc_rules.specs.Passes.{past, IsDue, IsSame}
+use Rattle.cmc_rules.specs.Resting.{IsIdle}
 use Rattle.cmc_held.specs.Dues.{own_above}
 use Rattle.cmc_held.proofs.Behind.{due_by_tests, not_due_behind}
 use Rattle.cmc_world.specs.declared.moves.Move.TheVariants.{Begin}

@@ -2,9 +2,9 @@
 use Rattle.std.proofs.Common.{◌≡◌, ◌∙◌, ◌⊎◌, ◌+◌, List, [], ◌∷◌, ◌++◌, Option, Some, None, MatchOption, append_assoc, inl, inr, sym, ap, subst}
 use Rattle.cmc_objects.specs.declared.entry.Entry.{Entry}
 use Rattle.cmc_objects.specs.declared.entry.Entry.TheVariants.{Script}
-use Rattle.cmc_model.specs.declared.effect.Effect.{Effect}
+use Rattle.cmc_rules.specs.declared.effect.Effect.{Effect}
 use Rattle.cmc_model.specs.Histories.{Setting}
-use Rattle.cmc_model.specs.Scripting.{scripted}
+use Rattle.cmc_rules.specs.Scripting.{scripted}
 use Rattle.cmc_world.specs.declared.moves.Move.{Move}
 use Rattle.cmc_world.specs.declared.moves.Move.TheVariants as moves
 use Rattle.cmc_world.specs.Answers.{IsEffect, next_effect, delivered, beginning, Grows}

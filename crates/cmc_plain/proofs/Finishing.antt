@@ -16,30 +16,30 @@ use Rattle.cmc_objects.specs.declared.entry.Step.{Step}
 use Rattle.cmc_objects.specs.declared.entry.Step.TheVariants as steps
 use Rattle.cmc_objects.specs.declared.entry.Entry.{Entry}
 use Rattle.cmc_model.specs.declared.write.Write.{Write}
-use Rattle.cmc_model.specs.declared.pass.Views.{Views}
-use Rattle.cmc_model.specs.declared.pass.Desk.{Desk}
-use Rattle.cmc_model.specs.declared.pass.Act.{Act}
-use Rattle.cmc_model.specs.declared.pass.Act.TheVariants.{Nothing, Call as Calls, Ask as Asks, Issue}
-use Rattle.cmc_model.specs.declared.progress.Obstacle.{Obstacle}
-use Rattle.cmc_model.specs.declared.progress.Obstacle.TheVariants.{Failure, Newer}
-use Rattle.cmc_model.specs.declared.progress.OpenPass.{OpenPass}
-use Rattle.cmc_model.specs.declared.progress.Ending.{Ending}
-use Rattle.cmc_model.specs.declared.progress.Ending.TheVariants as endings
-use Rattle.cmc_model.specs.declared.progress.LastPass.{LastPass}
+use Rattle.cmc_pass.specs.declared.pass.Views.{Views}
+use Rattle.cmc_pass.specs.declared.pass.Desk.{Desk}
+use Rattle.cmc_pass.specs.declared.pass.Act.{Act}
+use Rattle.cmc_pass.specs.declared.pass.Act.TheVariants.{Nothing, Call as Calls, Ask as Asks, Issue}
+use Rattle.cmc_rules.specs.declared.progress.Obstacle.{Obstacle}
+use Rattle.cmc_rules.specs.declared.progress.Obstacle.TheVariants.{Failure, Newer}
+use Rattle.cmc_rules.specs.declared.progress.OpenPass.{OpenPass}
+use Rattle.cmc_rules.specs.declared.progress.Ending.{Ending}
+use Rattle.cmc_rules.specs.declared.progress.Ending.TheVariants as endings
+use Rattle.cmc_rules.specs.declared.progress.LastPass.{LastPass}
 use Rattle.cmc_model.specs.Objects.{object_at}
 use Rattle.cmc_model.specs.Histories.{Setting, moment, runs}
 use Rattle.cmc_model.specs.Writes.{writes, contents, oldest, write_at, kind_eq, last_of_kind, is_known}
-use Rattle.cmc_model.specs.Positions.{works_on_requests, kind_of_work, has_informer, position, position_of, positions, cache}
-use Rattle.cmc_model.specs.Viewing.{certificate_in, request_in, certificate_at, request_at, views_of, views_in, views, present_views}
-use Rattle.cmc_model.specs.Desks.{desk}
-use Rattle.cmc_model.specs.Triggering.{for_option, trigger}
-use Rattle.cmc_model.specs.Acts.{act}
-use Rattle.cmc_model.specs.Passes.{open_pass, is_pass_of, past, IsStillBehind, EndsAlike, IsSame, IsDue}
-use Rattle.cmc_model.specs.Legality.{IsOfKind}
-use Rattle.cmc_model.specs.Scripting.{scripted, held, has_held}
-use Rattle.cmc_model.specs.Following.{owed, IsReady}
-use Rattle.cmc_model.specs.Resting.{IsIdle, IsPaused, RestsOn, IsAtRest}
-use Rattle.cmc_model.specs.Runs.{IsRun, IsFinished}
+use Rattle.cmc_rules.specs.Positions.{works_on_requests, kind_of_work, has_informer, position, position_of, positions, cache}
+use Rattle.cmc_rules.specs.Viewing.{certificate_in, request_in, certificate_at, request_at, views_of, views_in, views, present_views}
+use Rattle.cmc_rules.specs.Desks.{desk}
+use Rattle.cmc_rules.specs.Triggering.{for_option, trigger}
+use Rattle.cmc_rules.specs.Acts.{act}
+use Rattle.cmc_rules.specs.Passes.{open_pass, is_pass_of, past, IsStillBehind, EndsAlike, IsSame, IsDue}
+use Rattle.cmc_rules.specs.Legality.{IsOfKind}
+use Rattle.cmc_rules.specs.Scripting.{scripted, held, has_held}
+use Rattle.cmc_rules.specs.Following.{owed, IsReady}
+use Rattle.cmc_rules.specs.Resting.{IsIdle, IsPaused, RestsOn, IsAtRest}
+use Rattle.cmc_rules.specs.Runs.{IsRun, IsFinished}
 use Rattle.cmc_held.specs.Dues.{own_above}
 use Rattle.cmc_held.proofs.Behind.{not_all_told}
 use Rattle.cmc_world.specs.declared.moves.Move.TheVariants as moves
@@ -121,13 +121,7 @@ told s h none role kind running informed free =
 no_work : (role : Role) (seen : Views) (now : ℤ) (by : Desk) → seen.certificate ≡ None → seen.request ≡ None → act role seen now by ≡ Nothing
 unfolding act trigger
 no_work Trigger seen now by certificate request = ap (for_option now seen.secret) certificate
-no_work KeyManager seen now by certificate request = refl
-no_work RequestManager seen now by certificate request = refl
-no_work Approver seen now by certificate request = refl
-no_work Issuer seen now by certificate request = refl
-no_work Issuing seen now by certificate request = refl
-no_work Readiness seen now by certificate request = refl
-no_work Revision seen now by certificate request = refl
+no_work other seen now by certificate request = refl
 
 not_cached : {A : Type 0} (s : Setting) (h : List Entry) (role : Role) (kind : Kind) (f : Object → Option A) (key : Key) → kind_eq key.kind kind ≡ false
     → option_and_then f (object_at (cache s h role kind) key) ≡ None
@@ -296,19 +290,9 @@ at_rest s h run shut no_delivery no_begin = record {
 
 -- a step that waits is ready where all is at rest
 ready_step : (s : Setting) (h : List Entry) (step : Step) → IsAtRest s h → IsReady s h (Some step)
-ready_step s h (steps.Apply object version) rest = tt
-ready_step s h (steps.Delete key version) rest = tt
-ready_step s h (steps.Approve certificate revision) rest = tt
-ready_step s h (steps.Deny certificate revision) rest = tt
-ready_step s h (steps.Answer certificate revision row) rest = tt
-ready_step s h (steps.Renew certificate) rest = tt
-ready_step s h (steps.Tick seconds) rest = tt
-ready_step s h (steps.Stop role) rest = tt
-ready_step s h (steps.Start role behind) rest = tt
-ready_step s h (steps.Hold role kind) rest = tt
-ready_step s h (steps.Release role kind) rest = tt
 ready_step s h (steps.Until role kind writes) rest = inr rest
 ready_step s h steps.Settle rest = rest
+ready_step s h other rest = tt
 
 ready_at : (s : Setting) (h : List Entry) (i : ℕ) → i < length s.script → IsAtRest s h
     → ((x : Step) × (i < length s.script) × (slice_get s.script i ≡ Some x) × (get_or s.script i x ≡ x)) ⊎ ((length s.script ≤ i) × (slice_get s.script i ≡ None))

@@ -3,11 +3,11 @@ use Rattle.std.proofs.Common.{◌≡◌, ◌==◌, ℕ, ◌+◌, ◌≤◌, List
 use Rattle.std.proofs.lemmas.Bool.Decides.{nat_tests}
 use Rattle.std.specs.Prelude.{◌&&◌, nat_le, if◌then◌else◌}
 use Rattle.cmc_objects.specs.declared.entry.Entry.{Entry}
-use Rattle.cmc_model.specs.declared.progress.OpenPass.{OpenPass}
+use Rattle.cmc_rules.specs.declared.progress.OpenPass.{OpenPass}
 use Rattle.cmc_model.specs.Histories.{Setting, incarnation}
-use Rattle.cmc_model.specs.Passes.{open_pass, origins, origin_at}
-use Rattle.cmc_model.specs.Legality.{IsOpen}
-use Rattle.cmc_model.specs.Runs.{IsRun}
+use Rattle.cmc_rules.specs.Passes.{open_pass, origins, origin_at}
+use Rattle.cmc_rules.specs.Legality.{IsOpen}
+use Rattle.cmc_rules.specs.Runs.{IsRun}
 use Rattle.cmc_world.specs.declared.moves.Move.TheVariants.{Next}
 use Rattle.cmc_world.specs.declared.moves.Stepped.{Stepped}
 use Rattle.cmc_world.specs.Answers.{outdated, outdated_at}

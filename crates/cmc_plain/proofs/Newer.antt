@@ -21,10 +21,11 @@ use Rattle.cmc_model.specs.Stored.{updated, with_status}
 use Rattle.cmc_model.specs.Replies.{State, IsReply, IsServed, IsCreated, IsUpdated, IsRestated, IsDeleted, IsGot, IsChange, key_of_call}
 use Rattle.cmc_model.specs.Histories.{Setting, state, objects}
 use Rattle.cmc_model.specs.Writes.{writes, kind_eq, last_of_kind, last_under}
-use Rattle.cmc_model.specs.Positions.{has_informer}
-use Rattle.cmc_model.specs.Legality.{IsLegal}
+use Rattle.cmc_rules.specs.Positions.{has_informer}
+use Rattle.cmc_rules.specs.Legality.{IsLegal}
 use Rattle.cmc_model.specs.Versions.{IsVersion}
-use Rattle.cmc_model.proofs.Versions.{IsLawful, lawful, lawful_object, stands_is_version}
+use Rattle.cmc_model.proofs.Versions.{IsLawful, lawful_object}
+use Rattle.cmc_rules.proofs.Versions.{lawful, stands_is_version}
 use Rattle.cmc_plain.proofs.OneKind.{last_low}
 
 -- ---- the last write of a kind

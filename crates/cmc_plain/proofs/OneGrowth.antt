@@ -7,20 +7,20 @@ use Rattle.cmc_objects.specs.declared.entry.Who.TheVariants.{User, Pass}
 use Rattle.cmc_objects.specs.declared.entry.Cause.{Cause}
 use Rattle.cmc_objects.specs.declared.entry.Entry.{Entry}
 use Rattle.cmc_objects.specs.declared.entry.Entry.TheVariants.{Script, Call as Called, End}
-use Rattle.cmc_model.specs.declared.effect.Effect.{Effect}
-use Rattle.cmc_model.specs.declared.effect.Effect.TheVariants as effects
-use Rattle.cmc_model.specs.declared.pass.Act.{Act}
-use Rattle.cmc_model.specs.declared.pass.Act.TheVariants.{Nothing, Call as Calls, Ask as Asks, Issue}
-use Rattle.cmc_model.specs.declared.progress.Stage.{Stage}
-use Rattle.cmc_model.specs.declared.progress.Stage.TheVariants.{Fresh, Wrote, Refused, Barred}
-use Rattle.cmc_model.specs.declared.progress.OpenPass.{OpenPass}
+use Rattle.cmc_rules.specs.declared.effect.Effect.{Effect}
+use Rattle.cmc_rules.specs.declared.effect.Effect.TheVariants as effects
+use Rattle.cmc_pass.specs.declared.pass.Act.{Act}
+use Rattle.cmc_pass.specs.declared.pass.Act.TheVariants.{Nothing, Call as Calls, Ask as Asks, Issue}
+use Rattle.cmc_rules.specs.declared.progress.Stage.{Stage}
+use Rattle.cmc_rules.specs.declared.progress.Stage.TheVariants.{Fresh, Wrote, Refused, Barred}
+use Rattle.cmc_rules.specs.declared.progress.OpenPass.{OpenPass}
 use Rattle.cmc_model.specs.Replies.{IsReply}
 use Rattle.cmc_model.specs.Histories.{Setting, state}
-use Rattle.cmc_model.specs.Passes.{open_pass}
-use Rattle.cmc_model.specs.Legality.{IsLegal}
-use Rattle.cmc_model.specs.Causes.{act_of, IsFirstCall, IsNextCall, MayCall, EndsBy, MayEnd, IsCaused}
-use Rattle.cmc_model.specs.Scripting.{scripted}
-use Rattle.cmc_model.specs.Runs.{IsRun}
+use Rattle.cmc_rules.specs.Passes.{open_pass}
+use Rattle.cmc_rules.specs.Legality.{IsLegal}
+use Rattle.cmc_rules.specs.Causes.{act_of, IsFirstCall, IsNextCall, MayCall, EndsBy, MayEnd, IsCaused}
+use Rattle.cmc_rules.specs.Scripting.{scripted}
+use Rattle.cmc_rules.specs.Runs.{IsRun}
 use Rattle.cmc_world.specs.declared.moves.Move.{Move}
 use Rattle.cmc_world.specs.declared.moves.Move.TheVariants as moves
 use Rattle.cmc_world.specs.Answers.{IsEffect, next_effect, IsOfPass, Grows}

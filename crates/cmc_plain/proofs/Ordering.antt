@@ -30,13 +30,7 @@ none_before_more P n role is not_here before r low p = one_more P n role r (nat_
 
 rank_low : (r : Role) → role_rank r < 8
 rank_low Trigger = omega arith
-rank_low KeyManager = omega arith
-rank_low RequestManager = omega arith
-rank_low Approver = omega arith
-rank_low Issuer = omega arith
-rank_low Issuing = omega arith
-rank_low Readiness = omega arith
-rank_low Revision = omega arith
+rank_low other = omega arith
 
 pub none_at_all : (P : Role → Type 0) → HasNoneBefore P 8 → (r : Role) → P r → ⊥
 none_at_all P before r p = before r (rank_low r) p

@@ -12,9 +12,9 @@ use Rattle.std.specs.List.Sorted.{IsStrictlySortedBy}
 use Rattle.std.specs.Map.{keys_of, lookup}
 use Rattle.std.specs.Ordering.{nat_cmp, is_eq}
 use Rattle.cmc_objects.specs.declared.entry.Entry.{Entry}
-use Rattle.cmc_model.specs.declared.progress.OpenPass.{OpenPass}
+use Rattle.cmc_rules.specs.declared.progress.OpenPass.{OpenPass}
 use Rattle.cmc_model.specs.Histories.{Setting, incarnation}
-use Rattle.cmc_model.specs.Passes.{open_pass}
+use Rattle.cmc_rules.specs.Passes.{open_pass}
 use Rattle.cmc_held.specs.Open.{pass_at}
 use Rattle.cmc_world.specs.declared.moves.Move.TheVariants.{Next}
 use Rattle.cmc_plain.specs.Plain.{IsPossible, IsGoingPass, IsGoing, IsOfPresent, IsFirstPass, HasNoPass}

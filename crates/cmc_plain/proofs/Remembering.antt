@@ -22,31 +22,31 @@ use Rattle.cmc_objects.specs.declared.entry.Entry.{Entry}
 use Rattle.cmc_objects.specs.declared.entry.Entry.TheVariants.{Script, Call as Called, Deliver, List as Listed, Begin, Ask, Made, Signed, Answered, Judged, End, Stop, Start, Tick}
 use Rattle.cmc_objects.specs.Roles.{role_rank}
 use Rattle.cmc_model.specs.declared.write.Write.{Write}
-use Rattle.cmc_model.specs.declared.pass.Views.{Views}
-use Rattle.cmc_model.specs.declared.pass.Desk.{Desk}
-use Rattle.cmc_model.specs.declared.pass.Act.{Act}
-use Rattle.cmc_model.specs.declared.pass.Act.TheVariants.{Nothing, Call as Calls, Ask as Asks, Issue}
-use Rattle.cmc_model.specs.declared.progress.Obstacle.{Obstacle}
-use Rattle.cmc_model.specs.declared.progress.Obstacle.TheVariants.{Failure, Newer}
-use Rattle.cmc_model.specs.declared.progress.OpenPass.{OpenPass}
-use Rattle.cmc_model.specs.declared.progress.Stage.{Stage}
-use Rattle.cmc_model.specs.declared.progress.Stage.TheVariants.{Fresh, Wrote, Refused, Barred}
-use Rattle.cmc_model.specs.declared.progress.Ending.{Ending}
-use Rattle.cmc_model.specs.declared.progress.Ending.TheVariants as endings
-use Rattle.cmc_model.specs.declared.progress.LastPass.{LastPass}
-use Rattle.cmc_model.specs.declared.progress.Past.{Past}
+use Rattle.cmc_pass.specs.declared.pass.Views.{Views}
+use Rattle.cmc_pass.specs.declared.pass.Desk.{Desk}
+use Rattle.cmc_pass.specs.declared.pass.Act.{Act}
+use Rattle.cmc_pass.specs.declared.pass.Act.TheVariants.{Nothing, Call as Calls, Ask as Asks, Issue}
+use Rattle.cmc_rules.specs.declared.progress.Obstacle.{Obstacle}
+use Rattle.cmc_rules.specs.declared.progress.Obstacle.TheVariants.{Failure, Newer}
+use Rattle.cmc_rules.specs.declared.progress.OpenPass.{OpenPass}
+use Rattle.cmc_rules.specs.declared.progress.Stage.{Stage}
+use Rattle.cmc_rules.specs.declared.progress.Stage.TheVariants.{Fresh, Wrote, Refused, Barred}
+use Rattle.cmc_rules.specs.declared.progress.Ending.{Ending}
+use Rattle.cmc_rules.specs.declared.progress.Ending.TheVariants as endings
+use Rattle.cmc_rules.specs.declared.progress.LastPass.{LastPass}
+use Rattle.cmc_rules.specs.declared.progress.Past.{Past}
 use Rattle.cmc_model.specs.Replies.{is_accepted, key_of_call}
 use Rattle.cmc_model.specs.Histories.{Setting, moment, state, accepted, role_eq}
 use Rattle.cmc_model.specs.Writes.{writes, write_of, last_of_kind, last_under}
-use Rattle.cmc_model.specs.Positions.{has_informer, position_of}
-use Rattle.cmc_model.specs.Viewing.{views}
-use Rattle.cmc_model.specs.Desks.{desk}
-use Rattle.cmc_model.specs.Facts.{trigger_reason}
-use Rattle.cmc_model.specs.Triggering.{is_issuing, is_backing_off, issue_call, for_reason, frame_of, for_certificate, for_option, trigger}
-use Rattle.cmc_model.specs.Acts.{act}
-use Rattle.cmc_model.specs.Passes.{open_pass, called, new_pass, stage_by, stage_after, with_stage, past, past_called, no_past, with_begin, with_own, with_position, with_ending, ending_at, ending_of, is_pass_of}
-use Rattle.cmc_model.specs.Legality.{IsLegal}
-use Rattle.cmc_model.specs.Causes.{act_of, IsCaused, IsFirstCall, IsNextCall, MayCall, EndsBy, MayEnd}
+use Rattle.cmc_rules.specs.Positions.{has_informer, position_of}
+use Rattle.cmc_rules.specs.Viewing.{views}
+use Rattle.cmc_rules.specs.Desks.{desk}
+use Rattle.cmc_rules.specs.Facts.{trigger_reason}
+use Rattle.cmc_rules.specs.Triggering.{is_issuing, is_backing_off, issue_call, for_reason, frame_of, for_certificate, for_option, trigger}
+use Rattle.cmc_rules.specs.Acts.{act}
+use Rattle.cmc_rules.specs.Passes.{open_pass, called, new_pass, stage_by, stage_after, with_stage, past, past_called, no_past, with_begin, with_own, with_position, with_ending, ending_at, ending_of, is_pass_of}
+use Rattle.cmc_rules.specs.Legality.{IsLegal}
+use Rattle.cmc_rules.specs.Causes.{act_of, IsCaused, IsFirstCall, IsNextCall, MayCall, EndsBy, MayEnd}
 use Rattle.cmc_model.proofs.Writes.{writes_count}
 use Rattle.cmc_world.proofs.Carrying.{over_call, over_begin, over_end, over_stop}
 use Rattle.cmc_world.proofs.PlainActs.{act_desk}
@@ -81,13 +81,7 @@ known_option now secret (Some c) =
 pub writes_known : (role : Role) (seen : Views) (now : ℤ) (desk : Desk) → WritesKnown role (act role seen now desk)
 unfolding act trigger
 writes_known Trigger seen now desk = known_option now seen.secret seen.certificate
-writes_known KeyManager seen now desk = tt
-writes_known RequestManager seen now desk = tt
-writes_known Approver seen now desk = tt
-writes_known Issuer seen now desk = tt
-writes_known Issuing seen now desk = tt
-writes_known Readiness seen now desk = tt
-writes_known Revision seen now desk = tt
+writes_known other seen now desk = tt
 
 first_known : (role : Role) (does : Act) (call : Call) → WritesKnown role does → IsFirstCall does call → has_informer role (key_of_call call).kind ≡ true
 first_known role Nothing call known first = absurd first
@@ -127,8 +121,7 @@ placed_low kinds.Secret kinds.Secret version bound own new old = new refl
 
 no_own : (kind : Kind) (bound : ℕ) → position_of kind no_past.own ≤ bound
 no_own kinds.Certificate bound = omega arith
-no_own kinds.CertificateRequest bound = omega arith
-no_own kinds.Secret bound = omega arith
+no_own other bound = omega arith
 
 own_written : (ok mine : Bool) (role : Role) (kind : Kind) (w : Write) (ws : List Write) (n : ℕ) (p : Past) → length ws ≡ n → (mine ≡ true → has_informer role w.key.kind ≡ true)
     → position_of kind p.own ≤ newest_known role kind ws
@@ -160,7 +153,6 @@ pub own_low : (s : Setting) (h : List Entry) (role : Role) (key : Key) (kind : K
     → position_of kind (past s h role key).own ≤ newest_known role kind (writes s h)
 unfolding IsCaused
 own_low s [] role key kind caused = no_own kind (newest_known role kind [])
-own_low s (Script step ∷ h) role key kind caused = own_low s h role key kind caused.1
 own_low s (Called User call reply ∷ h) role key kind caused =
     let low = own_low s h role key kind caused.1 in
     let more = known_grown (is_accepted reply) role kind (write_of (moment s h) (state s h) call) (writes s h) in
@@ -168,21 +160,13 @@ own_low s (Called User call reply ∷ h) role key kind caused =
 own_low s (Called (Pass pass) call reply ∷ h) role key kind caused =
     own_written (is_accepted reply) (is_pass_of role key (open_pass s h pass)) role kind (write_of (moment s h) (state s h) call) (writes s h) (accepted s h) (past s h role key) (writes_count s h)
     (λ mine. call_known s h role key call (open_pass s h pass) mine caused.0) (own_low s h role key kind caused.1)
-own_low s (Deliver who what to ∷ h) role key kind caused = own_low s h role key kind caused.1
-own_low s (Listed who what to ∷ h) role key kind caused = own_low s h role key kind caused.1
 own_low s (Begin pass who at told now ∷ h) role key kind caused =
     own_begun (role_eq who role && key_eq at key) kind (newest_known role kind (writes s h)) (views s h who at) now (past s h role key) (own_low s h role key kind caused.1)
-own_low s (Ask pass order ∷ h) role key kind caused = own_low s h role key kind caused.1
-own_low s (Made pass made ∷ h) role key kind caused = own_low s h role key kind caused.1
-own_low s (Signed pass signature ∷ h) role key kind caused = own_low s h role key kind caused.1
-own_low s (Answered pass answer ∷ h) role key kind caused = own_low s h role key kind caused.1
-own_low s (Judged pass approved ∷ h) role key kind caused = own_low s h role key kind caused.1
 own_low s (End pass cause ∷ h) role key kind caused =
     own_ended (is_pass_of role key (open_pass s h pass)) kind (newest_known role kind (writes s h)) (ending_of (open_pass s h pass)) (past s h role key) (own_low s h role key kind caused.1)
-own_low s (Stop who ∷ h) role key kind caused = own_low s h role key kind caused.1
 own_low s (Start who at ∷ h) role key kind caused =
     own_started (role_eq who role) kind (newest_known role kind (writes s h)) (past s h role key) (own_low s h role key kind caused.1)
-own_low s (Tick now ∷ h) role key kind caused = own_low s h role key kind caused.1
+own_low s (other ∷ h) role key kind caused = own_low s h role key kind caused.1
 
 -- ---- what refuses calls
 
@@ -216,14 +200,11 @@ grown_pass b w ws (Some p) low = grown_stage b p.role w ws p.stage low
 
 stage_low : (entry last : ℕ) (role : Role) (kind : Kind) (ws : List Write) (reply : Reply) → has_informer role kind ≡ true → last ≤ last_of_kind kind ws → IsLowReply (last_of_kind kind ws) reply
     → IsLowStage role ws (stage_by entry kind last reply)
-stage_low entry last role kind ws (Ok version name) known below low = tt
-stage_low entry last role kind ws (Unchanged version) known below low = tt
 stage_low entry last role kind ws (Found object) known below low = let is = known_is role kind ws known in omega (arith, is, low)
 stage_low entry last role kind ws (Conflict named have) known below low = let is = known_is role kind ws known in omega (arith, is, low)
 stage_low entry last role kind ws (NotFound at) known below low = let is = known_is role kind ws known in omega (arith, is, below)
 stage_low entry last role kind ws (AlreadyExists have) known below low = let is = known_is role kind ws known in omega (arith, is, low)
-stage_low entry last role kind ws (Invalid rule) known below low = tt
-stage_low entry last role kind ws (Unavailable number) known below low = tt
+stage_low entry last role kind ws other known below low = tt
 
 stage_called : (s : Setting) (h : List Entry) (call : Call) (reply : Reply) (p : Option OpenPass) → IsLowReply (last_of_kind (key_of_call call).kind (writes s h)) reply → MayCall s h p call
     → IfSome (option_map (with_stage (stage_after s h call reply)) p) (HasLowStage (writes s h))
@@ -244,25 +225,16 @@ pass_called false s h n pass call reply is low may old = old
 pub refused_low : (s : Setting) (h : List Entry) (n : ℕ) → IsLegal s h → IsCaused s h → IfSome (open_pass s h n) (HasLowStage (writes s h))
 unfolding IsLegal IsCaused
 refused_low s [] n legal caused = tt
-refused_low s (Script step ∷ h) n legal caused = refused_low s h n legal.1 caused.1
 refused_low s (Called User call reply ∷ h) n legal caused =
     grown_pass (is_accepted reply) (write_of (moment s h) (state s h) call) (writes s h) (open_pass s h n) (refused_low s h n legal.1 caused.1)
 refused_low s (Called (Pass pass) call reply ∷ h) n legal caused =
     grown_pass (is_accepted reply) (write_of (moment s h) (state s h) call) (writes s h) (called n (Pass pass) (stage_after s h call reply) (open_pass s h n))
     (pass_called (n == pass) s h n pass call reply refl (low_reply s h call reply legal.1 legal.0.0) caused.0 (refused_low s h n legal.1 caused.1))
-refused_low s (Deliver role kind to ∷ h) n legal caused = refused_low s h n legal.1 caused.1
-refused_low s (Listed role kind to ∷ h) n legal caused = refused_low s h n legal.1 caused.1
 refused_low s (Begin pass role key at now ∷ h) n legal caused =
     over_begin (HasLowStage (writes s h)) (n == pass) (new_pass role key (views s h role key) now) (open_pass s h n) tt (refused_low s h n legal.1 caused.1)
-refused_low s (Ask pass order ∷ h) n legal caused = refused_low s h n legal.1 caused.1
-refused_low s (Made pass key ∷ h) n legal caused = refused_low s h n legal.1 caused.1
-refused_low s (Signed pass signature ∷ h) n legal caused = refused_low s h n legal.1 caused.1
-refused_low s (Answered pass answer ∷ h) n legal caused = refused_low s h n legal.1 caused.1
-refused_low s (Judged pass approved ∷ h) n legal caused = refused_low s h n legal.1 caused.1
 refused_low s (End pass cause ∷ h) n legal caused = over_end (HasLowStage (writes s h)) (n == pass) (open_pass s h n) (refused_low s h n legal.1 caused.1)
 refused_low s (Stop role ∷ h) n legal caused = over_stop (HasLowStage (writes s h)) role (open_pass s h n) (refused_low s h n legal.1 caused.1)
-refused_low s (Start role at ∷ h) n legal caused = refused_low s h n legal.1 caused.1
-refused_low s (Tick now ∷ h) n legal caused = refused_low s h n legal.1 caused.1
+refused_low s (other ∷ h) n legal caused = refused_low s h n legal.1 caused.1
 
 -- ---- what is remembered of an open pass
 
@@ -340,18 +312,10 @@ remembered_begun s h n pass role key at now free holds =
 pub remembered : (s : Setting) (h : List Entry) (n : ℕ) → IsLegal s h → IfSome (open_pass s h n) (RemembersPass s h)
 unfolding IsLegal
 remembered s [] n legal = tt
-remembered s (Script step ∷ h) n legal = remembered s h n legal.1
 remembered s (Called who call reply ∷ h) n legal =
     remembered_called s h who call reply (called n who (stage_after s h call reply) (open_pass s h n))
     (over_call (RemembersPass s h) n who (stage_after s h call reply) (open_pass s h n) (λ p same. same) (remembered s h n legal.1))
-remembered s (Deliver role kind to ∷ h) n legal = remembered s h n legal.1
-remembered s (Listed role kind to ∷ h) n legal = remembered s h n legal.1
 remembered s (Begin pass role key at now ∷ h) n legal = remembered_begun s h n pass role key at now (legal.0.free n) (remembered s h n legal.1)
-remembered s (Ask pass order ∷ h) n legal = remembered s h n legal.1
-remembered s (Made pass key ∷ h) n legal = remembered s h n legal.1
-remembered s (Signed pass signature ∷ h) n legal = remembered s h n legal.1
-remembered s (Answered pass answer ∷ h) n legal = remembered s h n legal.1
-remembered s (Judged pass approved ∷ h) n legal = remembered s h n legal.1
 remembered s (End pass cause ∷ h) n legal =
     over_end (RemembersPass s (End pass cause ∷ h)) (n == pass) (open_pass s h n)
     (carried (RemembersPass s h) (RemembersPass s (End pass cause ∷ h)) (open_pass s h n)
@@ -361,7 +325,7 @@ remembered s (Stop role ∷ h) n legal = over_stop (RemembersPass s h) role (ope
 remembered s (Start role at ∷ h) n legal =
     carried (RemembersPass s h) (RemembersPass s (Start role at ∷ h)) (open_pass s h n)
     (λ p is same. remembered_started (role_eq role p.role) p.seen p.since (past s h p.role p.key) same) (remembered s h n legal.1)
-remembered s (Tick now ∷ h) n legal = remembered s h n legal.1
+remembered s (other ∷ h) n legal = remembered s h n legal.1
 
 -- ---- how the last pass ended
 
@@ -438,23 +402,14 @@ fair_ended true s h role key cause (Some p) is ends low same fair =
 pub last_fair : (s : Setting) (h : List Entry) (role : Role) (key : Key) → IsLegal s h → IsCaused s h → IsFairLast role (writes s h) (past s h role key).last
 unfolding IsLegal IsCaused
 last_fair s [] role key legal caused = tt
-last_fair s (Script step ∷ h) role key legal caused = last_fair s h role key legal.1 caused.1
 last_fair s (Called who call reply ∷ h) role key legal caused =
     subst (IsFairLast role (writes s (Called who call reply ∷ h))) (sym (last_called s h role key (past s h role key) who (key_of_call call).kind (is_accepted reply)))
     (grown_last (is_accepted reply) role (write_of (moment s h) (state s h) call) (writes s h) (past s h role key).last (last_fair s h role key legal.1 caused.1))
-last_fair s (Deliver who kind to ∷ h) role key legal caused = last_fair s h role key legal.1 caused.1
-last_fair s (Listed who kind to ∷ h) role key legal caused = last_fair s h role key legal.1 caused.1
 last_fair s (Begin pass who at told now ∷ h) role key legal caused =
     fair_begun (role_eq who role && key_eq at key) role (writes s h) (views s h who at) now (past s h role key) (last_fair s h role key legal.1 caused.1)
-last_fair s (Ask pass order ∷ h) role key legal caused = last_fair s h role key legal.1 caused.1
-last_fair s (Made pass made ∷ h) role key legal caused = last_fair s h role key legal.1 caused.1
-last_fair s (Signed pass signature ∷ h) role key legal caused = last_fair s h role key legal.1 caused.1
-last_fair s (Answered pass answer ∷ h) role key legal caused = last_fair s h role key legal.1 caused.1
-last_fair s (Judged pass approved ∷ h) role key legal caused = last_fair s h role key legal.1 caused.1
 last_fair s (End pass cause ∷ h) role key legal caused =
     fair_ended (is_pass_of role key (open_pass s h pass)) s h role key cause (open_pass s h pass) refl caused.0 (refused_low s h pass legal.1 caused.1) (remembered s h pass legal.1)
     (last_fair s h role key legal.1 caused.1)
-last_fair s (Stop who ∷ h) role key legal caused = last_fair s h role key legal.1 caused.1
 last_fair s (Start who at ∷ h) role key legal caused =
     fair_started (role_eq who role) role (writes s h) (past s h role key) (last_fair s h role key legal.1 caused.1)
-last_fair s (Tick now ∷ h) role key legal caused = last_fair s h role key legal.1 caused.1
+last_fair s (other ∷ h) role key legal caused = last_fair s h role key legal.1 caused.1

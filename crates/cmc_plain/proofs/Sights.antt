@@ -8,9 +8,9 @@ use Rattle.cmc_objects.specs.declared.entry.Positions.{Positions}
 use Rattle.cmc_model.specs.declared.write.Write.{Write}
 use Rattle.cmc_model.specs.Objects.{Objects}
 use Rattle.cmc_model.specs.Histories.{Setting}
-use Rattle.cmc_model.specs.Positions.{positions}
+use Rattle.cmc_rules.specs.Positions.{positions}
 use Rattle.cmc_model.specs.Writes.{writes, contents, oldest, of_kind}
-use Rattle.cmc_model.specs.Viewing.{Caches, views_in, views}
+use Rattle.cmc_rules.specs.Viewing.{Caches, views_in, views}
 use Rattle.cmc_held.specs.Sight.{caches_at}
 use Rattle.cmc_held.proofs.Told.{views-told}
 

@@ -5,12 +5,12 @@ use Rattle.std.specs.Prelude.{if◌then◌else◌, IfSome}
 use Rattle.cmc_objects.specs.declared.role.Role.{Role}
 use Rattle.cmc_objects.specs.declared.entry.Entry.{Entry}
 use Rattle.cmc_objects.specs.declared.entry.Entry.TheVariants.{Script, Call as Called, Deliver, List as Listed, Begin, Ask, Made, Signed, Answered, Judged, End, Stop, Start, Tick}
-use Rattle.cmc_model.specs.declared.progress.OpenPass.{OpenPass}
-use Rattle.cmc_model.specs.declared.progress.Origin.{Origin}
+use Rattle.cmc_rules.specs.declared.progress.OpenPass.{OpenPass}
+use Rattle.cmc_rules.specs.declared.progress.Origin.{Origin}
 use Rattle.cmc_model.specs.Histories.{Setting, runs, incarnation, role_eq}
-use Rattle.cmc_model.specs.Viewing.{views}
-use Rattle.cmc_model.specs.Passes.{open_pass, new_pass, unless_of, stage_after, origins, origin_at}
-use Rattle.cmc_model.specs.Legality.{IsLegal}
+use Rattle.cmc_rules.specs.Viewing.{views}
+use Rattle.cmc_rules.specs.Passes.{open_pass, new_pass, unless_of, stage_after, origins, origin_at}
+use Rattle.cmc_rules.specs.Legality.{IsLegal}
 use Rattle.cmc_world.proofs.Carrying.{over_call, over_begin, over_end, over_stop}
 use Rattle.cmc_world.proofs.Origins.{origins_count}
 use Rattle.cmc_world.proofs.Standings.{same_role}
@@ -18,20 +18,8 @@ use Rattle.cmc_world.proofs.Standings.{same_role}
 -- ---- starts of stopped roles
 
 abbrev pub StartsStoppedEntry : Setting → List Entry → Entry → Type 0
-StartsStoppedEntry s h (Script step) = Unit {0}
-StartsStoppedEntry s h (Called who call reply) = Unit {0}
-StartsStoppedEntry s h (Deliver role kind to) = Unit {0}
-StartsStoppedEntry s h (Listed role kind to) = Unit {0}
-StartsStoppedEntry s h (Begin pass role key at now) = Unit {0}
-StartsStoppedEntry s h (Ask pass order) = Unit {0}
-StartsStoppedEntry s h (Made pass key) = Unit {0}
-StartsStoppedEntry s h (Signed pass signature) = Unit {0}
-StartsStoppedEntry s h (Answered pass answer) = Unit {0}
-StartsStoppedEntry s h (Judged pass approved) = Unit {0}
-StartsStoppedEntry s h (End pass cause) = Unit {0}
-StartsStoppedEntry s h (Stop role) = Unit {0}
 StartsStoppedEntry s h (Start role at) = runs s h role ≡ false
-StartsStoppedEntry s h (Tick now) = Unit {0}
+StartsStoppedEntry s h other = Unit {0}
 
 -- each start stands where its role does not run
 unfoldable pub StartsStopped : Setting → List Entry → Type 0
@@ -63,21 +51,13 @@ over_stopped s h role (Some p) running = left_running s h role (role_eq role p.r
 running_pass : (s : Setting) (h : List Entry) (n : ℕ) → IsLegal s h → IfSome (open_pass s h n) (IsOfRunning s h)
 unfolding IsLegal
 running_pass s [] n legal = tt
-running_pass s (Script step ∷ h) n legal = running_pass s h n legal.1
 running_pass s (Called who call reply ∷ h) n legal = over_call (IsOfRunning s h) n who (stage_after s h call reply) (open_pass s h n) (λ p runs. runs) (running_pass s h n legal.1)
-running_pass s (Deliver role kind to ∷ h) n legal = running_pass s h n legal.1
-running_pass s (Listed role kind to ∷ h) n legal = running_pass s h n legal.1
 running_pass s (Begin pass role key at now ∷ h) n legal =
     over_begin (IsOfRunning s h) (n == pass) (new_pass role key (views s h role key) now) (open_pass s h n) legal.0.running (running_pass s h n legal.1)
-running_pass s (Ask pass order ∷ h) n legal = running_pass s h n legal.1
-running_pass s (Made pass key ∷ h) n legal = running_pass s h n legal.1
-running_pass s (Signed pass signature ∷ h) n legal = running_pass s h n legal.1
-running_pass s (Answered pass answer ∷ h) n legal = running_pass s h n legal.1
-running_pass s (Judged pass approved ∷ h) n legal = running_pass s h n legal.1
 running_pass s (End pass cause ∷ h) n legal = over_end (IsOfRunning s h) (n == pass) (open_pass s h n) (running_pass s h n legal.1)
 running_pass s (Stop role ∷ h) n legal = over_stopped s h role (open_pass s h n) (running_pass s h n legal.1)
 running_pass s (Start role at ∷ h) n legal = over_start s h role at (open_pass s h n) (running_pass s h n legal.1)
-running_pass s (Tick now ∷ h) n legal = running_pass s h n legal.1
+running_pass s (other ∷ h) n legal = running_pass s h n legal.1
 
 -- a pass begins only where its role runs, and the stop of the role closes it
 pub open_runs : (s : Setting) (h : List Entry) (n : ℕ) (p : OpenPass) → IsLegal s h → open_pass s h n ≡ Some p → runs s h p.role ≡ true
@@ -138,24 +118,16 @@ over_other_start s h role at n (Some p) stopped running present =
 present_pass : (s : Setting) (h : List Entry) (n : ℕ) → StartsStopped s h → IsLegal s h → IfSome (open_pass s h n) (IsFromPresent s h n)
 unfolding IsLegal StartsStopped
 present_pass s [] n stopped legal = tt
-present_pass s (Script step ∷ h) n stopped legal = present_pass s h n stopped.1 legal.1
 present_pass s (Called who call reply ∷ h) n stopped legal =
     over_call (IsFromPresent s h n) n who (stage_after s h call reply) (open_pass s h n) (λ p present. present) (present_pass s h n stopped.1 legal.1)
-present_pass s (Deliver role kind to ∷ h) n stopped legal = present_pass s h n stopped.1 legal.1
-present_pass s (Listed role kind to ∷ h) n stopped legal = present_pass s h n stopped.1 legal.1
 present_pass s (Begin pass role key at now ∷ h) n stopped legal =
     over_origin s h n pass (present_origin s h role) (n == pass) (new_pass role key (views s h role key) now) (open_pass s h n) refl
     (omega (arith, origins_count s h, legal.0.numbered)) refl (present_pass s h n stopped.1 legal.1)
-present_pass s (Ask pass order ∷ h) n stopped legal = present_pass s h n stopped.1 legal.1
-present_pass s (Made pass key ∷ h) n stopped legal = present_pass s h n stopped.1 legal.1
-present_pass s (Signed pass signature ∷ h) n stopped legal = present_pass s h n stopped.1 legal.1
-present_pass s (Answered pass answer ∷ h) n stopped legal = present_pass s h n stopped.1 legal.1
-present_pass s (Judged pass approved ∷ h) n stopped legal = present_pass s h n stopped.1 legal.1
 present_pass s (End pass cause ∷ h) n stopped legal = over_end (IsFromPresent s h n) (n == pass) (open_pass s h n) (present_pass s h n stopped.1 legal.1)
 present_pass s (Stop role ∷ h) n stopped legal = over_stop (IsFromPresent s h n) role (open_pass s h n) (present_pass s h n stopped.1 legal.1)
 present_pass s (Start role at ∷ h) n stopped legal =
     over_other_start s h role at n (open_pass s h n) stopped.0 (running_pass s h n legal.1) (present_pass s h n stopped.1 legal.1)
-present_pass s (Tick now ∷ h) n stopped legal = present_pass s h n stopped.1 legal.1
+present_pass s (other ∷ h) n stopped legal = present_pass s h n stopped.1 legal.1
 
 -- the origin of an open pass names its role, and the present incarnation of it
 pub present_origin_stands : (s : Setting) (h : List Entry) (n : ℕ) (p : OpenPass) → StartsStopped s h → IsLegal s h → open_pass s h n ≡ Some p

@@ -9,11 +9,11 @@ use Rattle.cmc_objects.specs.declared.entry.Step.TheVariants as steps
 use Rattle.cmc_objects.specs.declared.entry.Who.TheVariants.{User, Pass}
 use Rattle.cmc_objects.specs.declared.entry.Entry.{Entry}
 use Rattle.cmc_objects.specs.declared.entry.Entry.TheVariants.{Script, Call as Called, Deliver, List as Listed, Begin, Ask, Made, Signed, Answered, Judged, End, Stop, Start, Tick}
-use Rattle.cmc_model.specs.declared.effect.Effect.{Effect}
-use Rattle.cmc_model.specs.declared.effect.Effect.TheVariants as effects
+use Rattle.cmc_rules.specs.declared.effect.Effect.{Effect}
+use Rattle.cmc_rules.specs.declared.effect.Effect.TheVariants as effects
 use Rattle.cmc_model.specs.Histories.{Setting, runs, role_eq}
-use Rattle.cmc_model.specs.Scripting.{scripted, step_at}
-use Rattle.cmc_model.specs.Following.{call_of, effect_of, owed, IsNextStep, Follows}
+use Rattle.cmc_rules.specs.Scripting.{scripted, step_at}
+use Rattle.cmc_rules.specs.Following.{call_of, effect_of, owed, IsNextStep, Follows}
 use Rattle.cmc_scenario.specs.Setups.{Setup, is_among, without_role, IsOrderlyFrom}
 use Rattle.cmc_scenario.proofs.Orderly.{among_after}
 use Rattle.cmc_world.specs.Kept.{setting_of}
@@ -110,16 +110,10 @@ orderly_after s (Called User call reply ∷ h) orderly follows = over_entry s h 
 orderly_after s (Called (Pass pass) call reply ∷ h) orderly follows = over_entry s h None follows.0 (orderly_after s h orderly follows.1)
 orderly_after s (Deliver role kind to ∷ h) orderly follows = over_entry s h None follows.0.settled (orderly_after s h orderly follows.1)
 orderly_after s (Listed role kind to ∷ h) orderly follows = over_entry s h None follows.0.settled (orderly_after s h orderly follows.1)
-orderly_after s (Begin pass role key at now ∷ h) orderly follows = over_entry s h None follows.0 (orderly_after s h orderly follows.1)
-orderly_after s (Ask pass order ∷ h) orderly follows = over_entry s h None follows.0 (orderly_after s h orderly follows.1)
-orderly_after s (Made pass key ∷ h) orderly follows = over_entry s h None follows.0 (orderly_after s h orderly follows.1)
-orderly_after s (Signed pass signature ∷ h) orderly follows = over_entry s h None follows.0 (orderly_after s h orderly follows.1)
-orderly_after s (Answered pass answer ∷ h) orderly follows = over_entry s h None follows.0 (orderly_after s h orderly follows.1)
-orderly_after s (Judged pass approved ∷ h) orderly follows = over_entry s h None follows.0 (orderly_after s h orderly follows.1)
-orderly_after s (End pass cause ∷ h) orderly follows = over_entry s h None follows.0 (orderly_after s h orderly follows.1)
 orderly_after s (Stop role ∷ h) orderly follows = over_entry s h (Some (effects.Stop role)) follows.0 (orderly_after s h orderly follows.1)
 orderly_after s (Start role at ∷ h) orderly follows = over_entry s h (Some (effects.Start role at)) follows.0 (orderly_after s h orderly follows.1)
 orderly_after s (Tick now ∷ h) orderly follows = over_entry s h (Some (effects.Tick now)) follows.0 (orderly_after s h orderly follows.1)
+orderly_after s (other ∷ h) orderly follows = over_entry s h None follows.0 (orderly_after s h orderly follows.1)
 
 owed_is_stopped : (s : Setting) (h : List Entry) (role : Role) (at : ℕ) → IsOrderlyFrom s.roles s.script → Follows s h → owed s h ≡ Some (effects.Start role at) → runs s h role ≡ false
 owed_is_stopped s h role at orderly follows is = subst (OwesStopped (runs s h)) is (orderly_after s h orderly follows).stopped
@@ -128,20 +122,8 @@ owed_is_stopped s h role at orderly follows is = subst (OwesStopped (runs s h)) 
 stopped_starts : (s : Setting) (h : List Entry) → IsOrderlyFrom s.roles s.script → Follows s h → StartsStopped s h
 unfolding Follows StartsStopped
 stopped_starts s [] orderly follows = tt
-stopped_starts s (Script step ∷ h) orderly follows = (tt, stopped_starts s h orderly follows.1)
-stopped_starts s (Called who call reply ∷ h) orderly follows = (tt, stopped_starts s h orderly follows.1)
-stopped_starts s (Deliver role kind to ∷ h) orderly follows = (tt, stopped_starts s h orderly follows.1)
-stopped_starts s (Listed role kind to ∷ h) orderly follows = (tt, stopped_starts s h orderly follows.1)
-stopped_starts s (Begin pass role key at now ∷ h) orderly follows = (tt, stopped_starts s h orderly follows.1)
-stopped_starts s (Ask pass order ∷ h) orderly follows = (tt, stopped_starts s h orderly follows.1)
-stopped_starts s (Made pass key ∷ h) orderly follows = (tt, stopped_starts s h orderly follows.1)
-stopped_starts s (Signed pass signature ∷ h) orderly follows = (tt, stopped_starts s h orderly follows.1)
-stopped_starts s (Answered pass answer ∷ h) orderly follows = (tt, stopped_starts s h orderly follows.1)
-stopped_starts s (Judged pass approved ∷ h) orderly follows = (tt, stopped_starts s h orderly follows.1)
-stopped_starts s (End pass cause ∷ h) orderly follows = (tt, stopped_starts s h orderly follows.1)
-stopped_starts s (Stop role ∷ h) orderly follows = (tt, stopped_starts s h orderly follows.1)
 stopped_starts s (Start role at ∷ h) orderly follows = (owed_is_stopped s h role at orderly follows.1 follows.0, stopped_starts s h orderly follows.1)
-stopped_starts s (Tick now ∷ h) orderly follows = (tt, stopped_starts s h orderly follows.1)
+stopped_starts s (other ∷ h) orderly follows = (tt, stopped_starts s h orderly follows.1)
 
 -- the same of what a scenario gives
 pub starts_stopped : (u : Setup) (h : List Entry) → IsOrderlyFrom u.roles u.script → Follows (setting_of u) h → StartsStopped (setting_of u) h

@@ -7,15 +7,15 @@ use Rattle.cmc_meta.specs.Keys.{kind_rank, key_cmp}
 use Rattle.cmc_objects.specs.Roles.{role_rank}
 use Rattle.cmc_objects.specs.declared.role.Role.{Role}
 use Rattle.cmc_objects.specs.declared.entry.Entry.{Entry}
-use Rattle.cmc_model.specs.declared.pass.Views.{Views}
-use Rattle.cmc_model.specs.declared.progress.LastPass.{LastPass}
-use Rattle.cmc_model.specs.declared.progress.OpenPass.{OpenPass}
+use Rattle.cmc_pass.specs.declared.pass.Views.{Views}
+use Rattle.cmc_rules.specs.declared.progress.LastPass.{LastPass}
+use Rattle.cmc_rules.specs.declared.progress.OpenPass.{OpenPass}
 use Rattle.cmc_model.specs.Histories.{Setting, incarnation}
 use Rattle.cmc_model.specs.Writes.{writes, last_of_kind}
-use Rattle.cmc_model.specs.Viewing.{views}
-use Rattle.cmc_model.specs.Passes.{open_pass, past}
-use Rattle.cmc_model.specs.Resting.{IsIdle}
-use Rattle.cmc_model.specs.Runs.{IsFinished}
+use Rattle.cmc_rules.specs.Viewing.{views}
+use Rattle.cmc_rules.specs.Passes.{open_pass, past}
+use Rattle.cmc_rules.specs.Resting.{IsIdle}
+use Rattle.cmc_rules.specs.Runs.{IsFinished}
 use Rattle.cmc_world.specs.declared.moves.Move.{Move}
 use Rattle.cmc_world.specs.declared.moves.Move.TheVariants.{Script, Deliver, Begin, Next}
 use Rattle.cmc_world.specs.declared.moves.Stepped.{Stepped}

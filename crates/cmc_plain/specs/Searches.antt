@@ -8,9 +8,9 @@ use Rattle.cmc_objects.specs.Roles.{role_rank}
 use Rattle.cmc_objects.specs.declared.role.Role.{Role}
 use Rattle.cmc_objects.specs.declared.entry.Entry.{Entry}
 use Rattle.cmc_model.specs.Histories.{Setting, moment, runs}
-use Rattle.cmc_model.specs.Positions.{kind_of_work, positions}
-use Rattle.cmc_model.specs.Viewing.{views_in, views}
-use Rattle.cmc_model.specs.Passes.{past, IsDue}
+use Rattle.cmc_rules.specs.Positions.{kind_of_work, positions}
+use Rattle.cmc_rules.specs.Viewing.{views_in, views}
+use Rattle.cmc_rules.specs.Passes.{past, IsDue}
 use Rattle.cmc_world.specs.declared.moves.Move.{Move}
 use Rattle.cmc_world.specs.Answers.{IsWorking, IsQueued}
 use Rattle.cmc_plain.specs.declared.passes.Going.{Going}

@@ -2,7 +2,7 @@
 ghost use Rattle.std.specs.Prelude.{◌≡◌, ◌≤ℤ◌};
 ghost use Rattle.cmc_policies.specs.Renewal.{IsCertificateTime};
 
-use crate::renewal::renewal_time;
+use crate::renewal::{Renew, renewal_time};
 
 /// Why a certificate must be issued.
 #[derive(Clone, Copy, Debug, PartialEq, Eq)]
@@ -66,12 +66,11 @@ pub struct Facts {
     pub ghost ends_in_range: { IsCertificateTime not_after },
 }
 
-/// The moment at which facts are judged, and how many seconds before its end a certificate is renewed, where the
-/// specification says so.
+/// The moment at which facts are judged, in seconds since 1970-01-01T00:00:00Z, and when a certificate is renewed.
 #[derive(Clone, Copy)]
 pub struct Frame {
     pub now: i64,
-    pub renew: Option<u64>,
+    pub renew: Renew,
 }
 
 impl Facts {

@@ -12,4 +12,4 @@ mod tests;
 pub use chain::{Chain, Empty, Link};
 pub use check::Check;
 pub use facts::{Facts, Frame, Reason};
-pub use renewal::{backoff_until, renewal_time};
+pub use renewal::{Renew, backoff_until, renewal_time};

@@ -1,29 +1,42 @@
 //! When a certificate is renewed, and when a failed issuance is tried again.
-ghost use Rattle.std.specs.Prelude.{◌≡◌, ◌*◌, ◌/◌, ◌^◌, ◌<◌, ◌≤◌, None, pos, ◌+ℤ◌, ◌≤ℤ◌};
+ghost use Rattle.std.specs.Prelude.{◌≡◌, ◌*◌, ◌/◌, ◌^◌, ◌<◌, ◌≤◌, pos, ◌+ℤ◌, ◌≤ℤ◌};
 ghost use Rattle.cmc_policies.specs.Renewal as spec;
 ghost use Rattle.cmc_policies.specs.Renewal.{IsCertificateTime};
 
+/// When a certificate is renewed (cert-manager.io/v1, `renewBefore` and `renewBeforePercentage`).
+#[derive(Clone, Copy)]
+pub enum Renew {
+    /// As the specification says nothing of it.
+    Default,
+    /// So many seconds before its end.
+    Before(u64),
+    /// When so much of its lifetime is left, in percent.
+    Percent(u32),
+}
+
 // The seconds before the end of a lifetime at which the renewal begins.
-fn lead(lifetime: u64, renew: Option<u64>) -> u64
+fn lead(lifetime: u64, renew: Renew) -> u64
     requires { lifetime < 2 ^ 40 }
     ensures value { result ≡ spec.lead lifetime renew }
     ensures within { result ≤ lifetime }
 {
     match renew {
-        Some(before) if 0 < before && before < lifetime => before,
+        Renew::Before(seconds) if 0 < seconds && seconds < lifetime => seconds,
+        Renew::Percent(part) if 0 < part && part < 100 => (part as u64 * lifetime + 99) / 100,
         _ => (lifetime + 2) / 3,
     }
 }
 
-/// The moment from which a certificate of that validity is to be renewed: `renew` seconds before its end, where
-/// that is more than nothing and less than the lifetime, and else at two thirds of the lifetime, cut down to
-/// whole seconds. All times are seconds since 1970-01-01T00:00:00Z.
-pub fn renewal_time(not_before: i64, not_after: i64, renew: Option<u64>) -> i64
+/// The moment from which a certificate of that validity is to be renewed: `Before` seconds before its end, where
+/// that is more than nothing and less than the lifetime; when `Percent` of the lifetime is left, from 1 to 99; and
+/// else at two thirds of the lifetime; the last two cut down to whole seconds. All times are seconds since
+/// 1970-01-01T00:00:00Z.
+pub fn renewal_time(not_before: i64, not_after: i64, renew: Renew) -> i64
     requires ordered { not_before ≤ℤ not_after }
     requires begins_in_range { IsCertificateTime not_before }
     requires ends_in_range { IsCertificateTime not_after }
     ensures value { result ≡ spec.renewal not_before not_after renew }
-    ensures two_thirds { renew ≡ None → result
+    ensures two_thirds { renew ≡ Renew.Default → result
         ≡ not_before +ℤ pos (2 * spec.lifetime not_before not_after / 3) }
 {
     not_after - lead((not_after - not_before) as u64, renew) as i64

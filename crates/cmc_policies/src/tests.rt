@@ -35,11 +35,11 @@ fn facts(secret: bool, filled: bool) -> Facts {
 fn first_reason(rt: HostRuntime) -> Result<(), Fail> {
     let early = Frame {
         now: 5_183_999,
-        renew: None,
+        renew: Renew::Default,
     };
     let due = Frame {
         now: 5_184_000,
-        renew: None,
+        renew: Renew::Default,
     };
     assert_eq!(rt;
         first_of(due, &facts(false, false)),
@@ -57,9 +57,12 @@ fn first_reason(rt: HostRuntime) -> Result<(), Fail> {
 
 #[test]
 fn times(rt: HostRuntime) -> Result<(), Fail> {
-    assert_eq!(rt; renewal_time(0, 7_776_000, Some(7_776_000)), 5_184_000);
-    assert_eq!(rt; renewal_time(0, 7_776_000, Some(7_775_999)), 1);
-    assert_eq!(rt; renewal_time(0, 10, None), 6);
+    assert_eq!(rt; renewal_time(0, 7_776_000, Renew::Before(7_776_000)), 5_184_000);
+    assert_eq!(rt; renewal_time(0, 7_776_000, Renew::Before(7_775_999)), 1);
+    assert_eq!(rt; renewal_time(0, 10, Renew::Default), 6);
+    assert_eq!(rt; renewal_time(0, 3600, Renew::Percent(25)), 2700);
+    assert_eq!(rt; renewal_time(0, 50, Renew::Percent(1)), 49);
+    assert_eq!(rt; renewal_time(0, 3600, Renew::Percent(99)), 36);
     for (attempts, until) in [
         (None, 3600),
         (Some(0), 3600),

@@ -15,13 +15,7 @@ use Rattle.cmc_scenario.specs.Running.{Tells, is_on}
 pub flag_of_each : (f : Role → Bool) (r : Role) → is_on (f Trigger ∷ f KeyManager ∷ f RequestManager ∷ f Approver ∷ f Issuer ∷ f Issuing ∷ f Readiness ∷ f Revision ∷ []) r ≡ f r
 unfolding is_on
 flag_of_each f Trigger = refl
-flag_of_each f KeyManager = refl
-flag_of_each f RequestManager = refl
-flag_of_each f Approver = refl
-flag_of_each f Issuer = refl
-flag_of_each f Issuing = refl
-flag_of_each f Readiness = refl
-flag_of_each f Revision = refl
+flag_of_each f other = refl
 
 -- whether another is r, with the role left out
 left_out : (same other_is : Bool) (rest : Bool) → (same ≡ true → other_is ≡ false) → (other_is || (if same then false else rest)) ≡ (if same then false else (other_is || rest))

@@ -42,19 +42,8 @@ script_is_plain result d gives =
 
 -- a step that is no tick lets no second pass
 no_seconds : (step : Step) → is_tick step ≡ false → seconds_of step ≡ 0
-no_seconds (Apply object version) is = refl
-no_seconds (Delete key version) is = refl
-no_seconds (Approve certificate revision) is = refl
-no_seconds (Deny certificate revision) is = refl
-no_seconds (Answer certificate revision row) is = refl
-no_seconds (Renew certificate) is = refl
 no_seconds (Tick seconds) is = absurd (cc)
-no_seconds (Stop role) is = refl
-no_seconds (Start role behind) is = refl
-no_seconds (Hold role kind) is = refl
-no_seconds (Release role kind) is = refl
-no_seconds (Until role kind writes) is = refl
-no_seconds Settle is = refl
+no_seconds other is = refl
 
 still_form : (step : Step) → is_tick step ≡ false → IsTickForm step
 still_form step is = record { least = λ t. absurd (let e = sym t ∙ is in cc); most = omega (arith, no_seconds step is) }

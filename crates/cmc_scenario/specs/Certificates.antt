@@ -84,6 +84,7 @@ spec_of secret issuer names algorithm = record {
   duration = None;
   renew_before = None;
   key = record { algorithm = algorithm; size = None; encoding = None; rotation = None };
+  renew_percent = None;
   history_limit = None;
 }
 

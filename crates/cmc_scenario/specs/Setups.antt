@@ -30,35 +30,13 @@ pub record Setup : Type 0 where
 
 -- how many seconds a step lets pass
 abbrev pub seconds_of : Step → ℕ
-seconds_of (Apply object version) = 0
-seconds_of (Delete key version) = 0
-seconds_of (Approve certificate revision) = 0
-seconds_of (Deny certificate revision) = 0
-seconds_of (Answer certificate revision row) = 0
-seconds_of (Renew certificate) = 0
 seconds_of (Tick seconds) = seconds
-seconds_of (Stop role) = 0
-seconds_of (Start role behind) = 0
-seconds_of (Hold role kind) = 0
-seconds_of (Release role kind) = 0
-seconds_of (Until role kind writes) = 0
-seconds_of Settle = 0
+seconds_of other = 0
 
 -- the step lets time pass
 abbrev pub is_tick : Step → Bool
-is_tick (Apply object version) = false
-is_tick (Delete key version) = false
-is_tick (Approve certificate revision) = false
-is_tick (Deny certificate revision) = false
-is_tick (Answer certificate revision row) = false
-is_tick (Renew certificate) = false
 is_tick (Tick seconds) = true
-is_tick (Stop role) = false
-is_tick (Start role behind) = false
-is_tick (Hold role kind) = false
-is_tick (Release role kind) = false
-is_tick (Until role kind writes) = false
-is_tick Settle = false
+is_tick other = false
 
 -- no step of the script lets time pass
 abbrev pub HasNoTick : List Step → Type 0
@@ -66,19 +44,9 @@ HasNoTick script = All (λ (step : Step). is_tick step ≡ false) script
 
 -- the role that the step stops or starts, and whether it runs then
 abbrev pub switch_of : Step → Option (Role × Bool)
-switch_of (Apply object version) = None
-switch_of (Delete key version) = None
-switch_of (Approve certificate revision) = None
-switch_of (Deny certificate revision) = None
-switch_of (Answer certificate revision row) = None
-switch_of (Renew certificate) = None
-switch_of (Tick seconds) = None
 switch_of (Stop role) = Some (role, false)
 switch_of (Start role behind) = Some (role, true)
-switch_of (Hold role kind) = None
-switch_of (Release role kind) = None
-switch_of (Until role kind writes) = None
-switch_of Settle = None
+switch_of other = None
 
 -- no step of the script stops or starts a role
 abbrev pub HasNoSwitch : List Step → Type 0

@@ -158,6 +158,7 @@ fn new_spec(
             encoding: None,
             rotation: None,
         },
+        renew_percent: None,
         history_limit: None,
     }
 }

@@ -13,17 +13,17 @@ use Rattle.cmc_objects.specs.declared.call.Call.{Call}
 use Rattle.cmc_objects.specs.declared.call.Call.TheVariants.{UpdateStatus}
 use Rattle.cmc_objects.specs.declared.secret.Secret.{Secret}
 use Rattle.cmc_policies.specs.declared.facts.Reason.{Reason}
-use Rattle.cmc_model.specs.declared.pass.Views.{Views}
-use Rattle.cmc_model.specs.declared.pass.Desk.{Desk}
-use Rattle.cmc_model.specs.Acts.{act}
+use Rattle.cmc_pass.specs.declared.pass.Views.{Views}
+use Rattle.cmc_pass.specs.declared.pass.Desk.{Desk}
+use Rattle.cmc_rules.specs.Acts.{act}
 use Rattle.cmc_objects.specs.declared.role.Role.TheVariants.{Trigger}
-use Rattle.cmc_model.specs.declared.pass.Act.TheVariants.{Nothing, Call as Calls}
+use Rattle.cmc_pass.specs.declared.pass.Act.TheVariants.{Nothing, Call as Calls}
 use Rattle.cmc_model.specs.Objects.{Objects, object_at}
 use Rattle.cmc_model.specs.Stored.{with_status, numbered, restated}
 use Rattle.cmc_model.specs.Replies.{key_of_call, stored}
-use Rattle.cmc_model.specs.Facts.{trigger_reason}
-use Rattle.cmc_model.specs.Triggering.{is_issuing, is_backing_off, issuing_condition, issuing_status, with_issuing, issue_call, for_reason, frame_of, for_certificate, for_option, trigger}
-use Rattle.cmc_model.specs.Rights.{other_conditions, TriggerMay, seen_object, seen}
+use Rattle.cmc_rules.specs.Facts.{trigger_reason}
+use Rattle.cmc_rules.specs.Triggering.{is_issuing, is_backing_off, issuing_condition, issuing_status, with_issuing, issue_call, for_reason, frame_of, for_certificate, for_option, trigger}
+use Rattle.cmc_rules.specs.Rights.{other_conditions, TriggerMay, seen_object, seen}
 
 -- ---- the other conditions stay
 

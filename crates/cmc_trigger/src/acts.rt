@@ -1,15 +1,15 @@
 //! The act, by the first line of its table that fits.
 ghost use Rattle.std.specs.Prelude.{◌≡◌, IfOk};
 ghost use Rattle.cmc_objects.specs.declared.role.Role.TheVariants.{Trigger};
-ghost use Rattle.cmc_model.specs.Acts as acts;
-ghost use Rattle.cmc_model.specs.Triggering as spec;
-ghost use Rattle.cmc_model.specs.Triggering.{IsDatedOption, HasDatedFailure};
+ghost use Rattle.cmc_rules.specs.Acts as acts;
+ghost use Rattle.cmc_rules.specs.Triggering as spec;
+ghost use Rattle.cmc_rules.specs.Triggering.{IsDatedOption, HasDatedFailure};
 
 use crate::issuing::{is_issuing, issue_call};
 use crate::reasons::reason_for;
 use cmc_objects::{CertStatus, Certificate, Secret};
 use cmc_pass::{Act, Desk, Views};
-use cmc_policies::{Frame, Reason, backoff_until};
+use cmc_policies::{Frame, Reason, Renew, backoff_until};
 use std::alloc::{AllocError, Global};
 
 fn is_backing_off(status: &CertStatus, moment: i64) -> bool
@@ -40,7 +40,17 @@ fn for_reason(
     issue_call(alloc, moment, reason, certificate)
 }
 
-#[tactic(auto, unfolding(cmc_model::specs::Triggering::for_certificate))]
+fn renew_by(percent: Option<u32>, before: Option<u64>) -> Renew
+    ensures { result ≡ spec.renew_by percent before }
+{
+    match (percent, before) {
+        (Some(part), _) => Renew::Percent(part),
+        (None, Some(seconds)) => Renew::Before(seconds),
+        (None, None) => Renew::Default,
+    }
+}
+
+#[tactic(auto, unfolding(cmc_rules::specs::Triggering::for_certificate))]
 fn for_certificate(
     alloc: Global,
     moment: i64,
@@ -55,7 +65,10 @@ fn for_certificate(
     }
     let frame = Frame {
         now: moment,
-        renew: certificate.spec.renew_before,
+        renew: renew_by(
+            certificate.spec.renew_percent,
+            certificate.spec.renew_before,
+        ),
     };
     let reason = reason_for(alloc, frame, secret)?;
     for_reason(alloc, moment, certificate, reason)
@@ -73,7 +86,7 @@ fn for_certificate(
 /// # Errors
 ///
 /// Want of memory alone.
-#[tactic(auto, unfolding(cmc_model::specs::Acts::act, cmc_model::specs::Triggering::trigger))]
+#[tactic(auto, unfolding(cmc_rules::specs::Acts::act, cmc_rules::specs::Triggering::trigger))]
 pub fn act(alloc: Global, views: &Views, now: i64, desk: &Desk) -> Result<Act, AllocError>
     requires { HasDatedFailure views.now }
     ensures { IfOk result (λ a. a ≡ acts.act Trigger views.now now desk.now) }

@@ -5,7 +5,7 @@ ghost use Rattle.cmc_meta.specs.PairLists.{text_at};
 ghost use Rattle.cmc_der.specs.Keys.{key_shown};
 ghost use Rattle.cmc_x509.specs.ReadKeys.{key_file_at};
 ghost use Rattle.cmc_x509.specs.ReadCertificates.{certificate_at};
-ghost use Rattle.cmc_model.specs.Facts.{is_given, is_one_key, has_one_key, is_pair, stands, is_filled, is_paired, trigger_checks, trigger_reason};
+ghost use Rattle.cmc_rules.specs.Facts.{is_given, is_one_key, has_one_key, is_pair, stands, is_filled, is_paired, trigger_checks, trigger_reason};
 ghost use Rattle.cmc_policies.specs.Reasons.{first_holding};
 
 use cmc_meta::{Bytes, Text};
@@ -96,7 +96,7 @@ fn known(secret: bool, filled: bool, pair: bool) -> Facts
     }
 }
 
-#[tactic(auto, unfolding(cmc_model::specs::Facts::is_filled, cmc_model::specs::Facts::is_paired))]
+#[tactic(auto, unfolding(cmc_rules::specs::Facts::is_filled, cmc_rules::specs::Facts::is_paired))]
 fn facts_in(alloc: Global, secret: &Secret) -> Result<Facts, AllocError>
     ensures stands { IfOk result (λ facts. facts.secret ≡ true) }
     ensures filled { IfOk result (λ facts. facts.filled ≡ is_filled (Some secret.now)) }
@@ -109,7 +109,7 @@ fn facts_in(alloc: Global, secret: &Secret) -> Result<Facts, AllocError>
     Ok(known(true, filled, is_key_pair(key, certificate)))
 }
 
-#[tactic(auto, unfolding(cmc_model::specs::Facts::is_filled, cmc_model::specs::Facts::is_paired))]
+#[tactic(auto, unfolding(cmc_rules::specs::Facts::is_filled, cmc_rules::specs::Facts::is_paired))]
 fn facts(alloc: Global, secret: &Option<Secret>) -> Result<Facts, AllocError>
     ensures stands { IfOk result (λ facts. facts.secret ≡ stands secret.now) }
     ensures filled { IfOk result (λ facts. facts.filled ≡ is_filled secret.now) }

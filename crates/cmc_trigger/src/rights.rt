@@ -2,13 +2,13 @@
 ghost use Rattle.std.specs.Prelude.{◌≡◌, ℕ, ℤ};
 ghost use Rattle.cmc_objects.specs.declared.call.Call.{Call};
 ghost use Rattle.cmc_objects.specs.declared.role.Role.TheVariants.{Trigger};
-ghost use Rattle.cmc_model.specs.declared.pass.Views.{Views};
-ghost use Rattle.cmc_model.specs.declared.pass.Desk.{Desk};
-ghost use Rattle.cmc_model.specs.declared.pass.Act.TheVariants.{Call as Calls};
+ghost use Rattle.cmc_pass.specs.declared.pass.Views.{Views};
+ghost use Rattle.cmc_pass.specs.declared.pass.Desk.{Desk};
+ghost use Rattle.cmc_pass.specs.declared.pass.Act.TheVariants.{Call as Calls};
 ghost use Rattle.cmc_model.specs.Objects.{Objects, object_at};
 ghost use Rattle.cmc_model.specs.Replies.{key_of_call, stored};
-ghost use Rattle.cmc_model.specs.Acts.{act};
-ghost use Rattle.cmc_model.specs.Rights.{seen, TriggerMay};
+ghost use Rattle.cmc_rules.specs.Acts.{act};
+ghost use Rattle.cmc_rules.specs.Rights.{seen, TriggerMay};
 
 /// A law: the controller's call, accepted while the Certificate stands as it was seen, stores the same
 /// Certificate but for its condition Issuing and the resource version.

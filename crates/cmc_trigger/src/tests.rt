@@ -1,6 +1,6 @@
 //! What no clause says: what is written, as texts, and that there is an answer where memory is ample.
 ghost use Rattle.std.specs.Prelude.{◌≡◌, IfOk};
-ghost use Rattle.cmc_model.specs.Triggering.{IsDatedOption, HasDatedFailure};
+ghost use Rattle.cmc_rules.specs.Triggering.{IsDatedOption, HasDatedFailure};
 
 use crate::{act, changes_issuing_alone};
 use cmc_meta::{
@@ -11,6 +11,7 @@ use cmc_objects::{
     Secret,
 };
 use cmc_pass::{Act, Desk, Views};
+use cmc_policy_rules::Policies;
 use std::alloc::{AllocError, Global};
 use std::test::Fail;
 
@@ -108,6 +109,7 @@ fn spec(alloc: Global) -> Result<CertSpec, AllocError> {
             encoding: None,
             rotation: None,
         },
+        renew_percent: None,
         history_limit: None,
     })
 }
@@ -200,6 +202,7 @@ fn desk(alloc: Global) -> Desk {
         rules: Rules {
             issuers: Texts::new(alloc),
             refuse: Texts::new(alloc),
+            policies: Policies::new(alloc),
         },
     }
 }

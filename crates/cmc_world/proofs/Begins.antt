@@ -7,16 +7,16 @@ use Rattle.cmc_objects.specs.declared.role.Role.{Role}
 use Rattle.cmc_objects.specs.declared.entry.Positions.{Positions}
 use Rattle.cmc_objects.specs.declared.entry.Entry.{Entry}
 use Rattle.cmc_objects.specs.declared.entry.Entry.TheVariants.{Begin}
-use Rattle.cmc_model.specs.declared.pass.Views.{Views}
-use Rattle.cmc_model.specs.declared.progress.OpenPass.{OpenPass}
-use Rattle.cmc_model.specs.declared.progress.Origin.{Origin}
-use Rattle.cmc_model.specs.declared.progress.Past.{Past}
+use Rattle.cmc_pass.specs.declared.pass.Views.{Views}
+use Rattle.cmc_rules.specs.declared.progress.OpenPass.{OpenPass}
+use Rattle.cmc_rules.specs.declared.progress.Origin.{Origin}
+use Rattle.cmc_rules.specs.declared.progress.Past.{Past}
 use Rattle.cmc_model.specs.Histories.{Setting, moment, role_eq}
-use Rattle.cmc_model.specs.Positions.{positions}
-use Rattle.cmc_model.specs.Viewing.{views, views_in}
-use Rattle.cmc_model.specs.Passes.{open_pass, begun, past, new_pass, is_pass_of, with_begin}
-use Rattle.cmc_model.specs.Legality.{IsBegin}
-use Rattle.cmc_model.proofs.Positions.{begun_short}
+use Rattle.cmc_rules.specs.Positions.{positions}
+use Rattle.cmc_rules.specs.Viewing.{views, views_in}
+use Rattle.cmc_rules.specs.Passes.{open_pass, begun, past, new_pass, is_pass_of, with_begin}
+use Rattle.cmc_rules.specs.Legality.{IsBegin}
+use Rattle.cmc_rules.proofs.Positions.{begun_short}
 use Rattle.cmc_held.specs.declared.standings.Standing.{Standing}
 use Rattle.cmc_held.specs.Dues.{shown_positions}
 use Rattle.cmc_held.specs.Sight.{caches_at}

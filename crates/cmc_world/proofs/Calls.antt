@@ -14,18 +14,18 @@ use Rattle.cmc_objects.specs.declared.entry.Who.TheVariants.{Pass}
 use Rattle.cmc_objects.specs.declared.entry.Entry.{Entry}
 use Rattle.cmc_objects.specs.declared.entry.Entry.TheVariants.{Call as Called, End}
 use Rattle.cmc_model.specs.declared.write.Write.{Write}
-use Rattle.cmc_model.specs.declared.progress.Stage.{Stage}
-use Rattle.cmc_model.specs.declared.progress.OpenPass.{OpenPass}
-use Rattle.cmc_model.specs.declared.progress.Past.{Past}
+use Rattle.cmc_rules.specs.declared.progress.Stage.{Stage}
+use Rattle.cmc_rules.specs.declared.progress.OpenPass.{OpenPass}
+use Rattle.cmc_rules.specs.declared.progress.Past.{Past}
 use Rattle.cmc_model.specs.Replies.{State, IsReply, is_accepted, key_of_call, key_written, object_written, state_after}
 use Rattle.cmc_model.specs.Histories.{Setting, moment, state, accepted, role_eq}
 use Rattle.cmc_model.specs.Writes.{write_of}
-use Rattle.cmc_model.specs.Positions.{position_of}
-use Rattle.cmc_model.specs.Passes.{open_pass, stage_by, stage_after, with_stage, with_ending}
-use Rattle.cmc_model.specs.Causes.{MayCall, MayEnd}
-use Rattle.cmc_model.specs.Following.{written}
+use Rattle.cmc_rules.specs.Positions.{position_of}
+use Rattle.cmc_rules.specs.Passes.{open_pass, stage_by, stage_after, with_stage, with_ending}
+use Rattle.cmc_rules.specs.Causes.{MayCall, MayEnd}
+use Rattle.cmc_rules.specs.Following.{written}
 use Rattle.cmc_model.proofs.Writes.{writes_count}
-use Rattle.cmc_model.proofs.Positions.{calls_short, accepted_short}
+use Rattle.cmc_rules.proofs.Positions.{calls_short, accepted_short}
 use Rattle.cmc_held.specs.declared.standings.Standing.{Standing}
 use Rattle.cmc_world.specs.declared.going.Calling.{Calling}
 use Rattle.cmc_world.specs.declared.going.Closing.{Closing}
@@ -44,8 +44,7 @@ calls_fit s h w k short =
 
 written_is : (s : Setting) (h : List Entry) (role : Role) (kind : Kind) → position_of kind (standing s h role).written ≡ written s h role kind
 written_is s h role kinds.Certificate = refl
-written_is s h role kinds.CertificateRequest = refl
-written_is s h role kinds.Secret = refl
+written_is s h role other = refl
 
 pub counts_fit : (s : Setting) (h : List Entry) (w : Holdings) (role : Role) → IsKept s h w → length h ≤ 250000 → CanCount (w.standing role)
 counts_fit s h w role k short = λ kind.

@@ -4,10 +4,10 @@ use Rattle.std.specs.Prelude.{if◌then◌else◌, option_map, IfSome}
 use Rattle.cmc_objects.specs.declared.role.Role.{Role}
 use Rattle.cmc_objects.specs.declared.entry.Who.{Who}
 use Rattle.cmc_objects.specs.declared.entry.Who.TheVariants.{User, Pass}
-use Rattle.cmc_model.specs.declared.progress.OpenPass.{OpenPass}
-use Rattle.cmc_model.specs.declared.progress.Stage.{Stage}
+use Rattle.cmc_rules.specs.declared.progress.OpenPass.{OpenPass}
+use Rattle.cmc_rules.specs.declared.progress.Stage.{Stage}
 use Rattle.cmc_model.specs.Histories.{role_eq}
-use Rattle.cmc_model.specs.Passes.{called, unless_of, with_stage}
+use Rattle.cmc_rules.specs.Passes.{called, unless_of, with_stage}
 
 own_call : (P : OpenPass → Type 0) (own : Bool) (stage : Stage) (p : Option OpenPass) → ((q : OpenPass) → P q → P (with_stage stage q)) → IfSome p P
     → IfSome (if own then option_map (with_stage stage) p else p) P

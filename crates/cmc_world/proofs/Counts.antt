@@ -11,12 +11,12 @@ use Rattle.cmc_objects.specs.declared.call.Reply.{Reply}
 use Rattle.cmc_objects.specs.declared.entry.Entry.{Entry}
 use Rattle.cmc_objects.specs.declared.entry.Entry.TheVariants.{Script, Call as Called, Deliver, List as Listed, Begin, Ask, Made, Signed, Answered, Judged, End, Stop, Start, Tick}
 use Rattle.cmc_model.specs.declared.write.Write.{Write}
-use Rattle.cmc_model.specs.declared.progress.Past.{Past}
+use Rattle.cmc_rules.specs.declared.progress.Past.{Past}
 use Rattle.cmc_model.specs.Replies.{State, is_accepted, key_of_call, key_written, object_written, stored}
 use Rattle.cmc_model.specs.Histories.{Setting, incarnation, role_eq}
 use Rattle.cmc_model.specs.Writes.{write_of}
-use Rattle.cmc_model.specs.Passes.{with_own}
-use Rattle.cmc_model.specs.Following.{written, is_write_by}
+use Rattle.cmc_rules.specs.Passes.{with_own}
+use Rattle.cmc_rules.specs.Following.{written, is_write_by}
 use Rattle.cmc_held.specs.declared.standings.Standing.{Standing}
 use Rattle.cmc_world.specs.Changes.{writing}
 use Rattle.cmc_world.specs.Noting.{counted, logged, noted}
@@ -30,22 +30,10 @@ one_more false m n h = omega (arith, h)
 -- a role's own writes are at most the entries
 pub written_short : (s : Setting) (h : List Entry) (r : Role) (k : Kind) → written s h r k ≤ length h
 written_short s [] r k = omega arith
-written_short s (Script step ∷ h) r k = omega (arith, written_short s h r k)
 written_short s (Called who call reply ∷ h) r k =
     let one : (if is_accepted reply && is_write_by s h r k who call then written s h r k + 1 else written s h r k) ≤ length h + 1 = one_more (is_accepted reply && is_write_by s h r k who call) (written s h r k) (length h) (written_short s h r k) in
     omega (arith, one)
-written_short s (Deliver role kind to ∷ h) r k = omega (arith, written_short s h r k)
-written_short s (Listed role kind to ∷ h) r k = omega (arith, written_short s h r k)
-written_short s (Begin pass role key at now ∷ h) r k = omega (arith, written_short s h r k)
-written_short s (Ask pass order ∷ h) r k = omega (arith, written_short s h r k)
-written_short s (Made pass key ∷ h) r k = omega (arith, written_short s h r k)
-written_short s (Signed pass signature ∷ h) r k = omega (arith, written_short s h r k)
-written_short s (Answered pass answer ∷ h) r k = omega (arith, written_short s h r k)
-written_short s (Judged pass approved ∷ h) r k = omega (arith, written_short s h r k)
-written_short s (End pass cause ∷ h) r k = omega (arith, written_short s h r k)
-written_short s (Stop role ∷ h) r k = omega (arith, written_short s h r k)
-written_short s (Start role at ∷ h) r k = omega (arith, written_short s h r k)
-written_short s (Tick now ∷ h) r k = omega (arith, written_short s h r k)
+written_short s (other ∷ h) r k = omega (arith, written_short s h r k)
 
 first_one : (b : Bool) → (if b then 1 else 0) ≤ 1
 first_one true = omega arith
@@ -54,22 +42,10 @@ first_one false = omega arith
 -- a role begins at most once for each entry, and once before
 pub incarnation_short : (s : Setting) (h : List Entry) (r : Role) → incarnation s h r ≤ length h + 1
 incarnation_short s [] r = let one : (if list_any (λ role. role_eq role r) s.roles then 1 else 0) ≤ 1 = first_one (list_any (λ role. role_eq role r) s.roles) in omega (arith, one)
-incarnation_short s (Script step ∷ h) r = omega (arith, incarnation_short s h r)
-incarnation_short s (Called who call reply ∷ h) r = omega (arith, incarnation_short s h r)
-incarnation_short s (Deliver role kind to ∷ h) r = omega (arith, incarnation_short s h r)
-incarnation_short s (Listed role kind to ∷ h) r = omega (arith, incarnation_short s h r)
-incarnation_short s (Begin pass role key at now ∷ h) r = omega (arith, incarnation_short s h r)
-incarnation_short s (Ask pass order ∷ h) r = omega (arith, incarnation_short s h r)
-incarnation_short s (Made pass key ∷ h) r = omega (arith, incarnation_short s h r)
-incarnation_short s (Signed pass signature ∷ h) r = omega (arith, incarnation_short s h r)
-incarnation_short s (Answered pass answer ∷ h) r = omega (arith, incarnation_short s h r)
-incarnation_short s (Judged pass approved ∷ h) r = omega (arith, incarnation_short s h r)
-incarnation_short s (End pass cause ∷ h) r = omega (arith, incarnation_short s h r)
-incarnation_short s (Stop role ∷ h) r = omega (arith, incarnation_short s h r)
 incarnation_short s (Start role at ∷ h) r =
     let one : (if role_eq role r then incarnation s h r + 1 else incarnation s h r) ≤ (length h + 1) + 1 = one_more (role_eq role r) (incarnation s h r) (length h + 1) (incarnation_short s h r) in
     omega (arith, one)
-incarnation_short s (Tick now ∷ h) r = omega (arith, incarnation_short s h r)
+incarnation_short s (other ∷ h) r = omega (arith, incarnation_short s h r)
 
 -- ---- what an accepted call leaves
 

@@ -21,35 +21,35 @@ use Rattle.cmc_objects.specs.declared.entry.Entry.TheVariants.{Script, Call as C
 use Rattle.cmc_objects.specs.Objects.{meta_of, key_of}
 use Rattle.cmc_policies.specs.declared.facts.Reason.{Reason}
 use Rattle.cmc_model.specs.declared.write.Write.{Write}
-use Rattle.cmc_model.specs.declared.effect.Effect.{Effect}
-use Rattle.cmc_model.specs.declared.effect.Effect.TheVariants as effects
-use Rattle.cmc_model.specs.declared.pass.Views.{Views}
-use Rattle.cmc_model.specs.declared.pass.Desk.{Desk}
-use Rattle.cmc_model.specs.declared.pass.Act.{Act}
-use Rattle.cmc_model.specs.declared.pass.Act.TheVariants.{Nothing, Call as Calls, Ask as Asks, Issue}
-use Rattle.cmc_model.specs.declared.progress.OpenPass.{OpenPass}
-use Rattle.cmc_model.specs.declared.progress.Stage.{Stage}
-use Rattle.cmc_model.specs.declared.progress.Stage.TheVariants.{Fresh, Wrote, Refused, Barred}
+use Rattle.cmc_rules.specs.declared.effect.Effect.{Effect}
+use Rattle.cmc_rules.specs.declared.effect.Effect.TheVariants as effects
+use Rattle.cmc_pass.specs.declared.pass.Views.{Views}
+use Rattle.cmc_pass.specs.declared.pass.Desk.{Desk}
+use Rattle.cmc_pass.specs.declared.pass.Act.{Act}
+use Rattle.cmc_pass.specs.declared.pass.Act.TheVariants.{Nothing, Call as Calls, Ask as Asks, Issue}
+use Rattle.cmc_rules.specs.declared.progress.OpenPass.{OpenPass}
+use Rattle.cmc_rules.specs.declared.progress.Stage.{Stage}
+use Rattle.cmc_rules.specs.declared.progress.Stage.TheVariants.{Fresh, Wrote, Refused, Barred}
 use Rattle.cmc_model.specs.Objects.{Objects, object_at}
 use Rattle.cmc_model.specs.Stored.{created, updated, with_status, generation_after, numbered, revised, restated}
 use Rattle.cmc_model.specs.Replies.{State, is_accepted, key_of_call, from_old, stored}
 use Rattle.cmc_model.specs.Histories.{Setting, moment, state, objects}
 use Rattle.cmc_model.specs.Writes.{writes, write_of, contents}
-use Rattle.cmc_model.specs.Positions.{works_on_requests, cache}
-use Rattle.cmc_model.specs.Viewing.{Caches, certificate_in, certificate_at, views_of, views_in, caches, views, present_views}
-use Rattle.cmc_model.specs.Desks.{desk}
-use Rattle.cmc_model.specs.Facts.{trigger_reason}
-use Rattle.cmc_model.specs.Triggering.{IsDatedOption, IsDatedCertificate, HasDatedFailure, is_issuing, is_backing_off, issuing_status, with_issuing, issue_call, for_reason, frame_of, for_certificate, for_option, trigger}
-use Rattle.cmc_model.specs.Acts.{act}
-use Rattle.cmc_model.specs.Passes.{open_pass, new_pass, stage_after}
-use Rattle.cmc_model.specs.Causes.{IsCaused, IsFirstCall, IsNextCall, MayCall}
-use Rattle.cmc_model.specs.Scripting.{step_at}
-use Rattle.cmc_model.specs.Following.{apply_call, call_of, effect_of, owed, Follows}
-use Rattle.cmc_model.specs.Runs.{IsRun}
+use Rattle.cmc_rules.specs.Positions.{works_on_requests, cache}
+use Rattle.cmc_rules.specs.Viewing.{Caches, certificate_in, certificate_at, views_of, views_in, caches, views, present_views}
+use Rattle.cmc_rules.specs.Desks.{desk}
+use Rattle.cmc_rules.specs.Facts.{trigger_reason}
+use Rattle.cmc_rules.specs.Triggering.{IsDatedOption, IsDatedCertificate, HasDatedFailure, is_issuing, is_backing_off, issuing_status, with_issuing, issue_call, for_reason, frame_of, for_certificate, for_option, trigger}
+use Rattle.cmc_rules.specs.Acts.{act}
+use Rattle.cmc_rules.specs.Passes.{open_pass, new_pass, stage_after}
+use Rattle.cmc_rules.specs.Causes.{IsCaused, IsFirstCall, IsNextCall, MayCall}
+use Rattle.cmc_rules.specs.Scripting.{step_at}
+use Rattle.cmc_rules.specs.Following.{apply_call, call_of, effect_of, owed, Follows}
+use Rattle.cmc_rules.specs.Runs.{IsRun}
 use Rattle.cmc_model.specs.Versions.{IsVersion, HasVersion}
 use Rattle.cmc_model.proofs.Versions.{standing}
 use Rattle.cmc_model.proofs.Writes.{writes_leave}
-use Rattle.cmc_model.proofs.Seen.{seen_is_version}
+use Rattle.cmc_rules.proofs.Seen.{seen_is_version}
 use Rattle.cmc_world.proofs.Carrying.{over_call, over_begin, over_end, over_stop}
 
 -- ---- objects and writes
@@ -87,8 +87,7 @@ dated_standing ws m key dated leaves = subst (λ (v : Objects). IsDatedStored (o
 dated_created : (version : ℕ) (now : ℤ) (object : Object) → IsDatedObject (created version now object)
 unfolding created
 dated_created version now (Cert c) = tt
-dated_created version now (Request r) = tt
-dated_created version now (Secret o) = tt
+dated_created version now other = tt
 
 dated_numbered : (version generation : ℕ) (object : Object) → IsDatedObject object → IsDatedObject (numbered version generation object)
 unfolding numbered
@@ -99,14 +98,13 @@ dated_numbered version generation (Secret o) dated = tt
 dated_updated : (old new : Object) → IsDatedObject old → IsDatedObject (updated old new)
 unfolding updated
 dated_updated (Cert a) (Cert b) dated = dated
-dated_updated (Cert a) (Request b) dated = dated
-dated_updated (Cert a) (Secret b) dated = dated
 dated_updated (Request a) (Cert b) dated = tt
 dated_updated (Request a) (Request b) dated = tt
 dated_updated (Request a) (Secret b) dated = tt
 dated_updated (Secret a) (Cert b) dated = tt
 dated_updated (Secret a) (Request b) dated = tt
 dated_updated (Secret a) (Secret b) dated = tt
+dated_updated (Cert a) other dated = dated
 
 dated_with_status : (old new : Object) → IsDatedObject old → IsDatedObject new → IsDatedObject (with_status old new)
 unfolding with_status
@@ -114,11 +112,10 @@ dated_with_status (Cert a) (Cert b) dated given = given
 dated_with_status (Cert a) (Request b) dated given = dated
 dated_with_status (Cert a) (Secret b) dated given = dated
 dated_with_status (Request a) (Cert b) dated given = tt
-dated_with_status (Request a) (Request b) dated given = tt
-dated_with_status (Request a) (Secret b) dated given = tt
 dated_with_status (Secret a) (Cert b) dated given = tt
 dated_with_status (Secret a) (Request b) dated given = tt
 dated_with_status (Secret a) (Secret b) dated given = tt
+dated_with_status (Request a) other dated given = tt
 
 dated_revised : (version : ℕ) (object : Object) (old : Option Object) → IsDatedStored old → IsDatedStored (from_old (λ o. revised version o object) old)
 dated_revised version object None dated = tt
@@ -132,11 +129,8 @@ dated_restated version object (Some old) given dated =
 
 -- a call that writes a status writes a dated one
 abbrev pub IsDatedCall : Call → Type 0
-IsDatedCall (Create object) = Unit {0}
-IsDatedCall (Update object named) = Unit {0}
 IsDatedCall (UpdateStatus object named) = IsDatedObject object
-IsDatedCall (Delete key named) = Unit {0}
-IsDatedCall (Get key) = Unit {0}
+IsDatedCall other = Unit {0}
 
 dated_stored : (version : ℕ) (now : ℤ) (m : Objects) (call : Call) → IsDatedStored (object_at m (key_of_call call)) → IsDatedCall call → IsDatedStored (stored version now m call)
 dated_stored version now m (Create object) dated given = dated_created version now object
@@ -168,18 +162,7 @@ dated_apply object None (Some old) = tt
 dated_effect : (s : Setting) (h : List Entry) (step : Step) → IsDatedEffect (effect_of s h step)
 unfolding call_of
 dated_effect s h (steps.Apply object version) = dated_apply object version (object_at (objects s h) (key_of object))
-dated_effect s h (steps.Delete key version) = tt
-dated_effect s h (steps.Approve certificate revision) = tt
-dated_effect s h (steps.Deny certificate revision) = tt
-dated_effect s h (steps.Answer certificate revision row) = tt
-dated_effect s h (steps.Renew certificate) = tt
-dated_effect s h (steps.Tick seconds) = tt
-dated_effect s h (steps.Stop role) = tt
-dated_effect s h (steps.Start role behind) = tt
-dated_effect s h (steps.Hold role kind) = tt
-dated_effect s h (steps.Release role kind) = tt
-dated_effect s h (steps.Until role kind writes) = tt
-dated_effect s h steps.Settle = tt
+dated_effect s h other = tt
 
 dated_step : (s : Setting) (h : List Entry) (step : Option Step) → IsDatedEffect (option_and_then (effect_of s h) step)
 dated_step s h None = tt
@@ -189,19 +172,7 @@ dated_step s h (Some step) = dated_effect s h step
 dated_owed : (s : Setting) (h : List Entry) → IsDatedEffect (owed s h)
 dated_owed s [] = tt
 dated_owed s (Script step ∷ h) = dated_step s h (step_at s.script step)
-dated_owed s (Called who call reply ∷ h) = tt
-dated_owed s (Deliver role kind to ∷ h) = tt
-dated_owed s (Listed role kind to ∷ h) = tt
-dated_owed s (Begin pass role key at now ∷ h) = tt
-dated_owed s (Ask pass order ∷ h) = tt
-dated_owed s (Made pass key ∷ h) = tt
-dated_owed s (Signed pass signature ∷ h) = tt
-dated_owed s (Answered pass answer ∷ h) = tt
-dated_owed s (Judged pass approved ∷ h) = tt
-dated_owed s (End pass cause ∷ h) = tt
-dated_owed s (Stop role ∷ h) = tt
-dated_owed s (Start role at ∷ h) = tt
-dated_owed s (Tick now ∷ h) = tt
+dated_owed s (other ∷ h) = tt
 
 -- ---- calls of passes
 
@@ -242,13 +213,7 @@ dated_trigger seen now dated = dated_for now seen.secret seen.certificate dated
 pub dated_act : (role : Role) (seen : Views) (now : ℤ) (desk : Desk) → HasDatedFailure seen → IsDatedAct (act role seen now desk)
 unfolding act
 dated_act Trigger seen now desk dated = dated_trigger seen now dated
-dated_act KeyManager seen now desk dated = tt
-dated_act RequestManager seen now desk dated = tt
-dated_act Approver seen now desk dated = tt
-dated_act Issuer seen now desk dated = tt
-dated_act Issuing seen now desk dated = tt
-dated_act Readiness seen now desk dated = tt
-dated_act Revision seen now desk dated = tt
+dated_act other seen now desk dated = tt
 
 dated_first : (does : Act) (call : Call) → IsDatedAct does → IsFirstCall does call → IsDatedCall call
 dated_first Nothing call dated first = absurd first
@@ -315,13 +280,10 @@ after_call s h who call reply given dated = record {
 pub dated : (s : Setting) (h : List Entry) → IsCaused s h → Follows s h → IsDated s h
 unfolding IsCaused Follows
 dated s [] caused follows = record { stored = tt; passes = λ n. tt }
-dated s (Script step ∷ h) caused follows = let old = dated s h caused.1 follows.1 in record { stored = old.stored; passes = old.passes }
 dated s (Called User call reply ∷ h) caused follows = after_call s h User call reply (dated_user s h call follows.0) (dated s h caused.1 follows.1)
 dated s (Called (Pass pass) call reply ∷ h) caused follows =
     let old = dated s h caused.1 follows.1 in
     after_call s h (Pass pass) call reply (dated_may s h (open_pass s h pass) call (old.passes pass) caused.0) old
-dated s (Deliver role kind to ∷ h) caused follows = let old = dated s h caused.1 follows.1 in record { stored = old.stored; passes = old.passes }
-dated s (Listed role kind to ∷ h) caused follows = let old = dated s h caused.1 follows.1 in record { stored = old.stored; passes = old.passes }
 dated s (Begin pass role key at now ∷ h) caused follows =
     let old = dated s h caused.1 follows.1 in
     record {
@@ -337,8 +299,7 @@ dated s (End pass cause ∷ h) caused follows =
     let old = dated s h caused.1 follows.1 in record { stored = old.stored; passes = λ n. over_end IsDatedPass (n == pass) (open_pass s h n) (old.passes n) }
 dated s (Stop role ∷ h) caused follows =
     let old = dated s h caused.1 follows.1 in record { stored = old.stored; passes = λ n. over_stop IsDatedPass role (open_pass s h n) (old.passes n) }
-dated s (Start role at ∷ h) caused follows = let old = dated s h caused.1 follows.1 in record { stored = old.stored; passes = old.passes }
-dated s (Tick now ∷ h) caused follows = let old = dated s h caused.1 follows.1 in record { stored = old.stored; passes = old.passes }
+dated s (other ∷ h) caused follows = let old = dated s h caused.1 follows.1 in record { stored = old.stored; passes = old.passes }
 
 -- ---- runs
 

@@ -4,10 +4,10 @@ use Rattle.std.specs.Prelude.{◌↔◌, IsTrue}
 use Rattle.std.specs.declared.alloc.AllocError.{AllocError}
 use Rattle.cmc_objects.specs.declared.entry.Entry.{Entry}
 use Rattle.cmc_model.specs.Histories.{Setting}
-use Rattle.cmc_model.specs.Scripting.{scripted}
-use Rattle.cmc_model.specs.Resting.{IsAtRest}
-use Rattle.cmc_model.specs.Following.{owed}
-use Rattle.cmc_model.specs.Runs.{IsFinished}
+use Rattle.cmc_rules.specs.Scripting.{scripted}
+use Rattle.cmc_rules.specs.Resting.{IsAtRest}
+use Rattle.cmc_rules.specs.Following.{owed}
+use Rattle.cmc_rules.specs.Runs.{IsFinished}
 
 -- a step is left
 pub not_finished : (s : Setting) (h : List Entry) (made : Bool) → (IsTrue made ↔ (scripted h ≡ length s.script)) → made ≡ false → IsTrue false ↔ IsFinished s h

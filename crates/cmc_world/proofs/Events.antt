@@ -12,21 +12,21 @@ use Rattle.cmc_objects.specs.declared.entry.Cause.{Cause}
 use Rattle.cmc_objects.specs.declared.entry.Who.TheVariants.{User, Pass}
 use Rattle.cmc_objects.specs.declared.entry.Entry.{Entry}
 use Rattle.cmc_objects.specs.declared.entry.Entry.TheVariants.{Script, Call as Called, Deliver, List as Listed, Begin, End, Stop, Start, Tick}
-use Rattle.cmc_model.specs.declared.effect.Effect.TheVariants as effects
+use Rattle.cmc_rules.specs.declared.effect.Effect.TheVariants as effects
 use Rattle.cmc_model.specs.declared.write.Write.{Write}
-use Rattle.cmc_model.specs.declared.progress.OpenPass.{OpenPass}
-use Rattle.cmc_model.specs.declared.progress.Origin.{Origin}
-use Rattle.cmc_model.specs.declared.progress.Past.{Past}
+use Rattle.cmc_rules.specs.declared.progress.OpenPass.{OpenPass}
+use Rattle.cmc_rules.specs.declared.progress.Origin.{Origin}
+use Rattle.cmc_rules.specs.declared.progress.Past.{Past}
 use Rattle.cmc_model.specs.Replies.{State, IsReply, is_accepted, key_of_call, state_after}
 use Rattle.cmc_model.specs.Histories.{Setting, moment, state, accepted, incarnation, role_eq}
 use Rattle.cmc_model.specs.Writes.{write_of}
-use Rattle.cmc_model.specs.Positions.{positions}
-use Rattle.cmc_model.specs.Viewing.{views}
-use Rattle.cmc_model.specs.Passes.{open_pass, begun, past, stage_after, with_stage, unless_of, new_pass, is_pass_of, no_past, with_begin, with_own, with_ending, ending_at, ending_of, past_called, IsDue}
-use Rattle.cmc_model.specs.Legality.{IsDelivery, IsListing, IsBegin, IsOpen, IsLegal}
-use Rattle.cmc_model.specs.Causes.{MayCall, MayEnd, IsCaused}
-use Rattle.cmc_model.specs.Scripting.{scripted, step_at, held}
-use Rattle.cmc_model.specs.Following.{owed, IsNextStep, Follows}
+use Rattle.cmc_rules.specs.Positions.{positions}
+use Rattle.cmc_rules.specs.Viewing.{views}
+use Rattle.cmc_rules.specs.Passes.{open_pass, begun, past, stage_after, with_stage, unless_of, new_pass, is_pass_of, no_past, with_begin, with_own, with_ending, ending_at, ending_of, past_called, IsDue}
+use Rattle.cmc_rules.specs.Legality.{IsDelivery, IsListing, IsBegin, IsOpen, IsLegal}
+use Rattle.cmc_rules.specs.Causes.{MayCall, MayEnd, IsCaused}
+use Rattle.cmc_rules.specs.Scripting.{scripted, step_at, held}
+use Rattle.cmc_rules.specs.Following.{owed, IsNextStep, Follows}
 use Rattle.cmc_held.specs.declared.standings.Standing.{Standing}
 use Rattle.cmc_world.specs.Kept.{standing, Holdings, IsHeld, IsKept}
 use Rattle.cmc_world.specs.Changes.{telling, stopping, starting, writing, scripted_standing}

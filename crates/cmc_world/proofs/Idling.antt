@@ -7,21 +7,21 @@ use Rattle.cmc_meta.specs.declared.key.Key.{Key}
 use Rattle.cmc_objects.specs.declared.role.Role.{Role}
 use Rattle.cmc_objects.specs.declared.entry.Entry.{Entry}
 use Rattle.cmc_objects.specs.declared.entry.Positions.{Positions}
-use Rattle.cmc_model.specs.declared.pass.Act.TheVariants.{Nothing}
-use Rattle.cmc_model.specs.declared.pass.Desk.{Desk}
-use Rattle.cmc_model.specs.declared.pass.Views.{Views}
-use Rattle.cmc_model.specs.declared.progress.Past.{Past}
+use Rattle.cmc_pass.specs.declared.pass.Act.TheVariants.{Nothing}
+use Rattle.cmc_pass.specs.declared.pass.Desk.{Desk}
+use Rattle.cmc_pass.specs.declared.pass.Views.{Views}
+use Rattle.cmc_rules.specs.declared.progress.Past.{Past}
 use Rattle.cmc_model.specs.declared.write.Write.{Write}
-use Rattle.cmc_model.specs.Acts.{act}
-use Rattle.cmc_model.specs.Desks.{desk}
+use Rattle.cmc_rules.specs.Acts.{act}
+use Rattle.cmc_rules.specs.Desks.{desk}
 use Rattle.cmc_model.specs.Histories.{Setting, moment}
-use Rattle.cmc_model.specs.Passes.{IsDue, IsSame, past}
-use Rattle.cmc_model.specs.Positions.{positions}
+use Rattle.cmc_rules.specs.Passes.{IsDue, IsSame, past}
+use Rattle.cmc_rules.specs.Positions.{positions}
 use Rattle.cmc_model.specs.Replies.{State}
-use Rattle.cmc_model.specs.Resting.{IsIdle, IsPaused, RestsOn}
-use Rattle.cmc_model.specs.Scripting.{has_held}
-use Rattle.cmc_model.specs.Triggering.{HasDatedFailure}
-use Rattle.cmc_model.specs.Viewing.{views_in, views, present_views}
+use Rattle.cmc_rules.specs.Resting.{IsIdle, IsPaused, RestsOn}
+use Rattle.cmc_rules.specs.Scripting.{has_held}
+use Rattle.cmc_rules.specs.Triggering.{HasDatedFailure}
+use Rattle.cmc_rules.specs.Viewing.{views_in, views, present_views}
 use Rattle.cmc_model.specs.Writes.{writes}
 use Rattle.cmc_held.proofs.Behind.{due_by_tests, not_due_behind}
 use Rattle.cmc_held.proofs.Told.{views-told}

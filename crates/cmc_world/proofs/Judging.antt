@@ -9,18 +9,18 @@ use Rattle.cmc_objects.specs.declared.role.Role.{Role}
 use Rattle.cmc_objects.specs.declared.entry.Positions.{Positions}
 use Rattle.cmc_objects.specs.declared.entry.Entry.{Entry}
 use Rattle.cmc_objects.specs.declared.entry.Entry.TheVariants.{Deliver, List as Listed}
-use Rattle.cmc_model.specs.declared.pass.Views.{Views}
+use Rattle.cmc_pass.specs.declared.pass.Views.{Views}
 use Rattle.cmc_model.specs.declared.write.Write.{Write}
-use Rattle.cmc_model.specs.declared.progress.OpenPass.{OpenPass}
-use Rattle.cmc_model.specs.declared.progress.Origin.{Origin}
-use Rattle.cmc_model.specs.declared.progress.Past.{Past}
+use Rattle.cmc_rules.specs.declared.progress.OpenPass.{OpenPass}
+use Rattle.cmc_rules.specs.declared.progress.Origin.{Origin}
+use Rattle.cmc_rules.specs.declared.progress.Past.{Past}
 use Rattle.cmc_model.specs.Histories.{Setting, moment, accepted}
 use Rattle.cmc_model.specs.Writes.{writes, write_at, last_of_kind, is_known}
-use Rattle.cmc_model.specs.Positions.{has_informer, kind_of_work, position, positions, position_of}
-use Rattle.cmc_model.specs.Viewing.{views, views_in}
-use Rattle.cmc_model.specs.Passes.{open_pass, origins, origin_at, is_pass_of, past, IsSame}
-use Rattle.cmc_model.specs.Legality.{IsOfKind, IsListing, IsOpen}
-use Rattle.cmc_model.specs.Scripting.{held}
+use Rattle.cmc_rules.specs.Positions.{has_informer, kind_of_work, position, positions, position_of}
+use Rattle.cmc_rules.specs.Viewing.{views, views_in}
+use Rattle.cmc_rules.specs.Passes.{open_pass, origins, origin_at, is_pass_of, past, IsSame}
+use Rattle.cmc_rules.specs.Legality.{IsOfKind, IsListing, IsOpen}
+use Rattle.cmc_rules.specs.Scripting.{held}
 use Rattle.cmc_held.specs.declared.standings.Standing.{Standing}
 use Rattle.cmc_held.specs.Standing.{flag_of}
 use Rattle.cmc_held.specs.Dues.{own_above, shown_positions}
@@ -36,13 +36,11 @@ use Rattle.cmc_world.proofs.Tables.{Decides, decided, delivery_answers, begin_an
 
 pub position_is : (s : Setting) (h : List Entry) (role : Role) (kind : Kind) → position_of kind (standing s h role).told ≡ position h role kind
 position_is s h role kinds.Certificate = refl
-position_is s h role kinds.CertificateRequest = refl
-position_is s h role kinds.Secret = refl
+position_is s h role other = refl
 
 pub held_is : (s : Setting) (h : List Entry) (role : Role) (kind : Kind) → flag_of kind (standing s h role).held ≡ held s h role kind
 held_is s h role kinds.Certificate = refl
-held_is s h role kinds.CertificateRequest = refl
-held_is s h role kinds.Secret = refl
+held_is s h role other = refl
 
 pub told_is : (s : Setting) (h : List Entry) (w : Holdings) (role : Role) (kind : Kind) → IsKept s h w → position_of kind (w.standing role).told ≡ position h role kind
 told_is s h w role kind k = ap (λ (t : Standing). position_of kind t.told) (k.held.standing role) ∙ position_is s h role kind

@@ -3,14 +3,14 @@ use Rattle.std.proofs.Common.{◌≡◌, ◌∙◌, ◌+◌, List, [], ◌∷◌
 use Rattle.std.specs.Prelude.{MatchOption}
 use Rattle.cmc_objects.specs.declared.entry.Entry.{Entry}
 use Rattle.cmc_objects.specs.declared.entry.Entry.TheVariants.{Script}
-use Rattle.cmc_model.specs.declared.effect.Effect.{Effect}
+use Rattle.cmc_rules.specs.declared.effect.Effect.{Effect}
 use Rattle.cmc_model.specs.Histories.{Setting}
-use Rattle.cmc_model.specs.Legality.{IsLegal}
-use Rattle.cmc_model.specs.Causes.{IsCaused}
-use Rattle.cmc_model.specs.Following.{Follows}
-use Rattle.cmc_model.specs.Scripting.{scripted}
-use Rattle.cmc_model.specs.Rights.{KeepsRights}
-use Rattle.cmc_model.specs.Runs.{IsRun}
+use Rattle.cmc_rules.specs.Legality.{IsLegal}
+use Rattle.cmc_rules.specs.Causes.{IsCaused}
+use Rattle.cmc_rules.specs.Following.{Follows}
+use Rattle.cmc_rules.specs.Scripting.{scripted}
+use Rattle.cmc_rules.specs.Rights.{KeepsRights}
+use Rattle.cmc_rules.specs.Runs.{IsRun}
 use Rattle.cmc_scenario.specs.Setups.{Setup}
 use Rattle.cmc_world.specs.declared.moves.Move.{Move}
 use Rattle.cmc_world.specs.declared.moves.Move.TheVariants as moves

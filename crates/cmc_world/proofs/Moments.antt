@@ -9,11 +9,11 @@ use Rattle.cmc_objects.specs.declared.entry.Step.{Step}
 use Rattle.cmc_objects.specs.declared.entry.Step.TheVariants as steps
 use Rattle.cmc_objects.specs.declared.entry.Entry.{Entry}
 use Rattle.cmc_objects.specs.declared.entry.Entry.TheVariants.{Script, Call as Called, Deliver, List as Listed, Begin, Ask, Made, Signed, Answered, Judged, End, Stop, Start, Tick}
-use Rattle.cmc_model.specs.declared.effect.Effect.{Effect}
-use Rattle.cmc_model.specs.declared.effect.Effect.TheVariants as effects
+use Rattle.cmc_rules.specs.declared.effect.Effect.{Effect}
+use Rattle.cmc_rules.specs.declared.effect.Effect.TheVariants as effects
 use Rattle.cmc_model.specs.Histories.{Setting, moment}
-use Rattle.cmc_model.specs.Scripting.{scripted, step_at}
-use Rattle.cmc_model.specs.Following.{call_of, effect_of, owed, Follows}
+use Rattle.cmc_rules.specs.Scripting.{scripted, step_at}
+use Rattle.cmc_rules.specs.Following.{call_of, effect_of, owed, Follows}
 use Rattle.cmc_world.specs.Short.{IsShortStep}
 
 -- ---- short steps
@@ -54,19 +54,8 @@ IsTimely first n (Some (effects.Start role at)) = Unit {0}
 timely_effect : (s : Setting) (h : List Entry) (step : Step) → IsShortStep step → IsWithinSteps s.now (scripted h) (moment s h)
     → IsTimely s.now (scripted h + 1) (effect_of s h step)
 unfolding call_of
-timely_effect s h (steps.Apply object version) short within = tt
-timely_effect s h (steps.Delete key version) short within = tt
-timely_effect s h (steps.Approve certificate revision) short within = tt
-timely_effect s h (steps.Deny certificate revision) short within = tt
-timely_effect s h (steps.Answer certificate revision row) short within = tt
-timely_effect s h (steps.Renew certificate) short within = tt
 timely_effect s h (steps.Tick seconds) short within = within_tick s.now (scripted h) (moment s h) seconds short within
-timely_effect s h (steps.Stop role) short within = tt
-timely_effect s h (steps.Start role behind) short within = tt
-timely_effect s h (steps.Hold role kind) short within = tt
-timely_effect s h (steps.Release role kind) short within = tt
-timely_effect s h (steps.Until role kind writes) short within = tt
-timely_effect s h steps.Settle short within = tt
+timely_effect s h other short within = tt
 
 timely_step : (s : Setting) (h : List Entry) (step : Option Step) → IsShortOption step → IsWithinSteps s.now (scripted h) (moment s h)
     → IsTimely s.now (scripted h + 1) (option_and_then (effect_of s h) step)
@@ -83,19 +72,8 @@ on_time s [] short follows = ((omega (arith, ints), omega (arith, ints)), tt)
 on_time s (Script step ∷ h) short follows =
     let before = (on_time s h short follows.1).0 in
     (within_more s.now (scripted h) (moment s h) before, timely_step s h (step_at s.script step) (short_step s.script step short) before)
-on_time s (Called who call reply ∷ h) short follows = ((on_time s h short follows.1).0, tt)
-on_time s (Deliver role kind to ∷ h) short follows = ((on_time s h short follows.1).0, tt)
-on_time s (Listed role kind to ∷ h) short follows = ((on_time s h short follows.1).0, tt)
-on_time s (Begin pass role key at now ∷ h) short follows = ((on_time s h short follows.1).0, tt)
-on_time s (Ask pass order ∷ h) short follows = ((on_time s h short follows.1).0, tt)
-on_time s (Made pass key ∷ h) short follows = ((on_time s h short follows.1).0, tt)
-on_time s (Signed pass signature ∷ h) short follows = ((on_time s h short follows.1).0, tt)
-on_time s (Answered pass answer ∷ h) short follows = ((on_time s h short follows.1).0, tt)
-on_time s (Judged pass approved ∷ h) short follows = ((on_time s h short follows.1).0, tt)
-on_time s (End pass cause ∷ h) short follows = ((on_time s h short follows.1).0, tt)
-on_time s (Stop role ∷ h) short follows = ((on_time s h short follows.1).0, tt)
-on_time s (Start role at ∷ h) short follows = ((on_time s h short follows.1).0, tt)
 on_time s (Tick now ∷ h) short follows = (subst (λ (e : Option Effect). IsTimely s.now (scripted h) e) follows.0 (on_time s h short follows.1).1, tt)
+on_time s (other ∷ h) short follows = ((on_time s h short follows.1).0, tt)
 
 -- the moment lies between the first one and what the steps so far can make of it
 pub moments_low : (s : Setting) (h : List Entry) → All IsShortStep s.script → Follows s h
@@ -109,18 +87,7 @@ scripted_low s [] follows = omega arith
 scripted_low s (Script step ∷ h) follows = omega (arith, follows.0.numbered, follows.0.stands)
 scripted_low s (Called User call reply ∷ h) follows = scripted_low s h follows.1
 scripted_low s (Called (Pass pass) call reply ∷ h) follows = scripted_low s h follows.1
-scripted_low s (Deliver role kind to ∷ h) follows = scripted_low s h follows.1
-scripted_low s (Listed role kind to ∷ h) follows = scripted_low s h follows.1
-scripted_low s (Begin pass role key at now ∷ h) follows = scripted_low s h follows.1
-scripted_low s (Ask pass order ∷ h) follows = scripted_low s h follows.1
-scripted_low s (Made pass key ∷ h) follows = scripted_low s h follows.1
-scripted_low s (Signed pass signature ∷ h) follows = scripted_low s h follows.1
-scripted_low s (Answered pass answer ∷ h) follows = scripted_low s h follows.1
-scripted_low s (Judged pass approved ∷ h) follows = scripted_low s h follows.1
-scripted_low s (End pass cause ∷ h) follows = scripted_low s h follows.1
-scripted_low s (Stop role ∷ h) follows = scripted_low s h follows.1
-scripted_low s (Start role at ∷ h) follows = scripted_low s h follows.1
-scripted_low s (Tick now ∷ h) follows = scripted_low s h follows.1
+scripted_low s (other ∷ h) follows = scripted_low s h follows.1
 
 -- ---- the tick that comes next
 

@@ -5,12 +5,12 @@ use Rattle.std.specs.Prelude.{if◌then◌else◌, IfSome}
 use Rattle.cmc_objects.specs.declared.role.Role.{Role}
 use Rattle.cmc_objects.specs.declared.entry.Entry.{Entry}
 use Rattle.cmc_objects.specs.declared.entry.Entry.TheVariants.{Script, Call as Called, Deliver, List as Listed, Begin, Ask, Made, Signed, Answered, Judged, End, Stop, Start, Tick}
-use Rattle.cmc_model.specs.declared.progress.OpenPass.{OpenPass}
-use Rattle.cmc_model.specs.declared.progress.Origin.{Origin}
+use Rattle.cmc_rules.specs.declared.progress.OpenPass.{OpenPass}
+use Rattle.cmc_rules.specs.declared.progress.Origin.{Origin}
 use Rattle.cmc_model.specs.Histories.{Setting, incarnation}
-use Rattle.cmc_model.specs.Viewing.{views}
-use Rattle.cmc_model.specs.Passes.{open_pass, begun, new_pass, stage_after, origins, origin_at}
-use Rattle.cmc_model.specs.Legality.{IsLegal}
+use Rattle.cmc_rules.specs.Viewing.{views}
+use Rattle.cmc_rules.specs.Passes.{open_pass, begun, new_pass, stage_after, origins, origin_at}
+use Rattle.cmc_rules.specs.Legality.{IsLegal}
 use Rattle.cmc_world.proofs.Carrying.{over_call, over_end, over_stop}
 
 -- ---- one origin for each pass
@@ -18,20 +18,8 @@ use Rattle.cmc_world.proofs.Carrying.{over_call, over_end, over_stop}
 -- there are as many origins as passes were begun
 pub origins_count : (s : Setting) (h : List Entry) → length (origins s h) ≡ begun h
 origins_count s [] = refl
-origins_count s (Script step ∷ h) = origins_count s h
-origins_count s (Called who call reply ∷ h) = origins_count s h
-origins_count s (Deliver role kind to ∷ h) = origins_count s h
-origins_count s (Listed role kind to ∷ h) = origins_count s h
 origins_count s (Begin pass role key at now ∷ h) = omega (arith, origins_count s h)
-origins_count s (Ask pass order ∷ h) = origins_count s h
-origins_count s (Made pass key ∷ h) = origins_count s h
-origins_count s (Signed pass signature ∷ h) = origins_count s h
-origins_count s (Answered pass answer ∷ h) = origins_count s h
-origins_count s (Judged pass approved ∷ h) = origins_count s h
-origins_count s (End pass cause ∷ h) = origins_count s h
-origins_count s (Stop role ∷ h) = origins_count s h
-origins_count s (Start role at ∷ h) = origins_count s h
-origins_count s (Tick now ∷ h) = origins_count s h
+origins_count s (other ∷ h) = origins_count s h
 
 -- the number lies between 1 and n
 abbrev IsUpTo : ℕ → ℕ → Type 0
@@ -95,22 +83,13 @@ origin_begun n pass o os false new p is place role has = older n o os p (λ same
 pub has_origin : (s : Setting) (h : List Entry) (n : ℕ) → IsLegal s h → IfSome (open_pass s h n) (HasOrigin n (origins s h))
 unfolding IsLegal
 has_origin s [] n legal = tt
-has_origin s (Script step ∷ h) n legal = has_origin s h n legal.1
 has_origin s (Called who call reply ∷ h) n legal = over_call (HasOrigin n (origins s h)) n who (stage_after s h call reply) (open_pass s h n) (λ p has. has) (has_origin s h n legal.1)
-has_origin s (Deliver role kind to ∷ h) n legal = has_origin s h n legal.1
-has_origin s (Listed role kind to ∷ h) n legal = has_origin s h n legal.1
 has_origin s (Begin pass role key at now ∷ h) n legal =
     origin_begun n pass (record { role = role; incarnation = incarnation s h role }) (origins s h) (n == pass) (new_pass role key (views s h role key) now) (open_pass s h n) refl
     (omega (arith, origins_count s h, legal.0.numbered)) refl (has_origin s h n legal.1)
-has_origin s (Ask pass order ∷ h) n legal = has_origin s h n legal.1
-has_origin s (Made pass key ∷ h) n legal = has_origin s h n legal.1
-has_origin s (Signed pass signature ∷ h) n legal = has_origin s h n legal.1
-has_origin s (Answered pass answer ∷ h) n legal = has_origin s h n legal.1
-has_origin s (Judged pass approved ∷ h) n legal = has_origin s h n legal.1
 has_origin s (End pass cause ∷ h) n legal = over_end (HasOrigin n (origins s h)) (n == pass) (open_pass s h n) (has_origin s h n legal.1)
 has_origin s (Stop role ∷ h) n legal = over_stop (HasOrigin n (origins s h)) role (open_pass s h n) (has_origin s h n legal.1)
-has_origin s (Start role at ∷ h) n legal = has_origin s h n legal.1
-has_origin s (Tick now ∷ h) n legal = has_origin s h n legal.1
+has_origin s (other ∷ h) n legal = has_origin s h n legal.1
 
 found : (role : Role) (origin : Option Origin) → IsOfRole role origin → (o : Origin) × (origin ≡ Some o) × (o.role ≡ role)
 found role None is = absurd is

@@ -6,13 +6,13 @@ use Rattle.cmc_objects.specs.declared.secret.Secret.{Secret}
 use Rattle.cmc_objects.specs.declared.role.Role.{Role}
 use Rattle.cmc_objects.specs.declared.role.Role.TheVariants.{Trigger, KeyManager, RequestManager, Approver, Issuer, Issuing, Readiness, Revision}
 use Rattle.cmc_policies.specs.declared.facts.Reason.{Reason}
-use Rattle.cmc_model.specs.declared.pass.Views.{Views}
-use Rattle.cmc_model.specs.declared.pass.Desk.{Desk}
-use Rattle.cmc_model.specs.declared.pass.Act.{Act}
-use Rattle.cmc_model.specs.declared.pass.Act.TheVariants.{Nothing}
-use Rattle.cmc_model.specs.Facts.{trigger_reason}
-use Rattle.cmc_model.specs.Triggering.{is_issuing, is_backing_off, issue_call, for_reason, frame_of, for_certificate, for_option, trigger}
-use Rattle.cmc_model.specs.Acts.{act}
+use Rattle.cmc_pass.specs.declared.pass.Views.{Views}
+use Rattle.cmc_pass.specs.declared.pass.Desk.{Desk}
+use Rattle.cmc_pass.specs.declared.pass.Act.{Act}
+use Rattle.cmc_pass.specs.declared.pass.Act.TheVariants.{Nothing}
+use Rattle.cmc_rules.specs.Facts.{trigger_reason}
+use Rattle.cmc_rules.specs.Triggering.{is_issuing, is_backing_off, issue_call, for_reason, frame_of, for_certificate, for_option, trigger}
+use Rattle.cmc_rules.specs.Acts.{act}
 use Rattle.cmc_world.specs.Plain.{IsPlain}
 
 plain_issue : (now : ℤ) (reason : Reason) (c : Certificate) → IsPlain (issue_call now reason c)
@@ -45,37 +45,19 @@ plain_trigger views now = plain_option now views.secret views.certificate
 pub plain_act : (role : Role) (views : Views) (now : ℤ) (desk : Desk) → IsPlain (act role views now desk)
 unfolding act
 plain_act Trigger views now desk = plain_trigger views now
-plain_act KeyManager views now desk = tt
-plain_act RequestManager views now desk = tt
-plain_act Approver views now desk = tt
-plain_act Issuer views now desk = tt
-plain_act Issuing views now desk = tt
-plain_act Readiness views now desk = tt
-plain_act Revision views now desk = tt
+plain_act other views now desk = tt
 
 -- the desk makes no difference
 pub act_desk : (role : Role) (views : Views) (now : ℤ) (d e : Desk) → act role views now d ≡ act role views now e
 unfolding act
 act_desk Trigger views now d e = refl
-act_desk KeyManager views now d e = refl
-act_desk RequestManager views now d e = refl
-act_desk Approver views now d e = refl
-act_desk Issuer views now d e = refl
-act_desk Issuing views now d e = refl
-act_desk Readiness views now d e = refl
-act_desk Revision views now d e = refl
+act_desk other views now d e = refl
 
 -- all roles but the trigger do nothing
 pub idle_act : (role : Role) (views : Views) (now : ℤ) (desk : Desk) → (role ≡ Trigger → ⊥) → act role views now desk ≡ Nothing
 unfolding act
 idle_act Trigger views now desk other = absurd (other refl)
-idle_act KeyManager views now desk other = refl
-idle_act RequestManager views now desk other = refl
-idle_act Approver views now desk other = refl
-idle_act Issuer views now desk other = refl
-idle_act Issuing views now desk other = refl
-idle_act Readiness views now desk other = refl
-idle_act Revision views now desk other = refl
+idle_act another views now desk other = refl
 
 -- and the trigger what its table says
 pub trigger_act : (views : Views) (now : ℤ) (desk : Desk) → act Trigger views now desk ≡ trigger views now

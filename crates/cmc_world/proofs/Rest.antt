@@ -17,8 +17,8 @@ use Rattle.cmc_objects.specs.declared.entry.Entry.{Entry}
 use Rattle.cmc_model.specs.declared.write.Write.{Write}
 use Rattle.cmc_model.specs.Histories.{Setting, runs}
 use Rattle.cmc_model.specs.Writes.{writes, is_known}
-use Rattle.cmc_model.specs.Passes.{open_pass}
-use Rattle.cmc_model.specs.Resting.{RestsOn, IsAtRest}
+use Rattle.cmc_rules.specs.Passes.{open_pass}
+use Rattle.cmc_rules.specs.Resting.{RestsOn, IsAtRest}
 use Rattle.cmc_world.specs.Rest.{EachRole, EachKind, IsToldAll, RestsIn}
 
 -- ---- keys

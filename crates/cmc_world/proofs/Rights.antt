@@ -21,32 +21,33 @@ use Rattle.cmc_objects.specs.declared.entry.Entry.TheVariants.{Script, Call as C
 use Rattle.cmc_objects.specs.Objects.{key_of, name_of, version_of}
 use Rattle.cmc_policies.specs.declared.facts.Reason.{Reason}
 use Rattle.cmc_model.specs.declared.write.Write.{Write}
-use Rattle.cmc_model.specs.declared.pass.Views.{Views}
-use Rattle.cmc_model.specs.declared.pass.Desk.{Desk}
-use Rattle.cmc_model.specs.declared.pass.Act.{Act}
-use Rattle.cmc_model.specs.declared.pass.Act.TheVariants.{Nothing, Call as Calls, Ask as Asks, Issue}
-use Rattle.cmc_model.specs.declared.progress.OpenPass.{OpenPass}
-use Rattle.cmc_model.specs.declared.progress.Stage.{Stage}
-use Rattle.cmc_model.specs.declared.progress.Stage.TheVariants.{Fresh, Wrote, Refused, Barred}
+use Rattle.cmc_pass.specs.declared.pass.Views.{Views}
+use Rattle.cmc_pass.specs.declared.pass.Desk.{Desk}
+use Rattle.cmc_pass.specs.declared.pass.Act.{Act}
+use Rattle.cmc_pass.specs.declared.pass.Act.TheVariants.{Nothing, Call as Calls, Ask as Asks, Issue}
+use Rattle.cmc_rules.specs.declared.progress.OpenPass.{OpenPass}
+use Rattle.cmc_rules.specs.declared.progress.Stage.{Stage}
+use Rattle.cmc_rules.specs.declared.progress.Stage.TheVariants.{Fresh, Wrote, Refused, Barred}
 use Rattle.cmc_model.specs.Objects.{object_at}
 use Rattle.cmc_model.specs.Stored.{with_status}
 use Rattle.cmc_model.specs.Replies.{State, IsReply, IsServed, IsRestated, IsChange, is_accepted, key_of_call, stored}
 use Rattle.cmc_model.specs.Histories.{Setting, moment, state, objects, accepted}
 use Rattle.cmc_model.specs.Writes.{writes, write_of}
-use Rattle.cmc_model.specs.Positions.{works_on_requests, cache}
-use Rattle.cmc_model.specs.Viewing.{certificate_in, certificate_at, views_of, views_in, views}
-use Rattle.cmc_model.specs.Desks.{desk}
-use Rattle.cmc_model.specs.Facts.{trigger_reason}
-use Rattle.cmc_model.specs.Triggering.{is_issuing, is_backing_off, issue_call, for_reason, frame_of, for_certificate, for_option, trigger}
-use Rattle.cmc_model.specs.Acts.{act}
-use Rattle.cmc_model.specs.Passes.{open_pass, called, new_pass, stage_after}
-use Rattle.cmc_model.specs.Legality.{IsLegal}
-use Rattle.cmc_model.specs.Causes.{IsCaused, IsFirstCall, IsNextCall, MayCall}
-use Rattle.cmc_model.specs.Runs.{IsRun}
-use Rattle.cmc_model.specs.Rights.{TriggerMay, seen_object, MayChange, IsRightful, IsRightfulCall, KeepsRights}
+use Rattle.cmc_rules.specs.Positions.{works_on_requests, cache}
+use Rattle.cmc_rules.specs.Viewing.{certificate_in, certificate_at, views_of, views_in, views}
+use Rattle.cmc_rules.specs.Desks.{desk}
+use Rattle.cmc_rules.specs.Facts.{trigger_reason}
+use Rattle.cmc_rules.specs.Triggering.{is_issuing, is_backing_off, issue_call, for_reason, frame_of, for_certificate, for_option, trigger}
+use Rattle.cmc_rules.specs.Acts.{act}
+use Rattle.cmc_rules.specs.Passes.{open_pass, called, new_pass, stage_after}
+use Rattle.cmc_rules.specs.Legality.{IsLegal}
+use Rattle.cmc_rules.specs.Causes.{IsCaused, IsFirstCall, IsNextCall, MayCall}
+use Rattle.cmc_rules.specs.Runs.{IsRun}
+use Rattle.cmc_rules.specs.Rights.{TriggerMay, seen_object, MayChange, IsRightful, IsRightfulCall, KeepsRights}
 use Rattle.cmc_model.specs.Versions.{IsVersion, HasVersion}
-use Rattle.cmc_model.proofs.Versions.{IsLawful, lawful, lawful_object, stands_is_version}
-use Rattle.cmc_model.proofs.Seen.{seen_is_version}
+use Rattle.cmc_model.proofs.Versions.{IsLawful, lawful_object}
+use Rattle.cmc_rules.proofs.Versions.{lawful, stands_is_version}
+use Rattle.cmc_rules.proofs.Seen.{seen_is_version}
 use Rattle.cmc_trigger.proofs.OneCondition.{act_may}
 use Rattle.cmc_world.proofs.Carrying.{over_call, over_begin, over_end, over_stop}
 
@@ -108,34 +109,22 @@ seen_views s h role key =
 -- the Certificate that an open pass saw is a version under its key
 pub seen_by_pass : (s : Setting) (h : List Entry) (n : ℕ) → IfSome (open_pass s h n) (HasSeenVersion (writes s h))
 seen_by_pass s [] n = tt
-seen_by_pass s (Script step ∷ h) n = seen_by_pass s h n
 seen_by_pass s (Called who call reply ∷ h) n =
     seen_more (is_accepted reply) (write_of (moment s h) (state s h) call) (writes s h) (called n who (stage_after s h call reply) (open_pass s h n))
     (over_call (HasSeenVersion (writes s h)) n who (stage_after s h call reply) (open_pass s h n) (λ p has. has) (seen_by_pass s h n))
-seen_by_pass s (Deliver role kind to ∷ h) n = seen_by_pass s h n
-seen_by_pass s (Listed role kind to ∷ h) n = seen_by_pass s h n
 seen_by_pass s (Begin pass role key at now ∷ h) n =
     over_begin (HasSeenVersion (writes s h)) (n == pass) (new_pass role key (views s h role key) now) (open_pass s h n) (seen_views s h role key) (seen_by_pass s h n)
-seen_by_pass s (Ask pass order ∷ h) n = seen_by_pass s h n
-seen_by_pass s (Made pass key ∷ h) n = seen_by_pass s h n
-seen_by_pass s (Signed pass signature ∷ h) n = seen_by_pass s h n
-seen_by_pass s (Answered pass answer ∷ h) n = seen_by_pass s h n
-seen_by_pass s (Judged pass approved ∷ h) n = seen_by_pass s h n
 seen_by_pass s (End pass cause ∷ h) n = over_end (HasSeenVersion (writes s h)) (n == pass) (open_pass s h n) (seen_by_pass s h n)
 seen_by_pass s (Stop role ∷ h) n = over_stop (HasSeenVersion (writes s h)) role (open_pass s h n) (seen_by_pass s h n)
-seen_by_pass s (Start role at ∷ h) n = seen_by_pass s h n
-seen_by_pass s (Tick now ∷ h) n = seen_by_pass s h n
+seen_by_pass s (other ∷ h) n = seen_by_pass s h n
 
 -- ---- which version the trigger's call names
 
 -- the call writes the status of an object of the version that was seen
 abbrev NamesSeen : Option Certificate → Call → Type 0
 NamesSeen None call = ⊥
-NamesSeen (Some c) (Create object) = ⊥
-NamesSeen (Some c) (Update object named) = ⊥
 NamesSeen (Some c) (UpdateStatus object named) = named ≡ c.meta.version
-NamesSeen (Some c) (Delete key named) = ⊥
-NamesSeen (Some c) (Get key) = ⊥
+NamesSeen (Some c) other = ⊥
 
 abbrev ActsOnSeen : Option Certificate → Act → Type 0
 ActsOnSeen c Nothing = Unit {0}
@@ -203,13 +192,10 @@ same_object s h key at named c (Some old) legal is has seen version =
 stands_as_seen : (s : Setting) (h : List Entry) (key : Key) (c : Option Certificate) (call : Call) (reply : Reply) → IsLegal s h → IsSeenVersion key (writes s h) c
     → NamesSeen c call → IsServed (accepted s h) (objects s h) call reply → is_accepted reply ≡ true → object_at (objects s h) (key_of_call call) ≡ seen_object c
 stands_as_seen s h key None call reply legal version names right ok = absurd names
-stands_as_seen s h key (Some c) (Create object) reply legal version names right ok = absurd names
-stands_as_seen s h key (Some c) (Update object named) reply legal version names right ok = absurd names
 stands_as_seen s h key (Some c) (UpdateStatus object named) reply legal version names right ok =
     same_object s h key (key_of object) named c (object_at (objects s h) (key_of object)) legal refl
     (named_restated (accepted s h) object named (object_at (objects s h) (key_of object)) reply right ok) names version
-stands_as_seen s h key (Some c) (Delete at named) reply legal version names right ok = absurd names
-stands_as_seen s h key (Some c) (Get at) reply legal version names right ok = absurd names
+stands_as_seen s h key (Some c) other reply legal version names right ok = absurd names
 
 -- ---- calls of passes
 
@@ -230,13 +216,7 @@ by_role : (role : Role) (seen : Views) (now : ℤ) (desk : Desk) (call : Call) (
     → (act Trigger seen now desk ≡ Calls call → TriggerMay old new) → MayChange role old new
 unfolding act
 by_role Trigger seen now desk call old new does may = may does
-by_role KeyManager seen now desk call old new does may = absurd (cc)
-by_role RequestManager seen now desk call old new does may = absurd (cc)
-by_role Approver seen now desk call old new does may = absurd (cc)
-by_role Issuer seen now desk call old new does may = absurd (cc)
-by_role Issuing seen now desk call old new does may = absurd (cc)
-by_role Readiness seen now desk call old new does may = absurd (cc)
-by_role Revision seen now desk call old new does may = absurd (cc)
+by_role other seen now desk call old new does may = absurd (cc)
 
 may_trigger : (s : Setting) (h : List Entry) (key : Key) (seen : Views) (now : ℤ) (desk : Desk) (call : Call) (reply : Reply) → IsLegal s h
     → IsSeenVersion key (writes s h) seen.certificate → IsServed (accepted s h) (objects s h) call reply → is_accepted reply ≡ true → act Trigger seen now desk ≡ Calls call
@@ -269,21 +249,9 @@ rightful_call s h pass call reply legal may right =
 pub keeps : (s : Setting) (h : List Entry) → IsLegal s h → IsCaused s h → KeepsRights s h
 unfolding IsLegal IsCaused KeepsRights
 keeps s [] legal caused = tt
-keeps s (Script step ∷ h) legal caused = (tt, keeps s h legal.1 caused.1)
 keeps s (Called User call reply ∷ h) legal caused = (tt, keeps s h legal.1 caused.1)
 keeps s (Called (Pass pass) call reply ∷ h) legal caused = (rightful_call s h pass call reply legal.1 caused.0 legal.0.0, keeps s h legal.1 caused.1)
-keeps s (Deliver role kind to ∷ h) legal caused = (tt, keeps s h legal.1 caused.1)
-keeps s (Listed role kind to ∷ h) legal caused = (tt, keeps s h legal.1 caused.1)
-keeps s (Begin pass role key at now ∷ h) legal caused = (tt, keeps s h legal.1 caused.1)
-keeps s (Ask pass order ∷ h) legal caused = (tt, keeps s h legal.1 caused.1)
-keeps s (Made pass key ∷ h) legal caused = (tt, keeps s h legal.1 caused.1)
-keeps s (Signed pass signature ∷ h) legal caused = (tt, keeps s h legal.1 caused.1)
-keeps s (Answered pass answer ∷ h) legal caused = (tt, keeps s h legal.1 caused.1)
-keeps s (Judged pass approved ∷ h) legal caused = (tt, keeps s h legal.1 caused.1)
-keeps s (End pass cause ∷ h) legal caused = (tt, keeps s h legal.1 caused.1)
-keeps s (Stop role ∷ h) legal caused = (tt, keeps s h legal.1 caused.1)
-keeps s (Start role at ∷ h) legal caused = (tt, keeps s h legal.1 caused.1)
-keeps s (Tick now ∷ h) legal caused = (tt, keeps s h legal.1 caused.1)
+keeps s (other ∷ h) legal caused = (tt, keeps s h legal.1 caused.1)
 
 -- in a run each role keeps to its rights
 pub keeps_rights : (s : Setting) (h : List Entry) → IsRun s h → KeepsRights s h

@@ -11,31 +11,25 @@ use Rattle.cmc_objects.specs.declared.call.Reply.TheVariants.{Ok, Unchanged, Fou
 use Rattle.cmc_objects.specs.declared.entry.Entry.{Entry}
 use Rattle.cmc_objects.specs.declared.entry.Entry.TheVariants.{Script, Call as Called, Deliver, List as Listed, Begin, Ask, Made, Signed, Answered, Judged, End, Stop, Start, Tick}
 use Rattle.cmc_objects.specs.Objects.{key_of, name_of, version_of}
-use Rattle.cmc_model.specs.declared.progress.OpenPass.{OpenPass}
-use Rattle.cmc_model.specs.declared.progress.Stage.{Stage}
-use Rattle.cmc_model.specs.declared.progress.Stage.TheVariants.{Fresh, Wrote, Refused, Barred}
+use Rattle.cmc_rules.specs.declared.progress.OpenPass.{OpenPass}
+use Rattle.cmc_rules.specs.declared.progress.Stage.{Stage}
+use Rattle.cmc_rules.specs.declared.progress.Stage.TheVariants.{Fresh, Wrote, Refused, Barred}
 use Rattle.cmc_model.specs.Objects.{Objects, object_at}
 use Rattle.cmc_model.specs.Stored.{updated, with_status}
 use Rattle.cmc_model.specs.Replies.{State, IsReply, IsServed, IsCreated, IsUpdated, IsRestated, IsDeleted, IsGot, IsChange, key_of_call}
 use Rattle.cmc_model.specs.Histories.{Setting, state}
 use Rattle.cmc_model.specs.Writes.{writes, last_under}
-use Rattle.cmc_model.specs.Viewing.{views}
-use Rattle.cmc_model.specs.Passes.{open_pass, new_pass, stage_by, stage_after}
-use Rattle.cmc_model.specs.Legality.{IsLegal}
+use Rattle.cmc_rules.specs.Viewing.{views}
+use Rattle.cmc_rules.specs.Passes.{open_pass, new_pass, stage_by, stage_after}
+use Rattle.cmc_rules.specs.Legality.{IsLegal}
 use Rattle.cmc_world.proofs.Carrying.{over_call, over_begin, over_end, over_stop}
 
 -- ---- right replies
 
 -- the reply names no rule that refuses
 abbrev pub IsPassed : Reply → Type 0
-IsPassed (Ok version name) = Unit {0}
-IsPassed (Unchanged version) = Unit {0}
-IsPassed (Found object) = Unit {0}
-IsPassed (Conflict named have) = Unit {0}
-IsPassed (NotFound at) = Unit {0}
-IsPassed (AlreadyExists have) = Unit {0}
 IsPassed (Invalid rule) = ⊥
-IsPassed (Unavailable number) = Unit {0}
+IsPassed other = Unit {0}
 
 replied : (reply right : Reply) → IsPassed right → reply ≡ right → IsPassed reply
 replied reply right passed is = subst IsPassed (sym is) passed
@@ -109,14 +103,8 @@ abbrev pub IsServedOption : Option OpenPass → Type 0
 IsServedOption p = IfSome p IsServedPass
 
 served_stage : (entry : ℕ) (kind : Kind) (last : ℕ) (reply : Reply) → IsPassed reply → IsServedStage (stage_by entry kind last reply)
-served_stage entry kind last (Ok version name) passed = tt
-served_stage entry kind last (Unchanged version) passed = tt
-served_stage entry kind last (Found object) passed = tt
-served_stage entry kind last (Conflict named have) passed = tt
-served_stage entry kind last (NotFound at) passed = tt
-served_stage entry kind last (AlreadyExists have) passed = tt
 served_stage entry kind last (Invalid rule) passed = passed
-served_stage entry kind last (Unavailable number) passed = tt
+served_stage entry kind last other passed = tt
 
 served_after : (s : Setting) (h : List Entry) (call : Call) (reply : Reply) → IsReply s.faults (state s h) call reply → IsServedStage (stage_after s h call reply)
 served_after s h call reply right =
@@ -126,22 +114,13 @@ served_after s h call reply right =
 pub served_pass : (s : Setting) (h : List Entry) (n : ℕ) → IsLegal s h → IsServedOption (open_pass s h n)
 unfolding IsLegal
 served_pass s [] n legal = tt
-served_pass s (Script step ∷ h) n legal = served_pass s h n legal.1
 served_pass s (Called who call reply ∷ h) n legal =
     over_call IsServedPass n who (stage_after s h call reply) (open_pass s h n) (λ p old. served_after s h call reply legal.0.0) (served_pass s h n legal.1)
-served_pass s (Deliver role kind to ∷ h) n legal = served_pass s h n legal.1
-served_pass s (Listed role kind to ∷ h) n legal = served_pass s h n legal.1
 served_pass s (Begin pass role key at now ∷ h) n legal =
     over_begin IsServedPass (n == pass) (new_pass role key (views s h role key) now) (open_pass s h n) tt (served_pass s h n legal.1)
-served_pass s (Ask pass order ∷ h) n legal = served_pass s h n legal.1
-served_pass s (Made pass key ∷ h) n legal = served_pass s h n legal.1
-served_pass s (Signed pass signature ∷ h) n legal = served_pass s h n legal.1
-served_pass s (Answered pass answer ∷ h) n legal = served_pass s h n legal.1
-served_pass s (Judged pass approved ∷ h) n legal = served_pass s h n legal.1
 served_pass s (End pass cause ∷ h) n legal = over_end IsServedPass (n == pass) (open_pass s h n) (served_pass s h n legal.1)
 served_pass s (Stop role ∷ h) n legal = over_stop IsServedPass role (open_pass s h n) (served_pass s h n legal.1)
-served_pass s (Start role at ∷ h) n legal = served_pass s h n legal.1
-served_pass s (Tick now ∷ h) n legal = served_pass s h n legal.1
+served_pass s (other ∷ h) n legal = served_pass s h n legal.1
 
 -- and so of a pass that is known to be open
 pub open_is_served : (s : Setting) (h : List Entry) (n : ℕ) (p : OpenPass) → IsLegal s h → open_pass s h n ≡ Some p → IsServedStage p.stage

@@ -13,14 +13,14 @@ use Rattle.cmc_objects.specs.declared.entry.Step.TheVariants as steps
 use Rattle.cmc_objects.specs.declared.entry.Who.TheVariants.{Pass}
 use Rattle.cmc_objects.specs.declared.entry.Entry.{Entry}
 use Rattle.cmc_objects.specs.declared.entry.Entry.TheVariants.{Script, Call as Called, Deliver, List as Listed, Stop, Start}
-use Rattle.cmc_model.specs.declared.progress.OpenPass.{OpenPass}
+use Rattle.cmc_rules.specs.declared.progress.OpenPass.{OpenPass}
 use Rattle.cmc_model.specs.Replies.{is_accepted, key_of_call}
 use Rattle.cmc_model.specs.Histories.{Setting, runs, incarnation, role_eq}
 use Rattle.cmc_model.specs.Writes.{kind_eq}
-use Rattle.cmc_model.specs.Positions.{position}
-use Rattle.cmc_model.specs.Passes.{open_pass}
-use Rattle.cmc_model.specs.Scripting.{held, held_by, step_at}
-use Rattle.cmc_model.specs.Following.{written, is_by}
+use Rattle.cmc_rules.specs.Positions.{position}
+use Rattle.cmc_rules.specs.Passes.{open_pass}
+use Rattle.cmc_rules.specs.Scripting.{held, held_by, step_at}
+use Rattle.cmc_rules.specs.Following.{written, is_by}
 use Rattle.cmc_held.specs.declared.standings.Standing.{Standing}
 use Rattle.cmc_world.specs.Changes.{telling, stopping, starting, keeping, writing, scripted_standing}
 use Rattle.cmc_world.specs.Kept.{standing}
@@ -32,8 +32,7 @@ told_kind : (s : Setting) (h : List Entry) (kind : Kind) (to : ℕ) (r : Role)
     → telling kind to (standing s h r)
     ≡ record (standing s h r) { told = record { certificates = if kind_eq kind kinds.Certificate then to else position h r kinds.Certificate; requests = if kind_eq kind kinds.CertificateRequest then to else position h r kinds.CertificateRequest; secrets = if kind_eq kind kinds.Secret then to else position h r kinds.Secret } }
 told_kind s h kinds.Certificate to r = refl
-told_kind s h kinds.CertificateRequest to r = refl
-told_kind s h kinds.Secret to r = refl
+told_kind s h other to r = refl
 
 told_at : (b : Bool) (s : Setting) (h : List Entry) (role : Role) (kind : Kind) (to : ℕ) (r : Role) → role_eq role r ≡ b
     → (if b then telling kind to (standing s h role) else standing s h r)
@@ -74,8 +73,7 @@ kept_kind : (s : Setting) (h : List Entry) (kind : Kind) (on : Bool) (r : Role)
     → keeping kind on (standing s h r)
     ≡ record (standing s h r) { held = record { certificates = if kind_eq kind kinds.Certificate then on else held s h r kinds.Certificate; requests = if kind_eq kind kinds.CertificateRequest then on else held s h r kinds.CertificateRequest; secrets = if kind_eq kind kinds.Secret then on else held s h r kinds.Secret } }
 kept_kind s h kinds.Certificate on r = refl
-kept_kind s h kinds.CertificateRequest on r = refl
-kept_kind s h kinds.Secret on r = refl
+kept_kind s h other on r = refl
 
 held_one : (b : Bool) (s : Setting) (h : List Entry) (kind : Kind) (on : Bool) (r : Role)
     → (if b then keeping kind on (standing s h r) else standing s h r)
@@ -86,19 +84,9 @@ held_one false s h kind on r = refl
 step_standing : (s : Setting) (h : List Entry) (n : ℕ) (step : Step) (r : Role)
     → scripted_standing step r (standing s h r)
     ≡ record (standing s h r) { held = record { certificates = held_by r kinds.Certificate (held s h r kinds.Certificate) (Some step); requests = held_by r kinds.CertificateRequest (held s h r kinds.CertificateRequest) (Some step); secrets = held_by r kinds.Secret (held s h r kinds.Secret) (Some step) } }
-step_standing s h n (steps.Apply object version) r = refl
-step_standing s h n (steps.Delete key version) r = refl
-step_standing s h n (steps.Approve certificate revision) r = refl
-step_standing s h n (steps.Deny certificate revision) r = refl
-step_standing s h n (steps.Answer certificate revision row) r = refl
-step_standing s h n (steps.Renew certificate) r = refl
-step_standing s h n (steps.Tick seconds) r = refl
-step_standing s h n (steps.Stop role) r = refl
-step_standing s h n (steps.Start role behind) r = refl
 step_standing s h n (steps.Hold role kind) r = held_one (role_eq role r) s h kind true r
 step_standing s h n (steps.Release role kind) r = held_one (role_eq role r) s h kind false r
-step_standing s h n (steps.Until role kind writes) r = refl
-step_standing s h n steps.Settle r = refl
+step_standing s h n other r = refl
 
 -- a step of the script changes what it holds and releases
 pub standing_scripted : (s : Setting) (h : List Entry) (n : ℕ) (step : Step) (r : Role) → step_at s.script n ≡ Some step
@@ -113,8 +101,7 @@ wrote_kind : (s : Setting) (h : List Entry) (kind : Kind) (r : Role)
     → writing kind (standing s h r)
     ≡ record (standing s h r) { written = record { certificates = if kind_eq kind kinds.Certificate then written s h r kinds.Certificate + 1 else written s h r kinds.Certificate; requests = if kind_eq kind kinds.CertificateRequest then written s h r kinds.CertificateRequest + 1 else written s h r kinds.CertificateRequest; secrets = if kind_eq kind kinds.Secret then written s h r kinds.Secret + 1 else written s h r kinds.Secret } }
 wrote_kind s h kinds.Certificate r = refl
-wrote_kind s h kinds.CertificateRequest r = refl
-wrote_kind s h kinds.Secret r = refl
+wrote_kind s h other r = refl
 
 flip : (a b : Bool) → (a && b) ≡ (b && a)
 flip true true = refl

@@ -5,10 +5,10 @@ use Rattle.cmc_meta.specs.declared.key.Key.{Key}
 use Rattle.cmc_objects.specs.declared.role.Role.{Role}
 use Rattle.cmc_model.specs.Replies.{empty_store}
 use Rattle.cmc_model.specs.Histories.{role_eq}
-use Rattle.cmc_model.specs.Passes.{no_past}
-use Rattle.cmc_model.specs.Legality.{IsLegal}
-use Rattle.cmc_model.specs.Causes.{IsCaused}
-use Rattle.cmc_model.specs.Following.{Follows}
+use Rattle.cmc_rules.specs.Passes.{no_past}
+use Rattle.cmc_rules.specs.Legality.{IsLegal}
+use Rattle.cmc_rules.specs.Causes.{IsCaused}
+use Rattle.cmc_rules.specs.Following.{Follows}
 use Rattle.cmc_scenario.specs.Setups.{Setup}
 use Rattle.cmc_held.specs.Standing.{first_standing}
 use Rattle.cmc_world.specs.Kept.{Holdings, IsKept, setting_of}

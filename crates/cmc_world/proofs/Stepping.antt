@@ -14,18 +14,18 @@ use Rattle.cmc_objects.specs.declared.entry.Step.TheVariants as steps
 use Rattle.cmc_objects.specs.declared.entry.Who.TheVariants.{User}
 use Rattle.cmc_objects.specs.declared.entry.Entry.{Entry}
 use Rattle.cmc_objects.specs.declared.entry.Entry.TheVariants.{Script, Call as Called, Stop, Start, Tick}
-use Rattle.cmc_model.specs.declared.effect.Effect.{Effect}
-use Rattle.cmc_model.specs.declared.effect.Effect.TheVariants as effects
+use Rattle.cmc_rules.specs.declared.effect.Effect.{Effect}
+use Rattle.cmc_rules.specs.declared.effect.Effect.TheVariants as effects
 use Rattle.cmc_model.specs.declared.write.Write.{Write}
-use Rattle.cmc_model.specs.declared.progress.OpenPass.{OpenPass}
-use Rattle.cmc_model.specs.declared.progress.Past.{Past}
+use Rattle.cmc_rules.specs.declared.progress.OpenPass.{OpenPass}
+use Rattle.cmc_rules.specs.declared.progress.Past.{Past}
 use Rattle.cmc_model.specs.Replies.{State, IsReply, is_accepted, key_written, object_written, state_after}
 use Rattle.cmc_model.specs.Histories.{Setting, moment, state, objects, accepted, role_eq}
 use Rattle.cmc_model.specs.Writes.{write_of}
-use Rattle.cmc_model.specs.Passes.{unless_of, no_past}
-use Rattle.cmc_model.specs.Scripting.{scripted, step_at}
-use Rattle.cmc_model.specs.Following.{call_of, effect_of, owed, IsNextStep, Follows}
-use Rattle.cmc_model.proofs.Positions.{calls_short}
+use Rattle.cmc_rules.specs.Passes.{unless_of, no_past}
+use Rattle.cmc_rules.specs.Scripting.{scripted, step_at}
+use Rattle.cmc_rules.specs.Following.{call_of, effect_of, owed, IsNextStep, Follows}
+use Rattle.cmc_rules.proofs.Positions.{calls_short}
 use Rattle.cmc_scenario.specs.Setups.{Setup, IsSetup, IsTickForm}
 use Rattle.cmc_store.specs.Kept.{Kept}
 use Rattle.cmc_held.specs.declared.standings.Standing.{Standing}
@@ -44,19 +44,8 @@ use Rattle.cmc_world.proofs.Tables.{MayStep, may_step}
 -- ---- what a scenario's type keeps
 
 short_form : (step : Step) → IsTickForm step → IsShortStep step
-short_form (steps.Apply object version) form = tt
-short_form (steps.Delete key version) form = tt
-short_form (steps.Approve certificate revision) form = tt
-short_form (steps.Deny certificate revision) form = tt
-short_form (steps.Answer certificate revision row) form = tt
-short_form (steps.Renew certificate) form = tt
 short_form (steps.Tick seconds) form = form.most
-short_form (steps.Stop role) form = tt
-short_form (steps.Start role behind) form = tt
-short_form (steps.Hold role kind) form = tt
-short_form (steps.Release role kind) form = tt
-short_form (steps.Until role kind writes) form = tt
-short_form steps.Settle form = tt
+short_form other form = tt
 
 -- the ticks of a scenario are short
 pub short_steps : (script : List Step) → All IsTickForm script → All IsShortStep script
@@ -88,18 +77,7 @@ incarnation_fits u h w role setup k =
 same_effect : (s : Setting) (h : List Entry) (step : Step) → effect_on (objects s h) (accepted s h) (moment s h) step ≡ effect_of s h step
 unfolding call_of
 same_effect s h (steps.Apply object version) = refl
-same_effect s h (steps.Delete key version) = refl
-same_effect s h (steps.Approve certificate revision) = refl
-same_effect s h (steps.Deny certificate revision) = refl
-same_effect s h (steps.Answer certificate revision row) = refl
-same_effect s h (steps.Renew certificate) = refl
-same_effect s h (steps.Tick seconds) = refl
-same_effect s h (steps.Stop role) = refl
-same_effect s h (steps.Start role behind) = refl
-same_effect s h (steps.Hold role kind) = refl
-same_effect s h (steps.Release role kind) = refl
-same_effect s h (steps.Until role kind writes) = refl
-same_effect s h steps.Settle = refl
+same_effect s h other = refl
 
 same_after : (s : Setting) (h : List Entry) (step : Option Step) → option_and_then (effect_on (objects s h) (accepted s h) (moment s h)) step ≡ option_and_then (effect_of s h) step
 same_after s h None = refl
@@ -135,19 +113,9 @@ next_step s h settled may = record { settled = settled; numbered = refl; stands 
 
 -- a step that has something happen holds nothing back
 unheld : (s : Setting) (h : List Entry) (step : Step) (effect : Effect) (r : Role) (t : Standing) → effect_of s h step ≡ Some effect → t ≡ scripted_standing step r t
-unheld s h (steps.Apply object version) effect r t has = refl
-unheld s h (steps.Delete key version) effect r t has = refl
-unheld s h (steps.Approve certificate revision) effect r t has = refl
-unheld s h (steps.Deny certificate revision) effect r t has = refl
-unheld s h (steps.Answer certificate revision row) effect r t has = refl
-unheld s h (steps.Renew certificate) effect r t has = refl
-unheld s h (steps.Tick seconds) effect r t has = refl
-unheld s h (steps.Stop role) effect r t has = refl
-unheld s h (steps.Start role behind) effect r t has = refl
 unheld s h (steps.Hold role kind) effect r t has = absurd (cc has)
 unheld s h (steps.Release role kind) effect r t has = absurd (cc has)
-unheld s h (steps.Until role kind writes) effect r t has = refl
-unheld s h steps.Settle effect r t has = refl
+unheld s h other effect r t has = refl
 
 -- the entry of a step that has something happen
 step_made : (s : Setting) (h : List Entry) (w : Holdings) (made : ℕ) (effect : Effect)
@@ -203,19 +171,8 @@ stop_kept s h k w made role t opened kept may due counted put closed grown =
 -- a start tells of no more than was written
 low_start : (s : Setting) (h : List Entry) (step : Step) (role : Role) (at : ℕ) → effect_of s h step ≡ Some (effects.Start role at) → at ≤ accepted s h
 unfolding call_of
-low_start s h (steps.Apply object version) role at has = absurd (cc has)
-low_start s h (steps.Delete key version) role at has = absurd (cc has)
-low_start s h (steps.Approve certificate revision) role at has = absurd (cc has)
-low_start s h (steps.Deny certificate revision) role at has = absurd (cc has)
-low_start s h (steps.Answer certificate revision row) role at has = absurd (cc has)
-low_start s h (steps.Renew certificate) role at has = absurd (cc has)
-low_start s h (steps.Tick seconds) role at has = absurd (cc has)
-low_start s h (steps.Stop other) role at has = absurd (cc has)
 low_start s h (steps.Start other behind) role at has = let is : accepted s h - behind ≡ at = cc has in omega (arith, is)
-low_start s h (steps.Hold other kind) role at has = absurd (cc has)
-low_start s h (steps.Release other kind) role at has = absurd (cc has)
-low_start s h (steps.Until other kind writes) role at has = absurd (cc has)
-low_start s h steps.Settle role at has = absurd (cc has)
+low_start s h other role at has = absurd (cc has)
 
 -- a start
 pub start_kept : (s : Setting) (h k : List Entry) (w : Holdings) (made : ℕ) (role : Role) (at : ℕ) (t : Role → Standing) (pasts : Role → Key → Past)

@@ -8,12 +8,12 @@ use Rattle.cmc_objects.specs.declared.role.Role.{Role}
 use Rattle.cmc_objects.specs.declared.entry.Entry.{Entry}
 use Rattle.cmc_model.specs.Histories.{Setting, moment, runs}
 use Rattle.cmc_model.specs.Writes.{writes, last_of_kind}
-use Rattle.cmc_model.specs.Positions.{has_informer, position, positions}
-use Rattle.cmc_model.specs.Viewing.{views}
-use Rattle.cmc_model.specs.Passes.{open_pass, origins, origin_at, past, IsSame}
-use Rattle.cmc_model.specs.Legality.{IsOpen}
-use Rattle.cmc_model.specs.Scripting.{scripted, step_at, held}
-use Rattle.cmc_model.specs.Following.{IsReady}
+use Rattle.cmc_rules.specs.Positions.{has_informer, position, positions}
+use Rattle.cmc_rules.specs.Viewing.{views}
+use Rattle.cmc_rules.specs.Passes.{open_pass, origins, origin_at, past, IsSame}
+use Rattle.cmc_rules.specs.Legality.{IsOpen}
+use Rattle.cmc_rules.specs.Scripting.{scripted, step_at, held}
+use Rattle.cmc_rules.specs.Following.{IsReady}
 use Rattle.cmc_held.specs.Dues.{own_above}
 use Rattle.cmc_world.specs.declared.moves.Lack.{Lack}
 use Rattle.cmc_world.specs.declared.moves.Lack.TheVariants.{ScriptOver, ScriptWaits, Stopped, NoInformer, Held, Current, NotAWrite, NotQueued, InProcess, SameViews, OwnWrite, NoPass}

@@ -7,8 +7,8 @@ use Rattle.cmc_objects.specs.declared.entry.Positions.{Positions}
 use Rattle.cmc_objects.specs.declared.entry.Entry.{Entry}
 use Rattle.cmc_model.specs.Histories.{Setting}
 use Rattle.cmc_model.specs.Writes.{writes}
-use Rattle.cmc_model.specs.Positions.{position, positions}
-use Rattle.cmc_model.specs.Viewing.{views_in, caches, views}
+use Rattle.cmc_rules.specs.Positions.{position, positions}
+use Rattle.cmc_rules.specs.Viewing.{views_in, caches, views}
 use Rattle.cmc_held.specs.Sight.{caches_at}
 use Rattle.cmc_held.specs.Dues.{shown_positions}
 

@@ -14,10 +14,10 @@ use Rattle.cmc_objects.specs.declared.entry.Entry.{Entry}
 use Rattle.cmc_model.specs.declared.write.Write.{Write}
 use Rattle.cmc_model.specs.Histories.{Setting, runs}
 use Rattle.cmc_model.specs.Writes.{writes}
-use Rattle.cmc_model.specs.Passes.{open_pass}
-use Rattle.cmc_model.specs.Scripting.{scripted, step_at}
-use Rattle.cmc_model.specs.Following.{effect_of, IsReady}
-use Rattle.cmc_model.specs.Resting.{RestsOn, IsAtRest}
+use Rattle.cmc_rules.specs.Passes.{open_pass}
+use Rattle.cmc_rules.specs.Scripting.{scripted, step_at}
+use Rattle.cmc_rules.specs.Following.{effect_of, IsReady}
+use Rattle.cmc_rules.specs.Resting.{RestsOn, IsAtRest}
 use Rattle.cmc_world.specs.declared.moves.Stepped.{Stepped}
 use Rattle.cmc_world.specs.Answers.{AnswersScript, entries_of, next_effect}
 use Rattle.cmc_world.specs.Kept.{Holdings, IsKept}

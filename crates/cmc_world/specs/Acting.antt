@@ -5,16 +5,16 @@ use Rattle.cmc_objects.specs.declared.call.Reply.{Reply}
 use Rattle.cmc_objects.specs.declared.entry.Who.TheVariants.{Pass}
 use Rattle.cmc_objects.specs.declared.entry.Entry.{Entry}
 use Rattle.cmc_objects.specs.declared.entry.Entry.TheVariants.{Call as Called}
-use Rattle.cmc_model.specs.declared.pass.Act.{Act}
-use Rattle.cmc_model.specs.declared.pass.Act.TheVariants.{Nothing, Call as Calls}
-use Rattle.cmc_model.specs.declared.progress.Stage.{Stage}
-use Rattle.cmc_model.specs.declared.progress.Stage.TheVariants.{Fresh, Wrote, Refused, Barred}
-use Rattle.cmc_model.specs.declared.progress.OpenPass.{OpenPass}
+use Rattle.cmc_pass.specs.declared.pass.Act.{Act}
+use Rattle.cmc_pass.specs.declared.pass.Act.TheVariants.{Nothing, Call as Calls}
+use Rattle.cmc_rules.specs.declared.progress.Stage.{Stage}
+use Rattle.cmc_rules.specs.declared.progress.Stage.TheVariants.{Fresh, Wrote, Refused, Barred}
+use Rattle.cmc_rules.specs.declared.progress.OpenPass.{OpenPass}
 use Rattle.cmc_model.specs.Replies.{key_of_call}
 use Rattle.cmc_model.specs.Histories.{Setting}
 use Rattle.cmc_model.specs.Writes.{writes, last_under}
-use Rattle.cmc_model.specs.Passes.{open_pass, ending_at}
-use Rattle.cmc_model.specs.Causes.{IsNextCall, EndsBy, MayCall, MayEnd}
+use Rattle.cmc_rules.specs.Passes.{open_pass, ending_at}
+use Rattle.cmc_rules.specs.Causes.{IsNextCall, EndsBy, MayCall, MayEnd}
 use Rattle.cmc_world.specs.Answers.{IsOfPass}
 use Rattle.cmc_world.specs.Kept.{Seen}
 use Rattle.cmc_world.specs.declared.going.Calling.{Calling}

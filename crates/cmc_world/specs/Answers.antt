@@ -10,17 +10,17 @@ use Rattle.cmc_objects.specs.declared.entry.Who.TheVariants.{User, Pass}
 use Rattle.cmc_objects.specs.declared.entry.Cause.{Cause}
 use Rattle.cmc_objects.specs.declared.entry.Entry.{Entry}
 use Rattle.cmc_objects.specs.declared.entry.Entry.TheVariants as entries
-use Rattle.cmc_model.specs.declared.effect.Effect.{Effect}
-use Rattle.cmc_model.specs.declared.effect.Effect.TheVariants as effects
-use Rattle.cmc_model.specs.declared.progress.Origin.{Origin}
+use Rattle.cmc_rules.specs.declared.effect.Effect.{Effect}
+use Rattle.cmc_rules.specs.declared.effect.Effect.TheVariants as effects
+use Rattle.cmc_rules.specs.declared.progress.Origin.{Origin}
 use Rattle.cmc_model.specs.Histories.{Setting, moment, accepted, runs, incarnation}
 use Rattle.cmc_model.specs.Writes.{writes, write_at, last_of_kind, is_known}
-use Rattle.cmc_model.specs.Positions.{has_informer, kind_of_work, position, positions}
-use Rattle.cmc_model.specs.Viewing.{views}
-use Rattle.cmc_model.specs.Passes.{open_pass, begun, origins, origin_at, is_pass_of, past, IsSame}
-use Rattle.cmc_model.specs.Legality.{IsOfKind, IsOpen}
-use Rattle.cmc_model.specs.Scripting.{scripted, step_at, held}
-use Rattle.cmc_model.specs.Following.{effect_of, IsReady}
+use Rattle.cmc_rules.specs.Positions.{has_informer, kind_of_work, position, positions}
+use Rattle.cmc_rules.specs.Viewing.{views}
+use Rattle.cmc_rules.specs.Passes.{open_pass, begun, origins, origin_at, is_pass_of, past, IsSame}
+use Rattle.cmc_rules.specs.Legality.{IsOfKind, IsOpen}
+use Rattle.cmc_rules.specs.Scripting.{scripted, step_at, held}
+use Rattle.cmc_rules.specs.Following.{effect_of, IsReady}
 use Rattle.cmc_held.specs.Dues.{own_above}
 use Rattle.cmc_world.specs.declared.moves.Move.{Move}
 use Rattle.cmc_world.specs.declared.moves.Move.TheVariants.{Script, Deliver, Begin, Next}

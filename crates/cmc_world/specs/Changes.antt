@@ -5,8 +5,8 @@ use Rattle.cmc_objects.specs.declared.role.Role.{Role}
 use Rattle.cmc_objects.specs.declared.entry.Step.{Step}
 use Rattle.cmc_objects.specs.declared.entry.Step.TheVariants as steps
 use Rattle.cmc_model.specs.Histories.{role_eq}
-use Rattle.cmc_model.specs.Positions.{position_of}
-use Rattle.cmc_model.specs.Passes.{with_position}
+use Rattle.cmc_rules.specs.Positions.{position_of}
+use Rattle.cmc_rules.specs.Passes.{with_position}
 use Rattle.cmc_held.specs.declared.standings.Standing.{Standing}
 use Rattle.cmc_held.specs.Standing.{with_flag}
 
@@ -32,16 +32,6 @@ writing kind t = record t { written = with_position kind (position_of kind t.wri
 
 -- what a step makes of how one role stands
 abbrev pub scripted_standing : Step → Role → Standing → Standing
-scripted_standing (steps.Apply object version) r t = t
-scripted_standing (steps.Delete key version) r t = t
-scripted_standing (steps.Approve certificate revision) r t = t
-scripted_standing (steps.Deny certificate revision) r t = t
-scripted_standing (steps.Answer certificate revision row) r t = t
-scripted_standing (steps.Renew certificate) r t = t
-scripted_standing (steps.Tick seconds) r t = t
-scripted_standing (steps.Stop role) r t = t
-scripted_standing (steps.Start role behind) r t = t
 scripted_standing (steps.Hold role kind) r t = if role_eq role r then keeping kind true t else t
 scripted_standing (steps.Release role kind) r t = if role_eq role r then keeping kind false t else t
-scripted_standing (steps.Until role kind writes) r t = t
-scripted_standing steps.Settle r t = t
+scripted_standing other r t = t

@@ -5,17 +5,17 @@ use Rattle.cmc_meta.specs.declared.key.Kind.TheVariants.{Certificate, Certificat
 use Rattle.cmc_objects.specs.declared.role.Role.{Role}
 use Rattle.cmc_objects.specs.declared.entry.Entry.{Entry}
 use Rattle.cmc_model.specs.declared.write.Write.{Write}
-use Rattle.cmc_model.specs.declared.progress.OpenPass.{OpenPass}
-use Rattle.cmc_model.specs.declared.progress.Origin.{Origin}
-use Rattle.cmc_model.specs.declared.progress.Past.{Past}
+use Rattle.cmc_rules.specs.declared.progress.OpenPass.{OpenPass}
+use Rattle.cmc_rules.specs.declared.progress.Origin.{Origin}
+use Rattle.cmc_rules.specs.declared.progress.Past.{Past}
 use Rattle.cmc_model.specs.Replies.{State}
 use Rattle.cmc_model.specs.Histories.{Setting, moment, state, runs, incarnation}
 use Rattle.cmc_model.specs.Writes.{writes}
-use Rattle.cmc_model.specs.Positions.{position}
-use Rattle.cmc_model.specs.Passes.{open_pass, origins, past}
-use Rattle.cmc_model.specs.Scripting.{scripted, held}
-use Rattle.cmc_model.specs.Following.{owed, written}
-use Rattle.cmc_model.specs.Runs.{IsRun}
+use Rattle.cmc_rules.specs.Positions.{position}
+use Rattle.cmc_rules.specs.Passes.{open_pass, origins, past}
+use Rattle.cmc_rules.specs.Scripting.{scripted, held}
+use Rattle.cmc_rules.specs.Following.{owed, written}
+use Rattle.cmc_rules.specs.Runs.{IsRun}
 use Rattle.cmc_scenario.specs.Setups.{Setup}
 use Rattle.cmc_held.specs.declared.standings.Standing.{Standing}
 

@@ -1,8 +1,8 @@
 -- Where lists of moves lead.
 use Rattle.std.specs.Prelude.{◌≡◌, ◌++◌, List, [], ◌∷◌}
 use Rattle.cmc_objects.specs.declared.entry.Entry.{Entry}
-use Rattle.cmc_model.specs.Rights.{KeepsRights}
-use Rattle.cmc_model.specs.Runs.{IsRun}
+use Rattle.cmc_rules.specs.Rights.{KeepsRights}
+use Rattle.cmc_rules.specs.Runs.{IsRun}
 use Rattle.cmc_scenario.specs.Setups.{Setup}
 use Rattle.cmc_world.specs.declared.moves.Move.{Move}
 use Rattle.cmc_world.specs.declared.moves.Stepped.{Stepped}

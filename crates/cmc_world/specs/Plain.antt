@@ -1,6 +1,6 @@
 -- Acts that are one call or nothing.
-use Rattle.cmc_model.specs.declared.pass.Act.{Act}
-use Rattle.cmc_model.specs.declared.pass.Act.TheVariants.{Nothing, Call, Ask, Issue}
+use Rattle.cmc_pass.specs.declared.pass.Act.{Act}
+use Rattle.cmc_pass.specs.declared.pass.Act.TheVariants.{Nothing, Call, Ask, Issue}
 
 -- the act asks no question and issues nothing
 abbrev pub IsPlain : Act → Type 0

@@ -4,9 +4,9 @@ use Rattle.cmc_meta.specs.declared.key.Key.{Key}
 use Rattle.cmc_objects.specs.declared.role.Role.{Role}
 use Rattle.cmc_objects.specs.declared.entry.Entry.{Entry}
 use Rattle.cmc_model.specs.Histories.{Setting, moment, incarnation}
-use Rattle.cmc_model.specs.Positions.{positions}
-use Rattle.cmc_model.specs.Viewing.{views}
-use Rattle.cmc_model.specs.Passes.{begun, new_pass}
+use Rattle.cmc_rules.specs.Positions.{positions}
+use Rattle.cmc_rules.specs.Viewing.{views}
+use Rattle.cmc_rules.specs.Passes.{begun, new_pass}
 use Rattle.cmc_world.specs.declared.beginning.Prepared.{Prepared}
 
 -- the next pass of the role on the key, with what its entry and its role's memory take

@@ -8,9 +8,9 @@ use Rattle.cmc_objects.specs.declared.role.Role.TheVariants.{Trigger, KeyManager
 use Rattle.cmc_objects.specs.declared.entry.Entry.{Entry}
 use Rattle.cmc_model.specs.Histories.{Setting, runs}
 use Rattle.cmc_model.specs.Writes.{writes, last_of_kind, is_known}
-use Rattle.cmc_model.specs.Positions.{has_informer, position}
-use Rattle.cmc_model.specs.Scripting.{held}
-use Rattle.cmc_model.specs.Resting.{RestsOn}
+use Rattle.cmc_rules.specs.Positions.{has_informer, position}
+use Rattle.cmc_rules.specs.Scripting.{held}
+use Rattle.cmc_rules.specs.Resting.{RestsOn}
 
 -- it holds of each role
 abbrev pub EachRole : (Role → Type 0) → Type 0

@@ -4,28 +4,19 @@ use Rattle.cmc_objects.specs.declared.call.Call.{Call}
 use Rattle.cmc_objects.specs.declared.role.Role.{Role}
 use Rattle.cmc_objects.specs.declared.entry.Step.{Step}
 use Rattle.cmc_objects.specs.declared.entry.Step.TheVariants as steps
-use Rattle.cmc_model.specs.declared.effect.Effect.{Effect}
-use Rattle.cmc_model.specs.declared.effect.Effect.TheVariants as effects
+use Rattle.cmc_rules.specs.declared.effect.Effect.{Effect}
+use Rattle.cmc_rules.specs.declared.effect.Effect.TheVariants as effects
 use Rattle.cmc_model.specs.Objects.{Objects}
-use Rattle.cmc_model.specs.Following.{call_of}
+use Rattle.cmc_rules.specs.Following.{call_of}
 use Rattle.cmc_held.specs.declared.standings.Standing.{Standing}
 use Rattle.cmc_world.specs.Changes.{scripted_standing}
 
 -- what a step that makes no call has happen, after so many accepted writes and at this moment
 abbrev pub effect_besides : ℕ → ℤ → Step → Option Effect
-effect_besides accepted moment (steps.Apply object version) = None
-effect_besides accepted moment (steps.Delete key version) = None
-effect_besides accepted moment (steps.Approve certificate revision) = None
-effect_besides accepted moment (steps.Deny certificate revision) = None
-effect_besides accepted moment (steps.Answer certificate revision row) = None
-effect_besides accepted moment (steps.Renew certificate) = None
 effect_besides accepted moment (steps.Tick seconds) = Some (effects.Tick (moment +ℤ pos seconds))
 effect_besides accepted moment (steps.Stop role) = Some (effects.Stop role)
 effect_besides accepted moment (steps.Start role behind) = Some (effects.Start role (accepted - behind))
-effect_besides accepted moment (steps.Hold role kind) = None
-effect_besides accepted moment (steps.Release role kind) = None
-effect_besides accepted moment (steps.Until role kind writes) = None
-effect_besides accepted moment steps.Settle = None
+effect_besides accepted moment other = None
 
 -- the call, if the step makes one, and else the other effect
 abbrev pub call_or : Option Call → Option Effect → Option Effect

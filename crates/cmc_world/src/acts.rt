@@ -1,13 +1,14 @@
 //! What the roles do.
 ghost use Rattle.std.specs.Prelude.{◌≡◌, IfOk};
-ghost use Rattle.cmc_model.specs.declared.pass.Desk.{Desk as DeskValue};
-ghost use Rattle.cmc_model.specs.Acts as acts;
-ghost use Rattle.cmc_model.specs.Triggering.{HasDatedFailure};
+ghost use Rattle.cmc_pass.specs.declared.pass.Desk.{Desk as DeskValue};
+ghost use Rattle.cmc_rules.specs.Acts as acts;
+ghost use Rattle.cmc_rules.specs.Triggering.{HasDatedFailure};
 ghost use Rattle.cmc_world.specs.Acting.{act_by};
 
 use cmc_meta::Texts;
 use cmc_objects::{Call, Material, Role, Rules};
 use cmc_pass::{Act, Desk, Views};
+use cmc_policy_rules::Policies;
 use std::alloc::{AllocError, Global};
 
 /// A desk with nothing on it: no role of today looks at its desk.
@@ -18,6 +19,7 @@ fn empty_desk(alloc: Global) -> Desk {
         rules: Rules {
             issuers: Texts::new(alloc),
             refuse: Texts::new(alloc),
+            policies: Policies::new(alloc),
         },
     }
 }
@@ -38,7 +40,7 @@ fn trigger_call(alloc: Global, seen: &Views, now: i64) -> Result<Option<Call>, A
 
 /// The call that the role makes on these views at the moment `now`, in seconds since
 /// 1970-01-01T00:00:00Z; none where it does nothing.
-#[tactic(auto, unfolding(cmc_model::specs::Acts::act))]
+#[tactic(auto, unfolding(cmc_rules::specs::Acts::act))]
 pub(crate) fn act_of(
     alloc: Global,
     role: Role,

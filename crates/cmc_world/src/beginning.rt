@@ -3,8 +3,8 @@ ghost use Rattle.std.specs.Option.{option_copied};
 ghost use Rattle.std.specs.Prelude.{◌≡◌, ◌↔◌, ◌<◌, ◌∷◌, IsTrue, IfOk, OnOk, OnErr, true, length};
 ghost use Rattle.cmc_held.specs.Dues as dues;
 ghost use Rattle.cmc_held.specs.Remembered.{past_or_new};
-ghost use Rattle.cmc_model.specs.Passes.{IsSame, new_pass};
-ghost use Rattle.cmc_model.specs.Positions as spec;
+ghost use Rattle.cmc_rules.specs.Passes.{IsSame, new_pass};
+ghost use Rattle.cmc_rules.specs.Positions as spec;
 ghost use Rattle.cmc_model.specs.Writes.{is_known};
 ghost use Rattle.cmc_world.specs.Answers.{AnswersBegin, Leaves, beginning};
 ghost use Rattle.cmc_world.specs.Kept.{setting_of};
@@ -16,8 +16,9 @@ use crate::moves::{Stepped, answer_begin};
 use crate::world::{World, has_room};
 use cmc_held::{Log, is_same, kind_of_work, own_above, shown_positions, views_at};
 use cmc_meta::Key;
-use cmc_model::{OpenPass, Origin, Past, Stage, Views};
 use cmc_objects::{Entry, Positions, Role};
+use cmc_pass::Views;
+use cmc_rules::{OpenPass, Origin, Past, Stage};
 use std::alloc::{AllocError, Global};
 
 /// A pass that is ready to begin.

@@ -1,12 +1,12 @@
 //! Passes go on: they make their call, and end.
 ghost use Rattle.std.specs.Prelude.{◌≡◌, ◌↔◌, ◌+◌, ◌<◌, ◌≤◌, ◌∷◌, IsTrue, IfOk, OnOk, OnErr, None, Some, true, length};
-ghost use Rattle.cmc_model.specs.declared.pass.Desk.{Desk};
-ghost use Rattle.cmc_model.specs.Acts.{act};
-ghost use Rattle.cmc_model.specs.Causes.{MayCall, MayEnd};
-ghost use Rattle.cmc_model.specs.Legality.{IsOpen};
-ghost use Rattle.cmc_model.specs.Passes as spec;
+ghost use Rattle.cmc_pass.specs.declared.pass.Desk.{Desk};
+ghost use Rattle.cmc_rules.specs.Acts.{act};
+ghost use Rattle.cmc_rules.specs.Causes.{MayCall, MayEnd};
+ghost use Rattle.cmc_rules.specs.Legality.{IsOpen};
+ghost use Rattle.cmc_rules.specs.Passes as spec;
 ghost use Rattle.cmc_model.specs.Replies as replies;
-ghost use Rattle.cmc_model.specs.Triggering.{HasDatedFailure};
+ghost use Rattle.cmc_rules.specs.Triggering.{HasDatedFailure};
 ghost use Rattle.cmc_world.specs.Acting.{IsServed, IsDoingBy, IsDoing, IsCalling, IsClosing, MadeCall, GoesOn};
 ghost use Rattle.cmc_world.specs.Answers.{AnswersNext, Leaves, outdated, outdated_at};
 ghost use Rattle.cmc_world.specs.Kept.{setting_of};
@@ -18,8 +18,9 @@ use crate::moves::{Stepped, answer_next};
 use crate::noting::{kind_written, log_write, note_write, stage_by};
 use crate::world::{World, has_room};
 use cmc_meta::{Key, Kind};
-use cmc_model::{Ending, OpenPass, Origin, Stage, Views};
 use cmc_objects::{Call, Cause, Entry, Role, Who};
+use cmc_pass::Views;
+use cmc_rules::{Ending, OpenPass, Origin, Stage};
 use cmc_store::Replied;
 use std::alloc::{AllocError, Global};
 

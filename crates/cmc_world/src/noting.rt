@@ -4,9 +4,9 @@ ghost use Rattle.cmc_meta.specs.declared.key.Key.{Key as KeyValue};
 ghost use Rattle.cmc_meta.specs.Keys.{key_eq};
 ghost use Rattle.cmc_objects.specs.declared.role.Role.{Role as RoleValue};
 ghost use Rattle.cmc_model.specs.Histories.{role_eq};
-ghost use Rattle.cmc_model.specs.declared.progress.Obstacle.TheVariants as obstacles;
-ghost use Rattle.cmc_model.specs.declared.progress.Stage.TheVariants as stages;
-ghost use Rattle.cmc_model.specs.Passes as spec;
+ghost use Rattle.cmc_rules.specs.declared.progress.Obstacle.TheVariants as obstacles;
+ghost use Rattle.cmc_rules.specs.declared.progress.Stage.TheVariants as stages;
+ghost use Rattle.cmc_rules.specs.Passes as spec;
 ghost use Rattle.cmc_held.specs.Remembered.{is_ready, past_at};
 ghost use Rattle.cmc_held.specs.Standing.{standing_of};
 ghost use Rattle.cmc_world.specs.Changes.{writing};
@@ -14,8 +14,9 @@ ghost use Rattle.cmc_world.specs.Noting.{CanCount, counted, logged, noted};
 
 use cmc_held::{Log, Pasts, Standing, Standings, with_written, written_of};
 use cmc_meta::{Key, Kind};
-use cmc_model::{Obstacle, Stage, Write};
+use cmc_model::Write;
 use cmc_objects::{Object, Reply, Role};
+use cmc_rules::{Obstacle, Stage};
 
 /// How far a pass has come whose call of an object of the kind was answered so in the entry of this
 /// number. `last` is the version of the last write under the key of the call.

@@ -1,10 +1,10 @@
 //! What a world holds, and what it would answer: all that chooses a move reads.
 ghost use Rattle.std.specs.Option.{option_copied};
 ghost use Rattle.std.specs.Prelude.{◌≡◌, ◌↔◌, ℕ, None, IsTrue, IfOk};
-ghost use Rattle.cmc_model.specs.Following.{owed};
+ghost use Rattle.cmc_rules.specs.Following.{owed};
 ghost use Rattle.cmc_model.specs.Histories as spec;
-ghost use Rattle.cmc_model.specs.Passes.{IsDue, open_pass, past};
-ghost use Rattle.cmc_model.specs.Positions.{positions};
+ghost use Rattle.cmc_rules.specs.Passes.{IsDue, open_pass, past};
+ghost use Rattle.cmc_rules.specs.Positions.{positions};
 ghost use Rattle.cmc_model.specs.Writes.{writes};
 ghost use Rattle.cmc_held.specs.Open.{pass_at};
 ghost use Rattle.cmc_held.specs.Remembered.{past_or_new};
@@ -16,8 +16,9 @@ use crate::resting;
 use crate::world::World;
 use cmc_held::{Log, Passes, shown_positions};
 use cmc_meta::Key;
-use cmc_model::{Past, Views};
 use cmc_objects::{Positions, Role};
+use cmc_pass::Views;
+use cmc_rules::Past;
 use std::alloc::{AllocError, Global};
 
 impl World {

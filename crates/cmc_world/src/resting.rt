@@ -3,17 +3,17 @@ ghost use Rattle.std.specs.Option.{option_copied};
 ghost use Rattle.std.specs.Prelude.{◌≡◌, ◌↔◌, ◌⊎◌, ◌+◌, ◌≤◌, ◌||◌, ℕ, Some, None, IsTrue, IfOk, All, List, length};
 ghost use Rattle.cmc_objects.specs.declared.entry.Entry.{Entry};
 ghost use Rattle.cmc_model.specs.declared.write.Write.{Write as WriteValue};
-ghost use Rattle.cmc_model.specs.declared.pass.Act.TheVariants.{Nothing};
-ghost use Rattle.cmc_model.specs.declared.pass.Desk.{Desk as DeskValue};
-ghost use Rattle.cmc_model.specs.Acts as acts;
-ghost use Rattle.cmc_model.specs.Following as following;
+ghost use Rattle.cmc_pass.specs.declared.pass.Act.TheVariants.{Nothing};
+ghost use Rattle.cmc_pass.specs.declared.pass.Desk.{Desk as DeskValue};
+ghost use Rattle.cmc_rules.specs.Acts as acts;
+ghost use Rattle.cmc_rules.specs.Following as following;
 ghost use Rattle.cmc_model.specs.Histories.{Setting, runs};
-ghost use Rattle.cmc_model.specs.Passes.{IsDue, open_pass};
-ghost use Rattle.cmc_model.specs.Resting as spec;
-ghost use Rattle.cmc_model.specs.Runs.{IsFinished};
-ghost use Rattle.cmc_model.specs.Scripting as scripting;
-ghost use Rattle.cmc_model.specs.Triggering.{HasDatedFailure};
-ghost use Rattle.cmc_model.specs.Viewing.{present_views};
+ghost use Rattle.cmc_rules.specs.Passes.{IsDue, open_pass};
+ghost use Rattle.cmc_rules.specs.Resting as spec;
+ghost use Rattle.cmc_rules.specs.Runs.{IsFinished};
+ghost use Rattle.cmc_rules.specs.Scripting as scripting;
+ghost use Rattle.cmc_rules.specs.Triggering.{HasDatedFailure};
+ghost use Rattle.cmc_rules.specs.Viewing.{present_views};
 ghost use Rattle.cmc_model.specs.Writes.{writes};
 ghost use Rattle.cmc_held.specs.Remembered.{past_or_new};
 ghost use Rattle.cmc_world.specs.Answers.{AnswersScript, entries_of};
@@ -28,8 +28,10 @@ use cmc_held::{
     views_at, written_of,
 };
 use cmc_meta::{Key, Kind};
-use cmc_model::{Past, Views, Write};
+use cmc_model::Write;
 use cmc_objects::{Positions, Role, Step};
+use cmc_pass::Views;
+use cmc_rules::Past;
 use std::alloc::{AllocError, Global};
 
 /// Whether the role has nothing to do where it sees this.
@@ -86,7 +88,7 @@ fn has_held(standing: Standing) -> bool
 }
 
 /// How many entries the step makes: its own, and one for what it has happen.
-#[tactic(auto, unfolding(cmc_model::specs::Following::call_of))]
+#[tactic(auto, unfolding(cmc_rules::specs::Following::call_of))]
 fn entries_needed(step: &Step) -> u64
     ensures { (s : Setting) → (h : List Entry) → result ≡ entries_of (following.effect_of s h step.now) }
 {

@@ -6,11 +6,11 @@ ghost use Rattle.cmc_objects.specs.declared.call.Reply.{Reply as ReplyValue};
 ghost use Rattle.cmc_objects.specs.declared.entry.Who.TheVariants as who;
 ghost use Rattle.cmc_objects.specs.declared.role.Role.{Role as RoleValue};
 ghost use Rattle.cmc_objects.specs.Objects.{key_of};
-ghost use Rattle.cmc_model.specs.declared.effect.Effect.TheVariants as effects;
-ghost use Rattle.cmc_model.specs.Following.{apply_call, call_of};
+ghost use Rattle.cmc_rules.specs.declared.effect.Effect.TheVariants as effects;
+ghost use Rattle.cmc_rules.specs.Following.{apply_call, call_of};
 ghost use Rattle.cmc_model.specs.Histories.{role_eq};
 ghost use Rattle.cmc_model.specs.Objects.{object_at};
-ghost use Rattle.cmc_model.specs.Scripting.{scripted};
+ghost use Rattle.cmc_rules.specs.Scripting.{scripted};
 ghost use Rattle.cmc_held.specs.Standing.{standing_of};
 ghost use Rattle.cmc_scenario.specs.Setups.{IsSetup, IsTickForm, seconds_of};
 ghost use Rattle.cmc_world.specs.Answers as spec;
@@ -25,8 +25,8 @@ use crate::noting::log_write;
 use crate::world::World;
 use cmc_held::{Standing, Standings, with_held};
 use cmc_meta::Kind;
-use cmc_model::Effect;
 use cmc_objects::{Call, Entry, Object, Positions, Role, Step, Who};
+use cmc_rules::Effect;
 use cmc_scenario::Scenario;
 use cmc_store::{Replied, Store};
 use std::alloc::{AllocError, Global};
@@ -51,7 +51,7 @@ fn call_of_apply(store: &Store, object: &Object, version: Option<u64>) -> Result
 
 /// The user call that the step makes on what stands in the store; none where it makes none. An `Err`
 /// is want of memory.
-#[tactic(auto, unfolding(cmc_model::specs::Following::call_of))]
+#[tactic(auto, unfolding(cmc_rules::specs::Following::call_of))]
 fn call_for(store: &Store, step: &Step) -> Result<Option<Call>, AllocError>
     ensures { IfOk result (λ c. c ≡ call_of store.now.state.objects step.now) }
 {

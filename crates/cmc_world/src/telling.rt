@@ -1,9 +1,9 @@
 //! Roles are told of accepted writes.
 ghost use Rattle.std.specs.Prelude.{◌≡◌, ◌↔◌, ◌<◌, ◌≤◌, ◌+◌, ◌∷◌, IsTrue, IfOk, OnOk, OnErr, false, length};
 ghost use Rattle.cmc_model.specs.Histories.{accepted};
-ghost use Rattle.cmc_model.specs.Legality.{IsOfKind, IsDelivery, IsListing};
-ghost use Rattle.cmc_model.specs.Positions.{position};
-ghost use Rattle.cmc_model.specs.Scripting as spec;
+ghost use Rattle.cmc_rules.specs.Legality.{IsOfKind, IsDelivery, IsListing};
+ghost use Rattle.cmc_rules.specs.Positions.{position};
+ghost use Rattle.cmc_rules.specs.Scripting as spec;
 ghost use Rattle.cmc_model.specs.Writes.{write_at};
 ghost use Rattle.cmc_world.specs.Answers.{AnswersDelivery, Leaves, delivered};
 ghost use Rattle.cmc_world.specs.Kept.{setting_of};

@@ -5,8 +5,8 @@ use Rattle.serde_json.specs.Data.{Data}
 use Rattle.serde_json.specs.Read.{read}
 use Rattle.cmc_objects.specs.declared.entry.Entry.{Entry}
 use Rattle.cmc_model.specs.Histories.{objects}
-use Rattle.cmc_model.specs.Rights.{KeepsRights}
-use Rattle.cmc_model.specs.Runs.{IsRun, IsFinished}
+use Rattle.cmc_rules.specs.Rights.{KeepsRights}
+use Rattle.cmc_rules.specs.Runs.{IsRun, IsFinished}
 use Rattle.cmc_model.specs.Summaries.{summary_of}
 use Rattle.cmc_report.specs.Text.{history_lines}
 use Rattle.cmc_scenario.specs.declared.scenario.Scenario.{Scenario}

@@ -12,6 +12,7 @@ use cmc_objects::{
     Parts, Reply, RequestSpec, RequestStatus, Role, Rotation, Rows, Rules, Secret, SignRow,
     SignRows, Signing, Step, Who,
 };
+use cmc_policy_rules::Policies;
 use cmc_scenario::{Roles, Scenario, read};
 use cmc_store::Store;
 use serde_json::Value;
@@ -100,6 +101,7 @@ fn cert_spec(alloc: Global) -> Result<CertSpec, Fail> {
         usages: texts(alloc, "server auth")?,
         duration: Some(7_776_000),
         renew_before: Some(300),
+        renew_percent: Some(25),
         key: KeySpec {
             algorithm: Some(Algorithm::Ecdsa),
             size: Some(384),
@@ -176,7 +178,7 @@ fn prints_whole_objects(rt: HostRuntime) -> Result<(), Fail> {
         &rt,
         alloc,
         Object::Cert(certificate(alloc)?),
-        r#"{"apiVersion":"cert-manager.io/v1","kind":"Certificate","metadata":{"labels":{"app":"shop"},"name":"web","namespace":"default","ownerReferences":[{"controller":true,"kind":"Certificate","name":"web","uid":"uid-7"}]},"spec":{"commonName":"example.com","dnsNames":["example.com"],"duration":"2160h0m0s","emailAddresses":["web@example.com"],"ipAddresses":["192.0.2.1"],"isCA":true,"issuerRef":{"kind":"ClusterIssuer","name":"ca"},"privateKey":{"algorithm":"ECDSA","encoding":"PKCS8","rotationPolicy":"Never","size":384},"renewBefore":"5m0s","revisionHistoryLimit":1,"secretName":"web-tls","uris":["spiffe://example.com/web"],"usages":["server auth"]},"status":{"conditions":[{"lastTransitionTime":"2030-01-01T00:00:00Z","message":"approved by the script","reason":"Script","status":"True","type":"Approved"}],"failedIssuanceAttempts":2,"lastFailureTime":"1970-01-01T00:00:00Z","nextPrivateKeySecretName":"web-bbbbf","notAfter":"2030-04-01T00:00:00Z","notBefore":"2030-01-01T00:00:00Z","renewalTime":"2030-03-02T00:00:00Z","revision":3}}"#,
+        r#"{"apiVersion":"cert-manager.io/v1","kind":"Certificate","metadata":{"labels":{"app":"shop"},"name":"web","namespace":"default","ownerReferences":[{"controller":true,"kind":"Certificate","name":"web","uid":"uid-7"}]},"spec":{"commonName":"example.com","dnsNames":["example.com"],"duration":"2160h0m0s","emailAddresses":["web@example.com"],"ipAddresses":["192.0.2.1"],"isCA":true,"issuerRef":{"kind":"ClusterIssuer","name":"ca"},"privateKey":{"algorithm":"ECDSA","encoding":"PKCS8","rotationPolicy":"Never","size":384},"renewBefore":"5m0s","renewBeforePercentage":25,"revisionHistoryLimit":1,"secretName":"web-tls","uris":["spiffe://example.com/web"],"usages":["server auth"]},"status":{"conditions":[{"lastTransitionTime":"2030-01-01T00:00:00Z","message":"approved by the script","reason":"Script","status":"True","type":"Approved"}],"failedIssuanceAttempts":2,"lastFailureTime":"1970-01-01T00:00:00Z","nextPrivateKeySecretName":"web-bbbbf","notAfter":"2030-04-01T00:00:00Z","notBefore":"2030-01-01T00:00:00Z","renewalTime":"2030-03-02T00:00:00Z","revision":3}}"#,
     )?;
     assert_printed(
         &rt,
@@ -225,6 +227,7 @@ fn copies_are_equal(rt: HostRuntime) -> Result<(), Fail> {
         rules: Rules {
             issuers: texts(alloc, "*")?,
             refuse: Texts::new(alloc),
+            policies: Policies::new(alloc),
         },
     };
     assert_order(&rt, Order::Judge(judge), &csr)?;

@@ -7,7 +7,7 @@ ghost use Rattle.std.specs.Str.{IsUtf8};
 ghost use Rattle.cmc_report.specs.Text.{joined};
 ghost use Rattle.cmrun.specs.Ends.{Rose};
 ghost use Rattle.cmc_plain.specs.Driving.{EndsPlainly};
-ghost use Rattle.cmc_model.specs.Runs.{IsFinished};
+ghost use Rattle.cmc_rules.specs.Runs.{IsFinished};
 ghost use Rattle.cmrun.specs.Headline.{Answers, IsRunOf, RunsOn};
 ghost use Rattle.cmrun.specs.Statuses.{Explains, Refuses, RefusesValue, SpendsOn, is_run_words};
 

@@ -1,6 +1,6 @@
 -- The comparison says whether the keys are equal, as the test does.
 use Rattle.cmc_der.specs.Keys.{key_shown}
-use Rattle.cmc_model.proofs.OneKey.{same_gives}
+use Rattle.cmc_rules.proofs.OneKey.{same_gives}
 use Rattle.cmc_trigger.proofs.reasons.is_same_key.Goals as goal
 
 pub returns : goal.returns

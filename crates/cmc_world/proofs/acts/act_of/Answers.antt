@@ -2,8 +2,8 @@ use Rattle.std.proofs.Common.{◌≡◌, ℤ, sym, subst, rules, w64, IfOk}
 use Rattle.std.proofs.lemmas.Int.{to_z-of_z}
 use Rattle.cmc_objects.specs.declared.role.Role.{Role}
 use Rattle.cmc_objects.specs.declared.role.Role.TheVariants.{Trigger}
-use Rattle.cmc_model.specs.declared.pass.Desk.{Desk}
-use Rattle.cmc_model.specs.Acts.{act}
+use Rattle.cmc_pass.specs.declared.pass.Desk.{Desk}
+use Rattle.cmc_rules.specs.Acts.{act}
 use Rattle.cmc_world.specs.Acting.{act_by}
 use Rattle.cmc_world.proofs.acts.act_of.Goals as goal
 

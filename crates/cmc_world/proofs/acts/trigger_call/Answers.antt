@@ -1,7 +1,7 @@
 use Rattle.std.proofs.Common.{◌∙◌, ℤ, ap, sym, subst, rules, w64, to_z, of_z}
 use Rattle.std.proofs.lemmas.Int.{to_z-of_z}
 use Rattle.cmc_objects.specs.declared.role.Role.TheVariants.{Trigger}
-use Rattle.cmc_model.specs.Acts.{act}
+use Rattle.cmc_rules.specs.Acts.{act}
 use Rattle.cmc_world.specs.Plain.{IsPlain}
 use Rattle.cmc_world.proofs.PlainActs.{plain_act, act_desk}
 use Rattle.cmc_world.proofs.acts.trigger_call.Goals as goal

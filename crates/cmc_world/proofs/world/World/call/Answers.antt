@@ -5,10 +5,10 @@ use Rattle.cmc_meta.specs.Keys.{key_eq}
 use Rattle.cmc_objects.specs.declared.entry.Entry.{Entry}
 use Rattle.cmc_store.specs.Kept.{Kept}
 use Rattle.cmc_model.specs.declared.write.Write.{Write}
-use Rattle.cmc_model.specs.declared.progress.Past.{Past}
+use Rattle.cmc_rules.specs.declared.progress.Past.{Past}
 use Rattle.cmc_model.specs.Histories.{role_eq}
-use Rattle.cmc_model.specs.Passes.{open_pass}
-use Rattle.cmc_model.specs.Causes.{MayCall}
+use Rattle.cmc_rules.specs.Passes.{open_pass}
+use Rattle.cmc_rules.specs.Causes.{MayCall}
 use Rattle.cmc_held.specs.Open.{pass_at}
 use Rattle.cmc_held.specs.Remembered.{past_at}
 use Rattle.cmc_held.specs.Standing.{standing_of}

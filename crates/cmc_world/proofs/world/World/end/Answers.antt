@@ -1,6 +1,6 @@
 use Rattle.std.proofs.Common.{◌<◌, sym, subst, length}
-use Rattle.cmc_model.specs.Passes.{open_pass}
-use Rattle.cmc_model.specs.Causes.{MayEnd}
+use Rattle.cmc_rules.specs.Passes.{open_pass}
+use Rattle.cmc_rules.specs.Causes.{MayEnd}
 use Rattle.cmc_held.specs.Open.{pass_at}
 use Rattle.cmc_held.specs.Remembered.{past_at}
 use Rattle.cmc_world.specs.Acting.{IsClosing}

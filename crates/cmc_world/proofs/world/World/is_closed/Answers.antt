@@ -1,6 +1,6 @@
 use Rattle.std.proofs.Common.{◌≡◌, ℕ, None, subst}
 use Rattle.std.specs.Prelude.{◌↔◌, IsTrue}
-use Rattle.cmc_model.specs.Passes.{open_pass}
+use Rattle.cmc_rules.specs.Passes.{open_pass}
 use Rattle.cmc_world.specs.Kept.{setting_of, Seen}
 use Rattle.cmc_world.proofs.Waiting.{closed_kept}
 use Rattle.cmc_world.proofs.world.World.is_closed.Goals as goal

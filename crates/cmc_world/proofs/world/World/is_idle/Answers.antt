@@ -1,7 +1,7 @@
 use Rattle.std.proofs.Common.{subst, rules, w64, ◌∙◌}
 use Rattle.std.proofs.lemmas.Int.{to_z-of_z}
 use Rattle.std.specs.Prelude.{◌↔◌, IsTrue, IfOk}
-use Rattle.cmc_model.specs.Resting.{IsIdle}
+use Rattle.cmc_rules.specs.Resting.{IsIdle}
 use Rattle.cmc_world.specs.Kept.{setting_of, Seen}
 use Rattle.cmc_world.proofs.Idling.{idle_by}
 use Rattle.cmc_world.proofs.world.World.is_idle.Goals as goal

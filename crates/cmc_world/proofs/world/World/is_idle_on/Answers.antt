@@ -2,8 +2,8 @@ use Rattle.std.proofs.Common.{subst, ap, rules, w64, ◌∙◌}
 use Rattle.std.proofs.lemmas.Int.{to_z-of_z}
 use Rattle.std.specs.Prelude.{◌↔◌, IsTrue, IfOk}
 use Rattle.cmc_model.specs.Objects.{Objects}
-use Rattle.cmc_model.specs.Resting.{IsIdle}
-use Rattle.cmc_model.specs.Viewing.{views_in, present_views}
+use Rattle.cmc_rules.specs.Resting.{IsIdle}
+use Rattle.cmc_rules.specs.Viewing.{views_in, present_views}
 use Rattle.cmc_world.specs.Kept.{setting_of, Seen}
 use Rattle.cmc_world.proofs.Idling.{present_is_dated, served_by}
 use Rattle.cmc_world.proofs.world.World.is_idle_on.Goals as goal

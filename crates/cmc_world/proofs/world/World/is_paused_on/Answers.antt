@@ -5,7 +5,7 @@ use Rattle.std.specs.Option.{option_copied}
 use Rattle.cmc_held.specs.declared.standings.Standing.{Standing}
 use Rattle.cmc_held.specs.Dues.{shown_positions}
 use Rattle.cmc_held.specs.Remembered.{past_or_new}
-use Rattle.cmc_model.specs.Resting.{IsPaused}
+use Rattle.cmc_rules.specs.Resting.{IsPaused}
 use Rattle.cmc_world.specs.Kept.{setting_of, Seen}
 use Rattle.cmc_world.proofs.Idling.{told_is_dated, paused_by}
 use Rattle.cmc_world.proofs.world.World.is_paused_on.Goals as goal

@@ -1,5 +1,5 @@
 use Rattle.std.proofs.Common.{subst}
-use Rattle.cmc_model.specs.Rights.{KeepsRights}
+use Rattle.cmc_rules.specs.Rights.{KeepsRights}
 use Rattle.cmc_world.specs.Kept.{Seen, setting_of}
 use Rattle.cmc_world.proofs.Rights.{keeps_rights}
 use Rattle.cmc_world.proofs.world.World.is_run.Goals as goal

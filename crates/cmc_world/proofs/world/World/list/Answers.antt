@@ -1,8 +1,8 @@
 use Rattle.std.proofs.Common.{◌≡◌, ◌∙◌, ◌<◌, ap, sym, subst, length, false}
 use Rattle.std.specs.Prelude.{if◌then◌else◌}
 use Rattle.cmc_model.specs.Histories.{role_eq}
-use Rattle.cmc_model.specs.Legality.{IsListing}
-use Rattle.cmc_model.specs.Scripting.{held}
+use Rattle.cmc_rules.specs.Legality.{IsListing}
+use Rattle.cmc_rules.specs.Scripting.{held}
 use Rattle.cmc_held.specs.declared.standings.Standing.{Standing}
 use Rattle.cmc_held.specs.Standing.{standing_of}
 use Rattle.cmc_world.specs.Kept.{Seen, setting_of}

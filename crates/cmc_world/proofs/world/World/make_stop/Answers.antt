@@ -1,7 +1,7 @@
 use Rattle.std.proofs.Common.{◌≡◌, ◌+◌, List, ◌∷◌, Some, ap, refl, subst, sym, ◌∙◌}
 use Rattle.cmc_objects.specs.declared.entry.Entry.{Entry}
 use Rattle.cmc_objects.specs.declared.entry.Entry.TheVariants as entries
-use Rattle.cmc_model.specs.declared.effect.Effect.TheVariants as effects
+use Rattle.cmc_rules.specs.declared.effect.Effect.TheVariants as effects
 use Rattle.cmc_held.specs.Open.{pass_at}
 use Rattle.cmc_held.specs.Standing.{standing_of}
 use Rattle.cmc_world.specs.declared.moves.Stepped.TheVariants as answers

@@ -2,10 +2,10 @@ use Rattle.std.proofs.Common.{◌∙◌, ◌∷◌, ◌&&◌, ap, sym, subst, Li
 use Rattle.std.proofs.lemmas.Int.{to_z-of_z}
 use Rattle.std.specs.Prelude.{if◌then◌else◌}
 use Rattle.cmc_meta.specs.Keys.{key_eq}
-use Rattle.cmc_model.specs.declared.progress.Origin.{Origin}
-use Rattle.cmc_model.specs.declared.progress.Past.{Past}
+use Rattle.cmc_rules.specs.declared.progress.Origin.{Origin}
+use Rattle.cmc_rules.specs.declared.progress.Past.{Past}
 use Rattle.cmc_model.specs.Histories.{role_eq}
-use Rattle.cmc_model.specs.Passes.{with_begin}
+use Rattle.cmc_rules.specs.Passes.{with_begin}
 use Rattle.cmc_held.specs.Open.{pass_at}
 use Rattle.cmc_held.specs.Remembered.{past_at}
 use Rattle.cmc_world.specs.declared.moves.Stepped.TheVariants.{Done}

@@ -1,7 +1,7 @@
 use Rattle.std.proofs.Common.{subst, ◌≤◌, ◌+◌}
 use Rattle.std.specs.Prelude.{◌↔◌, IsTrue}
 use Rattle.cmc_model.specs.Histories.{accepted}
-use Rattle.cmc_model.specs.Positions.{position}
+use Rattle.cmc_rules.specs.Positions.{position}
 use Rattle.cmc_world.specs.Kept.{Seen, setting_of}
 use Rattle.cmc_world.proofs.Judging.{reached}
 use Rattle.cmc_world.proofs.world.World.reaches_back.Goals as goal

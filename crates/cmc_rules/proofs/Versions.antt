@@ -1,0 +1,56 @@
+-- In legal histories versions count up, a uid is the version of a create, and no uid stands under two keys.
+use Rattle.std.proofs.Common.{◌≡◌, ◌==◌, ◌⊎◌, ℕ, ℤ, ◌+◌, ◌≤◌, List, [], ◌∷◌, length, Option, Some, None, Bool, true, false, cond, refl, sym, ap, subst, ◌∙◌, inl, inr, arith, Ordering, Less, Equal, Greater}
+use Rattle.std.specs.Prelude.{if◌then◌else◌, MatchBool}
+use Rattle.std.specs.List.{list_any}
+use Rattle.std.specs.Ordering.{is_eq, eq_by_cmp}
+use Rattle.std.specs.FinMap.{get-empty, get-insert, get-remove}
+use Rattle.cmc_meta.specs.declared.key.Key.{Key}
+use Rattle.cmc_meta.specs.Keys.{key_cmp}
+use Rattle.cmc_objects.specs.declared.object.Object.{Object}
+use Rattle.cmc_objects.specs.declared.call.Call.{Call}
+use Rattle.cmc_objects.specs.declared.call.Call.TheVariants.{Create, Update, UpdateStatus, Delete, Get}
+use Rattle.cmc_objects.specs.declared.call.Reply.{Reply}
+use Rattle.cmc_objects.specs.declared.call.Reply.TheVariants.{Unavailable}
+use Rattle.cmc_objects.specs.declared.entry.Entry.{Entry}
+use Rattle.cmc_objects.specs.declared.entry.Entry.TheVariants.{Script, Call as Called, Deliver, List as Listed, Begin, Ask, Made, Signed, Answered, Judged, End, Stop, Start, Tick}
+use Rattle.cmc_objects.specs.Objects.{key_of, version_of}
+use Rattle.cmc_model.specs.declared.write.Write.{Write}
+use Rattle.cmc_model.specs.Objects.{Objects, no_objects, object_at}
+use Rattle.cmc_model.specs.Stored.{revised, restated}
+use Rattle.cmc_model.specs.Replies.{State, IsReply, IsServed, IsGot, is_accepted, key_of_call, from_old, stored, put_at}
+use Rattle.cmc_model.specs.Histories.{Setting, moment, state, objects, accepted}
+use Rattle.cmc_model.specs.Writes.{writes, write_of, contents}
+use Rattle.cmc_rules.specs.Legality.{IsLegal}
+use Rattle.cmc_model.specs.Versions.{uid_of, IsVersion, HasVersion}
+use Rattle.cmc_model.proofs.Keys.{key_cmp-total, key_cmp-IsAntisymmetric}
+use Rattle.cmc_model.proofs.Stored.{version_of-created, uid_of-created, key_of-created, version_of-revised, uid_of-revised, key_of-revised, version_of-restated, uid_of-restated, key_of-restated}
+use Rattle.cmc_model.proofs.Writes.{writes_count, writes_leave}
+use Rattle.cmc_model.proofs.Versions.{IsLawful, lawful_called, standing, versions_low, keyed, uids_low, one_key}
+
+pub lawful : (s : Setting) (h : List Entry) → IsLegal s h → IsLawful (writes s h)
+unfolding IsLegal
+lawful s [] legal = tt
+lawful s (Called who call reply ∷ h) legal = lawful_called s.faults (moment s h) (state s h) call reply (writes s h) (is_accepted reply) refl (writes_count s h) (writes_leave s h) legal.0.0 (lawful s h legal.1)
+lawful s (other ∷ h) legal = lawful s h legal.1
+
+-- ---- the same of histories
+
+-- what stands is the version of an accepted write
+pub stands_is_version : (s : Setting) (h : List Entry) (key : Key) (o : Object) → object_at (objects s h) key ≡ Some o → HasVersion s h key o
+stands_is_version s h key o is = standing (writes s h) key o (ap (λ (m : Objects). object_at m key) (writes_leave s h) ∙ is)
+
+-- versions count the accepted writes
+pub version_accepted : (s : Setting) (h : List Entry) (key : Key) (o : Object) → IsLegal s h → HasVersion s h key o → version_of o ≤ accepted s h
+version_accepted s h key o legal has = omega (arith, versions_low (writes s h) key o (lawful s h legal) has, writes_count s h)
+
+-- a version stands under its own key
+pub version_keyed : (s : Setting) (h : List Entry) (key : Key) (o : Object) → IsLegal s h → HasVersion s h key o → key_of o ≡ key
+version_keyed s h key o legal has = keyed (writes s h) key o (lawful s h legal) has
+
+-- a uid is the number of an accepted write
+pub uid_accepted : (s : Setting) (h : List Entry) (key : Key) (o : Object) → IsLegal s h → HasVersion s h key o → uid_of o ≤ accepted s h
+uid_accepted s h key o legal has = omega (arith, uids_low (writes s h) key o (lawful s h legal) has, writes_count s h)
+
+-- no uid stands under two keys
+pub uid_has_one_key : (s : Setting) (h : List Entry) (j k : Key) (o p : Object) → IsLegal s h → HasVersion s h j o → HasVersion s h k p → uid_of o ≡ uid_of p → j ≡ k
+uid_has_one_key s h j k o p legal a b same = one_key (writes s h) j k o p (lawful s h legal) a b same

@@ -1,0 +1,14 @@
+pub mod Positions
+pub mod Viewing
+pub mod Desks
+pub mod Passes
+pub mod Legality
+pub mod Causes
+pub mod Scripting
+pub mod Resting
+pub mod Following
+pub mod Runs
+pub mod Facts
+pub mod Triggering
+pub mod Acts
+pub mod Rights

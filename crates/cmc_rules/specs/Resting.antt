@@ -1,0 +1,34 @@
+-- When nothing is left to do.
+use Rattle.std.specs.Prelude.{◌≡◌, ◌⊎◌, ℕ, ◌≤◌, true, false, MatchBool, List, None}
+use Rattle.cmc_meta.specs.declared.key.Key.{Key}
+use Rattle.cmc_meta.specs.declared.key.Kind.{Kind}
+use Rattle.cmc_objects.specs.declared.role.Role.{Role}
+use Rattle.cmc_objects.specs.declared.entry.Entry.{Entry}
+use Rattle.cmc_pass.specs.declared.pass.Act.TheVariants.{Nothing}
+use Rattle.cmc_pass.specs.declared.pass.Views.{Views}
+use Rattle.cmc_rules.specs.Acts.{act}
+use Rattle.cmc_rules.specs.Desks.{desk}
+use Rattle.cmc_model.specs.Histories.{Setting, moment, runs}
+use Rattle.cmc_model.specs.Writes.{writes, last_of_kind, is_known}
+use Rattle.cmc_rules.specs.Positions.{has_informer, position, positions}
+use Rattle.cmc_rules.specs.Viewing.{views, present_views}
+use Rattle.cmc_rules.specs.Passes.{open_pass, past, IsDue}
+use Rattle.cmc_rules.specs.Scripting.{held, has_held}
+
+-- the role has nothing to do where it sees this
+abbrev pub IsIdle : Setting → List Entry → Role → Views → Type 0
+IsIdle s h role seen = act role seen (moment s h) (desk s h role seen) ≡ Nothing
+
+-- a role of which an informer is held has nothing to do by what it sees, or may not begin
+abbrev pub IsPaused : Setting → List Entry → Role → Key → Type 0
+IsPaused s h role key = IsIdle s h role (views s h role key) ⊎ (IsDue (past s h role key) (views s h role key) (moment s h) (positions h role) → ⊥)
+
+-- any other role has nothing to do by what there is to see
+abbrev pub RestsOn : Setting → List Entry → Role → Key → Type 0
+RestsOn s h role key = MatchBool (has_held s h role) (IsPaused s h role key) (IsIdle s h role (present_views s h role key))
+
+-- No pass is open, the running roles have been told of all that is not held from them, and none of them has anything to do on any key.
+pub record IsAtRest (s : Setting) (h : List Entry) : Type 0 where
+  pub closed : (pass : ℕ) → open_pass s h pass ≡ None
+  pub told : (role : Role) (kind : Kind) → runs s h role ≡ true → has_informer role kind ≡ true → held s h role kind ≡ false → last_of_kind kind (writes s h) ≤ position h role kind
+  pub idle : (role : Role) (key : Key) → runs s h role ≡ true → is_known key (writes s h) ≡ true → RestsOn s h role key

@@ -1,0 +1,22 @@
+-- The histories that a run of a scenario can have.
+use Rattle.std.specs.Prelude.{◌≡◌, ◌≤◌, List, length, None}
+use Rattle.cmc_objects.specs.declared.entry.Entry.{Entry}
+use Rattle.cmc_model.specs.Histories.{Setting}
+use Rattle.cmc_rules.specs.Legality.{IsLegal}
+use Rattle.cmc_rules.specs.Causes.{IsCaused}
+use Rattle.cmc_rules.specs.Scripting.{scripted}
+use Rattle.cmc_rules.specs.Resting.{IsAtRest}
+use Rattle.cmc_rules.specs.Following.{owed, Follows}
+
+-- each reply is the store's and each entry stands where it may; passes do what their acts say; the script is followed; and it fits
+pub record IsRun (s : Setting) (h : List Entry) : Type 0 where
+  pub legal : IsLegal s h
+  pub caused : IsCaused s h
+  pub follows : Follows s h
+  pub short : length h ≤ s.events
+
+-- all steps are made, with all that they have happen, and nothing is left to do
+pub record IsFinished (s : Setting) (h : List Entry) : Type 0 where
+  pub all_steps : scripted h ≡ length s.script
+  pub all_effects : owed s h ≡ None
+  pub rest : IsAtRest s h

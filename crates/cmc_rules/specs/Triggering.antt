@@ -1,0 +1,92 @@
+-- When a controller asks for the issuance of a Certificate: the condition Issuing.
+use Rattle.std.specs.Prelude.{ℕ, ℤ, Bool, false, ◌++◌, codes, Option, Some, None, if◌then◌else◌, int_lt}
+use Rattle.cmc_meta.specs.declared.conditions.Condition.{Condition}
+use Rattle.cmc_meta.specs.declared.conditions.ConditionKind.TheVariants.{Issuing}
+use Rattle.cmc_meta.specs.declared.conditions.Tri.TheVariants.{True}
+use Rattle.cmc_meta.specs.ConditionLists.{transitioned}
+use Rattle.cmc_objects.specs.declared.certificate.Certificate.{Certificate}
+use Rattle.cmc_objects.specs.declared.certificate.CertStatus.{CertStatus}
+use Rattle.cmc_objects.specs.declared.secret.Secret.{Secret}
+use Rattle.cmc_objects.specs.declared.object.Object.TheVariants.{Cert}
+use Rattle.cmc_objects.specs.declared.call.Call.TheVariants.{UpdateStatus}
+use Rattle.cmc_objects.specs.Requests.{is_stated}
+use Rattle.cmc_policies.specs.declared.facts.Frame.{Frame}
+use Rattle.cmc_policies.specs.declared.facts.Reason.{Reason}
+use Rattle.cmc_policies.specs.declared.renewal.Renew.{Renew}
+use Rattle.cmc_policies.specs.declared.renewal.Renew.TheVariants.{Default, Before, Percent}
+use Rattle.cmc_policies.specs.Reasons.{reason_name}
+use Rattle.cmc_policies.specs.Renewal.{IsCertificateTime, backoff}
+use Rattle.cmc_pass.specs.declared.pass.Views.{Views}
+use Rattle.cmc_pass.specs.declared.pass.Act.{Act}
+use Rattle.cmc_pass.specs.declared.pass.Act.TheVariants.{Nothing, Call as Calls}
+use Rattle.cmc_rules.specs.Facts.{trigger_reason}
+
+-- the Certificate is being issued
+abbrev pub is_issuing : Certificate → Bool
+is_issuing certificate = is_stated Issuing certificate.status.conditions
+
+-- the moment lies in the back-off after the last failed issuance
+abbrev pub is_waiting_since : Option ℤ → CertStatus → ℤ → Bool
+is_waiting_since None status moment = false
+is_waiting_since (Some last) status moment = int_lt moment (backoff last status.attempts)
+
+abbrev pub is_backing_off : CertStatus → ℤ → Bool
+is_backing_off status moment = is_waiting_since status.last_failure status moment
+
+-- what says that the Certificate is to be issued, and why
+unfoldable pub issuing_condition : ℤ → Reason → Condition
+issuing_condition moment reason = record {
+  kind = Issuing;
+  status = True;
+  reason = reason_name reason;
+  message = codes "Certificate must be issued: " ++ reason_name reason;
+  since = moment;
+}
+
+-- the status, and the Certificate, with that condition
+unfoldable pub issuing_status : ℤ → Reason → CertStatus → CertStatus
+issuing_status moment reason status = record status { conditions = transitioned status.conditions (issuing_condition moment reason) }
+
+unfoldable pub with_issuing : ℤ → Reason → Certificate → Certificate
+with_issuing moment reason certificate = record certificate { status = issuing_status moment reason certificate.status }
+
+-- the write of the status, at the version that was seen
+unfoldable pub issue_call : ℤ → Reason → Certificate → Act
+issue_call moment reason certificate = Calls (UpdateStatus (Cert (with_issuing moment reason certificate)) certificate.meta.version)
+
+-- In the back-off nothing is done. A CertificateRequest that the specification has outrun would end it, but none stands yet.
+abbrev pub for_reason : ℤ → Certificate → Option Reason → Act
+for_reason moment certificate None = Nothing
+for_reason moment certificate (Some reason) = if is_backing_off certificate.status moment then Nothing else issue_call moment reason certificate
+
+-- when the specification has its certificate renewed: by a percentage, by a duration, or as it says nothing
+abbrev pub renew_by : Option ℕ → Option ℕ → Renew
+renew_by (Some part) before = Percent part
+renew_by None (Some seconds) = Before seconds
+renew_by None None = Default
+
+abbrev pub frame_of : ℤ → Certificate → Frame
+frame_of moment certificate = record { now = moment; renew = renew_by certificate.spec.renew_percent certificate.spec.renew_before }
+
+-- the issuance is asked for once, where there is a reason and no back-off
+unfoldable pub for_certificate : ℤ → Option Secret → Certificate → Act
+for_certificate moment secret certificate = if is_issuing certificate then Nothing else for_reason moment certificate (trigger_reason (frame_of moment certificate) secret)
+
+abbrev pub for_option : ℤ → Option Secret → Option Certificate → Act
+for_option moment secret None = Nothing
+for_option moment secret (Some certificate) = for_certificate moment secret certificate
+
+unfoldable pub trigger : Views → ℤ → Act
+trigger views moment = for_option moment views.secret views.certificate
+
+-- the moment of the last failure, where there is one, lies in the years 1950 to 9999
+abbrev pub IsDatedOption : Option ℤ → Type 0
+IsDatedOption None = Unit {0}
+IsDatedOption (Some at) = IsCertificateTime at
+
+abbrev pub IsDatedCertificate : Option Certificate → Type 0
+IsDatedCertificate None = Unit {0}
+IsDatedCertificate (Some certificate) = IsDatedOption certificate.status.last_failure
+
+abbrev pub HasDatedFailure : Views → Type 0
+HasDatedFailure views = IsDatedCertificate views.certificate

@@ -1,0 +1,9 @@
+//! What roles see, do and may do, and which histories are runs: the definitions, with the plain types that they
+//! compute.
+#![tactic(auto)]
+
+mod effect;
+mod progress;
+
+pub use effect::Effect;
+pub use progress::{Ending, LastPass, Obstacle, OpenPass, Origin, Past, Stage};
