@@ -1,4 +1,5 @@
 pub mod Pieces
 pub mod Places
-pub mod Each
-pub mod Refusals
+pub mod Decided
+pub mod Finds
+pub mod Decisions

@@ -1,6 +1,6 @@
 -- Which texts a pattern matches.
-use Rattle.std.specs.Prelude.{◌≡◌, ℕ, ◌==◌, Bool, true, false, List, [], ◌∷◌, ◌++◌}
-use Rattle.std.specs.List.{All}
+use Rattle.std.specs.Prelude.{◌≡◌, ℕ, ◌==◌, ◌&&◌, Bool, true, false, List, [], ◌∷◌, ◌++◌}
+use Rattle.std.specs.List.{All, list_any}
 
 -- the byte `*`
 abbrev pub star : ℕ
@@ -19,6 +19,25 @@ StandsFor false byte text rest = text ≡ byte ∷ rest
 abbrev pub Matches : List ℕ → List ℕ → Type 0
 Matches [] text = text ≡ []
 Matches (byte ∷ pattern) text = (rest : List ℕ) × StandsFor (byte == star) byte text rest × Matches pattern rest
+
+-- the same as a test: what the rest of a pattern matches is handed on, and of a text that a star begins any end may be
+-- the rest
+abbrev pub ends_of : List ℕ → List (List ℕ)
+ends_of [] = [] ∷ []
+ends_of (byte ∷ text) = (byte ∷ text) ∷ ends_of text
+
+abbrev pub is_begun : (is_star : Bool) → ℕ → (List ℕ → Bool) → List ℕ → Bool
+is_begun true byte behind text = list_any behind (ends_of text)
+is_begun false byte behind [] = false
+is_begun false byte behind (first ∷ text) = (first == byte) && behind text
+
+abbrev pub is_empty : {A : Type 0} → List A → Bool
+is_empty [] = true
+is_empty (x ∷ xs) = false
+
+unfoldable pub is_match : List ℕ → List ℕ → Bool
+is_match [] text = is_empty text
+is_match (byte ∷ pattern) text = is_begun (byte == star) byte (is_match pattern) text
 
 -- bytes without a star
 abbrev pub IsPlain : List ℕ → Type 0

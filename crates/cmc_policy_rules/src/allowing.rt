@@ -1,9 +1,9 @@
 //! What one policy allows.
-ghost use Rattle.std.specs.Prelude.{◌≡◌, ◌↔◌, IsTrue, MatchResult};
-ghost use Rattle.cmc_policy_rules.specs.Allowing.{Allows, AllowsAll, IsFirstRefused, IsAtLeast, IsAtMost, IsOfAlgorithm, HasMinSize, HasMaxSize};
+ghost use Rattle.std.specs.Prelude.{◌≡◌, Some, None, MatchResult};
+ghost use Rattle.cmc_policy_rules.specs.Allowing as spec;
 
 use crate::decision::Field;
-use crate::names::{allows_addresses, allows_name, allows_names, contains_each};
+use crate::names::{allows_addresses, allows_name, allows_names, has_each};
 use crate::policy::Policy;
 use crate::wanted::Wanted;
 
@@ -28,7 +28,8 @@ const FIELDS: [Field; 12] = [
 /// are included, and the algorithm (approver-policy, `allowed` and `constraints`). The error is the first field, in
 /// the order of `Field`, that it does not allow. Nothing is said of the issuer.
 pub fn allows(policy: &Policy, wanted: &Wanted) -> Result<(), Field>
-    ensures { MatchResult result (λ done. AllowsAll policy.now wanted.now) (λ field. IsFirstRefused policy.now wanted.now field) }
+    ensures { MatchResult result (λ done. spec.refused_field policy.now wanted.now ≡ None)
+        (λ field. spec.refused_field policy.now wanted.now ≡ Some field) }
 {
     for field in FIELDS {
         if !allows_field(policy, wanted, field) {
@@ -39,7 +40,7 @@ pub fn allows(policy: &Policy, wanted: &Wanted) -> Result<(), Field>
 }
 
 fn allows_field(policy: &Policy, wanted: &Wanted, field: Field) -> bool
-    ensures { IsTrue result ↔ Allows field policy.now wanted.now }
+    ensures { result ≡ spec.allows field policy.now wanted.now }
 {
     match field {
         Field::CommonName => allows_name(&policy.common, &wanted.common),
@@ -47,18 +48,18 @@ fn allows_field(policy: &Policy, wanted: &Wanted, field: Field) -> bool
         Field::IpAddresses => allows_addresses(&policy.ips, &wanted.ips),
         Field::Uris => allows_names(&policy.uris, &wanted.uris),
         Field::EmailAddresses => allows_names(&policy.emails, &wanted.emails),
-        Field::Usages => contains_each(policy.usages.as_slice(), wanted.usages.as_slice()),
+        Field::Usages => has_each(&policy.usages, &wanted.usages),
         Field::IsCA => !wanted.ca || policy.ca,
         Field::MinDuration => is_at_least(policy.min, wanted.duration),
         Field::MaxDuration => is_at_most(policy.max, wanted.duration),
-        Field::Algorithm => is_of_algorithm(policy.algorithm, wanted.rsa),
+        Field::Algorithm => has_algorithm(policy.algorithm, wanted.rsa),
         Field::MinSize => has_min_size(policy.min_size, wanted.rsa, wanted.size),
         Field::MaxSize => has_max_size(policy.max_size, wanted.rsa, wanted.size),
     }
 }
 
 fn is_at_least(bound: Option<u64>, seconds: u64) -> bool
-    ensures { IsTrue result ↔ IsAtLeast bound seconds }
+    ensures { result ≡ spec.is_at_least bound seconds }
 {
     match bound {
         Some(least) => least <= seconds,
@@ -67,7 +68,7 @@ fn is_at_least(bound: Option<u64>, seconds: u64) -> bool
 }
 
 fn is_at_most(bound: Option<u64>, seconds: u64) -> bool
-    ensures { IsTrue result ↔ IsAtMost bound seconds }
+    ensures { result ≡ spec.is_at_most bound seconds }
 {
     match bound {
         Some(most) => seconds <= most,
@@ -75,17 +76,17 @@ fn is_at_most(bound: Option<u64>, seconds: u64) -> bool
     }
 }
 
-fn is_of_algorithm(algorithm: Option<bool>, rsa: Option<bool>) -> bool
-    ensures { IsTrue result ↔ IsOfAlgorithm algorithm rsa }
+fn has_algorithm(algorithm: Option<bool>, rsa: Option<bool>) -> bool
+    ensures { result ≡ spec.has_algorithm algorithm rsa }
 {
     match algorithm {
-        Some(_) => rsa == algorithm,
+        Some(stated) => rsa == Some(stated),
         None => true,
     }
 }
 
 fn has_min_size(bound: Option<u32>, rsa: Option<bool>, size: u32) -> bool
-    ensures { IsTrue result ↔ HasMinSize bound rsa size }
+    ensures { result ≡ spec.has_min_size bound rsa size }
 {
     match bound {
         Some(least) => rsa.is_some() && least <= size,
@@ -94,7 +95,7 @@ fn has_min_size(bound: Option<u32>, rsa: Option<bool>, size: u32) -> bool
 }
 
 fn has_max_size(bound: Option<u32>, rsa: Option<bool>, size: u32) -> bool
-    ensures { IsTrue result ↔ HasMaxSize bound rsa size }
+    ensures { result ≡ spec.has_max_size bound rsa size }
 {
     match bound {
         Some(most) => rsa.is_some() && size <= most,

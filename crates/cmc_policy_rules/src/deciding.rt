@@ -1,9 +1,9 @@
 //! What a list of policies decides.
-ghost use Rattle.std.specs.Prelude.{◌≡◌, ◌↔◌, IsTrue};
-ghost use Rattle.cmc_policy_rules.specs.Deciding.{IsBound, IsDecided};
+ghost use Rattle.std.specs.Prelude.{◌≡◌, position};
+ghost use Rattle.cmc_policy_rules.specs.Deciding as spec;
 
 use crate::allowing::allows;
-use crate::decision::{Decision, Field};
+use crate::decision::Decision;
 use crate::names::matches_any;
 use crate::policies::Policies;
 use crate::policy::Policy;
@@ -14,30 +14,46 @@ use crate::wanted::Wanted;
 /// does not allow; `Unbound` where none is for its issuer (approver-policy: one policy that allows a request is
 /// enough).
 pub fn decide(policies: &Policies, wanted: &Wanted) -> Decision
-    ensures { IsDecided policies.now wanted.now result }
+    ensures { result ≡ spec.decision policies.now wanted.now }
 {
-    let mut refused: Option<(u64, Field)> = None;
-    for (place, policy) in policies.as_slice().iter().enumerate() {
-        if !is_bound(policy, wanted) {
-            continue;
-        }
-        match allows(policy, wanted) {
-            Ok(()) => {
-                return Decision::Yes {
-                    place: place as u64,
-                };
-            }
-            Err(field) => refused = refused.or(Some((place as u64, field))),
-        }
+    let policies = policies.as_slice();
+    if let Some(place) = first_passing(policies, wanted) {
+        return Decision::Yes {
+            place: place as u64,
+        };
     }
-    match refused {
-        Some((place, field)) => Decision::No { place, field },
+    match first_bound(policies, wanted) {
+        Some(place) => match allows(&policies[place], wanted) {
+            Err(field) => Decision::No {
+                place: place as u64,
+                field,
+            },
+            Ok(()) => unreachable!(),
+        },
         None => Decision::Unbound,
     }
 }
 
+fn first_passing(policies: &[Policy], wanted: &Wanted) -> Option<usize>
+    ensures { result ≡ position (λ policy. spec.passes policy wanted.now) policies.now }
+{
+    policies.iter().position(|policy| passes(policy, wanted))
+}
+
+fn first_bound(policies: &[Policy], wanted: &Wanted) -> Option<usize>
+    ensures { result ≡ position (λ policy. spec.is_bound policy wanted.now) policies.now }
+{
+    policies.iter().position(|policy| is_bound(policy, wanted))
+}
+
 fn is_bound(policy: &Policy, wanted: &Wanted) -> bool
-    ensures { IsTrue result ↔ IsBound policy.now wanted.now }
+    ensures { result ≡ spec.is_bound policy.now wanted.now }
 {
     matches_any(policy.issuers.as_slice(), wanted.issuer.as_slice())
+}
+
+fn passes(policy: &Policy, wanted: &Wanted) -> bool
+    ensures { result ≡ spec.passes policy.now wanted.now }
+{
+    is_bound(policy, wanted) && allows(policy, wanted).is_ok()
 }

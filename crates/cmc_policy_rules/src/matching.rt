@@ -1,11 +1,19 @@
 //! Patterns in which `*` stands for any bytes.
 ghost use Rattle.std.specs.Prelude.{◌≡◌, ◌↔◌, ◌∷◌, IsTrue, MatchOption};
-ghost use Rattle.cmc_policy_rules.specs.Matching.{star, Matches, IsPlain, IsCut, IsFirstPlace, StandsNowhere};
+ghost use Rattle.cmc_policy_rules.specs.Matching.{star, Matches, is_match, IsPlain, IsCut, IsFirstPlace, StandsNowhere};
 
 /// Whether the text matches the pattern: each `*` stands for any bytes, also for none, and each other byte for
 /// itself (approver-policy: `*` is the only wildcard). It takes time in proportion to the product of both
 /// lengths at most, since of the places of each piece between two stars only the leftmost is tried.
 pub fn matches(pattern: &[u8], text: &[u8]) -> bool
+    ensures decides { IsTrue result ↔ Matches pattern.now text.now }
+    ensures value { result ≡ is_match pattern.now text.now }
+{
+    fits(pattern, text)
+}
+
+// The same, by the pieces between the stars.
+fn fits(pattern: &[u8], text: &[u8]) -> bool
     ensures { IsTrue result ↔ Matches pattern.now text.now }
 {
     let Some((piece, behind)) = cut(pattern) else {
