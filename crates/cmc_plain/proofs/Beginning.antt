@@ -13,15 +13,16 @@ use Rattle.cmc_model.specs.Histories.{Setting, moment, runs}
 use Rattle.cmc_model.specs.Writes.{writes, is_known}
 use Rattle.cmc_rules.specs.Positions.{kind_of_work, positions}
 use Rattle.cmc_rules.specs.Viewing.{views}
-use Rattle.cmc_rules.specs.Passes.{past, IsDue, IsSame}
+use Rattle.cmc_rules.specs.Memory.{past}
+use Rattle.cmc_rules.specs.Sameness.{IsDue, IsSame}
 use Rattle.cmc_rules.specs.Resting.{IsIdle}
-use Rattle.cmc_held.specs.Dues.{own_above}
-use Rattle.cmc_held.proofs.Behind.{due_by_tests, not_due_behind}
+use Rattle.cmc_rules.specs.Sameness.{own_above}
 use Rattle.cmc_world.specs.declared.moves.Move.TheVariants.{Begin}
 use Rattle.cmc_world.specs.declared.moves.Lack.TheVariants.{Stopped, NotQueued, InProcess, SameViews, OwnWrite}
 use Rattle.cmc_world.specs.declared.moves.Stepped.{Stepped}
 use Rattle.cmc_world.specs.declared.moves.Stepped.TheVariants.{Done, NotNow, Spent}
-use Rattle.cmc_world.specs.Answers.{Need, Bar, BarOf, Fits as HasRoom, AnswersBegin, IsWorking, IsQueued}
+use Rattle.cmc_world.specs.Answers.{Need, Bar, BarOf, Fits as HasRoom, AnswersBegin, IsQueued}
+use Rattle.cmc_rules.specs.Passes.{IsWorking}
 use Rattle.cmc_plain.specs.Plain.{IsAccepted, IsPossible, IsWorth, Fits, seen_last}
 use Rattle.cmc_plain.specs.Searches.{IsFree, MayBegin}
 
@@ -50,7 +51,7 @@ begins_by s h role key p =
     record {
       running = one.0;
       idle = two.0;
-      due = due_by_tests (past s h role key) (views s h role key) (moment s h) (positions h role) three.0 four.0;
+      due = record { told = three.0; other = four.0 };
       queued = five.0;
     }
 
@@ -78,7 +79,7 @@ may_begin s h role key m =
         m.running,
         inr (
           m.idle,
-          told_own (own_above (past s h role key).own (positions h role)) r.answer (λ v e. not_due_behind (past s h role key) (views s h role key) (moment s h) (positions h role) v e m.due)
+          told_own (own_above (past s h role key).own (positions h role)) r.answer (λ v e. let none = m.due.told in absurd (cc (none, e)))
               (inr (m.due.other, inr (m.queued, r.room))),
         ),
       );
@@ -86,10 +87,6 @@ may_begin s h role key m =
     }
 
 -- ---- when a key fits
-
-pub unfit_busy : (s : Setting) (h : List Entry) (role : Role) (key : Key) (b : Bool) → (IsTrue b ↔ IsFree s h role key) → b ≡ false → IsTrue false ↔ Fits s h role key
-unfit_busy s h role key b free off =
-    (λ bad. absurd (cc), λ f. let m = begins_by s h role key f.possible in let on = free.1 (record { kind = m.queued.0; idle = m.idle }) in absurd (cc (on, off)))
 
 pub unfit_undue : (s : Setting) (h : List Entry) (role : Role) (key : Key) (seen : Views) (b : Bool) → seen ≡ views s h role key → (IsTrue b ↔ IsDue (past s h role key) seen (moment s h) (positions h role)) → b ≡ false
     → IsTrue false ↔ Fits s h role key
@@ -112,27 +109,4 @@ fit_worth s h role key seen b r is running known free due on worth =
     } in
     IfOk-weaker r _ _ (λ w so. (λ on. record { possible = may_begin s h role key m; worth = so.0 on }, λ f. so.1 f.worth)) worth
 
--- a role that does not run has no fitting key
-pub unfit_stopped : (s : Setting) (h : List Entry) (role : Role) → runs s h role ≡ false → (key : Key) → Fits s h role key → ⊥
-unfit_stopped s h role off key f = let m = begins_by s h role key f.possible in let on = m.running in absurd (cc (on, off))
-
 -- ---- when it is worth it
-
-pub worth_new : (s : Setting) (h : List Entry) (role : Role) (key : Key) (seen : Views) (before : Past) (b : Bool) → seen ≡ views s h role key → before ≡ past s h role key
-    → (IsTrue b ↔ (seen ≡ seen_last before.last)) → b ≡ false → IsTrue true ↔ IsWorth s h role key
-worth_new s h role key seen before b is was saw off =
-    (λ on. inr (λ same. let on = saw.1 (is ∙ same ∙ subst (λ (p : Past). seen_last p.last ≡ seen_last before.last) was refl) in absurd (cc (on, off))), λ w. refl)
-
-idle_or_not : (b : Bool) (s : Setting) (h : List Entry) (role : Role) (key : Key) → (IsTrue b ↔ IsIdle s h role (views s h role key)) → views s h role key ≡ seen_last (past s h role key).last
-    → IsTrue (not b) ↔ IsWorth s h role key
-idle_or_not true s h role key idle same = (λ bad. absurd (cc), worth_no) where
-  worth_no : IsWorth s h role key → IsTrue (not true)
-  worth_no (inl busy) = absurd (busy (idle.0 refl))
-  worth_no (inr new) = absurd (new same)
-idle_or_not false s h role key idle same = (λ on. inl (λ rests. let bad = idle.1 rests in absurd (cc)), λ w. refl)
-
-pub worth_busy : (s : Setting) (h : List Entry) (role : Role) (key : Key) (seen : Views) (before : Past) (saw idle : Bool) → seen ≡ views s h role key → before ≡ past s h role key
-    → (IsTrue saw ↔ (seen ≡ seen_last before.last)) → saw ≡ true → (IsTrue idle ↔ IsIdle s h role seen) → IsTrue (not idle) ↔ IsWorth s h role key
-worth_busy s h role key seen before saw idle is was e on rests =
-    idle_or_not idle s h role key (subst (λ (v : Views). IsTrue idle ↔ IsIdle s h role v) is rests)
-    (sym is ∙ e.0 on ∙ subst (λ (p : Past). seen_last before.last ≡ seen_last p.last) was refl)

@@ -9,6 +9,7 @@ use Rattle.cmc_meta.specs.declared.key.Kind.TheVariants as kinds
 use Rattle.cmc_objects.specs.declared.certificate.Certificate.{Certificate}
 use Rattle.cmc_objects.specs.declared.request.CertificateRequest.{CertificateRequest}
 use Rattle.cmc_objects.specs.declared.object.Object.{Object}
+use Rattle.cmc_objects.specs.declared.orders.Rules.{Rules}
 use Rattle.cmc_objects.specs.declared.role.Role.{Role}
 use Rattle.cmc_objects.specs.declared.role.Role.TheVariants.{Trigger, KeyManager, RequestManager, Approver, Issuer, Issuing, Readiness, Revision}
 use Rattle.cmc_objects.specs.declared.entry.Positions.{Positions}
@@ -34,19 +35,22 @@ use Rattle.cmc_rules.specs.Viewing.{certificate_in, request_in, certificate_at, 
 use Rattle.cmc_rules.specs.Desks.{desk}
 use Rattle.cmc_rules.specs.Triggering.{for_option, trigger}
 use Rattle.cmc_rules.specs.Acts.{act}
-use Rattle.cmc_rules.specs.Passes.{open_pass, is_pass_of, past, IsStillBehind, EndsAlike, IsSame, IsDue}
+use Rattle.cmc_rules.specs.Passes.{open_pass, is_pass_of}
+use Rattle.cmc_rules.specs.Memory.{past}
+use Rattle.cmc_rules.specs.Sameness.{IsStillBehind, EndsAlike, IsSame, IsDue}
 use Rattle.cmc_rules.specs.Legality.{IsOfKind}
 use Rattle.cmc_rules.specs.Scripting.{scripted, held, has_held}
 use Rattle.cmc_rules.specs.Following.{owed, IsReady}
 use Rattle.cmc_rules.specs.Resting.{IsIdle, IsPaused, RestsOn, IsAtRest}
 use Rattle.cmc_rules.specs.Runs.{IsRun, IsFinished}
-use Rattle.cmc_held.specs.Dues.{own_above}
-use Rattle.cmc_held.proofs.Behind.{not_all_told}
+use Rattle.cmc_rules.specs.Sameness.{own_above}
+use Rattle.cmc_world.proofs.Sounds.{each_sound}
 use Rattle.cmc_world.specs.declared.moves.Move.TheVariants as moves
 use Rattle.cmc_world.specs.declared.moves.Lack.TheVariants.{NotQueued, SameViews, OwnWrite}
 use Rattle.cmc_world.specs.declared.moves.Stepped.{Stepped}
 use Rattle.cmc_world.specs.declared.moves.Stepped.TheVariants.{Done, NotNow, Spent}
-use Rattle.cmc_world.specs.Answers.{Need, Bar, BarOf, Fits as HasRoom, IsWorking, IsQueued, entries_of, next_effect}
+use Rattle.cmc_world.specs.Answers.{Need, Bar, BarOf, Fits as HasRoom, IsQueued, entries_of, next_effect}
+use Rattle.cmc_rules.specs.Passes.{IsWorking}
 use Rattle.cmc_world.proofs.Moments.{scripted_low}
 use Rattle.cmc_world.proofs.Rest.{same_kind}
 use Rattle.cmc_plain.specs.Plain.{IsAccepted, IsPossible, IsGoing, IsBehind, Fits, HasNoScript, HasNoPass, HasNoDelivery}
@@ -117,12 +121,6 @@ told s h none role kind running informed free =
 
 -- ---- on which keys there is something to do
 
--- on views of no Certificate and no CertificateRequest there is not
-no_work : (role : Role) (seen : Views) (now : ℤ) (by : Desk) → seen.certificate ≡ None → seen.request ≡ None → act role seen now by ≡ Nothing
-unfolding act trigger
-no_work Trigger seen now by certificate request = ap (for_option now seen.secret) certificate
-no_work other seen now by certificate request = refl
-
 not_cached : {A : Type 0} (s : Setting) (h : List Entry) (role : Role) (kind : Kind) (f : Object → Option A) (key : Key) → kind_eq key.kind kind ≡ false
     → option_and_then f (object_at (cache s h role kind) key) ≡ None
 not_cached s h role kind f key other =
@@ -151,16 +149,12 @@ work_by : (same : Bool) (s : Setting) (h : List Entry) (role : Role) (key : Key)
 work_by true s h role key is busy = same_kind key.kind (kind_of_work role) is
 work_by false s h role key is busy =
     let none = unseen s h role key is in
-    absurd (busy (no_work role (views s h role key) (moment s h) (desk s h role (views s h role key)) none.0 none.1))
+    absurd (busy ((each_sound role).absent (views s h role key) (moment s h) (desk s h role (views s h role key)) (record { certificate = none.0; request = none.1 })))
 
 work : (s : Setting) (h : List Entry) (role : Role) (key : Key) → IsBusy s h role key → key.kind ≡ kind_of_work role
 work s h role key busy = work_by (kind_eq key.kind (kind_of_work role)) s h role key refl busy
 
 -- ---- begins
-
-none_above : (o : Option ℕ) (own at : Positions) → own_above own at ≡ o → (own.certificates ≤ at.certificates) × (own.requests ≤ at.requests) × (own.secrets ≤ at.secrets) → o ≡ None
-none_above None own at is low = refl
-none_above (Some v) own at is low = absurd (not_all_told own at v is low)
 
 -- what is left of the table of begins where the role works on the key in no pass
 abbrev AnswersOwn : Setting → List Entry → Role → Key → Stepped → Option ℕ → Type 0
@@ -180,12 +174,10 @@ fits : (s : Setting) (h : List Entry) (role : Role) (key : Key) → runs s h rol
     → IsBusy s h role key → IsDueNow s h role key → Fits s h role key
 fits s h role key running known shut busy due =
     let left = room s h 1 in
-    let none : own_above (past s h role key).own (positions h role) ≡ None =
-    none_above (own_above (past s h role key).own (positions h role)) (past s h role key).own (positions h role) refl (due.certificates, due.requests, due.secrets) in
     record {
       possible = record {
         answer = left.0;
-        answers = inr (running, inr (idle_of s h role key shut, subst (AnswersOwn s h role key left.0) (sym none) (inr (due.other, inr ((work s h role key busy, known), left.1)))));
+        answers = inr (running, inr (idle_of s h role key shut, subst (AnswersOwn s h role key left.0) (sym due.told) (inr (due.other, inr ((work s h role key busy, known), left.1)))));
         accepted = left.2;
       };
       worth = inl busy;
@@ -213,26 +205,36 @@ not_behind : (role : Role) (ws : List Write) (obstacle : Obstacle) (at : Positio
 not_behind role ws Failure at low known late = late
 not_behind role ws (Newer kind version) at low known late = let up = known kind in absurd (omega (arith, low, up, late))
 
-not_alike : (role : Role) (ws : List Write) (before : Views) (since : ℤ) (ending : Ending) (seen : Views) (now : ℤ) (at : Positions) (by : Desk) → IsFairEnding role ws before since ending
+not_alike : (role : Role) (rules : Rules) (ws : List Write) (before : Views) (since : ℤ) (ending : Ending) (seen : Views) (now : ℤ) (at : Positions) (by : Desk) → by.rules ≡ rules → IsFairEnding role rules ws before since ending
     → ((kind : Kind) → newest_known role kind ws ≤ position_of kind at) → (act role seen now by ≡ Nothing → ⊥) → before ≡ seen → EndsAlike ending since now at → ⊥
-not_alike role ws before since endings.Open seen now at by fair known busy same alike = alike
-not_alike role ws before since endings.Nothing seen now at by fair known busy same alike =
-    busy (subst (λ (v : Views). act role v now by ≡ Nothing) same (subst (λ (m : ℤ). act role before m by ≡ Nothing) alike (fair by)))
-not_alike role ws before since endings.Wrote seen now at by fair known busy same alike = alike
-not_alike role ws before since (endings.Refused obstacle) seen now at by fair known busy same alike = not_behind role ws obstacle at fair known alike
+not_alike role rules ws before since endings.Open seen now at by told fair known busy same alike = alike
+not_alike role rules ws before since endings.Nothing seen now at by told fair known busy same alike =
+    busy (subst (λ (v : Views). act role v now by ≡ Nothing) same (subst (λ (m : ℤ). act role before m by ≡ Nothing) alike (fair by told)))
+not_alike role rules ws before since endings.Wrote seen now at by told fair known busy same alike = alike
+not_alike role rules ws before since (endings.Refused obstacle) seen now at by told fair known busy same alike = not_behind role ws obstacle at fair known alike
 
 -- a pass that has something to do would not be the last one again
-not_same : (role : Role) (ws : List Write) (last : Option LastPass) (seen : Views) (now : ℤ) (at : Positions) (by : Desk) → IsFairLast role ws last
+not_same : (role : Role) (rules : Rules) (ws : List Write) (last : Option LastPass) (seen : Views) (now : ℤ) (at : Positions) (by : Desk) → by.rules ≡ rules → IsFairLast role rules ws last
     → ((kind : Kind) → newest_known role kind ws ≤ position_of kind at) → (act role seen now by ≡ Nothing → ⊥) → IsSame last seen now at → ⊥
-not_same role ws None seen now at by fair known busy same = same
-not_same role ws (Some l) seen now at by fair known busy same = not_alike role ws l.seen l.since l.ending seen now at by fair known busy same.0 same.1
+not_same role rules ws None seen now at by told fair known busy same = same
+not_same role rules ws (Some l) seen now at by told fair known busy same = not_alike role rules ws l.seen l.since l.ending seen now at by told fair known busy same.0 same.1
+
+under : (own at : ℕ) (rest : Option ℕ) (b : Bool) → nat_lt at own ≡ b → own ≤ at → rest ≡ None → (if b then Some own else rest) ≡ None
+under own at rest true e low none = absurd (grind (arith, nat_tests))
+under own at rest false e low none = none
+
+none_above : (own at : Positions) → own.certificates ≤ at.certificates → own.requests ≤ at.requests → own.secrets ≤ at.secrets → own_above own at ≡ None
+unfolding own_above
+none_above own at one two three =
+    under own.certificates at.certificates _ (nat_lt at.certificates own.certificates) refl one
+    (under own.requests at.requests _ (nat_lt at.requests own.requests) refl two (under own.secrets at.secrets None (nat_lt at.secrets own.secrets) refl three refl))
 
 due_told : (s : Setting) (h : List Entry) (role : Role) (key : Key) → IsRun s h → IsToldOfAll s h role → IsBusy s h role key → IsDueNow s h role key
 due_told s h role key run all busy = record {
-  certificates = own_told s h role key run all kinds.Certificate;
-  requests = own_told s h role key run all kinds.CertificateRequest;
-  secrets = own_told s h role key run all kinds.Secret;
-  other = not_same role (writes s h) (past s h role key).last (views s h role key) (moment s h) (positions h role) (desk s h role (views s h role key))
+  told =
+      none_above (past s h role key).own (positions h role) (own_told s h role key run all kinds.Certificate) (own_told s h role key run all kinds.CertificateRequest)
+      (own_told s h role key run all kinds.Secret);
+  other = not_same role s.rules (writes s h) (past s h role key).last (views s h role key) (moment s h) (positions h role) (desk s h role (views s h role key)) refl
       (last_fair s h role key run.legal run.caused) (known_told s h role all) busy;
 }
 

@@ -5,7 +5,8 @@ use Rattle.std.specs.Prelude.{◌&&◌, nat_le, if◌then◌else◌}
 use Rattle.cmc_objects.specs.declared.entry.Entry.{Entry}
 use Rattle.cmc_rules.specs.declared.progress.OpenPass.{OpenPass}
 use Rattle.cmc_model.specs.Histories.{Setting, incarnation}
-use Rattle.cmc_rules.specs.Passes.{open_pass, origins, origin_at}
+use Rattle.cmc_rules.specs.Passes.{open_pass}
+use Rattle.cmc_rules.specs.Origins.{origins, origin_at}
 use Rattle.cmc_rules.specs.Legality.{IsOpen}
 use Rattle.cmc_rules.specs.Runs.{IsRun}
 use Rattle.cmc_world.specs.declared.moves.Move.TheVariants.{Next}

@@ -117,7 +117,3 @@ key_found s h role key rest fits l = (fits, below) where
       let none : (is_eq (key_cmp k key) || list_any (is_at (key_cmp k)) rest) ≡ false =
       ap (λ r. is_eq r || list_any (is_at (key_cmp k)) rest) low ∙ none_at k key rest low (sorted_head key_cmp key rest l.ordered) in
       absurd (cc (some, none))
-
--- and where none is left, none does
-pub no_key_left : (s : Setting) (h : List Entry) (role : Role) → KeysLeft s h role [] → FindsKey s h role None
-no_key_left s h role l some = let any = l.left some.0 some.1 in absurd (cc any)

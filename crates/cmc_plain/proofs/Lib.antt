@@ -5,6 +5,7 @@ pub mod Determined
 pub mod OneKind
 pub mod Newest
 pub mod Newer
+pub mod ToldKinds
 pub mod Remembering
 pub mod Finishing
 pub mod Starting

@@ -59,9 +59,6 @@ pub record AreLeft (s : Setting) (h : List Entry) (rest : List (ℕ × OpenPass)
   pub opened : (n : ℕ) (p : OpenPass) → pass_at rest n ≡ Some p → open_pass s h n ≡ Some p
   pub left : (n : ℕ) → IsGoing s h n → pass_at rest n ≡ open_pass s h n
 
-pub all_left : (s : Setting) (h : List Entry) (es : List (ℕ × OpenPass)) → IsStrictlySortedBy nat_cmp (keys_of es) → ((n : ℕ) → pass_at es n ≡ open_pass s h n) → AreLeft s h es
-all_left s h es ordered all = record { ordered = ordered; opened = λ n p is. sym (all n) ∙ is; left = λ n going. all n }
-
 first_opened : (s : Setting) (h : List Entry) (e : ℕ × OpenPass) (es : List (ℕ × OpenPass)) → AreLeft s h (e ∷ es) → open_pass s h e.0 ≡ Some e.1
 first_opened s h e es l = l.opened e.0 e.1 (at_first e es)
 

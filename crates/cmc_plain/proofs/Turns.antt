@@ -60,13 +60,7 @@ led_on s (m ∷ ms) g h k move (a, x, rest) step = (a, x, led_on s ms a h k move
 pub plain_on : (s : Setting) (h k : List Entry) → IsPlain s h → GoesOn s h k → IsPlain s k
 plain_on s h k (ms, led) on = (ms ++ on.move ∷ [], led_on s ms [] h k on.move led on.step)
 
-pub plain_begin : (s : Setting) → IsPlain s []
-plain_begin s = ([], refl)
-
 -- ---- turns
-
-pub driving_begin : (world : Seen) → world.history ≡ [] → IsDriving world.scenario world 0
-driving_begin world none = record { same = refl; plain = subst (IsPlain (setting_of world.scenario)) (sym none) (plain_begin (setting_of world.scenario)); long = omega arith }
 
 pub driving_on : (setup : Setup) (old new : Seen) (n : ℕ) → IsDriving setup old n → new.scenario ≡ old.scenario → GoesOn (setting_of old.scenario) old.history new.history → IsDriving setup new (n + 1)
 driving_on setup old new n d stays on =
@@ -76,14 +70,6 @@ driving_on setup old new n d stays on =
       plain = plain_on (setting_of setup) old.history new.history d.plain on_is;
       long = omega (arith, d.long, on.longer);
     }
-
-pub driven : (setup : Setup) (End : Setting → List Entry → Type 0) (old new : Seen) (n : ℕ) → IsDriving setup old n → new.scenario ≡ old.scenario → End (setting_of old.scenario) old.history → new.history ≡ old.history
-    → EndsPlainly setup End new
-driven setup End old new n d stays ends left = record {
-  same = stays ∙ d.same;
-  plain = subst (IsPlain (setting_of setup)) (sym left) d.plain;
-  comes = subst (End (setting_of setup)) (sym left) (subst (λ (u : Setup). End (setting_of u) old.history) d.same ends);
-}
 
 pub too_long : (setup : Setup) (world : Seen) (n : ℕ) → IsDriving setup world n → setup.events < n → IsRun (setting_of world.scenario) world.history → ⊥
 too_long setup world n d over run =

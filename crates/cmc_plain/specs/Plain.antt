@@ -13,7 +13,8 @@ use Rattle.cmc_rules.specs.declared.progress.OpenPass.{OpenPass}
 use Rattle.cmc_model.specs.Histories.{Setting, incarnation}
 use Rattle.cmc_model.specs.Writes.{writes, last_of_kind}
 use Rattle.cmc_rules.specs.Viewing.{views}
-use Rattle.cmc_rules.specs.Passes.{open_pass, past}
+use Rattle.cmc_rules.specs.Passes.{open_pass}
+use Rattle.cmc_rules.specs.Memory.{past}
 use Rattle.cmc_rules.specs.Resting.{IsIdle}
 use Rattle.cmc_rules.specs.Runs.{IsFinished}
 use Rattle.cmc_world.specs.declared.moves.Move.{Move}

@@ -10,9 +10,11 @@ use Rattle.cmc_objects.specs.declared.entry.Entry.{Entry}
 use Rattle.cmc_model.specs.Histories.{Setting, moment, runs}
 use Rattle.cmc_rules.specs.Positions.{kind_of_work, positions}
 use Rattle.cmc_rules.specs.Viewing.{views_in, views}
-use Rattle.cmc_rules.specs.Passes.{past, IsDue}
+use Rattle.cmc_rules.specs.Memory.{past}
+use Rattle.cmc_rules.specs.Sameness.{IsDue}
 use Rattle.cmc_world.specs.declared.moves.Move.{Move}
-use Rattle.cmc_world.specs.Answers.{IsWorking, IsQueued}
+use Rattle.cmc_world.specs.Answers.{IsQueued}
+use Rattle.cmc_rules.specs.Passes.{IsWorking}
 use Rattle.cmc_plain.specs.declared.passes.Going.{Going}
 use Rattle.cmc_plain.specs.declared.deliveries.Delivery.{Delivery}
 use Rattle.cmc_plain.specs.declared.begins.Beginning.{Beginning}

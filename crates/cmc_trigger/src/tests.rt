@@ -1,8 +1,8 @@
 //! What no clause says: what is written, as texts, and that there is an answer where memory is ample.
 ghost use Rattle.std.specs.Prelude.{◌≡◌, IfOk};
-ghost use Rattle.cmc_rules.specs.Triggering.{IsDatedOption, HasDatedFailure};
+ghost use Rattle.cmc_rules.specs.Dates.{IsDatedOption, HasDatedFailure};
 
-use crate::{act, changes_issuing_alone};
+use crate::{act, is_sound};
 use cmc_meta::{
     Bytes, Condition, ConditionKind, Conditions, Name, ObjectMeta, Owners, Pairs, Text, Texts, Tri,
 };
@@ -235,7 +235,7 @@ fn told_of(alloc: Global, case: &Case) -> Result<String, AllocError>
 #[test]
 fn rows(rt: HostRuntime) -> Result<(), Fail> {
     let alloc = rt.alloc();
-    changes_issuing_alone();
+    is_sound();
     let absent = "3 1893456000 DoesNotExist: Certificate must be issued: DoesNotExist";
     let missing = "3 1893456000 MissingData: Certificate must be issued: MissingData";
     let unpaired = "3 1893456000 InvalidKeyPair: Certificate must be issued: InvalidKeyPair";

@@ -21,7 +21,8 @@ use Rattle.cmc_model.specs.Replies.{State, IsReply, is_accepted, key_of_call, ke
 use Rattle.cmc_model.specs.Histories.{Setting, moment, state, accepted, role_eq}
 use Rattle.cmc_model.specs.Writes.{write_of}
 use Rattle.cmc_rules.specs.Positions.{position_of}
-use Rattle.cmc_rules.specs.Passes.{open_pass, stage_by, stage_after, with_stage, with_ending}
+use Rattle.cmc_rules.specs.Passes.{open_pass, stage_by, stage_after, with_stage}
+use Rattle.cmc_rules.specs.Memory.{with_ending}
 use Rattle.cmc_rules.specs.Causes.{MayCall, MayEnd}
 use Rattle.cmc_rules.specs.Following.{written}
 use Rattle.cmc_model.proofs.Writes.{writes_count}

@@ -13,7 +13,8 @@ use Rattle.cmc_rules.specs.declared.progress.OpenPass.{OpenPass}
 use Rattle.cmc_model.specs.Replies.{key_of_call}
 use Rattle.cmc_model.specs.Histories.{Setting}
 use Rattle.cmc_model.specs.Writes.{writes, last_under}
-use Rattle.cmc_rules.specs.Passes.{open_pass, ending_at}
+use Rattle.cmc_rules.specs.Passes.{open_pass}
+use Rattle.cmc_rules.specs.Memory.{ending_at}
 use Rattle.cmc_rules.specs.Causes.{IsNextCall, EndsBy, MayCall, MayEnd}
 use Rattle.cmc_world.specs.Answers.{IsOfPass}
 use Rattle.cmc_world.specs.Kept.{Seen}

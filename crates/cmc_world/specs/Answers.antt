@@ -17,11 +17,14 @@ use Rattle.cmc_model.specs.Histories.{Setting, moment, accepted, runs, incarnati
 use Rattle.cmc_model.specs.Writes.{writes, write_at, last_of_kind, is_known}
 use Rattle.cmc_rules.specs.Positions.{has_informer, kind_of_work, position, positions}
 use Rattle.cmc_rules.specs.Viewing.{views}
-use Rattle.cmc_rules.specs.Passes.{open_pass, begun, origins, origin_at, is_pass_of, past, IsSame}
+use Rattle.cmc_rules.specs.Passes.{open_pass, begun, IsWorking}
+use Rattle.cmc_rules.specs.Origins.{origins, origin_at}
+use Rattle.cmc_rules.specs.Memory.{past}
+use Rattle.cmc_rules.specs.Sameness.{IsSame}
 use Rattle.cmc_rules.specs.Legality.{IsOfKind, IsOpen}
 use Rattle.cmc_rules.specs.Scripting.{scripted, step_at, held}
 use Rattle.cmc_rules.specs.Following.{effect_of, IsReady}
-use Rattle.cmc_held.specs.Dues.{own_above}
+use Rattle.cmc_rules.specs.Sameness.{own_above}
 use Rattle.cmc_world.specs.declared.moves.Move.{Move}
 use Rattle.cmc_world.specs.declared.moves.Move.TheVariants.{Script, Deliver, Begin, Next}
 use Rattle.cmc_world.specs.declared.moves.Lack.TheVariants.{ScriptOver, ScriptWaits, Stopped, NoInformer, Held, Current, NotAWrite, NotQueued, InProcess, SameViews, OwnWrite, NoPass}
@@ -101,10 +104,6 @@ delivered s h role kind to =
     if nat_le (accepted s h) (position h role kind + s.window) then entries.Deliver role kind to else entries.List role kind (accepted s h)
 
 -- ---- begins
-
--- the role has an open pass on the key
-abbrev pub IsWorking : Setting → List Entry → Role → Key → Type 0
-IsWorking s h role key = (n : ℕ) × (is_pass_of role key (open_pass s h n) ≡ true)
 
 -- the key is one of the role's kind of work, and an accepted write named it
 abbrev pub IsQueued : Setting → List Entry → Role → Key → Type 0

@@ -16,7 +16,8 @@ ghost use Rattle.cmc_scenario.specs.Setups.{IsSetup, IsTickForm, seconds_of};
 ghost use Rattle.cmc_world.specs.Answers as spec;
 ghost use Rattle.cmc_world.specs.Changes.{keeping, scripted_standing, starting, stopping};
 ghost use Rattle.cmc_world.specs.Kept.{setting_of};
-ghost use Rattle.cmc_world.specs.Scripted.{effect_besides, effect_in, effect_on, standing_after};
+ghost use Rattle.cmc_world.specs.Scripted.{effect_in, standing_after};
+ghost use Rattle.cmc_rules.specs.Following.{effect_besides, effect_on};
 ghost use Rattle.cmc_world.specs.declared.moves.Move.TheVariants as moves;
 ghost use Rattle.cmc_world.specs.declared.moves.Stepped.TheVariants as answers;
 
