@@ -1,0 +1,9 @@
+//! What issuers and approvers answer: the certificates that the rows of a scenario stand for, and the judgement of
+//! requests by refused names and approval policies.
+#![tactic(auto)]
+
+mod certificates;
+mod signing;
+mod stand_ins;
+
+pub use signing::signing_of;
