@@ -1,5 +1,5 @@
 //! The answer of a row.
-ghost use Rattle.std.specs.Prelude.{◌≡◌, ◌≤◌, ◌≤ℤ◌, true, IfOk};
+ghost use Rattle.std.specs.Prelude.{◌≡◌, ◌≤◌, ◌≤ℤ◌, ◌+ℤ◌, ◌-ℤ◌, neg_ℤ, pos, true, IfOk};
 ghost use Rattle.cmc_time.specs.Asn1.{IsCertificateTime};
 ghost use Rattle.cmc_objects.specs.Requests.{is_lifetime, is_row_form, is_run_time};
 ghost use Rattle.cmc_x509.specs.ReadCertificates.{request_at};
@@ -25,6 +25,27 @@ fn lifetime(seconds: Option<u64>, asked: Option<u64>) -> u64
     }
 }
 
+// Moments of a run, and a day before and a hundred years behind them, lie in the years 1950 to 9999.
+fn begin(now: i64, before: u64) -> i64
+    requires moment { is_run_time now ≡ true }
+    requires begins { before ≤ 86400 }
+    ensures value { result ≡ now -ℤ pos before }
+    ensures above { neg_ℤ (pos 599702400) ≤ℤ result }
+    ensures below { result ≤ℤ pos 250246627200 }
+{
+    now - before as i64
+}
+
+fn end(begin: i64, lasts: u64) -> i64
+    requires above { neg_ℤ (pos 599702400) ≤ℤ begin }
+    requires below { begin ≤ℤ pos 250246627200 }
+    requires lasts { lasts ≤ 3153600000 }
+    ensures value { result ≡ begin +ℤ pos lasts }
+    ensures in_range { IsCertificateTime result }
+{
+    begin + lasts as i64
+}
+
 fn plan(
     number: u64,
     request: &CertificateRequest,
@@ -41,8 +62,8 @@ fn plan(
     ensures ends_in_range { IfOk result (λ plan. IsCertificateTime plan.not_after) }
 {
     let issuer = request.spec.issuer.name.copy()?;
-    let not_before = now - before as i64;
-    let not_after = not_before + lifetime(seconds, request.spec.duration) as i64;
+    let not_before = begin(now, before);
+    let not_after = end(not_before, lifetime(seconds, request.spec.duration));
     Ok(CertPlan {
         serial: serial.unwrap_or(number),
         issuer,
