@@ -2,8 +2,10 @@
 //! requests by refused names and approval policies.
 #![tactic(auto)]
 
+mod answered;
 mod certificates;
 mod signing;
 mod stand_ins;
 
+pub use answered::{Answered, ScriptedSigner, Signer};
 pub use signing::signing_of;
