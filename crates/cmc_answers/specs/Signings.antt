@@ -1,5 +1,5 @@
 -- What an issuer answers by the row that a scenario has for the question.
-use Rattle.std.specs.Prelude.{◌≡◌, ℕ, min, Bool, true, false, ℤ, pos, ◌+ℤ◌, ◌-ℤ◌, List, [], codes, Option, Some, None, unwrap_or, is_some, if◌then◌else◌}
+use Rattle.std.specs.Prelude.{ℕ, min, ℤ, pos, ◌+ℤ◌, ◌-ℤ◌, List, [], codes, Option, Some, None, unwrap_or, is_some, if◌then◌else◌}
 use Rattle.sha2.specs.Sha256.{sha256}
 use Rattle.cmc_der.specs.Keys.{PublicKey, RequestFields, SubjectNames, kind_of}
 use Rattle.cmc_x509.specs.ReadCertificates.{request_at}
@@ -7,7 +7,6 @@ use Rattle.cmc_x509_build.specs.Octets.{signed_octets}
 use Rattle.cmc_x509_build.specs.Certificates.{fields_of, certificate_body}
 use Rattle.cmc_x509_build.specs.declared.certificates.CertPlan.{CertPlan}
 use Rattle.cmc_objects.specs.Defaults.{certificate_duration}
-use Rattle.cmc_objects.specs.Requests.{Signs}
 use Rattle.cmc_objects.specs.declared.request.CertificateRequest.{CertificateRequest}
 use Rattle.cmc_objects.specs.declared.rows.SignRow.{SignRow}
 use Rattle.cmc_objects.specs.declared.rows.SignRow.TheVariants as rows
@@ -27,7 +26,7 @@ plan_of number request moment seconds before serial = record {
   serial = unwrap_or serial number;
   issuer = request.spec.issuer.name;
   not_before = moment -ℤ pos before;
-  not_after = (moment -ℤ pos before) +ℤ pos (lifetime seconds request.spec.duration)
+  not_after = (moment -ℤ pos before) +ℤ pos (lifetime seconds request.spec.duration);
 }
 
 -- the key that is certified: the stand-in key of the row, where it has one, and else the request's

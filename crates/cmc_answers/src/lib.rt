@@ -4,8 +4,14 @@
 
 mod answered;
 mod certificates;
+mod denial;
+mod judged;
+mod judging;
 mod signing;
 mod stand_ins;
+mod wanting;
 
 pub use answered::{Answered, ScriptedSigner, Signer};
+pub use denial::Denial;
+pub use judged::{Judged, judge};
 pub use signing::signing_of;
