@@ -3,6 +3,8 @@ use Rattle.std.proofs.Common.{◌≡◌, ◌==◌, ◌⊎◌, ◌+◌, ◌-◌, 
 use Rattle.std.proofs.lemmas.Bool.Decides.{Decides-eqb, nat_tests}
 use Rattle.std.proofs.lemmas.Option.{slice_get_cases}
 use Rattle.std.specs.Prelude.{◌||◌, if◌then◌else◌, MatchBool, nat_le, nat_lt, slice_get}
+use Rattle.cmc_rules.specs.Legality.{IsOpen}
+use Rattle.cmc_plain.specs.Plain.{IsStepReady}
 use Rattle.cmc_meta.specs.declared.key.Key.{Key}
 use Rattle.cmc_meta.specs.declared.key.Kind.{Kind}
 use Rattle.cmc_meta.specs.declared.key.Kind.TheVariants as kinds
@@ -53,21 +55,11 @@ use Rattle.cmc_world.specs.Answers.{Need, Bar, BarOf, Fits as HasRoom, IsQueued,
 use Rattle.cmc_rules.specs.Passes.{IsWorking}
 use Rattle.cmc_world.proofs.Moments.{scripted_low}
 use Rattle.cmc_world.proofs.Rest.{same_kind}
-use Rattle.cmc_plain.specs.Plain.{IsAccepted, IsPossible, IsGoing, IsBehind, Fits, HasNoScript, HasNoPass, HasNoDelivery}
+use Rattle.cmc_plain.specs.Plain.{IsBehind, Fits, HasNoScript, HasNoPass, HasNoDelivery}
 use Rattle.cmc_plain.proofs.OneKind.{last_low, object_at-of_kind}
 use Rattle.cmc_plain.proofs.Newest.{IsToldOfAll, views_newest}
 use Rattle.cmc_plain.proofs.Newer.{newest_known}
 use Rattle.cmc_plain.proofs.Remembering.{own_low, IsLowObstacle, IsFairEnding, IsFairLast, last_fair}
-
--- ---- room
-
-room_by : (fits : Bool) (s : Setting) (h : List Entry) (more : ℕ) → nat_le (length h + more) s.events ≡ fits → (answer : Stepped) × HasRoom s h more answer × IsAccepted answer
-room_by true s h more e = (Done, inr (grind (arith, nat_tests), refl), tt)
-room_by false s h more e = (Spent (length h), inl ((λ le. absurd (grind (arith, nat_tests))), refl), tt)
-
--- whether or not there is room, the answer is one that makes a move possible
-room : (s : Setting) (h : List Entry) (more : ℕ) → (answer : Stepped) × HasRoom s h more answer × IsAccepted answer
-room s h more = room_by (nat_le (length h + more) s.events) s h more refl
 
 -- ---- all passes are closed
 
@@ -75,44 +67,17 @@ closed_by : (s : Setting) (h : List Entry) (n : ℕ) (p : Option OpenPass) → o
 closed_by s h n None is none = refl
 closed_by s h n (Some p) is none = absurd (none p is)
 
-closed : (s : Setting) (h : List Entry) → HasNoPass s h → ((n : ℕ) (p : OpenPass) → open_pass s h n ≡ Some p → IsGoing s h n) → (n : ℕ) → open_pass s h n ≡ None
-closed s h none going n = closed_by s h n (open_pass s h n) refl (λ p is. none n (going n p is))
+closed : (s : Setting) (h : List Entry) → HasNoPass s h → (n : ℕ) → open_pass s h n ≡ None
+closed s h none n = closed_by s h n (open_pass s h n) refl (λ p is. none n (subst IsOpen (sym is) tt))
 
 -- ---- all roles are told
-
-last_at : (here : Bool) (kind : Kind) (w : Write) (ws : List Write) → kind_eq w.key.kind kind ≡ here
-    → (1 ≤ last_of_kind kind ws → IsOfKind kind (write_at (last_of_kind kind ws) ws)) → 1 ≤ (if here then length (w ∷ ws) else last_of_kind kind ws)
-    → IsOfKind kind (write_at (if here then length (w ∷ ws) else last_of_kind kind ws) (w ∷ ws))
-unfolding write_at
-last_at true kind w ws same below some =
-    subst (λ (b : Bool). IsOfKind kind (if b then Some w else write_at (length (w ∷ ws)) ws)) (sym ((Decides-eqb (length (w ∷ ws)) (length (w ∷ ws))).1 refl)) (same_kind w.key.kind kind same)
-last_at false kind w ws other below some =
-    let low = last_low kind ws in
-    let later : (length (w ∷ ws) == last_of_kind kind ws) ≡ false = grind (arith, nat_tests) in
-    subst (λ (b : Bool). IsOfKind kind (if b then Some w else write_at (last_of_kind kind ws) ws)) (sym later) (below some)
-
--- the last write of a kind, if there is one, is of the kind
-last_is : (kind : Kind) (ws : List Write) → 1 ≤ last_of_kind kind ws → IsOfKind kind (write_at (last_of_kind kind ws) ws)
-unfolding last_of_kind
-last_is kind [] some = absurd (omega (arith, some))
-last_is kind (w ∷ ws) some = last_at (kind_eq w.key.kind kind) kind w ws refl (last_is kind ws) some
-
-behind : (s : Setting) (h : List Entry) (role : Role) (kind : Kind) → runs s h role ≡ true → has_informer role kind ≡ true → held s h role kind ≡ false
-    → position h role kind < last_of_kind kind (writes s h) → IsBehind s h role kind
-behind s h role kind running informed free above =
-    let left = room s h 1 in
-    record {
-      answer = left.0;
-      answers = inr (running, inr (informed, inr (free, inr ((λ le. absurd (omega (arith, above, le))), inr ((above, last_is kind (writes s h) (omega (arith, above))), left.1)))));
-      accepted = left.2;
-    }
 
 told_by : (up : Bool) (s : Setting) (h : List Entry) (role : Role) (kind : Kind) → nat_le (last_of_kind kind (writes s h)) (position h role kind) ≡ up
     → runs s h role ≡ true → has_informer role kind ≡ true → held s h role kind ≡ false → (IsBehind s h role kind → ⊥) → last_of_kind kind (writes s h) ≤ position h role kind
 told_by true s h role kind e running informed free none = grind (arith, nat_tests)
 told_by false s h role kind e running informed free none =
     let above : position h role kind < last_of_kind kind (writes s h) = grind (arith, nat_tests) in
-    absurd (none (behind s h role kind running informed free above))
+    absurd (none (record { running = running; informed = informed; free = free; behind = above }))
 
 told : (s : Setting) (h : List Entry) → HasNoDelivery s h → (role : Role) (kind : Kind) → runs s h role ≡ true → has_informer role kind ≡ true → held s h role kind ≡ false
     → last_of_kind kind (writes s h) ≤ position h role kind
@@ -156,13 +121,6 @@ work s h role key busy = work_by (kind_eq key.kind (kind_of_work role)) s h role
 
 -- ---- begins
 
--- what is left of the table of begins where the role works on the key in no pass
-abbrev AnswersOwn : Setting → List Entry → Role → Key → Stepped → Option ℕ → Type 0
-AnswersOwn s h role key answer own =
-    BarOf own (λ version. NotNow (OwnWrite version)) answer
-    (Bar (IsSame (past s h role key).last (views s h role key) (moment s h) (positions h role)) (NotNow SameViews) answer
-    (Need (IsQueued s h role key) (NotNow NotQueued) answer (HasRoom s h 1 answer)))
-
 abbrev IsDueNow : Setting → List Entry → Role → Key → Type 0
 IsDueNow s h role key = IsDue (past s h role key) (views s h role key) (moment s h) (positions h role)
 
@@ -172,16 +130,10 @@ idle_of s h role key shut working = let free = ap (is_pass_of role key) (shut wo
 -- a role that runs and has something to do can begin, where it is due and no pass is open
 fits : (s : Setting) (h : List Entry) (role : Role) (key : Key) → runs s h role ≡ true → is_known key (writes s h) ≡ true → ((n : ℕ) → open_pass s h n ≡ None)
     → IsBusy s h role key → IsDueNow s h role key → Fits s h role key
-fits s h role key running known shut busy due =
-    let left = room s h 1 in
-    record {
-      possible = record {
-        answer = left.0;
-        answers = inr (running, inr (idle_of s h role key shut, subst (AnswersOwn s h role key left.0) (sym due.told) (inr (due.other, inr ((work s h role key busy, known), left.1)))));
-        accepted = left.2;
-      };
-      worth = inl busy;
-    }
+fits s h role key running known shut busy due = record {
+  may = record { running = running; idle = idle_of s h role key shut; due = due; work = work s h role key busy; known = known };
+  worth = inl busy;
+}
 
 -- ---- a role that is told of all is due where it has something to do
 
@@ -302,16 +254,10 @@ ready_at : (s : Setting) (h : List Entry) (i : ℕ) → i < length s.script → 
 ready_at s h i left rest (inl found) = subst (IsReady s h) (sym found.2) (ready_step s h found.0 rest)
 ready_at s h i left rest (inr beyond) = absurd (omega (arith, left, beyond.0))
 
-script_goes : (s : Setting) (h : List Entry) → scripted h < length s.script → IsAtRest s h → IsPossible s h moves.Script
+script_goes : (s : Setting) (h : List Entry) → scripted h < length s.script → IsAtRest s h → IsStepReady s h
 script_goes s h left rest =
     let i : ℕ = scripted h + 1 - 1 in
-    let within : i < length s.script = omega (arith, left) in
-    let more = room s h (entries_of (next_effect s h)) in
-    record {
-      answer = more.0;
-      answers = inr (left, inr (ready_at s h i within rest (slice_get_cases s.script i).1, more.1));
-      accepted = more.2;
-    }
+    record { left = left; ready = ready_at s h i (omega (arith, left)) rest (slice_get_cases s.script i).1 }
 
 all_made : (left : Bool) (s : Setting) (h : List Entry) → nat_lt (scripted h) (length s.script) ≡ left → IsRun s h → HasNoScript s h → IsAtRest s h → scripted h ≡ length s.script
 all_made true s h e run none rest =
@@ -321,9 +267,9 @@ all_made false s h e run none rest = let low = scripted_low s h run.follows in g
 
 -- where nothing is owed and no step, no pass, no delivery and no begin can go on, all is finished
 pub nothing_left : (s : Setting) (h : List Entry) → IsRun s h → owed s h ≡ None → HasNoScript s h → HasNoPass s h → HasNoDelivery s h → ((role : Role) (key : Key) → Fits s h role key → ⊥)
-    → ((n : ℕ) (p : OpenPass) → open_pass s h n ≡ Some p → IsGoing s h n) → IsFinished s h
-nothing_left s h run settled no_script no_pass no_delivery no_begin going =
-    let rest = at_rest s h run (closed s h no_pass going) no_delivery no_begin in
+    → IsFinished s h
+nothing_left s h run settled no_script no_pass no_delivery no_begin =
+    let rest = at_rest s h run (closed s h no_pass) no_delivery no_begin in
     record {
       all_steps = all_made (nat_lt (scripted h) (length s.script)) s h refl run no_script rest;
       all_effects = settled;

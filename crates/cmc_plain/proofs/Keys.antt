@@ -25,7 +25,6 @@ use Rattle.cmc_model.proofs.Keys.{key_cmp-total, key_cmp-IsAntisymmetric}
 use Rattle.cmc_world.proofs.Rest.{key_eq-Decides}
 use Rattle.cmc_plain.specs.Plain.{Fits}
 use Rattle.cmc_plain.specs.Searches.{FitsSome, FindsKey}
-use Rattle.cmc_plain.proofs.Beginning.{begins_by}
 
 -- ---- tests on keys
 
@@ -85,7 +84,7 @@ pub all_keys_left : (s : Setting) (h : List Entry) (role : Role) (keys : BTreeSe
 all_keys_left s h role keys ordered found each = record {
   ordered = ordered;
   known = all_known (λ k. is_known k (writes s h) ≡ true) keys.keys keys.keys (λ k has. sym (each k) ∙ has) found;
-  left = λ k f. each k ∙ (begins_by s h role k f.possible).queued.1;
+  left = λ k f. each k ∙ f.may.known;
 }
 
 pub first_known : (s : Setting) (h : List Entry) (role : Role) (key : Key) (rest : List Key) → KeysLeft s h role (key ∷ rest) → is_known key (writes s h) ≡ true

@@ -7,10 +7,6 @@ mod acts;
 mod issuing;
 mod laws;
 mod reasons;
-#[cfg(test)]
-mod tests;
-#[cfg(test)]
-mod tests_of_views;
 
 pub use acts::act;
 pub use laws::is_sound;
