@@ -7,8 +7,11 @@ mod kinds;
 mod made;
 mod maker;
 mod oids;
+mod scripted;
 mod synthetic;
 
 pub use kinds::{is_allowed_size, is_key_of};
 pub use made::{Made, SignedCsr};
 pub use maker::KeyMaker;
+//pub use scripted::ScriptedKeys;
+pub use synthetic::{synthetic_key, synthetic_keys_fit};

@@ -1,0 +1,52 @@
+//! The keys and signatures of a scenario.
+ghost use Rattle.std.specs.Prelude.{◌≡◌, ◌++◌, take, codes, decimal, IfOk, IsTrue};
+ghost use Rattle.std.specs.Int.{w64, from_be_bytes};
+ghost use Rattle.std.specs.String.{string_bytes};
+ghost use Rattle.sha2.specs.Sha256.{sha256};
+ghost use Rattle.cmc_keys.specs.Kinds.{allows_size};
+ghost use Rattle.cmc_keys.specs.Values as spec;
+ghost use Rattle.cmc_keys.specs.Values.{IsKeyValue};
+
+use crate::kinds::is_key_of;
+use crate::made::{Made, SignedCsr};
+use crate::maker::KeyMaker;
+use crate::synthetic::synthetic_key;
+use cmc_meta::Bytes;
+use cmc_objects::{CsrOrder, KeyOrder, KeyRow};
+use sha2::{Digest, Sha256};
+use std::alloc::{AllocError, Global};
+
+fn digest_of(octets: &[u8]) -> [u8; 32]
+    ensures { result ≡ sha256 octets.now }
+{
+    let mut hasher = Sha256::new();
+    hasher.update(octets);
+    hasher.finalize()
+}
+
+// What the question is called.
+fn order_text(alloc: Global, order: &KeyOrder) -> Result<String, AllocError>
+    ensures { IfOk result (λ text. string_bytes text ≡ spec.order_text order.now) }
+{
+    let namespace = order.certificate.namespace.as_str();
+    let name = order.certificate.name.as_str();
+    format!(in alloc; "{namespace}/{name}#{}", order.number)
+}
+
+// The number that the first eight octets spell, the highest first.
+fn first_eight(octets: [u8; 32]) -> u64
+    ensures { result ≡ from_be_bytes w64 (take 8 octets) }
+{
+    u64::from_be_bytes([
+        octets[0], octets[1], octets[2], octets[3], octets[4], octets[5], octets[6], octets[7],
+    ])
+}
+
+// The number of the stand-in key of a question.
+#[tactic(auto, unfolding(crate::specs::Values::usual_number))]
+fn usual_number(alloc: Global, order: &KeyOrder) -> Result<u64, AllocError>
+    ensures { IfOk result (λ number. number ≡ spec.usual_number order.now) }
+{
+    let text = order_text(alloc, order)?;
+    Ok(first_eight(digest_of(text.as_bytes())))
+}
