@@ -12,7 +12,7 @@ use Rattle.cmc_keys.specs.Synthetic.{synthetic_key}
 -- what a question for a key is called: the Certificate's namespace and name, and the number of the question
 abbrev pub order_text : KeyOrder → List ℕ
 order_text order =
-    order.certificate.namespace ++ codes "/" ++ order.certificate.name ++ codes "#" ++ decimal order.number
+    order.certificate.namespace ++ (codes "/" ++ (order.certificate.name ++ (codes "#" ++ decimal order.number)))
 
 -- the number of its stand-in key: the first eight octets of the digest of what it is called, the highest first
 unfoldable pub usual_number : KeyOrder → ℕ
@@ -37,6 +37,14 @@ IsOfRow order Default bytes = bytes ≡ usual_key order
 IsOfRow order (Synthetic number) bytes = bytes ≡ asked_key order number
 IsOfRow order (Der file) bytes = IsOfFile order file bytes
 IsOfRow order Free bytes = Unit {0}
+
+-- what a scenario's own maker answers: what the row says, and of a free row the stand-in key that has no row
+abbrev pub IsScriptedRow : KeyOrder → KeyRow → List ℕ → Type 0
+IsScriptedRow order Free bytes = bytes ≡ usual_key order
+IsScriptedRow order row bytes = IsOfRow order row bytes
+
+abbrev pub IsScripted : KeyOrder → List ℕ → Type 0
+IsScripted order bytes = IsScriptedRow order order.row bytes
 
 -- the octets answer the question: a key of the algorithm and size that are asked for, and what its row says
 pub record IsKeyValue (order : KeyOrder) (bytes : List ℕ) : Type 0 where

@@ -5,7 +5,7 @@ ghost use Rattle.std.specs.String.{string_bytes};
 ghost use Rattle.sha2.specs.Sha256.{sha256};
 ghost use Rattle.cmc_keys.specs.Kinds.{allows_size};
 ghost use Rattle.cmc_keys.specs.Values as spec;
-ghost use Rattle.cmc_keys.specs.Values.{IsKeyValue};
+ghost use Rattle.cmc_keys.specs.Values.{IsScripted, IsKeyValue};
 
 use crate::kinds::is_key_of;
 use crate::made::{Made, SignedCsr};
@@ -49,4 +49,45 @@ fn usual_number(alloc: Global, order: &KeyOrder) -> Result<u64, AllocError>
 {
     let text = order_text(alloc, order)?;
     Ok(first_eight(digest_of(text.as_bytes())))
+}
+
+// The stand-in key that the question asks for, of this number.
+fn asked_key(alloc: Global, order: &KeyOrder, number: u64) -> Result<Bytes, AllocError>
+    requires { IsTrue (allows_size order.now.algorithm order.now.size) }
+    ensures { IfOk result (λ bytes. bytes ≡ spec.asked_key order.now number) }
+{
+    synthetic_key(alloc, order.algorithm, order.size, order.encoding, number)
+}
+
+fn usual_key(alloc: Global, order: &KeyOrder) -> Result<Bytes, AllocError>
+    requires { IsTrue (allows_size order.now.algorithm order.now.size) }
+    ensures { IfOk result (λ bytes. bytes ≡ spec.usual_key order.now) }
+{
+    let number = usual_number(alloc, order)?;
+    asked_key(alloc, order, number)
+}
+
+// The key file of a row, where it is a key of the algorithm and the size that are asked for.
+fn key_of_file(alloc: Global, order: &KeyOrder, file: &Bytes) -> Result<Bytes, AllocError>
+    requires { IsTrue (allows_size order.now.algorithm order.now.size) }
+    ensures { IfOk result (λ bytes. spec.IsOfFile order.now file.now bytes) }
+{
+    if is_key_of(order.algorithm, order.size, file.as_slice()) {
+        file.copy()
+    } else {
+        usual_key(alloc, order)
+    }
+}
+
+// The key that the row says; of a free row the usual one.
+fn key_of_row(alloc: Global, order: &KeyOrder) -> Result<Bytes, AllocError>
+    requires { IsTrue (allows_size order.now.algorithm order.now.size) }
+    ensures { IfOk result (λ bytes. IsScripted order.now bytes) }
+{
+    match &order.row {
+        KeyRow::Default => usual_key(alloc, order),
+        KeyRow::Synthetic(number) => asked_key(alloc, order, *number),
+        KeyRow::Der(file) => key_of_file(alloc, order, file),
+        KeyRow::Free => usual_key(alloc, order),
+    }
 }
