@@ -145,6 +145,7 @@ bare_ec_file curve secret point is_point small =
       point_is = is_point;
     } in
     subst (λ (octets : List ℕ). IsEcPrivateKey (Some curve) (value 48 octets) curve point) (sym same) is
+
 -- ---- PrivateKeyInfo
 
 pub info_file : (oid : List ℕ) (tag : ℕ) (parameter held : List ℕ) (key : PublicKey) → tag % 32 ≢ 31 → IsHeldKey (record { oid = oid; parameter = Some (tag, parameter) }) held key → IsSmall (private_key_info oid tag parameter held) → IsPrivateKeyInfo (private_key_info oid tag parameter held) key

@@ -13,5 +13,5 @@ mod synthetic;
 pub use kinds::{is_allowed_size, is_key_of};
 pub use made::{Made, SignedCsr};
 pub use maker::KeyMaker;
-//pub use scripted::ScriptedKeys;
+pub use scripted::{ScriptedKeys, one_key_value};
 pub use synthetic::{synthetic_key, synthetic_keys_fit};

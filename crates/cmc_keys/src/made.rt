@@ -1,5 +1,5 @@
 //! What is given back for a question.
-ghost use Rattle.std.specs.Prelude.{◌≡◌, IfOk};
+ghost use Rattle.std.specs.Prelude.{◌≡◌, length, IfOk};
 
 use cmc_meta::Bytes;
 use cmc_objects::{CsrOrder, KeyOrder};
@@ -105,8 +105,10 @@ impl SignedCsr {
     }
 
     /// The octets of the signature.
+    #[tactic(auto, using(crate::proofs::SignatureLaws::signature_size))]
     pub fn signature(&self) -> &[u8]
         ensures value { result.now ≡ self.now.signature }
+        ensures size { length result.now ≡ 32 }
         ensures answers { IsCsrValue self.now.order self.now.signature }
     {
         self.signature.as_slice()

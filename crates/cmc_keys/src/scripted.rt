@@ -1,8 +1,9 @@
 //! The keys and signatures of a scenario.
-ghost use Rattle.std.specs.Prelude.{◌≡◌, ◌++◌, take, codes, decimal, IfOk, IsTrue};
+ghost use Rattle.std.specs.Prelude.{◌≡◌, ◌≢◌, ℕ, List, take, IfOk, IsTrue};
 ghost use Rattle.std.specs.Int.{w64, from_be_bytes};
 ghost use Rattle.std.specs.String.{string_bytes};
 ghost use Rattle.sha2.specs.Sha256.{sha256};
+ghost use Rattle.cmc_objects.specs.declared.orders.KeyOrder.{KeyOrder};
 ghost use Rattle.cmc_keys.specs.Kinds.{allows_size};
 ghost use Rattle.cmc_keys.specs.Values as spec;
 ghost use Rattle.cmc_keys.specs.Values.{IsScripted, IsKeyValue};
@@ -91,3 +92,38 @@ fn key_of_row(alloc: Global, order: &KeyOrder) -> Result<Bytes, AllocError>
         KeyRow::Free => usual_key(alloc, order),
     }
 }
+
+/// Makes the keys that the rows of a scenario say, and signs by the SHA-256 digest alone.
+///
+/// A row `Der` that is no key of the algorithm and the size that are asked for counts as `Default`; so does a free
+/// row. `Default` is the stand-in key whose number is the first eight octets, the highest first, of the SHA-256
+/// digest of `<namespace>/<name>#<number of the question>`.
+#[derive(Clone, Copy)]
+pub struct ScriptedKeys;
+
+impl KeyMaker for ScriptedKeys {
+    #[tactic(auto, using(crate::proofs::ScriptedLaws::scripted_answers))]
+    fn make(&self, alloc: Global, order: &KeyOrder) -> Result<Made, AllocError>
+        requires { IsTrue (allows_size order.now.algorithm order.now.size) }
+        ensures order { IfOk result (λ made. made.order ≡ order.now) }
+        ensures value { IfOk result (λ made. IsScripted order.now made.bytes) }
+    {
+        let bytes = key_of_row(alloc, order)?;
+        let order = order.copy()?;
+        Ok(Made::new(order, bytes))
+    }
+
+    fn sign(&self, alloc: Global, order: &CsrOrder) -> Result<SignedCsr, AllocError>
+        ensures { IfOk result (λ signed. signed.order ≡ order.now) }
+    {
+        let signature = Bytes::from_slice(alloc, &digest_of(order.body.as_slice()))?;
+        let order = order.copy()?;
+        Ok(SignedCsr::new(order, signature))
+    }
+}
+
+/// A law: a question has one key, unless its row is free.
+pub fn one_key_value()
+    ensures { (order : KeyOrder) (first second : List ℕ) → order.row ≢ KeyRow.Free →
+        IsKeyValue order first → IsKeyValue order second → first ≡ second }
+{}

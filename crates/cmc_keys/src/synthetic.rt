@@ -5,8 +5,7 @@ ghost use Rattle.cmc_objects.specs.declared.key_spec.Encoding.{Encoding};
 ghost use Rattle.cmc_keys.specs.Kinds.{allows_size, IsKeyOf};
 ghost use Rattle.cmc_keys.specs.Synthetic as spec;
 
-use crate::files;
-use crate::oids;
+use crate::{files, oids};
 use cmc_meta::Bytes;
 use cmc_objects::{Algorithm, Encoding};
 use std::alloc::{AllocError, Global};
@@ -78,12 +77,7 @@ fn curve_oid(size: u32) -> &'static [u8]
 }
 
 #[tactic(auto, using(crate::proofs::SyntheticLaws::files_short))]
-fn rsa_key(
-    alloc: Global,
-    size: u32,
-    encoding: Encoding,
-    number: u64,
-) -> Result<Vec<u8>, AllocError>
+fn rsa_key(alloc: Global, size: u32, encoding: Encoding, number: u64) -> Result<Vec<u8>, AllocError>
     requires least { 72 ≤ size }
     requires most { size < 2 ^ 14 }
     ensures { IfOk result (λ file. file.items ≡ spec.synthetic_key Algorithm.Rsa size encoding number) }
@@ -97,12 +91,7 @@ fn rsa_key(
 }
 
 #[tactic(auto, using(crate::proofs::FileLaws::bare_ec_size))]
-fn ec_key(
-    alloc: Global,
-    size: u32,
-    encoding: Encoding,
-    number: u64,
-) -> Result<Vec<u8>, AllocError>
+fn ec_key(alloc: Global, size: u32, encoding: Encoding, number: u64) -> Result<Vec<u8>, AllocError>
     requires least { 72 ≤ size }
     requires most { size < 2 ^ 14 }
     ensures { IfOk result (λ file. file.items ≡ spec.synthetic_key Algorithm.Ecdsa size encoding number) }
