@@ -4,6 +4,7 @@ use crate::key_spec::{Algorithm, Encoding};
 use crate::request::CertificateRequest;
 use crate::rows::{KeyRow, SignRow};
 use cmc_meta::{Bytes, Key, Text, Texts};
+use cmc_policy_rules::Policies;
 use std::alloc::AllocError;
 use std::marker::Model;
 
@@ -184,6 +185,8 @@ pub struct Rules {
     pub issuers: Texts,
     /// The names that no request may have.
     pub refuse: Texts,
+    /// The approval policies; with none each request is allowed.
+    pub policies: Policies,
 }
 
 impl Rules {
@@ -194,6 +197,7 @@ impl Rules {
         Ok(Rules {
             issuers: self.issuers.copy()?,
             refuse: self.refuse.copy()?,
+            policies: self.policies.copy()?,
         })
     }
 
@@ -201,7 +205,9 @@ impl Rules {
     pub fn same(&self, other: &Rules) -> bool
         ensures { IsTrue result ↔ (self.now ≡ other.now) }
     {
-        self.issuers.same(&other.issuers) && self.refuse.same(&other.refuse)
+        self.issuers.same(&other.issuers)
+            && self.refuse.same(&other.refuse)
+            && self.policies.same(&other.policies)
     }
 }
 

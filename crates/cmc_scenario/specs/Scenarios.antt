@@ -48,7 +48,7 @@ with_roles (Some d) = Ok tt
 
 -- An approver that judges the requests of all issuers and refuses none.
 abbrev pub plain_approver_rules : Rules
-plain_approver_rules = record { issuers = codes "*" ∷ []; refuse = [] }
+plain_approver_rules = record { issuers = codes "*" ∷ []; refuse = []; policies = [] }
 
 -- What a scenario that gives its roles and its script alone stands for: a run from 2030-01-01T00:00:00Z on, in which no call is
 -- made to fail.

@@ -13,6 +13,7 @@ use crate::steps::{Steps, script};
 use cmc_codec::{BadField, at, check_end, check_floats, fields, optional};
 use cmc_meta::{Numbers, Text, Texts};
 use cmc_objects::{Material, Role, Rules};
+use cmc_policy_rules::Policies;
 use serde_json::Value;
 use std::alloc::{AllocError, Global};
 
@@ -86,14 +87,18 @@ fn check_given(alloc: Global, roles: Option<&Value>) -> Result<(), BadField>
     }
 }
 
-/// The approver of a scenario that names none: it judges the requests of all issuers and refuses none.
+/// The approver of a scenario that names none: it judges the requests of all issuers, refuses none and
+/// has no policies.
 fn plain_approver(alloc: Global) -> Result<Rules, AllocError>
     ensures { IfOk result (λ r. r ≡ plain_approver_rules) }
 {
     let mut issuers = Texts::new(alloc);
     issuers.push(Text::from_str(alloc, "*")?)?;
-    let refuse = Texts::new(alloc);
-    Ok(Rules { issuers, refuse })
+    Ok(Rules {
+        issuers,
+        refuse: Texts::new(alloc),
+        policies: Policies::new(alloc),
+    })
 }
 
 /// The scenario that says no more than its roles and its script.

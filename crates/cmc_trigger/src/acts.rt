@@ -65,7 +65,10 @@ fn for_certificate(
     }
     let frame = Frame {
         now: moment,
-        renew: renew_by(certificate.spec.renew_percent, certificate.spec.renew_before),
+        renew: renew_by(
+            certificate.spec.renew_percent,
+            certificate.spec.renew_before,
+        ),
     };
     let reason = reason_for(alloc, frame, secret)?;
     for_reason(alloc, moment, certificate, reason)

@@ -8,8 +8,8 @@ ghost use Rattle.cmc_policies.specs.Reasons.{reason_name};
 ghost use Rattle.cmc_rules.specs.Triggering as spec;
 
 use cmc_meta::{Condition, ConditionKind, Text, Tri};
-use cmc_pass::Act;
 use cmc_objects::{Call, CertStatus, Certificate, Object};
+use cmc_pass::Act;
 use cmc_policies::Reason;
 use std::alloc::{AllocError, Global};
 

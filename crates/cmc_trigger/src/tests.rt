@@ -11,6 +11,7 @@ use cmc_objects::{
     Secret,
 };
 use cmc_pass::{Act, Desk, Views};
+use cmc_policy_rules::Policies;
 use std::alloc::{AllocError, Global};
 use std::test::Fail;
 
@@ -201,6 +202,7 @@ fn desk(alloc: Global) -> Desk {
         rules: Rules {
             issuers: Texts::new(alloc),
             refuse: Texts::new(alloc),
+            policies: Policies::new(alloc),
         },
     }
 }

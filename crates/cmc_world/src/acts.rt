@@ -8,6 +8,7 @@ ghost use Rattle.cmc_world.specs.Acting.{act_by};
 use cmc_meta::Texts;
 use cmc_objects::{Call, Material, Role, Rules};
 use cmc_pass::{Act, Desk, Views};
+use cmc_policy_rules::Policies;
 use std::alloc::{AllocError, Global};
 
 /// A desk with nothing on it: no role of today looks at its desk.
@@ -18,6 +19,7 @@ fn empty_desk(alloc: Global) -> Desk {
         rules: Rules {
             issuers: Texts::new(alloc),
             refuse: Texts::new(alloc),
+            policies: Policies::new(alloc),
         },
     }
 }

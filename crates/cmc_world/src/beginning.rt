@@ -16,9 +16,9 @@ use crate::moves::{Stepped, answer_begin};
 use crate::world::{World, has_room};
 use cmc_held::{Log, is_same, kind_of_work, own_above, shown_positions, views_at};
 use cmc_meta::Key;
+use cmc_objects::{Entry, Positions, Role};
 use cmc_pass::Views;
 use cmc_rules::{OpenPass, Origin, Past, Stage};
-use cmc_objects::{Entry, Positions, Role};
 use std::alloc::{AllocError, Global};
 
 /// A pass that is ready to begin.

@@ -18,9 +18,9 @@ use crate::moves::{Stepped, answer_next};
 use crate::noting::{kind_written, log_write, note_write, stage_by};
 use crate::world::{World, has_room};
 use cmc_meta::{Key, Kind};
+use cmc_objects::{Call, Cause, Entry, Role, Who};
 use cmc_pass::Views;
 use cmc_rules::{Ending, OpenPass, Origin, Stage};
-use cmc_objects::{Call, Cause, Entry, Role, Who};
 use cmc_store::Replied;
 use std::alloc::{AllocError, Global};
 

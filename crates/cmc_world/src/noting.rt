@@ -15,8 +15,8 @@ ghost use Rattle.cmc_world.specs.Noting.{CanCount, counted, logged, noted};
 use cmc_held::{Log, Pasts, Standing, Standings, with_written, written_of};
 use cmc_meta::{Key, Kind};
 use cmc_model::Write;
-use cmc_rules::{Obstacle, Stage};
 use cmc_objects::{Object, Reply, Role};
+use cmc_rules::{Obstacle, Stage};
 
 /// How far a pass has come whose call of an object of the kind was answered so in the entry of this
 /// number. `last` is the version of the last write under the key of the call.

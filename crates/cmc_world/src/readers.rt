@@ -16,9 +16,9 @@ use crate::resting;
 use crate::world::World;
 use cmc_held::{Log, Passes, shown_positions};
 use cmc_meta::Key;
+use cmc_objects::{Positions, Role};
 use cmc_pass::Views;
 use cmc_rules::Past;
-use cmc_objects::{Positions, Role};
 use std::alloc::{AllocError, Global};
 
 impl World {

@@ -29,9 +29,9 @@ use cmc_held::{
 };
 use cmc_meta::{Key, Kind};
 use cmc_model::Write;
+use cmc_objects::{Positions, Role, Step};
 use cmc_pass::Views;
 use cmc_rules::Past;
-use cmc_objects::{Positions, Role, Step};
 use std::alloc::{AllocError, Global};
 
 /// Whether the role has nothing to do where it sees this.

@@ -10,6 +10,7 @@ use cmc_objects::{
     Cause, CertSpec, CertStatus, Certificate, Entry, IssuerRef, KeySpec, Material, Object, Parts,
     Role, Rules, Secret, Step,
 };
+use cmc_policy_rules::Policies;
 use cmc_scenario::{Roles, Scenario, Steps, is_setup};
 use std::alloc::Global;
 use std::test::Fail;
@@ -194,6 +195,7 @@ fn scenario(alloc: Global) -> Result<Scenario, Fail> {
     let approver = Rules {
         issuers: Texts::new(alloc),
         refuse: Texts::new(alloc),
+        policies: Policies::new(alloc),
     };
     scenario_of(roles, faults, approver, Material::new(alloc), steps)
 }

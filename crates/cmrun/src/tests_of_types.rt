@@ -12,6 +12,7 @@ use cmc_objects::{
     Parts, Reply, RequestSpec, RequestStatus, Role, Rotation, Rows, Rules, Secret, SignRow,
     SignRows, Signing, Step, Who,
 };
+use cmc_policy_rules::Policies;
 use cmc_scenario::{Roles, Scenario, read};
 use cmc_store::Store;
 use serde_json::Value;
@@ -226,6 +227,7 @@ fn copies_are_equal(rt: HostRuntime) -> Result<(), Fail> {
         rules: Rules {
             issuers: texts(alloc, "*")?,
             refuse: Texts::new(alloc),
+            policies: Policies::new(alloc),
         },
     };
     assert_order(&rt, Order::Judge(judge), &csr)?;
