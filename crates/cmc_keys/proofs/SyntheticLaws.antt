@@ -1,11 +1,11 @@
 -- Each stand-in key is a key of the algorithm and the size that it is made for.
-use Rattle.std.proofs.Common.{◌≡◌, ◌≢◌, ℕ, ◌+◌, ◌-◌, ◌*◌, ◌/◌, ◌%◌, ◌≤◌, ◌<◌, Bool, true, false, ◌||◌, ◌==◌, List, [], ◌∷◌, ◌++◌, length, replicate, min, Option, Some, refl, sym, ap, subst, eqb, ◌^◌, arith, length-append, inl, inr}
+use Rattle.std.proofs.Common.{◌≡◌, ℕ, ◌+◌, ◌-◌, ◌*◌, ◌≤◌, ◌<◌, true, [], ◌∷◌, ◌++◌, length, replicate, min, Option, Some, refl, sym, ap, subst, eqb, ◌^◌, arith, length-append, inl, inr}
 use Rattle.std.proofs.lemmas.List.{length-replicate}
 use Rattle.std.proofs.lemmas.Bool.{cases_Bool, eqb-true}
 use Rattle.std.specs.Int.{w64, to_be_bytes}
 use Rattle.cmc_der.specs.declared.fields.KeyKind.{KeyKind}
 use Rattle.cmc_der.specs.declared.fields.KeyKind.TheVariants as kinds
-use Rattle.cmc_der.specs.Keys.{PublicKey, RsaKey, EcKey, kind_of}
+use Rattle.cmc_der.specs.Keys.{RsaKey, EcKey, kind_of}
 use Rattle.cmc_x509.specs.PublicKeys.{width, NamesCurve, IsPoint}
 use Rattle.cmc_x509.specs.KeyFiles.{IsKeyFile}
 use Rattle.cmc_objects.specs.declared.key_spec.Algorithm.{Algorithm}

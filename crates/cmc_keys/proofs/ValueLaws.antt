@@ -1,5 +1,5 @@
 -- Values that are written, within the size that is read, are values of the grammar.
-use Rattle.std.proofs.Common.{◌≡◌, ◌≢◌, ℕ, ◌+◌, ◌%◌, ◌≤◌, List, [], ◌++◌, length, sym, arith, append-nil, length-append}
+use Rattle.std.proofs.Common.{◌≢◌, ℕ, ◌%◌, ◌≤◌, List, [], ◌++◌, length, sym, arith, append-nil, length-append}
 use Rattle.cmc_der.specs.Values.{IsValue, BeginsWith}
 use Rattle.cmc_der.specs.Building.{value, length_octets}
 use Rattle.cmc_der.proofs.Spelled.{value_spelled, value_begins}
