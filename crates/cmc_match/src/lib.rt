@@ -1,0 +1,10 @@
+//! Whether a private key, a certification request and a Secret fit a Certificate: what the controllers compare.
+//!
+//! No call takes memory.
+#![tactic(auto)]
+
+mod marks;
+mod sets;
+
+pub use marks::{asks_for_temporary, has_text, is_next_key, is_temporary, part_under, text_under};
+pub use sets::is_same_set;
