@@ -1,2 +1,3 @@
 pub mod SetLaws
 pub mod MarkLaws
+pub mod NameLaws

@@ -1,3 +1,4 @@
 pub mod Sets
 pub mod Marks
 pub mod SubjectNames
+pub mod Matching

@@ -1,5 +1,5 @@
 -- The names that a Certificate asks for, and those of a certification request.
-use Rattle.std.specs.Prelude.{◌≡◌, ℕ, ◌==◌, ◌⊎◌, ◌↔◌, Bool, true, ◌&&◌, ◌||◌, List, [], ◌∷◌, length, filter, Contains, Option, Some, None, if◌then◌else◌}
+use Rattle.std.specs.Prelude.{◌≡◌, ℕ, ◌==◌, ◌⊎◌, ◌↔◌, Bool, false, ◌&&◌, ◌||◌, List, [], ◌∷◌, length, filter, Contains, Option, Some, None, if◌then◌else◌}
 use Rattle.std.specs.Str.{bytes_eq}
 use Rattle.std.specs.List.{list_all, filter_map}
 use Rattle.cmc_der.specs.Keys.{SubjectNames}
@@ -50,6 +50,14 @@ value_list (Some values) = values
 -- the values that the octets are, one behind the other
 unfoldable pub values_of : List ℕ → List Value
 values_of octets = value_list (values_at octets)
+
+-- the text writes the address of these octets
+abbrev pub is_octets : Option (List ℕ) → List ℕ → Bool
+is_octets None octets = false
+is_octets (Some found) octets = bytes_eq found octets
+
+abbrev pub is_written_by : List ℕ → List ℕ → Bool
+is_written_by text octets = is_octets (address_at text) octets
 
 -- the addresses that the texts write
 abbrev pub written : List (List ℕ) → List (List ℕ)

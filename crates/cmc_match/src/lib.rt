@@ -4,6 +4,7 @@
 #![tactic(auto)]
 
 mod marks;
+mod names;
 mod sets;
 
 pub use marks::{asks_for_temporary, has_text, is_next_key, is_temporary, part_under, text_under};
