@@ -1,5 +1,5 @@
 -- Whether a CertificateRequest asks for what a Certificate asks for, and for which key.
-use Rattle.std.specs.Prelude.{◌≡◌, ℕ, ◌==◌, Bool, true, false, ◌&&◌, List, Option, Some, None}
+use Rattle.std.specs.Prelude.{◌≡◌, ℕ, ◌==◌, Bool, false, not, if◌then◌else◌, ◌&&◌, List, Option, Some, None}
 use Rattle.std.specs.Str.{bytes_eq}
 use Rattle.cmc_der.specs.Keys.{PublicKey, RsaKey, EcKey, OtherKey, RequestFields, same_kind}
 use Rattle.cmc_x509.specs.KeyFiles.{IsKeyFile}
@@ -45,9 +45,7 @@ is_same_issuer left right =
     && (bytes_eq (issuer_kind left) (issuer_kind right) && bytes_eq (issuer_group left) (issuer_group right))
 
 abbrev pub is_same_flag : Bool → Bool → Bool
-is_same_flag true right = right
-is_same_flag false true = false
-is_same_flag false false = true
+is_same_flag left right = if left then right else not right
 
 unfoldable pub has_terms : CertSpec → RequestSpec → Bool
 has_terms spec request =

@@ -4,8 +4,11 @@
 #![tactic(auto)]
 
 mod marks;
+mod matching;
 mod names;
 mod sets;
 
 pub use marks::{asks_for_temporary, has_text, is_next_key, is_temporary, part_under, text_under};
+pub use matching::{is_one_key, key_fits, request_has_key, request_matches};
+pub use names::has_names;
 pub use sets::is_same_set;
