@@ -1,9 +1,10 @@
 -- The algorithm and the size of a key, and the files that hold a key of these.
-use Rattle.std.specs.Prelude.{◌≡◌, ℕ, ◌==◌, ◌||◌, Bool, List, Some}
+use Rattle.std.specs.Prelude.{◌≡◌, ℕ, ◌==◌, ◌||◌, ◌&&◌, Bool, true, false, List, Option, Some, None}
 use Rattle.cmc_der.specs.declared.fields.KeyKind.{KeyKind}
 use Rattle.cmc_der.specs.declared.fields.KeyKind.TheVariants as kinds
 use Rattle.cmc_der.specs.Keys.{PublicKey, kind_of}
 use Rattle.cmc_x509.specs.KeyFiles.{IsKeyFile}
+use Rattle.cmc_x509.specs.ReadKeys.{key_file_at}
 use Rattle.cmc_objects.specs.declared.key_spec.Algorithm.{Algorithm}
 use Rattle.cmc_objects.specs.declared.key_spec.Algorithm.TheVariants.{Rsa, Ecdsa}
 
@@ -32,3 +33,21 @@ pub record IsKeyOf (algorithm : Algorithm) (size : ℕ) (octets : List ℕ) : Ty
   pub kind_is : kind_of key ≡ Some kind
   pub algorithm_is : algorithm_of kind ≡ algorithm
   pub size_is : size_of kind ≡ size
+
+-- ---- the same as a test
+
+abbrev pub is_same_algorithm : Algorithm → Algorithm → Bool
+is_same_algorithm Rsa Rsa = true
+is_same_algorithm Ecdsa Ecdsa = true
+is_same_algorithm left right = false
+
+abbrev pub is_kind_of : Algorithm → ℕ → Option KeyKind → Bool
+is_kind_of algorithm size None = false
+is_kind_of algorithm size (Some kind) = is_same_algorithm (algorithm_of kind) algorithm && (size_of kind == size)
+
+abbrev pub is_public_of : Algorithm → ℕ → Option PublicKey → Bool
+is_public_of algorithm size None = false
+is_public_of algorithm size (Some key) = is_kind_of algorithm size (kind_of key)
+
+unfoldable pub is_key_of : Algorithm → ℕ → List ℕ → Bool
+is_key_of algorithm size octets = is_public_of algorithm size (key_file_at octets)

@@ -37,16 +37,40 @@ fn size_of(kind: KeyKind) -> u32
     }
 }
 
-/// Whether the octets are a file of a private key (RSAPrivateKey, ECPrivateKey or PrivateKeyInfo, in DER) whose
-/// public key has this algorithm and size. It takes no memory.
-pub fn is_key_of(algorithm: Algorithm, size: u32, octets: &[u8]) -> bool
-    ensures { IsTrue result ↔ IsKeyOf algorithm size octets.now }
+fn is_same_algorithm(left: Algorithm, right: Algorithm) -> bool
+    ensures { result ≡ spec.is_same_algorithm left right }
+{
+    match (left, right) {
+        (Algorithm::Rsa, Algorithm::Rsa) => true,
+        (Algorithm::Ecdsa, Algorithm::Ecdsa) => true,
+        _ => false,
+    }
+}
+
+fn is_kind_of(algorithm: Algorithm, size: u32, kind: Option<KeyKind>) -> bool
+    ensures { result ≡ spec.is_kind_of algorithm size kind }
+{
+    match kind {
+        None => false,
+        Some(kind) => is_same_algorithm(algorithm_of(kind), algorithm) && size_of(kind) == size,
+    }
+}
+
+#[tactic(auto, unfolding(crate::specs::Kinds::is_key_of))]
+fn fits(algorithm: Algorithm, size: u32, octets: &[u8]) -> bool
+    ensures { result ≡ spec.is_key_of algorithm size octets.now }
 {
     match key_public(octets) {
         None => false,
-        Some(key) => match key.kind() {
-            None => false,
-            Some(kind) => algorithm_of(kind).same(algorithm) && size_of(kind) == size,
-        },
+        Some(key) => is_kind_of(algorithm, size, key.kind()),
     }
+}
+
+/// Whether the octets are a file of a private key (RSAPrivateKey, ECPrivateKey or PrivateKeyInfo, in DER) whose
+/// public key has this algorithm and size. It takes no memory.
+pub fn is_key_of(algorithm: Algorithm, size: u32, octets: &[u8]) -> bool
+    ensures means { IsTrue result ↔ IsKeyOf algorithm size octets.now }
+    ensures value { result ≡ spec.is_key_of algorithm size octets.now }
+{
+    fits(algorithm, size, octets)
 }

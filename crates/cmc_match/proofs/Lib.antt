@@ -2,3 +2,5 @@ pub mod SetLaws
 pub mod MarkLaws
 pub mod NameLaws
 pub mod MatchLaws
+pub mod TimeLaws
+pub mod PairLaws

@@ -1,12 +1,10 @@
 -- The tests of matching say what they are to say.
-use Rattle.std.proofs.Common.{◌≡◌, ℕ, Bool, true, false, not, ◌&&◌, eqb, cond, List, [], ◌∷◌, Option, Some, None, refl, sym, ap, subst, ◌∙◌, arith, inl, inr}
+use Rattle.std.proofs.Common.{◌≡◌, ℕ, Bool, true, false, List, [], ◌∷◌, Option, Some, None, refl, sym, ap, subst, ◌∙◌, arith, inl, inr}
 use Rattle.std.specs.Prelude.{◌↔◌, IsTrue, Contains}
-use Rattle.std.specs.Str.{bytes_eq}
 use Rattle.std.specs.List.{cons_option}
 use Rattle.std.proofs.lemmas.Bool.{eqb-true, eq-eqb, false≢true}
 use Rattle.std.proofs.lemmas.Bool.Decides.{same_from_decides}
 use Rattle.std.proofs.lemmas.Slice.Eq.{bytes_eq-Decides}
-use Rattle.std.proofs.lemmas.Option.{none-some, same_Some}
 use Rattle.cmc_der.specs.declared.fields.KeyKind.{KeyKind}
 use Rattle.cmc_der.specs.declared.fields.KeyKind.TheVariants.{Rsa, P256, P384, P521}
 use Rattle.cmc_der.specs.Keys.{PublicKey, RsaKey, EcKey, OtherKey, RequestFields, SubjectNames, same_kind}
@@ -25,9 +23,9 @@ use Rattle.cmc_objects.specs.declared.issuer.IssuerRef.{IssuerRef}
 use Rattle.cmc_objects.specs.declared.certificate.CertSpec.{CertSpec}
 use Rattle.cmc_objects.specs.declared.request.RequestSpec.{RequestSpec}
 use Rattle.cmc_objects.specs.declared.request.CertificateRequest.{CertificateRequest}
-use Rattle.cmc_objects.specs.Defaults.{issuer_kind, issuer_group, certificate_duration}
-use Rattle.cmc_match.specs.Sets.{IsSameSet, is_same_set}
-use Rattle.cmc_match.specs.SubjectNames.{common_text, named, addresses, Writes, HasNames, values_of, written, has_same_names, has_same_addresses, has_names}
+use Rattle.cmc_objects.specs.Defaults.{certificate_duration}
+use Rattle.cmc_match.specs.Sets.{IsSameSet}
+use Rattle.cmc_match.specs.SubjectNames.{named, addresses, Writes, HasNames, values_of, written, has_names}
 use Rattle.cmc_match.specs.Matching.{IsSameIssuer, Matches, HasKey, is_same_issuer, is_same_flag, has_terms, asks_for_names, matches, is_one_key, is_one_of, has_key}
 use Rattle.cmc_match.proofs.SetLaws.{contains_here, contains_later, contains_cases, sets, and_left, and_right, and_both}
 use Rattle.cmc_match.proofs.NameLaws.{values_are}
@@ -188,14 +186,14 @@ rsa_same m e n f h k = cc
 ec_same : (c : KeyKind) (p : List ℕ) (d : KeyKind) (q : List ℕ) → c ≡ d → p ≡ q → EcKey c p ≡ EcKey d q
 ec_same c p d q h k = cc
 
-key_found : (a b : PublicKey) → is_one_key a b ≡ true → a ≡ b
+pub key_found : (a b : PublicKey) → is_one_key a b ≡ true → a ≡ b
 unfolding is_one_key
 key_found (RsaKey m e) (RsaKey n f) h = rsa_same m e n f ((bytes_eq-Decides m n).0 (and_left _ _ h)) ((bytes_eq-Decides e f).0 (and_right _ _ h))
 key_found (EcKey c p) (EcKey d q) h = ec_same c p d q (kind_found c d (and_left _ _ h)) ((bytes_eq-Decides p q).0 (and_right _ _ h))
 key_found (OtherKey w) (OtherKey v) h = ap OtherKey ((bytes_eq-Decides w v).0 h)
 key_found a b h = absurd (false≢true h)
 
-key_itself : (a : PublicKey) → is_one_key a a ≡ true
+pub key_itself : (a : PublicKey) → is_one_key a a ≡ true
 unfolding is_one_key
 key_itself (RsaKey m e) = and_both _ _ ((bytes_eq-Decides m m).1 refl) ((bytes_eq-Decides e e).1 refl)
 key_itself (EcKey c p) = and_both _ _ (kind_itself c) ((bytes_eq-Decides p p).1 refl)

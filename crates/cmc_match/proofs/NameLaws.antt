@@ -1,6 +1,5 @@
 -- The tests on names say what they are to say.
-use Rattle.std.proofs.Common.{◌≡◌, ℕ, Bool, true, false, not, ◌&&◌, ◌||◌, eqb, cond, List, [], ◌∷◌, length, filter, Option, Some, None, refl, sym, ap, subst, ◌∙◌, inl, inr}
-use Rattle.std.specs.Prelude.{◌↔◌, IsTrue, Contains}
+use Rattle.std.proofs.Common.{◌≡◌, ℕ, Bool, true, false, ◌&&◌, ◌||◌, eqb, cond, List, [], ◌∷◌, filter, Option, Some, None, refl, sym, ap, ◌∙◌, inl, inr}
 use Rattle.std.specs.Str.{bytes_eq}
 use Rattle.std.specs.List.{list_any, list_all, cons_option}
 use Rattle.std.specs.Option.{option_map_or}
@@ -9,7 +8,7 @@ use Rattle.std.proofs.lemmas.Bool.{cases_Bool}
 use Rattle.std.proofs.lemmas.Slice.Eq.{bytes_eq-Decides}
 use Rattle.cmc_der.specs.Values.{BeginsWith}
 use Rattle.cmc_x509.specs.Taking.{Value}
-use Rattle.cmc_x509.specs.Lists.{IsValues, IsValueList, values_at}
+use Rattle.cmc_x509.specs.Lists.{IsValues, IsValueList}
 use Rattle.cmc_x509.proofs.ListLaws.{values_again}
 use Rattle.cmc_match.specs.Sets.{is_among, is_within}
 use Rattle.cmc_match.specs.SubjectNames.{named, is_address, addresses, value_list, values_of, is_octets, is_written_by, written}

@@ -2,3 +2,4 @@ pub mod Sets
 pub mod Marks
 pub mod SubjectNames
 pub mod Matching
+pub mod Facts

@@ -1,13 +1,13 @@
 -- The names that a Certificate asks for, and those of a certification request.
-use Rattle.std.specs.Prelude.{◌≡◌, ℕ, ◌==◌, ◌⊎◌, ◌↔◌, Bool, false, ◌&&◌, ◌||◌, List, [], ◌∷◌, length, filter, Contains, Option, Some, None, if◌then◌else◌}
+use Rattle.std.specs.Prelude.{◌≡◌, ℕ, ◌==◌, ◌↔◌, Bool, false, ◌&&◌, ◌||◌, List, [], ◌∷◌, length, filter, Contains, Option, Some, None, if◌then◌else◌}
 use Rattle.std.specs.Str.{bytes_eq}
-use Rattle.std.specs.List.{list_all, filter_map}
+use Rattle.std.specs.List.{filter_map}
 use Rattle.cmc_der.specs.Keys.{SubjectNames}
 use Rattle.cmc_x509.specs.Taking.{Value}
 use Rattle.cmc_x509.specs.Lists.{IsValues, values_at}
 use Rattle.cmc_x509_build.specs.Addresses.{IsAddress, address_at}
 use Rattle.cmc_objects.specs.declared.certificate.CertSpec.{CertSpec}
-use Rattle.cmc_match.specs.Sets.{IsSameSet, is_among, is_within, is_same_set}
+use Rattle.cmc_match.specs.Sets.{IsSameSet, is_same_set}
 
 -- no common name counts as the empty one
 abbrev pub common_text : Option (List ℕ) → List ℕ

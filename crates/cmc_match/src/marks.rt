@@ -53,14 +53,22 @@ pub fn has_text(pairs: &Pairs, key: &str, text: &str) -> bool
 pub fn is_next_key(secret: &Secret) -> bool
     ensures { result ≡ spec.is_next_key secret.now }
 {
-    has_text(&secret.meta.labels, "cert-manager.io/next-private-key", "true")
+    has_text(
+        &secret.meta.labels,
+        "cert-manager.io/next-private-key",
+        "true",
+    )
 }
 
 /// Whether the Secret is annotated as one that holds a temporary certificate.
 pub fn is_temporary(secret: &Secret) -> bool
     ensures { result ≡ spec.is_temporary secret.now }
 {
-    has_text(&secret.meta.annotations, "cert-manager.io/temporary-certificate", "true")
+    has_text(
+        &secret.meta.annotations,
+        "cert-manager.io/temporary-certificate",
+        "true",
+    )
 }
 
 /// Whether the Certificate is annotated to get a temporary certificate while its request waits.

@@ -4,7 +4,7 @@ ghost use Rattle.cmc_der.specs.Keys.{key_shown};
 ghost use Rattle.cmc_x509.specs.ReadKeys.{key_file_at};
 ghost use Rattle.cmc_x509.specs.ReadCertificates.{request_at};
 ghost use Rattle.cmc_objects.specs.Defaults.{certificate_duration, key_algorithm, key_size};
-ghost use Rattle.cmc_keys.specs.Kinds.{IsKeyOf};
+ghost use Rattle.cmc_keys.specs.Kinds.{IsKeyOf, is_key_of};
 ghost use Rattle.cmc_match.specs.Matching as words;
 ghost use Rattle.cmc_match.specs.Matching.{Matches, HasKey};
 
@@ -17,7 +17,8 @@ use cmc_x509::{Spki, read_csr, read_key};
 /// Whether the octets are a file of a private key of the algorithm and the size that are asked for, in whichever
 /// encoding.
 pub fn key_fits(spec: &KeySpec, key: &[u8]) -> bool
-    ensures { IsTrue result ↔ IsKeyOf (key_algorithm spec.now) (key_size spec.now) key.now }
+    ensures means { IsTrue result ↔ IsKeyOf (key_algorithm spec.now) (key_size spec.now) key.now }
+    ensures value { result ≡ is_key_of (key_algorithm spec.now) (key_size spec.now) key.now }
 {
     is_key_of(spec.algorithm_at_use(), spec.size_at_use(), key)
 }

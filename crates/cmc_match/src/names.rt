@@ -19,8 +19,11 @@ use std::net::IpAddr;
 
 // The tags of GeneralNames (RFC 5280, 4.2.1.6).
 const EMAIL: u8 = 129;
+
 const DNS_NAME: u8 = 130;
+
 const URI: u8 = 134;
+
 const ADDRESS: u8 = 135;
 
 fn is_name(kind: u8, contents: &[u8], tag: u8, name: &[u8]) -> bool
