@@ -4,3 +4,4 @@ pub mod NameLaws
 pub mod MatchLaws
 pub mod TimeLaws
 pub mod PairLaws
+pub mod NumberLaws

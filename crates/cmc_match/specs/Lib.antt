@@ -3,3 +3,4 @@ pub mod Marks
 pub mod SubjectNames
 pub mod Matching
 pub mod Facts
+pub mod Revisions

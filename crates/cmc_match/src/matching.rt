@@ -84,7 +84,8 @@ pub fn request_matches(spec: &CertSpec, request: &CertificateRequest) -> bool
 
 /// Whether two public keys have equal parts.
 pub fn is_one_key(left: &Spki<'_>, right: &Spki<'_>) -> bool
-    ensures { result ≡ words.is_one_key (key_shown left.now) (key_shown right.now) }
+    ensures means { IsTrue result ↔ (key_shown left.now ≡ key_shown right.now) }
+    ensures value { result ≡ words.is_one_key (key_shown left.now) (key_shown right.now) }
 {
     left.same(right)
 }
