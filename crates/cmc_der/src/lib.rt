@@ -9,8 +9,3 @@ mod writing;
 pub use fields::{CertFields, CsrFields, KeyKind, Names, Spki, bits_are_fewest};
 pub use reading::{DerFault, Tlv, no_proper_prefix, read_one};
 pub use writing::{Writer, number_is_shortest, written_is_read};
-
-#[cfg(test)]
-mod made;
-#[cfg(test)]
-mod tests;

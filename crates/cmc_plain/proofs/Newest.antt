@@ -132,9 +132,3 @@ views_newest s h role key legal told =
     ap (λ (c : Option Certificate). if looks_at_requests role then of_certificate (requests_of requests) c else []) certificate
     ∙ on_yes (looks_at_requests role) _ _ _ (λ b. each_same (requests_of requests) (requests_of present) stands (λ c. seen_all s h kinds.CertificateRequest _ (owned_in c) legal (owned_of_requests c) (told kinds.CertificateRequest (or_right _ _ b)))) in
     λ i. record { certificate = certificate i; secret = secret i; next = next i; requests = owned i; request = request i }
-
--- the same where no write is above its positions
-pub views_newest_told : (s : Setting) (h : List Entry) (role : Role) (key : Key) → IsLegal s h → ((kind : Kind) → has_informer role kind ≡ true → position h role kind ≡ accepted s h)
-    → views s h role key ≡ present_views s h role key
-views_newest_told s h role key legal told =
-    views_newest s h role key legal (λ kind informed. omega (arith, told kind informed, last_low kind (writes s h), writes_count s h))

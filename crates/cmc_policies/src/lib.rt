@@ -6,8 +6,6 @@ mod chain;
 mod check;
 mod facts;
 mod renewal;
-#[cfg(test)]
-mod tests;
 
 pub use chain::{Chain, Empty, Link};
 pub use check::Check;

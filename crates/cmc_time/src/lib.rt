@@ -6,8 +6,6 @@ mod duration;
 mod moment;
 mod reading;
 mod rfc3339;
-#[cfg(test)]
-mod tests;
 mod writing;
 
 pub use asn1::{asn1_time, asn1_time_tag, print_asn1_time};

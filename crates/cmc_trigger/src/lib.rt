@@ -5,12 +5,8 @@
 
 mod acts;
 mod issuing;
+mod laws;
 mod reasons;
-mod rights;
-#[cfg(test)]
-mod tests;
-#[cfg(test)]
-mod tests_of_views;
 
 pub use acts::act;
-pub use rights::changes_issuing_alone;
+pub use laws::is_sound;

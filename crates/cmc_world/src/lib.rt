@@ -13,8 +13,6 @@ mod readers;
 mod resting;
 mod scripting;
 mod telling;
-#[cfg(test)]
-mod tests;
 mod world;
 
 pub use moves::{Lack, Move, Stepped};

@@ -15,12 +15,3 @@ pub use cmc_der::{CertFields, CsrFields, KeyKind, Names, Spki};
 pub use key_files::{key_public, read_key};
 pub use names::next_name;
 pub use taking::{MAX_INPUT, NotForm};
-
-#[cfg(test)]
-mod made_certificates;
-#[cfg(test)]
-mod made_keys;
-#[cfg(test)]
-mod made_requests;
-#[cfg(test)]
-mod tests;

@@ -10,8 +10,6 @@ mod pieces;
 mod requests;
 mod serving;
 mod signatures;
-#[cfg(test)]
-mod tests;
 
 pub use addresses::address_at;
 pub use certificates::{CertPlan, cert_body, cert_whole};

@@ -1,11 +1,12 @@
 -- Parts of what is written.
-use Rattle.std.proofs.Common.{zero, suc, get_or, arith, String, Global, string_bytes, ◌≡◌, ℕ, ◌+◌, ◌<◌, List, [], ◌∷◌, ◌++◌, length, take, drop, None, Some, refl, sym, ap, ◌∙◌, subst, append_assoc, append-nil, take-append-drop, length-append}
+use Rattle.std.proofs.Common.{zero, suc, get_or, arith, String, Global, string_bytes, ◌≡◌, ℕ, ◌+◌, ◌<◌, ◌≤◌, Ok, Err, IfErr, List, [], ◌∷◌, ◌++◌, length, take, drop, None, Some, refl, sym, ap, ◌∙◌, subst, append_assoc, append-nil, take-append-drop, length-append}
 use Rattle.std.proofs.Math.Seq.{take-append-add, take-append_seam}
 use Rattle.std.specs.declared.option.Option.{Option}
+use Rattle.std.specs.declared.result.Result.{Result}
 use Rattle.std.specs.Io.KnownBytes.{Appends, Keeps}
 use Rattle.std.specs.Io.KnownBytes.{Consumes}
 use Rattle.std.proofs.KnownBytes.{Appends-trans, Appends-kept, Appends-nil, Consumes-trans}
-use Rattle.cmrun.specs.Ends.{AppendsPrefix, ConsumesExactly}
+use Rattle.cmrun.specs.Ends.{AppendsPrefix, ConsumesExactly, ConsumesAtMost}
 use Rattle.cmrun.specs.Lines.{joined}
 
 -- nothing was added
@@ -30,18 +31,12 @@ pub record WrittenSoFar (old now : Option (List ℕ)) (piece rest : List ℕ) : 
   pub whole : piece ≡ done ++ rest
   pub added : Appends old now done
 
-pub written_nothing : (a : Option (List ℕ)) (piece : List ℕ) → WrittenSoFar a a piece piece
-written_nothing a piece = record { done = []; whole = refl; added = Appends-nil a }
-
 pub written_more : (a b c : Option (List ℕ)) (piece rest : List ℕ) (n : ℕ) → WrittenSoFar a b piece rest → Appends b c (take n rest) → WrittenSoFar a c piece (drop n rest)
 written_more a b c piece rest n h more = record {
   done = h.done ++ take n rest;
   whole = h.whole ∙ ap (λ l. h.done ++ l) (sym (take-append-drop n rest)) ∙ sym (append_assoc h.done (take n rest) (drop n rest));
   added = Appends-trans a b c h.done (take n rest) h.added more;
 }
-
-pub written_all : (a b : Option (List ℕ)) (piece rest : List ℕ) → WrittenSoFar a b piece rest → rest ≡ [] → Appends a b piece
-written_all a b piece rest h end = subst (Appends a b) (sym (h.whole ∙ ap (λ l. h.done ++ l) end ∙ append-nil h.done)) h.added
 
 pub written_part : (a b c : Option (List ℕ)) (piece rest : List ℕ) → WrittenSoFar a b piece rest → AppendsPrefix b c rest → AppendsPrefix a c piece
 written_part a b c piece rest h later = subst (AppendsPrefix a c) (sym h.whole) (prefix_later a b c h.done rest h.added later)
@@ -63,3 +58,11 @@ prefix_of_lines a b c lines i line h here before part =
 -- what was read before, and then so many bytes more
 pub consumed_more : (a b c : Option (List ℕ)) (front back : List ℕ) (n : ℕ) → Consumes a b front → Consumes b c back → length front + length back ≡ n → ConsumesExactly a c n
 consumed_more a b c front back n first later count = (front ++ back, Consumes-trans a b c front back first later, length-append front back ∙ count)
+
+pub consumed_within : (a b c : Option (List ℕ)) (front back : List ℕ) (n : ℕ) → Consumes a b front → Consumes b c back → length front + length back ≤ n → ConsumesAtMost a c n
+consumed_within a b c front back n first later count = (front ++ back, Consumes-trans a b c front back first later, subst (λ k. k ≤ n) (sym (length-append front back)) count)
+
+-- what holds whatever the error is
+pub at_each_error : {T E A : Type 0} (result : Result T E) → A → IfErr result (λ _. A)
+at_each_error (Ok value) h = tt
+at_each_error (Err error) h = h

@@ -1,5 +1,6 @@
 pub mod Ends
 pub mod Lines
+pub mod Readings
 pub mod Memory
 pub mod Headline
 pub mod Statuses

@@ -1,5 +1,7 @@
 -- What a source and a sink in memory tell.
-use Rattle.std.specs.Prelude.{ℕ, List, drop}
+use Rattle.std.specs.Prelude.{ℕ, ◌==◌, Bool, List, drop}
+use Rattle.std.specs.List.{list_any}
+use Rattle.cmrun.specs.Ends.{risen}
 use Rattle.cmrun.specs.declared.memory.MemSource.{MemSource}
 use Rattle.cmrun.specs.declared.memory.MemSink.{MemSink}
 
@@ -26,3 +28,23 @@ failing_reads s = s.failing
 -- The numbers of the writes that fail, from 1.
 abbrev pub failing_writes : MemSink → List ℕ
 failing_writes s = s.failing
+
+-- How many reads were made.
+abbrev pub reads_made : MemSource → ℕ
+reads_made s = s.calls
+
+-- How many writes were made.
+abbrev pub writes_made : MemSink → ℕ
+writes_made s = s.calls
+
+-- The number is one of these.
+abbrev pub is_among : ℕ → List ℕ → Bool
+is_among number numbers = list_any (λ n. n == number) numbers
+
+-- The next read is one of those that fail.
+abbrev pub fails_next_read : MemSource → Bool
+fails_next_read s = is_among (risen (reads_made s)) (failing_reads s)
+
+-- The next write is one of those that fail.
+abbrev pub fails_next_write : MemSink → Bool
+fails_next_write s = is_among (risen (writes_made s)) (failing_writes s)

@@ -14,7 +14,7 @@ use source::StdSource;
 use std::alloc::AllocError;
 use std::env;
 use std::process::ExitCode;
-use top::{Status, run};
+use top::{Status, code, failing_path, message, run};
 
 fn words(rt: &HostRuntime) -> Result<Vec<String>, AllocError> {
     let mut words = Vec::new(rt.alloc());
@@ -35,32 +35,11 @@ fn main(rt: HostRuntime) -> ExitCode {
         }
         Err(_) => Status::NoMemory,
     };
-    match status {
-        Status::Done => ExitCode::SUCCESS,
-        Status::TooLong => ended(&rt, "input too long", 1),
-        Status::NotJson => ended(&rt, "not JSON", 1),
-        Status::BadScenario(path) => {
-            let _ = eprintln!(rt; "cmrun: bad scenario at {}", path.as_str());
-            ExitCode::from(1)
-        }
-        Status::Usage => ended(
-            &rt,
-            "usage: cmrun run|load COUNT [--workers N] [--summary]",
-            2,
-        ),
-        Status::ReadFault => ended(&rt, "read failed", 3),
-        Status::WriteFault => ended(&rt, "write failed", 4),
-        Status::NoMemory => ended(&rt, "out of memory", 5),
-        Status::Spent => ended(&rt, "history is full", 6),
+    if !matches!(status, Status::Done) {
+        let _ = eprintln!(rt; "cmrun: {}{}", message(&status), failing_path(&status));
     }
-}
-
-fn ended(rt: &impl Eprint, text: &str, code: u8) -> ExitCode {
-    let _ = eprintln!(rt; "cmrun: {text}");
-    ExitCode::from(code)
+    ExitCode::from(code(&status))
 }
 
 #[cfg(test)]
 mod tests;
-#[cfg(test)]
-mod tests_of_types;

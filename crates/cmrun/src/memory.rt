@@ -38,13 +38,14 @@ fn copy_front(from: &[u8], into: &mut [u8]) -> usize
 
 impl MemSource {
     ghost use Rattle.std.specs.Prelude.{IfOk};
-    ghost use Rattle.cmrun.specs.Memory.{left_in, read_faults, failing_reads};
+    ghost use Rattle.cmrun.specs.Memory.{left_in, read_faults, failing_reads, reads_made};
 
     /// A source of these bytes, at which the reads of the given numbers (from 1) fail.
     pub fn new(_alloc: Global, bytes: Bytes, failing: Numbers) -> Result<Self, AllocError>
         ensures left { IfOk result (λ s. left_in s ≡ bytes) }
         ensures faults { IfOk result (λ s. read_faults s ≡ 0) }
         ensures failing { IfOk result (λ s. failing_reads s ≡ failing) }
+        ensures made { IfOk result (λ s. reads_made s ≡ 0) }
     {
         Ok(MemSource {
             bytes,
@@ -57,14 +58,27 @@ impl MemSource {
 }
 
 impl Source for MemSource {
-    ghost use Rattle.std.specs.Prelude.{Some};
-    ghost use Rattle.cmrun.specs.Memory.{left_in, read_faults};
+    ghost use Rattle.std.specs.Prelude.{Some, IfOk, is_err};
+    ghost use Rattle.std.specs.Io.{ReadsAtMost};
+    ghost use Rattle.std.specs.Io.KnownBytes.{ReadConsumes};
+    ghost use Rattle.cmrun.specs.Ends.{CountsFaults, risen};
+    ghost use Rattle.cmrun.specs.Memory.{left_in, read_faults, failing_reads, reads_made, fails_next_read};
 
     ghost left = { λ s. Some (left_in s) };
 
     ghost faults = { λ s. read_faults s };
 
-    fn read(&mut self, into: &mut [u8]) -> Result<usize, Failed> {
+    /// Reads as much as `into` has room for. It fails exactly where the number of this read, from 1, is
+    /// one of those that fail.
+    fn read(&mut self, into: &mut [u8]) -> Result<usize, Failed>
+        ensures bound { ReadsAtMost result into.new }
+        ensures bytes { ReadConsumes (Some (left_in self.old)) (Some (left_in self.new)) result into.new }
+        ensures cause { CountsFaults (read_faults self.old) (read_faults self.new) result }
+        ensures fails { is_err result ≡ fails_next_read self.old }
+        ensures count { IfOk result (λ n. n ≡ min (length (left_in self.old)) (length into.old)) }
+        ensures made { reads_made self.new ≡ risen (reads_made self.old) }
+        ensures failing { failing_reads self.new ≡ failing_reads self.old }
+    {
         self.calls = self.calls.saturating_add(1);
         if self.failing.as_slice().contains(&self.calls) {
             self.faults = self.faults.saturating_add(1);
@@ -78,13 +92,14 @@ impl Source for MemSource {
 
 impl MemSink {
     ghost use Rattle.std.specs.Prelude.{[], IfOk};
-    ghost use Rattle.cmrun.specs.Memory.{held_in, write_faults, failing_writes};
+    ghost use Rattle.cmrun.specs.Memory.{held_in, write_faults, failing_writes, writes_made};
 
     /// An empty sink, at which the writes of the given numbers (from 1) fail.
     pub fn new(alloc: Global, failing: Numbers) -> Result<Self, AllocError>
         ensures holds { IfOk result (λ s. held_in s ≡ []) }
         ensures faults { IfOk result (λ s. write_faults s ≡ 0) }
         ensures failing { IfOk result (λ s. failing_writes s ≡ failing) }
+        ensures made { IfOk result (λ s. writes_made s ≡ 0) }
     {
         Ok(MemSink {
             bytes: Vec::new(alloc),
@@ -103,14 +118,28 @@ impl MemSink {
 }
 
 impl Sink for MemSink {
-    ghost use Rattle.std.specs.Prelude.{Some};
-    ghost use Rattle.cmrun.specs.Memory.{held_in, write_faults};
+    ghost use Rattle.std.specs.Prelude.{◌<◌, Some, true, IfOk, IsErr};
+    ghost use Rattle.std.specs.Io.{WritesAtMost};
+    ghost use Rattle.std.specs.Io.KnownBytes.{WriteAppends};
+    ghost use Rattle.cmrun.specs.Ends.{CountsFaults, risen};
+    ghost use Rattle.cmrun.specs.Memory.{held_in, write_faults, failing_writes, writes_made, fails_next_write};
 
     ghost holds = { λ s. Some (held_in s) };
 
     ghost faults = { λ s. write_faults s };
 
-    fn write(&mut self, piece: &[u8]) -> Result<usize, Failed> {
+    /// Takes the whole piece. It fails where the number of this write, from 1, is one of those that fail,
+    /// and else only where memory runs out.
+    fn write(&mut self, piece: &[u8]) -> Result<usize, Failed>
+        ensures bound { WritesAtMost result piece.now }
+        ensures some { IfOk result (λ n. 0 < length piece.now → 0 < n) }
+        ensures bytes { WriteAppends (Some (held_in self.old)) (Some (held_in self.new)) result piece.now }
+        ensures cause { CountsFaults (write_faults self.old) (write_faults self.new) result }
+        ensures fails { fails_next_write self.old ≡ true → IsErr result }
+        ensures whole { IfOk result (λ n. n ≡ length piece.now) }
+        ensures made { writes_made self.new ≡ risen (writes_made self.old) }
+        ensures failing { failing_writes self.new ≡ failing_writes self.old }
+    {
         self.calls = self.calls.saturating_add(1);
         // A sink that has no room for the piece has failed.
         if self.failing.as_slice().contains(&self.calls)

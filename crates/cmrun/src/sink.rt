@@ -3,7 +3,7 @@ ghost use Rattle.std.specs.Prelude.{◌≡◌, ◌<◌, List, ℕ, length, IfOk,
 ghost use Rattle.std.specs.declared.option.Option.{Option};
 ghost use Rattle.std.specs.Io.{WritesAtMost};
 ghost use Rattle.std.specs.Io.KnownBytes.{WriteAppends, Appends};
-ghost use Rattle.cmrun.specs.Ends.{HasCause, AppendsPrefix};
+ghost use Rattle.cmrun.specs.Ends.{CountsFaults, AppendsPrefix};
 ghost use Rattle.cmrun.specs.Lines.{joined};
 
 use crate::source::Failed;
@@ -18,13 +18,13 @@ pub trait Sink {
     ghost faults: { Self → ℕ };
 
     /// Adds the first bytes of the piece to what it holds and answers their number, which is
-    /// above 0 for a piece that has bytes. `Failed` adds nothing, and comes only where the count
-    /// of faults rose.
+    /// above 0 for a piece that has bytes. `Failed` adds nothing and raises the count of faults by one;
+    /// nothing else changes that count.
     fn write(&mut self, piece: &[u8]) -> Result<usize, Failed>
         ensures bound { WritesAtMost result piece.now }
         ensures some { IfOk result (λ n. 0 < length piece.now → 0 < n) }
         ensures bytes { WriteAppends (holds self.old) (holds self.new) result piece.now }
-        ensures cause { HasCause (faults self.old) (faults self.new) result };
+        ensures cause { CountsFaults (faults self.old) (faults self.new) result };
 }
 
 /// A writer of std. It tells nothing of what it holds.
@@ -65,12 +65,13 @@ impl<W: Write> Sink for StdSink<W> {
 
 /// Writes the whole piece, and what a write leaves of it as the next piece.
 ///
-/// `Failed` comes where a write fails; some first part of the piece is then written.
+/// `Failed` comes where a write fails; some first part of the piece is then written, and no further
+/// write is made.
 #[tactic(auto, using(crate::proofs::Prefixes::written_more, crate::proofs::Prefixes::written_part, crate::proofs::Prefixes::prefix_kept))]
 pub fn write_all<K: Sink>(sink: &mut K, piece: &[u8]) -> Result<(), Failed>
     ensures ok { OnOk result (Appends (K.holds sink.old) (K.holds sink.new) piece.now) }
     ensures err { OnErr result (AppendsPrefix (K.holds sink.old) (K.holds sink.new) piece.now) }
-    ensures cause { HasCause (K.faults sink.old) (K.faults sink.new) result }
+    ensures cause { CountsFaults (K.faults sink.old) (K.faults sink.new) result }
 {
     let mut rest = piece;
     while !rest.is_empty() {
@@ -84,11 +85,12 @@ pub fn write_all<K: Sink>(sink: &mut K, piece: &[u8]) -> Result<(), Failed>
 
 /// Writes the lines one after another, each as one piece.
 ///
-/// `Failed` comes where a write fails; some first part of the lines is then written.
+/// `Failed` comes where a write fails; some first part of the lines is then written, and no further
+/// write is made.
 pub fn write_lines<K: Sink>(sink: &mut K, lines: &[String]) -> Result<(), Failed>
     ensures ok { OnOk result (Appends (K.holds sink.old) (K.holds sink.new) (joined lines.now)) }
     ensures err { OnErr result (AppendsPrefix (K.holds sink.old) (K.holds sink.new) (joined lines.now)) }
-    ensures cause { HasCause (K.faults sink.old) (K.faults sink.new) result }
+    ensures cause { CountsFaults (K.faults sink.old) (K.faults sink.new) result }
 {
     for line in lines {
         if let Err(failed) = write_all(sink, line.as_bytes()) {

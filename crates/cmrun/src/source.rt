@@ -1,9 +1,10 @@
 // Where a program's input comes from.
-ghost use Rattle.std.specs.Prelude.{◌≡◌, ◌+◌, ◌<◌, ◌≤◌, List, ℕ, length, IfOk, OnOk, IfSome, IsErrOf, vec_len};
+ghost use Rattle.std.specs.Prelude.{◌≡◌, ◌+◌, ◌<◌, ◌≤◌, List, ℕ, length, IfOk, IfErr, OnOk, IfSome, IsErrOf, vec_len};
 ghost use Rattle.std.specs.declared.option.Option.{Option};
 ghost use Rattle.std.specs.Io.{ReadsAtMost};
 ghost use Rattle.std.specs.Io.KnownBytes.{ReadConsumes, Consumes, IsAtEnd};
-ghost use Rattle.cmrun.specs.Ends.{HasCause, Rose, ConsumesExactly};
+ghost use Rattle.cmrun.specs.Ends.{CountsFaults, ConsumesExactly, ConsumesAtMost};
+ghost use Rattle.cmrun.specs.Readings.{faults_after};
 ghost use Rattle.cmrun.specs.declared.source.ReadError.TheVariants.{NoMemory};
 
 use std::alloc::{AllocError, Global};
@@ -22,11 +23,11 @@ pub trait Source {
     ghost faults: { Self → ℕ };
 
     /// Reads the next bytes into the front of `into` and answers their number; 0 at the end.
-    /// `Failed` reads nothing, and comes only where the count of faults rose.
+    /// `Failed` reads nothing and raises the count of faults by one; nothing else changes that count.
     fn read(&mut self, into: &mut [u8]) -> Result<usize, Failed>
         ensures bound { ReadsAtMost result into.new }
         ensures bytes { ReadConsumes (left self.old) (left self.new) result into.new }
-        ensures cause { HasCause (faults self.old) (faults self.new) result };
+        ensures cause { CountsFaults (faults self.old) (faults self.new) result };
 }
 
 /// A reader of std. It tells nothing of what is left, since no one knows what a pipe will give.
@@ -92,7 +93,7 @@ impl From<AllocError> for ReadError {
 /// Reads an input of at most `MAX_INPUT` bytes to its end.
 ///
 /// `TooLong` comes at the first byte above the limit, and nothing behind that byte is read.
-/// `Fault` comes where a read fails. Pieces have at most 4,096 bytes.
+/// `Fault` comes where a read fails, and then no further read is made. Pieces have at most 4,096 bytes.
 pub fn read_all<S: Source>(alloc: Global, source: &mut S) -> Result<Vec<u8>, ReadError>
     ensures content { IfOk result (λ bytes. Consumes (S.left source.old) (S.left source.new) bytes.items) }
     ensures end { OnOk result (IsAtEnd (S.left source.new)) }
@@ -100,8 +101,8 @@ pub fn read_all<S: Source>(alloc: Global, source: &mut S) -> Result<Vec<u8>, Rea
     ensures short { OnOk result (IfSome (S.left source.old) (λ input. length input ≤ MAX_INPUT)) }
     ensures too_long { IsErrOf result ReadError.TooLong → IfSome (S.left source.old) (λ input. MAX_INPUT < length input) }
     ensures first_above { IsErrOf result ReadError.TooLong → ConsumesExactly (S.left source.old) (S.left source.new) (MAX_INPUT + 1) }
-    ensures fault { IsErrOf result ReadError.Fault → Rose (S.faults source.old) (S.faults source.new) }
-    ensures later { S.faults source.old ≤ S.faults source.new }
+    ensures part { IfErr result (λ _. ConsumesAtMost (S.left source.old) (S.left source.new) (MAX_INPUT + 1)) }
+    ensures faults { S.faults source.new ≡ faults_after result (S.faults source.old) }
 {
     let mut bytes = Vec::new(alloc);
     let mut piece = [0u8; PIECE];

@@ -1,15 +1,13 @@
 // The top call: from the bytes read to the bytes written.
 ghost use Rattle.serde_json.specs.View.{view};
 ghost use Rattle.serde_json.specs.Written.{has_float};
-ghost use Rattle.std.specs.Io.KnownBytes.{IsAtEnd};
-ghost use Rattle.std.specs.Prelude.{◌≡◌, ◌↔◌, false, IfOk, IfErr, IfSome};
+ghost use Rattle.std.specs.Prelude.{◌≡◌, ◌↔◌, true, false, IfOk, IfErr, IfSome};
 ghost use Rattle.std.specs.Str.{IsUtf8};
 ghost use Rattle.cmc_report.specs.Text.{joined};
-ghost use Rattle.cmrun.specs.Ends.{Rose};
 ghost use Rattle.cmc_plain.specs.Driving.{EndsPlainly};
 ghost use Rattle.cmc_rules.specs.Runs.{IsFinished};
 ghost use Rattle.cmrun.specs.Headline.{Answers, IsRunOf, RunsOn};
-ghost use Rattle.cmrun.specs.Statuses.{Explains, Refuses, RefusesValue, SpendsOn, is_run_words};
+ghost use Rattle.cmrun.specs.Statuses.{Explains, Leaves, Refuses, RefusesValue, SpendsOn, exit_code, is_run_words, message_of, path_of, reads_failed, reads_nothing, writes_failed, writes_nothing};
 
 use crate::sink::{Sink, write_lines};
 use crate::source::{ReadError, Source, read_all};
@@ -125,12 +123,55 @@ fn is_run(words: &[String]) -> bool
     }
 }
 
+/// The exit status of the program.
+pub fn code(status: &Status) -> u8
+    ensures { result ≡ exit_code status.now }
+{
+    match status {
+        Status::Done => 0,
+        Status::TooLong | Status::NotJson | Status::BadScenario(_) => 1,
+        Status::Usage => 2,
+        Status::ReadFault => 3,
+        Status::WriteFault => 4,
+        Status::NoMemory => 5,
+        Status::Spent => 6,
+    }
+}
+
+/// What the line on standard error says behind the program's name; empty at Done, where there is no line.
+pub fn message(status: &Status) -> &'static str
+    ensures { result.now ≡ message_of status.now }
+{
+    match status {
+        Status::Done => "",
+        Status::TooLong => "input too long",
+        Status::NotJson => "not JSON",
+        Status::BadScenario(_) => "bad scenario at ",
+        Status::Usage => "usage: cmrun run|load COUNT [--workers N] [--summary]",
+        Status::ReadFault => "read failed",
+        Status::WriteFault => "write failed",
+        Status::NoMemory => "out of memory",
+        Status::Spent => "history is full",
+    }
+}
+
+/// The path that ends that line; empty but at BadScenario.
+pub fn failing_path(status: &Status) -> &str
+    ensures { result.now ≡ path_of status.now }
+{
+    match status {
+        Status::BadScenario(path) => path.as_str(),
+        _ => "",
+    }
+}
+
 /// Does all that the program does: reads a scenario from the source, runs it by the plain order on an empty
 /// store, and writes the history and its summary to the sink.
 ///
-/// The lines are made before the first of them is written. Each status has its cause, as its variant
-/// says; at `WriteFault` some first part of the text was written, and at every status but `Done` and
-/// `WriteFault` nothing was.
+/// The lines are made before the first of them is written, each as one piece. Each status has its cause,
+/// as its variant says; at `WriteFault` some first part of the text was written, and at every status but
+/// `Done` and `WriteFault` nothing was. At `Usage` nothing was read; else reading stopped at the first byte
+/// above the limit, at the end, or at the read that failed.
 pub fn run<S: Source, K: Sink>(
     alloc: Global,
     words: &[String],
@@ -138,10 +179,12 @@ pub fn run<S: Source, K: Sink>(
     sink: &mut K,
 ) -> Status
     ensures told { IfSome (S.left source.old) (λ bytes. Explains result bytes (K.holds sink.old) (K.holds sink.new)) }
-    ensures end { result ≡ Status.Done → IsAtEnd (S.left source.new) }
+    ensures left { Leaves result (S.left source.old) (S.left source.new) }
+    ensures unread { reads_nothing result ≡ true → source.new ≡ source.old }
+    ensures unwritten { writes_nothing result ≡ true → sink.new ≡ sink.old }
     ensures usage { (result ≡ Status.Usage) ↔ (is_run_words words.now ≡ false) }
-    ensures read { result ≡ Status.ReadFault → Rose (S.faults source.old) (S.faults source.new) }
-    ensures write { result ≡ Status.WriteFault → Rose (K.faults sink.old) (K.faults sink.new) }
+    ensures read { S.faults source.new ≡ reads_failed result (S.faults source.old) }
+    ensures write { K.faults sink.new ≡ writes_failed result (K.faults sink.old) }
 {
     if !is_run(words) {
         return Status::Usage;

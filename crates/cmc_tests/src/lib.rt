@@ -1,0 +1,50 @@
+//! Tests of the libraries, a module for each crate: what no clause says, and that each call has an answer where
+//! memory is ample.
+#![tactic(auto)]
+
+#[cfg(test)]
+mod codec;
+#[cfg(test)]
+mod der;
+#[cfg(test)]
+mod history;
+#[cfg(test)]
+mod made_certificates;
+#[cfg(test)]
+mod made_keys;
+#[cfg(test)]
+mod made_requests;
+#[cfg(test)]
+mod made_values;
+#[cfg(test)]
+mod meta;
+#[cfg(test)]
+mod objects;
+#[cfg(test)]
+mod orders;
+#[cfg(test)]
+mod pass;
+#[cfg(test)]
+mod policies;
+#[cfg(test)]
+mod policy_rules;
+#[cfg(test)]
+mod report;
+#[cfg(test)]
+mod scenario;
+#[cfg(test)]
+mod store;
+#[cfg(test)]
+mod time;
+#[cfg(test)]
+mod trigger;
+#[cfg(test)]
+mod values;
+#[cfg(test)]
+mod whole;
+#[cfg(test)]
+mod world;
+#[cfg(test)]
+mod x509;
+#[cfg(test)]
+mod x509_build;

@@ -1,0 +1,101 @@
+//! The small values that the tests build theirs of.
+use cmc_meta::{Key, Kind, Name, ObjectMeta, Owners, Pairs, Text, Texts};
+use cmc_objects::{CertSpec, IssuerRef, KeySpec};
+use std::alloc::{AllocError, Global};
+use std::test::Fail;
+
+fn digit(letter: u8) -> u8 {
+    match letter {
+        b'0'..=b'9' => letter - b'0',
+        b'a'..=b'f' => letter - b'a' + 10,
+        _ => 0,
+    }
+}
+
+/// The octets that a text of two hexadecimal digits each spells.
+pub fn octets(alloc: Global, text: &str) -> Result<Vec<u8>, AllocError> {
+    let mut octets = Vec::new(alloc);
+    let mut high = None;
+    for letter in text.bytes() {
+        match high {
+            None => high = Some(digit(letter)),
+            Some(first) => {
+                octets.push(first << 4 | digit(letter))?;
+                high = None;
+            }
+        }
+    }
+    Ok(octets)
+}
+
+pub fn text(alloc: Global, text: &str) -> Result<Text, Fail> {
+    Ok(Text::from_str(alloc, text)?)
+}
+
+/// A list of one text.
+pub fn texts(alloc: Global, word: &str) -> Result<Texts, Fail> {
+    let mut texts = Texts::new(alloc);
+    texts.push(text(alloc, word)?)?;
+    Ok(texts)
+}
+
+pub fn name(alloc: Global, text: &str) -> Result<Name, Fail> {
+    match Name::read(alloc, text) {
+        Ok(name) => Ok(name),
+        Err(_) => Err(Fail::from("no name")),
+    }
+}
+
+/// A key in the namespace `default`.
+pub fn key(alloc: Global, kind: Kind, word: &str) -> Result<Key, Fail> {
+    Ok(Key {
+        kind,
+        namespace: name(alloc, "default")?,
+        name: name(alloc, word)?,
+    })
+}
+
+/// The metadata of an object of that name that was not stored yet.
+pub fn new_meta(alloc: Global, word: &str) -> Result<ObjectMeta, Fail> {
+    Ok(ObjectMeta {
+        namespace: name(alloc, "default")?,
+        name: name(alloc, word)?,
+        uid: 0,
+        version: 0,
+        generation: 0,
+        created: 0,
+        labels: Pairs::new(alloc),
+        annotations: Pairs::new(alloc),
+        owners: Owners::new(alloc),
+    })
+}
+
+/// A spec with what every Certificate has, and no more.
+pub fn least_spec(alloc: Global, secret: &str, host: &str) -> Result<CertSpec, Fail> {
+    let issuer = IssuerRef {
+        name: text(alloc, "ca")?,
+        kind: None,
+        group: None,
+    };
+    Ok(CertSpec {
+        secret_name: name(alloc, secret)?,
+        issuer,
+        common_name: Text::new(alloc),
+        dns_names: texts(alloc, host)?,
+        ip_addresses: Texts::new(alloc),
+        uris: Texts::new(alloc),
+        emails: Texts::new(alloc),
+        is_ca: false,
+        usages: Texts::new(alloc),
+        duration: None,
+        renew_before: None,
+        key: KeySpec {
+            algorithm: None,
+            size: None,
+            encoding: None,
+            rotation: None,
+        },
+        renew_percent: None,
+        history_limit: None,
+    })
+}

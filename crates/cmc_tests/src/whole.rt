@@ -1,0 +1,132 @@
+//! Objects whose every member is given.
+use crate::values::{name, text, texts};
+use cmc_meta::{
+    Bytes, Condition, ConditionKind, Conditions, Kind, ObjectMeta, OwnerRef, Owners, Pairs, Tri,
+};
+use cmc_objects::{
+    Algorithm, CertSpec, CertStatus, Certificate, CertificateRequest, Encoding, IssuerRef, KeySpec,
+    Parts, RequestSpec, RequestStatus, Rotation, Secret,
+};
+use std::alloc::Global;
+use std::test::Fail;
+
+pub fn bytes(alloc: Global) -> Result<Bytes, Fail> {
+    let mut bytes = Bytes::new(alloc);
+    bytes.push(0)?;
+    bytes.push(0)?;
+    bytes.push(0)?;
+    Ok(bytes)
+}
+
+fn meta(alloc: Global, word: &str) -> Result<ObjectMeta, Fail> {
+    let mut labels = Pairs::new(alloc);
+    labels.set(text(alloc, "app")?, text(alloc, "shop")?)?;
+    let mut owners = Owners::new(alloc);
+    owners.push(OwnerRef {
+        kind: Kind::Certificate,
+        name: name(alloc, "web")?,
+        uid: 7,
+        controller: true,
+    })?;
+    Ok(ObjectMeta {
+        namespace: name(alloc, "default")?,
+        name: name(alloc, word)?,
+        uid: 1,
+        version: 2,
+        generation: 3,
+        created: 4,
+        labels,
+        annotations: Pairs::new(alloc),
+        owners,
+    })
+}
+
+pub fn conditions(alloc: Global) -> Result<Conditions, Fail> {
+    let mut conditions = Conditions::new(alloc);
+    conditions.set(Condition {
+        kind: ConditionKind::Approved,
+        status: Tri::True,
+        reason: text(alloc, "Script")?,
+        message: text(alloc, "approved by the script")?,
+        since: 1_893_456_000,
+    })?;
+    Ok(conditions)
+}
+
+fn issuer(alloc: Global) -> Result<IssuerRef, Fail> {
+    Ok(IssuerRef {
+        name: text(alloc, "ca")?,
+        kind: Some(text(alloc, "ClusterIssuer")?),
+        group: None,
+    })
+}
+
+fn cert_spec(alloc: Global) -> Result<CertSpec, Fail> {
+    Ok(CertSpec {
+        secret_name: name(alloc, "web-tls")?,
+        issuer: issuer(alloc)?,
+        common_name: text(alloc, "example.com")?,
+        dns_names: texts(alloc, "example.com")?,
+        ip_addresses: texts(alloc, "192.0.2.1")?,
+        uris: texts(alloc, "spiffe://example.com/web")?,
+        emails: texts(alloc, "web@example.com")?,
+        is_ca: true,
+        usages: texts(alloc, "server auth")?,
+        duration: Some(7_776_000),
+        renew_before: Some(300),
+        renew_percent: Some(25),
+        key: KeySpec {
+            algorithm: Some(Algorithm::Ecdsa),
+            size: Some(384),
+            encoding: Some(Encoding::Pkcs8),
+            rotation: Some(Rotation::Never),
+        },
+        history_limit: Some(1),
+    })
+}
+
+pub fn certificate(alloc: Global) -> Result<Certificate, Fail> {
+    Ok(Certificate {
+        meta: meta(alloc, "web")?,
+        spec: cert_spec(alloc)?,
+        status: CertStatus {
+            conditions: conditions(alloc)?,
+            last_failure: Some(0),
+            attempts: Some(2),
+            not_before: Some(1_893_456_000),
+            not_after: Some(1_901_232_000),
+            renewal: Some(1_898_640_000),
+            revision: Some(3),
+            next_key: Some(name(alloc, "web-bbbbf")?),
+        },
+    })
+}
+
+pub fn request(alloc: Global) -> Result<CertificateRequest, Fail> {
+    Ok(CertificateRequest {
+        meta: meta(alloc, "web-1")?,
+        spec: RequestSpec {
+            issuer: issuer(alloc)?,
+            duration: Some(3_600),
+            is_ca: false,
+            usages: texts(alloc, "server auth")?,
+            request: bytes(alloc)?,
+        },
+        status: RequestStatus {
+            conditions: conditions(alloc)?,
+            certificate: bytes(alloc)?,
+            ca: bytes(alloc)?,
+            failure: Some(1_893_456_000),
+        },
+    })
+}
+
+pub fn secret(alloc: Global) -> Result<Secret, Fail> {
+    let mut parts = Parts::new(alloc);
+    parts.set(text(alloc, "tls.key")?, bytes(alloc)?)?;
+    Ok(Secret {
+        meta: meta(alloc, "web-tls")?,
+        kind_text: text(alloc, "Opaque")?,
+        parts,
+    })
+}

@@ -1,0 +1,199 @@
+//! What no clause says: that material which openssl made is read with the fields that it prints.
+ghost use Rattle.cmc_x509.specs.Lists.{IsValueList};
+
+use crate::values::octets;
+use crate::{made_certificates, made_keys, made_requests};
+use cmc_x509::{
+    CertFields, CsrFields, KeyKind, Names, Spki, key_public, next_name, read_cert, read_csr,
+    read_key,
+};
+use std::alloc::{AllocError, Global};
+use std::process::Abort;
+use std::test::Fail;
+
+fn hex(alloc: Global, octets: &[u8]) -> Result<String, AllocError> {
+    let mut text = String::new(alloc);
+    for octet in octets {
+        let digits = format!(in alloc; "{octet:02x}")?;
+        text.push_str(&digits)?;
+    }
+    Ok(text)
+}
+
+fn text(octets: &[u8]) -> &str {
+    str::from_utf8(octets).unwrap_or("not UTF-8")
+}
+
+fn kind_told(alloc: Global, key: &Spki<'_>) -> Result<String, AllocError> {
+    match key.kind() {
+        Some(KeyKind::Rsa { bits }) => format!(in alloc; "RSA {bits}"),
+        Some(KeyKind::P256) => format!(in alloc; "P-256"),
+        Some(KeyKind::P384) => format!(in alloc; "P-384"),
+        Some(KeyKind::P521) => format!(in alloc; "P-521"),
+        None => format!(in alloc; "other"),
+    }
+}
+
+fn key_told(alloc: Global, key: &Spki<'_>) -> Result<String, AllocError> {
+    let kind = kind_told(alloc, key)?;
+    match key {
+        Spki::Rsa { modulus, exponent } => {
+            let modulus = hex(alloc, modulus)?;
+            let exponent = hex(alloc, exponent)?;
+            format!(in alloc; "{kind} {modulus} {exponent}")
+        }
+        Spki::Ec { curve: _, point } => {
+            let point = hex(alloc, point)?;
+            format!(in alloc; "{kind} {point}")
+        }
+        Spki::Other { whole } => {
+            let whole = hex(alloc, whole)?;
+            format!(in alloc; "{kind} {whole}")
+        }
+    }
+}
+
+/// A name as openssl prints it, and nothing for one of another sort.
+fn name_told(alloc: Global, tag: u8, body: &[u8]) -> Result<Option<String>, AllocError> {
+    match (tag, body) {
+        (0x81, _) => Ok(Some(format!(in alloc; "email:{}", text(body))?)),
+        (0x82, _) => Ok(Some(format!(in alloc; "DNS:{}", text(body))?)),
+        (0x86, _) => Ok(Some(format!(in alloc; "URI:{}", text(body))?)),
+        (0x87, [a, b, c, d]) => Ok(Some(format!(in alloc; "IP Address:{a}.{b}.{c}.{d}")?)),
+        _ => Ok(None),
+    }
+}
+
+/// The common name and the alternative names.
+fn names_told(alloc: Global, names: &Names<'_>) -> Result<String, AllocError>
+    requires { IsValueList names.now.alternative.now }
+{
+    let mut told = format!(in alloc; "{}; ", text(names.common.unwrap_or(b"none")))?;
+    let mut rest = names.alternative;
+    let mut is_first = true;
+    while let Some((tag, body, behind)) = next_name(rest) {
+        rest = behind;
+        if let Some(name) = name_told(alloc, tag, body)? {
+            if !is_first {
+                told.push_str(", ")?;
+            }
+            told.push_str(&name)?;
+            is_first = false;
+        }
+    }
+    Ok(told)
+}
+
+fn file_told(alloc: Global, input: &[u8]) -> Result<String, AllocError> {
+    match read_key(input) {
+        Ok(key) => key_told(alloc, &key),
+        Err(_) => format!(in alloc; "not of the form"),
+    }
+}
+
+fn request_told(alloc: Global, input: &[u8]) -> Result<String, AllocError> {
+    match read_csr(input) {
+        Ok(CsrFields { key, names }) => {
+            let key = key_told(alloc, &key)?;
+            let names = names_told(alloc, &names)?;
+            format!(in alloc; "{key}; {names}")
+        }
+        Err(_) => format!(in alloc; "not of the form"),
+    }
+}
+
+fn certificate_told(alloc: Global, input: &[u8]) -> Result<String, AllocError> {
+    match read_cert(input) {
+        Ok(
+            CertFields {
+                serial,
+                not_before,
+                not_after,
+                key,
+                names,
+            },
+        ) => {
+            let serial = hex(alloc, serial)?;
+            let key = key_told(alloc, &key)?;
+            let names = names_told(alloc, &names)?;
+            format!(in alloc; "{serial} {not_before} {not_after}; {key}; {names}")
+        }
+        Err(_) => format!(in alloc; "not of the form"),
+    }
+}
+
+#[derive(Clone, Copy)]
+enum Sort {
+    Key,
+    Request,
+    Certificate,
+}
+
+fn told(alloc: Global, sort: Sort, input: &[u8]) -> Result<String, AllocError> {
+    match sort {
+        Sort::Key => file_told(alloc, input),
+        Sort::Request => request_told(alloc, input),
+        Sort::Certificate => certificate_told(alloc, input),
+    }
+}
+
+/// The rows of a table: a name, the octets, and what is told of them.
+fn check_rows(rt: &impl Abort, alloc: Global, table: &str, sort: Sort) -> Result<(), AllocError> {
+    for row in table.lines() {
+        let mut columns = row.split('|');
+        let name = columns.next().unwrap_or("");
+        let input = octets(alloc, columns.next().unwrap_or(""))?;
+        let want = columns.next().unwrap_or("no row");
+        let told = told(alloc, sort, &input)?;
+        assert_eq!(rt; told.as_str(), want, "at {name}");
+    }
+    Ok(())
+}
+
+#[test]
+fn reads_keys(rt: HostRuntime) -> Result<(), Fail> {
+    let alloc = rt.alloc();
+    check_rows(&rt, alloc, made_keys::MADE, Sort::Key)?;
+    check_rows(&rt, alloc, made_keys::BUILT, Sort::Key)?;
+    check_rows(&rt, alloc, made_keys::CHANGED, Sort::Key)?;
+    Ok(())
+}
+
+#[test]
+fn reads_requests(rt: HostRuntime) -> Result<(), Fail> {
+    let alloc = rt.alloc();
+    check_rows(&rt, alloc, made_requests::MADE, Sort::Request)?;
+    check_rows(&rt, alloc, made_requests::CHANGED, Sort::Request)?;
+    Ok(())
+}
+
+#[test]
+fn reads_certificates(rt: HostRuntime) -> Result<(), Fail> {
+    let alloc = rt.alloc();
+    check_rows(&rt, alloc, made_certificates::MADE, Sort::Certificate)?;
+    check_rows(&rt, alloc, made_certificates::CHANGED, Sort::Certificate)?;
+    Ok(())
+}
+
+/// Each part of a file, and the file with an octet behind it, is no file.
+fn refuses_parts(rt: &impl Abort, alloc: Global, whole: &[u8]) -> Result<(), AllocError> {
+    assert!(rt; key_public(whole).is_some());
+    for count in 0..whole.len() {
+        assert!(rt; key_public(&whole[..count]).is_none(), "at {count}");
+    }
+    let mut longer = Vec::from_slice(alloc, whole)?;
+    longer.push(0)?;
+    assert!(rt; key_public(&longer).is_none());
+    Ok(())
+}
+
+#[test]
+fn refuses_what_is_cut_and_what_is_longer(rt: HostRuntime) -> Result<(), Fail> {
+    let alloc = rt.alloc();
+    for row in made_keys::BUILT.lines() {
+        let mut columns = row.split('|').skip(1);
+        let whole = octets(alloc, columns.next().unwrap_or(""))?;
+        refuses_parts(&rt, alloc, &whole)?;
+    }
+    Ok(())
+}

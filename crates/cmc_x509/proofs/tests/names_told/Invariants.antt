@@ -1,9 +1,0 @@
-use Rattle.std.proofs.Common.{length}
-use Rattle.cmc_x509.specs.Lists.{IsValueList}
-use Rattle.cmc_x509.proofs.tests.names_told.Given as goal
-
-abbrev pub invariant-loop-tag : goal.invariant-loop-tag
-invariant-loop-tag l = IsValueList l.rest
-
-abbrev pub decreases-loop-tag : goal.decreases-loop-tag
-decreases-loop-tag l = length l.rest
