@@ -5,3 +5,4 @@ pub mod MatchLaws
 pub mod TimeLaws
 pub mod PairLaws
 pub mod NumberLaws
+pub mod FactLaws

@@ -1,5 +1,5 @@
 -- What is known of the Secret of a Certificate.
-use Rattle.std.specs.Prelude.{◌≡◌, ℕ, ℤ, pos, Bool, true, false, not, ◌&&◌, List, [], ◌∷◌, codes, Option, Some, None, if◌then◌else◌}
+use Rattle.std.specs.Prelude.{◌≡◌, ◌≢◌, ◌<◌, ◌⊎◌, length, ℕ, ℤ, pos, Bool, true, false, not, ◌&&◌, List, [], ◌∷◌, codes, Option, Some, None, if◌then◌else◌}
 use Rattle.std.specs.Str.{bytes_eq}
 use Rattle.cmc_meta.specs.PairLists.{text_at}
 use Rattle.cmc_der.specs.Keys.{PublicKey, CertificateFields}
@@ -13,9 +13,9 @@ use Rattle.cmc_objects.specs.declared.key_spec.KeySpec.{KeySpec}
 use Rattle.cmc_objects.specs.declared.certificate.CertSpec.{CertSpec}
 use Rattle.cmc_objects.specs.declared.request.CertificateRequest.{CertificateRequest}
 use Rattle.cmc_objects.specs.Defaults.{issuer_kind, issuer_group, key_algorithm, key_size}
-use Rattle.cmc_keys.specs.Kinds.{is_key_of}
+use Rattle.cmc_keys.specs.Kinds.{IsKeyOf, is_key_of}
 use Rattle.cmc_match.specs.Marks.{has_text, is_temporary}
-use Rattle.cmc_match.specs.Matching.{is_one_key, matches, has_key}
+use Rattle.cmc_match.specs.Matching.{HasKey, is_one_key, matches, has_key}
 
 -- the private key of the Secret, and its certificate, both in DER
 abbrev pub key_in : Secret → Option (List ℕ)
@@ -32,6 +32,36 @@ pub record IsPair (secret : Secret) (fields : CertificateFields) : Type 0 where
   pub certificate_stands : certificate_in secret ≡ Some certificate
   pub key_is : IsKeyFile key fields.key
   pub certificate_is : IsCertificate certificate fields
+
+-- a key and a certificate stand and are not empty, and the Secret is not marked as temporary
+pub record IsFilled (secret : Secret) : Type 0 where
+  pub key : List ℕ
+  pub certificate : List ℕ
+  pub key_stands : key_in secret ≡ Some key
+  pub certificate_stands : certificate_in secret ≡ Some certificate
+  pub key_given : 0 < length key
+  pub certificate_given : 0 < length certificate
+  pub not_temporary : text_at secret.meta.annotations (codes "cert-manager.io/temporary-certificate") ≢ Some (codes "true")
+
+-- the annotations name the issuer, its kind and its group, with their defaults
+pub record NamesIssuer (issuer : IssuerRef) (secret : Secret) : Type 0 where
+  pub name : text_at secret.meta.annotations (codes "cert-manager.io/issuer-name") ≡ Some issuer.name
+  pub kind : text_at secret.meta.annotations (codes "cert-manager.io/issuer-kind") ≡ Some (issuer_kind issuer)
+  pub group : text_at secret.meta.annotations (codes "cert-manager.io/issuer-group") ≡ Some (issuer_group issuer)
+
+-- the annotations name the Certificate of this name, or none
+abbrev pub owner_text : Secret → Option (List ℕ)
+owner_text secret = text_at secret.meta.annotations (codes "cert-manager.io/certificate-name")
+
+abbrev pub NamesOwner : List ℕ → Secret → Type 0
+NamesOwner name secret = (owner_text secret ≡ None) ⊎ (owner_text secret ≡ Some name)
+
+-- the key is of the algorithm and the size that are asked for, and the request is for it
+pub record HasRequestedKey (spec : KeySpec) (secret : Secret) (request : CertificateRequest) : Type 0 where
+  pub key : List ℕ
+  pub key_stands : key_in secret ≡ Some key
+  pub fits : IsKeyOf (key_algorithm spec) (key_size spec) key
+  pub requested : HasKey request key
 
 -- ---- the same as a function
 
@@ -74,7 +104,6 @@ abbrev pub is_paired : Option CertificateFields → Bool
 is_paired None = false
 is_paired (Some fields) = true
 
--- the annotations name the issuer, its kind and its group, with their defaults
 unfoldable pub names_issuer : IssuerRef → Option Secret → Bool
 names_issuer issuer None = false
 names_issuer issuer (Some secret) =
@@ -82,14 +111,13 @@ names_issuer issuer (Some secret) =
     && (has_text secret.meta.annotations (codes "cert-manager.io/issuer-kind") (issuer_kind issuer)
     && has_text secret.meta.annotations (codes "cert-manager.io/issuer-group") (issuer_group issuer))
 
--- the annotations name this Certificate, or none
 abbrev pub is_absent_or : Option (List ℕ) → List ℕ → Bool
 is_absent_or None name = true
 is_absent_or (Some text) name = bytes_eq text name
 
 unfoldable pub names_owner : List ℕ → Option Secret → Bool
 names_owner name None = false
-names_owner name (Some secret) = is_absent_or (text_at secret.meta.annotations (codes "cert-manager.io/certificate-name")) name
+names_owner name (Some secret) = is_absent_or (owner_text secret) name
 
 -- the key is of the algorithm and the size that are asked for
 abbrev pub fits : KeySpec → List ℕ → Bool

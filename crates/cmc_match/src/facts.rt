@@ -1,12 +1,16 @@
 //! What is known of the Secret of a Certificate.
 ghost use Rattle.std.specs.Option.{option_copied};
-ghost use Rattle.std.specs.Prelude.{◌≡◌, ◌↔◌, ◌≤ℤ◌, pos, true, false, option_map, IfSome, Some};
+ghost use Rattle.std.specs.Prelude.{◌≡◌, ◌↔◌, ◌≤ℤ◌, ℕ, List, pos, true, false, IsTrue, option_map, IfSome, Some};
 ghost use Rattle.cmc_der.specs.Keys.{CertificateFields, cert_shown};
 ghost use Rattle.cmc_x509.specs.ReadKeys.{key_file_at};
 ghost use Rattle.cmc_x509.specs.ReadCertificates.{certificate_at};
 ghost use Rattle.cmc_time.specs.Asn1.{IsCertificateTime};
 ghost use Rattle.cmc_match.specs.Facts as words;
-ghost use Rattle.cmc_match.specs.Facts.{IsPair};
+ghost use Rattle.cmc_match.specs.Facts.{IsPair, IsFilled, NamesIssuer, NamesOwner, HasRequestedKey};
+ghost use Rattle.cmc_objects.specs.declared.issuer.IssuerRef.{IssuerRef};
+ghost use Rattle.cmc_objects.specs.declared.secret.Secret.{Secret};
+ghost use Rattle.cmc_objects.specs.declared.key_spec.KeySpec.{KeySpec};
+ghost use Rattle.cmc_objects.specs.declared.request.CertificateRequest.{CertificateRequest};
 
 use crate::marks::{has_text, is_temporary, part_under, text_under};
 use crate::matching::{is_one_key, key_fits, request_has_key, request_matches};
@@ -257,3 +261,15 @@ pub fn facts_of(
         Some(secret) => facts_in(spec, name, secret, current),
     }
 }
+
+/// A law: what the flags of a Secret say, in the words of its data and its annotations. (`pair` is `pair_in`, and
+/// `request` is `request_matches`.)
+pub fn facts_mean()
+    ensures filled { (secret : Secret) → IsTrue (words.is_filled (Some secret)) ↔ IsFilled secret }
+    ensures issuer { (issuer : IssuerRef) (secret : Secret) →
+        IsTrue (words.names_issuer issuer (Some secret)) ↔ NamesIssuer issuer secret }
+    ensures owner { (name : List ℕ) (secret : Secret) →
+        IsTrue (words.names_owner name (Some secret)) ↔ NamesOwner name secret }
+    ensures kind { (spec : KeySpec) (secret : Secret) (request : CertificateRequest) →
+        IsTrue (words.has_requested_key spec (Some secret) (Some request)) ↔ HasRequestedKey spec secret request }
+{}

@@ -10,7 +10,7 @@ mod names;
 mod revisions;
 mod sets;
 
-pub use facts::{facts_of, pair_in};
+pub use facts::{facts_mean, facts_of, pair_in};
 pub use marks::{asks_for_temporary, has_text, is_next_key, is_temporary, part_under, text_under};
 pub use matching::{is_one_key, key_fits, request_has_key, request_matches};
 pub use names::has_names;
