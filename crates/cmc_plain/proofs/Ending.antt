@@ -3,7 +3,7 @@ use Rattle.std.proofs.Common.{◌≡◌, List, None}
 use Rattle.cmc_objects.specs.declared.entry.Entry.{Entry}
 use Rattle.cmc_rules.specs.Following.{owed}
 use Rattle.cmc_rules.specs.Runs.{IsRun, IsFinished}
-use Rattle.cmc_scenario.specs.Setups.{Setup, IsOrderlyFrom}
+use Rattle.cmc_setup.specs.Setups.{Setup, IsOrderlyFrom}
 use Rattle.cmc_world.specs.Kept.{setting_of}
 use Rattle.cmc_plain.specs.Searches.{HasNoMove}
 use Rattle.cmc_plain.proofs.Finishing.{nothing_left}

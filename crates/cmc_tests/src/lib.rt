@@ -5,6 +5,8 @@
 #[cfg(test)]
 mod codec;
 #[cfg(test)]
+mod cursor;
+#[cfg(test)]
 mod der;
 #[cfg(test)]
 mod history;
@@ -18,6 +20,8 @@ mod made_requests;
 mod made_values;
 #[cfg(test)]
 mod meta;
+#[cfg(test)]
+mod model;
 #[cfg(test)]
 mod objects;
 #[cfg(test)]

@@ -11,7 +11,7 @@ use Rattle.cmc_rules.specs.Following.{Follows}
 use Rattle.cmc_rules.specs.Scripting.{scripted}
 use Rattle.cmc_rules.specs.Rights.{KeepsRights}
 use Rattle.cmc_rules.specs.Runs.{IsRun}
-use Rattle.cmc_scenario.specs.Setups.{Setup}
+use Rattle.cmc_setup.specs.Setups.{Setup}
 use Rattle.cmc_world.specs.declared.moves.Move.{Move}
 use Rattle.cmc_world.specs.declared.moves.Move.TheVariants as moves
 use Rattle.cmc_world.specs.declared.moves.Stepped.{Stepped}

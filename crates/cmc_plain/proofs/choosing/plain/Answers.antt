@@ -1,5 +1,5 @@
 use Rattle.std.proofs.Common.{◌≡◌, true, Option, subst}
-use Rattle.cmc_scenario.specs.Setups.{IsSetup}
+use Rattle.cmc_setup.specs.Setups.{IsSetup}
 use Rattle.cmc_world.specs.declared.moves.Move.{Move}
 use Rattle.cmc_world.specs.Kept.{setting_of}
 use Rattle.cmc_plain.specs.Searches.{FindsMove}
