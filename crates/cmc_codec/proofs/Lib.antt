@@ -1,3 +1,2 @@
-pub mod FloatFree
-pub mod Digits
-pub mod Bare
+mod FloatFree
+mod Bare

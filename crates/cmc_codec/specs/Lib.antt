@@ -1,6 +1,3 @@
-pub mod Reading
-pub mod Readers
-pub mod Seen
 pub mod Trees
 pub mod Words
 pub mod Puts

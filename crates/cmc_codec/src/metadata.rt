@@ -1,5 +1,5 @@
 // Metadata and conditions as JSON.
-ghost use Rattle.std.specs.Prelude.{◌≡◌, codes, IfOk, OnOk};
+ghost use Rattle.std.specs.Prelude.{◌≡◌, codes, IfOk, OnOk, OnErr};
 ghost use Rattle.cmc_codec.specs.Printed.{owner_tree, owners_tree, meta_tree, condition_tree, conditions_tree};
 ghost use Rattle.cmc_codec.specs.Puts.{put_list};
 ghost use Rattle.cmc_codec.specs.Trees.{data_of, members_of};
@@ -34,7 +34,8 @@ fn owner_list(alloc: Global, owners: &[OwnerRef]) -> Result<Tree, AllocError>
 }
 
 fn put_owners(members: &mut Members, alloc: Global, owners: &[OwnerRef]) -> Result<(), AllocError>
-    ensures { OnOk result (members_of members.new ≡ put_list owners_tree (codes "ownerReferences") owners.now (members_of members.old)) }
+    ensures ok { OnOk result (members_of members.new ≡ put_list owners_tree (codes "ownerReferences") owners.now (members_of members.old)) }
+    ensures err { OnErr result (members_of members.new ≡ members_of members.old) }
 {
     if owners.is_empty() {
         return Ok(());
@@ -92,7 +93,8 @@ pub fn put_conditions(
     alloc: Global,
     conditions: &[Condition],
 ) -> Result<(), AllocError>
-    ensures { OnOk result (members_of members.new ≡ put_list conditions_tree (codes "conditions") conditions.now (members_of members.old)) }
+    ensures ok { OnOk result (members_of members.new ≡ put_list conditions_tree (codes "conditions") conditions.now (members_of members.old)) }
+    ensures err { OnErr result (members_of members.new ≡ members_of members.old) }
 {
     if conditions.is_empty() {
         return Ok(());

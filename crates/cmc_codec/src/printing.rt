@@ -27,7 +27,7 @@ fn head_of(alloc: Global, object: &Object) -> Result<Members, AllocError>
     Ok(members)
 }
 
-fn put_certificate(
+fn add_certificate(
     members: &mut Members,
     alloc: Global,
     certificate: &Certificate,
@@ -40,7 +40,7 @@ fn put_certificate(
     put_members(members, alloc, "status", status)
 }
 
-fn put_request(
+fn add_request(
     members: &mut Members,
     alloc: Global,
     request: &CertificateRequest,
@@ -53,20 +53,20 @@ fn put_request(
     put_members(members, alloc, "status", status)
 }
 
-fn put_secret(members: &mut Members, alloc: Global, secret: &Secret) -> Result<(), AllocError>
+fn add_secret(members: &mut Members, alloc: Global, secret: &Secret) -> Result<(), AllocError>
     ensures { OnOk result (members_of members.new ≡ put_secret_parts secret.now (members_of members.old)) }
 {
     put_text(members, alloc, "type", secret.kind_text.as_str())?;
     put_parts(members, alloc, "data", secret.parts.as_map())
 }
 
-fn put_own(members: &mut Members, alloc: Global, object: &Object) -> Result<(), AllocError>
+fn add_own(members: &mut Members, alloc: Global, object: &Object) -> Result<(), AllocError>
     ensures { OnOk result (members_of members.new ≡ put_body object.now (members_of members.old)) }
 {
     match object {
-        Object::Cert(certificate) => put_certificate(members, alloc, certificate),
-        Object::Request(request) => put_request(members, alloc, request),
-        Object::Secret(secret) => put_secret(members, alloc, secret),
+        Object::Cert(certificate) => add_certificate(members, alloc, certificate),
+        Object::Request(request) => add_request(members, alloc, request),
+        Object::Secret(secret) => add_secret(members, alloc, secret),
     }
 }
 
@@ -80,7 +80,7 @@ pub fn tree_of(alloc: Global, object: &Object) -> Result<Tree, AllocError>
     ensures { IfOk result (λ t. data_of t ≡ object_tree object.now) }
 {
     let mut members = head_of(alloc, object)?;
-    put_own(&mut members, alloc, object)?;
+    add_own(&mut members, alloc, object)?;
     Ok(Tree::object(members))
 }
 

@@ -1,5 +1,5 @@
 // Members that may be left out.
-ghost use Rattle.std.specs.Prelude.{◌≡◌, IfOk, OnOk};
+ghost use Rattle.std.specs.Prelude.{◌≡◌, IfOk, OnOk, OnErr};
 ghost use Rattle.serde_json.specs.Data.{boolean, string, put};
 ghost use Rattle.cmc_codec.specs.Puts.{put_option, put_list, put_true, put_object, strings, base64_text, map_tree};
 ghost use Rattle.cmc_codec.specs.Printed.{moment_tree, duration_tree};
@@ -20,7 +20,8 @@ pub fn put_text(
     name: &str,
     text: &str,
 ) -> Result<(), AllocError>
-    ensures { OnOk result (members_of members.new ≡ put name.now (string text.now) (members_of members.old)) }
+    ensures ok { OnOk result (members_of members.new ≡ put name.now (string text.now) (members_of members.old)) }
+    ensures err { OnErr result (members_of members.new ≡ members_of members.old) }
 {
     let tree = Tree::text(alloc, text)?;
     members.put(alloc, name, tree)
@@ -33,7 +34,8 @@ pub fn put_some_text(
     name: &str,
     text: &str,
 ) -> Result<(), AllocError>
-    ensures { OnOk result (members_of members.new ≡ put_list string name.now text.now (members_of members.old)) }
+    ensures ok { OnOk result (members_of members.new ≡ put_list string name.now text.now (members_of members.old)) }
+    ensures err { OnErr result (members_of members.new ≡ members_of members.old) }
 {
     if text.is_empty() {
         return Ok(());
@@ -48,7 +50,8 @@ pub fn put_count(
     name: &str,
     number: u64,
 ) -> Result<(), AllocError>
-    ensures { OnOk result (members_of members.new ≡ put name.now (natural number) (members_of members.old)) }
+    ensures ok { OnOk result (members_of members.new ≡ put name.now (natural number) (members_of members.old)) }
+    ensures err { OnErr result (members_of members.new ≡ members_of members.old) }
 {
     members.put(alloc, name, Tree::count(number))
 }
@@ -60,7 +63,8 @@ pub fn put_count_option(
     name: &str,
     number: Option<u64>,
 ) -> Result<(), AllocError>
-    ensures { OnOk result (members_of members.new ≡ put_option natural name.now number (members_of members.old)) }
+    ensures ok { OnOk result (members_of members.new ≡ put_option natural name.now number (members_of members.old)) }
+    ensures err { OnErr result (members_of members.new ≡ members_of members.old) }
 {
     match number {
         None => Ok(()),
@@ -75,7 +79,8 @@ pub fn put_small_count_option(
     name: &str,
     number: Option<u32>,
 ) -> Result<(), AllocError>
-    ensures { OnOk result (members_of members.new ≡ put_option natural name.now number (members_of members.old)) }
+    ensures ok { OnOk result (members_of members.new ≡ put_option natural name.now number (members_of members.old)) }
+    ensures err { OnErr result (members_of members.new ≡ members_of members.old) }
 {
     match number {
         None => Ok(()),
@@ -90,7 +95,8 @@ pub fn put_if_true(
     name: &str,
     flag: bool,
 ) -> Result<(), AllocError>
-    ensures { OnOk result (members_of members.new ≡ put_true name.now flag (members_of members.old)) }
+    ensures ok { OnOk result (members_of members.new ≡ put_true name.now flag (members_of members.old)) }
+    ensures err { OnErr result (members_of members.new ≡ members_of members.old) }
 {
     if flag {
         return members.put(alloc, name, Tree::flag(true));
@@ -105,7 +111,8 @@ pub fn put_duration(
     name: &str,
     seconds: Option<u64>,
 ) -> Result<(), AllocError>
-    ensures { OnOk result (members_of members.new ≡ put_option duration_tree name.now seconds (members_of members.old)) }
+    ensures ok { OnOk result (members_of members.new ≡ put_option duration_tree name.now seconds (members_of members.old)) }
+    ensures err { OnErr result (members_of members.new ≡ members_of members.old) }
 {
     match seconds {
         None => Ok(()),
@@ -123,7 +130,8 @@ pub fn put_moment(
     name: &str,
     at: Option<i64>,
 ) -> Result<(), AllocError>
-    ensures { OnOk result (members_of members.new ≡ put_option moment_tree name.now at (members_of members.old)) }
+    ensures ok { OnOk result (members_of members.new ≡ put_option moment_tree name.now at (members_of members.old)) }
+    ensures err { OnErr result (members_of members.new ≡ members_of members.old) }
 {
     match at {
         None => Ok(()),
@@ -141,7 +149,8 @@ pub fn put_bytes(
     name: &str,
     bytes: &[u8],
 ) -> Result<(), AllocError>
-    ensures { OnOk result (members_of members.new ≡ put name.now (base64_text bytes.now) (members_of members.old)) }
+    ensures ok { OnOk result (members_of members.new ≡ put name.now (base64_text bytes.now) (members_of members.old)) }
+    ensures err { OnErr result (members_of members.new ≡ members_of members.old) }
 {
     let text = STANDARD.encode(alloc, bytes)?;
     put_text(members, alloc, name, text.as_str())
@@ -154,7 +163,8 @@ pub fn put_some_bytes(
     name: &str,
     bytes: &[u8],
 ) -> Result<(), AllocError>
-    ensures { OnOk result (members_of members.new ≡ put_list base64_text name.now bytes.now (members_of members.old)) }
+    ensures ok { OnOk result (members_of members.new ≡ put_list base64_text name.now bytes.now (members_of members.old)) }
+    ensures err { OnErr result (members_of members.new ≡ members_of members.old) }
 {
     if bytes.is_empty() {
         return Ok(());
@@ -179,7 +189,8 @@ pub fn put_texts(
     name: &str,
     texts: &[Text],
 ) -> Result<(), AllocError>
-    ensures { OnOk result (members_of members.new ≡ put_list strings name.now texts.now (members_of members.old)) }
+    ensures ok { OnOk result (members_of members.new ≡ put_list strings name.now texts.now (members_of members.old)) }
+    ensures err { OnErr result (members_of members.new ≡ members_of members.old) }
 {
     if texts.is_empty() {
         return Ok(());
@@ -195,7 +206,8 @@ pub fn put_members(
     name: &str,
     inner: Members,
 ) -> Result<(), AllocError>
-    ensures { OnOk result (members_of members.new ≡ put_object name.now (members_of inner) (members_of members.old)) }
+    ensures ok { OnOk result (members_of members.new ≡ put_object name.now (members_of inner) (members_of members.old)) }
+    ensures err { OnErr result (members_of members.new ≡ members_of members.old) }
 {
     if inner.is_empty() {
         return Ok(());
@@ -220,7 +232,8 @@ pub fn put_pairs(
     name: &str,
     pairs: &BTreeMap<Text, Text>,
 ) -> Result<(), AllocError>
-    ensures { OnOk result (members_of members.new ≡ put_list (map_tree string) name.now pairs.now.entries (members_of members.old)) }
+    ensures ok { OnOk result (members_of members.new ≡ put_list (map_tree string) name.now pairs.now.entries (members_of members.old)) }
+    ensures err { OnErr result (members_of members.new ≡ members_of members.old) }
 {
     if pairs.is_empty() {
         return Ok(());
@@ -246,7 +259,8 @@ pub fn put_parts(
     name: &str,
     parts: &BTreeMap<Text, Bytes>,
 ) -> Result<(), AllocError>
-    ensures { OnOk result (members_of members.new ≡ put_list (map_tree base64_text) name.now parts.now.entries (members_of members.old)) }
+    ensures ok { OnOk result (members_of members.new ≡ put_list (map_tree base64_text) name.now parts.now.entries (members_of members.old)) }
+    ensures err { OnErr result (members_of members.new ≡ members_of members.old) }
 {
     if parts.is_empty() {
         return Ok(());
@@ -262,14 +276,16 @@ pub fn put_flag(
     name: &str,
     flag: bool,
 ) -> Result<(), AllocError>
-    ensures { OnOk result (members_of members.new ≡ put name.now (boolean flag) (members_of members.old)) }
+    ensures ok { OnOk result (members_of members.new ≡ put name.now (boolean flag) (members_of members.old)) }
+    ensures err { OnErr result (members_of members.new ≡ members_of members.old) }
 {
     members.put(alloc, name, Tree::flag(flag))
 }
 
 /// Puts a moment, in seconds since 1970-01-01T00:00:00Z.
 pub fn put_time(members: &mut Members, alloc: Global, name: &str, at: i64) -> Result<(), AllocError>
-    ensures { OnOk result (members_of members.new ≡ put name.now (moment_tree at) (members_of members.old)) }
+    ensures ok { OnOk result (members_of members.new ≡ put name.now (moment_tree at) (members_of members.old)) }
+    ensures err { OnErr result (members_of members.new ≡ members_of members.old) }
 {
     let text = moment_word(alloc, at)?;
     put_text(members, alloc, name, text.as_str())

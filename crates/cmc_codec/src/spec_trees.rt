@@ -1,5 +1,5 @@
 // The specs of Certificates and CertificateRequests as JSON.
-ghost use Rattle.std.specs.Prelude.{◌≡◌, codes, IfOk, OnOk};
+ghost use Rattle.std.specs.Prelude.{◌≡◌, codes, IfOk, OnOk, OnErr};
 ghost use Rattle.serde_json.specs.Data.{string};
 ghost use Rattle.cmc_codec.specs.Printed.{issuer_tree, key_members, put_references, put_names, put_terms, spec_tree, request_tree};
 ghost use Rattle.cmc_codec.specs.Puts.{put_option};
@@ -22,7 +22,8 @@ fn put_owned_text(
     name: &str,
     text: &Option<Text>,
 ) -> Result<(), AllocError>
-    ensures { OnOk result (members_of members.new ≡ put_option string name.now text.now (members_of members.old)) }
+    ensures ok { OnOk result (members_of members.new ≡ put_option string name.now text.now (members_of members.old)) }
+    ensures err { OnErr result (members_of members.new ≡ members_of members.old) }
 {
     match text {
         None => Ok(()),
@@ -46,7 +47,8 @@ fn put_algorithm(
     alloc: Global,
     algorithm: Option<Algorithm>,
 ) -> Result<(), AllocError>
-    ensures { OnOk result (members_of members.new ≡ put_option (λ a. string (algorithm_name a)) (codes "algorithm") algorithm (members_of members.old)) }
+    ensures ok { OnOk result (members_of members.new ≡ put_option (λ a. string (algorithm_name a)) (codes "algorithm") algorithm (members_of members.old)) }
+    ensures err { OnErr result (members_of members.new ≡ members_of members.old) }
 {
     match algorithm {
         None => Ok(()),
@@ -59,7 +61,8 @@ fn put_encoding(
     alloc: Global,
     encoding: Option<Encoding>,
 ) -> Result<(), AllocError>
-    ensures { OnOk result (members_of members.new ≡ put_option (λ e. string (encoding_name e)) (codes "encoding") encoding (members_of members.old)) }
+    ensures ok { OnOk result (members_of members.new ≡ put_option (λ e. string (encoding_name e)) (codes "encoding") encoding (members_of members.old)) }
+    ensures err { OnErr result (members_of members.new ≡ members_of members.old) }
 {
     match encoding {
         None => Ok(()),
@@ -72,7 +75,8 @@ fn put_rotation(
     alloc: Global,
     rotation: Option<Rotation>,
 ) -> Result<(), AllocError>
-    ensures { OnOk result (members_of members.new ≡ put_option (λ r. string (rotation_name r)) (codes "rotationPolicy") rotation (members_of members.old)) }
+    ensures ok { OnOk result (members_of members.new ≡ put_option (λ r. string (rotation_name r)) (codes "rotationPolicy") rotation (members_of members.old)) }
+    ensures err { OnErr result (members_of members.new ≡ members_of members.old) }
 {
     match rotation {
         None => Ok(()),

@@ -1,5 +1,5 @@
 // The statuses of Certificates and CertificateRequests as JSON.
-ghost use Rattle.std.specs.Prelude.{◌≡◌, codes, IfOk, OnOk};
+ghost use Rattle.std.specs.Prelude.{◌≡◌, codes, IfOk, OnOk, OnErr};
 ghost use Rattle.serde_json.specs.Data.{string};
 ghost use Rattle.cmc_codec.specs.Printed.{put_moments, status_members, request_status_members};
 ghost use Rattle.cmc_codec.specs.Puts.{put_option};
@@ -23,7 +23,8 @@ fn add_moments(members: &mut Members, alloc: Global, status: &CertStatus) -> Res
 }
 
 fn put_next_key(members: &mut Members, alloc: Global, name: &Option<Name>) -> Result<(), AllocError>
-    ensures { OnOk result (members_of members.new ≡ put_option string (codes "nextPrivateKeySecretName") name.now (members_of members.old)) }
+    ensures ok { OnOk result (members_of members.new ≡ put_option string (codes "nextPrivateKeySecretName") name.now (members_of members.old)) }
+    ensures err { OnErr result (members_of members.new ≡ members_of members.old) }
 {
     match name {
         None => Ok(()),

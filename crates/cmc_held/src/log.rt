@@ -38,9 +38,10 @@ impl Log {
         }
     }
 
-    /// Makes room for so many more writes, and changes nothing else. An `Err` is want of memory.
+    /// Makes room for so many more writes, and changes nothing else; room that stands is kept. An `Err` is want of memory.
     pub fn reserve(&mut self, more: u64) -> Result<(), AllocError>
         ensures room { OnOk result (more ≤ self.new.spare) }
+        ensures kept { self.old.spare ≤ self.new.spare }
         ensures same { self.new.writes ≡ self.old.writes }
     {
         self.items.reserve(more as usize)

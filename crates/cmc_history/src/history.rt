@@ -38,9 +38,10 @@ impl History {
         }
     }
 
-    /// Makes room for so many more entries, and changes nothing else.
+    /// Makes room for so many more entries, and changes nothing else; room that stands is kept.
     pub fn reserve(&mut self, more: u64) -> Result<(), AllocError>
         ensures room { OnOk result (more ≤ self.new.spare) }
+        ensures kept { self.old.spare ≤ self.new.spare }
         ensures same { self.new.entries ≡ self.old.entries }
     {
         self.items.reserve(more as usize)

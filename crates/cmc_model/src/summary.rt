@@ -1,4 +1,4 @@
-ghost use Rattle.std.specs.Prelude.{◌≡◌, ◌++◌, ◌∷◌, [], OnOk, OnErr};
+ghost use Rattle.std.specs.Prelude.{◌≡◌, ◌++◌, ◌∷◌, [], IfOk, OnOk, OnErr};
 
 use cmc_meta::Key;
 use std::alloc::{AllocError, Global};
@@ -22,6 +22,18 @@ pub struct Waiting {
 #[derive(Drop)]
 pub struct Waits {
     items: Vec<Waiting>,
+}
+
+impl Waiting {
+    /// An equal one.
+    pub fn copy(&self) -> Result<Waiting, AllocError>
+        ensures { IfOk result (λ w. w ≡ self.now) }
+    {
+        Ok(Waiting {
+            certificate: self.certificate.copy()?,
+            wait: self.wait,
+        })
+    }
 }
 
 impl Model for Waits {
@@ -58,6 +70,25 @@ impl Waits {
     {
         self.items.as_slice()
     }
+
+    /// Equal Certificates.
+    pub fn copy(&self) -> Result<Waits, AllocError>
+        ensures { IfOk result (λ w. w ≡ self.now) }
+    {
+        Ok(Waits {
+            items: copy_waits(*self.items.allocator(), self.items.as_slice())?,
+        })
+    }
+}
+
+fn copy_waits(alloc: Global, waits: &[Waiting]) -> Result<Vec<Waiting>, AllocError>
+    ensures { IfOk result (λ v. v.items ≡ waits.now) }
+{
+    let mut items = Vec::new(alloc);
+    for waiting in waits {
+        items.push(waiting.copy()?)?;
+    }
+    Ok(items)
 }
 
 /// What stands at the end of a run.

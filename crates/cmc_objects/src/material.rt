@@ -13,6 +13,7 @@ use std::marker::Model;
 #[derive(Drop)]
 pub struct Material {
     map: BTreeMap<Key, Rows>,
+    alloc: Global,
 }
 
 impl Model for Material {
@@ -32,6 +33,7 @@ impl Material {
     {
         Material {
             map: BTreeMap::new(alloc),
+            alloc,
         }
     }
 
@@ -64,4 +66,21 @@ impl Material {
     {
         &self.map
     }
+
+    /// An equal material.
+    pub fn copy(&self) -> Result<Material, AllocError>
+        ensures { IfOk result (λ m. m ≡ self.now) }
+    {
+        copy_entries(self.alloc, &self.map)
+    }
+}
+
+fn copy_entries(alloc: Global, entries: &BTreeMap<Key, Rows>) -> Result<Material, AllocError>
+    ensures { IfOk result (λ m. m ≡ entries.now.entries) }
+{
+    let mut material = Material::new(alloc);
+    for (certificate, rows) in entries.iter() {
+        material.set(certificate.copy()?, rows.copy()?)?;
+    }
+    Ok(material)
 }

@@ -5,7 +5,7 @@ use Rattle.std.specs.Prelude.{◌&&◌, if◌then◌else◌}
 use Rattle.cmc_objects.specs.declared.entry.Entry.{Entry}
 use Rattle.cmc_model.specs.Histories.{incarnation}
 use Rattle.cmc_rules.specs.Runs.{IsRun}
-use Rattle.cmc_scenario.specs.Setups.{Setup, IsOrderlyFrom}
+use Rattle.cmc_setup.specs.Setups.{Setup, IsOrderlyFrom}
 use Rattle.cmc_world.specs.Kept.{setting_of}
 use Rattle.cmc_world.specs.Answers.{outdated, outdated_at}
 use Rattle.cmc_plain.proofs.Starting.{present_origin_stands}

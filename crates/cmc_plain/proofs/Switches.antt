@@ -14,8 +14,8 @@ use Rattle.cmc_rules.specs.declared.effect.Effect.TheVariants as effects
 use Rattle.cmc_model.specs.Histories.{Setting, runs, role_eq}
 use Rattle.cmc_rules.specs.Scripting.{scripted, step_at}
 use Rattle.cmc_rules.specs.Following.{call_of, effect_of, owed, IsNextStep, Follows}
-use Rattle.cmc_scenario.specs.Setups.{Setup, is_among, without_role, IsOrderlyFrom}
-use Rattle.cmc_scenario.proofs.Orderly.{among_after}
+use Rattle.cmc_setup.specs.Setups.{Setup, is_among, without_role, IsOrderlyFrom}
+use Rattle.cmc_setup.proofs.Orderly.{among_after}
 use Rattle.cmc_world.specs.Kept.{setting_of}
 use Rattle.cmc_plain.proofs.Starting.{StartsStopped}
 

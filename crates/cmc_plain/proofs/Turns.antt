@@ -15,7 +15,7 @@ use Rattle.cmc_world.specs.declared.moves.Stepped.TheVariants.{Done, NotNow, End
 use Rattle.cmc_world.specs.Answers.{Answers, Grows, Leaves, is_done}
 use Rattle.cmc_plain.specs.Plain.{IsPlainMove}
 use Rattle.cmc_plain.specs.Histories.{IsPlainStep, LeadsPlainly, IsPlain, IsFull}
-use Rattle.cmc_scenario.specs.Setups.{Setup}
+use Rattle.cmc_setup.specs.Setups.{Setup}
 use Rattle.cmc_world.specs.Kept.{Seen, setting_of}
 use Rattle.cmc_plain.specs.Driving.{GoesOn, IsDriving}
 

@@ -3,7 +3,7 @@ use Rattle.std.specs.Prelude.{◌≡◌, ℕ, ◌+◌, ◌≤◌, List, length}
 use Rattle.cmc_objects.specs.declared.entry.Entry.{Entry}
 use Rattle.cmc_model.specs.Histories.{Setting}
 use Rattle.cmc_rules.specs.Runs.{IsFinished}
-use Rattle.cmc_scenario.specs.Setups.{Setup}
+use Rattle.cmc_setup.specs.Setups.{Setup}
 use Rattle.cmc_world.specs.declared.moves.Move.{Move}
 use Rattle.cmc_world.specs.Kept.{Seen, setting_of}
 use Rattle.cmc_plain.specs.declared.driving.Turn.{Turn}

@@ -4,7 +4,7 @@ ghost use Rattle.cmc_world.specs.Kept.{setting_of};
 ghost use Rattle.cmc_plain.specs.Driving.{IsTurn, IsDriven};
 
 use crate::choosing::plain;
-use cmc_scenario::Scenario;
+use cmc_setup::Scenario;
 use cmc_world::World;
 use std::alloc::{AllocError, Global};
 

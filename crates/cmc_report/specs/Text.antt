@@ -11,11 +11,11 @@ use Rattle.cmc_report.specs.Trees.{scenario_tree, entry_tree, summary_tree}
 abbrev pub joined : List (List ℕ) → List ℕ
 joined lines = flat_map (λ line. line) lines
 
--- The entry that is the newest of a history has the number of its entries.
-abbrev pub entry_lines : List Entry → List ℕ
+-- The lines of a history's entries, the oldest first: one for each, with its number, from 1.
+abbrev pub entry_lines : List Entry → List (List ℕ)
 entry_lines [] = []
-entry_lines (e ∷ h) = entry_lines h ++ line_of (entry_tree (length h + 1) e)
+entry_lines (e ∷ h) = entry_lines h ++ line_of (entry_tree (length h + 1) e) ∷ []
 
--- The text of a history, whose newest entry stands at the head.
-unfoldable pub history_lines : Data → List Entry → Summary → List ℕ
-history_lines scenario history summary = line_of (scenario_tree scenario) ++ (entry_lines history ++ line_of (summary_tree summary))
+-- The lines of a run: the scenario, each entry of the history, whose newest entry stands at the head, and the summary.
+unfoldable pub history_lines : Data → List Entry → Summary → List (List ℕ)
+history_lines scenario history summary = line_of (scenario_tree scenario) ∷ (entry_lines history ++ line_of (summary_tree summary) ∷ [])

@@ -1,5 +1,5 @@
 // Handed-out work and its answers as JSON.
-ghost use Rattle.std.specs.Prelude.{◌≡◌, codes, IfOk, OnOk};
+ghost use Rattle.std.specs.Prelude.{◌≡◌, codes, IfOk, OnOk, OnErr};
 ghost use Rattle.serde_json.specs.Data.{put};
 ghost use Rattle.cmc_codec.specs.Trees.{data_of, members_of};
 ghost use Rattle.cmc_report.specs.Trees.{put_request, key_order_tree, csr_order_tree, sign_order_tree, judge_order_tree, order_tree, issued_tree, answer_tree};
@@ -77,7 +77,8 @@ fn order_of(alloc: Global, order: &Order) -> Result<Tree, AllocError>
 
 /// Puts what was asked.
 pub fn add_order(members: &mut Members, alloc: Global, order: &Order) -> Result<(), AllocError>
-    ensures { OnOk result (members_of members.new ≡ put (codes "order") (order_tree order.now) (members_of members.old)) }
+    ensures ok { OnOk result (members_of members.new ≡ put (codes "order") (order_tree order.now) (members_of members.old)) }
+    ensures err { OnErr result (members_of members.new ≡ members_of members.old) }
 {
     let tree = order_of(alloc, order)?;
     members.put(alloc, "order", tree)
@@ -117,7 +118,8 @@ fn answer_of(alloc: Global, answer: &Signing) -> Result<Tree, AllocError>
 
 /// Puts what an issuer answered.
 pub fn add_answer(members: &mut Members, alloc: Global, answer: &Signing) -> Result<(), AllocError>
-    ensures { OnOk result (members_of members.new ≡ put (codes "answer") (answer_tree answer.now) (members_of members.old)) }
+    ensures ok { OnOk result (members_of members.new ≡ put (codes "answer") (answer_tree answer.now) (members_of members.old)) }
+    ensures err { OnErr result (members_of members.new ≡ members_of members.old) }
 {
     let tree = answer_of(alloc, answer)?;
     members.put(alloc, "answer", tree)

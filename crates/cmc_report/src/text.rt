@@ -2,7 +2,7 @@
 ghost use Rattle.std.specs.Prelude.{◌≡◌, ◌++◌, false, reverse, IfOk, OnOk};
 ghost use Rattle.serde_json.specs.View.{view};
 ghost use Rattle.serde_json.specs.Written.{has_float};
-ghost use Rattle.cmc_report.specs.Text.{joined, entry_lines, history_lines};
+ghost use Rattle.cmc_report.specs.Text.{entry_lines, history_lines};
 
 use crate::entries::entry_line;
 use crate::lines::Lines;
@@ -15,7 +15,7 @@ use std::alloc::{AllocError, Global};
 
 // Adds the lines of the entries, the oldest of which is the first.
 fn push_entries(lines: &mut Lines, alloc: Global, entries: &[Entry]) -> Result<(), AllocError>
-    ensures { OnOk result (joined lines.new ≡ joined lines.old ++ entry_lines (reverse entries.now)) }
+    ensures { OnOk result (lines.new ≡ lines.old ++ entry_lines (reverse entries.now)) }
 {
     for (place, entry) in entries.iter().enumerate() {
         let line = entry_line(alloc, place as u64 + 1, entry)?;
@@ -24,8 +24,8 @@ fn push_entries(lines: &mut Lines, alloc: Global, entries: &[Entry]) -> Result<(
     Ok(())
 }
 
-/// The lines of a run: the scenario as it was read, the entries of the history from the oldest on,
-/// and the summary. Each ends in a line feed. No number in the scenario may be a float.
+/// The lines of a run: the scenario as it was read, one for each entry of the history from the oldest
+/// on, and the summary. Each is compact JSON and a line feed. No number in the scenario may be a float.
 #[tactic(auto, unfolding(crate::specs::Text::history_lines))]
 pub fn history_text(
     alloc: Global,
@@ -34,7 +34,7 @@ pub fn history_text(
     summary: &Summary,
 ) -> Result<Lines, AllocError>
     requires { has_float (view scenario.now) ≡ false }
-    ensures { IfOk result (λ lines. joined lines ≡ history_lines (view scenario.now) history.now.entries summary.now) }
+    ensures { IfOk result (λ lines. lines ≡ history_lines (view scenario.now) history.now.entries summary.now) }
 {
     let mut lines = Lines::new(alloc);
     lines.push(scenario_line(alloc, scenario)?)?;

@@ -9,10 +9,10 @@ use Rattle.cmc_meta.specs.declared.key.Key.{Key}
 use Rattle.cmc_objects.specs.declared.object.Object.{Object}
 use Rattle.cmc_objects.specs.declared.entry.Step.{Step}
 use Rattle.cmc_objects.specs.declared.entry.Step.TheVariants.{Apply, Delete, Settle}
-use Rattle.cmc_codec.specs.declared.error.BadField.{BadField}
-use Rattle.cmc_codec.specs.declared.error.BadField.TheVariants.{Path, NoMemory}
-use Rattle.cmc_codec.specs.Reading.{Read, Gives, ◌>>=◌, under, Field, fields_at, optional_at, required_at, at_end}
-use Rattle.cmc_codec.specs.Readers.{word_at}
+use Rattle.cmc_cursor.specs.declared.error.BadField.{BadField}
+use Rattle.cmc_cursor.specs.declared.error.BadField.TheVariants.{Path, NoMemory}
+use Rattle.cmc_cursor.specs.Reading.{Read, Gives, ◌>>=◌, under, Field, fields_at, optional_at, required_at, at_end}
+use Rattle.cmc_cursor.specs.Readers.{word_at}
 use Rattle.cmc_scenario.specs.Certificates as certificates
 use Rattle.cmc_scenario.specs.Certificates.{spec_at}
 use Rattle.cmc_scenario.specs.Secrets as secrets

@@ -3,8 +3,8 @@ use Rattle.std.proofs.Common.{◌≡◌, ℕ, suc, ◌+◌, ◌<◌, List, [], �
 use Rattle.serde_json.specs.View.{view, items_view}
 use Rattle.serde_json.specs.declared.value.Value.{Value}
 use Rattle.cmc_objects.specs.declared.entry.Step.{Step}
-use Rattle.cmc_codec.specs.Reading.{Read, ◌>>=◌}
-use Rattle.cmc_codec.specs.Readers.{with_front}
+use Rattle.cmc_cursor.specs.Reading.{Read, ◌>>=◌}
+use Rattle.cmc_cursor.specs.Readers.{with_front}
 use Rattle.cmc_scenario.specs.Scripts.{numbered_step_at, steps_from}
 
 pushed : (front : List Step) (s : Step) (r : Read (List Step)) → with_front (front ++ s ∷ []) r ≡ with_front front (r >>= (λ ss. Ok (s ∷ ss)))

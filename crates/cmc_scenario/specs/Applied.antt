@@ -5,8 +5,8 @@ use Rattle.std.specs.Str.{bytes_eq}
 use Rattle.serde_json.specs.Data.{Data}
 use Rattle.serde_json.specs.Find.{get, as_str}
 use Rattle.cmc_objects.specs.declared.entry.Step.{Step}
-use Rattle.cmc_codec.specs.Reading.{Read, Check, ◌>>=◌, under, Field, fields_at, optional_at, required_at}
-use Rattle.cmc_codec.specs.Readers.{text_at, floats_at}
+use Rattle.cmc_cursor.specs.Reading.{Read, Check, ◌>>=◌, under, Field, fields_at, optional_at, required_at}
+use Rattle.cmc_cursor.specs.Readers.{text_at, floats_at}
 use Rattle.cmc_scenario.specs.Certificates.{certificate_in}
 use Rattle.cmc_scenario.specs.Secrets.{secret_in}
 

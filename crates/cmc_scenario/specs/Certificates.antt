@@ -10,8 +10,8 @@ use Rattle.cmc_objects.specs.declared.certificate.CertSpec.{CertSpec}
 use Rattle.cmc_objects.specs.declared.object.Object.TheVariants.{Cert}
 use Rattle.cmc_objects.specs.declared.entry.Step.{Step}
 use Rattle.cmc_objects.specs.declared.entry.Step.TheVariants.{Apply}
-use Rattle.cmc_codec.specs.Reading.{Read, ◌>>=◌, under, Field, fields_at, optional_at, required_at, at_end}
-use Rattle.cmc_codec.specs.Readers.{text_at, word_at, name_at, short_text_at, printable_at}
+use Rattle.cmc_cursor.specs.Reading.{Read, ◌>>=◌, under, Field, fields_at, optional_at, required_at, at_end}
+use Rattle.cmc_cursor.specs.Readers.{text_at, word_at, name_at, short_text_at, printable_at}
 use Rattle.cmc_scenario.specs.Metadata.{head_at, new_meta}
 use Rattle.cmc_scenario.specs.declared.metadata.Head.{Head}
 

@@ -4,6 +4,4 @@ pub mod Secrets
 pub mod Applied
 pub mod Keys
 pub mod Scripts
-pub mod Setups
-pub mod Running
 pub mod Scenarios

@@ -3,8 +3,8 @@ use Rattle.std.specs.Prelude.{ℕ, pos, List, [], codes, length, nat_le, if◌th
 use Rattle.std.specs.declared.option.Option.{Option}
 use Rattle.serde_json.specs.Data.{Data}
 use Rattle.cmc_meta.specs.declared.object_meta.ObjectMeta.{ObjectMeta}
-use Rattle.cmc_codec.specs.Reading.{Read, ◌>>=◌, under, fields_at, optional_at, required_at, at_end}
-use Rattle.cmc_codec.specs.Readers.{name_at, decimal_at}
+use Rattle.cmc_cursor.specs.Reading.{Read, ◌>>=◌, under, fields_at, optional_at, required_at, at_end}
+use Rattle.cmc_cursor.specs.Readers.{name_at, decimal_at}
 use Rattle.cmc_scenario.specs.declared.metadata.Head.{Head}
 
 -- A name of at most n bytes.

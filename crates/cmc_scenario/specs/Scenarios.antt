@@ -8,11 +8,11 @@ use Rattle.cmc_objects.specs.declared.entry.Step.{Step}
 use Rattle.cmc_objects.specs.declared.orders.Rules.{Rules}
 use Rattle.cmc_objects.specs.declared.role.Role.{Role}
 use Rattle.cmc_objects.specs.declared.role.Role.TheVariants.{Trigger}
-use Rattle.cmc_codec.specs.Reading.{Read, Check, ◌>>=◌, under, fields_at, optional_at, at_end}
-use Rattle.cmc_codec.specs.Readers.{text_at, floats_at}
+use Rattle.cmc_cursor.specs.Reading.{Read, Check, ◌>>=◌, under, fields_at, optional_at, at_end}
+use Rattle.cmc_cursor.specs.Readers.{text_at, floats_at}
 use Rattle.cmc_scenario.specs.Scripts.{script_at}
-use Rattle.cmc_scenario.specs.Setups.{Setup, with_role}
-use Rattle.cmc_scenario.specs.declared.scenario.Scenario.{Scenario}
+use Rattle.cmc_setup.specs.Setups.{Setup, with_role}
+use Rattle.cmc_setup.specs.declared.scenario.Scenario.{Scenario}
 use Rattle.cmc_scenario.specs.declared.reading.BadScenario.{BadScenario}
 use Rattle.cmc_scenario.specs.declared.reading.BadScenario.TheVariants as bad
 

@@ -1,12 +1,13 @@
 -- The form of a script: a list of steps, each named by its member `do`.
-use Rattle.std.specs.Prelude.{ℕ, List, [], ◌∷◌, ◌+◌, ◌||◌, decimal, codes, nat_lt, Bool, if◌then◌else◌, Ok, Err, Some, None}
+use Rattle.std.specs.Prelude.{◌≡◌, ◌≤◌, ℕ, false, length, All, List, [], ◌∷◌, ◌+◌, ◌||◌, decimal, codes, nat_lt, Bool, if◌then◌else◌, Ok, Err, Some, None}
 use Rattle.std.specs.declared.option.Option.{Option}
 use Rattle.std.specs.Str.{bytes_eq}
 use Rattle.serde_json.specs.Data.{Data, null, boolean, number, string, array, object, Items, no_items, item}
 use Rattle.cmc_objects.specs.declared.entry.Step.{Step}
 use Rattle.cmc_objects.specs.declared.entry.Step.TheVariants.{Delete, Settle}
-use Rattle.cmc_codec.specs.Reading.{Read, ◌>>=◌, under, Field, fields_at, optional_at, required_at, at_end}
-use Rattle.cmc_codec.specs.Readers.{count_at}
+use Rattle.cmc_cursor.specs.Reading.{Read, ◌>>=◌, under, Field, fields_at, optional_at, required_at, at_end}
+use Rattle.cmc_cursor.specs.Readers.{count_at}
+use Rattle.cmc_setup.specs.Setups.{is_tick, switch_of}
 use Rattle.cmc_scenario.specs.Applied.{passes, text_member, applied_at}
 use Rattle.cmc_scenario.specs.Keys.{key_at}
 
@@ -90,3 +91,17 @@ steps_at (object ms) = Err []
 abbrev pub script_at : Option Data → Read (List Step)
 script_at None = Ok []
 script_at (Some d) = under (codes "script") (steps_at d)
+
+-- no step of the script lets time pass
+abbrev pub HasNoTick : List Step → Type 0
+HasNoTick script = All (λ (step : Step). is_tick step ≡ false) script
+
+-- no step of the script stops or starts a role
+abbrev pub HasNoSwitch : List Step → Type 0
+HasNoSwitch script = All (λ (step : Step). switch_of step ≡ None) script
+
+-- what is true of each script that is read
+pub record IsPlain (script : List Step) : Type 0 where
+  pub short : length script ≤ 10000
+  pub still : HasNoTick script
+  pub steady : HasNoSwitch script

@@ -5,8 +5,8 @@ use Rattle.serde_json.specs.Data.{Data}
 use Rattle.cmc_objects.specs.declared.object.Object.TheVariants.{Secret}
 use Rattle.cmc_objects.specs.declared.entry.Step.{Step}
 use Rattle.cmc_objects.specs.declared.entry.Step.TheVariants.{Apply}
-use Rattle.cmc_codec.specs.Reading.{Read, ◌>>=◌, under, Field, optional_at, required_at, at_end}
-use Rattle.cmc_codec.specs.Readers.{word_at, parts_at}
+use Rattle.cmc_cursor.specs.Reading.{Read, ◌>>=◌, under, Field, optional_at, required_at, at_end}
+use Rattle.cmc_cursor.specs.Readers.{word_at, parts_at}
 use Rattle.cmc_scenario.specs.Metadata.{head_at, new_meta}
 use Rattle.cmc_scenario.specs.declared.metadata.Head.{Head}
 

@@ -1,13 +1,13 @@
 // The object that a user applies: its kind decides the form.
 ghost use Rattle.std.specs.Prelude.{◌≡◌, map, option_map};
 ghost use Rattle.serde_json.specs.View.{view};
-ghost use Rattle.cmc_codec.specs.Reading.{Gives};
-ghost use Rattle.cmc_codec.specs.Seen.{shown, shown_option};
+ghost use Rattle.cmc_cursor.specs.Reading.{Gives};
+ghost use Rattle.cmc_cursor.specs.Seen.{shown, shown_option};
 ghost use Rattle.cmc_scenario.specs.Applied.{passes, text_member, is_any_version, is_api_version, kind_version_at, stranger_in, object_in, applied_at};
 
 use crate::certificate::certificate;
 use crate::secret::secret;
-use cmc_codec::{BadField, Fields, at, check_floats, fields, optional, required};
+use cmc_cursor::{BadField, Fields, at, check_floats, fields, optional, required};
 use cmc_meta::Text;
 use cmc_objects::Step;
 use serde_json::Value;

@@ -2,13 +2,13 @@
 ghost use Rattle.std.specs.Prelude.{◌≡◌, ◌++◌, IfOk, codes, decimal, map};
 ghost use Rattle.std.specs.Str.{bytes_eq};
 ghost use Rattle.serde_json.specs.View.{view, items_view};
-ghost use Rattle.cmc_codec.specs.Reading.{Gives, under};
-ghost use Rattle.cmc_codec.specs.Readers.{printable_at};
-ghost use Rattle.cmc_codec.specs.Seen.{shown, shown_option};
+ghost use Rattle.cmc_cursor.specs.Reading.{Gives, under};
+ghost use Rattle.cmc_cursor.specs.Readers.{printable_at};
+ghost use Rattle.cmc_cursor.specs.Seen.{shown, shown_option};
 ghost use Rattle.cmc_scenario.specs.Certificates.{dns_names_from, some_names, dns_names_at, issuer_at, algorithm_of, algorithm_at, key_fields_at, private_key_at, secret_name_at, spec_of, spec_at, apply_of, certificate_in};
 
 use crate::metadata::{Head, metadata, new_metadata};
-use cmc_codec::{
+use cmc_cursor::{
     BadField, Fields, at, check_end, fields, name, optional, printable, required, short_text, word,
 };
 use cmc_meta::{Name, Text, Texts};

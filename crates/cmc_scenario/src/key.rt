@@ -1,10 +1,10 @@
 // Keys written as text.
 ghost use Rattle.std.specs.Prelude.{◌≡◌};
 ghost use Rattle.serde_json.specs.View.{view};
-ghost use Rattle.cmc_codec.specs.Reading.{Gives};
+ghost use Rattle.cmc_cursor.specs.Reading.{Gives};
 ghost use Rattle.cmc_scenario.specs.Keys.{split_slash, kind_in, key_of_kind, key_in, key_at};
 
-use cmc_codec::{BadField, name_of};
+use cmc_cursor::{BadField, name_of};
 use cmc_meta::{Key, Kind, Text};
 use serde_json::Value;
 use std::alloc::Global;

@@ -1,11 +1,11 @@
 // The metadata of an object that a user applies.
 ghost use Rattle.std.specs.Prelude.{◌≡◌};
 ghost use Rattle.serde_json.specs.View.{view};
-ghost use Rattle.cmc_codec.specs.Reading.{Gives};
-ghost use Rattle.cmc_codec.specs.Seen.{shown_option};
+ghost use Rattle.cmc_cursor.specs.Reading.{Gives};
+ghost use Rattle.cmc_cursor.specs.Seen.{shown_option};
 ghost use Rattle.cmc_scenario.specs.Metadata.{short_name_at, namespace_at, version_at, head_at, new_meta};
 
-use cmc_codec::{BadField, at, check_end, decimal, fields, name, optional, required};
+use cmc_cursor::{BadField, at, check_end, decimal, fields, name, optional, required};
 use cmc_meta::{Name, ObjectMeta, Owners, Pairs, Text};
 use serde_json::Value;
 use std::alloc::Global;

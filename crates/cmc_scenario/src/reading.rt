@@ -2,18 +2,17 @@
 ghost use Rattle.std.specs.Prelude.{◌≡◌, [], decimal, false, IfOk, OnOk};
 ghost use Rattle.serde_json.specs.View.{view, items_view};
 ghost use Rattle.serde_json.specs.Written.{has_float};
-ghost use Rattle.cmc_codec.specs.Reading.{Gives, under};
-ghost use Rattle.cmc_codec.specs.Seen.{shown_option};
-ghost use Rattle.cmc_scenario.specs.Setups.{IsPlain};
+ghost use Rattle.cmc_cursor.specs.Reading.{Gives, under};
+ghost use Rattle.cmc_cursor.specs.Seen.{shown_option};
+ghost use Rattle.cmc_scenario.specs.Scripts.{IsPlain};
 ghost use Rattle.cmc_scenario.specs.Scenarios.{role_at, roles_with, named_roles_at, roles_at, with_roles, plain_approver_rules, plain_setup, members_at, scenario_at, IsReading};
 
-use crate::roles::Roles;
-use crate::scenario::Scenario;
-use crate::steps::{Steps, script};
-use cmc_codec::{BadField, at, check_end, check_floats, fields, optional};
+use crate::steps::script;
+use cmc_cursor::{BadField, at, check_end, check_floats, fields, optional};
 use cmc_meta::{Numbers, Text, Texts};
 use cmc_objects::{Material, Role, Rules};
 use cmc_policy_rules::Policies;
+use cmc_setup::{Roles, Scenario, Steps};
 use serde_json::Value;
 use std::alloc::{AllocError, Global};
 

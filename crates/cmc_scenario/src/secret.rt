@@ -1,11 +1,11 @@
 // The Secret that a user applies.
 ghost use Rattle.std.specs.Prelude.{◌≡◌, IfOk, map};
-ghost use Rattle.cmc_codec.specs.Reading.{Gives};
-ghost use Rattle.cmc_codec.specs.Seen.{shown, shown_option};
+ghost use Rattle.cmc_cursor.specs.Reading.{Gives};
+ghost use Rattle.cmc_cursor.specs.Seen.{shown, shown_option};
 ghost use Rattle.cmc_scenario.specs.Secrets.{parts_of, apply_of, secret_in};
 
 use crate::metadata::{Head, metadata, new_metadata};
-use cmc_codec::{BadField, Fields, at, check_end, optional, parts, required, word};
+use cmc_cursor::{BadField, Fields, at, check_end, optional, parts, required, word};
 use cmc_meta::Text;
 use cmc_objects::{Object, Parts, Secret, Step};
 use serde_json::Value;

@@ -1,14 +1,14 @@
 // One step of a script.
 ghost use Rattle.std.specs.Prelude.{◌≡◌, false, None, IfOk, map, option_map};
 ghost use Rattle.serde_json.specs.View.{view};
-ghost use Rattle.cmc_codec.specs.Reading.{Gives};
-ghost use Rattle.cmc_codec.specs.Seen.{shown, shown_option};
-ghost use Rattle.cmc_scenario.specs.Setups.{is_tick, switch_of};
+ghost use Rattle.cmc_cursor.specs.Reading.{Gives};
+ghost use Rattle.cmc_cursor.specs.Seen.{shown, shown_option};
+ghost use Rattle.cmc_setup.specs.Setups.{is_tick, switch_of};
 ghost use Rattle.cmc_scenario.specs.Scripts.{apply_in, named_version_at, delete_in, settle_in, stray_in, is_later_word, step_in, step_at};
 
 use crate::applied::{applied, member, pass};
 use crate::key::key;
-use cmc_codec::{BadField, Fields, at, check_end, count, fields, optional, required};
+use cmc_cursor::{BadField, Fields, at, check_end, count, fields, optional, required};
 use cmc_meta::Text;
 use cmc_objects::Step;
 use serde_json::Value;

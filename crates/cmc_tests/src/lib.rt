@@ -7,6 +7,8 @@ mod answers;
 #[cfg(test)]
 mod codec;
 #[cfg(test)]
+mod cursor;
+#[cfg(test)]
 mod der;
 #[cfg(test)]
 mod history;
@@ -22,6 +24,8 @@ mod made_values;
 mod matching;
 #[cfg(test)]
 mod meta;
+#[cfg(test)]
+mod model;
 #[cfg(test)]
 mod objects;
 #[cfg(test)]

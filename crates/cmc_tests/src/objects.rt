@@ -131,6 +131,7 @@ fn keeps_material(rt: HostRuntime) -> Result<(), Fail> {
     let mut material = Material::new(alloc);
     material.set(web.copy()?, rows.copy()?)?;
     assert_each_row(&rt, material.get(&web).ok_or("no rows")?);
+    assert_each_row(&rt, material.copy()?.get(&web).ok_or("no rows")?);
     material.remove(&web);
     assert!(rt; material.get(&web).is_none());
     Ok(())

@@ -9,7 +9,7 @@ use Rattle.cmc_rules.specs.Memory.{no_past}
 use Rattle.cmc_rules.specs.Legality.{IsLegal}
 use Rattle.cmc_rules.specs.Causes.{IsCaused}
 use Rattle.cmc_rules.specs.Following.{Follows}
-use Rattle.cmc_scenario.specs.Setups.{Setup}
+use Rattle.cmc_setup.specs.Setups.{Setup}
 use Rattle.cmc_held.specs.Standing.{first_standing}
 use Rattle.cmc_world.specs.Kept.{Holdings, IsKept, setting_of}
 

@@ -27,7 +27,7 @@ use Rattle.cmc_rules.specs.Memory.{no_past}
 use Rattle.cmc_rules.specs.Scripting.{scripted, step_at}
 use Rattle.cmc_rules.specs.Following.{call_of, effect_of, owed, IsNextStep, Follows}
 use Rattle.cmc_rules.proofs.Positions.{calls_short}
-use Rattle.cmc_scenario.specs.Setups.{Setup, IsSetup, IsTickForm}
+use Rattle.cmc_setup.specs.Setups.{Setup, IsSetup, IsTickForm}
 use Rattle.cmc_store.specs.Kept.{Kept}
 use Rattle.cmc_held.specs.declared.standings.Standing.{Standing}
 use Rattle.cmc_world.specs.declared.moves.Stepped.TheVariants.{Done}

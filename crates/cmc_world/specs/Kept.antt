@@ -18,7 +18,7 @@ use Rattle.cmc_rules.specs.Memory.{past}
 use Rattle.cmc_rules.specs.Scripting.{scripted, held}
 use Rattle.cmc_rules.specs.Following.{owed, written}
 use Rattle.cmc_rules.specs.Runs.{IsRun}
-use Rattle.cmc_scenario.specs.Setups.{Setup}
+use Rattle.cmc_setup.specs.Setups.{Setup}
 use Rattle.cmc_held.specs.declared.standings.Standing.{Standing}
 
 -- what contracts see of a world

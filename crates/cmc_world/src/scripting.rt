@@ -12,7 +12,7 @@ ghost use Rattle.cmc_model.specs.Histories.{role_eq};
 ghost use Rattle.cmc_model.specs.Objects.{object_at};
 ghost use Rattle.cmc_rules.specs.Scripting.{scripted};
 ghost use Rattle.cmc_held.specs.Standing.{standing_of};
-ghost use Rattle.cmc_scenario.specs.Setups.{IsSetup, IsTickForm, seconds_of};
+ghost use Rattle.cmc_setup.specs.Setups.{IsSetup, IsTickForm, seconds_of};
 ghost use Rattle.cmc_world.specs.Acting.{MadeCall};
 ghost use Rattle.cmc_world.specs.Answers as spec;
 ghost use Rattle.cmc_world.specs.Changes.{keeping, scripted_standing, starting, stopping};
@@ -29,7 +29,7 @@ use cmc_held::{Standing, Standings, with_held};
 use cmc_meta::Kind;
 use cmc_objects::{Call, Entry, Object, Positions, Role, Step, Who};
 use cmc_rules::Effect;
-use cmc_scenario::Scenario;
+use cmc_setup::Scenario;
 use cmc_store::{Replied, Store};
 use std::alloc::{AllocError, Global};
 

@@ -16,7 +16,7 @@ use cmc_held::{Log, Origins, Passes, Pasts, Standings};
 use cmc_history::History;
 use cmc_meta::{Key, Numbers};
 use cmc_objects::{Object, Role};
-use cmc_scenario::Scenario;
+use cmc_setup::Scenario;
 use cmc_store::Store;
 use std::alloc::{AllocError, Global};
 use std::collections::BTreeMap;

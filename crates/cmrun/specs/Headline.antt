@@ -8,8 +8,8 @@ use Rattle.cmc_model.specs.Histories.{objects}
 use Rattle.cmc_rules.specs.Rights.{KeepsRights}
 use Rattle.cmc_rules.specs.Runs.{IsRun, IsFinished}
 use Rattle.cmc_model.specs.Summaries.{summary_of}
-use Rattle.cmc_report.specs.Text.{history_lines}
-use Rattle.cmc_scenario.specs.declared.scenario.Scenario.{Scenario}
+use Rattle.cmc_report.specs.Text.{joined, history_lines}
+use Rattle.cmc_setup.specs.declared.scenario.Scenario.{Scenario}
 use Rattle.cmc_scenario.specs.Scenarios.{scenario_at}
 use Rattle.cmc_world.specs.Kept.{setting_of}
 use Rattle.cmc_plain.specs.Histories.{IsPlain, IsFull}
@@ -26,7 +26,7 @@ pub record RunsOn (value : Data) (scenario : Scenario) (text : List ℕ) : Type 
   pub rights : KeepsRights (setting_of scenario) history
   pub plain : IsPlain (setting_of scenario) history
   pub finished : IsFinished (setting_of scenario) history
-  pub is : text ≡ history_lines value history (summary_of (objects (setting_of scenario) history))
+  pub is : text ≡ joined (history_lines value history (summary_of (objects (setting_of scenario) history)))
 
 -- the value is that of a scenario, and the text that of a finished history of it
 pub record Answers (value : Data) (text : List ℕ) : Type 0 where

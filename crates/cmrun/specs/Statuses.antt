@@ -5,7 +5,7 @@ use Rattle.std.specs.declared.option.Option.{Option}
 use Rattle.std.specs.Str.{bytes_eq}
 use Rattle.std.specs.Io.KnownBytes.{Appends, Keeps, IsAtEnd}
 use Rattle.serde_json.specs.Data.{Data}
-use Rattle.cmc_scenario.specs.declared.scenario.Scenario.{Scenario}
+use Rattle.cmc_setup.specs.declared.scenario.Scenario.{Scenario}
 use Rattle.cmc_scenario.specs.Scenarios.{scenario_at}
 use Rattle.cmrun.specs.Ends.{AppendsPrefix, ConsumesExactly, ConsumesAtMost, risen}
 use Rattle.cmrun.specs.Headline.{IsRunOf, HasNoReading, FailsAt, Spends, SpendsValue, SpendsAll}

@@ -1,8 +1,9 @@
 // What no clause shows: the worked rows, the paths of bad inputs, and runs with faults, all with ample
 // memory. Expected values come from the store's table of replies and the form of scenarios.
 use crate::memory::{MemSink, MemSource};
-use crate::top::{Status, run};
-use cmc_meta::{Bytes, Numbers};
+use crate::source::Source;
+use crate::top::{Status, code, failing_path, message, run};
+use cmc_meta::{Bytes, Numbers, Text};
 use std::alloc::{AllocError, Global};
 use std::process::Abort;
 use std::test::Fail;
@@ -428,5 +429,108 @@ fn ends_at_a_fault(rt: HostRuntime) -> Result<(), Fail> {
     let ended = run_with(alloc, "load", b"{\"roles\":[]}", &[], &[])?;
     assert!(rt; matches!(ended.status, Status::Usage));
     assert_eq!(rt; ended.written.len(), 0);
+    Ok(())
+}
+
+/// The line on standard error behind a run that ended so.
+fn line_of(alloc: Global, status: &Status) -> Result<String, AllocError> {
+    format!(in alloc; "cmrun: {}{}", message(status), failing_path(status))
+}
+
+#[test]
+fn tells_each_status(rt: HostRuntime) -> Result<(), Fail> {
+    let alloc = rt.alloc();
+    assert_eq!(rt; code(&Status::Done), 0);
+    assert_eq!(rt; message(&Status::Done), "");
+    for (status, number, line) in [
+        (Status::TooLong, 1, "cmrun: input too long"),
+        (Status::NotJson, 1, "cmrun: not JSON"),
+        (
+            Status::BadScenario(Text::from_str(alloc, "roles.0")?),
+            1,
+            "cmrun: bad scenario at roles.0",
+        ),
+        (
+            Status::BadScenario(Text::new(alloc)),
+            1,
+            "cmrun: bad scenario at ",
+        ),
+        (
+            Status::Usage,
+            2,
+            "cmrun: usage: cmrun run|load COUNT [--workers N] [--summary]",
+        ),
+        (Status::ReadFault, 3, "cmrun: read failed"),
+        (Status::WriteFault, 4, "cmrun: write failed"),
+        (Status::NoMemory, 5, "cmrun: out of memory"),
+        (Status::Spent, 6, "cmrun: history is full"),
+    ] {
+        assert_eq!(rt; code(&status), number, "at {line}");
+        assert_eq!(rt; line_of(alloc, &status)?.as_str(), line);
+    }
+    Ok(())
+}
+
+/// How many lines the bytes have.
+fn line_count(bytes: &[u8]) -> usize {
+    bytes.iter().filter(|byte| **byte == b'\n').count()
+}
+
+#[test]
+fn writes_each_line_as_one_piece(rt: HostRuntime) -> Result<(), Fail> {
+    let alloc = rt.alloc();
+    let input = filled(alloc, GOOD)?;
+    let whole = run_on(alloc, input.as_str())?.written;
+    assert_eq!(rt; line_count(whole.as_slice()), 4);
+    for failing in 1..5u64 {
+        let ended = run_with(alloc, "run", input.as_bytes(), &[], &[failing])?;
+        assert!(rt; matches!(ended.status, Status::WriteFault));
+        assert_eq!(rt; line_count(ended.written.as_slice()) as u64 + 1, failing);
+        assert!(rt; ended.written.is_empty() || ended.written.ends_with(b"\n"));
+        assert!(rt; whole.starts_with(ended.written.as_slice()));
+    }
+    let ended = run_with(alloc, "run", input.as_bytes(), &[], &[5])?;
+    assert!(rt; matches!(ended.status, Status::Done));
+    assert!(rt; ended.written.as_slice() == whole.as_slice());
+    Ok(())
+}
+
+/// How a run ended, and how many of the next eight bytes its source still has.
+fn left_by(
+    alloc: Global,
+    word: &str,
+    input: &[u8],
+    failing_reads: &[u64],
+) -> Result<(Status, usize), Fail> {
+    let bytes = Bytes::from_slice(alloc, input)?;
+    let mut source = MemSource::new(alloc, bytes, numbers(alloc, failing_reads)?)?;
+    let mut sink = MemSink::new(alloc, Numbers::new(alloc))?;
+    let mut words = Vec::new(alloc);
+    words.push(String::from_str(alloc, word)?)?;
+    let status = run(alloc, words.as_slice(), &mut source, &mut sink);
+    let mut next = [0; 8];
+    match source.read(&mut next) {
+        Ok(count) => Ok((status, count)),
+        Err(_) => Err(Fail::from("failed again")),
+    }
+}
+
+#[test]
+fn stops_reading_where_a_run_ends(rt: HostRuntime) -> Result<(), Fail> {
+    let alloc = rt.alloc();
+    let (status, left) = left_by(alloc, "load", b"{}", &[])?;
+    assert!(rt; matches!(status, Status::Usage));
+    assert_eq!(rt; left, 2);
+    let (status, left) = left_by(alloc, "run", b"{}", &[])?;
+    assert!(rt; matches!(status, Status::BadScenario(_)));
+    assert_eq!(rt; left, 0);
+    let some = blanks(alloc, 8_195)?;
+    let (status, left) = left_by(alloc, "run", some.as_slice(), &[3])?;
+    assert!(rt; matches!(status, Status::ReadFault));
+    assert_eq!(rt; left, 3);
+    let too_many = blanks(alloc, 16_777_219)?;
+    let (status, left) = left_by(alloc, "run", too_many.as_slice(), &[])?;
+    assert!(rt; matches!(status, Status::TooLong));
+    assert_eq!(rt; left, 2);
     Ok(())
 }

@@ -1,9 +1,9 @@
 use Rattle.std.proofs.Common.{◌∙◌, sym, subst}
 use Rattle.cmc_rules.specs.Runs.{IsRun}
-use Rattle.cmc_scenario.specs.Setups.{Setup}
+use Rattle.cmc_setup.specs.Setups.{Setup}
 use Rattle.cmc_world.specs.Kept.{setting_of}
 use Rattle.cmc_plain.specs.Plain.{IsPlainMove}
-use Rattle.cmc_scenario.specs.Setups.{IsSetup}
+use Rattle.cmc_setup.specs.Setups.{IsSetup}
 use Rattle.cmc_plain.proofs.Going.{open_present}
 use Rattle.cmc_plain.proofs.Turns.{full, goes_on, left_as_it_was}
 use Rattle.cmc_plain.proofs.driving.take_turn.Goals as goal

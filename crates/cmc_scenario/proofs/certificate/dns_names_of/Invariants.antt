@@ -1,6 +1,6 @@
 use Rattle.std.proofs.Common.{◌≡◌, drop}
 use Rattle.serde_json.specs.View.{items_view}
-use Rattle.cmc_codec.specs.Readers.{with_front}
+use Rattle.cmc_cursor.specs.Readers.{with_front}
 use Rattle.cmc_scenario.specs.Certificates.{dns_names_from}
 use Rattle.cmc_scenario.proofs.certificate.dns_names_of.Given as goal
 

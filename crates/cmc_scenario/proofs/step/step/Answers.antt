@@ -1,7 +1,7 @@
 use Rattle.std.proofs.Common.{map, List, ℕ}
 use Rattle.std.specs.Borrow.{Bor}
 use Rattle.std.specs.Prelude.{option_map}
-use Rattle.cmc_codec.specs.Seen.{shown}
+use Rattle.cmc_cursor.specs.Seen.{shown}
 use Rattle.cmc_scenario.proofs.Plain.{step_is_still, step_is_steady}
 use Rattle.cmc_scenario.proofs.step.step.Goals as goal
 

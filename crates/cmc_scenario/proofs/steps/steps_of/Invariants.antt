@@ -1,6 +1,6 @@
 use Rattle.std.proofs.Common.{◌≡◌, drop}
 use Rattle.serde_json.specs.View.{items_view}
-use Rattle.cmc_codec.specs.Readers.{with_front}
+use Rattle.cmc_cursor.specs.Readers.{with_front}
 use Rattle.cmc_scenario.specs.Scripts.{steps_from}
 use Rattle.cmc_scenario.proofs.steps.steps_of.Given as goal
 

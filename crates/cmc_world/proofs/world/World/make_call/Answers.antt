@@ -4,7 +4,7 @@ use Rattle.cmc_objects.specs.declared.entry.Entry.{Entry}
 use Rattle.cmc_objects.specs.declared.entry.Entry.TheVariants as entries
 use Rattle.cmc_objects.specs.declared.entry.Who.TheVariants as who
 use Rattle.cmc_rules.specs.declared.effect.Effect.TheVariants as effects
-use Rattle.cmc_scenario.specs.Setups.{IsSetup}
+use Rattle.cmc_setup.specs.Setups.{IsSetup}
 use Rattle.cmc_world.specs.declared.moves.Stepped.TheVariants as answers
 use Rattle.cmc_world.specs.Answers as spec
 use Rattle.cmc_world.specs.Kept.{Seen, setting_of}

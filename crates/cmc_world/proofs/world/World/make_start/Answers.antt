@@ -2,7 +2,7 @@ use Rattle.std.proofs.Common.{◌≡◌, ◌+◌, List, ◌∷◌, Some, ap, ref
 use Rattle.cmc_objects.specs.declared.entry.Entry.{Entry}
 use Rattle.cmc_objects.specs.declared.entry.Entry.TheVariants as entries
 use Rattle.cmc_rules.specs.declared.effect.Effect.TheVariants as effects
-use Rattle.cmc_scenario.specs.Setups.{IsSetup}
+use Rattle.cmc_setup.specs.Setups.{IsSetup}
 use Rattle.cmc_held.specs.Remembered.{past_at}
 use Rattle.cmc_held.specs.Standing.{standing_of}
 use Rattle.cmc_world.specs.declared.moves.Stepped.TheVariants as answers

@@ -4,7 +4,7 @@ use Rattle.std.specs.Prelude.{◌≤ℤ◌, neg_ℤ, IfOk}
 use Rattle.std.proofs.lemmas.Int.{to_z-of_z}
 use Rattle.cmc_objects.specs.declared.entry.Step.{Step}
 use Rattle.cmc_rules.specs.declared.effect.Effect.{Effect}
-use Rattle.cmc_scenario.specs.Setups.{IsSetup, IsTickForm}
+use Rattle.cmc_setup.specs.Setups.{IsSetup, IsTickForm}
 use Rattle.cmc_world.specs.Answers as spec
 use Rattle.cmc_world.specs.Kept.{Seen, setting_of}
 use Rattle.cmc_world.specs.Scripted.{effect_in}

@@ -1,7 +1,0 @@
-use Rattle.std.proofs.Common.{◌≡◌, []}
-use Rattle.serde_json.specs.View.{members_view}
-use Rattle.cmc_codec.specs.Readers.{parts_with}
-use Rattle.cmc_codec.proofs.contents.parts_of.Given as goal
-
-abbrev pub invariant-loop-name : goal.invariant-loop-name
-invariant-loop-name l = parts_with l.parts (members_view l.name-iterator) ≡ parts_with [] (members_view l.members.entries)

@@ -1,8 +1,0 @@
-use Rattle.std.proofs.Common.{◌≡◌, map, ◌++◌}
-use Rattle.serde_json.specs.View.{members_view}
-use Rattle.cmc_codec.specs.Reading.{fields_of}
-use Rattle.cmc_codec.specs.Seen.{shown}
-use Rattle.cmc_codec.proofs.cursor.members_of.Given as goal
-
-abbrev pub invariant-loop-name : goal.invariant-loop-name
-invariant-loop-name l = map shown l.items.items ++ fields_of (members_view l.name-iterator) ≡ fields_of (members_view l.members.entries)

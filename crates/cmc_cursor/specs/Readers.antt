@@ -1,0 +1,134 @@
+-- The readings of single values. A value of another type fails at the value itself.
+use Rattle.std.specs.Prelude.{ℕ, List, [], ◌∷◌, ◌++◌, ◌+◌, ◌^◌, codes, decimal, Bool, not, ◌&&◌, ◌||◌, ◌==◌, if◌then◌else◌, nat_lt, nat_le, length, slice_index, Ok, Err, Some, None, option_and_then}
+use Rattle.std.specs.declared.option.Option.{Option}
+use Rattle.std.specs.Char.{is_ascii_digit}
+use Rattle.std.specs.List.{list_all}
+use Rattle.std.specs.Str.{bytes_eq}
+use Rattle.std.specs.Str.Parse.{digits_value}
+use Rattle.std.specs.declared.result.Result.{Result}
+use Rattle.base64.specs.Engines.{standard}
+use Rattle.base64.specs.GeneralPurpose.{decode_of}
+use Rattle.base64.specs.declared.decode.DecodeError.{DecodeError}
+use Rattle.serde_json.specs.Data.{Data, null, boolean, number, string, array, object, Items, no_items, item, Members, no_members, member}
+use Rattle.serde_json.specs.Find.{as_bool, as_number, as_str, as_u64, is_float}
+use Rattle.cmc_meta.specs.Names.{is_subdomain}
+use Rattle.cmc_meta.specs.PairLists.{with_text}
+use Rattle.cmc_cursor.specs.Reading.{Read, Check, ◌>>=◌, under}
+
+-- The value that was found, if any.
+abbrev pub found : {A : Type 0} → Option A → Read A
+found None = Err []
+found (Some x) = Ok x
+
+abbrev pub text_at : Data → Read (List ℕ)
+text_at d = found (as_str d)
+
+-- A text that has to be this one.
+abbrev pub word_at : List ℕ → Data → Check
+word_at word d = text_at d >>= (λ t. if bytes_eq t word then Ok tt else Err [])
+
+-- A text of at most n bytes.
+abbrev pub short_text_at : ℕ → Data → Read (List ℕ)
+short_text_at n d = text_at d >>= (λ t. if nat_le (length t) n then Ok t else Err [])
+
+-- A printable character of ASCII, the blank included.
+abbrev pub is_printable : ℕ → Bool
+is_printable c = nat_le 0x20 c && nat_le c 0x7E
+
+-- 1 to 253 printable characters of ASCII: what a name in a certificate may be.
+abbrev pub is_printable_name : List ℕ → Bool
+is_printable_name t = nat_le 1 (length t) && (nat_le (length t) 253 && list_all is_printable t)
+
+abbrev pub printable_at : Data → Read (List ℕ)
+printable_at d = text_at d >>= (λ t. if is_printable_name t then Ok t else Err [])
+
+-- A DNS subdomain, as object names and namespaces are.
+abbrev pub name_in : List ℕ → Read (List ℕ)
+name_in t = if is_subdomain t then Ok t else Err []
+
+abbrev pub name_at : Data → Read (List ℕ)
+name_at d = text_at d >>= name_in
+
+-- Decimal digits, with no zero before others.
+abbrev pub is_decimal : List ℕ → Bool
+is_decimal t = nat_lt 0 (length t) && (list_all is_ascii_digit t && ((length t == 1) || not (slice_index t 0 == 48)))
+
+-- The number of a decimal text, as resource versions are written: 0 to 2^64 - 1.
+abbrev pub decimal_in : List ℕ → Read ℕ
+decimal_in t = if is_decimal t && nat_lt (digits_value 10 t) (2 ^ 64) then Ok (digits_value 10 t) else Err []
+
+abbrev pub decimal_at : Data → Read ℕ
+decimal_at d = text_at d >>= decimal_in
+
+abbrev pub flag_at : Data → Read Bool
+flag_at d = found (as_bool d)
+
+-- A whole number of 0 to 2^64 - 1.
+abbrev pub count_at : Data → Read ℕ
+count_at d = found (option_and_then as_u64 (as_number d))
+
+-- A whole number of 0 to 2^32 - 1.
+abbrev pub small_count_at : Data → Read ℕ
+small_count_at d = count_at d >>= (λ n. if nat_lt n (2 ^ 32) then Ok n else Err [])
+
+-- The texts of a list whose first item stands at place n.
+abbrev pub texts_from : ℕ → Items → Read (List (List ℕ))
+texts_from n no_items = Ok []
+texts_from n (item d ds) = under (decimal n) (text_at d) >>= (λ t. texts_from (n + 1) ds >>= (λ ts. Ok (t ∷ ts)))
+
+abbrev pub texts_at : Data → Read (List (List ℕ))
+texts_at (array ds) = texts_from 0 ds
+texts_at null = Err []
+texts_at (boolean b) = Err []
+texts_at (number n) = Err []
+texts_at (string s) = Err []
+texts_at (object ms) = Err []
+
+abbrev pub decoded : Result (List ℕ) DecodeError → Read (List ℕ)
+decoded (Ok bytes) = Ok bytes
+decoded (Err e) = Err []
+
+-- Bytes written as standard base64 with padding (RFC 4648), strictly: no other text of them is read.
+abbrev pub bytes_at : Data → Read (List ℕ)
+bytes_at d = text_at d >>= (λ t. decoded (decode_of standard t))
+
+-- An entry of a Secret's data. A certificate is not read yet: its entry fails, whatever it holds.
+abbrev pub part_at : List ℕ → Data → Read (List ℕ)
+part_at name d = if bytes_eq name (codes "tls.crt") then Err [] else bytes_at d
+
+-- The data with the bytes of each member put under its name, one after another.
+abbrev pub parts_with : List (List ℕ × List ℕ) → Members → Read (List (List ℕ × List ℕ))
+parts_with parts no_members = Ok parts
+parts_with parts (member name d ms) = under name (part_at name d) >>= (λ bytes. parts_with (with_text parts name bytes) ms)
+
+-- A Secret's data: an object of names to bytes.
+abbrev pub parts_at : Data → Read (List (List ℕ × List ℕ))
+parts_at (object ms) = parts_with [] ms
+parts_at null = Err []
+parts_at (boolean b) = Err []
+parts_at (number n) = Err []
+parts_at (string s) = Err []
+parts_at (array ds) = Err []
+
+-- No number in the value is kept as a float: the first that is fails at its own path.
+abbrev mutual
+  pub floats_at : Data → Check
+  floats_at null = Ok tt
+  floats_at (boolean b) = Ok tt
+  floats_at (number n) = if is_float n then Err [] else Ok tt
+  floats_at (string s) = Ok tt
+  floats_at (array ds) = floats_from 0 ds
+  floats_at (object ms) = floats_in ms
+
+  pub floats_from : ℕ → Items → Check
+  floats_from n no_items = Ok tt
+  floats_from n (item d ds) = under (decimal n) (floats_at d) >>= (λ _. floats_from (n + 1) ds)
+
+  pub floats_in : Members → Check
+  floats_in no_members = Ok tt
+  floats_in (member name d ms) = under name (floats_at d) >>= (λ _. floats_in ms)
+
+-- A reading of a list goes on to f after the items in front.
+abbrev pub with_front : {A : Type 0} → List A → Read (List A) → Read (List A)
+with_front front (Ok xs) = Ok (front ++ xs)
+with_front front (Err path) = Err path

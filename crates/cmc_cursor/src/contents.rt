@@ -1,0 +1,84 @@
+// Bytes as texts, and the data of a Secret.
+ghost use Rattle.std.specs.Prelude.{◌≡◌, [], IfOk};
+ghost use Rattle.base64.specs.Engines.{standard};
+ghost use Rattle.base64.specs.GeneralPurpose.{decode_of, encode_of};
+ghost use Rattle.serde_json.specs.Data.{string};
+ghost use Rattle.serde_json.specs.View.{view, members_view};
+ghost use Rattle.cmc_cursor.specs.Reading.{Gives, under};
+ghost use Rattle.cmc_cursor.specs.Readers.{decoded, bytes_at, part_at, parts_with, parts_at};
+
+use crate::cursor::at;
+use crate::error::BadField;
+use base64::DecodeAllocError;
+use base64::engine::general_purpose::STANDARD;
+use cmc_meta::{Bytes, Text};
+use cmc_objects::Parts;
+use serde_json::{Map, Value};
+use std::alloc::Global;
+
+fn bytes_of(alloc: Global, text: &str) -> Result<Bytes, BadField>
+    ensures value { Gives (λ t. t) result (decoded (decode_of standard text.now)) }
+    ensures exact { IfOk result (λ b. text.now ≡ encode_of standard b) }
+{
+    match STANDARD.decode(alloc, text.as_bytes()) {
+        Ok(items) => Ok(Bytes::from_slice(alloc, items.as_slice())?),
+        Err(DecodeAllocError::DecodeError(_)) => Err(BadField::Path(Text::new(alloc))),
+        Err(DecodeAllocError::OutOfMemory) => Err(BadField::NoMemory),
+    }
+}
+
+/// The bytes of a text in standard base64 (RFC 4648, section 4), strictly: with its padding, no
+/// other characters, and zero bits at the end. So the bytes that are read are written as the same
+/// text.
+///
+/// Fails at the value itself exactly where it is no such text.
+pub fn bytes(alloc: Global, value: &Value) -> Result<Bytes, BadField>
+    ensures value { Gives (λ t. t) result (bytes_at (view value.now)) }
+    ensures exact { IfOk result (λ b. view value.now ≡ string (encode_of standard b)) }
+{
+    match value {
+        Value::String(text) => bytes_of(alloc, text.as_str()),
+        _ => Err(BadField::Path(Text::new(alloc))),
+    }
+}
+
+fn part(alloc: Global, name: &str, value: &Value) -> Result<Bytes, BadField>
+    ensures { Gives (λ t. t) result (part_at name.now (view value.now)) }
+{
+    if name == "tls.crt" {
+        return Err(BadField::Path(Text::new(alloc)));
+    }
+    bytes(alloc, value)
+}
+
+fn named_part(alloc: Global, name: &str, value: &Value) -> Result<Bytes, BadField>
+    ensures { Gives (λ t. t) result (under name.now (part_at name.now (view value.now))) }
+{
+    at(alloc, name, part(alloc, name, value))
+}
+
+fn parts_of(alloc: Global, members: &Map<String, Value>) -> Result<Parts, BadField>
+    ensures { Gives (λ t. t) result (parts_with [] (members_view members.now.entries)) }
+{
+    let mut parts = Parts::new(alloc);
+    for (name, member) in members.iter() {
+        match named_part(alloc, name.as_str(), member) {
+            Ok(bytes) => parts.set(Text::from_str(alloc, name.as_str())?, bytes)?,
+            Err(error) => return Err(error),
+        }
+    }
+    Ok(parts)
+}
+
+/// The data of a Secret: an object of names to bytes in standard base64.
+///
+/// Fails at the value itself where it is no object, and else at the first name, in byte order,
+/// whose bytes are not read: one that is `tls.crt`, or whose value is no such text.
+pub fn parts(alloc: Global, value: &Value) -> Result<Parts, BadField>
+    ensures { Gives (λ t. t) result (parts_at (view value.now)) }
+{
+    match value {
+        Value::Object(members) => parts_of(alloc, members),
+        _ => Err(BadField::Path(Text::new(alloc))),
+    }
+}

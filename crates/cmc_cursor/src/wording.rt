@@ -1,0 +1,101 @@
+// Texts of a certain form.
+ghost use Rattle.std.specs.Char.{is_ascii_digit};
+ghost use Rattle.std.specs.List.{list_all};
+ghost use Rattle.std.specs.Prelude.{◌≡◌};
+ghost use Rattle.serde_json.specs.View.{view};
+ghost use Rattle.cmc_cursor.specs.Reading.{Gives};
+ghost use Rattle.cmc_cursor.specs.Readers.{short_text_at, is_printable, is_printable_name, printable_at, name_in, name_at, is_decimal, decimal_in, decimal_at};
+
+use crate::error::BadField;
+use cmc_meta::{BadName, Name, Text};
+use serde_json::Value;
+use std::alloc::Global;
+
+/// A text of at most `most` bytes.
+pub fn short_text(alloc: Global, value: &Value, most: usize) -> Result<Text, BadField>
+    ensures { Gives (λ t. t) result (short_text_at most (view value.now)) }
+{
+    match value.as_str() {
+        Some(text) if text.len() <= most => Ok(Text::from_str(alloc, text)?),
+        _ => Err(BadField::Path(Text::new(alloc))),
+    }
+}
+
+fn are_printable(bytes: &[u8]) -> bool
+    ensures { result ≡ list_all is_printable bytes.now }
+{
+    bytes.iter().all(|byte| (0x20..=0x7E).contains(byte))
+}
+
+fn is_printable_text(text: &str) -> bool
+    ensures { result ≡ is_printable_name text.now }
+{
+    1 <= text.len() && text.len() <= 253 && are_printable(text.as_bytes())
+}
+
+/// A text of 1 to 253 printable characters of ASCII, the blank included.
+pub fn printable(alloc: Global, value: &Value) -> Result<Text, BadField>
+    ensures { Gives (λ t. t) result (printable_at (view value.now)) }
+{
+    match value.as_str() {
+        Some(text) if is_printable_text(text) => Ok(Text::from_str(alloc, text)?),
+        _ => Err(BadField::Path(Text::new(alloc))),
+    }
+}
+
+/// The name that a text spells.
+pub fn name_of(alloc: Global, text: &str) -> Result<Name, BadField>
+    ensures { Gives (λ t. t) result (name_in text.now) }
+{
+    match Name::read(alloc, text) {
+        Ok(name) => Ok(name),
+        Err(BadName::NotSubdomain) => Err(BadField::Path(Text::new(alloc))),
+        Err(BadName::NoMemory) => Err(BadField::NoMemory),
+    }
+}
+
+/// The name of an object or a namespace.
+pub fn name(alloc: Global, value: &Value) -> Result<Name, BadField>
+    ensures { Gives (λ t. t) result (name_at (view value.now)) }
+{
+    match value.as_str() {
+        Some(text) => name_of(alloc, text),
+        None => Err(BadField::Path(Text::new(alloc))),
+    }
+}
+
+fn are_digits(bytes: &[u8]) -> bool
+    ensures { result ≡ list_all is_ascii_digit bytes.now }
+{
+    bytes.iter().all(|byte| byte.is_ascii_digit())
+}
+
+fn is_decimal_text(bytes: &[u8]) -> bool
+    ensures { result ≡ is_decimal bytes.now }
+{
+    !bytes.is_empty() && (are_digits(bytes) && (bytes.len() == 1 || bytes[0] != b'0'))
+}
+
+#[tactic(auto, using(crate::proofs::Digits::numeral))]
+fn decimal_of(alloc: Global, text: &str) -> Result<u64, BadField>
+    ensures { Gives (λ t. t) result (decimal_in text.now) }
+{
+    if !is_decimal_text(text.as_bytes()) {
+        return Err(BadField::Path(Text::new(alloc)));
+    }
+    match text.parse::<u64>() {
+        Ok(number) => Ok(number),
+        Err(_) => Err(BadField::Path(Text::new(alloc))),
+    }
+}
+
+/// A number of 0 to 2^64 - 1 written as a decimal text without sign or leading zero, as resource
+/// versions are (Kubernetes API conventions have them as texts).
+pub fn decimal(alloc: Global, value: &Value) -> Result<u64, BadField>
+    ensures { Gives (λ t. t) result (decimal_at (view value.now)) }
+{
+    match value.as_str() {
+        Some(text) => decimal_of(alloc, text),
+        None => Err(BadField::Path(Text::new(alloc))),
+    }
+}

@@ -1,6 +1,0 @@
-use Rattle.std.proofs.Common.{drop, ◌↔◌}
-use Rattle.cmc_scenario.specs.Setups.{RiseFrom}
-use Rattle.cmc_scenario.proofs.fitting.rise.Given as goal
-
-abbrev pub invariant-loop-number : goal.invariant-loop-number
-invariant-loop-number l = RiseFrom l.last (drop l.number-index l.numbers) ↔ RiseFrom 0 l.numbers

@@ -1,6 +1,0 @@
-use Rattle.std.proofs.Common.{◌≡◌, ◌*◌, ◌≤◌, take}
-use Rattle.cmc_scenario.specs.Setups.{ticked}
-use Rattle.cmc_scenario.proofs.fitting.seconds_in_all.Given as goal
-
-abbrev pub invariant-loop-step : goal.invariant-loop-step
-invariant-loop-step l = record { value : l.sum ≡ ticked (take l.step-index l.steps); most : l.sum ≤ 1000000000 * l.step-index }

@@ -1,6 +1,0 @@
-use Rattle.std.proofs.Common.{drop}
-use Rattle.cmc_scenario.proofs.Orderly.{IsOrderlySoFar}
-use Rattle.cmc_scenario.proofs.running.are_orderly.Given as goal
-
-abbrev pub invariant-loop-step : goal.invariant-loop-step
-invariant-loop-step l = IsOrderlySoFar l.running.flags (drop l.step-index l.steps) l.roles l.steps

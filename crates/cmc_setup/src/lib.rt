@@ -1,0 +1,15 @@
+//! What a run is given: the type `Scenario`, which keeps its bounds, and the test whether parts make one.
+//!
+//! It knows nothing of JSON: `cmc_scenario` reads scenarios.
+#![tactic(auto)]
+
+mod fitting;
+mod roles;
+mod running;
+mod scenario;
+mod steps;
+
+pub use fitting::is_setup;
+pub use roles::Roles;
+pub use scenario::Scenario;
+pub use steps::Steps;

@@ -1,0 +1,58 @@
+//! What no clause says: which texts are values of a type, as JSON writes them.
+use cmc_cursor::{BadField, flag, small_count, texts};
+use serde_json::Value;
+use std::alloc::{AllocError, Global};
+use std::test::Fail;
+
+/// What a reader says of a value: what it is, or where it fails.
+fn told(alloc: Global, read: Result<String, BadField>) -> Result<String, AllocError> {
+    match read {
+        Ok(text) => Ok(text),
+        Err(BadField::Path(path)) => format!(in alloc; "at {}", path.as_str()),
+        Err(BadField::NoMemory) => Err(AllocError),
+    }
+}
+
+fn flag_told(alloc: Global, value: &Value) -> Result<String, BadField> {
+    match flag(alloc, value)? {
+        true => Ok(String::from_str(alloc, "yes")?),
+        false => Ok(String::from_str(alloc, "no")?),
+    }
+}
+
+fn count_told(alloc: Global, value: &Value) -> Result<String, BadField> {
+    let number = small_count(alloc, value)?;
+    Ok(format!(in alloc; "{number}")?)
+}
+
+fn texts_told(alloc: Global, value: &Value) -> Result<String, BadField> {
+    let texts = texts(alloc, value)?;
+    let mut told = String::new(alloc);
+    for text in texts.as_slice() {
+        told.push_str(text.as_str())?;
+        told.push_str(";")?;
+    }
+    Ok(told)
+}
+
+#[test]
+fn reads_single_values(rt: HostRuntime) -> Result<(), Fail> {
+    let alloc = rt.alloc();
+    for (input, as_flag, as_count, as_texts) in [
+        ("true", "yes", "at ", "at "),
+        ("false", "no", "at ", "at "),
+        ("4294967295", "at ", "4294967295", "at "),
+        ("4294967296", "at ", "at ", "at "),
+        ("-1", "at ", "at ", "at "),
+        (r#"["a","b"]"#, "at ", "at ", "a;b;"),
+        (r#"["a",1]"#, "at ", "at ", "at 1"),
+    ] {
+        let Ok(value) = Value::from_str(alloc, input) else {
+            return Err(Fail::from("no JSON"));
+        };
+        assert_eq!(rt; told(alloc, flag_told(alloc, &value))?.as_str(), as_flag);
+        assert_eq!(rt; told(alloc, count_told(alloc, &value))?.as_str(), as_count);
+        assert_eq!(rt; told(alloc, texts_told(alloc, &value))?.as_str(), as_texts);
+    }
+    Ok(())
+}
