@@ -5,13 +5,13 @@ use Rattle.std.specs.List.{list_all}
 use Rattle.std.specs.Str.Parse.{AllDigits, IsNumeral, without_leading_plus}
 use Rattle.std.specs.Str.{all_ascii_digits}
 use Rattle.std.specs.Str.Parse.{digits_value}
-use Rattle.std.specs.Prelude.{IfSome, decimal, not, ◌||◌}
+use Rattle.std.specs.Prelude.{IfSome, decimal, not, ◌||◌, filter}
 use Rattle.std.proofs.lemmas.Bool.{cases_Bool, cases_order, eqb-true, eq-eqb, ne_eqb, ltb-true, lt-ltb, false≢true}
 use Rattle.std.proofs.lemmas.Option.{none-some, same_Some}
 use Rattle.std.proofs.lemmas.Fmt.{decimal-digits_value, decimal_digit, decimal_nonempty, first_decimal, digits_decimal, digits_value-decimal}
 use Rattle.std.proofs.lemmas.Str.Parse.{IsNumeralModel, numerals_by_value, tells_all_ascii_digits}
 use Rattle.cmc_objects.specs.declared.request.CertificateRequest.{CertificateRequest}
-use Rattle.cmc_match.specs.Revisions.{is_decimal, number_in, number_of, revision_text, revision_of}
+use Rattle.cmc_match.specs.Revisions.{is_decimal, number_in, number_of, revision_text, revision_of, is_number, is_of, only_of}
 use Rattle.std.proofs.lemmas.Bool.Decides.{nat_tests}
 use Rattle.std.proofs.lemmas.Str.{digit_value_digit}
 
@@ -129,3 +129,27 @@ number_again n h =
 pub revision_read : (r : Option ℕ) (request : CertificateRequest) → r ≡ revision_of request → (n : ℕ) → n < 2 ^ 64 → revision_text request ≡ Some (decimal n) → r ≡ Some n
 unfolding revision_of
 revision_read r request e n h text = e ∙ ap number_of text ∙ number_again n h
+
+-- ---- no text writes a number that no u64 is
+
+number_small : (n : ℕ) (text : List ℕ) → 2 ^ 64 ≤ n → is_number n (number_in text) ≡ false
+number_small n text high =
+    elim (cases_Bool (is_decimal text && ltb (digits_value 10 text) (2 ^ 64))) [
+      | inl test ↦
+          let low : digits_value 10 text < 2 ^ 64 = ltb-true (digits_value 10 text) (2 ^ 64) (both_true _ _ test).1 in
+          rw test (ne_eqb (digits_value 10 text) n (omega (arith, low, high)))
+      | inr fails ↦ rw fails refl
+    ]
+
+text_small : (n : ℕ) (text : Option (List ℕ)) → 2 ^ 64 ≤ n → is_number n (number_of text) ≡ false
+text_small n None high = refl
+text_small n (Some text) high = number_small n text high
+
+none_of : (n : ℕ) (requests : List CertificateRequest) → 2 ^ 64 ≤ n → length (filter (λ request. is_of n request) requests) ≡ 0
+unfolding revision_of
+none_of n [] high = refl
+none_of n (r ∷ rs) high = rw (text_small n (revision_text r) high) (none_of n rs high)
+
+pub nothing_above : (n : ℕ) (requests : List CertificateRequest) → 2 ^ 64 ≤ n → only_of n requests ≡ None
+unfolding only_of
+nothing_above n requests high = rw (none_of n requests high) refl

@@ -13,6 +13,7 @@ use Rattle.cmc_objects.specs.declared.key_spec.KeySpec.{KeySpec}
 use Rattle.cmc_objects.specs.declared.certificate.CertSpec.{CertSpec}
 use Rattle.cmc_objects.specs.declared.request.CertificateRequest.{CertificateRequest}
 use Rattle.cmc_objects.specs.Defaults.{issuer_kind, issuer_group, key_algorithm, key_size}
+use Rattle.cmc_policies.specs.Reasons.{Known}
 use Rattle.cmc_keys.specs.Kinds.{IsKeyOf, is_key_of}
 use Rattle.cmc_match.specs.Marks.{has_text, is_temporary}
 use Rattle.cmc_match.specs.Matching.{HasKey, is_one_key, matches, has_key}
@@ -146,3 +147,17 @@ begins (Some fields) = fields.not_before
 abbrev pub ends : Option CertificateFields → ℤ
 ends None = pos 0
 ends (Some fields) = fields.not_after
+
+-- what the checks of a Certificate of this name look at: the Secret that it names, and its current request
+abbrev pub known_of : CertSpec → List ℕ → Option Secret → Option CertificateRequest → Known
+known_of spec name secret current = record {
+  secret = stands secret;
+  filled = is_filled secret;
+  pair = is_paired (pair_at secret);
+  issuer = names_issuer spec.issuer secret;
+  owner = names_owner name secret;
+  kind = has_requested_key spec.key secret current;
+  request = is_unchanged spec current;
+  not_before = begins (pair_at secret);
+  not_after = ends (pair_at secret);
+}

@@ -1,5 +1,5 @@
 -- The revision of a Certificate that a CertificateRequest is for.
-use Rattle.std.specs.Prelude.{ℕ, ◌^◌, Bool, not, ◌&&◌, ◌||◌, ◌==◌, nat_lt, length, slice_index, List, Option, Some, None, codes, if◌then◌else◌}
+use Rattle.std.specs.Prelude.{ℕ, ◌+◌, ◌^◌, Bool, false, not, ◌&&◌, ◌||◌, ◌==◌, nat_lt, length, slice_index, List, filter, find, Option, Some, None, unwrap_or, codes, if◌then◌else◌}
 use Rattle.std.specs.Char.{is_ascii_digit}
 use Rattle.std.specs.List.{list_all}
 use Rattle.std.specs.Str.Parse.{digits_value}
@@ -27,3 +27,21 @@ revision_text request = text_at request.meta.annotations (codes "cert-manager.io
 -- the revision that the request is for, if its annotation names one
 unfoldable pub revision_of : CertificateRequest → Option ℕ
 revision_of request = number_of (revision_text request)
+
+abbrev pub is_number : ℕ → Option ℕ → Bool
+is_number revision None = false
+is_number revision (Some number) = number == revision
+
+abbrev pub is_of : ℕ → CertificateRequest → Bool
+is_of revision request = is_number revision (revision_of request)
+
+-- the only request of the revision: none unless there is exactly one
+unfoldable pub only_of : ℕ → List CertificateRequest → Option CertificateRequest
+only_of revision requests = if length (filter (λ request. is_of revision request) requests) == 1 then find (λ request. is_of revision request) requests else None
+
+-- the current request is of the revision that stands, 0 where none is set, and the next one of the revision behind it
+abbrev pub current_request : Option ℕ → List CertificateRequest → Option CertificateRequest
+current_request revision requests = only_of (unwrap_or revision 0) requests
+
+abbrev pub next_request : Option ℕ → List CertificateRequest → Option CertificateRequest
+next_request revision requests = only_of (unwrap_or revision 0 + 1) requests

@@ -5,6 +5,7 @@ ghost use Rattle.cmc_der.specs.Keys.{CertificateFields, cert_shown};
 ghost use Rattle.cmc_x509.specs.ReadKeys.{key_file_at};
 ghost use Rattle.cmc_x509.specs.ReadCertificates.{certificate_at};
 ghost use Rattle.cmc_time.specs.Asn1.{IsCertificateTime};
+ghost use Rattle.cmc_policies.specs.Reasons.{known};
 ghost use Rattle.cmc_match.specs.Facts as words;
 ghost use Rattle.cmc_match.specs.Facts.{IsPair, IsFilled, NamesIssuer, NamesOwner, HasRequestedKey};
 ghost use Rattle.cmc_objects.specs.declared.issuer.IssuerRef.{IssuerRef};
@@ -183,15 +184,17 @@ fn is_unchanged(spec: &CertSpec, current: Option<&CertificateRequest>) -> bool
 
 // With no Secret all is wrong, but for what no Secret is needed to know.
 fn facts_without(request: bool) -> Facts
-    ensures secret { result.secret ≡ false }
-    ensures filled { result.filled ≡ false }
-    ensures pair { result.pair ≡ false }
-    ensures issuer { result.issuer ≡ false }
-    ensures owner { result.owner ≡ false }
-    ensures kind { result.kind ≡ false }
-    ensures request { result.request ≡ request }
-    ensures begins { result.not_before ≡ pos 0 }
-    ensures ends { result.not_after ≡ pos 0 }
+    ensures { known result ≡ record {
+      secret = false;
+      filled = false;
+      pair = false;
+      issuer = false;
+      owner = false;
+      kind = false;
+      request = request;
+      not_before = pos 0;
+      not_after = pos 0;
+    } }
 {
     Facts {
         secret: false,
@@ -212,15 +215,7 @@ fn facts_in(
     secret: &Secret,
     current: Option<&CertificateRequest>,
 ) -> Facts
-    ensures secret { result.secret ≡ true }
-    ensures filled { result.filled ≡ words.is_filled (Some secret.now) }
-    ensures pair { result.pair ≡ words.is_paired (words.pair_in secret.now) }
-    ensures issuer { result.issuer ≡ words.names_issuer spec.now.issuer (Some secret.now) }
-    ensures owner { result.owner ≡ words.names_owner name.now (Some secret.now) }
-    ensures kind { result.kind ≡ words.has_requested_key spec.now.key (Some secret.now) (option_copied current.entry) }
-    ensures request { result.request ≡ words.is_unchanged spec.now (option_copied current.entry) }
-    ensures begins { result.not_before ≡ words.begins (words.pair_in secret.now) }
-    ensures ends { result.not_after ≡ words.ends (words.pair_in secret.now) }
+    ensures { known result ≡ words.known_of spec.now name.now (Some secret.now) (option_copied current.entry) }
 {
     let paired = pair_facts(secret);
     Facts {
@@ -246,15 +241,7 @@ pub fn facts_of(
     secret: Option<&Secret>,
     current: Option<&CertificateRequest>,
 ) -> Facts
-    ensures secret { result.secret ≡ words.stands (option_copied secret.entry) }
-    ensures filled { result.filled ≡ words.is_filled (option_copied secret.entry) }
-    ensures pair { result.pair ≡ words.is_paired (words.pair_at (option_copied secret.entry)) }
-    ensures issuer { result.issuer ≡ words.names_issuer spec.now.issuer (option_copied secret.entry) }
-    ensures owner { result.owner ≡ words.names_owner name.now (option_copied secret.entry) }
-    ensures kind { result.kind ≡ words.has_requested_key spec.now.key (option_copied secret.entry) (option_copied current.entry) }
-    ensures request { result.request ≡ words.is_unchanged spec.now (option_copied current.entry) }
-    ensures begins { result.not_before ≡ words.begins (words.pair_at (option_copied secret.entry)) }
-    ensures ends { result.not_after ≡ words.ends (words.pair_at (option_copied secret.entry)) }
+    ensures { known result ≡ words.known_of spec.now name.now (option_copied secret.entry) (option_copied current.entry) }
 {
     match secret {
         None => facts_without(is_unchanged(spec, current)),

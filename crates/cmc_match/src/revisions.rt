@@ -2,7 +2,7 @@
 ghost use Rattle.std.specs.Char.{is_ascii_digit};
 ghost use Rattle.std.specs.List.{list_all};
 ghost use Rattle.std.specs.Option.{option_copied};
-ghost use Rattle.std.specs.Prelude.{◌≡◌, ◌<◌, ◌^◌, ℕ, IfSome, Some, decimal};
+ghost use Rattle.std.specs.Prelude.{◌≡◌, ◌<◌, ◌^◌, ℕ, IfSome, Some, decimal, length, filter, find};
 ghost use Rattle.cmc_match.specs.Revisions as words;
 
 use crate::marks::text_under;
@@ -63,4 +63,66 @@ pub fn revision_of(request: &CertificateRequest) -> Option<u64>
     ensures written { IfSome result (λ number. words.revision_text request.now ≡ Some (decimal number)) }
 {
     revision(request)
+}
+
+fn is_of(request: &CertificateRequest, revision: u64) -> bool
+    ensures { result ≡ words.is_of revision request.now }
+{
+    match revision_of(request) {
+        None => false,
+        Some(number) => number == revision,
+    }
+}
+
+fn count_of(requests: &[CertificateRequest], revision: u64) -> usize
+    ensures { result ≡ length (filter (λ request. words.is_of revision request) requests.now) }
+{
+    requests
+        .iter()
+        .filter(|request| is_of(request, revision))
+        .count()
+}
+
+fn first_of(requests: &[CertificateRequest], revision: u64) -> Option<&CertificateRequest>
+    ensures { option_copied result ≡ find (λ request. words.is_of revision request) requests.now }
+{
+    requests.iter().find(|request| is_of(request, revision))
+}
+
+#[tactic(auto, unfolding(crate::specs::Revisions::only_of))]
+fn only_of(requests: &[CertificateRequest], revision: u64) -> Option<&CertificateRequest>
+    ensures { option_copied result ≡ words.only_of revision requests.now }
+{
+    if count_of(requests, revision) == 1 {
+        first_of(requests, revision)
+    } else {
+        None
+    }
+}
+
+/// The current request among those of a Certificate: the one of the revision that stands, which is 0 where the
+/// status has none; `None` unless exactly one is of it.
+pub fn current_request(
+    revision: Option<u64>,
+    requests: &[CertificateRequest],
+) -> Option<&CertificateRequest>
+    ensures { option_copied result ≡ words.current_request revision requests.now }
+{
+    only_of(requests, revision.unwrap_or(0))
+}
+
+/// The next request among those of a Certificate: the one of the revision behind the one that stands; `None`
+/// unless exactly one is of it.
+pub fn next_request(
+    revision: Option<u64>,
+    requests: &[CertificateRequest],
+) -> Option<&CertificateRequest>
+    ensures { option_copied result ≡ words.next_request revision requests.now }
+{
+    // No annotation writes a number above the greatest u64.
+    let current = revision.unwrap_or(0);
+    if current == u64::MAX {
+        return None;
+    }
+    only_of(requests, current + 1)
 }

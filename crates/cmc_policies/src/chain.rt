@@ -3,7 +3,7 @@ ghost use Rattle.std.specs.Prelude.{◌≡◌, ◌↔◌, List, [], ◌∷◌, I
 ghost use Rattle.cmc_policies.specs.declared.facts.Frame.{Frame};
 ghost use Rattle.cmc_policies.specs.declared.facts.Reason.{Reason};
 ghost use Rattle.cmc_policies.specs.Judges.{Judges};
-ghost use Rattle.cmc_policies.specs.Reasons.{first_holding, NoneHolds};
+ghost use Rattle.cmc_policies.specs.Reasons.{first_holding, known, NoneHolds};
 
 use crate::check::Check;
 use crate::facts::{Facts, Reason};
@@ -20,8 +20,8 @@ pub trait Chain {
     /// holds.
     fn first(&self, facts: &Facts) -> Option<Reason>
         requires { judges self.now }
-        ensures value { result ≡ first_holding (checks self.now) facts.now }
-        ensures none { IsNone result ↔ NoneHolds (checks self.now) facts.now };
+        ensures value { result ≡ first_holding (checks self.now) (known facts.now) }
+        ensures none { IsNone result ↔ NoneHolds (checks self.now) (known facts.now) };
 }
 
 /// The chain of no checks.

@@ -3,7 +3,7 @@ ghost use Rattle.std.specs.Prelude.{◌≡◌, Bool};
 ghost use Rattle.std.specs.Fn.{FnReturnsAt};
 ghost use Rattle.cmc_policies.specs.declared.facts.Facts.{Facts};
 ghost use Rattle.cmc_policies.specs.Judges.{Judges};
-ghost use Rattle.cmc_policies.specs.Reasons.{holds};
+ghost use Rattle.cmc_policies.specs.Reasons.{holds, known};
 
 use crate::facts::{Facts, Frame, Reason};
 
@@ -21,7 +21,7 @@ impl<F: Fn(&Facts) -> bool> Check<F> {
     pub fn new(reason: Reason, frame: Frame, test: F) -> Check<F>
         requires callable { F.IsAlwaysCallable test }
         requires answers { (facts : Facts) (answer : Bool) → FnReturnsAt F.Fn test facts answer
-            → answer ≡ holds reason frame facts }
+            → answer ≡ holds reason frame (known facts) }
         ensures is { result ≡ record { reason = reason; frame = frame; test = test } }
         ensures judges { Judges F.Fn test reason frame }
     {
@@ -35,7 +35,7 @@ impl<F: Fn(&Facts) -> bool> Check<F> {
     /// Whether the check's reason holds of the facts in its frame.
     pub fn applies(&self, facts: &Facts) -> bool
         requires { Judges F.Fn self.now.test self.now.reason self.now.frame }
-        ensures { result ≡ holds self.now.reason self.now.frame facts.now }
+        ensures { result ≡ holds self.now.reason self.now.frame (known facts.now) }
     {
         (self.test)(facts)
     }

@@ -74,19 +74,19 @@ pub struct Frame {
 }
 
 impl Facts {
-    ghost use Rattle.cmc_policies.specs.Reasons.{holds};
+    ghost use Rattle.cmc_policies.specs.Reasons.{holds, known};
     ghost use Rattle.cmc_policies.specs.declared.facts.Reason.TheVariants.{Renewing, Expired};
 
     /// The certificate is to be renewed: the frame's moment is no earlier than the renewal's.
     pub fn is_due(&self, frame: Frame) -> bool
-        ensures { result ≡ holds Renewing frame self.now }
+        ensures { result ≡ holds Renewing frame (known self.now) }
     {
         frame.now >= renewal_time(self.not_before, self.not_after, frame.renew)
     }
 
     /// The certificate has expired: the frame's moment is no earlier than its end.
     pub fn is_expired(&self, frame: Frame) -> bool
-        ensures { result ≡ holds Expired frame self.now }
+        ensures { result ≡ holds Expired frame (known self.now) }
     {
         frame.now >= self.not_after
     }
