@@ -1,6 +1,5 @@
 pub mod Passes
 pub mod Positions
-pub mod OneKey
 pub mod Seen
 pub mod Versions
 pub mod Sights

@@ -11,7 +11,7 @@ pub mod Scripting
 pub mod Resting
 pub mod Following
 pub mod Runs
-pub mod Facts
+pub mod Chains
 pub mod Dates
 pub mod Triggering
 pub mod Acts

@@ -1,11 +1,15 @@
 -- What is proved of the table of each role, and all that a world knows of it. The crate of a role proves its record.
-use Rattle.std.specs.Prelude.{◌≡◌, ℤ, true, false, [], Option, Some, None, int_le, if◌then◌else◌}
+use Rattle.std.specs.Prelude.{◌≡◌, ◌⊎◌, ℤ, true, false, [], Option, Some, None, int_le, if◌then◌else◌}
 use Rattle.cmc_objects.specs.declared.certificate.Certificate.{Certificate}
 use Rattle.cmc_objects.specs.declared.certificate.CertStatus.{CertStatus}
 use Rattle.cmc_objects.specs.declared.object.Object.{Object}
+use Rattle.cmc_objects.specs.declared.secret.Secret.{Secret}
 use Rattle.cmc_objects.specs.declared.role.Role.{Role}
 use Rattle.cmc_objects.specs.declared.role.Role.TheVariants as roles
-use Rattle.cmc_policies.specs.Renewal.{backoff}
+use Rattle.cmc_der.specs.Keys.{CertificateFields}
+use Rattle.cmc_policies.specs.declared.renewal.Renew.{Renew}
+use Rattle.cmc_policies.specs.Renewal.{backoff, renewal}
+use Rattle.cmc_match.specs.Facts.{pair_at}
 use Rattle.cmc_pass.specs.declared.pass.Views.{Views}
 use Rattle.cmc_pass.specs.declared.pass.Desk.{Desk}
 use Rattle.cmc_pass.specs.declared.pass.Act.{Act}
@@ -14,6 +18,7 @@ use Rattle.cmc_rules.specs.Positions.{works_on_requests, looks_at_secret, looks_
 use Rattle.cmc_rules.specs.Dates.{IsDated}
 use Rattle.cmc_rules.specs.Sighting.{OnSeen}
 use Rattle.cmc_rules.specs.Rights.{MayChange}
+use Rattle.cmc_rules.specs.Triggering.{frame_of}
 use Rattle.cmc_rules.specs.Acts.{act}
 
 -- ---- what a call does
@@ -53,12 +58,17 @@ abbrev pub IsEndOfBackoff : Option ℤ → CertStatus → ℤ → Type 0
 IsEndOfBackoff None status at = ⊥
 IsEndOfBackoff (Some last) status at = at ≡ backoff last status.attempts
 
-abbrev pub IsTriggerMoment : Option Certificate → ℤ → Type 0
-IsTriggerMoment None at = ⊥
-IsTriggerMoment (Some c) at = IsEndOfBackoff c.status.last_failure c.status at
+-- the certificate that the Secret's key and certificate are a pair with is to be renewed
+abbrev pub IsRenewal : Renew → Option CertificateFields → ℤ → Type 0
+IsRenewal renew None at = ⊥
+IsRenewal renew (Some fields) at = at ≡ renewal fields.not_before fields.not_after renew
+
+abbrev pub IsTriggerMoment : Option Certificate → Option Secret → ℤ → Type 0
+IsTriggerMoment None secret at = ⊥
+IsTriggerMoment (Some c) secret at = IsEndOfBackoff c.status.last_failure c.status at ⊎ IsRenewal (frame_of at c).renew (pair_at secret) at
 
 abbrev pub IsDueMoment : Role → Views → ℤ → Type 0
-IsDueMoment roles.Trigger seen at = IsTriggerMoment seen.certificate at
+IsDueMoment roles.Trigger seen at = IsTriggerMoment seen.certificate seen.secret at
 IsDueMoment roles.KeyManager seen at = ⊥
 IsDueMoment roles.RequestManager seen at = ⊥
 IsDueMoment roles.Approver seen at = ⊥

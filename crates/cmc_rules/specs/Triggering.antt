@@ -1,11 +1,13 @@
 -- When a controller asks for the issuance of a Certificate: the condition Issuing.
-use Rattle.std.specs.Prelude.{ℕ, ℤ, Bool, false, ◌++◌, codes, Option, Some, None, if◌then◌else◌, int_lt}
+use Rattle.std.specs.Prelude.{ℕ, ℤ, Bool, false, not, ◌&&◌, ◌++◌, codes, List, Option, Some, None, if◌then◌else◌, int_lt}
 use Rattle.cmc_meta.specs.declared.conditions.Condition.{Condition}
 use Rattle.cmc_meta.specs.declared.conditions.ConditionKind.TheVariants.{Issuing}
 use Rattle.cmc_meta.specs.declared.conditions.Tri.TheVariants.{True}
 use Rattle.cmc_meta.specs.ConditionLists.{transitioned}
 use Rattle.cmc_objects.specs.declared.certificate.Certificate.{Certificate}
+use Rattle.cmc_objects.specs.declared.certificate.CertSpec.{CertSpec}
 use Rattle.cmc_objects.specs.declared.certificate.CertStatus.{CertStatus}
+use Rattle.cmc_objects.specs.declared.request.CertificateRequest.{CertificateRequest}
 use Rattle.cmc_objects.specs.declared.secret.Secret.{Secret}
 use Rattle.cmc_objects.specs.declared.object.Object.TheVariants.{Cert}
 use Rattle.cmc_objects.specs.declared.call.Call.TheVariants.{UpdateStatus}
@@ -19,7 +21,9 @@ use Rattle.cmc_policies.specs.Renewal.{backoff}
 use Rattle.cmc_pass.specs.declared.pass.Views.{Views}
 use Rattle.cmc_pass.specs.declared.pass.Act.{Act}
 use Rattle.cmc_pass.specs.declared.pass.Act.TheVariants.{Nothing, Call as Calls}
-use Rattle.cmc_rules.specs.Facts.{trigger_reason}
+use Rattle.cmc_match.specs.Matching.{matches}
+use Rattle.cmc_match.specs.Revisions.{next_request}
+use Rattle.cmc_rules.specs.Chains.{trigger_reason}
 
 -- the Certificate is being issued
 abbrev pub is_issuing : Certificate → Bool
@@ -54,10 +58,19 @@ with_issuing moment reason certificate = record certificate { status = issuing_s
 unfoldable pub issue_call : ℤ → Reason → Certificate → Act
 issue_call moment reason certificate = Calls (UpdateStatus (Cert (with_issuing moment reason certificate)) certificate.meta.version)
 
--- In the back-off nothing is done. A CertificateRequest that the specification has outrun would end it, but none stands yet.
-abbrev pub for_reason : ℤ → Certificate → Option Reason → Act
-for_reason moment certificate None = Nothing
-for_reason moment certificate (Some reason) = if is_backing_off certificate.status moment then Nothing else issue_call moment reason certificate
+-- exactly one next request stands, and it does not ask for what the specification asks for
+abbrev pub is_outrun : CertSpec → Option CertificateRequest → Bool
+is_outrun spec None = false
+is_outrun spec (Some request) = not (matches spec request)
+
+-- in the back-off nothing is done, unless the specification has outrun the request that failed
+abbrev pub is_held_back : ℤ → List CertificateRequest → Certificate → Bool
+is_held_back moment requests certificate =
+    is_backing_off certificate.status moment && not (is_outrun certificate.spec (next_request certificate.status.revision requests))
+
+abbrev pub for_reason : ℤ → List CertificateRequest → Certificate → Option Reason → Act
+for_reason moment requests certificate None = Nothing
+for_reason moment requests certificate (Some reason) = if is_held_back moment requests certificate then Nothing else issue_call moment reason certificate
 
 -- when the specification has its certificate renewed: by a percentage, by a duration, or as it says nothing
 abbrev pub renew_by : Option ℕ → Option ℕ → Renew
@@ -68,13 +81,15 @@ renew_by None None = Default
 abbrev pub frame_of : ℤ → Certificate → Frame
 frame_of moment certificate = record { now = moment; renew = renew_by certificate.spec.renew_percent certificate.spec.renew_before }
 
--- the issuance is asked for once, where there is a reason and no back-off
-unfoldable pub for_certificate : ℤ → Option Secret → Certificate → Act
-for_certificate moment secret certificate = if is_issuing certificate then Nothing else for_reason moment certificate (trigger_reason (frame_of moment certificate) secret)
+-- the issuance is asked for once, where there is a reason and nothing holds it back
+unfoldable pub for_certificate : ℤ → Option Secret → List CertificateRequest → Certificate → Act
+for_certificate moment secret requests certificate =
+    if is_issuing certificate then Nothing
+    else for_reason moment requests certificate (trigger_reason (frame_of moment certificate) certificate secret requests)
 
-abbrev pub for_option : ℤ → Option Secret → Option Certificate → Act
-for_option moment secret None = Nothing
-for_option moment secret (Some certificate) = for_certificate moment secret certificate
+abbrev pub for_option : ℤ → Option Secret → List CertificateRequest → Option Certificate → Act
+for_option moment secret requests None = Nothing
+for_option moment secret requests (Some certificate) = for_certificate moment secret requests certificate
 
 unfoldable pub trigger : Views → ℤ → Act
-trigger views moment = for_option moment views.secret views.certificate
+trigger views moment = for_option moment views.secret views.requests views.certificate
