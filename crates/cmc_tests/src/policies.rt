@@ -1,5 +1,5 @@
 ghost use Rattle.std.specs.Prelude.{◌≡◌, [], ◌∷◌};
-ghost use Rattle.cmc_policies.specs.Reasons.{first_of as first_reason};
+ghost use Rattle.cmc_policies.specs.Reasons.{first_of as first_reason, known};
 
 use cmc_policies::*;
 use std::test::Fail;
@@ -7,7 +7,7 @@ use std::test::Fail;
 // As a controller builds its chain: each closure captures the frame alone.
 fn first_of(frame: Frame, facts: &Facts) -> Option<Reason>
     ensures { result ≡ first_reason
-        (Reason.DoesNotExist ∷ Reason.MissingData ∷ Reason.Renewing ∷ []) frame facts.now }
+        (Reason.DoesNotExist ∷ Reason.MissingData ∷ Reason.Renewing ∷ []) frame (known facts.now) }
 {
     let renewing = Check::new(Reason::Renewing, frame, move |facts: &Facts| {
         facts.is_due(frame)

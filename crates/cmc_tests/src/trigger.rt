@@ -4,8 +4,11 @@ ghost use Rattle.cmc_rules.specs.Dates.{IsDatedOption, HasDatedFailure};
 
 use crate::values::{least_spec, new_meta, octets, text};
 use cmc_meta::{Bytes, Condition, ConditionKind, Conditions, Text, Texts, Tri};
-use cmc_objects::{Call, CertStatus, Certificate, Material, Object, Parts, Rules, Secret};
-use cmc_pass::{Act, Desk, Views};
+use cmc_objects::{
+    Algorithm, Call, CertStatus, Certificate, CertificateRequest, Material, Object, Parts,
+    RequestSpec, RequestStatus, Rules, Secret,
+};
+use cmc_pass::{Act, Desk, Requests, Views};
 use cmc_policy_rules::Policies;
 use cmc_trigger::{act, is_sound};
 use std::alloc::{AllocError, Global};
@@ -19,20 +22,57 @@ const KEY: &str =
 const CERTIFICATE: &str =
     "308201d83082017ea00302010202147e801bb99536364c756b92a2dc3e400a48dd1791300a06082a8648ce3d04030230163114301206035504030c0b6578616d706c652e636f6d301e170d3236313132373033303933335a170d3237303232353033303933335a30163114301206035504030c0b6578616d706c652e636f6d3059301306072a8648ce3d020106082a8648ce3d03010703420004c8d4912385d6e2891d6cfabb34b212e66324e6f7093596d65399c3133beba273bf1c4ba284d690d02756f61451a3b3791c0f7f9ef6d9ac371ee1fa5258d67588a381a93081a6301d0603551d0e04160414fd465a26ce699eea1a6d538564f27a87e4ca1f34301f0603551d23041830168014fd465a26ce699eea1a6d538564f27a87e4ca1f34300f0603551d130101ff040530030101ff30530603551d11044c304a820b6578616d706c652e636f6d820f7777772e6578616d706c652e636f6d87040a000001861568747470733a2f2f6578616d706c652e636f6d2f78810d61406578616d706c652e636f6d300a06082a8648ce3d0403020348003045022100c1fdd54bd7feb7d1794828c4b3415e1652cc32482c1875f1682fa18d0665d63a02205218c4a69a8a3cd882ac5c520bf0d31b79583eac5290679f42a91c6bc813d5aa";
 
+/// Requests that `openssl req -new` made: of that key for the name of the Certificate, of that key for another
+/// name, and of the other key for the name.
+const REQUEST: &str =
+    "3081e530818b02010030003059301306072a8648ce3d020106082a8648ce3d03010703420004c8d4912385d6e2891d6cfabb34b212e66324e6f7093596d65399c3133beba273bf1c4ba284d690d02756f61451a3b3791c0f7f9ef6d9ac371ee1fa5258d67588a029302706092a864886f70d01090e311a301830160603551d11040f300d820b6578616d706c652e636f6d300a06082a8648ce3d0403020349003046022100e553e0951877fe6777405e1651fb6b8127ab59fd3a9b9e14ec8920985b7884730221009f19801692ffff8620f22772810b314d00374857e60baf00f9d3ada0f891f800";
+
+const OTHER_NAME: &str =
+    "3081eb30819102010030003059301306072a8648ce3d020106082a8648ce3d03010703420004c8d4912385d6e2891d6cfabb34b212e66324e6f7093596d65399c3133beba273bf1c4ba284d690d02756f61451a3b3791c0f7f9ef6d9ac371ee1fa5258d67588a02f302d06092a864886f70d01090e3120301e301c0603551d110415301382116f746865722e6578616d706c652e636f6d300a06082a8648ce3d040302034900304602210097e19f05a2f2a815e7642d77443080c118bf27b695cc25833fb6fbb1d73391d90221008337014d79b3ccc597861c48302da091dbcd9d5a193951e3541bf38474a44053";
+
+const OTHER_KEY: &str =
+    "3081e430818b02010030003059301306072a8648ce3d020106082a8648ce3d0301070342000495ea512d20710eb1467018384a3490769b802ea547fb8b829ceb548ddf16351917edc00c9e811029f6440fdd380aedf01a6c510e38a4fd37b011c05a466d9cefa029302706092a864886f70d01090e311a301830160603551d11040f300d820b6578616d706c652e636f6d300a06082a8648ce3d040302034800304502204e7c6f71d419aad4d7cb7ad69c1d47e894afc4f0b7e1a55d2767429679605182022100d6f659026e8cae3f8fe149dc7adf8aa9ba167f0927a7cf7a5dfa5a586dbf3066";
+
 const OTHER: &str =
     "30770201010420f8df65590a088853c1bd224e84767a1d991e4c3d7380ea42a03412cbeba95be9a00a06082a8648ce3d030107a1440342000495ea512d20710eb1467018384a3490769b802ea547fb8b829ceb548ddf16351917edc00c9e811029f6440fdd380aedf01a6c510e38a4fd37b011c05a466d9cef";
 
 /// 2030-01-01T00:00:00Z.
 const NOW: i64 = 1_893_456_000;
 
-/// What the controller sees: the parts of the Secret in hexadecimal, the status of Issuing, and the last failure.
+/// What the controller sees: the parts of the Secret in hexadecimal and an annotation of it beside those of the
+/// issuer, the requests by revision and signing request, the status of Issuing, and the last failure; and when.
 #[derive(Clone, Copy)]
 struct Case {
     parts: Option<(&'static str, &'static str)>,
+    mark: (&'static str, &'static str),
+    algorithm: Option<Algorithm>,
+    requests: &'static [(&'static str, &'static str)],
     issuing: Option<Tri>,
     failed: Option<i64>,
     attempts: Option<u32>,
+    now: i64,
 }
+
+/// No Secret and no request; the Certificate was never tried.
+const NONE: Case = Case {
+    parts: None,
+    mark: ("cert-manager.io/issuer-name", "ca"),
+    algorithm: Some(Algorithm::Ecdsa),
+    requests: &[],
+    issuing: None,
+    failed: None,
+    attempts: None,
+    now: NOW,
+};
+
+/// All is well, a second before the certificate is to be renewed: 30 of its 90 days before its end.
+const WELL: Case = Case {
+    parts: Some((KEY, CERTIFICATE)),
+    mark: ("cert-manager.io/certificate-name", "web"),
+    requests: &[("1", REQUEST)],
+    now: 1_800_932_972,
+    ..NONE
+};
 
 fn bytes(alloc: Global, text: &str) -> Result<Bytes, AllocError> {
     Bytes::from_slice(alloc, octets(alloc, text)?.as_slice())
@@ -56,6 +96,7 @@ fn conditions(alloc: Global, issuing: Option<Tri>) -> Result<Conditions, Fail> {
 fn certificate(
     alloc: Global,
     conditions: Conditions,
+    algorithm: Option<Algorithm>,
     failed: Option<i64>,
     attempts: Option<u32>,
 ) -> Result<Certificate, Fail>
@@ -63,7 +104,8 @@ fn certificate(
 {
     let mut meta = new_meta(alloc, "web")?;
     meta.version = 3;
-    let spec = least_spec(alloc, "web-tls", "example.com")?;
+    let mut spec = least_spec(alloc, "web-tls", "example.com")?;
+    spec.key.algorithm = algorithm;
     Ok(Certificate {
         meta,
         spec,
@@ -74,14 +116,14 @@ fn certificate(
             not_before: None,
             not_after: None,
             renewal: None,
-            revision: None,
+            revision: Some(1),
             next_key: None,
         },
     })
 }
 
 /// The Secret, without the parts that are empty texts.
-fn secret(alloc: Global, key: &str, certificate: &str) -> Result<Secret, Fail> {
+fn secret(alloc: Global, key: &str, certificate: &str, mark: (&str, &str)) -> Result<Secret, Fail> {
     let mut parts = Parts::new(alloc);
     if !key.is_empty() {
         parts.set(text(alloc, "tls.key")?, bytes(alloc, key)?)?;
@@ -89,13 +131,54 @@ fn secret(alloc: Global, key: &str, certificate: &str) -> Result<Secret, Fail> {
     if !certificate.is_empty() {
         parts.set(text(alloc, "tls.crt")?, bytes(alloc, certificate)?)?;
     }
-    let meta = new_meta(alloc, "web-tls")?;
+    let mut meta = new_meta(alloc, "web-tls")?;
+    for (key, value) in [
+        ("cert-manager.io/issuer-name", "ca"),
+        ("cert-manager.io/issuer-kind", "Issuer"),
+        ("cert-manager.io/issuer-group", "cert-manager.io"),
+        mark,
+    ] {
+        meta.annotations
+            .set(text(alloc, key)?, text(alloc, value)?)?;
+    }
     let kind_text = text(alloc, "Opaque")?;
     Ok(Secret {
         meta,
         kind_text,
         parts,
     })
+}
+
+/// A request of the revision, with this signing request in hexadecimal and else as the Certificate asks.
+fn request(alloc: Global, revision: &str, der: &str) -> Result<CertificateRequest, Fail> {
+    let mut meta = new_meta(alloc, "web-1")?;
+    let key = text(alloc, "cert-manager.io/certificate-revision")?;
+    meta.annotations.set(key, text(alloc, revision)?)?;
+    let spec = least_spec(alloc, "web-tls", "example.com")?;
+    Ok(CertificateRequest {
+        meta,
+        spec: RequestSpec {
+            issuer: spec.issuer.copy()?,
+            duration: None,
+            is_ca: false,
+            usages: Texts::new(alloc),
+            request: bytes(alloc, der)?,
+        },
+        status: RequestStatus {
+            conditions: Conditions::new(alloc),
+            certificate: Bytes::new(alloc),
+            ca: Bytes::new(alloc),
+            failure: None,
+        },
+    })
+}
+
+fn requests(alloc: Global, rows: &[(&str, &str)]) -> Result<Requests, Fail> {
+    let mut requests = Requests::new(alloc);
+    for (revision, der) in rows {
+        requests.push(request(alloc, revision, der)?)?;
+    }
+    Ok(requests)
 }
 
 fn told(alloc: Global, act: &Act) -> Result<String, AllocError> {
@@ -134,14 +217,22 @@ fn views(alloc: Global, case: &Case) -> Result<Views, Fail>
     ensures { IfOk result HasDatedFailure }
 {
     let conditions = conditions(alloc, case.issuing)?;
-    let certificate = certificate(alloc, conditions, case.failed, case.attempts)?;
+    let certificate = certificate(
+        alloc,
+        conditions,
+        case.algorithm,
+        case.failed,
+        case.attempts,
+    )?;
     let secret = match case.parts {
         None => None,
-        Some((key, certificate)) => Some(secret(alloc, key, certificate)?),
+        Some((key, certificate)) => Some(secret(alloc, key, certificate, case.mark)?),
     };
+    let requests = requests(alloc, case.requests)?;
     let mut views = Views::new(alloc);
     views.certificate = Some(certificate);
     views.secret = secret;
+    views.requests = requests;
     Ok(views)
 }
 
@@ -150,7 +241,7 @@ fn told_of(alloc: Global, case: &Case) -> Result<String, Fail>
 {
     let views = views(alloc, case)?;
     let desk = desk(alloc);
-    let act = act(alloc, &views, NOW, &desk)?;
+    let act = act(alloc, &views, case.now, &desk)?;
     Ok(told(alloc, &act)?)
 }
 
@@ -161,6 +252,7 @@ fn rows(rt: HostRuntime) -> Result<(), Fail> {
     let absent = "3 1893456000 DoesNotExist: Certificate must be issued: DoesNotExist";
     let missing = "3 1893456000 MissingData: Certificate must be issued: MissingData";
     let unpaired = "3 1893456000 InvalidKeyPair: Certificate must be issued: InvalidKeyPair";
+    let unfit = "3 1893456000 SecretMismatch: Certificate must be issued: SecretMismatch";
     for (parts, told) in [
         (None, absent),
         (Some(("000000", "")), missing),
@@ -168,14 +260,9 @@ fn rows(rt: HostRuntime) -> Result<(), Fail> {
         (Some(("000000", CERTIFICATE)), unpaired),
         (Some((OTHER, CERTIFICATE)), unpaired),
         (Some((KEY, "000000")), unpaired),
-        (Some((KEY, CERTIFICATE)), "nothing"),
+        (Some((KEY, CERTIFICATE)), unfit),
     ] {
-        let case = Case {
-            parts,
-            issuing: None,
-            failed: None,
-            attempts: None,
-        };
+        let case = Case { parts, ..NONE };
         assert_eq!(rt; told_of(alloc, &case)?.as_str(), told);
     }
     Ok(())
@@ -195,12 +282,133 @@ fn times(rt: HostRuntime) -> Result<(), Fail> {
         (Some(Tri::False), Some(1_893_448_800), Some(2), absent),
     ] {
         let case = Case {
-            parts: None,
             issuing,
             failed,
             attempts,
+            ..NONE
         };
         assert_eq!(rt; told_of(alloc, &case)?.as_str(), told);
+    }
+    Ok(())
+}
+
+// One difference a row from where all is well.
+#[test]
+fn checks(rt: HostRuntime) -> Result<(), Fail> {
+    let alloc = rt.alloc();
+    let due = Case {
+        now: 1_800_932_973,
+        ..WELL
+    };
+    let other_issuer = Case {
+        mark: ("cert-manager.io/issuer-name", "other"),
+        ..WELL
+    };
+    let other_kind = Case {
+        mark: ("cert-manager.io/issuer-kind", "ClusterIssuer"),
+        ..WELL
+    };
+    let other_group = Case {
+        mark: ("cert-manager.io/issuer-group", "example.com"),
+        ..WELL
+    };
+    let other_owner = Case {
+        mark: ("cert-manager.io/certificate-name", "api"),
+        ..WELL
+    };
+    let temporary = Case {
+        mark: ("cert-manager.io/temporary-certificate", "true"),
+        ..WELL
+    };
+    let rsa = Case {
+        algorithm: None,
+        ..WELL
+    };
+    let none = Case {
+        requests: &[],
+        ..WELL
+    };
+    let next = Case {
+        requests: &[("2", REQUEST)],
+        ..WELL
+    };
+    let two = Case {
+        requests: &[("1", REQUEST), ("1", REQUEST)],
+        ..WELL
+    };
+    let other_key = Case {
+        requests: &[("1", OTHER_KEY)],
+        ..WELL
+    };
+    let other_name = Case {
+        requests: &[("1", OTHER_NAME)],
+        ..WELL
+    };
+    let unreadable = Case {
+        requests: &[("1", "3000")],
+        ..WELL
+    };
+    for (case, reason) in [
+        (WELL, "nothing"),
+        (due, "Renewing"),
+        (other_issuer, "IncorrectIssuer"),
+        (other_kind, "IncorrectIssuer"),
+        (other_group, "IncorrectIssuer"),
+        (other_owner, "IncorrectCertificate"),
+        (temporary, "MissingData"),
+        (rsa, "SecretMismatch"),
+        (none, "SecretMismatch"),
+        (next, "SecretMismatch"),
+        (two, "SecretMismatch"),
+        (other_key, "SecretMismatch"),
+        (unreadable, "SecretMismatch"),
+        (other_name, "RequestChanged"),
+    ] {
+        let told = told_of(alloc, &case)?;
+        assert!(rt; told.as_str().ends_with(reason));
+    }
+    Ok(())
+}
+
+// A second before the end of back-off: what is done by the next requests that stand.
+#[test]
+fn back_offs(rt: HostRuntime) -> Result<(), Fail> {
+    let alloc = rt.alloc();
+    let failed = Case {
+        failed: Some(1_893_452_401),
+        attempts: Some(1),
+        ..NONE
+    };
+    let same = Case {
+        requests: &[("2", REQUEST)],
+        ..failed
+    };
+    let outrun = Case {
+        requests: &[("1", OTHER_NAME), ("2", OTHER_NAME)],
+        ..failed
+    };
+    let two = Case {
+        requests: &[("2", OTHER_NAME), ("2", OTHER_NAME)],
+        ..failed
+    };
+    let current = Case {
+        requests: &[("1", OTHER_NAME)],
+        ..failed
+    };
+    let behind = Case {
+        requests: &[("3", OTHER_NAME)],
+        ..failed
+    };
+    for (case, reason) in [
+        (failed, "nothing"),
+        (same, "nothing"),
+        (outrun, "DoesNotExist"),
+        (two, "nothing"),
+        (current, "nothing"),
+        (behind, "nothing"),
+    ] {
+        let told = told_of(alloc, &case)?;
+        assert!(rt; told.as_str().ends_with(reason));
     }
     Ok(())
 }
