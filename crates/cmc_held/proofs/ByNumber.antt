@@ -4,7 +4,7 @@ use Rattle.std.proofs.lemmas.Bool.Decides.{nat_tests}
 use Rattle.std.proofs.lemmas.List.{reverse-append, reverse-reverse, length-reverse}
 use Rattle.std.specs.Prelude.{if◌then◌else◌, slice_get, reverse}
 use Rattle.cmc_rules.specs.declared.progress.Origin.{Origin}
-use Rattle.cmc_rules.specs.Passes.{origin_at}
+use Rattle.cmc_rules.specs.Origins.{origin_at}
 
 last_place : {X : Type 0} (xs : List X) (y : X) → slice_get (xs ++ y ∷ []) (length xs) ≡ Some y
 last_place [] y = refl

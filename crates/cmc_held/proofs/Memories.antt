@@ -8,7 +8,7 @@ use Rattle.std.specs.Prelude.{IsSome, if◌then◌else◌, is_some}
 use Rattle.cmc_meta.specs.declared.key.Key.{Key}
 use Rattle.cmc_meta.specs.Keys.{key_cmp, key_eq}
 use Rattle.cmc_rules.specs.declared.progress.Past.{Past}
-use Rattle.cmc_rules.specs.Passes.{no_past}
+use Rattle.cmc_rules.specs.Memory.{no_past}
 use Rattle.cmc_model.proofs.Keys.{key_cmp-IsAntisymmetric}
 use Rattle.cmc_held.specs.Remembered.{Kept, is_noted, memory_at, past_or_new}
 

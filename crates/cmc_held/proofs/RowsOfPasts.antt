@@ -10,7 +10,7 @@ use Rattle.cmc_objects.specs.declared.role.Role.TheVariants.{Trigger, KeyManager
 use Rattle.cmc_objects.specs.Roles.{role_rank}
 use Rattle.cmc_rules.specs.declared.progress.Past.{Past}
 use Rattle.cmc_model.specs.Histories.{role_eq}
-use Rattle.cmc_rules.specs.Passes.{no_past}
+use Rattle.cmc_rules.specs.Memory.{no_past}
 use Rattle.cmc_held.specs.Remembered.{Kept, memory_at, past_at, is_noted, is_ready}
 
 rank_low : (r : Role) → role_rank r < 8

@@ -1,17 +1,9 @@
--- Which own write a role was not told of yet.
+-- What a role is shown of its positions.
 use Rattle.std.specs.Prelude.{ℕ, Option, Some, None, nat_lt, if◌then◌else◌}
 use Rattle.cmc_meta.specs.declared.key.Kind.TheVariants.{Certificate, CertificateRequest, Secret}
 use Rattle.cmc_objects.specs.declared.role.Role.{Role}
 use Rattle.cmc_objects.specs.declared.entry.Positions.{Positions}
 use Rattle.cmc_rules.specs.Positions.{has_informer}
-
--- the one number where it is above the other, and else what follows
-abbrev pub if_above : ℕ → ℕ → Option ℕ → Option ℕ
-if_above own at rest = if nat_lt at own then Some own else rest
-
--- the first of the own writes that is above the position of its kind
-unfoldable pub own_above : Positions → Positions → Option ℕ
-own_above own at = if_above own.certificates at.certificates (if_above own.requests at.requests (if_above own.secrets at.secrets None))
 
 -- the positions of the kinds that the role is told of, and 0 of each other kind
 abbrev pub shown_positions : Role → Positions → Positions

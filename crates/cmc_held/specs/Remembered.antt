@@ -7,7 +7,7 @@ use Rattle.cmc_meta.specs.Keys.{key_cmp}
 use Rattle.cmc_objects.specs.declared.role.Role.{Role}
 use Rattle.cmc_objects.specs.Roles.{role_rank}
 use Rattle.cmc_rules.specs.declared.progress.Past.{Past}
-use Rattle.cmc_rules.specs.Passes.{no_past}
+use Rattle.cmc_rules.specs.Memory.{no_past}
 
 -- what is kept of one role, under the keys in order
 abbrev pub Kept : Type 0

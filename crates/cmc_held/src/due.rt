@@ -1,9 +1,9 @@
 //! Whether a role may begin a pass: it was told of its own writes, and the pass would not be the one
 //! before again.
 ghost use Rattle.std.specs.Prelude.{◌≡◌, ◌↔◌, IsTrue, if◌then◌else◌};
-ghost use Rattle.cmc_rules.specs.Passes.{EndsAlike, IsSame, IsStillBehind};
+ghost use Rattle.cmc_rules.specs.Sameness.{EndsAlike, IsSame, IsStillBehind, own_above};
 ghost use Rattle.cmc_rules.specs.Positions.{has_informer};
-ghost use Rattle.cmc_held.specs.Dues.{own_above, shown_positions};
+ghost use Rattle.cmc_held.specs.Dues.{shown_positions};
 
 use crate::standings::at_kind;
 use cmc_meta::Kind;
@@ -13,7 +13,7 @@ use cmc_objects::{Positions, Role};
 
 /// The first of the own writes of which the role was not told: the one that is above the position of
 /// its kind. `None` exactly where there is none.
-#[tactic(auto, unfolding(crate::specs::Dues::own_above))]
+#[tactic(auto, unfolding(cmc_rules::specs::Sameness::own_above))]
 pub fn own_above(own: Positions, at: Positions) -> Option<u64>
     ensures { result ≡ own_above own at }
 {

@@ -1,6 +1,6 @@
 //! Where the passes come from.
 ghost use Rattle.std.specs.Prelude.{◌≡◌, ◌+◌, ◌-◌, ◌<◌, ◌≤◌, ◌∷◌, [], OnOk, length, slice_get};
-ghost use Rattle.cmc_rules.specs.Passes.{origin_at};
+ghost use Rattle.cmc_rules.specs.Origins.{origin_at};
 
 use cmc_rules::Origin;
 use std::alloc::{AllocError, Global};

@@ -5,7 +5,7 @@ ghost use Rattle.cmc_meta.specs.declared.key.Key.{Key as KeyValue};
 ghost use Rattle.cmc_meta.specs.Keys.{key_eq};
 ghost use Rattle.cmc_objects.specs.declared.role.Role.{Role as RoleValue};
 ghost use Rattle.cmc_model.specs.Histories.{role_eq};
-ghost use Rattle.cmc_rules.specs.Passes.{no_past, with_begin, with_ending, with_own};
+ghost use Rattle.cmc_rules.specs.Memory.{no_past, with_begin, with_ending, with_own};
 ghost use Rattle.cmc_held.specs.Remembered.{is_noted, is_ready, memory_at, past_at, past_or_new};
 
 use crate::standings::put_at_kind;

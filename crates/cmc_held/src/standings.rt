@@ -3,7 +3,7 @@ ghost use Rattle.std.specs.List.{list_any};
 ghost use Rattle.std.specs.Prelude.{◌≡◌, IfOk, if◌then◌else◌};
 ghost use Rattle.cmc_objects.specs.declared.role.Role.{Role as RoleValue};
 ghost use Rattle.cmc_model.specs.Histories.{role_eq};
-ghost use Rattle.cmc_rules.specs.Passes.{with_position};
+ghost use Rattle.cmc_rules.specs.Memory.{with_position};
 ghost use Rattle.cmc_rules.specs.Positions.{position_of};
 ghost use Rattle.cmc_held.specs.Standing.{first_standing, flag_of, standing_of, with_flag};
 

@@ -8,7 +8,7 @@ use Rattle.cmc_objects.specs.declared.call.Call.TheVariants.{Create, Update, Upd
 use Rattle.cmc_objects.specs.declared.entry.Entry.{Entry}
 use Rattle.cmc_objects.specs.declared.entry.Entry.TheVariants.{Script, Call as Called, Deliver, List as Listed, Begin, Ask, Made, Signed, Answered, Judged, End, Stop, Start, Tick}
 use Rattle.cmc_model.specs.Stored.{created, revised, restated}
-use Rattle.cmc_model.specs.Replies.{is_accepted, key_of_call, from_old}
+use Rattle.cmc_model.specs.Replies.{is_accepted, key_of_call, stored_over}
 use Rattle.cmc_model.specs.Histories.{moment_with}
 use Rattle.cmc_history.specs.declared.standing.Standing.{Standing}
 
@@ -17,15 +17,7 @@ abbrev pub written_call : Entry → Option Call
 written_call (Called who call reply) = if is_accepted reply then Some call else None
 written_call other = None
 
--- what the call, accepted as this version, leaves under its own key, where this stood there
-abbrev pub stored_over : ℕ → ℤ → Option Object → Call → Option Object
-stored_over version now old (Create object) = Some (created version now object)
-stored_over version now old (Update object named) = from_old (λ o. revised version o object) old
-stored_over version now old (UpdateStatus object named) = from_old (λ o. restated version o object) old
-stored_over version now old (Delete key named) = None
-stored_over version now old (Get key) = old
-
--- what it leaves under this key
+-- what a call, accepted as this version, leaves under this key
 abbrev pub written_over : Key → ℕ → ℤ → Option Object → Call → Option Object
 written_over key version now old call = if key_eq key (key_of_call call) then stored_over version now old call else old
 

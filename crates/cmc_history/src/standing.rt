@@ -6,7 +6,8 @@ ghost use Rattle.cmc_objects.specs.Objects.{key_of};
 ghost use Rattle.cmc_model.specs.Histories.{moment_with};
 ghost use Rattle.cmc_model.specs.Replies.{is_accepted, key_of_call, from_old};
 ghost use Rattle.cmc_model.specs.Stored.{revised, restated};
-ghost use Rattle.cmc_history.specs.Replaying.{written_call, stored_over, written_over, standing_after, replayed};
+ghost use Rattle.cmc_history.specs.Replaying.{written_call, written_over, standing_after, replayed};
+ghost use Rattle.cmc_model.specs.Replies.{stored_over};
 
 use cmc_meta::Key;
 use cmc_objects::{Call, Entry, Object, Reply};

@@ -4,3 +4,4 @@ pub mod Maps
 pub mod Writes
 pub mod Stored
 pub mod Versions
+pub mod Accepting

@@ -11,19 +11,15 @@ use Rattle.cmc_objects.specs.declared.call.Call.{Call}
 use Rattle.cmc_objects.specs.declared.call.Call.TheVariants.{Create, Update, UpdateStatus, Delete, Get}
 use Rattle.cmc_objects.specs.declared.call.Reply.{Reply}
 use Rattle.cmc_objects.specs.declared.call.Reply.TheVariants.{Unavailable}
-use Rattle.cmc_objects.specs.declared.entry.Entry.{Entry}
-use Rattle.cmc_objects.specs.declared.entry.Entry.TheVariants.{Script, Call as Called, Deliver, List as Listed, Begin, Ask, Made, Signed, Answered, Judged, End, Stop, Start, Tick}
 use Rattle.cmc_objects.specs.Objects.{key_of, version_of}
 use Rattle.cmc_model.specs.declared.write.Write.{Write}
 use Rattle.cmc_model.specs.Objects.{Objects, no_objects, object_at}
 use Rattle.cmc_model.specs.Stored.{revised, restated}
 use Rattle.cmc_model.specs.Replies.{State, IsReply, IsServed, IsGot, is_accepted, key_of_call, from_old, stored, put_at}
-use Rattle.cmc_model.specs.Histories.{Setting, moment, state, objects, accepted}
-use Rattle.cmc_model.specs.Writes.{writes, write_of, contents}
-use Rattle.cmc_model.specs.Versions.{uid_of, IsVersion, HasVersion}
+use Rattle.cmc_model.specs.Writes.{write_of, contents}
+use Rattle.cmc_model.specs.Versions.{uid_of, IsVersion}
 use Rattle.cmc_model.proofs.Keys.{key_cmp-total, key_cmp-IsAntisymmetric}
 use Rattle.cmc_model.proofs.Stored.{version_of-created, uid_of-created, key_of-created, version_of-revised, uid_of-revised, key_of-revised, version_of-restated, uid_of-restated, key_of-restated}
-use Rattle.cmc_model.proofs.Writes.{writes_count, writes_leave}
 
 -- ---- what a legal write is
 

@@ -6,12 +6,12 @@ use Rattle.std.proofs.lemmas.List.{length-reverse, get_or-reverse}
 use Rattle.cmc_meta.specs.declared.key.Kind.{Kind}
 use Rattle.cmc_objects.specs.declared.call.Call.{Call}
 use Rattle.cmc_objects.specs.declared.entry.Entry.{Entry}
-use Rattle.cmc_objects.specs.declared.entry.Entry.TheVariants.{Script, Call as Called, Deliver, List as Listed, Begin, Ask, Made, Signed, Answered, Judged, End, Stop, Start, Tick}
+use Rattle.cmc_objects.specs.declared.entry.Entry.TheVariants.{Call as Called}
 use Rattle.cmc_model.specs.declared.write.Write.{Write}
-use Rattle.cmc_model.specs.Objects.{Objects, no_objects}
+use Rattle.cmc_model.specs.Objects.{Objects}
 use Rattle.cmc_model.specs.Replies.{State, is_accepted, put_at, key_of_call, stored}
 use Rattle.cmc_model.specs.Histories.{Setting, moment, state, objects, accepted}
-use Rattle.cmc_model.specs.Writes.{writes, write_of, contents, oldest, of_kind, kind_eq, objects_at, objects_of}
+use Rattle.cmc_model.specs.Writes.{writes, write_of, contents, oldest, of_kind, kind_eq, objects_of}
 
 -- a further write leaves the first ones as they were
 pub oldest-older : (p : ℕ) (w : Write) (ws : List Write) → p ≤ length ws → oldest p (w ∷ ws) ≡ oldest p ws
@@ -63,21 +63,8 @@ pub oldest-entry : (s : Setting) (e : Entry) (h : List Entry) (p : ℕ) → p �
 oldest-entry s (Called who call reply) h p le = older (is_accepted reply) p (write_of (moment s h) (state s h) call) (writes s h) (omega (arith, le, writes_count s h))
 oldest-entry s other h p le = refl
 
--- what a reader saw at a position, it sees there after any entry
-pub objects_at-older : (s : Setting) (e : Entry) (h : List Entry) (p : ℕ) → p ≤ accepted s h → objects_at s (e ∷ h) p ≡ objects_at s h p
-objects_at-older s e h p le = ap contents (oldest-entry s e h p le)
-
 pub objects_of-older : (kind : Kind) (s : Setting) (e : Entry) (h : List Entry) (p : ℕ) → p ≤ accepted s h → objects_of kind s (e ∷ h) p ≡ objects_of kind s h p
 objects_of-older kind s e h p le = ap (λ (ws : List Write). contents (of_kind kind ws)) (oldest-entry s e h p le)
-
--- at the newest position it sees the objects that stand
-pub objects_at-newest : (s : Setting) (h : List Entry) → objects_at s h (accepted s h) ≡ objects s h
-objects_at-newest s h = rw (← writes_count s h) (ap contents (oldest-all (writes s h)) ∙ writes_leave s h)
-
--- a reader that was told of nothing sees no object
-pub objects_of-none : (kind : Kind) (s : Setting) (h : List Entry) → objects_of kind s h 0 ≡ no_objects
-unfolding contents
-objects_of-none kind s h = ap (λ (ws : List Write). contents (of_kind kind ws)) (oldest-none (writes s h))
 
 next_at : (w : Write) (ws : List Write) (i : ℕ) (d : Write) → i < length (w ∷ ws) → (b : Bool) → (i == length ws) ≡ b
     → (i < length ws → oldest (i + 1) ws ≡ get_or ws (length ws - 1 - i) d ∷ oldest i ws)

@@ -7,7 +7,7 @@ use Rattle.cmc_objects.specs.declared.rows.Rows.{Rows}
 use Rattle.cmc_objects.specs.declared.role.Role.{Role}
 use Rattle.cmc_objects.specs.declared.entry.Step.{Step}
 use Rattle.cmc_objects.specs.declared.entry.Entry.{Entry}
-use Rattle.cmc_objects.specs.declared.entry.Entry.TheVariants.{Script, Call as Called, Deliver, List as Listed, Begin, Ask, Made, Signed, Answered, Judged, End, Stop, Start, Tick}
+use Rattle.cmc_objects.specs.declared.entry.Entry.TheVariants.{Call as Called, Stop, Start, Tick}
 use Rattle.cmc_objects.specs.Roles.{role_rank}
 use Rattle.cmc_model.specs.Objects.{Objects}
 use Rattle.cmc_model.specs.Replies.{State, empty_store, state_after}

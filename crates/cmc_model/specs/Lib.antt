@@ -7,3 +7,4 @@ pub mod Histories
 pub mod Writes
 pub mod Summaries
 pub mod Versions
+pub mod Accepting

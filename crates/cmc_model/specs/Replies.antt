@@ -10,7 +10,7 @@ use Rattle.cmc_objects.specs.declared.call.Reply.TheVariants.{Ok, Unchanged, Fou
 use Rattle.cmc_objects.specs.Objects.{key_of, name_of, version_of}
 use Rattle.cmc_model.specs.Objects.{Objects, no_objects, object_at, with_object, without_object}
 use Rattle.cmc_model.specs.Stored.{created, updated, with_status, revised, restated}
-use Rattle.cmc_model.specs.Admission.{refusing_rule}
+use Rattle.cmc_model.specs.Admission.{is_taken, refusing_rule}
 
 -- a store: its objects, the accepted writes so far and the calls so far
 pub record State : Type 0 where
@@ -33,23 +33,23 @@ abbrev pub IsChange : ℕ → List ℕ → Object → Object → Reply → Type 
 IsChange accepted name old new reply =
     ((new ≡ old) × (reply ≡ Unchanged (version_of old))) ⊎ ((new ≢ old) × (reply ≡ Ok (accepted + 1) name))
 
-abbrev pub IsCreated : ℕ → Object → Option Object → Reply → Type 0
-IsCreated accepted object (Some old) reply = reply ≡ AlreadyExists (version_of old)
-IsCreated accepted object None reply = IsAdmitted (refusing_rule None object) (reply ≡ Ok (accepted + 1) (name_of object)) reply
+abbrev pub IsCreated : ℕ → Bool → Object → Option Object → Reply → Type 0
+IsCreated accepted taken object (Some old) reply = reply ≡ AlreadyExists (version_of old)
+IsCreated accepted taken object None reply = IsAdmitted (refusing_rule None object false taken) (reply ≡ Ok (accepted + 1) (name_of object)) reply
 
 -- the object that stands has the named version, or there is a conflict
 abbrev pub IsAtVersion : ℕ → Object → Type 0 → Reply → Type 0
 IsAtVersion named old served reply = MatchBool (named == version_of old) served (reply ≡ Conflict named (version_of old))
 
-abbrev pub IsUpdated : ℕ → Object → ℕ → Option Object → Reply → Type 0
-IsUpdated accepted object named None reply = reply ≡ NotFound accepted
-IsUpdated accepted object named (Some old) reply =
-    IsAtVersion named old (IsAdmitted (refusing_rule (Some old) (updated old object)) (IsChange accepted (name_of object) old (updated old object) reply) reply) reply
+abbrev pub IsUpdated : ℕ → Bool → Object → ℕ → Option Object → Reply → Type 0
+IsUpdated accepted taken object named None reply = reply ≡ NotFound accepted
+IsUpdated accepted taken object named (Some old) reply =
+    IsAtVersion named old (IsAdmitted (refusing_rule (Some old) object false taken) (IsChange accepted (name_of object) old (updated old object) reply) reply) reply
 
 abbrev pub IsRestated : ℕ → Object → ℕ → Option Object → Reply → Type 0
 IsRestated accepted object named None reply = reply ≡ NotFound accepted
 IsRestated accepted object named (Some old) reply =
-    IsAtVersion named old (IsAdmitted (refusing_rule (Some old) (with_status old object)) (IsChange accepted (name_of object) old (with_status old object) reply) reply) reply
+    IsAtVersion named old (IsAdmitted (refusing_rule (Some old) object true false) (IsChange accepted (name_of object) old (with_status old object) reply) reply) reply
 
 abbrev pub IsDeleted : ℕ → Option ℕ → List ℕ → Option Object → Reply → Type 0
 IsDeleted accepted named name None reply = reply ≡ NotFound accepted
@@ -62,8 +62,8 @@ IsGot accepted (Some old) reply = reply ≡ Found old
 
 -- the reply of the objects that stand
 abbrev pub IsServed : ℕ → Objects → Call → Reply → Type 0
-IsServed accepted objects (Create object) reply = IsCreated accepted object (object_at objects (key_of object)) reply
-IsServed accepted objects (Update object named) reply = IsUpdated accepted object named (object_at objects (key_of object)) reply
+IsServed accepted objects (Create object) reply = IsCreated accepted (is_taken objects object) object (object_at objects (key_of object)) reply
+IsServed accepted objects (Update object named) reply = IsUpdated accepted (is_taken objects object) object named (object_at objects (key_of object)) reply
 IsServed accepted objects (UpdateStatus object named) reply = IsRestated accepted object named (object_at objects (key_of object)) reply
 IsServed accepted objects (Delete key named) reply = IsDeleted accepted named key.name (object_at objects key) reply
 IsServed accepted objects (Get key) reply = IsGot accepted (object_at objects key) reply
@@ -98,13 +98,17 @@ abbrev pub from_old : (Object → Object) → Option Object → Option Object
 from_old change None = None
 from_old change (Some old) = Some (change old)
 
--- what stands under that key once the call is accepted as this version
+-- what a call that is accepted as this version leaves under its key, where this stood there
+abbrev pub stored_over : ℕ → ℤ → Option Object → Call → Option Object
+stored_over version now old (Create object) = Some (created version now object)
+stored_over version now old (Update object named) = from_old (λ o. revised version o object) old
+stored_over version now old (UpdateStatus object named) = from_old (λ o. restated version o object) old
+stored_over version now old (Delete key named) = None
+stored_over version now old (Get key) = old
+
+-- and where these objects stood
 abbrev pub stored : ℕ → ℤ → Objects → Call → Option Object
-stored version now objects (Create object) = Some (created version now object)
-stored version now objects (Update object named) = from_old (λ old. revised version old object) (object_at objects (key_of object))
-stored version now objects (UpdateStatus object named) = from_old (λ old. restated version old object) (object_at objects (key_of object))
-stored version now objects (Delete key named) = None
-stored version now objects (Get key) = object_at objects key
+stored version now objects call = stored_over version now (object_at objects (key_of_call call)) call
 
 -- the objects with this one under the key, or with none
 abbrev pub put_at : Objects → Key → Option Object → Objects

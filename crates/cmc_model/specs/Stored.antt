@@ -25,24 +25,13 @@ unfoldable pub updated : Object → Object → Object
 updated (Cert old) (Cert c) = Cert (record { meta = merged_meta old.meta c.meta; spec = c.spec; status = old.status })
 updated (Request old) (Request r) = Request (record { meta = merged_meta old.meta r.meta; spec = r.spec; status = old.status })
 updated (Secret old) (Secret s) = Secret (record { meta = merged_meta old.meta s.meta; kind_text = old.kind_text; parts = s.parts })
-updated (Cert old) (Request r) = Cert old
-updated (Cert old) (Secret s) = Cert old
-updated (Request old) (Cert c) = Request old
-updated (Request old) (Secret s) = Request old
-updated (Secret old) (Cert c) = Secret old
-updated (Secret old) (Request r) = Secret old
+updated old other = old
 
 -- the object after a status update, under its old version: all but the status stays, and a Secret has none
 unfoldable pub with_status : Object → Object → Object
 with_status (Cert old) (Cert c) = Cert (record old { status = c.status })
 with_status (Request old) (Request r) = Request (record old { status = r.status })
-with_status (Cert old) (Request r) = Cert old
-with_status (Cert old) (Secret s) = Cert old
-with_status (Request old) (Cert c) = Request old
-with_status (Request old) (Secret s) = Request old
-with_status (Secret old) (Cert c) = Secret old
-with_status (Secret old) (Request r) = Secret old
-with_status (Secret old) (Secret s) = Secret old
+with_status old other = old
 
 -- the generation of the object after an update: it rises by one where the spec changes, up to the greatest u64
 unfoldable pub generation_after : Object → Object → ℕ

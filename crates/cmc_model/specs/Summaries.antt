@@ -1,58 +1,39 @@
 -- What stands at the end of a run.
-use Rattle.std.specs.Prelude.{Bool, true, false, ◌&&◌, List, [], ◌∷◌, if◌then◌else◌, count_by, not}
-use Rattle.std.specs.List.{list_any}
+use Rattle.std.specs.Prelude.{Bool, true, false, List, [], ◌∷◌, if◌then◌else◌, count_by, not}
 use Rattle.std.specs.FinMap as finite
 use Rattle.cmc_meta.specs.declared.key.Key.{Key}
 use Rattle.cmc_meta.specs.declared.conditions.Condition.{Condition}
-use Rattle.cmc_meta.specs.declared.conditions.ConditionKind.{ConditionKind}
-use Rattle.cmc_meta.specs.declared.conditions.ConditionKind.TheVariants.{Ready, Issuing, Approved, Denied, InvalidRequest}
-use Rattle.cmc_meta.specs.declared.conditions.Tri.{Tri}
-use Rattle.cmc_meta.specs.declared.conditions.Tri.TheVariants.{True, False, Unknown}
+use Rattle.cmc_meta.specs.declared.conditions.ConditionKind.TheVariants.{Ready}
 use Rattle.cmc_objects.specs.declared.object.Object.{Object}
-use Rattle.cmc_objects.specs.declared.object.Object.TheVariants.{Cert, Request, Secret}
+use Rattle.cmc_objects.specs.Requests.{is_stated}
+use Rattle.cmc_objects.specs.declared.object.Object.TheVariants.{Cert, Secret}
 use Rattle.cmc_model.specs.declared.summary.Summary.{Summary}
 use Rattle.cmc_model.specs.declared.summary.Waiting.{Waiting}
 use Rattle.cmc_model.specs.declared.summary.WaitName.TheVariants.{Stopped}
 use Rattle.cmc_model.specs.Objects.{Objects}
 
-abbrev pub is_ready_kind : ConditionKind → Bool
-is_ready_kind Ready = true
-is_ready_kind Issuing = false
-is_ready_kind Approved = false
-is_ready_kind Denied = false
-is_ready_kind InvalidRequest = false
-
-abbrev pub is_true : Tri → Bool
-is_true True = true
-is_true False = false
-is_true Unknown = false
-
 -- the condition Ready is True
 abbrev pub says_ready : List Condition → Bool
-says_ready conditions = list_any (λ c. is_ready_kind c.kind && is_true c.status) conditions
+says_ready conditions = is_stated Ready conditions
 
 abbrev pub is_certificate : Object → Bool
 is_certificate (Cert c) = true
-is_certificate (Request r) = false
-is_certificate (Secret s) = false
+is_certificate other = false
 
 abbrev pub is_secret : Object → Bool
-is_secret (Cert c) = false
-is_secret (Request r) = false
 is_secret (Secret s) = true
+is_secret other = false
 
 -- a Certificate that is Ready, and one that is not
 abbrev pub is_ready : Object → Bool
 is_ready (Cert c) = says_ready c.status.conditions
-is_ready (Request r) = false
-is_ready (Secret s) = false
+is_ready other = false
 
 abbrev pub is_waiting : Object → Bool
 is_waiting (Cert c) = not (says_ready c.status.conditions)
-is_waiting (Request r) = false
-is_waiting (Secret s) = false
+is_waiting other = false
 
--- the Certificates that are not Ready, in order of key; as no role runs, that is what each waits for
+-- the Certificates that are not Ready, in order of key; as some role does not run, that is what each waits for
 abbrev pub waits : List (Key × Object) → List Waiting
 waits [] = []
 waits (e ∷ es) = if is_waiting e.1 then record { certificate = e.0; wait = Stopped } ∷ waits es else waits es

@@ -6,7 +6,7 @@ use Rattle.cmc_meta.specs.declared.key.Kind.{Kind}
 use Rattle.cmc_meta.specs.Keys.{kind_rank, key_eq}
 use Rattle.cmc_objects.specs.declared.call.Call.{Call}
 use Rattle.cmc_objects.specs.declared.entry.Entry.{Entry}
-use Rattle.cmc_objects.specs.declared.entry.Entry.TheVariants.{Script, Call as Called, Deliver, List as Listed, Begin, Ask, Made, Signed, Answered, Judged, End, Stop, Start, Tick}
+use Rattle.cmc_objects.specs.declared.entry.Entry.TheVariants.{Call as Called}
 use Rattle.cmc_model.specs.declared.write.Write.{Write}
 use Rattle.cmc_model.specs.Objects.{Objects, no_objects}
 use Rattle.cmc_model.specs.Replies.{State, is_accepted, key_of_call, stored, put_at}

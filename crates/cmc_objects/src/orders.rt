@@ -107,7 +107,7 @@ impl Drop for SignOrder {
 }
 
 impl SignOrder {
-    ghost use Rattle.cmc_objects.specs.Requests.{IsSignable, Signs, is_approved, is_denied};
+    ghost use Rattle.cmc_objects.specs.Requests.{IsSignable, Signs, is_approved, is_denied, is_run_time, is_row_form};
 
     /// The question of this number about the request, at the moment `now` in seconds since
     /// 1970-01-01T00:00:00Z.
@@ -141,14 +141,16 @@ impl SignOrder {
 
     /// The moment of the question, in seconds since 1970-01-01T00:00:00Z.
     pub fn now(&self) -> i64
-        ensures { result ≡ self.now.moment }
+        ensures value { result ≡ self.now.moment }
+        ensures in_run { is_run_time self.now.moment ≡ true }
     {
         self.moment
     }
 
     /// What the scenario says of the answer.
     pub fn row(&self) -> &SignRow
-        ensures { result.now ≡ self.now.row }
+        ensures value { result.now ≡ self.now.row }
+        ensures form { is_row_form self.now.row ≡ true }
     {
         &self.row
     }

@@ -1,44 +1,33 @@
 -- Plain histories of one setting agree: the one begins the other.
-use Rattle.std.proofs.Common.{◌≡◌, ◌∙◌, ◌⊎◌, ◌+◌, List, [], ◌∷◌, ◌++◌, Option, Some, None, MatchOption, append_assoc, inl, inr, sym, ap, subst}
+use Rattle.std.proofs.Common.{◌≡◌, ◌∙◌, ◌⊎◌, ◌+◌, ◌<◌, length, arith, List, [], ◌∷◌, Option, Some, None, inl, inr, sym, ap, subst}
 use Rattle.cmc_objects.specs.declared.entry.Entry.{Entry}
 use Rattle.cmc_objects.specs.declared.entry.Entry.TheVariants.{Script}
 use Rattle.cmc_rules.specs.declared.effect.Effect.{Effect}
 use Rattle.cmc_model.specs.Histories.{Setting}
 use Rattle.cmc_rules.specs.Scripting.{scripted}
+use Rattle.cmc_rules.specs.Runs.{IsFinished}
 use Rattle.cmc_world.specs.declared.moves.Move.{Move}
 use Rattle.cmc_world.specs.declared.moves.Move.TheVariants as moves
-use Rattle.cmc_world.specs.Answers.{IsEffect, next_effect, delivered, beginning, Grows}
+use Rattle.cmc_world.specs.Answers.{entries_of, GrowsBy, next_effect, Grows}
+use Rattle.cmc_world.proofs.Leading.{extends_by, extends_on}
 use Rattle.cmc_world.specs.Leading.{Extends}
-use Rattle.cmc_plain.specs.Histories.{IsPlainStep, LeadsPlainly, IsPlain}
+use Rattle.cmc_plain.specs.Histories.{entries_for, IsFull, IsEnd, IsPlainStep, LeadsPlainly, IsPlain}
 use Rattle.cmc_plain.proofs.OneMove.{one_move}
 use Rattle.cmc_plain.proofs.OneGrowth.{one_growth}
 
 -- ---- the old history stands below
 
-by_script : (o : Option Effect) (n : Entry) (h k : List Entry) → MatchOption o (k ≡ n ∷ h) (λ effect. (e : Entry) × IsEffect effect e × (k ≡ e ∷ n ∷ h)) → Extends h k
-by_script None n h k is = (n ∷ [], is)
-by_script (Some effect) n h k (e, right, is) = (e ∷ n ∷ [], is)
-
-by_move : (s : Setting) (h : List Entry) (move : Move) (k : List Entry) → Grows s h move k → Extends h k
-by_move s h moves.Script k grown = by_script (next_effect s h) (Script (scripted h + 1)) h k grown
-by_move s h (moves.Deliver role kind to) k grown = (delivered s h role kind to ∷ [], grown)
-by_move s h (moves.Begin role key) k grown = (beginning s h role key ∷ [], grown)
-by_move s h (moves.Next pass named) k (e, right, is) = (e ∷ [], is)
-
-joined : (h g k : List Entry) → Extends h g → Extends g k → Extends h k
-joined h g k (xs, one) (ys, two) = (ys ++ xs, two ∙ (ap (λ (l : List Entry). ys ++ l) one ∙ sym (append_assoc ys xs h)))
-
 -- where plain moves lead, what they led from stands below
 pub extends_plainly : (s : Setting) (ms : List Move) (h k : List Entry) → LeadsPlainly s ms h k → Extends h k
 extends_plainly s [] h k same = ([], same)
-extends_plainly s (move ∷ ms) h k (g, step, rest) = joined h g k (by_move s h move g step.grows) (extends_plainly s ms g k rest)
+extends_plainly s (move ∷ ms) h k (g, step, rest) = extends_on h g k (extends_by s h move g step.grows) (extends_plainly s ms g k rest)
 
 -- ---- the law
 
 one_step : (s : Setting) (h : List Entry) (m n : Move) (g k : List Entry) → IsPlainStep s h m g → IsPlainStep s h n k → g ≡ k
 one_step s h m n g k x y =
     let same = one_move s h m n x.plain y.plain in
-    one_growth s h n g k (subst (λ (move : Move). Grows s h move g) same x.grows) x.run y.grows y.run
+    one_growth s h n g k (subst (λ (move : Move). Grows s h move g) same x.grows) y.grows
 
 agree : (s : Setting) (ms ns : List Move) (g h k : List Entry) → LeadsPlainly s ms g h → LeadsPlainly s ns g k → Extends h k ⊎ Extends k h
 agree s [] ns g h k same led = inl (subst (λ (l : List Entry). Extends l k) (sym same) (extends_plainly s ns g k led))
@@ -49,3 +38,42 @@ agree s (m ∷ ms) (n ∷ ns) g h k (a, x, rest) (b, y, others) =
 -- of two plain histories of one setting the one begins the other
 pub plain_agree : (s : Setting) (h k : List Entry) → IsPlain s h → IsPlain s k → Extends h k ⊎ Extends k h
 plain_agree s h k (ms, x) (ns, y) = agree s ms ns [] h k x y
+
+-- ---- ends
+
+by_effect : (s : Setting) (h : List Entry) (o : Option Effect) (n : Entry) (k : List Entry) → GrowsBy s (n ∷ h) o k → length k ≡ length h + entries_of o
+by_effect s h None n k is = ap length is ∙ omega arith
+by_effect s h (Some effect) n k (e, right, is) = ap length is ∙ omega arith
+
+pub grown_length : (s : Setting) (h : List Entry) (move : Move) (k : List Entry) → Grows s h move k → length k ≡ length h + entries_for s h move
+grown_length s h moves.Script k grown = by_effect s h (next_effect s h) (Script (scripted h + 1)) k grown
+grown_length s h (moves.Deliver role kind to) k grown = ap length grown ∙ omega arith
+grown_length s h (moves.Begin role key) k grown = ap length grown ∙ omega arith
+grown_length s h (moves.Next pass named) k (e, right, is) = ap length is ∙ omega arith
+
+-- behind the end of a run no plain step is made
+no_more : (s : Setting) (h : List Entry) (move : Move) (k : List Entry) → IsEnd s h → IsPlainStep s h move k → ⊥
+no_more s h move k (inl finished) step = step.plain.0 finished
+no_more s h move k (inr full) step =
+    let same = one_move s h full.move move full.plain step.plain in
+    let over : s.events < length h + entries_for s h move = subst (λ (m : Move). s.events < length h + entries_for s h m) same full.spent in
+    let long = grown_length s h move k step.grows in
+    let short = step.run.short in
+    absurd (omega (arith, over, long, short))
+
+ends_by : (s : Setting) (ms ns : List Move) (g h k : List Entry) → IsEnd s h → IsEnd s k → LeadsPlainly s ms g h → LeadsPlainly s ns g k → h ≡ k
+ends_by s [] [] g h k one other x y = x ∙ sym y
+ends_by s [] (n ∷ ns) g h k one other x (b, step, rest) = absurd (no_more s g n b (subst (IsEnd s) x one) step)
+ends_by s (m ∷ ms) [] g h k one other (a, step, rest) y = absurd (no_more s g m a (subst (IsEnd s) y other) step)
+ends_by s (m ∷ ms) (n ∷ ns) g h k one other (a, x, rest) (b, y, others) =
+    ends_by s ms ns a h k one other rest (subst (λ (l : List Entry). LeadsPlainly s ns l k) (sym (one_step s g m n a b x y)) others)
+
+-- a plain run has one end
+pub ends_agree : (s : Setting) (h k : List Entry) → IsPlain s h → IsEnd s h → IsPlain s k → IsEnd s k → h ≡ k
+ends_agree s h k (ms, x) one (ns, y) other = ends_by s ms ns [] h k one other x y
+
+-- and it is not both finished and full
+pub one_end : (s : Setting) (h k : List Entry) → IsPlain s h → IsFinished s h → IsPlain s k → IsFull s k → ⊥
+one_end s h k plain finished other full =
+    let same = ends_agree s h k plain (inl finished) other (inr full) in
+    full.plain.0 (subst (IsFinished s) same finished)

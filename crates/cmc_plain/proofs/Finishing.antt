@@ -1,16 +1,18 @@
 -- Where the plain order has no move, the run is finished.
-use Rattle.std.proofs.Common.{◌≡◌, ◌==◌, ◌⊎◌, ◌+◌, ◌-◌, ◌<◌, ◌≤◌, ℕ, ℤ, List, [], ◌∷◌, length, Option, Some, None, Bool, true, false, cond, refl, sym, ap, subst, ◌∙◌, inl, inr, arith, option_and_then, get_or}
-use Rattle.std.proofs.lemmas.Bool.Decides.{Decides-eqb, nat_tests}
+use Rattle.std.proofs.Common.{◌≡◌, ◌⊎◌, ◌+◌, ◌-◌, ◌<◌, ◌≤◌, ℕ, ℤ, List, length, Option, Some, None, Bool, true, false, cond, refl, sym, ap, subst, ◌∙◌, inl, inr, arith, option_and_then, get_or}
+use Rattle.std.proofs.lemmas.Bool.Decides.{nat_tests}
 use Rattle.std.proofs.lemmas.Option.{slice_get_cases}
 use Rattle.std.specs.Prelude.{◌||◌, if◌then◌else◌, MatchBool, nat_le, nat_lt, slice_get}
+use Rattle.cmc_rules.specs.Legality.{IsOpen}
+use Rattle.cmc_plain.specs.Plain.{IsStepReady}
 use Rattle.cmc_meta.specs.declared.key.Key.{Key}
 use Rattle.cmc_meta.specs.declared.key.Kind.{Kind}
 use Rattle.cmc_meta.specs.declared.key.Kind.TheVariants as kinds
 use Rattle.cmc_objects.specs.declared.certificate.Certificate.{Certificate}
 use Rattle.cmc_objects.specs.declared.request.CertificateRequest.{CertificateRequest}
 use Rattle.cmc_objects.specs.declared.object.Object.{Object}
+use Rattle.cmc_objects.specs.declared.orders.Rules.{Rules}
 use Rattle.cmc_objects.specs.declared.role.Role.{Role}
-use Rattle.cmc_objects.specs.declared.role.Role.TheVariants.{Trigger, KeyManager, RequestManager, Approver, Issuer, Issuing, Readiness, Revision}
 use Rattle.cmc_objects.specs.declared.entry.Positions.{Positions}
 use Rattle.cmc_objects.specs.declared.entry.Step.{Step}
 use Rattle.cmc_objects.specs.declared.entry.Step.TheVariants as steps
@@ -28,42 +30,28 @@ use Rattle.cmc_rules.specs.declared.progress.Ending.TheVariants as endings
 use Rattle.cmc_rules.specs.declared.progress.LastPass.{LastPass}
 use Rattle.cmc_model.specs.Objects.{object_at}
 use Rattle.cmc_model.specs.Histories.{Setting, moment, runs}
-use Rattle.cmc_model.specs.Writes.{writes, contents, oldest, write_at, kind_eq, last_of_kind, is_known}
+use Rattle.cmc_model.specs.Writes.{writes, contents, oldest, kind_eq, last_of_kind, is_known}
 use Rattle.cmc_rules.specs.Positions.{works_on_requests, kind_of_work, has_informer, position, position_of, positions, cache}
 use Rattle.cmc_rules.specs.Viewing.{certificate_in, request_in, certificate_at, request_at, views_of, views_in, views, present_views}
 use Rattle.cmc_rules.specs.Desks.{desk}
-use Rattle.cmc_rules.specs.Triggering.{for_option, trigger}
 use Rattle.cmc_rules.specs.Acts.{act}
-use Rattle.cmc_rules.specs.Passes.{open_pass, is_pass_of, past, IsStillBehind, EndsAlike, IsSame, IsDue}
-use Rattle.cmc_rules.specs.Legality.{IsOfKind}
+use Rattle.cmc_rules.specs.Passes.{open_pass, is_pass_of}
+use Rattle.cmc_rules.specs.Memory.{past}
+use Rattle.cmc_rules.specs.Sameness.{IsStillBehind, EndsAlike, IsSame, IsDue}
 use Rattle.cmc_rules.specs.Scripting.{scripted, held, has_held}
 use Rattle.cmc_rules.specs.Following.{owed, IsReady}
 use Rattle.cmc_rules.specs.Resting.{IsIdle, IsPaused, RestsOn, IsAtRest}
 use Rattle.cmc_rules.specs.Runs.{IsRun, IsFinished}
-use Rattle.cmc_held.specs.Dues.{own_above}
-use Rattle.cmc_held.proofs.Behind.{not_all_told}
-use Rattle.cmc_world.specs.declared.moves.Move.TheVariants as moves
-use Rattle.cmc_world.specs.declared.moves.Lack.TheVariants.{NotQueued, SameViews, OwnWrite}
-use Rattle.cmc_world.specs.declared.moves.Stepped.{Stepped}
-use Rattle.cmc_world.specs.declared.moves.Stepped.TheVariants.{Done, NotNow, Spent}
-use Rattle.cmc_world.specs.Answers.{Need, Bar, BarOf, Fits as HasRoom, IsWorking, IsQueued, entries_of, next_effect}
+use Rattle.cmc_rules.specs.Sameness.{own_above}
+use Rattle.cmc_world.proofs.Sounds.{each_sound}
+use Rattle.cmc_rules.specs.Passes.{IsWorking}
 use Rattle.cmc_world.proofs.Moments.{scripted_low}
 use Rattle.cmc_world.proofs.Rest.{same_kind}
-use Rattle.cmc_plain.specs.Plain.{IsAccepted, IsPossible, IsGoing, IsBehind, Fits, HasNoScript, HasNoPass, HasNoDelivery}
-use Rattle.cmc_plain.proofs.OneKind.{last_low, object_at-of_kind}
+use Rattle.cmc_plain.specs.Plain.{IsBehind, Fits, HasNoScript, HasNoPass, HasNoDelivery}
+use Rattle.cmc_plain.proofs.OneKind.{object_at-of_kind}
 use Rattle.cmc_plain.proofs.Newest.{IsToldOfAll, views_newest}
 use Rattle.cmc_plain.proofs.Newer.{newest_known}
 use Rattle.cmc_plain.proofs.Remembering.{own_low, IsLowObstacle, IsFairEnding, IsFairLast, last_fair}
-
--- ---- room
-
-room_by : (fits : Bool) (s : Setting) (h : List Entry) (more : ℕ) → nat_le (length h + more) s.events ≡ fits → (answer : Stepped) × HasRoom s h more answer × IsAccepted answer
-room_by true s h more e = (Done, inr (grind (arith, nat_tests), refl), tt)
-room_by false s h more e = (Spent (length h), inl ((λ le. absurd (grind (arith, nat_tests))), refl), tt)
-
--- whether or not there is room, the answer is one that makes a move possible
-room : (s : Setting) (h : List Entry) (more : ℕ) → (answer : Stepped) × HasRoom s h more answer × IsAccepted answer
-room s h more = room_by (nat_le (length h + more) s.events) s h more refl
 
 -- ---- all passes are closed
 
@@ -71,44 +59,17 @@ closed_by : (s : Setting) (h : List Entry) (n : ℕ) (p : Option OpenPass) → o
 closed_by s h n None is none = refl
 closed_by s h n (Some p) is none = absurd (none p is)
 
-closed : (s : Setting) (h : List Entry) → HasNoPass s h → ((n : ℕ) (p : OpenPass) → open_pass s h n ≡ Some p → IsGoing s h n) → (n : ℕ) → open_pass s h n ≡ None
-closed s h none going n = closed_by s h n (open_pass s h n) refl (λ p is. none n (going n p is))
+closed : (s : Setting) (h : List Entry) → HasNoPass s h → (n : ℕ) → open_pass s h n ≡ None
+closed s h none n = closed_by s h n (open_pass s h n) refl (λ p is. none n (subst IsOpen (sym is) tt))
 
 -- ---- all roles are told
-
-last_at : (here : Bool) (kind : Kind) (w : Write) (ws : List Write) → kind_eq w.key.kind kind ≡ here
-    → (1 ≤ last_of_kind kind ws → IsOfKind kind (write_at (last_of_kind kind ws) ws)) → 1 ≤ (if here then length (w ∷ ws) else last_of_kind kind ws)
-    → IsOfKind kind (write_at (if here then length (w ∷ ws) else last_of_kind kind ws) (w ∷ ws))
-unfolding write_at
-last_at true kind w ws same below some =
-    subst (λ (b : Bool). IsOfKind kind (if b then Some w else write_at (length (w ∷ ws)) ws)) (sym ((Decides-eqb (length (w ∷ ws)) (length (w ∷ ws))).1 refl)) (same_kind w.key.kind kind same)
-last_at false kind w ws other below some =
-    let low = last_low kind ws in
-    let later : (length (w ∷ ws) == last_of_kind kind ws) ≡ false = grind (arith, nat_tests) in
-    subst (λ (b : Bool). IsOfKind kind (if b then Some w else write_at (last_of_kind kind ws) ws)) (sym later) (below some)
-
--- the last write of a kind, if there is one, is of the kind
-last_is : (kind : Kind) (ws : List Write) → 1 ≤ last_of_kind kind ws → IsOfKind kind (write_at (last_of_kind kind ws) ws)
-unfolding last_of_kind
-last_is kind [] some = absurd (omega (arith, some))
-last_is kind (w ∷ ws) some = last_at (kind_eq w.key.kind kind) kind w ws refl (last_is kind ws) some
-
-behind : (s : Setting) (h : List Entry) (role : Role) (kind : Kind) → runs s h role ≡ true → has_informer role kind ≡ true → held s h role kind ≡ false
-    → position h role kind < last_of_kind kind (writes s h) → IsBehind s h role kind
-behind s h role kind running informed free above =
-    let left = room s h 1 in
-    record {
-      answer = left.0;
-      answers = inr (running, inr (informed, inr (free, inr ((λ le. absurd (omega (arith, above, le))), inr ((above, last_is kind (writes s h) (omega (arith, above))), left.1)))));
-      accepted = left.2;
-    }
 
 told_by : (up : Bool) (s : Setting) (h : List Entry) (role : Role) (kind : Kind) → nat_le (last_of_kind kind (writes s h)) (position h role kind) ≡ up
     → runs s h role ≡ true → has_informer role kind ≡ true → held s h role kind ≡ false → (IsBehind s h role kind → ⊥) → last_of_kind kind (writes s h) ≤ position h role kind
 told_by true s h role kind e running informed free none = grind (arith, nat_tests)
 told_by false s h role kind e running informed free none =
     let above : position h role kind < last_of_kind kind (writes s h) = grind (arith, nat_tests) in
-    absurd (none (behind s h role kind running informed free above))
+    absurd (none (record { running = running; informed = informed; free = free; behind = above }))
 
 told : (s : Setting) (h : List Entry) → HasNoDelivery s h → (role : Role) (kind : Kind) → runs s h role ≡ true → has_informer role kind ≡ true → held s h role kind ≡ false
     → last_of_kind kind (writes s h) ≤ position h role kind
@@ -116,12 +77,6 @@ told s h none role kind running informed free =
     told_by (nat_le (last_of_kind kind (writes s h)) (position h role kind)) s h role kind refl running informed free (none role kind)
 
 -- ---- on which keys there is something to do
-
--- on views of no Certificate and no CertificateRequest there is not
-no_work : (role : Role) (seen : Views) (now : ℤ) (by : Desk) → seen.certificate ≡ None → seen.request ≡ None → act role seen now by ≡ Nothing
-unfolding act trigger
-no_work Trigger seen now by certificate request = ap (for_option now seen.secret) certificate
-no_work other seen now by certificate request = refl
 
 not_cached : {A : Type 0} (s : Setting) (h : List Entry) (role : Role) (kind : Kind) (f : Object → Option A) (key : Key) → kind_eq key.kind kind ≡ false
     → option_and_then f (object_at (cache s h role kind) key) ≡ None
@@ -151,23 +106,12 @@ work_by : (same : Bool) (s : Setting) (h : List Entry) (role : Role) (key : Key)
 work_by true s h role key is busy = same_kind key.kind (kind_of_work role) is
 work_by false s h role key is busy =
     let none = unseen s h role key is in
-    absurd (busy (no_work role (views s h role key) (moment s h) (desk s h role (views s h role key)) none.0 none.1))
+    absurd (busy ((each_sound role).absent (views s h role key) (moment s h) (desk s h role (views s h role key)) (record { certificate = none.0; request = none.1 })))
 
 work : (s : Setting) (h : List Entry) (role : Role) (key : Key) → IsBusy s h role key → key.kind ≡ kind_of_work role
 work s h role key busy = work_by (kind_eq key.kind (kind_of_work role)) s h role key refl busy
 
 -- ---- begins
-
-none_above : (o : Option ℕ) (own at : Positions) → own_above own at ≡ o → (own.certificates ≤ at.certificates) × (own.requests ≤ at.requests) × (own.secrets ≤ at.secrets) → o ≡ None
-none_above None own at is low = refl
-none_above (Some v) own at is low = absurd (not_all_told own at v is low)
-
--- what is left of the table of begins where the role works on the key in no pass
-abbrev AnswersOwn : Setting → List Entry → Role → Key → Stepped → Option ℕ → Type 0
-AnswersOwn s h role key answer own =
-    BarOf own (λ version. NotNow (OwnWrite version)) answer
-    (Bar (IsSame (past s h role key).last (views s h role key) (moment s h) (positions h role)) (NotNow SameViews) answer
-    (Need (IsQueued s h role key) (NotNow NotQueued) answer (HasRoom s h 1 answer)))
 
 abbrev IsDueNow : Setting → List Entry → Role → Key → Type 0
 IsDueNow s h role key = IsDue (past s h role key) (views s h role key) (moment s h) (positions h role)
@@ -178,18 +122,10 @@ idle_of s h role key shut working = let free = ap (is_pass_of role key) (shut wo
 -- a role that runs and has something to do can begin, where it is due and no pass is open
 fits : (s : Setting) (h : List Entry) (role : Role) (key : Key) → runs s h role ≡ true → is_known key (writes s h) ≡ true → ((n : ℕ) → open_pass s h n ≡ None)
     → IsBusy s h role key → IsDueNow s h role key → Fits s h role key
-fits s h role key running known shut busy due =
-    let left = room s h 1 in
-    let none : own_above (past s h role key).own (positions h role) ≡ None =
-    none_above (own_above (past s h role key).own (positions h role)) (past s h role key).own (positions h role) refl (due.certificates, due.requests, due.secrets) in
-    record {
-      possible = record {
-        answer = left.0;
-        answers = inr (running, inr (idle_of s h role key shut, subst (AnswersOwn s h role key left.0) (sym none) (inr (due.other, inr ((work s h role key busy, known), left.1)))));
-        accepted = left.2;
-      };
-      worth = inl busy;
-    }
+fits s h role key running known shut busy due = record {
+  may = record { running = running; idle = idle_of s h role key shut; due = due; work = work s h role key busy; known = known };
+  worth = inl busy;
+}
 
 -- ---- a role that is told of all is due where it has something to do
 
@@ -213,26 +149,36 @@ not_behind : (role : Role) (ws : List Write) (obstacle : Obstacle) (at : Positio
 not_behind role ws Failure at low known late = late
 not_behind role ws (Newer kind version) at low known late = let up = known kind in absurd (omega (arith, low, up, late))
 
-not_alike : (role : Role) (ws : List Write) (before : Views) (since : ℤ) (ending : Ending) (seen : Views) (now : ℤ) (at : Positions) (by : Desk) → IsFairEnding role ws before since ending
+not_alike : (role : Role) (rules : Rules) (ws : List Write) (before : Views) (since : ℤ) (ending : Ending) (seen : Views) (now : ℤ) (at : Positions) (by : Desk) → by.rules ≡ rules → IsFairEnding role rules ws before since ending
     → ((kind : Kind) → newest_known role kind ws ≤ position_of kind at) → (act role seen now by ≡ Nothing → ⊥) → before ≡ seen → EndsAlike ending since now at → ⊥
-not_alike role ws before since endings.Open seen now at by fair known busy same alike = alike
-not_alike role ws before since endings.Nothing seen now at by fair known busy same alike =
-    busy (subst (λ (v : Views). act role v now by ≡ Nothing) same (subst (λ (m : ℤ). act role before m by ≡ Nothing) alike (fair by)))
-not_alike role ws before since endings.Wrote seen now at by fair known busy same alike = alike
-not_alike role ws before since (endings.Refused obstacle) seen now at by fair known busy same alike = not_behind role ws obstacle at fair known alike
+not_alike role rules ws before since endings.Open seen now at by told fair known busy same alike = alike
+not_alike role rules ws before since endings.Nothing seen now at by told fair known busy same alike =
+    busy (subst (λ (v : Views). act role v now by ≡ Nothing) same (subst (λ (m : ℤ). act role before m by ≡ Nothing) alike (fair by told)))
+not_alike role rules ws before since endings.Wrote seen now at by told fair known busy same alike = alike
+not_alike role rules ws before since (endings.Refused obstacle) seen now at by told fair known busy same alike = not_behind role ws obstacle at fair known alike
 
 -- a pass that has something to do would not be the last one again
-not_same : (role : Role) (ws : List Write) (last : Option LastPass) (seen : Views) (now : ℤ) (at : Positions) (by : Desk) → IsFairLast role ws last
+not_same : (role : Role) (rules : Rules) (ws : List Write) (last : Option LastPass) (seen : Views) (now : ℤ) (at : Positions) (by : Desk) → by.rules ≡ rules → IsFairLast role rules ws last
     → ((kind : Kind) → newest_known role kind ws ≤ position_of kind at) → (act role seen now by ≡ Nothing → ⊥) → IsSame last seen now at → ⊥
-not_same role ws None seen now at by fair known busy same = same
-not_same role ws (Some l) seen now at by fair known busy same = not_alike role ws l.seen l.since l.ending seen now at by fair known busy same.0 same.1
+not_same role rules ws None seen now at by told fair known busy same = same
+not_same role rules ws (Some l) seen now at by told fair known busy same = not_alike role rules ws l.seen l.since l.ending seen now at by told fair known busy same.0 same.1
+
+under : (own at : ℕ) (rest : Option ℕ) (b : Bool) → nat_lt at own ≡ b → own ≤ at → rest ≡ None → (if b then Some own else rest) ≡ None
+under own at rest true e low none = absurd (grind (arith, nat_tests))
+under own at rest false e low none = none
+
+none_above : (own at : Positions) → own.certificates ≤ at.certificates → own.requests ≤ at.requests → own.secrets ≤ at.secrets → own_above own at ≡ None
+unfolding own_above
+none_above own at one two three =
+    under own.certificates at.certificates _ (nat_lt at.certificates own.certificates) refl one
+    (under own.requests at.requests _ (nat_lt at.requests own.requests) refl two (under own.secrets at.secrets None (nat_lt at.secrets own.secrets) refl three refl))
 
 due_told : (s : Setting) (h : List Entry) (role : Role) (key : Key) → IsRun s h → IsToldOfAll s h role → IsBusy s h role key → IsDueNow s h role key
 due_told s h role key run all busy = record {
-  certificates = own_told s h role key run all kinds.Certificate;
-  requests = own_told s h role key run all kinds.CertificateRequest;
-  secrets = own_told s h role key run all kinds.Secret;
-  other = not_same role (writes s h) (past s h role key).last (views s h role key) (moment s h) (positions h role) (desk s h role (views s h role key))
+  told =
+      none_above (past s h role key).own (positions h role) (own_told s h role key run all kinds.Certificate) (own_told s h role key run all kinds.CertificateRequest)
+      (own_told s h role key run all kinds.Secret);
+  other = not_same role s.rules (writes s h) (past s h role key).last (views s h role key) (moment s h) (positions h role) (desk s h role (views s h role key)) refl
       (last_fair s h role key run.legal run.caused) (known_told s h role all) busy;
 }
 
@@ -300,16 +246,10 @@ ready_at : (s : Setting) (h : List Entry) (i : ℕ) → i < length s.script → 
 ready_at s h i left rest (inl found) = subst (IsReady s h) (sym found.2) (ready_step s h found.0 rest)
 ready_at s h i left rest (inr beyond) = absurd (omega (arith, left, beyond.0))
 
-script_goes : (s : Setting) (h : List Entry) → scripted h < length s.script → IsAtRest s h → IsPossible s h moves.Script
+script_goes : (s : Setting) (h : List Entry) → scripted h < length s.script → IsAtRest s h → IsStepReady s h
 script_goes s h left rest =
     let i : ℕ = scripted h + 1 - 1 in
-    let within : i < length s.script = omega (arith, left) in
-    let more = room s h (entries_of (next_effect s h)) in
-    record {
-      answer = more.0;
-      answers = inr (left, inr (ready_at s h i within rest (slice_get_cases s.script i).1, more.1));
-      accepted = more.2;
-    }
+    record { left = left; ready = ready_at s h i (omega (arith, left)) rest (slice_get_cases s.script i).1 }
 
 all_made : (left : Bool) (s : Setting) (h : List Entry) → nat_lt (scripted h) (length s.script) ≡ left → IsRun s h → HasNoScript s h → IsAtRest s h → scripted h ≡ length s.script
 all_made true s h e run none rest =
@@ -319,9 +259,9 @@ all_made false s h e run none rest = let low = scripted_low s h run.follows in g
 
 -- where nothing is owed and no step, no pass, no delivery and no begin can go on, all is finished
 pub nothing_left : (s : Setting) (h : List Entry) → IsRun s h → owed s h ≡ None → HasNoScript s h → HasNoPass s h → HasNoDelivery s h → ((role : Role) (key : Key) → Fits s h role key → ⊥)
-    → ((n : ℕ) (p : OpenPass) → open_pass s h n ≡ Some p → IsGoing s h n) → IsFinished s h
-nothing_left s h run settled no_script no_pass no_delivery no_begin going =
-    let rest = at_rest s h run (closed s h no_pass going) no_delivery no_begin in
+    → IsFinished s h
+nothing_left s h run settled no_script no_pass no_delivery no_begin =
+    let rest = at_rest s h run (closed s h no_pass) no_delivery no_begin in
     record {
       all_steps = all_made (nat_lt (scripted h) (length s.script)) s h refl run no_script rest;
       all_effects = settled;

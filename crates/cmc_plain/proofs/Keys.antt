@@ -1,5 +1,5 @@
 -- A search over the keys that accepted writes named, in their order.
-use Rattle.std.proofs.Common.{◌≡◌, ◌⊎◌, ℕ, ◌+◌, ◌<◌, List, [], ◌∷◌, ◌++◌, take, length, Option, Some, None, Bool, true, false, cond, refl, sym, ap, subst, ◌∙◌, Less, Equal}
+use Rattle.std.proofs.Common.{◌≡◌, List, [], ◌∷◌, ◌++◌, Some, Bool, true, false, cond, refl, sym, ap, subst, ◌∙◌, Less}
 use Rattle.std.proofs.lemmas.Bool.Decides.{same_from_decides}
 use Rattle.std.proofs.lemmas.List.Elements.{All-head, All-tail}
 use Rattle.std.proofs.lemmas.Map.Keys.{sorted_head, sorted_tail}
@@ -24,8 +24,7 @@ use Rattle.cmc_held.proofs.Numbered.{list_any-reverse}
 use Rattle.cmc_model.proofs.Keys.{key_cmp-total, key_cmp-IsAntisymmetric}
 use Rattle.cmc_world.proofs.Rest.{key_eq-Decides}
 use Rattle.cmc_plain.specs.Plain.{Fits}
-use Rattle.cmc_plain.specs.Searches.{FitsSome, FindsKey}
-use Rattle.cmc_plain.proofs.Beginning.{begins_by}
+use Rattle.cmc_plain.specs.Searches.{FindsKey}
 
 -- ---- tests on keys
 
@@ -85,7 +84,7 @@ pub all_keys_left : (s : Setting) (h : List Entry) (role : Role) (keys : BTreeSe
 all_keys_left s h role keys ordered found each = record {
   ordered = ordered;
   known = all_known (λ k. is_known k (writes s h) ≡ true) keys.keys keys.keys (λ k has. sym (each k) ∙ has) found;
-  left = λ k f. each k ∙ (begins_by s h role k f.possible).queued.1;
+  left = λ k f. each k ∙ f.may.known;
 }
 
 pub first_known : (s : Setting) (h : List Entry) (role : Role) (key : Key) (rest : List Key) → KeysLeft s h role (key ∷ rest) → is_known key (writes s h) ≡ true
@@ -117,7 +116,3 @@ key_found s h role key rest fits l = (fits, below) where
       let none : (is_eq (key_cmp k key) || list_any (is_at (key_cmp k)) rest) ≡ false =
       ap (λ r. is_eq r || list_any (is_at (key_cmp k)) rest) low ∙ none_at k key rest low (sorted_head key_cmp key rest l.ordered) in
       absurd (cc (some, none))
-
--- and where none is left, none does
-pub no_key_left : (s : Setting) (h : List Entry) (role : Role) → KeysLeft s h role [] → FindsKey s h role None
-no_key_left s h role l some = let any = l.left some.0 some.1 in absurd (cc any)

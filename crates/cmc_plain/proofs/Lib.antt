@@ -5,12 +5,13 @@ pub mod Determined
 pub mod OneKind
 pub mod Newest
 pub mod Newer
+pub mod ToldKinds
 pub mod Remembering
 pub mod Finishing
+pub mod Making
 pub mod Starting
 pub mod Switches
 pub mod Going
-pub mod OneAnswer
 pub mod Beginning
 pub mod Ordering
 pub mod Passing

@@ -18,6 +18,7 @@ use Rattle.cmc_objects.specs.Objects.{key_of, name_of, version_of}
 use Rattle.cmc_model.specs.declared.write.Write.{Write}
 use Rattle.cmc_model.specs.Objects.{Objects, object_at}
 use Rattle.cmc_model.specs.Stored.{updated, with_status}
+use Rattle.cmc_model.specs.Admission.{is_taken}
 use Rattle.cmc_model.specs.Replies.{State, IsReply, IsServed, IsCreated, IsUpdated, IsRestated, IsDeleted, IsGot, IsChange, key_of_call}
 use Rattle.cmc_model.specs.Histories.{Setting, state, objects}
 use Rattle.cmc_model.specs.Writes.{writes, kind_eq, last_of_kind, last_under}
@@ -114,9 +115,9 @@ IsLowObject n (Some old) = version_of old ≤ n
 replied : (n : ℕ) (reply right : Reply) → IsLowReply n right → reply ≡ right → IsLowReply n reply
 replied n reply right low is = subst (IsLowReply n) (sym is) low
 
-low_created : (n m : ℕ) (object : Object) (old : Option Object) (reply : Reply) → IsLowObject n old → IsCreated m object old reply → IsLowReply n reply
-low_created n m object (Some old) reply low right = replied n reply (AlreadyExists (version_of old)) low right
-low_created n m object None reply low right = replied n reply (Ok (m + 1) (name_of object)) tt right
+low_created : (n m : ℕ) (taken : Bool) (object : Object) (old : Option Object) (reply : Reply) → IsLowObject n old → IsCreated m taken object old reply → IsLowReply n reply
+low_created n m taken object (Some old) reply low right = replied n reply (AlreadyExists (version_of old)) low right
+low_created n m taken object None reply low right = replied n reply (Ok (m + 1) (name_of object)) tt right
 
 low_change : (n m : ℕ) (name : List ℕ) (old new : Object) (reply : Reply) → IsChange m name old new reply → IsLowReply n reply
 low_change n m name old new reply (inl same) = replied n reply (Unchanged (version_of old)) tt same.1
@@ -127,9 +128,9 @@ low_at : (at : Bool) (n m named : ℕ) (name : List ℕ) (old new : Object) (rep
 low_at true n m named name old new reply low right = low_change n m name old new reply right
 low_at false n m named name old new reply low right = replied n reply (Conflict named (version_of old)) low right
 
-low_updated : (n m : ℕ) (object : Object) (named : ℕ) (old : Option Object) (reply : Reply) → IsLowObject n old → IsUpdated m object named old reply → IsLowReply n reply
-low_updated n m object named None reply low right = replied n reply (NotFound m) tt right
-low_updated n m object named (Some old) reply low right = low_at (named == version_of old) n m named (name_of object) old (updated old object) reply low right
+low_updated : (n m : ℕ) (taken : Bool) (object : Object) (named : ℕ) (old : Option Object) (reply : Reply) → IsLowObject n old → IsUpdated m taken object named old reply → IsLowReply n reply
+low_updated n m taken object named None reply low right = replied n reply (NotFound m) tt right
+low_updated n m taken object named (Some old) reply low right = low_at (named == version_of old) n m named (name_of object) old (updated old object) reply low right
 
 low_restated : (n m : ℕ) (object : Object) (named : ℕ) (old : Option Object) (reply : Reply) → IsLowObject n old → IsRestated m object named old reply → IsLowReply n reply
 low_restated n m object named None reply low right = replied n reply (NotFound m) tt right
@@ -151,8 +152,8 @@ low_got n m None reply low right = replied n reply (NotFound m) tt right
 low_got n m (Some old) reply low right = replied n reply (Found old) low right
 
 low_served : (n m : ℕ) (stored : Objects) (call : Call) (reply : Reply) → IsLowObject n (object_at stored (key_of_call call)) → IsServed m stored call reply → IsLowReply n reply
-low_served n m stored (Create object) reply low right = low_created n m object (object_at stored (key_of object)) reply low right
-low_served n m stored (Update object named) reply low right = low_updated n m object named (object_at stored (key_of object)) reply low right
+low_served n m stored (Create object) reply low right = low_created n m (is_taken stored object) object (object_at stored (key_of object)) reply low right
+low_served n m stored (Update object named) reply low right = low_updated n m (is_taken stored object) object named (object_at stored (key_of object)) reply low right
 low_served n m stored (UpdateStatus object named) reply low right = low_restated n m object named (object_at stored (key_of object)) reply low right
 low_served n m stored (Delete key named) reply low right = low_deleted n m named key.name (object_at stored key) reply low right
 low_served n m stored (Get key) reply low right = low_got n m (object_at stored key) reply low right

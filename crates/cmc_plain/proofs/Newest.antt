@@ -1,5 +1,5 @@
 -- A role that was told of all writes of the kinds that it looks at sees what there is to see.
-use Rattle.std.proofs.Common.{◌≡◌, ℕ, ◌≤◌, List, [], Option, Some, None, Bool, true, false, cond, refl, sym, ap, ◌∙◌, arith, filter_map, option_and_then}
+use Rattle.std.proofs.Common.{◌≡◌, ℕ, ◌≤◌, List, [], Option, Some, None, Bool, true, false, cond, refl, sym, ap, ◌∙◌, filter_map, option_and_then}
 use Rattle.std.proofs.lemmas.Bool.{or_left, or_right}
 use Rattle.std.specs.Prelude.{if◌then◌else◌}
 use Rattle.std.specs.FinMap as map
@@ -15,15 +15,15 @@ use Rattle.cmc_objects.specs.declared.entry.Entry.{Entry}
 use Rattle.cmc_objects.specs.Objects.{kind_of}
 use Rattle.cmc_model.specs.declared.write.Write.{Write}
 use Rattle.cmc_model.specs.Objects.{Objects, object_at}
-use Rattle.cmc_model.specs.Histories.{Setting, objects, accepted}
+use Rattle.cmc_model.specs.Histories.{Setting, objects}
 use Rattle.cmc_model.specs.Writes.{writes, contents, kind_eq, last_of_kind, objects_of}
 use Rattle.cmc_rules.specs.Positions.{works_on_requests, looks_at_secret, looks_at_next, looks_at_requests, has_informer, position}
 use Rattle.cmc_rules.specs.Viewing.{certificate_in, request_in, secret_in, next_in, owned_in, certificate_at, request_at, target_at, next_of, requests_of, of_certificate, views_of, views_in, views, present_views}
 use Rattle.cmc_rules.specs.Legality.{IsLegal}
 use Rattle.cmc_model.proofs.Versions.{standing}
 use Rattle.cmc_rules.proofs.Versions.{version_keyed}
-use Rattle.cmc_model.proofs.Writes.{writes_count, writes_leave}
-use Rattle.cmc_plain.proofs.OneKind.{last_low, of_kind-oldest, object_at-of_kind, entries-of_kind, filter_map-where}
+use Rattle.cmc_model.proofs.Writes.{writes_leave}
+use Rattle.cmc_plain.proofs.OneKind.{of_kind-oldest, object_at-of_kind, entries-of_kind, filter_map-where}
 
 -- ---- what only objects of one kind have
 
@@ -132,9 +132,3 @@ views_newest s h role key legal told =
     ap (λ (c : Option Certificate). if looks_at_requests role then of_certificate (requests_of requests) c else []) certificate
     ∙ on_yes (looks_at_requests role) _ _ _ (λ b. each_same (requests_of requests) (requests_of present) stands (λ c. seen_all s h kinds.CertificateRequest _ (owned_in c) legal (owned_of_requests c) (told kinds.CertificateRequest (or_right _ _ b)))) in
     λ i. record { certificate = certificate i; secret = secret i; next = next i; requests = owned i; request = request i }
-
--- the same where no write is above its positions
-pub views_newest_told : (s : Setting) (h : List Entry) (role : Role) (key : Key) → IsLegal s h → ((kind : Kind) → has_informer role kind ≡ true → position h role kind ≡ accepted s h)
-    → views s h role key ≡ present_views s h role key
-views_newest_told s h role key legal told =
-    views_newest s h role key legal (λ kind informed. omega (arith, told kind informed, last_low kind (writes s h), writes_count s h))

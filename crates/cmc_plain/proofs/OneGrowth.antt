@@ -1,5 +1,5 @@
--- What a move adds to a history is one, where both histories that it leaves are those of runs.
-use Rattle.std.proofs.Common.{◌≡◌, ◌∙◌, ℕ, ◌+◌, List, ◌∷◌, Option, Some, None, MatchOption, inl, inr, sym, ap, subst}
+-- What a move adds to a history is one.
+use Rattle.std.proofs.Common.{◌≡◌, ◌∙◌, ℕ, ◌+◌, List, ◌∷◌, Option, Some, None, inl, inr, sym, ap, subst}
 use Rattle.cmc_objects.specs.declared.call.Call.{Call}
 use Rattle.cmc_objects.specs.declared.call.Reply.{Reply}
 use Rattle.cmc_objects.specs.declared.entry.Who.{Who}
@@ -14,44 +14,29 @@ use Rattle.cmc_pass.specs.declared.pass.Act.TheVariants.{Nothing, Call as Calls,
 use Rattle.cmc_rules.specs.declared.progress.Stage.{Stage}
 use Rattle.cmc_rules.specs.declared.progress.Stage.TheVariants.{Fresh, Wrote, Refused, Barred}
 use Rattle.cmc_rules.specs.declared.progress.OpenPass.{OpenPass}
-use Rattle.cmc_model.specs.Replies.{IsReply}
 use Rattle.cmc_model.specs.Histories.{Setting, state}
 use Rattle.cmc_rules.specs.Passes.{open_pass}
-use Rattle.cmc_rules.specs.Legality.{IsLegal}
-use Rattle.cmc_rules.specs.Causes.{act_of, IsFirstCall, IsNextCall, MayCall, EndsBy, MayEnd, IsCaused}
+use Rattle.cmc_rules.specs.Causes.{act_of, IsFirstCall, IsNextCall, MayCall, EndsBy, MayEnd}
 use Rattle.cmc_rules.specs.Scripting.{scripted}
-use Rattle.cmc_rules.specs.Runs.{IsRun}
 use Rattle.cmc_world.specs.declared.moves.Move.{Move}
 use Rattle.cmc_world.specs.declared.moves.Move.TheVariants as moves
-use Rattle.cmc_world.specs.Answers.{IsEffect, next_effect, IsOfPass, Grows}
+use Rattle.cmc_world.specs.Answers.{IsCalled, IsEffect, IsOfPass, GrowsBy, next_effect, Grows}
 use Rattle.cmc_plain.proofs.OneReply.{one_reply}
-
--- ---- the reply to a call
-
-right : (s : Setting) (h : List Entry) (who : Who) (call : Call) (reply : Reply) → IsRun s (Called who call reply ∷ h) → IsReply s.faults (state s h) call reply
-unfolding IsLegal
-right s h who call reply run = run.legal.0.0
-
-answered : (s : Setting) (h : List Entry) (who : Who) (call : Call) (r q : Reply) → IsRun s (Called who call r ∷ h) → IsRun s (Called who call q ∷ h) → r ≡ q
-answered s h who call r q one other = one_reply s.faults (state s h) call r q (right s h who call r one) (right s h who call q other)
 
 -- ---- a step of the script
 
-one_effect : (s : Setting) (h : List Entry) (effect : Effect) (e d : Entry) → IsEffect effect e → IsEffect effect d → IsRun s (e ∷ h) → IsRun s (d ∷ h) → e ≡ d
-one_effect s h (effects.Call call) e d (r, e_is) (q, d_is) one other =
-    let reply = answered s h User call r q (subst (λ (x : Entry). IsRun s (x ∷ h)) e_is one) (subst (λ (x : Entry). IsRun s (x ∷ h)) d_is other) in
-    e_is ∙ ap (λ (x : Reply). Called User call x) reply ∙ sym d_is
-one_effect s h (effects.Tick now) e d x y one other = x ∙ sym y
-one_effect s h (effects.Stop role) e d x y one other = x ∙ sym y
-one_effect s h (effects.Start role at) e d x y one other = x ∙ sym y
+one_called : (s : Setting) (h : List Entry) (who : Who) (call : Call) (e d : Entry) → IsCalled s h who call e → IsCalled s h who call d → e ≡ d
+one_called s h who call e d (r, x, e_is) (q, y, d_is) = e_is ∙ ap (λ (reply : Reply). Called who call reply) (one_reply s.faults (state s h) call r q x y) ∙ sym d_is
 
-one_script : (s : Setting) (o : Option Effect) (h g k : List Entry)
-    → MatchOption o (g ≡ h) (λ effect. (e : Entry) × IsEffect effect e × (g ≡ e ∷ h)) → IsRun s g
-    → MatchOption o (k ≡ h) (λ effect. (e : Entry) × IsEffect effect e × (k ≡ e ∷ h)) → IsRun s k
-    → g ≡ k
-one_script s None h g k x one y other = x ∙ sym y
-one_script s (Some effect) h g k (e, x, g_is) one (d, y, k_is) other =
-    g_is ∙ ap (λ (z : Entry). z ∷ h) (one_effect s h effect e d x y (subst (IsRun s) g_is one) (subst (IsRun s) k_is other)) ∙ sym k_is
+one_effect : (s : Setting) (h : List Entry) (effect : Effect) (e d : Entry) → IsEffect s h effect e → IsEffect s h effect d → e ≡ d
+one_effect s h (effects.Call call) e d x y = one_called s h User call e d x y
+one_effect s h (effects.Tick now) e d x y = x ∙ sym y
+one_effect s h (effects.Stop role) e d x y = x ∙ sym y
+one_effect s h (effects.Start role at) e d x y = x ∙ sym y
+
+one_script : (s : Setting) (h : List Entry) (o : Option Effect) (g k : List Entry) → GrowsBy s h o g → GrowsBy s h o k → g ≡ k
+one_script s h None g k x y = x ∙ sym y
+one_script s h (Some effect) g k (e, x, g_is) (d, y, k_is) = g_is ∙ ap (λ (z : Entry). z ∷ h) (one_effect s h effect e d x y) ∙ sym k_is
 
 -- ---- a pass that goes on
 
@@ -98,41 +83,20 @@ call_or_end : (s : Setting) (h : List Entry) (o : Option OpenPass) (call : Call)
 call_or_end s h None call cause x y = absurd x
 call_or_end s h (Some p) call cause x y = calls_on p.stage (act_of s h p) call cause x y
 
-may_call : (s : Setting) (h : List Entry) (n : ℕ) (call : Call) (reply : Reply) → IsRun s (Called (Pass n) call reply ∷ h) → MayCall s h (open_pass s h n) call
-unfolding IsCaused
-may_call s h n call reply run = run.caused.0
+calls_alike : (s : Setting) (h : List Entry) (n : ℕ) (call other : Call) (e d : Entry) → call ≡ other → IsCalled s h (Pass n) call e → IsCalled s h (Pass n) other d → e ≡ d
+calls_alike s h n call other e d same x y = one_called s h (Pass n) other e d (subst (λ (c : Call). IsCalled s h (Pass n) c e) same x) y
 
-may_end : (s : Setting) (h : List Entry) (n : ℕ) (cause : Cause) → IsRun s (End n cause ∷ h) → MayEnd s h (open_pass s h n) cause
-unfolding IsCaused
-may_end s h n cause run = run.caused.0
-
-calls_alike : (s : Setting) (h : List Entry) (n : ℕ) (call other : Call) (r q : Reply) → IsRun s (Called (Pass n) call r ∷ h) → IsRun s (Called (Pass n) other q ∷ h) → Called (Pass n) call r ≡ Called (Pass n) other q
-calls_alike s h n call other r q one two =
-    let same = one_call s h (open_pass s h n) call other (may_call s h n call r one) (may_call s h n other q two) in
-    let here = subst (λ (c : Call). IsRun s (Called (Pass n) c r ∷ h)) same one in
-    ap (λ (c : Call). Called (Pass n) c r) same ∙ ap (λ (x : Reply). Called (Pass n) other x) (answered s h (Pass n) other r q here two)
-
-one_of_pass : (s : Setting) (h : List Entry) (n : ℕ) (e d : Entry) → IsOfPass n e → IsOfPass n d → IsRun s (e ∷ h) → IsRun s (d ∷ h) → e ≡ d
-one_of_pass s h n e d (inl (call, r, e_is)) (inl (other, q, d_is)) one two =
-    e_is ∙ calls_alike s h n call other r q (subst (λ (x : Entry). IsRun s (x ∷ h)) e_is one) (subst (λ (x : Entry). IsRun s (x ∷ h)) d_is two) ∙ sym d_is
-one_of_pass s h n e d (inl (call, r, e_is)) (inr (cause, d_is)) one two =
-    absurd (call_or_end s h (open_pass s h n) call cause (may_call s h n call r (subst (λ (x : Entry). IsRun s (x ∷ h)) e_is one)) (may_end s h n cause (subst (λ (x : Entry). IsRun s (x ∷ h)) d_is two)))
-one_of_pass s h n e d (inr (cause, e_is)) (inl (call, r, d_is)) one two =
-    absurd (call_or_end s h (open_pass s h n) call cause (may_call s h n call r (subst (λ (x : Entry). IsRun s (x ∷ h)) d_is two)) (may_end s h n cause (subst (λ (x : Entry). IsRun s (x ∷ h)) e_is one)))
-one_of_pass s h n e d (inr (cause, e_is)) (inr (other, d_is)) one two =
-    let same = one_end s h (open_pass s h n) cause other (may_end s h n cause (subst (λ (x : Entry). IsRun s (x ∷ h)) e_is one)) (may_end s h n other (subst (λ (x : Entry). IsRun s (x ∷ h)) d_is two)) in
-    e_is ∙ ap (λ (x : Cause). End n x) same ∙ sym d_is
-
-one_next : (s : Setting) (h : List Entry) (n : ℕ) (g k : List Entry)
-    → (e : Entry) × IsOfPass n e × (g ≡ e ∷ h) → IsRun s g → (e : Entry) × IsOfPass n e × (k ≡ e ∷ h) → IsRun s k → g ≡ k
-one_next s h n g k (e, x, g_is) one (d, y, k_is) other =
-    g_is ∙ ap (λ (z : Entry). z ∷ h) (one_of_pass s h n e d x y (subst (IsRun s) g_is one) (subst (IsRun s) k_is other)) ∙ sym k_is
+one_of_pass : (s : Setting) (h : List Entry) (n : ℕ) (e d : Entry) → IsOfPass s h n e → IsOfPass s h n d → e ≡ d
+one_of_pass s h n e d (inl (call, may, x)) (inl (other, can, y)) = calls_alike s h n call other e d (one_call s h (open_pass s h n) call other may can) x y
+one_of_pass s h n e d (inl (call, may, x)) (inr (cause, can, y)) = absurd (call_or_end s h (open_pass s h n) call cause may can)
+one_of_pass s h n e d (inr (cause, may, x)) (inl (call, can, y)) = absurd (call_or_end s h (open_pass s h n) call cause can may)
+one_of_pass s h n e d (inr (cause, may, x)) (inr (other, can, y)) = x ∙ ap (λ (c : Cause). End n c) (one_end s h (open_pass s h n) cause other may can) ∙ sym y
 
 -- ---- all moves
 
--- of two runs that the move leaves of one history the one is the other
-pub one_growth : (s : Setting) (h : List Entry) (move : Move) (g k : List Entry) → Grows s h move g → IsRun s g → Grows s h move k → IsRun s k → g ≡ k
-one_growth s h moves.Script g k x one y other = one_script s (next_effect s h) (Script (scripted h + 1) ∷ h) g k x one y other
-one_growth s h (moves.Deliver role kind to) g k x one y other = x ∙ sym y
-one_growth s h (moves.Begin role key) g k x one y other = x ∙ sym y
-one_growth s h (moves.Next pass named) g k x one y other = one_next s h pass g k x one y other
+-- of two histories that the move leaves of one the one is the other
+pub one_growth : (s : Setting) (h : List Entry) (move : Move) (g k : List Entry) → Grows s h move g → Grows s h move k → g ≡ k
+one_growth s h moves.Script g k x y = one_script s (Script (scripted h + 1) ∷ h) (next_effect s h) g k x y
+one_growth s h (moves.Deliver role kind to) g k x y = x ∙ sym y
+one_growth s h (moves.Begin role key) g k x y = x ∙ sym y
+one_growth s h (moves.Next pass named) g k (e, x, g_is) (d, y, k_is) = g_is ∙ ap (λ (z : Entry). z ∷ h) (one_of_pass s h pass e d x y) ∙ sym k_is

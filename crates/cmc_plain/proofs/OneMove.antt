@@ -25,18 +25,18 @@ not_less a b f g = grind (arith, f, g)
 
 -- ---- passes
 
-one_number : (s : Setting) (h : List Entry) (n m a b : ℕ) → IsFirstPass s h n a → IsFirstPass s h m b → n ≡ m
-one_number s h n m a b x y = not_less n m (λ lt. y.least n lt x.going) (λ lt. x.least m lt y.going)
+one_number : (s : Setting) (h : List Entry) (n m : ℕ) → IsFirstPass s h n → IsFirstPass s h m → n ≡ m
+one_number s h n m x y = not_less n m (λ lt. y.least n lt x.stands) (λ lt. x.least m lt y.stands)
 
 one_present : (s : Setting) (h : List Entry) (a b : ℕ) (o : Option OpenPass) → IsOfPresent s h a o → IsOfPresent s h b o → a ≡ b
 one_present s h a b None x y = absurd x
 one_present s h a b (Some p) x y = x ∙ sym y
 
-one_pass : (s : Setting) (h : List Entry) (n m a b : ℕ) → IsFirstPass s h n a → IsFirstPass s h m b → Next n a ≡ Next m b
-one_pass s h n m a b x y =
-    let number = one_number s h n m a b x y in
-    let here : IsOfPresent s h b (open_pass s h n) = subst (λ (k : ℕ). IsOfPresent s h b (open_pass s h k)) (sym number) y.present in
-    ap (λ (k : ℕ). Next k a) number ∙ ap (λ (k : ℕ). Next m k) (one_present s h a b (open_pass s h n) x.present here)
+one_pass : (s : Setting) (h : List Entry) (n m a b : ℕ) → IsFirstPass s h n → IsOfPresent s h a (open_pass s h n) → IsFirstPass s h m → IsOfPresent s h b (open_pass s h m) → Next n a ≡ Next m b
+one_pass s h n m a b x present y other =
+    let number = one_number s h n m x y in
+    let here : IsOfPresent s h b (open_pass s h n) = subst (λ (k : ℕ). IsOfPresent s h b (open_pass s h k)) (sym number) other in
+    ap (λ (k : ℕ). Next k a) number ∙ ap (λ (k : ℕ). Next m k) (one_present s h a b (open_pass s h n) present here)
 
 -- ---- deliveries
 
@@ -82,15 +82,15 @@ one_chosen s h Script (Next pass named) x y = absurd (y.0 x)
 one_chosen s h Script (Deliver role kind to) x y = absurd (y.0 x)
 one_chosen s h Script (Begin role key) x y = absurd (y.0 x)
 one_chosen s h (Next pass named) Script x y = absurd (x.0 y)
-one_chosen s h (Next pass named) (Next other present) x y = one_pass s h pass other named present x.1 y.1
-one_chosen s h (Next pass named) (Deliver role kind to) x y = absurd (y.1 pass x.1.going)
-one_chosen s h (Next pass named) (Begin role key) x y = absurd (y.1 pass x.1.going)
+one_chosen s h (Next pass named) (Next other present) x y = one_pass s h pass other named present x.1 x.2 y.1 y.2
+one_chosen s h (Next pass named) (Deliver role kind to) x y = absurd (y.1 pass x.1.stands)
+one_chosen s h (Next pass named) (Begin role key) x y = absurd (y.1 pass x.1.stands)
 one_chosen s h (Deliver role kind to) Script x y = absurd (x.0 y)
-one_chosen s h (Deliver role kind to) (Next pass named) x y = absurd (x.1 pass y.1.going)
+one_chosen s h (Deliver role kind to) (Next pass named) x y = absurd (x.1 pass y.1.stands)
 one_chosen s h (Deliver role kind to) (Deliver other look up) x y = one_delivery s h role other kind look to up x.2 y.2 x.3 y.3
 one_chosen s h (Deliver role kind to) (Begin other key) x y = absurd (y.2 role kind x.2.behind)
 one_chosen s h (Begin role key) Script x y = absurd (x.0 y)
-one_chosen s h (Begin role key) (Next pass named) x y = absurd (x.1 pass y.1.going)
+one_chosen s h (Begin role key) (Next pass named) x y = absurd (x.1 pass y.1.stands)
 one_chosen s h (Begin role key) (Deliver other kind to) x y = absurd (x.2 other kind y.2.behind)
 one_chosen s h (Begin role key) (Begin other named) x y = one_begin s h role other key named x.3 y.3
 

@@ -7,25 +7,22 @@ use Rattle.cmc_meta.specs.declared.key.Key.{Key}
 use Rattle.cmc_meta.specs.declared.key.Kind.{Kind}
 use Rattle.cmc_meta.specs.declared.key.Kind.TheVariants as kinds
 use Rattle.cmc_meta.specs.Keys.{key_eq}
-use Rattle.cmc_objects.specs.declared.certificate.Certificate.{Certificate}
-use Rattle.cmc_objects.specs.declared.secret.Secret.{Secret as SecretObject}
 use Rattle.cmc_objects.specs.declared.call.Call.{Call}
 use Rattle.cmc_objects.specs.declared.call.Reply.{Reply}
-use Rattle.cmc_objects.specs.declared.call.Reply.TheVariants.{Ok, Unchanged, Found, Conflict, NotFound, AlreadyExists, Invalid, Unavailable}
+use Rattle.cmc_objects.specs.declared.call.Reply.TheVariants.{Found, Conflict, NotFound, AlreadyExists}
+use Rattle.cmc_objects.specs.declared.orders.Rules.{Rules}
 use Rattle.cmc_objects.specs.declared.role.Role.{Role}
-use Rattle.cmc_objects.specs.declared.role.Role.TheVariants.{Trigger, KeyManager, RequestManager, Approver, Issuer, Issuing, Readiness, Revision}
 use Rattle.cmc_objects.specs.declared.entry.Cause.{Cause}
 use Rattle.cmc_objects.specs.declared.entry.Positions.{Positions}
 use Rattle.cmc_objects.specs.declared.entry.Who.{Who}
 use Rattle.cmc_objects.specs.declared.entry.Who.TheVariants.{User, Pass}
 use Rattle.cmc_objects.specs.declared.entry.Entry.{Entry}
-use Rattle.cmc_objects.specs.declared.entry.Entry.TheVariants.{Script, Call as Called, Deliver, List as Listed, Begin, Ask, Made, Signed, Answered, Judged, End, Stop, Start, Tick}
+use Rattle.cmc_objects.specs.declared.entry.Entry.TheVariants.{Call as Called, Begin, End, Stop, Start}
 use Rattle.cmc_objects.specs.Roles.{role_rank}
 use Rattle.cmc_model.specs.declared.write.Write.{Write}
 use Rattle.cmc_pass.specs.declared.pass.Views.{Views}
 use Rattle.cmc_pass.specs.declared.pass.Desk.{Desk}
-use Rattle.cmc_pass.specs.declared.pass.Act.{Act}
-use Rattle.cmc_pass.specs.declared.pass.Act.TheVariants.{Nothing, Call as Calls, Ask as Asks, Issue}
+use Rattle.cmc_pass.specs.declared.pass.Act.TheVariants.{Nothing}
 use Rattle.cmc_rules.specs.declared.progress.Obstacle.{Obstacle}
 use Rattle.cmc_rules.specs.declared.progress.Obstacle.TheVariants.{Failure, Newer}
 use Rattle.cmc_rules.specs.declared.progress.OpenPass.{OpenPass}
@@ -41,62 +38,24 @@ use Rattle.cmc_model.specs.Writes.{writes, write_of, last_of_kind, last_under}
 use Rattle.cmc_rules.specs.Positions.{has_informer, position_of}
 use Rattle.cmc_rules.specs.Viewing.{views}
 use Rattle.cmc_rules.specs.Desks.{desk}
-use Rattle.cmc_rules.specs.Facts.{trigger_reason}
-use Rattle.cmc_rules.specs.Triggering.{is_issuing, is_backing_off, issue_call, for_reason, frame_of, for_certificate, for_option, trigger}
 use Rattle.cmc_rules.specs.Acts.{act}
-use Rattle.cmc_rules.specs.Passes.{open_pass, called, new_pass, stage_by, stage_after, with_stage, past, past_called, no_past, with_begin, with_own, with_position, with_ending, ending_at, ending_of, is_pass_of}
+use Rattle.cmc_rules.specs.Passes.{open_pass, called, new_pass, stage_by, stage_after, with_stage, is_pass_of, IsWorking}
+use Rattle.cmc_rules.specs.Memory.{past, past_called, no_past, with_begin, with_own, with_position, with_ending, ending_at, ending_of}
 use Rattle.cmc_rules.specs.Legality.{IsLegal}
-use Rattle.cmc_rules.specs.Causes.{act_of, IsCaused, IsFirstCall, IsNextCall, MayCall, EndsBy, MayEnd}
+use Rattle.cmc_rules.specs.Causes.{act_of, IsCaused, IsNextCall, MayCall, EndsBy, MayEnd}
 use Rattle.cmc_model.proofs.Writes.{writes_count}
-use Rattle.cmc_world.proofs.Carrying.{over_call, over_begin, over_end, over_stop}
-use Rattle.cmc_world.proofs.PlainActs.{act_desk}
+use Rattle.cmc_rules.proofs.Carrying.{over_call, over_begin, over_end, over_stop}
+use Rattle.cmc_world.proofs.Sounds.{any_desk}
+use Rattle.cmc_world.proofs.Rights.{is_next}
+use Rattle.cmc_plain.proofs.ToldKinds.{writes_known}
 use Rattle.cmc_world.proofs.Rest.{same_key, key_eq-refl}
 use Rattle.cmc_world.proofs.Standings.{same_role}
 use Rattle.cmc_plain.proofs.Newer.{last_here, under_low, newest_known, known_more, known_grown, known_is, IsLowReply, low_reply}
 
 -- ---- which kinds roles write
 
--- a call is on an object of a kind that the role looks at
-abbrev pub WritesKnown : Role → Act → Type 0
-WritesKnown role Nothing = Unit {0}
-WritesKnown role (Calls call) = has_informer role (key_of_call call).kind ≡ true
-WritesKnown role (Asks order) = Unit {0}
-WritesKnown role (Issue plan) = Unit {0}
-
-known_unless : (b : Bool) (does : Act) → WritesKnown Trigger does → WritesKnown Trigger (if b then Nothing else does)
-known_unless true does known = tt
-known_unless false does known = known
-
-known_option : (now : ℤ) (secret : Option SecretObject) (c : Option Certificate) → WritesKnown Trigger (for_option now secret c)
-unfolding for_certificate issue_call
-known_option now secret None = tt
-known_option now secret (Some c) =
-    known_unless (is_issuing c) (for_reason now c (trigger_reason (frame_of now c) secret))
-    (elim (trigger_reason (frame_of now c) secret) as (λ r. WritesKnown Trigger (for_reason now c r)) [
-      | None ↦ tt
-      | Some given ↦ known_unless (is_backing_off c.status now) (issue_call now given c) refl
-    ])
-
--- it is so of each role: the trigger writes the status of Certificates, the others write nothing yet
-pub writes_known : (role : Role) (seen : Views) (now : ℤ) (desk : Desk) → WritesKnown role (act role seen now desk)
-unfolding act trigger
-writes_known Trigger seen now desk = known_option now seen.secret seen.certificate
-writes_known other seen now desk = tt
-
-first_known : (role : Role) (does : Act) (call : Call) → WritesKnown role does → IsFirstCall does call → has_informer role (key_of_call call).kind ≡ true
-first_known role Nothing call known first = absurd first
-first_known role (Calls one) call known first = ap (λ (c : Call). has_informer role (key_of_call c).kind) first ∙ known
-first_known role (Asks order) call known first = absurd first
-first_known role (Issue plan) call known first = absurd first
-
-next_known : (role : Role) (stage : Stage) (does : Act) (call : Call) → WritesKnown role does → IsNextCall stage does call → has_informer role (key_of_call call).kind ≡ true
-next_known role Fresh does call known next = first_known role does call known next
-next_known role Wrote does call known next = absurd next
-next_known role (Refused entry obstacle) does call known next = absurd next
-next_known role Barred does call known next = absurd next
-
 pass_known : (s : Setting) (h : List Entry) (p : OpenPass) (call : Call) → IsNextCall p.stage (act_of s h p) call → has_informer p.role (key_of_call call).kind ≡ true
-pass_known s h p call next = next_known p.role p.stage (act_of s h p) call (writes_known p.role p.seen p.since (desk s h p.role p.seen)) next
+pass_known s h p call next = writes_known p.role p.seen p.since (desk s h p.role p.seen) call (is_next p.stage (act_of s h p) call next)
 
 -- a call of a pass of the role is on a kind that it looks at
 call_known : (s : Setting) (h : List Entry) (role : Role) (key : Key) (call : Call) (p : Option OpenPass) → is_pass_of role key p ≡ true → MayCall s h p call
@@ -297,6 +256,13 @@ begun_itself false seen since old is = absurd (cc)
 itself : (role : Role) (key : Key) → (role_eq role role && key_eq key key) ≡ true
 itself role key = and_from _ _ ((Decides-eqb (role_rank role) (role_rank role)).1 refl) (key_eq-refl key)
 
+not_so : (b : Bool) → (b ≡ true → ⊥) → b ≡ false
+not_so true other = absurd (other refl)
+not_so false other = refl
+
+no_pass_of : (s : Setting) (h : List Entry) (role : Role) (key : Key) → (IsWorking s h role key → ⊥) → (n : ℕ) → is_pass_of role key (open_pass s h n) ≡ false
+no_pass_of s h role key free n = not_so (is_pass_of role key (open_pass s h n)) (λ busy. free (n, busy))
+
 remembered_begun : (s : Setting) (h : List Entry) (n pass : ℕ) (role : Role) (key : Key) (at : Positions) (now : ℤ) → is_pass_of role key (open_pass s h n) ≡ false
     → IfSome (open_pass s h n) (RemembersPass s h)
     → IfSome (if n == pass then Some (new_pass role key (views s h role key) now) else open_pass s h n) (RemembersPass s (Begin pass role key at now ∷ h))
@@ -315,7 +281,7 @@ remembered s [] n legal = tt
 remembered s (Called who call reply ∷ h) n legal =
     remembered_called s h who call reply (called n who (stage_after s h call reply) (open_pass s h n))
     (over_call (RemembersPass s h) n who (stage_after s h call reply) (open_pass s h n) (λ p same. same) (remembered s h n legal.1))
-remembered s (Begin pass role key at now ∷ h) n legal = remembered_begun s h n pass role key at now (legal.0.free n) (remembered s h n legal.1)
+remembered s (Begin pass role key at now ∷ h) n legal = remembered_begun s h n pass role key at now (no_pass_of s h role key legal.0.free n) (remembered s h n legal.1)
 remembered s (End pass cause ∷ h) n legal =
     over_end (RemembersPass s (End pass cause ∷ h)) (n == pass) (open_pass s h n)
     (carried (RemembersPass s h) (RemembersPass s (End pass cause ∷ h)) (open_pass s h n)
@@ -330,86 +296,86 @@ remembered s (other ∷ h) n legal = remembered s h n legal.1
 -- ---- how the last pass ended
 
 -- a pass that ended with nothing had nothing to do, and one that was refused was so by a write that the role can be told of
-abbrev pub IsFairEnding : Role → List Write → Views → ℤ → Ending → Type 0
-IsFairEnding role ws seen since endings.Open = Unit {0}
-IsFairEnding role ws seen since endings.Nothing = (d : Desk) → act role seen since d ≡ Nothing
-IsFairEnding role ws seen since endings.Wrote = Unit {0}
-IsFairEnding role ws seen since (endings.Refused obstacle) = IsLowObstacle role ws obstacle
+abbrev pub IsFairEnding : Role → Rules → List Write → Views → ℤ → Ending → Type 0
+IsFairEnding role rules ws seen since endings.Open = Unit {0}
+IsFairEnding role rules ws seen since endings.Nothing = (d : Desk) → d.rules ≡ rules → act role seen since d ≡ Nothing
+IsFairEnding role rules ws seen since endings.Wrote = Unit {0}
+IsFairEnding role rules ws seen since (endings.Refused obstacle) = IsLowObstacle role ws obstacle
 
-abbrev pub IsFairPass : Role → List Write → LastPass → Type 0
-IsFairPass role ws l = IsFairEnding role ws l.seen l.since l.ending
+abbrev pub IsFairPass : Role → Rules → List Write → LastPass → Type 0
+IsFairPass role rules ws l = IsFairEnding role rules ws l.seen l.since l.ending
 
-abbrev pub IsFairLast : Role → List Write → Option LastPass → Type 0
-IsFairLast role ws last = IfSome last (IsFairPass role ws)
+abbrev pub IsFairLast : Role → Rules → List Write → Option LastPass → Type 0
+IsFairLast role rules ws last = IfSome last (IsFairPass role rules ws)
 
-grown_ending : (b : Bool) (role : Role) (w : Write) (ws : List Write) (seen : Views) (since : ℤ) (ending : Ending) → IsFairEnding role ws seen since ending
-    → IsFairEnding role (if b then w ∷ ws else ws) seen since ending
-grown_ending b role w ws seen since endings.Open fair = tt
-grown_ending b role w ws seen since endings.Nothing fair = fair
-grown_ending b role w ws seen since endings.Wrote fair = tt
-grown_ending b role w ws seen since (endings.Refused obstacle) fair = grown_obstacle b role w ws obstacle fair
+grown_ending : (b : Bool) (role : Role) (rules : Rules) (w : Write) (ws : List Write) (seen : Views) (since : ℤ) (ending : Ending) → IsFairEnding role rules ws seen since ending
+    → IsFairEnding role rules (if b then w ∷ ws else ws) seen since ending
+grown_ending b role rules w ws seen since endings.Open fair = tt
+grown_ending b role rules w ws seen since endings.Nothing fair = fair
+grown_ending b role rules w ws seen since endings.Wrote fair = tt
+grown_ending b role rules w ws seen since (endings.Refused obstacle) fair = grown_obstacle b role w ws obstacle fair
 
-grown_last : (b : Bool) (role : Role) (w : Write) (ws : List Write) (last : Option LastPass) → IsFairLast role ws last → IsFairLast role (if b then w ∷ ws else ws) last
-grown_last b role w ws None fair = tt
-grown_last b role w ws (Some l) fair = grown_ending b role w ws l.seen l.since l.ending fair
+grown_last : (b : Bool) (role : Role) (rules : Rules) (w : Write) (ws : List Write) (last : Option LastPass) → IsFairLast role rules ws last → IsFairLast role rules (if b then w ∷ ws else ws) last
+grown_last b role rules w ws None fair = tt
+grown_last b role rules w ws (Some l) fair = grown_ending b role rules w ws l.seen l.since l.ending fair
 
-fair_begun : (b : Bool) (role : Role) (ws : List Write) (seen : Views) (since : ℤ) (p : Past) → IsFairLast role ws p.last → IsFairLast role ws (if b then with_begin seen since p else p).last
-fair_begun true role ws seen since p fair = tt
-fair_begun false role ws seen since p fair = fair
+fair_begun : (b : Bool) (role : Role) (rules : Rules) (ws : List Write) (seen : Views) (since : ℤ) (p : Past) → IsFairLast role rules ws p.last → IsFairLast role rules ws (if b then with_begin seen since p else p).last
+fair_begun true role rules ws seen since p fair = tt
+fair_begun false role rules ws seen since p fair = fair
 
-fair_started : (b : Bool) (role : Role) (ws : List Write) (p : Past) → IsFairLast role ws p.last → IsFairLast role ws (if b then no_past else p).last
-fair_started true role ws p fair = tt
-fair_started false role ws p fair = fair
+fair_started : (b : Bool) (role : Role) (rules : Rules) (ws : List Write) (p : Past) → IsFairLast role rules ws p.last → IsFairLast role rules ws (if b then no_past else p).last
+fair_started true role rules ws p fair = tt
+fair_started false role rules ws p fair = fair
 
 -- the ending of a pass that may end so
-fair_stage : (role : Role) (ws : List Write) (seen : Views) (since : ℤ) (by : Desk) (stage : Stage) (cause : Cause) → IsLowStage role ws stage → EndsBy stage (act role seen since by) cause
-    → IsFairEnding role ws seen since (ending_at stage)
-fair_stage role ws seen since by Fresh cause low ends = λ d. act_desk role seen since d by ∙ ends.0
-fair_stage role ws seen since by Wrote cause low ends = tt
-fair_stage role ws seen since by (Refused entry obstacle) cause low ends = low
-fair_stage role ws seen since by Barred cause low ends = tt
+fair_stage : (role : Role) (rules : Rules) (ws : List Write) (seen : Views) (since : ℤ) (by : Desk) → by.rules ≡ rules → (stage : Stage) (cause : Cause) → IsLowStage role ws stage → EndsBy stage (act role seen since by) cause
+    → IsFairEnding role rules ws seen since (ending_at stage)
+fair_stage role rules ws seen since by told Fresh cause low ends = λ d same. any_desk role seen since by d (told ∙ sym same) ends.0
+fair_stage role rules ws seen since by told Wrote cause low ends = tt
+fair_stage role rules ws seen since by told (Refused entry obstacle) cause low ends = low
+fair_stage role rules ws seen since by told Barred cause low ends = tt
 
-fair_same : (role : Role) (ws : List Write) (l : LastPass) (seen : Views) (since : ℤ) (ending : Ending) → (l.seen ≡ seen) × (l.since ≡ since) → IsFairEnding role ws seen since ending
-    → IsFairPass role ws (record l { ending = ending })
-fair_same role ws l seen since ending same fair =
-    subst (λ (v : Views). IsFairEnding role ws v l.since ending) (sym same.0)
-    (subst (λ (m : ℤ). IsFairEnding role ws seen m ending) (sym same.1) fair)
+fair_same : (role : Role) (rules : Rules) (ws : List Write) (l : LastPass) (seen : Views) (since : ℤ) (ending : Ending) → (l.seen ≡ seen) × (l.since ≡ since) → IsFairEnding role rules ws seen since ending
+    → IsFairPass role rules ws (record l { ending = ending })
+fair_same role rules ws l seen since ending same fair =
+    subst (λ (v : Views). IsFairEnding role rules ws v l.since ending) (sym same.0)
+    (subst (λ (m : ℤ). IsFairEnding role rules ws seen m ending) (sym same.1) fair)
 
-fair_last_by : (role : Role) (ws : List Write) (seen : Views) (since : ℤ) (ending : Ending) (last : Option LastPass) → IsRemembered seen since last → IsFairEnding role ws seen since ending
-    → IsFairLast role ws (option_map (λ (l : LastPass). record l { ending = ending }) last)
-fair_last_by role ws seen since ending None same fair = tt
-fair_last_by role ws seen since ending (Some l) same fair = fair_same role ws l seen since ending same fair
+fair_last_by : (role : Role) (rules : Rules) (ws : List Write) (seen : Views) (since : ℤ) (ending : Ending) (last : Option LastPass) → IsRemembered seen since last → IsFairEnding role rules ws seen since ending
+    → IsFairLast role rules ws (option_map (λ (l : LastPass). record l { ending = ending }) last)
+fair_last_by role rules ws seen since ending None same fair = tt
+fair_last_by role rules ws seen since ending (Some l) same fair = fair_same role rules ws l seen since ending same fair
 
 -- the end of the pass, by which role it is
 fair_end_of : (s : Setting) (h : List Entry) (role : Role) (key : Key) (cause : Cause) (p : OpenPass) → p.role ≡ role → p.key ≡ key → MayEnd s h (Some p) cause
     → IsLowStage p.role (writes s h) p.stage → RemembersPass s h p
-    → IsFairLast role (writes s h) (with_ending (ending_at p.stage) (past s h role key)).last
+    → IsFairLast role s.rules (writes s h) (with_ending (ending_at p.stage) (past s h role key)).last
 fair_end_of s h role key cause p role_is key_is ends low same =
-    subst (λ (r : Role). IsFairLast r (writes s h) (with_ending (ending_at p.stage) (past s h r key)).last) role_is
-    (subst (λ (k : Key). IsFairLast p.role (writes s h) (with_ending (ending_at p.stage) (past s h p.role k)).last) key_is
-    (fair_last_by p.role (writes s h) p.seen p.since (ending_at p.stage) (past s h p.role p.key).last same
-    (fair_stage p.role (writes s h) p.seen p.since (desk s h p.role p.seen) p.stage cause low ends)))
+    subst (λ (r : Role). IsFairLast r s.rules (writes s h) (with_ending (ending_at p.stage) (past s h r key)).last) role_is
+    (subst (λ (k : Key). IsFairLast p.role s.rules (writes s h) (with_ending (ending_at p.stage) (past s h p.role k)).last) key_is
+    (fair_last_by p.role s.rules (writes s h) p.seen p.since (ending_at p.stage) (past s h p.role p.key).last same
+    (fair_stage p.role s.rules (writes s h) p.seen p.since (desk s h p.role p.seen) refl p.stage cause low ends)))
 
 fair_ended : (b : Bool) (s : Setting) (h : List Entry) (role : Role) (key : Key) (cause : Cause) (p : Option OpenPass) → is_pass_of role key p ≡ b → MayEnd s h p cause
-    → IfSome p (HasLowStage (writes s h)) → IfSome p (RemembersPass s h) → IsFairLast role (writes s h) (past s h role key).last
-    → IsFairLast role (writes s h) (if b then with_ending (ending_of p) (past s h role key) else past s h role key).last
+    → IfSome p (HasLowStage (writes s h)) → IfSome p (RemembersPass s h) → IsFairLast role s.rules (writes s h) (past s h role key).last
+    → IsFairLast role s.rules (writes s h) (if b then with_ending (ending_of p) (past s h role key) else past s h role key).last
 fair_ended false s h role key cause p is ends low same fair = fair
 fair_ended true s h role key cause None is ends low same fair = absurd ends
 fair_ended true s h role key cause (Some p) is ends low same fair =
     fair_end_of s h role key cause p (same_role p.role role (and_parts _ _ is).0) (same_key p.key key (and_parts _ _ is).1) ends low same
 
 -- the last pass of the role on the key ended fairly
-pub last_fair : (s : Setting) (h : List Entry) (role : Role) (key : Key) → IsLegal s h → IsCaused s h → IsFairLast role (writes s h) (past s h role key).last
+pub last_fair : (s : Setting) (h : List Entry) (role : Role) (key : Key) → IsLegal s h → IsCaused s h → IsFairLast role s.rules (writes s h) (past s h role key).last
 unfolding IsLegal IsCaused
 last_fair s [] role key legal caused = tt
 last_fair s (Called who call reply ∷ h) role key legal caused =
-    subst (IsFairLast role (writes s (Called who call reply ∷ h))) (sym (last_called s h role key (past s h role key) who (key_of_call call).kind (is_accepted reply)))
-    (grown_last (is_accepted reply) role (write_of (moment s h) (state s h) call) (writes s h) (past s h role key).last (last_fair s h role key legal.1 caused.1))
+    subst (IsFairLast role s.rules (writes s (Called who call reply ∷ h))) (sym (last_called s h role key (past s h role key) who (key_of_call call).kind (is_accepted reply)))
+    (grown_last (is_accepted reply) role s.rules (write_of (moment s h) (state s h) call) (writes s h) (past s h role key).last (last_fair s h role key legal.1 caused.1))
 last_fair s (Begin pass who at told now ∷ h) role key legal caused =
-    fair_begun (role_eq who role && key_eq at key) role (writes s h) (views s h who at) now (past s h role key) (last_fair s h role key legal.1 caused.1)
+    fair_begun (role_eq who role && key_eq at key) role s.rules (writes s h) (views s h who at) now (past s h role key) (last_fair s h role key legal.1 caused.1)
 last_fair s (End pass cause ∷ h) role key legal caused =
     fair_ended (is_pass_of role key (open_pass s h pass)) s h role key cause (open_pass s h pass) refl caused.0 (refused_low s h pass legal.1 caused.1) (remembered s h pass legal.1)
     (last_fair s h role key legal.1 caused.1)
 last_fair s (Start who at ∷ h) role key legal caused =
-    fair_started (role_eq who role) role (writes s h) (past s h role key) (last_fair s h role key legal.1 caused.1)
+    fair_started (role_eq who role) role s.rules (writes s h) (past s h role key) (last_fair s h role key legal.1 caused.1)
 last_fair s (other ∷ h) role key legal caused = last_fair s h role key legal.1 caused.1

@@ -4,14 +4,15 @@ use Rattle.std.proofs.lemmas.Bool.Decides.{nat_tests}
 use Rattle.std.specs.Prelude.{if◌then◌else◌, IfSome}
 use Rattle.cmc_objects.specs.declared.role.Role.{Role}
 use Rattle.cmc_objects.specs.declared.entry.Entry.{Entry}
-use Rattle.cmc_objects.specs.declared.entry.Entry.TheVariants.{Script, Call as Called, Deliver, List as Listed, Begin, Ask, Made, Signed, Answered, Judged, End, Stop, Start, Tick}
+use Rattle.cmc_objects.specs.declared.entry.Entry.TheVariants.{Call as Called, Begin, End, Stop, Start}
 use Rattle.cmc_rules.specs.declared.progress.OpenPass.{OpenPass}
 use Rattle.cmc_rules.specs.declared.progress.Origin.{Origin}
 use Rattle.cmc_model.specs.Histories.{Setting, runs, incarnation, role_eq}
 use Rattle.cmc_rules.specs.Viewing.{views}
-use Rattle.cmc_rules.specs.Passes.{open_pass, new_pass, unless_of, stage_after, origins, origin_at}
+use Rattle.cmc_rules.specs.Passes.{open_pass, new_pass, unless_of, stage_after}
+use Rattle.cmc_rules.specs.Origins.{origins, origin_at}
 use Rattle.cmc_rules.specs.Legality.{IsLegal}
-use Rattle.cmc_world.proofs.Carrying.{over_call, over_begin, over_end, over_stop}
+use Rattle.cmc_rules.proofs.Carrying.{over_call, over_begin, over_end, over_stop}
 use Rattle.cmc_world.proofs.Origins.{origins_count}
 use Rattle.cmc_world.proofs.Standings.{same_role}
 
@@ -58,10 +59,6 @@ running_pass s (End pass cause ∷ h) n legal = over_end (IsOfRunning s h) (n ==
 running_pass s (Stop role ∷ h) n legal = over_stopped s h role (open_pass s h n) (running_pass s h n legal.1)
 running_pass s (Start role at ∷ h) n legal = over_start s h role at (open_pass s h n) (running_pass s h n legal.1)
 running_pass s (other ∷ h) n legal = running_pass s h n legal.1
-
--- a pass begins only where its role runs, and the stop of the role closes it
-pub open_runs : (s : Setting) (h : List Entry) (n : ℕ) (p : OpenPass) → IsLegal s h → open_pass s h n ≡ Some p → runs s h p.role ≡ true
-open_runs s h n p legal open_here = subst (λ (q : Option OpenPass). IfSome q (IsOfRunning s h)) open_here (running_pass s h n legal)
 
 -- ---- an open pass is of the present incarnation of its role
 
@@ -133,7 +130,3 @@ present_pass s (other ∷ h) n stopped legal = present_pass s h n stopped.1 lega
 pub present_origin_stands : (s : Setting) (h : List Entry) (n : ℕ) (p : OpenPass) → StartsStopped s h → IsLegal s h → open_pass s h n ≡ Some p
     → origin_at n (origins s h) ≡ Some (present_origin s h p.role)
 present_origin_stands s h n p stopped legal open_here = subst (λ (q : Option OpenPass). IfSome q (IsFromPresent s h n)) open_here (present_pass s h n stopped legal)
-
-pub open_is_present : (s : Setting) (h : List Entry) (n : ℕ) (p : OpenPass) → StartsStopped s h → IsLegal s h → open_pass s h n ≡ Some p
-    → (o : Origin) × (origin_at n (origins s h) ≡ Some o) × (o.role ≡ p.role) × (o.incarnation ≡ incarnation s h p.role)
-open_is_present s h n p stopped legal open_here = (present_origin s h p.role, present_origin_stands s h n p stopped legal open_here, refl, refl)

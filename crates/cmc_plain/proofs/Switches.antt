@@ -8,7 +8,7 @@ use Rattle.cmc_objects.specs.declared.entry.Step.{Step}
 use Rattle.cmc_objects.specs.declared.entry.Step.TheVariants as steps
 use Rattle.cmc_objects.specs.declared.entry.Who.TheVariants.{User, Pass}
 use Rattle.cmc_objects.specs.declared.entry.Entry.{Entry}
-use Rattle.cmc_objects.specs.declared.entry.Entry.TheVariants.{Script, Call as Called, Deliver, List as Listed, Begin, Ask, Made, Signed, Answered, Judged, End, Stop, Start, Tick}
+use Rattle.cmc_objects.specs.declared.entry.Entry.TheVariants.{Script, Call as Called, Deliver, List as Listed, Stop, Start, Tick}
 use Rattle.cmc_rules.specs.declared.effect.Effect.{Effect}
 use Rattle.cmc_rules.specs.declared.effect.Effect.TheVariants as effects
 use Rattle.cmc_model.specs.Histories.{Setting, runs, role_eq}
@@ -58,13 +58,6 @@ done running owes effect left is o = record {
 next_step : (s : Setting) (h : List Entry) (step : Step) (roles : List Role) (left : List Step) → ((r : Role) → is_among roles r ≡ runs s h r)
     → IsOrderlyFrom roles (step ∷ left) → IsOrderlyAfter (runs s h) (effect_of s h step) left
 unfolding call_of
-next_step s h (steps.Apply object version) roles left same ahead = record { roles = roles; same = same; stopped = tt; ahead = ahead.1 }
-next_step s h (steps.Delete key version) roles left same ahead = record { roles = roles; same = same; stopped = tt; ahead = ahead.1 }
-next_step s h (steps.Approve certificate revision) roles left same ahead = record { roles = roles; same = same; stopped = tt; ahead = ahead.1 }
-next_step s h (steps.Deny certificate revision) roles left same ahead = record { roles = roles; same = same; stopped = tt; ahead = ahead.1 }
-next_step s h (steps.Answer certificate revision row) roles left same ahead = record { roles = roles; same = same; stopped = tt; ahead = ahead.1 }
-next_step s h (steps.Renew certificate) roles left same ahead = record { roles = roles; same = same; stopped = tt; ahead = ahead.1 }
-next_step s h (steps.Tick seconds) roles left same ahead = record { roles = roles; same = same; stopped = tt; ahead = ahead.1 }
 next_step s h (steps.Stop role) roles left same ahead = record {
   roles = without_role roles role;
   same = λ r. among_after roles role false r ∙ ap (λ (b : Bool). if role_eq role r then false else b) (same r);
@@ -77,10 +70,7 @@ next_step s h (steps.Start role behind) roles left same ahead = record {
   stopped = sym (same role) ∙ ahead.0;
   ahead = ahead.1;
 }
-next_step s h (steps.Hold role kind) roles left same ahead = record { roles = roles; same = same; stopped = tt; ahead = ahead.1 }
-next_step s h (steps.Release role kind) roles left same ahead = record { roles = roles; same = same; stopped = tt; ahead = ahead.1 }
-next_step s h (steps.Until role kind writes) roles left same ahead = record { roles = roles; same = same; stopped = tt; ahead = ahead.1 }
-next_step s h steps.Settle roles left same ahead = record { roles = roles; same = same; stopped = tt; ahead = ahead.1 }
+next_step s h other roles left same ahead = record { roles = roles; same = same; stopped = tt; ahead = ahead.1 }
 
 over_script : (s : Setting) (h : List Entry) (number : ℕ) → IsNextStep s h number → IsOrderlyAfter (runs s h) (owed s h) (drop (scripted h) s.script)
     → IsOrderlyAfter (runs s h) (option_and_then (effect_of s h) (step_at s.script number)) (drop (scripted h + 1) s.script)

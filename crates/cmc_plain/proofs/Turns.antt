@@ -1,55 +1,57 @@
 -- Runs by the plain order.
-use Rattle.std.proofs.Common.{◌≡◌, ◌∙◌, ◌⊎◌, ℕ, ◌+◌, ◌<◌, ◌≤◌, Bool, true, false, List, [], ◌∷◌, ◌++◌, length, Option, Some, None, inl, inr, refl, sym, ap, subst, arith}
+use Rattle.std.proofs.Common.{◌≡◌, ◌∙◌, ℕ, ◌+◌, ◌<◌, ◌≤◌, true, false, List, [], ◌∷◌, ◌++◌, length, Option, Some, None, inl, inr, refl, ap, subst, arith}
+use Rattle.cmc_rules.specs.declared.effect.Effect.{Effect}
+use Rattle.cmc_world.specs.Answers.{next_effect, entries_of}
+use Rattle.cmc_plain.proofs.Determined.{grown_length}
+use Rattle.cmc_plain.proofs.Making.{IsMade, ArePresent, chosen_made}
+use Rattle.cmc_plain.specs.Histories.{entries_for}
 use Rattle.cmc_objects.specs.declared.entry.Entry.{Entry}
-use Rattle.cmc_rules.specs.declared.progress.OpenPass.{OpenPass}
 use Rattle.cmc_model.specs.Histories.{Setting, incarnation}
-use Rattle.cmc_model.specs.Writes.{writes, last_of_kind}
-use Rattle.cmc_rules.specs.Passes.{open_pass}
-use Rattle.cmc_rules.specs.Runs.{IsRun, IsFinished}
+use Rattle.cmc_rules.specs.Runs.{IsRun}
 use Rattle.cmc_world.specs.declared.moves.Move.{Move}
 use Rattle.cmc_world.specs.declared.moves.Move.TheVariants as moves
 use Rattle.cmc_world.specs.declared.moves.Stepped.{Stepped}
 use Rattle.cmc_world.specs.declared.moves.Stepped.TheVariants.{Done, NotNow, Ended, Spent}
-use Rattle.std.specs.Prelude.{MatchBool}
 use Rattle.cmc_world.specs.Answers.{Answers, Grows, Leaves, is_done}
-use Rattle.cmc_plain.specs.Plain.{IsPossible, IsGoingPass, IsOfPresent, IsAccepted, IsChosen, IsPlainMove}
+use Rattle.cmc_plain.specs.Plain.{IsPlainMove}
 use Rattle.cmc_plain.specs.Histories.{IsPlainStep, LeadsPlainly, IsPlain, IsFull}
 use Rattle.cmc_setup.specs.Setups.{Setup}
 use Rattle.cmc_world.specs.Kept.{Seen, setting_of}
-use Rattle.cmc_plain.specs.Driving.{GoesOn, EndsPlainly, IsDriving}
+use Rattle.cmc_plain.specs.Driving.{GoesOn, IsDriving}
 
--- ---- a chosen move is possible
+-- ---- the plain move is made, or does not fit
 
-pass_possible : (s : Setting) (h : List Entry) (n named : ℕ) (p : Option OpenPass) → IsGoingPass s h n p → IsOfPresent s h named p → IsPossible s h (moves.Next n named)
-pass_possible s h n named None going present = absurd going
-pass_possible s h n named (Some p) going present = subst (λ (m : ℕ). IsPossible s h (moves.Next n m)) (sym present) going
+full_by : (s : Setting) (h : List Entry) (move : Move) (answer : Stepped) → IsPlainMove s h (Some move) → is_done answer ≡ false → IsMade s h (entries_for s h move) answer → IsFull s h
+full_by s h move answer plain off (inl is) = absurd (let on : is_done answer ≡ true = ap is_done is in cc (on, off))
+full_by s h move answer plain off (inr is) = record { move = move; plain = plain; spent = is.1 }
 
-pub chosen_possible : (s : Setting) (h : List Entry) (move : Move) → IsChosen s h move → IsPossible s h move
-chosen_possible s h moves.Script c = c
-chosen_possible s h (moves.Next n named) c = pass_possible s h n named (open_pass s h n) c.1.going c.1.present
-chosen_possible s h (moves.Deliver role kind to) c = subst (λ (m : ℕ). IsPossible s h (moves.Deliver role kind m)) (sym c.3) c.2.behind
-chosen_possible s h (moves.Begin role key) c = c.3.fits.possible
-
--- an accepted answer that is not Done wants room
-wants_room : (s : Setting) (h : List Entry) (move : Move) (answer : Stepped) → IsAccepted answer → is_done answer ≡ false → Answers s h move answer → (n : ℕ) × Answers s h move (Spent n)
-wants_room s h move Done ok off a = absurd (cc off)
-wants_room s h move (NotNow lack) ok off a = absurd ok
-wants_room s h move (Ended incarnation) ok off a = absurd ok
-wants_room s h move (Spent entries) ok off a = (entries, a)
-
-pub full : (s : Setting) (h : List Entry) (move : Move) (answer : Stepped) → ((a b : Stepped) → Answers s h move a → Answers s h move b → a ≡ b)
-    → IsPlainMove s h (Some move) → Answers s h move answer → is_done answer ≡ false → IsFull s h
-full s h move answer one plain a off =
-    let possible = chosen_possible s h move plain.1 in
-    let room = wants_room s h move answer (subst IsAccepted (one possible.answer answer possible.answers a) possible.accepted) off a in
-    record { move = move; plain = plain; entries = room.0; spent = room.1 }
-
-left_by : (s : Setting) (h : List Entry) (move : Move) (b : Bool) (k : List Entry) → b ≡ false → MatchBool b (Grows s h move k) (k ≡ h) → k ≡ h
-left_by s h move true k off left = absurd (cc off)
-left_by s h move false k off left = left
+pub full : (s : Setting) (h : List Entry) (move : Move) (answer : Stepped) → ArePresent s h → IsPlainMove s h (Some move) → Answers s h move answer → is_done answer ≡ false → IsFull s h
+full s h move answer present plain a off = full_by s h move answer plain off (chosen_made s h move answer present plain.1 a)
 
 pub left_as_it_was : (s : Setting) (h : List Entry) (move : Move) (answer : Stepped) (k : List Entry) → is_done answer ≡ false → Leaves s h move answer k → k ≡ h
-left_as_it_was s h move answer k off left = left_by s h move (is_done answer) k off left
+left_as_it_was s h move Done k off left = absurd (cc off)
+left_as_it_was s h move other k off left = left
+
+grown_by : (s : Setting) (h : List Entry) (move : Move) (answer : Stepped) (k : List Entry) → is_done answer ≡ true → Leaves s h move answer k → Grows s h move k
+grown_by s h move Done k on left = left
+grown_by s h move (NotNow lack) k on left = absurd (cc on)
+grown_by s h move (Ended incarnation) k on left = absurd (cc on)
+grown_by s h move (Spent entries) k on left = absurd (cc on)
+
+more_for : (s : Setting) (h : List Entry) (move : Move) → 1 ≤ entries_for s h move
+more_for s h moves.Script = more_of (next_effect s h) where
+  more_of : (o : Option Effect) → 1 ≤ entries_of o
+  more_of None = omega arith
+  more_of (Some effect) = omega arith
+more_for s h other = omega arith
+
+-- a plain move that is made goes on with the run
+pub goes_on : (s : Setting) (h : List Entry) (move : Move) (answer : Stepped) (k : List Entry) → IsPlainMove s h (Some move) → is_done answer ≡ true → Leaves s h move answer k → IsRun s k → GoesOn s h k
+goes_on s h move answer k plain on left run =
+    let grown = grown_by s h move answer k on left in
+    let long = grown_length s h move k grown in
+    let more = more_for s h move in
+    record { move = move; step = record { plain = plain; grows = grown; run = run }; longer = omega (arith, long, more) }
 
 -- ---- one plain step more
 
@@ -60,13 +62,7 @@ led_on s (m ∷ ms) g h k move (a, x, rest) step = (a, x, led_on s ms a h k move
 pub plain_on : (s : Setting) (h k : List Entry) → IsPlain s h → GoesOn s h k → IsPlain s k
 plain_on s h k (ms, led) on = (ms ++ on.move ∷ [], led_on s ms [] h k on.move led on.step)
 
-pub plain_begin : (s : Setting) → IsPlain s []
-plain_begin s = ([], refl)
-
 -- ---- turns
-
-pub driving_begin : (world : Seen) → world.history ≡ [] → IsDriving world.scenario world 0
-driving_begin world none = record { same = refl; plain = subst (IsPlain (setting_of world.scenario)) (sym none) (plain_begin (setting_of world.scenario)); long = omega arith }
 
 pub driving_on : (setup : Setup) (old new : Seen) (n : ℕ) → IsDriving setup old n → new.scenario ≡ old.scenario → GoesOn (setting_of old.scenario) old.history new.history → IsDriving setup new (n + 1)
 driving_on setup old new n d stays on =
@@ -76,14 +72,6 @@ driving_on setup old new n d stays on =
       plain = plain_on (setting_of setup) old.history new.history d.plain on_is;
       long = omega (arith, d.long, on.longer);
     }
-
-pub driven : (setup : Setup) (End : Setting → List Entry → Type 0) (old new : Seen) (n : ℕ) → IsDriving setup old n → new.scenario ≡ old.scenario → End (setting_of old.scenario) old.history → new.history ≡ old.history
-    → EndsPlainly setup End new
-driven setup End old new n d stays ends left = record {
-  same = stays ∙ d.same;
-  plain = subst (IsPlain (setting_of setup)) (sym left) d.plain;
-  comes = subst (End (setting_of setup)) (sym left) (subst (λ (u : Setup). End (setting_of u) old.history) d.same ends);
-}
 
 pub too_long : (setup : Setup) (world : Seen) (n : ℕ) → IsDriving setup world n → setup.events < n → IsRun (setting_of world.scenario) world.history → ⊥
 too_long setup world n d over run =

@@ -1,65 +1,57 @@
--- The plain order: which move a run by one hand makes next.
-use Rattle.std.specs.Prelude.{◌≡◌, ◌⊎◌, ℕ, ◌<◌, List, [], Option, Some, None}
+-- The plain order: which move a run by one hand makes next. It speaks of the history alone, and not of what a step answers.
+use Rattle.std.specs.Prelude.{◌≡◌, ◌⊎◌, ℕ, ◌+◌, ◌<◌, true, false, [], List, length, Option, Some, None}
 use Rattle.std.specs.declared.cmp.Ordering.TheVariants.{Less}
 use Rattle.cmc_meta.specs.declared.key.Key.{Key}
 use Rattle.cmc_meta.specs.declared.key.Kind.{Kind}
-use Rattle.cmc_meta.specs.Keys.{kind_rank, key_cmp}
-use Rattle.cmc_objects.specs.Roles.{role_rank}
+use Rattle.cmc_meta.specs.Keys.{key_cmp, kind_rank}
 use Rattle.cmc_objects.specs.declared.role.Role.{Role}
 use Rattle.cmc_objects.specs.declared.entry.Entry.{Entry}
+use Rattle.cmc_objects.specs.Roles.{role_rank}
 use Rattle.cmc_pass.specs.declared.pass.Views.{Views}
 use Rattle.cmc_rules.specs.declared.progress.LastPass.{LastPass}
 use Rattle.cmc_rules.specs.declared.progress.OpenPass.{OpenPass}
-use Rattle.cmc_model.specs.Histories.{Setting, incarnation}
-use Rattle.cmc_model.specs.Writes.{writes, last_of_kind}
+use Rattle.cmc_model.specs.Histories.{Setting, runs, moment, incarnation}
+use Rattle.cmc_model.specs.Writes.{writes, last_of_kind, is_known}
+use Rattle.cmc_rules.specs.Positions.{kind_of_work, has_informer, position, positions}
 use Rattle.cmc_rules.specs.Viewing.{views}
-use Rattle.cmc_rules.specs.Passes.{open_pass, past}
+use Rattle.cmc_rules.specs.Passes.{open_pass, IsWorking}
+use Rattle.cmc_rules.specs.Memory.{past}
+use Rattle.cmc_rules.specs.Sameness.{IsDue}
+use Rattle.cmc_rules.specs.Legality.{IsOpen}
+use Rattle.cmc_rules.specs.Scripting.{scripted, step_at, held}
 use Rattle.cmc_rules.specs.Resting.{IsIdle}
+use Rattle.cmc_rules.specs.Following.{IsReady}
 use Rattle.cmc_rules.specs.Runs.{IsFinished}
 use Rattle.cmc_world.specs.declared.moves.Move.{Move}
 use Rattle.cmc_world.specs.declared.moves.Move.TheVariants.{Script, Deliver, Begin, Next}
-use Rattle.cmc_world.specs.declared.moves.Stepped.{Stepped}
-use Rattle.cmc_world.specs.declared.moves.Stepped.TheVariants.{Done, NotNow, Ended, Spent}
-use Rattle.cmc_world.specs.Answers.{Answers}
 
--- want of room does not make a move impossible
-abbrev pub IsAccepted : Stepped → Type 0
-IsAccepted Done = Unit {0}
-IsAccepted (NotNow lack) = ⊥
-IsAccepted (Ended incarnation) = ⊥
-IsAccepted (Spent entries) = Unit {0}
+-- ---- the script
 
--- a step would make the move, if it had room
-pub record IsPossible (s : Setting) (h : List Entry) (move : Move) : Type 0 where
-  pub answer : Stepped
-  pub answers : Answers s h move answer
-  pub accepted : IsAccepted answer
+-- a step is left, and does not wait
+pub record IsStepReady (s : Setting) (h : List Entry) : Type 0 where
+  pub left : scripted h < length s.script
+  pub ready : IsReady s h (step_at s.script (scripted h + 1))
 
 -- ---- passes that go on
 
-abbrev pub IsGoingPass : Setting → List Entry → ℕ → Option OpenPass → Type 0
-IsGoingPass s h n None = ⊥
-IsGoingPass s h n (Some p) = IsPossible s h (Next n (incarnation s h p.role))
+-- the open pass of least number
+pub record IsFirstPass (s : Setting) (h : List Entry) (n : ℕ) : Type 0 where
+  pub stands : IsOpen (open_pass s h n)
+  pub least : (m : ℕ) → m < n → IsOpen (open_pass s h m) → ⊥
 
--- the pass of this number can go on
-abbrev pub IsGoing : Setting → List Entry → ℕ → Type 0
-IsGoing s h n = IsGoingPass s h n (open_pass s h n)
-
+-- the number is that of the present incarnation of the pass's role
 abbrev pub IsOfPresent : Setting → List Entry → ℕ → Option OpenPass → Type 0
 IsOfPresent s h named None = ⊥
 IsOfPresent s h named (Some p) = named ≡ incarnation s h p.role
 
--- it is the least that can
-pub record IsFirstPass (s : Setting) (h : List Entry) (n named : ℕ) : Type 0 where
-  pub going : IsGoing s h n
-  pub present : IsOfPresent s h named (open_pass s h n)
-  pub least : (m : ℕ) → m < n → IsGoing s h m → ⊥
-
 -- ---- deliveries
 
--- the role can be told of all accepted writes of the kind
-abbrev pub IsBehind : Setting → List Entry → Role → Kind → Type 0
-IsBehind s h role kind = IsPossible s h (Deliver role kind (last_of_kind kind (writes s h)))
+-- the role runs, and can be told of an accepted write of the kind that it was not told of
+pub record IsBehind (s : Setting) (h : List Entry) (role : Role) (kind : Kind) : Type 0 where
+  pub running : runs s h role ≡ true
+  pub informed : has_informer role kind ≡ true
+  pub free : held s h role kind ≡ false
+  pub behind : position h role kind < last_of_kind kind (writes s h)
 
 -- by role, then by kind
 abbrev pub IsBefore : ℕ → ℕ → ℕ → ℕ → Type 0
@@ -83,8 +75,16 @@ seen_last (Some last) = last.seen
 abbrev pub IsWorth : Setting → List Entry → Role → Key → Type 0
 IsWorth s h role key = (IsIdle s h role (views s h role key) → ⊥) ⊎ (views s h role key ≡ seen_last (past s h role key).last → ⊥)
 
+-- a pass of the role on the key may begin: it runs, works on the key in no pass, is due, and the key is one of its work that an accepted write named
+pub record MayBegin (s : Setting) (h : List Entry) (role : Role) (key : Key) : Type 0 where
+  pub running : runs s h role ≡ true
+  pub idle : IsWorking s h role key → ⊥
+  pub due : IsDue (past s h role key) (views s h role key) (moment s h) (positions h role)
+  pub work : key.kind ≡ kind_of_work role
+  pub known : is_known key (writes s h) ≡ true
+
 pub record Fits (s : Setting) (h : List Entry) (role : Role) (key : Key) : Type 0 where
-  pub possible : IsPossible s h (Begin role key)
+  pub may : MayBegin s h role key
   pub worth : IsWorth s h role key
 
 pub record IsFirstBegin (s : Setting) (h : List Entry) (role : Role) (key : Key) : Type 0 where
@@ -94,18 +94,18 @@ pub record IsFirstBegin (s : Setting) (h : List Entry) (role : Role) (key : Key)
 -- ---- the plain move
 
 abbrev pub HasNoScript : Setting → List Entry → Type 0
-HasNoScript s h = IsPossible s h Script → ⊥
+HasNoScript s h = IsStepReady s h → ⊥
 
 abbrev pub HasNoPass : Setting → List Entry → Type 0
-HasNoPass s h = (n : ℕ) → IsGoing s h n → ⊥
+HasNoPass s h = (n : ℕ) → IsOpen (open_pass s h n) → ⊥
 
 abbrev pub HasNoDelivery : Setting → List Entry → Type 0
 HasNoDelivery s h = (role : Role) (kind : Kind) → IsBehind s h role kind → ⊥
 
--- first the next step of the script, then the least open pass, then a delivery, then a begin
+-- first the next step of the script, then the least open pass, then a delivery of the newest write, then a begin
 abbrev pub IsChosen : Setting → List Entry → Move → Type 0
-IsChosen s h Script = IsPossible s h Script
-IsChosen s h (Next n named) = HasNoScript s h × IsFirstPass s h n named
+IsChosen s h Script = IsStepReady s h
+IsChosen s h (Next n named) = HasNoScript s h × IsFirstPass s h n × IsOfPresent s h named (open_pass s h n)
 IsChosen s h (Deliver role kind to) = HasNoScript s h × HasNoPass s h × IsFirstDelivery s h role kind × (to ≡ last_of_kind kind (writes s h))
 IsChosen s h (Begin role key) = HasNoScript s h × HasNoPass s h × HasNoDelivery s h × IsFirstBegin s h role key
 

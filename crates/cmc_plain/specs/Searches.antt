@@ -1,5 +1,5 @@
 -- What the searches for the plain move find.
-use Rattle.std.specs.Prelude.{◌≡◌, ℕ, ◌<◌, true, List, Option, Some, None}
+use Rattle.std.specs.Prelude.{◌≡◌, ℕ, ◌<◌, List, Option, Some, None}
 use Rattle.std.specs.declared.cmp.Ordering.TheVariants.{Less}
 use Rattle.cmc_meta.specs.declared.key.Key.{Key}
 use Rattle.cmc_meta.specs.declared.key.Kind.{Kind}
@@ -7,17 +7,24 @@ use Rattle.cmc_meta.specs.Keys.{kind_rank, key_cmp}
 use Rattle.cmc_objects.specs.Roles.{role_rank}
 use Rattle.cmc_objects.specs.declared.role.Role.{Role}
 use Rattle.cmc_objects.specs.declared.entry.Entry.{Entry}
-use Rattle.cmc_model.specs.Histories.{Setting, moment, runs}
-use Rattle.cmc_rules.specs.Positions.{kind_of_work, positions}
+use Rattle.cmc_model.specs.Histories.{Setting}
+use Rattle.cmc_rules.specs.Positions.{kind_of_work}
 use Rattle.cmc_rules.specs.Viewing.{views_in, views}
-use Rattle.cmc_rules.specs.Passes.{past, IsDue}
 use Rattle.cmc_world.specs.declared.moves.Move.{Move}
-use Rattle.cmc_world.specs.Answers.{IsWorking, IsQueued}
+use Rattle.cmc_world.specs.declared.moves.Stepped.{Stepped}
+use Rattle.cmc_world.specs.declared.moves.Stepped.TheVariants.{Done, Spent}
+use Rattle.cmc_rules.specs.Passes.{open_pass, IsWorking}
 use Rattle.cmc_plain.specs.declared.passes.Going.{Going}
 use Rattle.cmc_plain.specs.declared.deliveries.Delivery.{Delivery}
 use Rattle.cmc_plain.specs.declared.begins.Beginning.{Beginning}
 use Rattle.cmc_plain.specs.declared.begins.Caches.{Caches}
-use Rattle.cmc_plain.specs.Plain.{IsBehind, Fits, HasNoScript, HasNoPass, HasNoDelivery, IsFirstPass, IsFirstDelivery, IsFirstBegin, IsChosen}
+use Rattle.cmc_plain.specs.Plain.{IsBehind, Fits, HasNoScript, HasNoPass, HasNoDelivery, IsFirstPass, IsOfPresent, IsFirstDelivery, IsFirstBegin, IsChosen}
+
+-- want of room does not make a move impossible
+abbrev pub IsAccepted : Stepped → Type 0
+IsAccepted Done = Unit {0}
+IsAccepted (Spent entries) = Unit {0}
+IsAccepted other = ⊥
 
 -- it is so of no role before this place
 abbrev pub HasNoneBefore : (Role → Type 0) → ℕ → Type 0
@@ -28,7 +35,7 @@ HasNoneBefore P n = (r : Role) → role_rank r < n → P r → ⊥
 -- the first pass that can go on, none where there is none
 abbrev pub FindsPass : Setting → List Entry → Option Going → Type 0
 FindsPass s h None = HasNoPass s h
-FindsPass s h (Some g) = IsFirstPass s h g.pass g.incarnation
+FindsPass s h (Some g) = IsFirstPass s h g.pass × IsOfPresent s h g.incarnation (open_pass s h g.pass)
 
 -- ---- deliveries
 
@@ -55,13 +62,6 @@ AreCaches s h role c = (key : Key) → views_in role (record { certificates = c.
 pub record IsFree (s : Setting) (h : List Entry) (role : Role) (key : Key) : Type 0 where
   pub kind : key.kind ≡ kind_of_work role
   pub idle : IsWorking s h role key → ⊥
-
--- what a begin needs beside room
-pub record MayBegin (s : Setting) (h : List Entry) (role : Role) (key : Key) : Type 0 where
-  pub running : runs s h role ≡ true
-  pub idle : IsWorking s h role key → ⊥
-  pub due : IsDue (past s h role key) (views s h role key) (moment s h) (positions h role)
-  pub queued : IsQueued s h role key
 
 -- some key fits the role
 abbrev pub FitsSome : Setting → List Entry → Role → Type 0

@@ -5,7 +5,7 @@ ghost use Rattle.std.specs.BTreeSet.{contains};
 ghost use Rattle.cmc_meta.specs.declared.key.Key.{Key as KeyValue};
 ghost use Rattle.cmc_meta.specs.Keys.{key_cmp};
 ghost use Rattle.cmc_model.specs.Histories as histories;
-ghost use Rattle.cmc_rules.specs.Passes.{past};
+ghost use Rattle.cmc_rules.specs.Memory.{past};
 ghost use Rattle.cmc_rules.specs.Viewing.{views};
 ghost use Rattle.cmc_model.specs.Writes.{is_known, writes};
 ghost use Rattle.cmc_held.specs.Remembered.{past_or_new};

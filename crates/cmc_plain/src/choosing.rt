@@ -7,7 +7,7 @@ ghost use Rattle.cmc_plain.specs.Searches.{FindsMove};
 use crate::begins::{Beginning, first_begin};
 use crate::deliveries::first_delivery;
 use crate::passes::first_pass;
-use crate::possible::is_possible;
+use crate::scripts::is_step_ready;
 use cmc_world::{Move, World};
 use std::alloc::{AllocError, Global};
 
@@ -15,10 +15,10 @@ use std::alloc::{AllocError, Global};
 fn first_move(alloc: Global, world: &World) -> Result<Option<Move>, AllocError>
     ensures { IfOk result (λ m. FindsMove (setting_of world.now.scenario) world.now.history m) }
 {
-    if is_possible(alloc, world, &Move::Script)? {
+    if is_step_ready(alloc, world)? {
         return Ok(Some(Move::Script));
     }
-    if let Some(going) = first_pass(alloc, world)? {
+    if let Some(going) = first_pass(world) {
         return Ok(Some(Move::Next {
             pass: going.pass,
             incarnation: going.incarnation,
@@ -57,7 +57,6 @@ pub fn plain(alloc: Global, world: &World) -> Result<Option<Move>, AllocError>
         None => {
             world.is_run();
             world.is_settled();
-            let _events = world.scenario().events();
             unreachable!()
         }
     }

@@ -1,8 +1,11 @@
 //! What stands at the end of a run.
 ghost use Rattle.std.specs.List.{list_any};
-ghost use Rattle.std.specs.Prelude.{◌≡◌, ◌&&◌, IfOk, count_by};
+ghost use Rattle.std.specs.Prelude.{◌≡◌, ◌&&◌, ◌==◌, IfOk, count_by};
 ghost use Rattle.cmc_model.specs.Histories.{objects};
-ghost use Rattle.cmc_model.specs.Summaries.{is_ready_kind, is_true, says_ready, is_certificate, is_secret, is_ready, is_waiting, waits, summary_of, summary_of_entries};
+ghost use Rattle.cmc_meta.specs.ConditionLists.{condition_rank, tri_eq};
+ghost use Rattle.cmc_meta.specs.declared.conditions.ConditionKind.TheVariants.{Ready};
+ghost use Rattle.cmc_meta.specs.declared.conditions.Tri.TheVariants.{True};
+ghost use Rattle.cmc_model.specs.Summaries.{says_ready, is_certificate, is_secret, is_ready, is_waiting, waits, summary_of, summary_of_entries};
 ghost use Rattle.cmc_world.specs.Kept.{setting_of};
 
 use cmc_meta::{Condition, ConditionKind, Key, Tri};
@@ -15,7 +18,7 @@ use std::collections::BTreeMap;
 type Objects = BTreeMap<Key, Object>;
 
 fn is_ready_condition(condition: &Condition) -> bool
-    ensures { result ≡ (is_ready_kind condition.now.kind && is_true condition.now.status) }
+    ensures { result ≡ ((condition_rank condition.now.kind == condition_rank Ready) && tri_eq condition.now.status True) }
 {
     matches!(condition.kind, ConditionKind::Ready) && matches!(condition.status, Tri::True)
 }

@@ -4,8 +4,8 @@ ghost use Rattle.cmc_world.specs.Kept.{setting_of};
 ghost use Rattle.cmc_plain.specs.Plain.{IsBehind};
 ghost use Rattle.cmc_plain.specs.Searches.{FindsKind, FindsDelivery};
 
-use crate::possible::is_possible;
 use crate::roles::role_in;
+use crate::scripts::is_accepted;
 use cmc_meta::Kind;
 use cmc_objects::Role;
 use cmc_world::{Move, World};
@@ -18,12 +18,12 @@ pub(crate) struct Delivery {
     pub kind: Kind,
 }
 
-/// Whether the role can be told of all accepted writes of the kind.
+/// Whether the role runs, and can be told of an accepted write of the kind that it was not told of.
 fn is_behind(alloc: Global, world: &World, role: Role, kind: Kind) -> Result<bool, AllocError>
     ensures { IfOk result (λ b. IsTrue b ↔ IsBehind (setting_of world.now.scenario) world.now.history role kind) }
 {
     let to = world.log().last_of_kind(kind);
-    is_possible(alloc, world, &Move::Deliver { role, kind, to })
+    Ok(is_accepted(world.answer(alloc, &Move::Deliver { role, kind, to })?))
 }
 
 /// The first kind in which the role is behind.

@@ -35,6 +35,8 @@ fn take_turn(alloc: Global, world: &mut World) -> Result<Turn, AllocError>
     match plain(alloc, world)? {
         None => Ok(Turn::Finished),
         Some(step) => {
+            world.is_run();
+            let _events = world.scenario().events();
             if world.step(alloc, step)?.is_done() {
                 Ok(Turn::On)
             } else {

@@ -8,10 +8,10 @@ mod deliveries;
 mod driving;
 mod laws;
 mod passes;
-mod possible;
 mod roles;
+mod scripts;
 
 pub use choosing::plain;
 pub use counting::summary;
 pub use driving::{Driven, drive_plain};
-pub use laws::plain_histories_agree;
+pub use laws::{plain_ends_agree, plain_histories_agree};

@@ -4,7 +4,11 @@
 //! Each list type is a small newtype that contracts see as a plain list.
 #![tactic(auto)]
 
+mod allowing;
+mod deciding;
 mod decision;
+mod matching;
+mod names;
 mod optional;
 mod pattern;
 mod patterns;
@@ -12,7 +16,10 @@ mod policies;
 mod policy;
 mod wanted;
 
+pub use allowing::allows;
+pub use deciding::decide;
 pub use decision::{Decision, Field};
+pub use matching::matches;
 pub use pattern::Pattern;
 pub use patterns::Patterns;
 pub use policies::Policies;

@@ -1,6 +1,10 @@
 pub mod Passes
 pub mod Positions
-pub mod Steps
 pub mod OneKey
 pub mod Seen
 pub mod Versions
+pub mod Sights
+pub mod Lines
+pub mod Conditions
+pub mod Carrying
+pub mod Sighted

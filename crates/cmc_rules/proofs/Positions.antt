@@ -10,7 +10,7 @@ use Rattle.cmc_objects.specs.declared.call.Reply.{Reply}
 use Rattle.cmc_objects.specs.declared.role.Role.{Role}
 use Rattle.cmc_objects.specs.declared.entry.Who.{Who}
 use Rattle.cmc_objects.specs.declared.entry.Entry.{Entry}
-use Rattle.cmc_objects.specs.declared.entry.Entry.TheVariants.{Script, Call as Called, Deliver, List as Listed, Begin, Ask, Made, Signed, Answered, Judged, End, Stop, Start, Tick}
+use Rattle.cmc_objects.specs.declared.entry.Entry.TheVariants.{Script, Call as Called, Deliver, List as Listed, Start}
 use Rattle.cmc_model.specs.declared.write.Write.{Write}
 use Rattle.cmc_model.specs.Replies.{is_accepted}
 use Rattle.cmc_model.specs.Histories.{Setting, state, accepted, role_eq}

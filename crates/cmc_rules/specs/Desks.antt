@@ -9,7 +9,7 @@ use Rattle.cmc_objects.specs.declared.orders.Order.TheVariants.{Key as KeyOrder,
 use Rattle.cmc_objects.specs.declared.role.Role.{Role}
 use Rattle.cmc_objects.specs.declared.role.Role.TheVariants.{Trigger, KeyManager, RequestManager, Approver, Issuer, Issuing, Readiness, Revision}
 use Rattle.cmc_objects.specs.declared.entry.Entry.{Entry}
-use Rattle.cmc_objects.specs.declared.entry.Entry.TheVariants.{Script, Call as Called, Deliver, List as Listed, Begin, Ask, Made, Signed, Answered, Judged, End, Stop, Start, Tick}
+use Rattle.cmc_objects.specs.declared.entry.Entry.TheVariants.{Ask}
 use Rattle.cmc_pass.specs.declared.pass.Desk.{Desk}
 use Rattle.cmc_pass.specs.declared.pass.Views.{Views}
 use Rattle.cmc_model.specs.Histories.{Setting}

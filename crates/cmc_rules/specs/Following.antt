@@ -1,5 +1,5 @@
 -- Which histories follow a script.
-use Rattle.std.specs.Prelude.{◌≡◌, ◌⊎◌, ℕ, pos, ◌+◌, ◌+ℤ◌, ◌-◌, ◌≤◌, Bool, true, false, ◌&&◌, List, [], ◌∷◌, length, Option, Some, None, option_map, option_and_then, if◌then◌else◌}
+use Rattle.std.specs.Prelude.{◌≡◌, ◌⊎◌, ℕ, ℤ, pos, ◌+◌, ◌+ℤ◌, ◌-◌, ◌≤◌, Bool, false, ◌&&◌, List, [], ◌∷◌, length, Option, Some, None, option_and_then, if◌then◌else◌}
 use Rattle.cmc_meta.specs.declared.key.Kind.{Kind}
 use Rattle.cmc_objects.specs.declared.object.Object.{Object}
 use Rattle.cmc_objects.specs.declared.call.Call.{Call}
@@ -45,37 +45,34 @@ call_of objects (steps.Release role kind) = None
 call_of objects (steps.Until role kind writes) = None
 call_of objects steps.Settle = None
 
--- whether a step is a call of a user, if there is one to make
-abbrev pub is_users : Step → Bool
-is_users (steps.Apply object version) = true
-is_users (steps.Delete key version) = true
-is_users (steps.Approve certificate revision) = true
-is_users (steps.Deny certificate revision) = true
-is_users (steps.Answer certificate revision row) = true
-is_users (steps.Renew certificate) = true
-is_users (steps.Tick seconds) = false
-is_users (steps.Stop role) = false
-is_users (steps.Start role behind) = false
-is_users (steps.Hold role kind) = false
-is_users (steps.Release role kind) = false
-is_users (steps.Until role kind writes) = false
-is_users steps.Settle = false
+-- What a step that makes no call has happen, after so many accepted writes and at this moment. A start tells the role of
+-- all but the last so many of the writes.
+abbrev pub effect_besides : ℕ → ℤ → Step → Option Effect
+effect_besides accepted moment (steps.Apply object version) = None
+effect_besides accepted moment (steps.Delete key version) = None
+effect_besides accepted moment (steps.Approve certificate revision) = None
+effect_besides accepted moment (steps.Deny certificate revision) = None
+effect_besides accepted moment (steps.Answer certificate revision row) = None
+effect_besides accepted moment (steps.Renew certificate) = None
+effect_besides accepted moment (steps.Tick seconds) = Some (effects.Tick (moment +ℤ pos seconds))
+effect_besides accepted moment (steps.Stop role) = Some (effects.Stop role)
+effect_besides accepted moment (steps.Start role behind) = Some (effects.Start role (accepted - behind))
+effect_besides accepted moment (steps.Hold role kind) = None
+effect_besides accepted moment (steps.Release role kind) = None
+effect_besides accepted moment (steps.Until role kind writes) = None
+effect_besides accepted moment steps.Settle = None
 
--- What a step has happen directly after it. A start tells the role of all but the last so many accepted writes.
+-- the call, if the step makes one, and else the other effect
+abbrev pub call_or : Option Call → Option Effect → Option Effect
+call_or (Some call) other = Some (effects.Call call)
+call_or None other = other
+
+-- what a step has happen directly after it, where these objects stand
+abbrev pub effect_on : Objects → ℕ → ℤ → Step → Option Effect
+effect_on objects accepted moment step = call_or (call_of objects step) (effect_besides accepted moment step)
+
 abbrev pub effect_of : Setting → List Entry → Step → Option Effect
-effect_of s h (steps.Apply object version) = option_map effects.Call (call_of (objects s h) (steps.Apply object version))
-effect_of s h (steps.Delete key version) = option_map effects.Call (call_of (objects s h) (steps.Delete key version))
-effect_of s h (steps.Approve certificate revision) = option_map effects.Call (call_of (objects s h) (steps.Approve certificate revision))
-effect_of s h (steps.Deny certificate revision) = option_map effects.Call (call_of (objects s h) (steps.Deny certificate revision))
-effect_of s h (steps.Answer certificate revision row) = option_map effects.Call (call_of (objects s h) (steps.Answer certificate revision row))
-effect_of s h (steps.Renew certificate) = option_map effects.Call (call_of (objects s h) (steps.Renew certificate))
-effect_of s h (steps.Tick seconds) = Some (effects.Tick (moment s h +ℤ pos seconds))
-effect_of s h (steps.Stop role) = Some (effects.Stop role)
-effect_of s h (steps.Start role behind) = Some (effects.Start role (accepted s h - behind))
-effect_of s h (steps.Hold role kind) = None
-effect_of s h (steps.Release role kind) = None
-effect_of s h (steps.Until role kind writes) = None
-effect_of s h steps.Settle = None
+effect_of s h step = effect_on (objects s h) (accepted s h) (moment s h) step
 
 -- what has to come next: the effect of the step whose entry is the newest
 abbrev pub owed : Setting → List Entry → Option Effect

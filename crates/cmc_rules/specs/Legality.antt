@@ -1,5 +1,5 @@
 -- Which histories are legal: each reply is the store's, roles are told as watches tell, and passes begin and go on only as they may.
-use Rattle.std.specs.Prelude.{◌≡◌, ℕ, ◌+◌, ◌<◌, ◌≤◌, true, false, ℤ, List, [], ◌∷◌, Option, Some, None}
+use Rattle.std.specs.Prelude.{◌≡◌, ℕ, ◌+◌, ◌<◌, ◌≤◌, true, ℤ, List, [], ◌∷◌, Option, Some, None}
 use Rattle.cmc_meta.specs.declared.key.Kind.{Kind}
 use Rattle.cmc_objects.specs.declared.role.Role.{Role}
 use Rattle.cmc_meta.specs.declared.key.Key.{Key}
@@ -14,7 +14,7 @@ use Rattle.cmc_model.specs.Replies.{IsReply}
 use Rattle.cmc_model.specs.Histories.{Setting, moment, state, accepted, runs}
 use Rattle.cmc_model.specs.Writes.{writes, write_at, is_known}
 use Rattle.cmc_rules.specs.Positions.{has_informer, kind_of_work, position, positions}
-use Rattle.cmc_rules.specs.Passes.{open_pass, begun, is_pass_of}
+use Rattle.cmc_rules.specs.Passes.{open_pass, begun, IsWorking}
 
 abbrev pub IsOfKind : Kind → Option Write → Type 0
 IsOfKind kind None = ⊥
@@ -41,7 +41,7 @@ pub record IsBegin (s : Setting) (h : List Entry) (pass : ℕ) (role : Role) (ke
   pub numbered : pass ≡ begun h + 1
   pub work : key.kind ≡ kind_of_work role
   pub known : is_known key (writes s h) ≡ true
-  pub free : (n : ℕ) → is_pass_of role key (open_pass s h n) ≡ false
+  pub free : IsWorking s h role key → ⊥
   pub told : at ≡ positions h role
   pub present : now ≡ moment s h
 

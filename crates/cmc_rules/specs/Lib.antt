@@ -2,6 +2,9 @@ pub mod Positions
 pub mod Viewing
 pub mod Desks
 pub mod Passes
+pub mod Origins
+pub mod Memory
+pub mod Sameness
 pub mod Legality
 pub mod Causes
 pub mod Scripting
@@ -9,6 +12,9 @@ pub mod Resting
 pub mod Following
 pub mod Runs
 pub mod Facts
+pub mod Dates
 pub mod Triggering
 pub mod Acts
 pub mod Rights
+pub mod Sighting
+pub mod Sound

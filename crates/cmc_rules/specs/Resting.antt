@@ -12,7 +12,9 @@ use Rattle.cmc_model.specs.Histories.{Setting, moment, runs}
 use Rattle.cmc_model.specs.Writes.{writes, last_of_kind, is_known}
 use Rattle.cmc_rules.specs.Positions.{has_informer, position, positions}
 use Rattle.cmc_rules.specs.Viewing.{views, present_views}
-use Rattle.cmc_rules.specs.Passes.{open_pass, past, IsDue}
+use Rattle.cmc_rules.specs.Passes.{open_pass}
+use Rattle.cmc_rules.specs.Memory.{past}
+use Rattle.cmc_rules.specs.Sameness.{IsDue}
 use Rattle.cmc_rules.specs.Scripting.{held, has_held}
 
 -- the role has nothing to do where it sees this

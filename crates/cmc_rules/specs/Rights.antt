@@ -1,26 +1,30 @@
 -- What a role's accepted write may change.
-use Rattle.std.specs.Prelude.{◌≡◌, ◌==◌, ◌+◌, Bool, not, MatchBool, List, [], ◌∷◌, filter, Option, Some, None}
+use Rattle.std.specs.Prelude.{◌≡◌, ◌⊎◌, ◌+◌, ◌==◌, Bool, true, false, not, filter, List, ◌∷◌, [], Option, Some, None, MatchBool}
+use Rattle.cmc_meta.specs.declared.object_meta.ObjectMeta.{ObjectMeta}
 use Rattle.cmc_meta.specs.declared.conditions.Condition.{Condition}
 use Rattle.cmc_meta.specs.declared.conditions.ConditionKind.{ConditionKind}
-use Rattle.cmc_meta.specs.declared.conditions.ConditionKind.TheVariants.{Issuing}
+use Rattle.cmc_meta.specs.declared.conditions.ConditionKind.TheVariants as kinds
 use Rattle.cmc_meta.specs.ConditionLists.{condition_rank}
-use Rattle.cmc_objects.specs.declared.certificate.Certificate.{Certificate}
+use Rattle.cmc_objects.specs.declared.certificate.CertStatus.{CertStatus}
+use Rattle.cmc_objects.specs.declared.request.RequestStatus.{RequestStatus}
 use Rattle.cmc_objects.specs.declared.object.Object.{Object}
 use Rattle.cmc_objects.specs.declared.object.Object.TheVariants.{Cert, Request, Secret}
-use Rattle.cmc_objects.specs.declared.role.Role.{Role}
-use Rattle.cmc_objects.specs.declared.role.Role.TheVariants as roles
 use Rattle.cmc_objects.specs.declared.call.Call.{Call}
 use Rattle.cmc_objects.specs.declared.call.Reply.{Reply}
+use Rattle.cmc_objects.specs.declared.role.Role.{Role}
+use Rattle.cmc_objects.specs.declared.role.Role.TheVariants as roles
 use Rattle.cmc_objects.specs.declared.entry.Who.{Who}
 use Rattle.cmc_objects.specs.declared.entry.Who.TheVariants.{User, Pass}
 use Rattle.cmc_objects.specs.declared.entry.Entry.{Entry}
 use Rattle.cmc_objects.specs.declared.entry.Entry.TheVariants.{Script, Call as Called, Deliver, List as Listed, Begin, Ask, Made, Signed, Answered, Judged, End, Stop, Start, Tick}
-use Rattle.cmc_pass.specs.declared.pass.Views.{Views}
-use Rattle.cmc_rules.specs.declared.progress.OpenPass.{OpenPass}
 use Rattle.cmc_model.specs.Objects.{object_at}
-use Rattle.cmc_model.specs.Replies.{is_accepted, key_of_call, stored}
+use Rattle.cmc_model.specs.Replies.{key_of_call, stored, is_accepted}
 use Rattle.cmc_model.specs.Histories.{Setting, moment, objects, accepted}
+use Rattle.cmc_rules.specs.declared.progress.OpenPass.{OpenPass}
+use Rattle.cmc_rules.specs.Viewing.{has_next_label}
 use Rattle.cmc_rules.specs.Passes.{open_pass}
+
+-- ---- which parts of a status
 
 -- the conditions but that of this kind
 abbrev pub is_other : ConditionKind → Condition → Bool
@@ -29,46 +33,84 @@ is_other kind condition = not (condition_rank condition.kind == condition_rank k
 abbrev pub other_conditions : ConditionKind → List Condition → List Condition
 other_conditions kind conditions = filter (is_other kind) conditions
 
--- the new Certificate is the old one under another resource version, but for its condition of this kind
-pub record ChangesCondition (kind : ConditionKind) (old new : Certificate) : Type 0 where
-  pub metadata : new.meta ≡ record old.meta { version = new.meta.version }
-  pub spec : new.spec ≡ old.spec
-  pub status : new.status ≡ record old.status { conditions = new.status.conditions }
-  pub others : other_conditions kind new.status.conditions ≡ other_conditions kind old.status.conditions
+-- The new status is the old one but for the named parts: the condition Issuing; the name of the next private key;
+-- what an issuance writes; readiness and validity.
+pub record ChangesIssuing (old new : CertStatus) : Type 0 where
+  pub rest : new ≡ record old { conditions = new.conditions }
+  pub others : other_conditions kinds.Issuing new.conditions ≡ other_conditions kinds.Issuing old.conditions
 
--- the trigger may change the condition Issuing of a Certificate that stands, and nothing else
-abbrev pub TriggerMayObject : Object → Object → Type 0
-TriggerMayObject (Cert old) (Cert new) = ChangesCondition Issuing old new
-TriggerMayObject (Cert old) (Request new) = ⊥
-TriggerMayObject (Cert old) (Secret new) = ⊥
-TriggerMayObject (Request old) new = ⊥
-TriggerMayObject (Secret old) new = ⊥
+pub record ChangesNextKey (old new : CertStatus) : Type 0 where
+  pub rest : new ≡ record old { next_key = new.next_key }
 
-abbrev pub TriggerMay : Option Object → Option Object → Type 0
-TriggerMay None new = ⊥
-TriggerMay (Some old) None = ⊥
-TriggerMay (Some old) (Some new) = TriggerMayObject old new
+pub record ChangesIssuance (old new : CertStatus) : Type 0 where
+  pub rest : new ≡ record old { conditions = new.conditions; revision = new.revision; last_failure = new.last_failure; attempts = new.attempts }
+  pub others : other_conditions kinds.Issuing new.conditions ≡ other_conditions kinds.Issuing old.conditions
 
--- the Certificate that a role sees, as an object
-abbrev pub seen_object : Option Certificate → Option Object
-seen_object None = None
-seen_object (Some certificate) = Some (Cert certificate)
+pub record ChangesReadiness (old new : CertStatus) : Type 0 where
+  pub rest : new ≡ record old { conditions = new.conditions; not_before = new.not_before; not_after = new.not_after; renewal = new.renewal }
+  pub others : other_conditions kinds.Ready new.conditions ≡ other_conditions kinds.Ready old.conditions
 
-abbrev pub seen : Views → Option Object
-seen views = seen_object views.certificate
+-- of a request: its verdict, or what its issuer answered
+pub record ChangesVerdict (old new : RequestStatus) : Type 0 where
+  pub rest : new ≡ record old { conditions = new.conditions }
+  pub others : other_conditions kinds.Approved (other_conditions kinds.Denied new.conditions) ≡ other_conditions kinds.Approved (other_conditions kinds.Denied old.conditions)
+
+pub record ChangesAnswer (old new : RequestStatus) : Type 0 where
+  pub rest : new ≡ record old { conditions = new.conditions; certificate = new.certificate; ca = new.ca; failure = new.failure }
+  pub others : other_conditions kinds.Ready new.conditions ≡ other_conditions kinds.Ready old.conditions
+
+-- ---- which objects
+
+-- the metadata is the old one under another resource version
+abbrev pub KeepsMeta : ObjectMeta → ObjectMeta → Type 0
+KeepsMeta old new = new ≡ record old { version = new.version }
+
+-- a Certificate keeps all but its status, and a CertificateRequest too
+abbrev pub OfCertificates : (CertStatus → CertStatus → Type 0) → Object → Object → Type 0
+OfCertificates changes (Cert old) (Cert new) = KeepsMeta old.meta new.meta × (new.spec ≡ old.spec) × changes old.status new.status
+OfCertificates changes old new = ⊥
+
+abbrev pub OfRequests : (RequestStatus → RequestStatus → Type 0) → Object → Object → Type 0
+OfRequests changes (Request old) (Request new) = KeepsMeta old.meta new.meta × (new.spec ≡ old.spec) × changes old.status new.status
+OfRequests changes old new = ⊥
+
+-- a request; a Secret with, or without, the label of a next private key
+abbrev pub IsRequest : Object → Type 0
+IsRequest (Request r) = Unit {0}
+IsRequest other = ⊥
+
+abbrev pub IsLabelled : Bool → Object → Type 0
+IsLabelled label (Secret k) = has_next_label k.meta ≡ label
+IsLabelled label other = ⊥
+
+-- an object is made, taken away or changed
+abbrev pub Makes : (Object → Type 0) → Option Object → Option Object → Type 0
+Makes P None (Some new) = P new
+Makes P old new = ⊥
+
+abbrev pub Takes : (Object → Type 0) → Option Object → Option Object → Type 0
+Takes P (Some old) None = P old
+Takes P old new = ⊥
+
+abbrev pub Changes : (Object → Object → Type 0) → Option Object → Option Object → Type 0
+Changes P (Some old) (Some new) = P old new
+Changes P old new = ⊥
+
+-- ---- which role
+
+-- what the role may make of what stands under a key
+abbrev pub MayChange : Role → Option Object → Option Object → Type 0
+MayChange roles.Trigger old new = Changes (OfCertificates ChangesIssuing) old new
+MayChange roles.KeyManager old new = Makes (IsLabelled true) old new ⊎ (Takes (IsLabelled true) old new ⊎ Changes (OfCertificates ChangesNextKey) old new)
+MayChange roles.RequestManager old new = Makes IsRequest old new ⊎ Takes IsRequest old new
+MayChange roles.Approver old new = Changes (OfRequests ChangesVerdict) old new
+MayChange roles.Issuer old new = Changes (OfRequests ChangesAnswer) old new
+MayChange roles.Issuing old new =
+    Makes (IsLabelled false) old new ⊎ (Changes (λ o n. IsLabelled false o × IsLabelled false n) old new ⊎ Changes (OfCertificates ChangesIssuance) old new)
+MayChange roles.Readiness old new = Changes (OfCertificates ChangesReadiness) old new
+MayChange roles.Revision old new = Takes IsRequest old new
 
 -- ---- in a history
-
--- what the role may make of what stands under a key; of the roles of today the trigger alone writes
-abbrev pub MayChange : Role → Option Object → Option Object → Type 0
-MayChange roles.Trigger old new = TriggerMay old new
-MayChange roles.KeyManager old new = ⊥
-MayChange roles.RequestManager old new = ⊥
-MayChange roles.Approver old new = ⊥
-MayChange roles.Issuer old new = ⊥
-MayChange roles.Issuing old new = ⊥
-MayChange roles.Readiness old new = ⊥
-MayChange roles.Revision old new = ⊥
 
 -- the call, accepted now, changes what stands under its key as the role of the pass may
 abbrev pub IsRightful : Setting → List Entry → Call → Option OpenPass → Type 0

@@ -15,7 +15,7 @@ use Rattle.cmc_policies.specs.declared.facts.Reason.{Reason}
 use Rattle.cmc_policies.specs.declared.renewal.Renew.{Renew}
 use Rattle.cmc_policies.specs.declared.renewal.Renew.TheVariants.{Default, Before, Percent}
 use Rattle.cmc_policies.specs.Reasons.{reason_name}
-use Rattle.cmc_policies.specs.Renewal.{IsCertificateTime, backoff}
+use Rattle.cmc_policies.specs.Renewal.{backoff}
 use Rattle.cmc_pass.specs.declared.pass.Views.{Views}
 use Rattle.cmc_pass.specs.declared.pass.Act.{Act}
 use Rattle.cmc_pass.specs.declared.pass.Act.TheVariants.{Nothing, Call as Calls}
@@ -78,15 +78,3 @@ for_option moment secret (Some certificate) = for_certificate moment secret cert
 
 unfoldable pub trigger : Views → ℤ → Act
 trigger views moment = for_option moment views.secret views.certificate
-
--- the moment of the last failure, where there is one, lies in the years 1950 to 9999
-abbrev pub IsDatedOption : Option ℤ → Type 0
-IsDatedOption None = Unit {0}
-IsDatedOption (Some at) = IsCertificateTime at
-
-abbrev pub IsDatedCertificate : Option Certificate → Type 0
-IsDatedCertificate None = Unit {0}
-IsDatedCertificate (Some certificate) = IsDatedOption certificate.status.last_failure
-
-abbrev pub HasDatedFailure : Views → Type 0
-HasDatedFailure views = IsDatedCertificate views.certificate

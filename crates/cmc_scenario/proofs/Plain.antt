@@ -80,19 +80,3 @@ plain_is_setup roles script order plain = record {
   roles = order;
   orderly = none_switched roles script plain.steady;
 }
-
-of_members : (P : Step → Type 0) → IsOfRead P → (d : Data) → Always (λ (setup : Setup). IsReadScript P setup.script) (members_at d)
-unfolding members_at
-of_members P facts d =
-    let Q : Setup → Type 0 = λ setup. IsReadScript P setup.script in
-    next Q (fields_at d) _ (λ fs. next Q (optional_at (codes "roles") fs) _ (λ roles. next Q (roles_at roles.0) _ (λ named. next Q (optional_at (codes "script") roles.1) _ (λ script. after (IsReadScript P) Q (script_at script.0) _ (of_script P facts script.0) (λ steps all. next Q (at_end script.1) _ (λ end. next Q (with_roles roles.0) _ (λ given. so all)))))))
-
-of_scenario : (P : Step → Type 0) → IsOfRead P → (d : Data) → Always (λ (setup : Setup). IsReadScript P setup.script) (scenario_at d)
-unfolding scenario_at
-of_scenario P facts d =
-    let Q : Setup → Type 0 = λ setup. IsReadScript P setup.script in
-    after Q Q (members_at d) _ (of_members P facts d) (λ setup all. next Q (floats_at d) _ (λ none. so all))
-
--- what is so of applying, of deleting and of settling is so of each step of a scenario that is read
-pub script_of_scenario : (P : Step → Type 0) → IsOfRead P → (d : Data) (setup : Setup) → scenario_at d ≡ Ok setup → IsReadScript P setup.script
-script_of_scenario P facts d setup is = (of_scenario P facts d).each setup is

@@ -1,5 +1,5 @@
 -- Replies to changes that are accepted.
-use Rattle.std.proofs.Common.{◌≡◌, ◌≢◌, ℕ, ◌+◌, ◌==◌, List, Option, Some, true, false, refl, sym, subst, inr, arith}
+use Rattle.std.proofs.Common.{◌≡◌, ◌≢◌, ℕ, ◌+◌, ◌==◌, Bool, List, Option, Some, true, false, refl, sym, subst, inr, arith}
 use Rattle.std.proofs.lemmas.Bool.Decides.{nat_tests}
 use Rattle.std.specs.Prelude.{IfOk}
 use Rattle.std.specs.declared.alloc.AllocError.{AllocError}
@@ -16,9 +16,9 @@ use Rattle.cmc_model.specs.Replies.{State, IsUpdated, IsRestated, IsServed, IsRe
 use Rattle.cmc_store.specs.declared.calls.Replied.{Replied}
 
 -- a change under the version that stands is accepted
-pub updated_reply : (accepted : ℕ) (object old : Object) (named : ℕ) (stands : Option Object) (name : List ℕ) → stands ≡ Some old → named ≡ version_of old
-    → updated old object ≢ old → name ≡ name_of object → IsUpdated accepted object named stands (Ok (accepted + 1) name)
-updated_reply accepted object old named stands name is version differ is_name =
+pub updated_reply : (accepted : ℕ) (taken : Bool) (object old : Object) (named : ℕ) (stands : Option Object) (name : List ℕ) → stands ≡ Some old → named ≡ version_of old
+    → updated old object ≢ old → name ≡ name_of object → IsUpdated accepted taken object named stands (Ok (accepted + 1) name)
+updated_reply accepted taken object old named stands name is version differ is_name =
     let same : (named == version_of old) ≡ true = grind (arith, nat_tests) in
     rw (is, same, is_name) (inr (differ, refl))
 

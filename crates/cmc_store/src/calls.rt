@@ -2,6 +2,7 @@
 ghost use Rattle.std.specs.Prelude.{◌≡◌, ◌+◌, ◌<◌, ◌^◌, Some, None, IfOk, OnErr};
 ghost use Rattle.cmc_objects.specs.Objects.{key_of};
 ghost use Rattle.cmc_model.specs.Objects.{object_at, with_object};
+ghost use Rattle.cmc_model.specs.Admission.{is_taken};
 ghost use Rattle.cmc_model.specs.Stored.{created, revised, restated};
 ghost use Rattle.cmc_model.specs.Replies.{IsCreated, IsUpdated, IsRestated, IsDeleted, IsGot, from_old};
 ghost use Rattle.cmc_store.specs.Answers.{IsAnswer};
@@ -61,7 +62,7 @@ pub fn create(
     object: &Object,
 ) -> Result<Replied, AllocError>
     requires { accepted + 1 < 2 ^ 64 }
-    ensures reply { IfOk result (λ r. IsCreated accepted object.now (object_at shelf.old (key_of object.now)) r.reply) }
+    ensures reply { IfOk result (λ r. IsCreated accepted (is_taken shelf.old object.now) object.now (object_at shelf.old (key_of object.now)) r.reply) }
     ensures answer { IfOk result (λ r. IsAnswer (key_of object.now) (Some (created (accepted + 1) now object.now)) shelf.old shelf.new r) }
     ensures err { OnErr result (shelf.new ≡ shelf.old) }
 {
@@ -84,7 +85,7 @@ pub fn update(
     named: u64,
 ) -> Result<Replied, AllocError>
     requires { accepted + 1 < 2 ^ 64 }
-    ensures reply { IfOk result (λ r. IsUpdated accepted object.now named (object_at shelf.old (key_of object.now)) r.reply) }
+    ensures reply { IfOk result (λ r. IsUpdated accepted (is_taken shelf.old object.now) object.now named (object_at shelf.old (key_of object.now)) r.reply) }
     ensures answer { IfOk result (λ r. IsAnswer (key_of object.now) (from_old (λ old. revised (accepted + 1) old object.now) (object_at shelf.old (key_of object.now))) shelf.old shelf.new r) }
     ensures err { OnErr result (shelf.new ≡ shelf.old) }
 {

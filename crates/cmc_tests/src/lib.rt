@@ -3,6 +3,8 @@
 #![tactic(auto)]
 
 #[cfg(test)]
+mod answers;
+#[cfg(test)]
 mod codec;
 #[cfg(test)]
 mod cursor;
@@ -18,6 +20,8 @@ mod made_keys;
 mod made_requests;
 #[cfg(test)]
 mod made_values;
+#[cfg(test)]
+mod matching;
 #[cfg(test)]
 mod meta;
 #[cfg(test)]

@@ -62,7 +62,7 @@ fn is_of_form(request: &CertificateRequest) -> bool
 }
 
 /// The first question about the request, where it may be asked; the issuer has not decided.
-fn question(request: CertificateRequest) -> Option<SignOrder> {
+pub fn question(request: CertificateRequest) -> Option<SignOrder> {
     let conditions = request.status.conditions.as_slice();
     if stands(conditions, ConditionKind::Approved)
         && !stands(conditions, ConditionKind::Denied)

@@ -1,13 +1,13 @@
 //! What no clause says: what is written, as texts, and that there is an answer where memory is ample.
 ghost use Rattle.std.specs.Prelude.{◌≡◌, IfOk};
-ghost use Rattle.cmc_rules.specs.Triggering.{IsDatedOption, HasDatedFailure};
+ghost use Rattle.cmc_rules.specs.Dates.{IsDatedOption, HasDatedFailure};
 
 use crate::values::{least_spec, new_meta, octets, text};
 use cmc_meta::{Bytes, Condition, ConditionKind, Conditions, Text, Texts, Tri};
 use cmc_objects::{Call, CertStatus, Certificate, Material, Object, Parts, Rules, Secret};
 use cmc_pass::{Act, Desk, Views};
 use cmc_policy_rules::Policies;
-use cmc_trigger::{act, changes_issuing_alone};
+use cmc_trigger::{act, is_sound};
 use std::alloc::{AllocError, Global};
 use std::test::Fail;
 
@@ -157,7 +157,7 @@ fn told_of(alloc: Global, case: &Case) -> Result<String, Fail>
 #[test]
 fn rows(rt: HostRuntime) -> Result<(), Fail> {
     let alloc = rt.alloc();
-    changes_issuing_alone();
+    is_sound();
     let absent = "3 1893456000 DoesNotExist: Certificate must be issued: DoesNotExist";
     let missing = "3 1893456000 MissingData: Certificate must be issued: MissingData";
     let unpaired = "3 1893456000 InvalidKeyPair: Certificate must be issued: InvalidKeyPair";

@@ -1,1 +1,1 @@
-pub mod OneCondition
+pub mod Sound

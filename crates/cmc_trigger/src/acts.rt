@@ -3,7 +3,7 @@ ghost use Rattle.std.specs.Prelude.{◌≡◌, IfOk};
 ghost use Rattle.cmc_objects.specs.declared.role.Role.TheVariants.{Trigger};
 ghost use Rattle.cmc_rules.specs.Acts as acts;
 ghost use Rattle.cmc_rules.specs.Triggering as spec;
-ghost use Rattle.cmc_rules.specs.Triggering.{IsDatedOption, HasDatedFailure};
+ghost use Rattle.cmc_rules.specs.Dates.{IsDatedOption, HasDatedFailure};
 
 use crate::issuing::{is_issuing, issue_call};
 use crate::reasons::reason_for;

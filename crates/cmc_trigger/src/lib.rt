@@ -5,8 +5,8 @@
 
 mod acts;
 mod issuing;
+mod laws;
 mod reasons;
-mod rights;
 
 pub use acts::act;
-pub use rights::changes_issuing_alone;
+pub use laws::is_sound;

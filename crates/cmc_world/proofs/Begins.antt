@@ -1,5 +1,5 @@
 -- What a world holds after a pass has begun.
-use Rattle.std.proofs.Common.{◌≡◌, ℕ, ℤ, ◌+◌, Bool, true, false, List, ◌∷◌, length, Option, Some, refl, sym, ap, subst, ◌∙◌, arith}
+use Rattle.std.proofs.Common.{◌≡◌, ℕ, ℤ, ◌+◌, List, ◌∷◌, length, Option, Some, refl, sym, ap, subst, ◌∙◌, arith}
 use Rattle.std.specs.Prelude.{◌==◌, ◌&&◌, ◌≤◌, if◌then◌else◌}
 use Rattle.cmc_meta.specs.declared.key.Key.{Key}
 use Rattle.cmc_meta.specs.Keys.{key_eq}
@@ -14,16 +14,17 @@ use Rattle.cmc_rules.specs.declared.progress.Past.{Past}
 use Rattle.cmc_model.specs.Histories.{Setting, moment, role_eq}
 use Rattle.cmc_rules.specs.Positions.{positions}
 use Rattle.cmc_rules.specs.Viewing.{views, views_in}
-use Rattle.cmc_rules.specs.Passes.{open_pass, begun, past, new_pass, is_pass_of, with_begin}
+use Rattle.cmc_rules.specs.Sameness.{IsDue}
+use Rattle.cmc_rules.specs.Passes.{begun, new_pass}
+use Rattle.cmc_rules.specs.Memory.{past, with_begin}
 use Rattle.cmc_rules.specs.Legality.{IsBegin}
 use Rattle.cmc_rules.proofs.Positions.{begun_short}
 use Rattle.cmc_held.specs.declared.standings.Standing.{Standing}
 use Rattle.cmc_held.specs.Dues.{shown_positions}
 use Rattle.cmc_held.specs.Sight.{caches_at}
-use Rattle.cmc_held.proofs.Behind.{due_by_tests}
 use Rattle.cmc_world.specs.declared.beginning.Prepared.{Prepared}
 use Rattle.cmc_world.specs.declared.moves.Stepped.TheVariants.{Done}
-use Rattle.cmc_world.specs.Answers.{AnswersBegin, beginning}
+use Rattle.cmc_world.specs.Answers.{AnswersBegin}
 use Rattle.cmc_world.specs.Kept.{Holdings, IsKept}
 use Rattle.cmc_world.specs.Prepared.{IsPrepared}
 use Rattle.cmc_world.proofs.Events.{kept_begun}
@@ -55,10 +56,6 @@ prepared s h w role key copied t at seen twice pass since count k stood shown e 
       at = shown_is s h w role t at k stood shown;
     }
 
-not_so : (b : Bool) → (b ≡ true → ⊥) → b ≡ false
-not_so true other = absurd (other refl)
-not_so false other = refl
-
 pub kept_open : (s : Setting) (h : List Entry) (w : Holdings) (role : Role) (p : Prepared) (now later : ℤ) (os : List Origin) (opened : ℕ → Option OpenPass) (pasts : Role → Key → Past)
     → IsKept s h w → now ≡ w.moment → later ≡ w.moment → AnswersBegin s h role p.key Done → IsPrepared s h role p.key p
     → os ≡ p.origin ∷ w.origins
@@ -69,14 +66,14 @@ kept_open s h w role p now later os opened pasts k m1 m2 a is came put noted =
     let now_is : now ≡ moment s h = m1 ∙ k.held.moment in
     let later_is : later ≡ moment s h = m2 ∙ k.held.moment in
     let may = may_begin s h role p.key a in
-    let due = due_by_tests (past s h role p.key) (views s h role p.key) (moment s h) (positions h role) may.own may.other in
+    let due : IsDue (past s h role p.key) (views s h role p.key) (moment s h) (positions h role) = record { told = may.own; other = may.other } in
     let begins : IsBegin s h (begun h + 1) role p.key (positions h role) (moment s h) =
     record {
       running = may.running;
       numbered = refl;
       work = may.queued.0;
       known = may.queued.1;
-      free = λ n. not_so (is_pass_of role p.key (open_pass s h n)) (λ busy. may.idle (n, busy));
+      free = may.idle;
       told = refl;
       present = refl;
     } in
@@ -88,8 +85,3 @@ kept_open s h w role p now later os opened pasts k m1 m2 a is came put noted =
     subst (λ (m : ℕ). IsKept s (Begin m role p.key p.at later ∷ h) (record w { origins = os; opened = opened; past = pasts })) (sym is.number)
     (subst (λ (q : Positions). IsKept s (Begin (begun h + 1) role p.key q later ∷ h) (record w { origins = os; opened = opened; past = pasts })) (sym is.at)
     (subst (λ (m : ℤ). IsKept s (Begin (begun h + 1) role p.key (positions h role) m ∷ h) (record w { origins = os; opened = opened; past = pasts })) (sym later_is) kept))
-
--- the entry is that of the pass that begins
-pub begins_so : (s : Setting) (h : List Entry) (w : Holdings) (role : Role) (p : Prepared) (later : ℤ) → IsKept s h w → later ≡ w.moment → IsPrepared s h role p.key p → Begin p.number role p.key p.at later ≡ beginning s h role p.key
-begins_so s h w role p later k m is =
-    ap (λ (n : ℕ). Begin n role p.key p.at later) is.number ∙ ap (λ (q : Positions). Begin (begun h + 1) role p.key q later) is.at ∙ ap (λ (n : ℤ). Begin (begun h + 1) role p.key (positions h role) n) (m ∙ k.held.moment)

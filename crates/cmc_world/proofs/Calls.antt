@@ -21,7 +21,8 @@ use Rattle.cmc_model.specs.Replies.{State, IsReply, is_accepted, key_of_call, ke
 use Rattle.cmc_model.specs.Histories.{Setting, moment, state, accepted, role_eq}
 use Rattle.cmc_model.specs.Writes.{write_of}
 use Rattle.cmc_rules.specs.Positions.{position_of}
-use Rattle.cmc_rules.specs.Passes.{open_pass, stage_by, stage_after, with_stage, with_ending}
+use Rattle.cmc_rules.specs.Passes.{open_pass, stage_by, stage_after, with_stage}
+use Rattle.cmc_rules.specs.Memory.{with_ending}
 use Rattle.cmc_rules.specs.Causes.{MayCall, MayEnd}
 use Rattle.cmc_rules.specs.Following.{written}
 use Rattle.cmc_model.proofs.Writes.{writes_count}
@@ -60,6 +61,11 @@ log_fits s h w n k short e =
 
 -- ---- calls
 
+-- the store's reply is right
+pub right_reply : (s : Setting) (h : List Entry) (w : Holdings) (call : Call) (reply : Reply) → IsKept s h w → IsReply w.faults w.state call reply → IsReply s.faults (state s h) call reply
+right_reply s h w call reply k right =
+    subst (λ (x : State). IsReply s.faults x call reply) k.held.state (subst (λ (x : List ℕ). IsReply x w.state call reply) k.held.faults right)
+
 pub kept_call : (s : Setting) (h : List Entry) (w : Holdings) (n : ℕ) (call : Call) (c : Calling) (reply : Reply) (key : Option Key) (object : Option Object) (stage : Stage) (now : ℤ) (version entry : ℕ)
     (fs : List ℕ) (st : State) (log : List Write) (t : Role → Standing) (opened : ℕ → Option OpenPass) (pasts : Role → Key → Past)
     → IsKept s h w → IsCalling s h n call c → MayCall s h (open_pass s h n) call → length h < s.events → now ≡ w.moment
@@ -74,7 +80,7 @@ kept_call s h w n call c reply key object stage now version entry fs st log t op
     let version_is : version ≡ accepted s h + 1 = v ∙ ap (λ (ws : List Write). length ws + 1) k.held.log ∙ ap (λ (m : ℕ). m + 1) (writes_count s h) in
     let stage_is : stage ≡ stage_after s h call reply =
     staged ∙ ap (λ (m : ℕ). stage_by m c.kind c.last reply) e ∙ ap (λ (kind : Kind). stage_by (length h + 1) kind c.last reply) is.kind ∙ ap (λ (m : ℕ). stage_by (length h + 1) (key_of_call call).kind m reply) is.last in
-    let right_is : IsReply s.faults (state s h) call reply = subst (λ (x : State). IsReply s.faults x call reply) k.held.state (subst (λ (x : List ℕ). IsReply x w.state call reply) k.held.faults right) in
+    let right_is = right_reply s h w call reply k right in
     let after_is : st ≡ state_after (moment s h) (state s h) call reply = after ∙ ap (λ (x : ℤ). state_after x w.state call reply) now_is ∙ ap (λ (x : State). state_after (moment s h) x call reply) k.held.state in
     let log_is : log ≡ (if is_accepted reply then write_of (moment s h) (state s h) call ∷ w.log else w.log) =
     logged_is ∙ ap (λ (x : Option Key). logged x object w.log) named ∙ ap (λ (x : Option Object). logged (key_written call reply) x w.log) stored

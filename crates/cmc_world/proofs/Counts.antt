@@ -9,13 +9,13 @@ use Rattle.cmc_objects.specs.declared.role.Role.{Role}
 use Rattle.cmc_objects.specs.declared.call.Call.{Call}
 use Rattle.cmc_objects.specs.declared.call.Reply.{Reply}
 use Rattle.cmc_objects.specs.declared.entry.Entry.{Entry}
-use Rattle.cmc_objects.specs.declared.entry.Entry.TheVariants.{Script, Call as Called, Deliver, List as Listed, Begin, Ask, Made, Signed, Answered, Judged, End, Stop, Start, Tick}
+use Rattle.cmc_objects.specs.declared.entry.Entry.TheVariants.{Call as Called, Start}
 use Rattle.cmc_model.specs.declared.write.Write.{Write}
 use Rattle.cmc_rules.specs.declared.progress.Past.{Past}
 use Rattle.cmc_model.specs.Replies.{State, is_accepted, key_of_call, key_written, object_written, stored}
 use Rattle.cmc_model.specs.Histories.{Setting, incarnation, role_eq}
 use Rattle.cmc_model.specs.Writes.{write_of}
-use Rattle.cmc_rules.specs.Passes.{with_own}
+use Rattle.cmc_rules.specs.Memory.{with_own}
 use Rattle.cmc_rules.specs.Following.{written, is_write_by}
 use Rattle.cmc_held.specs.declared.standings.Standing.{Standing}
 use Rattle.cmc_world.specs.Changes.{writing}

@@ -11,7 +11,7 @@ use Rattle.cmc_rules.specs.Desks.{desk}
 use Rattle.cmc_model.specs.Histories.{Setting}
 use Rattle.cmc_rules.specs.Passes.{open_pass}
 use Rattle.cmc_rules.specs.Causes.{MayCall, MayEnd}
-use Rattle.cmc_rules.specs.Triggering.{HasDatedFailure}
+use Rattle.cmc_rules.specs.Dates.{HasDatedFailure}
 use Rattle.cmc_world.specs.declared.going.Doing.{Doing}
 use Rattle.cmc_world.specs.declared.going.Doing.TheVariants.{Call as Makes, End as Ends}
 use Rattle.cmc_world.specs.Acting.{IsServed, IsDoingBy, IsDoing}

@@ -1,5 +1,5 @@
 -- When a run is finished.
-use Rattle.std.proofs.Common.{◌≡◌, ℕ, Bool, true, false, List, length, None, Result, Ok, Err, IfOk}
+use Rattle.std.proofs.Common.{◌≡◌, Bool, true, List, length, None, Result, Ok, Err, IfOk}
 use Rattle.std.specs.Prelude.{◌↔◌, IsTrue}
 use Rattle.std.specs.declared.alloc.AllocError.{AllocError}
 use Rattle.cmc_objects.specs.declared.entry.Entry.{Entry}
@@ -8,10 +8,6 @@ use Rattle.cmc_rules.specs.Scripting.{scripted}
 use Rattle.cmc_rules.specs.Resting.{IsAtRest}
 use Rattle.cmc_rules.specs.Following.{owed}
 use Rattle.cmc_rules.specs.Runs.{IsFinished}
-
--- a step is left
-pub not_finished : (s : Setting) (h : List Entry) (made : Bool) → (IsTrue made ↔ (scripted h ≡ length s.script)) → made ≡ false → IsTrue false ↔ IsFinished s h
-not_finished s h made all off = (λ e. absurd (cc e), λ f. let on = all.1 f.all_steps in absurd (cc (on, off)))
 
 -- no step is left, and it is known whether all is at rest
 pub finished_by : (s : Setting) (h : List Entry) (made : Bool) (r : Result Bool AllocError) → (IsTrue made ↔ (scripted h ≡ length s.script)) → made ≡ true → owed s h ≡ None

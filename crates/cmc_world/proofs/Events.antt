@@ -22,7 +22,9 @@ use Rattle.cmc_model.specs.Histories.{Setting, moment, state, accepted, incarnat
 use Rattle.cmc_model.specs.Writes.{write_of}
 use Rattle.cmc_rules.specs.Positions.{positions}
 use Rattle.cmc_rules.specs.Viewing.{views}
-use Rattle.cmc_rules.specs.Passes.{open_pass, begun, past, stage_after, with_stage, unless_of, new_pass, is_pass_of, no_past, with_begin, with_own, with_ending, ending_at, ending_of, past_called, IsDue}
+use Rattle.cmc_rules.specs.Passes.{open_pass, begun, stage_after, with_stage, unless_of, new_pass, is_pass_of}
+use Rattle.cmc_rules.specs.Memory.{past, no_past, with_begin, with_own, with_ending, ending_at, ending_of, past_called}
+use Rattle.cmc_rules.specs.Sameness.{IsDue}
 use Rattle.cmc_rules.specs.Legality.{IsDelivery, IsListing, IsBegin, IsOpen, IsLegal}
 use Rattle.cmc_rules.specs.Causes.{MayCall, MayEnd, IsCaused}
 use Rattle.cmc_rules.specs.Scripting.{scripted, step_at, held}
@@ -31,24 +33,6 @@ use Rattle.cmc_held.specs.declared.standings.Standing.{Standing}
 use Rattle.cmc_world.specs.Kept.{standing, Holdings, IsHeld, IsKept}
 use Rattle.cmc_world.specs.Changes.{telling, stopping, starting, writing, scripted_standing}
 use Rattle.cmc_world.proofs.Standings.{standing_delivered, standing_listed, standing_stopped, standing_started, standing_scripted, standing_called}
-
--- what is kept pointwise may be kept in another way
-pub kept_same : (s : Setting) (h : List Entry) (w : Holdings) (pasts : Role → Key → Past) → IsKept s h w → ((r : Role) (k : Key) → pasts r k ≡ w.past r k) → IsKept s h (record w { past = pasts })
-kept_same s h w pasts k same = record {
-  held = record {
-    faults = k.held.faults;
-    state = k.held.state;
-    log = k.held.log;
-    moment = k.held.moment;
-    made = k.held.made;
-    standing = k.held.standing;
-    origins = k.held.origins;
-    opened = k.held.opened;
-    past = λ r key. same r key ∙ k.held.past r key;
-    run = k.held.run;
-  };
-  settled = k.settled;
-}
 
 -- ---- roles are told
 

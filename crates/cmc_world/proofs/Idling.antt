@@ -1,7 +1,9 @@
 -- What the tests of a scan say of a role and a key: that the role has nothing to do there, or may not begin.
 use Rattle.std.proofs.Common.{◌≡◌, ℕ, ℤ, List, Option, Some, None, Bool, true, false, refl, sym, ap, subst, ◌∙◌}
 use Rattle.std.proofs.lemmas.Result.{IfOk-weaker}
-use Rattle.std.specs.Prelude.{◌↔◌, ◌⊎◌, not, IsTrue, IfOk, MatchBool, Result, is_some}
+use Rattle.std.proofs.Common.{arith}
+use Rattle.std.proofs.lemmas.Bool.Decides.{nat_tests}
+use Rattle.std.specs.Prelude.{◌↔◌, ◌⊎◌, not, nat_lt, if◌then◌else◌, IsTrue, IfOk, MatchBool, Result, is_some}
 use Rattle.std.specs.declared.alloc.AllocError.{AllocError}
 use Rattle.cmc_meta.specs.declared.key.Key.{Key}
 use Rattle.cmc_objects.specs.declared.role.Role.{Role}
@@ -15,18 +17,19 @@ use Rattle.cmc_model.specs.declared.write.Write.{Write}
 use Rattle.cmc_rules.specs.Acts.{act}
 use Rattle.cmc_rules.specs.Desks.{desk}
 use Rattle.cmc_model.specs.Histories.{Setting, moment}
-use Rattle.cmc_rules.specs.Passes.{IsDue, IsSame, past}
+use Rattle.cmc_rules.specs.Memory.{past, no_past}
+use Rattle.cmc_rules.specs.Sameness.{IsDue, IsSame}
 use Rattle.cmc_rules.specs.Positions.{positions}
 use Rattle.cmc_model.specs.Replies.{State}
 use Rattle.cmc_rules.specs.Resting.{IsIdle, IsPaused, RestsOn}
 use Rattle.cmc_rules.specs.Scripting.{has_held}
-use Rattle.cmc_rules.specs.Triggering.{HasDatedFailure}
+use Rattle.cmc_rules.specs.Dates.{HasDatedFailure}
 use Rattle.cmc_rules.specs.Viewing.{views_in, views, present_views}
 use Rattle.cmc_model.specs.Writes.{writes}
-use Rattle.cmc_held.proofs.Behind.{due_by_tests, not_due_behind}
 use Rattle.cmc_held.proofs.Told.{views-told}
 use Rattle.cmc_held.specs.declared.standings.Standing.{Standing}
-use Rattle.cmc_held.specs.Dues.{own_above, shown_positions}
+use Rattle.cmc_held.specs.Dues.{shown_positions}
+use Rattle.cmc_rules.specs.Sameness.{own_above}
 use Rattle.cmc_held.specs.Sight.{caches_at}
 use Rattle.cmc_world.specs.Kept.{Holdings, IsKept}
 use Rattle.cmc_world.proofs.Dated.{dated_views, dated_present}
@@ -79,15 +82,26 @@ served_by s h role key w seen now r k at is found =
 
 -- ---- or no pass may begin
 
+none_above : (n : ℕ) (rest : Option ℕ) (b : Bool) → nat_lt n 0 ≡ b → rest ≡ None → (if b then Some 0 else rest) ≡ None
+none_above n rest true e none = absurd (grind (arith, nat_tests))
+none_above n rest false e none = none
+
+first_told : (at : Positions) → own_above no_past.own at ≡ None
+unfolding own_above
+first_told at = none_above at.certificates _ (nat_lt at.certificates 0) refl (none_above at.requests _ (nat_lt at.requests 0) refl (none_above at.secrets None (nat_lt at.secrets 0) refl refl))
+
+-- a role that remembers nothing of a key may begin
+pub due_at_first : (seen : Views) (now : ℤ) (at : Positions) → IsTrue true ↔ IsDue no_past seen now at
+due_at_first seen now at = (λ on. record { told = first_told at; other = λ same. same }, λ due. refl)
+
 -- what the two tests of a begin say: all own writes were told or not, and the pass is the last one again or not
 pub due_unless_same : (p : Past) (seen : Views) (now : ℤ) (at : Positions) (same : Bool) → own_above p.own at ≡ None → (IsTrue same ↔ IsSame p.last seen now at)
     → IsTrue (not same) ↔ IsDue p seen now at
 due_unless_same p seen now at true told e = (λ bad. absurd (cc), λ due. absurd (due.other (e.0 refl)))
-due_unless_same p seen now at false told e = (λ on. due_by_tests p seen now at told (λ same. let bad = e.1 same in absurd (cc)), λ due. refl)
+due_unless_same p seen now at false told e = (λ on. record { told = told; other = λ same. let bad = e.1 same in absurd (cc) }, λ due. refl)
 
 never_due : (p : Past) (seen : Views) (now : ℤ) (at : Positions) (own : Option ℕ) → is_some own ≡ true → own_above p.own at ≡ own → IsDue p seen now at → ⊥
-never_due p seen now at None some is due = absurd (cc)
-never_due p seen now at (Some v) some is due = not_due_behind p seen now at v is due
+never_due p seen now at own some is due = absurd (let none = due.told in cc (none, some, is))
 
 pub not_due_untold : (p : Past) (seen : Views) (now : ℤ) (at : Positions) (own : Option ℕ) (answer : Bool) → own ≡ own_above p.own at → is_some own ≡ true → answer ≡ false
     → IsTrue answer ↔ IsDue p seen now at

@@ -12,27 +12,30 @@ use Rattle.cmc_objects.specs.declared.entry.Entry.TheVariants.{Deliver, List as 
 use Rattle.cmc_pass.specs.declared.pass.Views.{Views}
 use Rattle.cmc_model.specs.declared.write.Write.{Write}
 use Rattle.cmc_rules.specs.declared.progress.OpenPass.{OpenPass}
-use Rattle.cmc_rules.specs.declared.progress.Origin.{Origin}
 use Rattle.cmc_rules.specs.declared.progress.Past.{Past}
 use Rattle.cmc_model.specs.Histories.{Setting, moment, accepted}
 use Rattle.cmc_model.specs.Writes.{writes, write_at, last_of_kind, is_known}
 use Rattle.cmc_rules.specs.Positions.{has_informer, kind_of_work, position, positions, position_of}
 use Rattle.cmc_rules.specs.Viewing.{views, views_in}
-use Rattle.cmc_rules.specs.Passes.{open_pass, origins, origin_at, is_pass_of, past, IsSame}
+use Rattle.cmc_rules.specs.Passes.{open_pass, is_pass_of}
+use Rattle.cmc_rules.specs.Memory.{past}
+use Rattle.cmc_rules.specs.Sameness.{IsSame}
 use Rattle.cmc_rules.specs.Legality.{IsOfKind, IsListing, IsOpen}
 use Rattle.cmc_rules.specs.Scripting.{held}
 use Rattle.cmc_held.specs.declared.standings.Standing.{Standing}
 use Rattle.cmc_held.specs.Standing.{flag_of}
-use Rattle.cmc_held.specs.Dues.{own_above, shown_positions}
+use Rattle.cmc_held.specs.Dues.{shown_positions}
+use Rattle.cmc_rules.specs.Sameness.{own_above}
 use Rattle.cmc_held.specs.Sight.{caches_at}
 use Rattle.cmc_held.proofs.Told.{views-told}
 use Rattle.cmc_model.proofs.Writes.{writes_count}
 use Rattle.cmc_world.specs.declared.moves.Stepped.{Stepped}
 use Rattle.cmc_world.specs.declared.moves.Stepped.TheVariants.{Done}
 use Rattle.cmc_world.specs.Kept.{standing, Holdings, IsKept}
-use Rattle.cmc_world.specs.Answers.{IsNews, delivered, IsWorking, IsQueued, outdated, AnswersDelivery, AnswersBegin, AnswersNext}
-use Rattle.cmc_world.specs.Tables.{delivery_answer, begin_answer, next_answer}
-use Rattle.cmc_world.proofs.Tables.{Decides, decided, delivery_answers, begin_answers, next_answers, may_deliver}
+use Rattle.cmc_world.specs.Answers.{IsNews, delivered, IsQueued, AnswersDelivery, AnswersBegin}
+use Rattle.cmc_rules.specs.Passes.{IsWorking}
+use Rattle.cmc_world.specs.Tables.{delivery_answer, begin_answer}
+use Rattle.cmc_world.proofs.Tables.{Decides, decided, delivery_answers, begin_answers, may_deliver}
 
 pub position_is : (s : Setting) (h : List Entry) (role : Role) (kind : Kind) → position_of kind (standing s h role).told ≡ position h role kind
 position_is s h role kinds.Certificate = refl
@@ -101,18 +104,6 @@ open_by : (p : Option OpenPass) → IsTrue (is_some p) ↔ IsOpen p
 open_by None = (λ e. absurd (cc e), λ e. absurd e)
 open_by (Some p) = (λ e. tt, λ e. refl)
 
-pub judged_next : (s : Setting) (h : List Entry) (w : Holdings) (pass named : ℕ) (old : Option ℕ) (stands : Option OpenPass) (entries events : ℕ) (is_open room : Bool) (answer : Stepped)
-    → IsKept s h w → old ≡ outdated s h named (origin_at pass w.origins) → stands ≡ w.opened pass → is_open ≡ is_some stands
-    → entries ≡ length h → events ≡ s.events → (IsTrue room ↔ (entries + 1 ≤ events))
-    → answer ≡ next_answer old is_open pass entries room
-    → AnswersNext s h pass named answer
-judged_next s h w pass named old stands entries events is_open room answer k o p i e g r a =
-    let old_is : old ≡ outdated s h named (origin_at pass (origins s h)) = o ∙ ap (λ (os : List Origin). outdated s h named (origin_at pass os)) k.held.origins in
-    let open_is : is_open ≡ is_some (open_pass s h pass) = i ∙ ap is_some (p ∙ k.held.opened pass) in
-    next_answers s h pass named answer is_open room
-    (decided (IsOpen (open_pass s h pass)) is_open (subst (λ (b : Bool). IsTrue b ↔ IsOpen (open_pass s h pass)) (sym open_is) (open_by (open_pass s h pass)))) (fits_by s h 1 entries events room e g r)
-    (a ∙ ap (λ (x : Option ℕ). next_answer x is_open pass entries room) old_is ∙ ap (λ (n : ℕ). next_answer (outdated s h named (origin_at pass (origins s h))) is_open pass n room) e)
-
 -- the watch reaches back to the position
 pub reached : (s : Setting) (h : List Entry) (w : Holdings) (role : Role) (kind : Kind) (t : Standing) (place count window : ℕ) (b : Bool)
     → IsKept s h w → t ≡ w.standing role → place ≡ position_of kind t.told → count ≡ length w.log → window ≡ s.window
@@ -131,12 +122,6 @@ listing s h role kind to newest b a r off n =
     record { running = may.running; informed = may.informed; beyond = beyond (decided (accepted s h ≤ position h role kind + s.window) b r).no; newest = n } where
       beyond : (b ≡ false → accepted s h ≤ position h role kind + s.window → ⊥) → position h role kind + s.window < accepted s h
       beyond over = let not = over off in grind (arith, not)
-
-pub delivered_deliver : (s : Setting) (h : List Entry) (role : Role) (kind : Kind) (to : ℕ) (b : Bool) → (IsTrue b ↔ (accepted s h ≤ position h role kind + s.window)) → b ≡ true → delivered s h role kind to ≡ Deliver role kind to
-delivered_deliver s h role kind to b r on =
-    let le = r.0 on in
-    let e : nat_le (accepted s h) (position h role kind + s.window) ≡ true = grind (arith, nat_tests) in
-    ap (λ (x : Bool). if x then Deliver role kind to else Listed role kind (accepted s h)) e
 
 pub delivered_list : (s : Setting) (h : List Entry) (role : Role) (kind : Kind) (to newest : ℕ) (b : Bool) → (IsTrue b ↔ (accepted s h ≤ position h role kind + s.window)) → b ≡ false → newest ≡ accepted s h
     → delivered s h role kind to ≡ Listed role kind newest

@@ -1,66 +1,203 @@
--- Lists of moves keep what each step keeps.
-use Rattle.std.proofs.Common.{◌≡◌, ◌∙◌, ◌+◌, List, [], ◌∷◌, ◌++◌, Option, Some, None, refl, sym, ap, subst, arith}
-use Rattle.std.specs.Prelude.{MatchOption}
+-- Lists of moves lead from runs to runs: answers and what they leave are enough.
+use Rattle.std.proofs.Common.{◌≡◌, ◌∙◌, ◌+◌, ◌<◌, ◌≤◌, ℕ, List, [], ◌∷◌, ◌++◌, Option, Some, None, Bool, true, false, length, refl, sym, ap, subst, inl, inr, arith}
+use Rattle.std.proofs.lemmas.Bool.Decides.{nat_tests}
+use Rattle.std.specs.Prelude.{nat_le, if◌then◌else◌, option_and_then}
+use Rattle.cmc_meta.specs.declared.key.Kind.{Kind}
+use Rattle.cmc_objects.specs.declared.role.Role.{Role}
+use Rattle.cmc_objects.specs.declared.call.Call.{Call}
+use Rattle.cmc_objects.specs.declared.entry.Cause.{Cause}
+use Rattle.cmc_objects.specs.declared.entry.Step.{Step}
+use Rattle.cmc_objects.specs.declared.entry.Who.TheVariants.{Pass}
 use Rattle.cmc_objects.specs.declared.entry.Entry.{Entry}
-use Rattle.cmc_objects.specs.declared.entry.Entry.TheVariants.{Script}
+use Rattle.cmc_objects.specs.declared.entry.Entry.TheVariants.{Script, Call as Called, Deliver, List as Listed, End}
+use Rattle.cmc_model.specs.Histories.{Setting, accepted}
 use Rattle.cmc_rules.specs.declared.effect.Effect.{Effect}
-use Rattle.cmc_model.specs.Histories.{Setting}
-use Rattle.cmc_rules.specs.Legality.{IsLegal}
-use Rattle.cmc_rules.specs.Causes.{IsCaused}
-use Rattle.cmc_rules.specs.Following.{Follows}
-use Rattle.cmc_rules.specs.Scripting.{scripted}
+use Rattle.cmc_rules.specs.declared.effect.Effect.TheVariants as effects
+use Rattle.cmc_rules.specs.declared.progress.OpenPass.{OpenPass}
+use Rattle.cmc_rules.specs.Positions.{position}
+use Rattle.cmc_rules.specs.Passes.{open_pass}
+use Rattle.cmc_rules.specs.Legality.{IsLegalEntry, IsLegal, IsOpen}
+use Rattle.cmc_rules.specs.Causes.{IsCausedEntry, IsCaused, MayCall, MayEnd}
+use Rattle.cmc_rules.specs.Scripting.{scripted, step_at}
+use Rattle.cmc_rules.specs.Following.{FollowsEntry, Follows, effect_of, owed}
 use Rattle.cmc_rules.specs.Rights.{KeepsRights}
 use Rattle.cmc_rules.specs.Runs.{IsRun}
-use Rattle.cmc_setup.specs.Setups.{Setup}
 use Rattle.cmc_world.specs.declared.moves.Move.{Move}
 use Rattle.cmc_world.specs.declared.moves.Move.TheVariants as moves
 use Rattle.cmc_world.specs.declared.moves.Stepped.{Stepped}
-use Rattle.cmc_world.specs.declared.moves.Stepped.TheVariants.{Done, NotNow, Ended, Spent}
-use Rattle.cmc_world.specs.Answers.{IsEffect, next_effect, delivered, beginning, Grows, Leaves}
-use Rattle.cmc_world.specs.Kept.{setting_of}
+use Rattle.cmc_world.specs.declared.moves.Stepped.TheVariants.{Done}
+use Rattle.cmc_world.specs.Answers.{IsEffect, IsOfPass, GrowsBy, next_effect, entries_of, delivered, beginning, Grows, Leaves, Answers, AnswersScript}
 use Rattle.cmc_world.specs.Leading.{Lead, Extends}
+use Rattle.cmc_world.proofs.Rights.{keeps_rights}
+use Rattle.cmc_world.proofs.Stepping.{low_start}
+use Rattle.cmc_world.proofs.Tables.{MayDeliver, may_deliver, may_begin, may_step, room_next}
 
-pub begins_as_run : (s : Setting) → IsRun s []
+-- ---- one entry more
+
+-- a run, with nothing owed to the script
+pub record IsSettled (s : Setting) (h : List Entry) : Type 0 where
+  pub run : IsRun s h
+  pub settled : owed s h ≡ None
+
+-- legal, caused and following, and it fits
+pub record IsFair (s : Setting) (h : List Entry) (e : Entry) : Type 0 where
+  pub legal : IsLegalEntry s h e
+  pub caused : IsCausedEntry s h e
+  pub follows : FollowsEntry s h e
+  pub short : length h < s.events
+
+one_more : (s : Setting) (h : List Entry) (e : Entry) → IsRun s h → IsFair s h e → IsRun s (e ∷ h)
 unfolding IsLegal IsCaused Follows
-begins_as_run s = record { legal = tt; caused = tt; follows = tt; short = omega arith }
+one_more s h e run fair = record { legal = (fair.legal, run.legal); caused = (fair.caused, run.caused); follows = (fair.follows, run.follows); short = omega (arith, fair.short) }
 
-pub begins_with_rights : (s : Setting) → KeepsRights s []
-unfolding KeepsRights
-begins_with_rights s = tt
+-- ---- the script
 
-leads : (u : Setup) (ms : List Move) (h k : List Entry) → Lead u ms h k → IsRun (setting_of u) h × KeepsRights (setting_of u) h → IsRun (setting_of u) k × KeepsRights (setting_of u) k
-leads u [] h k same kept = subst (λ (l : List Entry). IsRun (setting_of u) l × KeepsRights (setting_of u) l) (sym same) kept
-leads u (move ∷ ms) h k (g, step, rest) kept = leads u ms g k rest (step.run, step.rights)
+low_of : (s : Setting) (h : List Entry) (o : Option Step) (role : Role) (at : ℕ) → option_and_then (effect_of s h) o ≡ Some (effects.Start role at) → at ≤ accepted s h
+low_of s h None role at is = absurd (cc is)
+low_of s h (Some step) role at is = low_start s h step role at is
 
-pub keeps : (u : Setup) (ms : List Move) (h : List Entry) → Lead u ms [] h → IsRun (setting_of u) h × KeepsRights (setting_of u) h
-keeps u ms h led = leads u ms [] h led (begins_as_run (setting_of u), begins_with_rights (setting_of u))
+fair_effect : (s : Setting) (h : List Entry) (effect : Effect) (e : Entry) → next_effect s h ≡ Some effect → IsEffect s (Script (scripted h + 1) ∷ h) effect e → length h + 2 ≤ s.events
+    → IsFair s (Script (scripted h + 1) ∷ h) e × (owed s (e ∷ Script (scripted h + 1) ∷ h) ≡ None)
+fair_effect s h (effects.Call call) e due (reply, right, is) room =
+    subst (λ (x : Entry). IsFair s (Script (scripted h + 1) ∷ h) x × (owed s (x ∷ Script (scripted h + 1) ∷ h) ≡ None)) (sym is)
+    (record { legal = (right, tt); caused = tt; follows = due; short = omega (arith, room) }, refl)
+fair_effect s h (effects.Tick now) e due is room =
+    subst (λ (x : Entry). IsFair s (Script (scripted h + 1) ∷ h) x × (owed s (x ∷ Script (scripted h + 1) ∷ h) ≡ None)) (sym is)
+    (record { legal = tt; caused = tt; follows = due; short = omega (arith, room) }, refl)
+fair_effect s h (effects.Stop role) e due is room =
+    subst (λ (x : Entry). IsFair s (Script (scripted h + 1) ∷ h) x × (owed s (x ∷ Script (scripted h + 1) ∷ h) ≡ None)) (sym is)
+    (record { legal = tt; caused = tt; follows = due; short = omega (arith, room) }, refl)
+fair_effect s h (effects.Start role at) e due is room =
+    subst (λ (x : Entry). IsFair s (Script (scripted h + 1) ∷ h) x × (owed s (x ∷ Script (scripted h + 1) ∷ h) ≡ None)) (sym is)
+    (record { legal = low_of s h (step_at s.script (scripted h + 1)) role at due; caused = tt; follows = due; short = omega (arith, room) }, refl)
+
+by_effect : (s : Setting) (h k : List Entry) (o : Option Effect) → next_effect s h ≡ o → length h + entries_of o ≤ s.events → IsRun s (Script (scripted h + 1) ∷ h)
+    → GrowsBy s (Script (scripted h + 1) ∷ h) o k → IsSettled s k
+by_effect s h k None due room run grown = subst (IsSettled s) (sym grown) (record { run = run; settled = due })
+by_effect s h k (Some effect) due room run (e, is, grown) =
+    let fair = fair_effect s h effect e due is room in
+    subst (IsSettled s) (sym grown) (record { run = one_more s (Script (scripted h + 1) ∷ h) e run fair.0; settled = fair.1 })
+
+some_room : (o : Option Effect) → 1 ≤ entries_of o
+some_room None = omega arith
+some_room (Some effect) = omega arith
+
+by_script : (s : Setting) (h k : List Entry) → IsSettled s h → AnswersScript s h Done → GrowsBy s (Script (scripted h + 1) ∷ h) (next_effect s h) k → IsSettled s k
+by_script s h k so a grown =
+    let may = may_step s h a in
+    let some = some_room (next_effect s h) in
+    let room = may.room in
+    let left = may.left in
+    by_effect s h k (next_effect s h) refl may.room
+    (one_more s h (Script (scripted h + 1)) so.run
+    (record { legal = tt; caused = tt; follows = record { settled = so.settled; numbered = refl; stands = omega (arith, left); ready = may.ready }; short = omega (arith, some, room) }))
+    grown
+
+-- ---- deliveries
+
+delivered_fair : (s : Setting) (h : List Entry) (role : Role) (kind : Kind) (to : ℕ) (within : Bool) → nat_le (accepted s h) (position h role kind + s.window) ≡ within → owed s h ≡ None
+    → MayDeliver s h role kind to → IsFair s h (if within then Deliver role kind to else Listed role kind (accepted s h))
+delivered_fair s h role kind to true e settled may = record {
+  legal = record { running = may.running; informed = may.informed; further = may.news.0; written = may.news.1; within = grind (arith, nat_tests) };
+  caused = tt;
+  follows = record { settled = settled; free = may.free };
+  short = let room = may.room in omega (arith, room);
+}
+delivered_fair s h role kind to false e settled may = record {
+  legal = record { running = may.running; informed = may.informed; beyond = grind (arith, nat_tests); newest = refl };
+  caused = tt;
+  follows = record { settled = settled; free = may.free };
+  short = let room = may.room in omega (arith, room);
+}
+
+delivered_owes : (s : Setting) (h : List Entry) (role : Role) (kind : Kind) (to : ℕ) (within : Bool) → owed s ((if within then Deliver role kind to else Listed role kind (accepted s h)) ∷ h) ≡ None
+delivered_owes s h role kind to true = refl
+delivered_owes s h role kind to false = refl
+
+-- ---- passes
+
+open_calls : (s : Setting) (h : List Entry) (p : Option OpenPass) (call : Call) → MayCall s h p call → IsOpen p
+open_calls s h None call may = may
+open_calls s h (Some p) call may = tt
+
+open_ends : (s : Setting) (h : List Entry) (p : Option OpenPass) (cause : Cause) → MayEnd s h p cause → IsOpen p
+open_ends s h None cause may = may
+open_ends s h (Some p) cause may = tt
+
+by_pass : (s : Setting) (h : List Entry) (n : ℕ) (e : Entry) → IsSettled s h → length h + 1 ≤ s.events → IsOfPass s h n e → IsSettled s (e ∷ h)
+by_pass s h n e so room (inl (call, may, (reply, right, is))) =
+    subst (λ (x : Entry). IsSettled s (x ∷ h)) (sym is)
+    (record {
+      run = one_more s h (Called (Pass n) call reply) so.run
+          (record { legal = (right, open_calls s h (open_pass s h n) call may); caused = may; follows = so.settled; short = omega (arith, room) });
+      settled = refl;
+    })
+by_pass s h n e so room (inr (cause, may, is)) =
+    subst (λ (x : Entry). IsSettled s (x ∷ h)) (sym is)
+    (record { run = one_more s h (End n cause) so.run (record { legal = open_ends s h (open_pass s h n) cause may; caused = may; follows = so.settled; short = omega (arith, room) }); settled = refl })
+
+-- ---- all moves
+
+by_move : (s : Setting) (h : List Entry) (move : Move) (k : List Entry) → IsSettled s h → Answers s h move Done → Grows s h move k → IsSettled s k
+by_move s h moves.Script k so a grown = by_script s h k so a grown
+by_move s h (moves.Deliver role kind to) k so a grown =
+    let within = nat_le (accepted s h) (position h role kind + s.window) in
+    subst (IsSettled s) (sym grown)
+    (record { run = one_more s h (delivered s h role kind to) so.run (delivered_fair s h role kind to within refl so.settled (may_deliver s h role kind to a)); settled = delivered_owes s h role kind to within })
+by_move s h (moves.Begin role key) k so a grown =
+    let may = may_begin s h role key a in
+    let room = may.room in
+    subst (IsSettled s) (sym grown)
+    (record {
+      run = one_more s h (beginning s h role key) so.run
+          (record {
+            legal = record { running = may.running; numbered = refl; work = may.queued.0; known = may.queued.1; free = may.idle; told = refl; present = refl };
+            caused = record { told = may.own; other = may.other };
+            follows = so.settled;
+            short = omega (arith, room);
+          });
+      settled = refl;
+    })
+by_move s h (moves.Next pass named) k so a (e, is, grown) = subst (IsSettled s) (sym grown) (by_pass s h pass e so (room_next s h pass named a) is)
+
+by_step : (s : Setting) (h : List Entry) (move : Move) (answer : Stepped) (k : List Entry) → IsSettled s h → Answers s h move answer → Leaves s h move answer k → IsSettled s k
+by_step s h move Done k so a grown = by_move s h move k so a grown
+by_step s h move other k so a same = subst (IsSettled s) (sym same) so
+
+leads : (s : Setting) (ms : List Move) (h k : List Entry) → Lead s ms h k → IsSettled s h → IsSettled s k
+leads s [] h k same so = subst (IsSettled s) (sym same) so
+leads s (move ∷ ms) h k (g, step, rest) so = leads s ms g k rest (by_step s h move step.answer g so step.answers step.leaves)
+
+begins_settled : (s : Setting) → IsSettled s []
+unfolding IsLegal IsCaused Follows
+begins_settled s = record { run = record { legal = tt; caused = tt; follows = tt; short = omega arith }; settled = refl }
+
+pub keeps : (s : Setting) (ms : List Move) (h : List Entry) → Lead s ms [] h → IsRun s h × KeepsRights s h
+keeps s ms h led = let so = leads s ms [] h led (begins_settled s) in (so.run, keeps_rights s h so.run)
 
 -- ---- the old history stands below
 
-by_script : (o : Option Effect) (n : Entry) (h k : List Entry) → MatchOption o (k ≡ n ∷ h) (λ effect. (e : Entry) × IsEffect effect e × (k ≡ e ∷ n ∷ h)) → Extends h k
-by_script None n h k is = (n ∷ [], is)
-by_script (Some effect) n h k (e, right, is) = (e ∷ n ∷ [], is)
+above : (s : Setting) (h g k : List Entry) (o : Option Effect) → Extends h g → GrowsBy s g o k → Extends h k
+above s h g k None (es, is) grown = (es, grown ∙ is)
+above s h g k (Some effect) (es, is) (e, right, grown) = (e ∷ es, grown ∙ ap (λ (l : List Entry). e ∷ l) is)
 
-by_move : (s : Setting) (h : List Entry) (move : Move) (k : List Entry) → Grows s h move k → Extends h k
-by_move s h moves.Script k grown = by_script (next_effect s h) (Script (scripted h + 1)) h k grown
-by_move s h (moves.Deliver role kind to) k grown = (delivered s h role kind to ∷ [], grown)
-by_move s h (moves.Begin role key) k grown = (beginning s h role key ∷ [], grown)
-by_move s h (moves.Next pass named) k (e, right, is) = (e ∷ [], is)
+pub extends_by : (s : Setting) (h : List Entry) (move : Move) (k : List Entry) → Grows s h move k → Extends h k
+extends_by s h moves.Script k grown = above s h (Script (scripted h + 1) ∷ h) k (next_effect s h) (Script (scripted h + 1) ∷ [], refl) grown
+extends_by s h (moves.Deliver role kind to) k grown = (delivered s h role kind to ∷ [], grown)
+extends_by s h (moves.Begin role key) k grown = (beginning s h role key ∷ [], grown)
+extends_by s h (moves.Next pass named) k (e, right, is) = (e ∷ [], is)
 
-by_step : (s : Setting) (h : List Entry) (move : Move) (answer : Stepped) (k : List Entry) → Leaves s h move answer k → Extends h k
-by_step s h move Done k grown = by_move s h move k grown
-by_step s h move (NotNow lack) k same = ([], same)
-by_step s h move (Ended incarnation) k same = ([], same)
-by_step s h move (Spent entries) k same = ([], same)
+left_by : (s : Setting) (h : List Entry) (move : Move) (answer : Stepped) (k : List Entry) → Leaves s h move answer k → Extends h k
+left_by s h move Done k grown = extends_by s h move k grown
+left_by s h move other k same = ([], same)
 
 assoc : (xs ys zs : List Entry) → (xs ++ (ys ++ zs)) ≡ ((xs ++ ys) ++ zs)
 assoc [] ys zs = refl
 assoc (x ∷ xs) ys zs = ap (λ (l : List Entry). x ∷ l) (assoc xs ys zs)
 
-joined : {h g k : List Entry} → Extends h g → Extends g k → Extends h k
-joined {h} {g} {k} (xs, one) (ys, two) = (ys ++ xs, two ∙ (ap (λ (l : List Entry). ys ++ l) one ∙ assoc ys xs h))
+pub extends_on : (h g k : List Entry) → Extends h g → Extends g k → Extends h k
+extends_on h g k (xs, one) (ys, two) = (ys ++ xs, two ∙ (ap (λ (l : List Entry). ys ++ l) one ∙ assoc ys xs h))
 
-pub grows : (u : Setup) (ms : List Move) (h k : List Entry) → Lead u ms h k → Extends h k
-grows u [] h k same = ([], same)
-grows u (move ∷ ms) h k (g, step, rest) =
-    joined (by_step (setting_of u) h move step.answer g step.leaves) (grows u ms g k rest)
+pub grows : (s : Setting) (ms : List Move) (h k : List Entry) → Lead s ms h k → Extends h k
+grows s [] h k same = ([], same)
+grows s (move ∷ ms) h k (g, step, rest) = extends_on h g k (left_by s h move step.answer g step.leaves) (grows s ms g k rest)

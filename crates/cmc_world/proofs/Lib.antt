@@ -1,14 +1,12 @@
 pub mod Tables
 pub mod Standings
-pub mod Carrying
 pub mod Stages
 pub mod Origins
 pub mod Dated
 pub mod Rights
 pub mod Moments
-pub mod PlainActs
+pub mod Sounds
 pub mod Rest
-pub mod Views
 pub mod Events
 pub mod Judging
 pub mod Starting

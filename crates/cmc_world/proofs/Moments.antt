@@ -1,6 +1,6 @@
 -- Ticks of a script of short steps do not leave the range of the moments.
-use Rattle.std.proofs.Common.{◌≡◌, ℕ, ℤ, pos, ◌+◌, ◌-◌, ◌*◌, ◌≤◌, ◌+ℤ◌, List, [], ◌∷◌, length, zero, suc, Option, Some, None, subst, arith, w64, to_z, of_z}
-use Rattle.std.specs.Prelude.{◌≤ℤ◌, neg_ℤ, FitsSigned, option_and_then, slice_get}
+use Rattle.std.proofs.Common.{ℕ, ℤ, pos, ◌+◌, ◌-◌, ◌*◌, ◌≤◌, ◌+ℤ◌, List, [], ◌∷◌, length, zero, suc, Option, Some, None, subst, arith}
+use Rattle.std.specs.Prelude.{◌≤ℤ◌, option_and_then, slice_get}
 use Rattle.std.specs.List.{All}
 use Rattle.std.proofs.lemmas.Int.{ints}
 use Rattle.std.proofs.lemmas.List.Elements.{All-head, All-tail}
@@ -8,7 +8,7 @@ use Rattle.cmc_objects.specs.declared.entry.Who.TheVariants.{User, Pass}
 use Rattle.cmc_objects.specs.declared.entry.Step.{Step}
 use Rattle.cmc_objects.specs.declared.entry.Step.TheVariants as steps
 use Rattle.cmc_objects.specs.declared.entry.Entry.{Entry}
-use Rattle.cmc_objects.specs.declared.entry.Entry.TheVariants.{Script, Call as Called, Deliver, List as Listed, Begin, Ask, Made, Signed, Answered, Judged, End, Stop, Start, Tick}
+use Rattle.cmc_objects.specs.declared.entry.Entry.TheVariants.{Script, Call as Called, Tick}
 use Rattle.cmc_rules.specs.declared.effect.Effect.{Effect}
 use Rattle.cmc_rules.specs.declared.effect.Effect.TheVariants as effects
 use Rattle.cmc_model.specs.Histories.{Setting, moment}
@@ -90,33 +90,3 @@ scripted_low s (Called (Pass pass) call reply ∷ h) follows = scripted_low s h 
 scripted_low s (other ∷ h) follows = scripted_low s h follows.1
 
 -- ---- the tick that comes next
-
--- how far the present moment and the tick that comes next can be from nothing
-pub tick_bounds : (s : Setting) (h : List Entry) (seconds : ℕ) → All IsShortStep s.script → Follows s h
-    → (neg_ℤ (pos 1000000000000) ≤ℤ s.now) → (s.now ≤ℤ pos 1000000000000) → length s.script ≤ 10000
-    → step_at s.script (scripted h + 1) ≡ Some (steps.Tick seconds)
-    → (neg_ℤ (pos 1000000000000) ≤ℤ moment s h) × (moment s h ≤ℤ pos 11000000000000) × (seconds ≤ 1000000000)
-tick_bounds s h seconds short follows low high few next =
-    let within = moments_low s h short follows in
-    let made = scripted_low s h follows in
-    let one : seconds ≤ 1000000000 = subst IsShortOption next (short_step s.script (scripted h + 1) short) in
-    (omega (arith, ints, within.0, low), omega (arith, ints, within.1, made, high, few), one)
-
--- so their sum fits
-pub tick_fits : (s : Setting) (h : List Entry) (seconds : ℕ) → All IsShortStep s.script → Follows s h
-    → (neg_ℤ (pos 1000000000000) ≤ℤ s.now) → (s.now ≤ℤ pos 1000000000000) → length s.script ≤ 10000
-    → step_at s.script (scripted h + 1) ≡ Some (steps.Tick seconds) → FitsSigned w64 (moment s h +ℤ pos seconds)
-tick_fits s h seconds short follows low high few next =
-    let bounds = tick_bounds s h seconds short follows low high few next in
-    omega (arith, ints, bounds.0, bounds.1, bounds.2)
-
--- the same of the sum as code makes it, of the moment that it keeps and of the seconds of the step, and what that sum is
-pub tick_sum_fits : (at : ℤ) (seconds : ℕ) (now : ℤ) → at ≡ now → FitsSigned w64 at
-    → (neg_ℤ (pos 1000000000000) ≤ℤ now) × (now ≤ℤ pos 11000000000000) × (seconds ≤ 1000000000)
-    → FitsSigned w64 (to_z w64 (of_z w64 at) +ℤ to_z w64 seconds)
-tick_sum_fits at seconds now same fits bounds = omega (arith, ints, same, fits, bounds.0, bounds.1, bounds.2)
-
-pub tick_sum_is : (at : ℤ) (seconds : ℕ) (now : ℤ) → at ≡ now → FitsSigned w64 at
-    → (neg_ℤ (pos 1000000000000) ≤ℤ now) × (now ≤ℤ pos 11000000000000) × (seconds ≤ 1000000000)
-    → to_z w64 (of_z w64 (to_z w64 (of_z w64 at) +ℤ to_z w64 seconds)) ≡ now +ℤ pos seconds
-tick_sum_is at seconds now same fits bounds = omega (arith, ints, same, fits, bounds.0, bounds.1, bounds.2)

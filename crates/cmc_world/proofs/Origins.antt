@@ -4,14 +4,15 @@ use Rattle.std.proofs.lemmas.Bool.Decides.{nat_tests}
 use Rattle.std.specs.Prelude.{if◌then◌else◌, IfSome}
 use Rattle.cmc_objects.specs.declared.role.Role.{Role}
 use Rattle.cmc_objects.specs.declared.entry.Entry.{Entry}
-use Rattle.cmc_objects.specs.declared.entry.Entry.TheVariants.{Script, Call as Called, Deliver, List as Listed, Begin, Ask, Made, Signed, Answered, Judged, End, Stop, Start, Tick}
+use Rattle.cmc_objects.specs.declared.entry.Entry.TheVariants.{Call as Called, Begin, End, Stop}
 use Rattle.cmc_rules.specs.declared.progress.OpenPass.{OpenPass}
 use Rattle.cmc_rules.specs.declared.progress.Origin.{Origin}
 use Rattle.cmc_model.specs.Histories.{Setting, incarnation}
 use Rattle.cmc_rules.specs.Viewing.{views}
-use Rattle.cmc_rules.specs.Passes.{open_pass, begun, new_pass, stage_after, origins, origin_at}
+use Rattle.cmc_rules.specs.Passes.{open_pass, begun, new_pass, stage_after}
+use Rattle.cmc_rules.specs.Origins.{origins, origin_at}
 use Rattle.cmc_rules.specs.Legality.{IsLegal}
-use Rattle.cmc_world.proofs.Carrying.{over_call, over_end, over_stop}
+use Rattle.cmc_rules.proofs.Carrying.{over_call, over_end, over_stop}
 
 -- ---- one origin for each pass
 
@@ -37,10 +38,6 @@ low_in : (number : ℕ) (os : List Origin) (found : Origin) → origin_at number
 unfolding origin_at
 low_in number [] found given = absurd (cc)
 low_in number (o ∷ os) found given = low_at (length (o ∷ os) == number) number o os found refl (λ there. low_in number os found there) given
-
--- only the numbers of passes that were begun have an origin
-pub origin_low : (s : Setting) (h : List Entry) (n : ℕ) (o : Origin) → origin_at n (origins s h) ≡ Some o → (1 ≤ n) × (n ≤ begun h)
-origin_low s h n o given = let low = low_in n (origins s h) o given in (low.0, omega (arith, low.1, origins_count s h))
 
 -- ---- the origin of an open pass
 
@@ -94,9 +91,3 @@ has_origin s (other ∷ h) n legal = has_origin s h n legal.1
 found : (role : Role) (origin : Option Origin) → IsOfRole role origin → (o : Origin) × (origin ≡ Some o) × (o.role ≡ role)
 found role None is = absurd is
 found role (Some o) is = (o, refl, is)
-
--- the origin of a pass that is open
-pub open_has_origin : (s : Setting) (h : List Entry) (n : ℕ) (p : OpenPass) → IsLegal s h → open_pass s h n ≡ Some p
-    → (o : Origin) × (origin_at n (origins s h) ≡ Some o) × (o.role ≡ p.role)
-open_has_origin s h n p legal open_here =
-    found p.role (origin_at n (origins s h)) (subst (λ (q : Option OpenPass). IfSome q (HasOrigin n (origins s h))) open_here (has_origin s h n legal))

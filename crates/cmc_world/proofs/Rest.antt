@@ -112,10 +112,6 @@ rests_in_by s h role = (
   λ rests running. ((rests running).0, (each_known (RestsOn s h role) (writes s h)).1 (rests running).1),
 )
 
--- a role that does not run rests
-pub rests_in_stopped : (s : Setting) (h : List Entry) (role : Role) → runs s h role ≡ false → RestsIn s h role
-rests_in_stopped s h role stopped running = absurd (cc (stopped, running))
-
 -- all is at rest where no pass is open and each role rests
 pub at_rest_by : (s : Setting) (h : List Entry) → (((pass : ℕ) → open_pass s h pass ≡ None) × ((role : Role) → RestsIn s h role)) ↔ IsAtRest s h
 at_rest_by s h = (

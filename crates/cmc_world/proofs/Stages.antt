@@ -9,20 +9,21 @@ use Rattle.cmc_objects.specs.declared.call.Call.TheVariants.{Create, Update, Upd
 use Rattle.cmc_objects.specs.declared.call.Reply.{Reply}
 use Rattle.cmc_objects.specs.declared.call.Reply.TheVariants.{Ok, Unchanged, Found, Conflict, NotFound, AlreadyExists, Invalid, Unavailable}
 use Rattle.cmc_objects.specs.declared.entry.Entry.{Entry}
-use Rattle.cmc_objects.specs.declared.entry.Entry.TheVariants.{Script, Call as Called, Deliver, List as Listed, Begin, Ask, Made, Signed, Answered, Judged, End, Stop, Start, Tick}
+use Rattle.cmc_objects.specs.declared.entry.Entry.TheVariants.{Call as Called, Begin, End, Stop}
 use Rattle.cmc_objects.specs.Objects.{key_of, name_of, version_of}
 use Rattle.cmc_rules.specs.declared.progress.OpenPass.{OpenPass}
 use Rattle.cmc_rules.specs.declared.progress.Stage.{Stage}
 use Rattle.cmc_rules.specs.declared.progress.Stage.TheVariants.{Fresh, Wrote, Refused, Barred}
 use Rattle.cmc_model.specs.Objects.{Objects, object_at}
 use Rattle.cmc_model.specs.Stored.{updated, with_status}
+use Rattle.cmc_model.specs.Admission.{is_taken}
 use Rattle.cmc_model.specs.Replies.{State, IsReply, IsServed, IsCreated, IsUpdated, IsRestated, IsDeleted, IsGot, IsChange, key_of_call}
 use Rattle.cmc_model.specs.Histories.{Setting, state}
 use Rattle.cmc_model.specs.Writes.{writes, last_under}
 use Rattle.cmc_rules.specs.Viewing.{views}
 use Rattle.cmc_rules.specs.Passes.{open_pass, new_pass, stage_by, stage_after}
 use Rattle.cmc_rules.specs.Legality.{IsLegal}
-use Rattle.cmc_world.proofs.Carrying.{over_call, over_begin, over_end, over_stop}
+use Rattle.cmc_rules.proofs.Carrying.{over_call, over_begin, over_end, over_stop}
 
 -- ---- right replies
 
@@ -34,9 +35,9 @@ IsPassed other = Unit {0}
 replied : (reply right : Reply) → IsPassed right → reply ≡ right → IsPassed reply
 replied reply right passed is = subst IsPassed (sym is) passed
 
-passed_created : (n : ℕ) (object : Object) (old : Option Object) (reply : Reply) → IsCreated n object old reply → IsPassed reply
-passed_created n object (Some old) reply right = replied reply (AlreadyExists (version_of old)) tt right
-passed_created n object None reply right = replied reply (Ok (n + 1) (name_of object)) tt right
+passed_created : (n : ℕ) (taken : Bool) (object : Object) (old : Option Object) (reply : Reply) → IsCreated n taken object old reply → IsPassed reply
+passed_created n taken object (Some old) reply right = replied reply (AlreadyExists (version_of old)) tt right
+passed_created n taken object None reply right = replied reply (Ok (n + 1) (name_of object)) tt right
 
 passed_change : (n : ℕ) (name : List ℕ) (old new : Object) (reply : Reply) → IsChange n name old new reply → IsPassed reply
 passed_change n name old new reply (inl same) = replied reply (Unchanged (version_of old)) tt same.1
@@ -47,9 +48,9 @@ passed_at : (at : Bool) (n named : ℕ) (name : List ℕ) (old new : Object) (re
 passed_at true n named name old new reply right = passed_change n name old new reply right
 passed_at false n named name old new reply right = replied reply (Conflict named (version_of old)) tt right
 
-passed_updated : (n : ℕ) (object : Object) (named : ℕ) (old : Option Object) (reply : Reply) → IsUpdated n object named old reply → IsPassed reply
-passed_updated n object named None reply right = replied reply (NotFound n) tt right
-passed_updated n object named (Some old) reply right = passed_at (named == version_of old) n named (name_of object) old (updated old object) reply right
+passed_updated : (n : ℕ) (taken : Bool) (object : Object) (named : ℕ) (old : Option Object) (reply : Reply) → IsUpdated n taken object named old reply → IsPassed reply
+passed_updated n taken object named None reply right = replied reply (NotFound n) tt right
+passed_updated n taken object named (Some old) reply right = passed_at (named == version_of old) n named (name_of object) old (updated old object) reply right
 
 passed_restated : (n : ℕ) (object : Object) (named : ℕ) (old : Option Object) (reply : Reply) → IsRestated n object named old reply → IsPassed reply
 passed_restated n object named None reply right = replied reply (NotFound n) tt right
@@ -71,8 +72,8 @@ passed_got n None reply right = replied reply (NotFound n) tt right
 passed_got n (Some old) reply right = replied reply (Found old) tt right
 
 passed_served : (n : ℕ) (objects : Objects) (call : Call) (reply : Reply) → IsServed n objects call reply → IsPassed reply
-passed_served n objects (Create object) reply right = passed_created n object (object_at objects (key_of object)) reply right
-passed_served n objects (Update object named) reply right = passed_updated n object named (object_at objects (key_of object)) reply right
+passed_served n objects (Create object) reply right = passed_created n (is_taken objects object) object (object_at objects (key_of object)) reply right
+passed_served n objects (Update object named) reply right = passed_updated n (is_taken objects object) object named (object_at objects (key_of object)) reply right
 passed_served n objects (UpdateStatus object named) reply right = passed_restated n object named (object_at objects (key_of object)) reply right
 passed_served n objects (Delete key named) reply right = passed_deleted n named key.name (object_at objects key) reply right
 passed_served n objects (Get key) reply right = passed_got n (object_at objects key) reply right

@@ -5,7 +5,7 @@ use Rattle.cmc_meta.specs.declared.key.Key.{Key}
 use Rattle.cmc_objects.specs.declared.role.Role.{Role}
 use Rattle.cmc_model.specs.Replies.{empty_store}
 use Rattle.cmc_model.specs.Histories.{role_eq}
-use Rattle.cmc_rules.specs.Passes.{no_past}
+use Rattle.cmc_rules.specs.Memory.{no_past}
 use Rattle.cmc_rules.specs.Legality.{IsLegal}
 use Rattle.cmc_rules.specs.Causes.{IsCaused}
 use Rattle.cmc_rules.specs.Following.{Follows}

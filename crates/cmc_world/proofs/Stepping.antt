@@ -22,7 +22,8 @@ use Rattle.cmc_rules.specs.declared.progress.Past.{Past}
 use Rattle.cmc_model.specs.Replies.{State, IsReply, is_accepted, key_written, object_written, state_after}
 use Rattle.cmc_model.specs.Histories.{Setting, moment, state, objects, accepted, role_eq}
 use Rattle.cmc_model.specs.Writes.{write_of}
-use Rattle.cmc_rules.specs.Passes.{unless_of, no_past}
+use Rattle.cmc_rules.specs.Passes.{unless_of}
+use Rattle.cmc_rules.specs.Memory.{no_past}
 use Rattle.cmc_rules.specs.Scripting.{scripted, step_at}
 use Rattle.cmc_rules.specs.Following.{call_of, effect_of, owed, IsNextStep, Follows}
 use Rattle.cmc_rules.proofs.Positions.{calls_short}
@@ -34,7 +35,7 @@ use Rattle.cmc_world.specs.Answers.{AnswersScript, entries_of, next_effect}
 use Rattle.cmc_world.specs.Changes.{stopping, starting, scripted_standing}
 use Rattle.cmc_world.specs.Kept.{setting_of, Holdings, IsHeld, IsKept}
 use Rattle.cmc_world.specs.Noting.{logged}
-use Rattle.cmc_world.specs.Scripted.{effect_on, effect_in, standing_after}
+use Rattle.cmc_world.specs.Scripted.{effect_in, standing_after}
 use Rattle.cmc_world.specs.Short.{IsShortStep}
 use Rattle.cmc_world.proofs.Counts.{incarnation_short, logged_called}
 use Rattle.cmc_world.proofs.Events.{held_scripted, kept_users, kept_ticked, kept_stopped, kept_started}
@@ -59,10 +60,6 @@ moment_bounds u h setup follows =
     let made = scripted_low (setting_of u) h follows in
     (omega (arith, ints, within.0, setup.begins), omega (arith, ints, within.1, made, setup.short, setup.ends))
 
--- one more step can be numbered
-pub made_fits : (u : Setup) (h : List Entry) (w : Holdings) → IsSetup u → IsKept (setting_of u) h w → w.made + 1 < 2 ^ 64
-made_fits u h w setup k = omega (arith, k.held.made, scripted_low (setting_of u) h k.held.run.follows, setup.short)
-
 -- one more call can be counted
 pub calls_fit : (u : Setup) (h : List Entry) (w : Holdings) → IsSetup u → IsKept (setting_of u) h w → w.state.calls < 2 ^ 64 - 1
 calls_fit u h w setup k = omega (arith, ap (λ (st : State). st.calls) k.held.state, calls_short (setting_of u) h, k.held.run.short, setup.most_events)
@@ -74,15 +71,6 @@ incarnation_fits u h w role setup k =
 
 -- ---- what the next step has happen
 
-same_effect : (s : Setting) (h : List Entry) (step : Step) → effect_on (objects s h) (accepted s h) (moment s h) step ≡ effect_of s h step
-unfolding call_of
-same_effect s h (steps.Apply object version) = refl
-same_effect s h other = refl
-
-same_after : (s : Setting) (h : List Entry) (step : Option Step) → option_and_then (effect_on (objects s h) (accepted s h) (moment s h)) step ≡ option_and_then (effect_of s h) step
-same_after s h None = refl
-same_after s h (Some step) = same_effect s h step
-
 -- what a world's parts say that the next step has happen is what the history says
 pub effect_kept : (s : Setting) (h : List Entry) (w : Holdings) (script : List Step) → IsKept s h w → script ≡ s.script
     → effect_in w.state.objects w.state.accepted w.moment script w.made ≡ next_effect s h
@@ -92,7 +80,6 @@ effect_kept s h w script k same =
     ∙ ap (λ m. effect_in (objects s h) (accepted s h) m script w.made) k.held.moment
     ∙ ap (λ l. effect_in (objects s h) (accepted s h) (moment s h) l w.made) same
     ∙ ap (λ n. effect_in (objects s h) (accepted s h) (moment s h) s.script n) (k.held.made ∙ place)
-    ∙ same_after s h (step_at s.script (scripted h + 1))
 
 -- ---- the step's entry
 
@@ -113,6 +100,7 @@ next_step s h settled may = record { settled = settled; numbered = refl; stands 
 
 -- a step that has something happen holds nothing back
 unheld : (s : Setting) (h : List Entry) (step : Step) (effect : Effect) (r : Role) (t : Standing) → effect_of s h step ≡ Some effect → t ≡ scripted_standing step r t
+unfolding call_of
 unheld s h (steps.Hold role kind) effect r t has = absurd (cc has)
 unheld s h (steps.Release role kind) effect r t has = absurd (cc has)
 unheld s h other effect r t has = refl
@@ -169,7 +157,7 @@ stop_kept s h k w made role t opened kept may due counted put closed grown =
     (kept_stopped s (Script (scripted h + 1) ∷ h) (record w { made = made }) role t opened stepped.0 due (omega (arith, stepped.1)) put closed)
 
 -- a start tells of no more than was written
-low_start : (s : Setting) (h : List Entry) (step : Step) (role : Role) (at : ℕ) → effect_of s h step ≡ Some (effects.Start role at) → at ≤ accepted s h
+pub low_start : (s : Setting) (h : List Entry) (step : Step) (role : Role) (at : ℕ) → effect_of s h step ≡ Some (effects.Start role at) → at ≤ accepted s h
 unfolding call_of
 low_start s h (steps.Start other behind) role at has = let is : accepted s h - behind ≡ at = cc has in omega (arith, is)
 low_start s h other role at has = absurd (cc has)

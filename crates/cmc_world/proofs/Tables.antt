@@ -10,16 +10,20 @@ use Rattle.cmc_model.specs.Histories.{Setting, moment, runs}
 use Rattle.cmc_model.specs.Writes.{writes, last_of_kind}
 use Rattle.cmc_rules.specs.Positions.{has_informer, position, positions}
 use Rattle.cmc_rules.specs.Viewing.{views}
-use Rattle.cmc_rules.specs.Passes.{open_pass, origins, origin_at, past, IsSame}
+use Rattle.cmc_rules.specs.Passes.{open_pass}
+use Rattle.cmc_rules.specs.Origins.{origins, origin_at}
+use Rattle.cmc_rules.specs.Memory.{past}
+use Rattle.cmc_rules.specs.Sameness.{IsSame}
 use Rattle.cmc_rules.specs.Legality.{IsOpen}
 use Rattle.cmc_rules.specs.Scripting.{scripted, step_at, held}
 use Rattle.cmc_rules.specs.Following.{IsReady}
-use Rattle.cmc_held.specs.Dues.{own_above}
+use Rattle.cmc_rules.specs.Sameness.{own_above}
 use Rattle.cmc_world.specs.declared.moves.Lack.{Lack}
 use Rattle.cmc_world.specs.declared.moves.Lack.TheVariants.{ScriptOver, ScriptWaits, Stopped, NoInformer, Held, Current, NotAWrite, NotQueued, InProcess, SameViews, OwnWrite, NoPass}
 use Rattle.cmc_world.specs.declared.moves.Stepped.{Stepped}
 use Rattle.cmc_world.specs.declared.moves.Stepped.TheVariants.{Done, NotNow, Ended, Spent}
-use Rattle.cmc_world.specs.Answers.{is_done, Need, Bar, BarOf, Fits, IsNews, IsWorking, IsQueued, outdated, entries_of, next_effect, AnswersScript, AnswersDelivery, AnswersBegin, AnswersNext}
+use Rattle.cmc_world.specs.Answers.{is_done, Need, Bar, BarOf, Fits, IsNews, IsQueued, outdated, entries_of, next_effect, AnswersScript, AnswersDelivery, AnswersBegin, AnswersNext}
+use Rattle.cmc_rules.specs.Passes.{IsWorking}
 use Rattle.cmc_world.specs.Tables.{fitting, own_answer, outdated_answer, delivery_answer, begin_answer, next_answer, script_answer}
 
 -- a test decides whether a fact holds
@@ -175,23 +179,6 @@ may_begin s h role key a =
     let six = met (Spent (length h)) (not_spent (length h)) five.1 in
     record { running = one.0; idle = two.0; own = three.0; other = four.0; queued = five.0; room = six.0 }
 
-dated_free : {rest : Type 0} → (old : Option ℕ) → BarOf old (λ present. Ended present) Done rest → rest
-dated_free None a = a
-dated_free (Some present) a = absurd (not_ended present a) where
-  not_ended : (n : ℕ) → Done ≡ Ended n → ⊥
-  not_ended n e = absurd (cc e)
-
-pub record MayGoOn (s : Setting) (h : List Entry) (pass : ℕ) : Type 0 where
-  pub stands : IsOpen (open_pass s h pass)
-  pub room : length h + 1 ≤ s.events
-
-pub may_go_on : (s : Setting) (h : List Entry) (pass named : ℕ) → AnswersNext s h pass named Done → MayGoOn s h pass
-may_go_on s h pass named a =
-    let one = dated_free (outdated s h named (origin_at pass (origins s h))) a in
-    let two = met (NotNow (NoPass pass)) (not_now (NoPass pass)) one in
-    let three = met (Spent (length h)) (not_spent (length h)) two.1 in
-    record { stands = two.0; room = three.0 }
-
 pub record MayStep (s : Setting) (h : List Entry) : Type 0 where
   pub left : scripted h < length s.script
   pub ready : IsReady s h (step_at s.script (scripted h + 1))
@@ -203,6 +190,15 @@ may_step s h a =
     let two = met (NotNow ScriptWaits) (not_now ScriptWaits) one.1 in
     let three = met (Spent (length h)) (not_spent (length h)) two.1 in
     record { left = one.0; ready = two.0; room = three.0 }
+
+last_row : (s : Setting) (h : List Entry) (pass : ℕ) (out : Option ℕ)
+    → BarOf out (λ present. Ended present) Done (Need (IsOpen (open_pass s h pass)) (NotNow (NoPass pass)) Done (Fits s h 1 Done)) → length h + 1 ≤ s.events
+last_row s h pass None a = (met (Spent (length h)) (not_spent (length h)) (met (NotNow (NoPass pass)) (not_now (NoPass pass)) a).1).0
+last_row s h pass (Some present) a = absurd (cc a)
+
+-- there is room for the entry of a pass that goes on
+pub room_next : (s : Setting) (h : List Entry) (pass named : ℕ) → AnswersNext s h pass named Done → length h + 1 ≤ s.events
+room_next s h pass named a = last_row s h pass (outdated s h named (origin_at pass (origins s h))) a
 
 pub the_done : (answer : Stepped) → is_done answer ≡ true → answer ≡ Done
 the_done Done e = refl

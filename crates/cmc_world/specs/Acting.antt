@@ -1,10 +1,7 @@
 -- What a pass does next.
 use Rattle.std.specs.Prelude.{◌≡◌, ℕ, List, ◌∷◌, Option, Some, None}
 use Rattle.cmc_objects.specs.declared.call.Call.{Call}
-use Rattle.cmc_objects.specs.declared.call.Reply.{Reply}
-use Rattle.cmc_objects.specs.declared.entry.Who.TheVariants.{Pass}
 use Rattle.cmc_objects.specs.declared.entry.Entry.{Entry}
-use Rattle.cmc_objects.specs.declared.entry.Entry.TheVariants.{Call as Called}
 use Rattle.cmc_pass.specs.declared.pass.Act.{Act}
 use Rattle.cmc_pass.specs.declared.pass.Act.TheVariants.{Nothing, Call as Calls}
 use Rattle.cmc_rules.specs.declared.progress.Stage.{Stage}
@@ -13,10 +10,12 @@ use Rattle.cmc_rules.specs.declared.progress.OpenPass.{OpenPass}
 use Rattle.cmc_model.specs.Replies.{key_of_call}
 use Rattle.cmc_model.specs.Histories.{Setting}
 use Rattle.cmc_model.specs.Writes.{writes, last_under}
-use Rattle.cmc_rules.specs.Passes.{open_pass, ending_at}
+use Rattle.cmc_rules.specs.Passes.{open_pass}
+use Rattle.cmc_rules.specs.Memory.{ending_at}
 use Rattle.cmc_rules.specs.Causes.{IsNextCall, EndsBy, MayCall, MayEnd}
-use Rattle.cmc_world.specs.Answers.{IsOfPass}
-use Rattle.cmc_world.specs.Kept.{Seen}
+use Rattle.cmc_world.specs.Answers.{IsCalled, IsOfPass}
+use Rattle.cmc_world.specs.Kept.{Seen, setting_of}
+use Rattle.cmc_objects.specs.declared.entry.Who.{Who}
 use Rattle.cmc_world.specs.declared.going.Calling.{Calling}
 use Rattle.cmc_world.specs.declared.going.Closing.{Closing}
 use Rattle.cmc_world.specs.declared.going.Doing.{Doing}
@@ -63,10 +62,10 @@ pub record IsClosing (s : Setting) (h : List Entry) (n : ℕ) (c : Closing) : Ty
   pub key : c.key ≡ pass.key
   pub ending : c.ending ≡ ending_at pass.stage
 
--- the pass made the call, and was answered somehow
-abbrev pub MadeCall : ℕ → Call → Seen → Seen → Type 0
-MadeCall n call old new = (reply : Reply) × (new ≡ record { scenario = old.scenario; history = Called (Pass n) call reply ∷ old.history })
+-- the history has the entry of the call more
+abbrev pub MadeCall : Who → Call → Seen → Seen → Type 0
+MadeCall who call old new = (e : Entry) × IsCalled (setting_of old.scenario) old.history who call e × (new ≡ record { scenario = old.scenario; history = e ∷ old.history })
 
 -- the history has one more entry of the pass
 abbrev pub GoesOn : ℕ → Seen → Seen → Type 0
-GoesOn n old new = (e : Entry) × IsOfPass n e × (new ≡ record { scenario = old.scenario; history = e ∷ old.history })
+GoesOn n old new = (e : Entry) × IsOfPass (setting_of old.scenario) old.history n e × (new ≡ record { scenario = old.scenario; history = e ∷ old.history })

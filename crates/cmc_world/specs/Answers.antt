@@ -1,6 +1,6 @@
 -- What a step answers: a move is made where all its needs are met and nothing bars it, and the first of these that is not so is the answer.
 -- And what a move that is made adds to the history.
-use Rattle.std.specs.Prelude.{◌≡◌, ◌⊎◌, ℕ, ◌+◌, ◌<◌, ◌≤◌, ◌==◌, Bool, true, false, ◌&&◌, nat_le, MatchBool, MatchOption, List, ◌∷◌, length, Option, Some, None, option_and_then, if◌then◌else◌}
+use Rattle.std.specs.Prelude.{◌≡◌, ◌⊎◌, ℕ, ◌+◌, ◌<◌, ◌≤◌, ◌==◌, Bool, true, false, ◌&&◌, nat_le, List, ◌∷◌, length, Option, Some, None, option_and_then, if◌then◌else◌}
 use Rattle.cmc_meta.specs.declared.key.Key.{Key}
 use Rattle.cmc_meta.specs.declared.key.Kind.{Kind}
 use Rattle.cmc_objects.specs.declared.call.Call.{Call}
@@ -10,6 +10,10 @@ use Rattle.cmc_objects.specs.declared.entry.Who.TheVariants.{User, Pass}
 use Rattle.cmc_objects.specs.declared.entry.Cause.{Cause}
 use Rattle.cmc_objects.specs.declared.entry.Entry.{Entry}
 use Rattle.cmc_objects.specs.declared.entry.Entry.TheVariants as entries
+use Rattle.cmc_model.specs.Replies.{IsReply}
+use Rattle.cmc_model.specs.Histories.{state}
+use Rattle.cmc_rules.specs.Causes.{MayCall, MayEnd}
+use Rattle.cmc_objects.specs.declared.entry.Who.{Who}
 use Rattle.cmc_rules.specs.declared.effect.Effect.{Effect}
 use Rattle.cmc_rules.specs.declared.effect.Effect.TheVariants as effects
 use Rattle.cmc_rules.specs.declared.progress.Origin.{Origin}
@@ -17,11 +21,14 @@ use Rattle.cmc_model.specs.Histories.{Setting, moment, accepted, runs, incarnati
 use Rattle.cmc_model.specs.Writes.{writes, write_at, last_of_kind, is_known}
 use Rattle.cmc_rules.specs.Positions.{has_informer, kind_of_work, position, positions}
 use Rattle.cmc_rules.specs.Viewing.{views}
-use Rattle.cmc_rules.specs.Passes.{open_pass, begun, origins, origin_at, is_pass_of, past, IsSame}
+use Rattle.cmc_rules.specs.Passes.{open_pass, begun, IsWorking}
+use Rattle.cmc_rules.specs.Origins.{origins, origin_at}
+use Rattle.cmc_rules.specs.Memory.{past}
+use Rattle.cmc_rules.specs.Sameness.{IsSame}
 use Rattle.cmc_rules.specs.Legality.{IsOfKind, IsOpen}
 use Rattle.cmc_rules.specs.Scripting.{scripted, step_at, held}
 use Rattle.cmc_rules.specs.Following.{effect_of, IsReady}
-use Rattle.cmc_held.specs.Dues.{own_above}
+use Rattle.cmc_rules.specs.Sameness.{own_above}
 use Rattle.cmc_world.specs.declared.moves.Move.{Move}
 use Rattle.cmc_world.specs.declared.moves.Move.TheVariants.{Script, Deliver, Begin, Next}
 use Rattle.cmc_world.specs.declared.moves.Lack.TheVariants.{ScriptOver, ScriptWaits, Stopped, NoInformer, Held, Current, NotAWrite, NotQueued, InProcess, SameViews, OwnWrite, NoPass}
@@ -70,16 +77,24 @@ AnswersScript s h answer =
     (Need (IsReady s h (step_at s.script (scripted h + 1))) (NotNow ScriptWaits) answer
     (Fits s h (entries_of (next_effect s h)) answer))
 
+-- the call, answered as a plain store answers
+abbrev pub IsCalled : Setting → List Entry → Who → Call → Entry → Type 0
+IsCalled s h who call e = (reply : Reply) × IsReply s.faults (state s h) call reply × (e ≡ entries.Call who call reply)
+
 -- the entry of what a step has happen
-abbrev pub IsEffect : Effect → Entry → Type 0
-IsEffect (effects.Call call) e = (reply : Reply) × (e ≡ entries.Call User call reply)
-IsEffect (effects.Tick now) e = e ≡ entries.Tick now
-IsEffect (effects.Stop role) e = e ≡ entries.Stop role
-IsEffect (effects.Start role at) e = e ≡ entries.Start role at
+abbrev pub IsEffect : Setting → List Entry → Effect → Entry → Type 0
+IsEffect s h (effects.Call call) e = IsCalled s h User call e
+IsEffect s h (effects.Tick now) e = e ≡ entries.Tick now
+IsEffect s h (effects.Stop role) e = e ≡ entries.Stop role
+IsEffect s h (effects.Start role at) e = e ≡ entries.Start role at
+
+-- these entries stand above the history, the second where there is one
+abbrev pub GrowsBy : Setting → List Entry → Option Effect → List Entry → Type 0
+GrowsBy s h None k = k ≡ h
+GrowsBy s h (Some effect) k = (e : Entry) × IsEffect s h effect e × (k ≡ e ∷ h)
 
 abbrev pub GrowsByScript : Setting → List Entry → List Entry → Type 0
-GrowsByScript s h k =
-    MatchOption (next_effect s h) (k ≡ entries.Script (scripted h + 1) ∷ h) (λ effect. (e : Entry) × IsEffect effect e × (k ≡ e ∷ entries.Script (scripted h + 1) ∷ h))
+GrowsByScript s h k = GrowsBy s (entries.Script (scripted h + 1) ∷ h) (next_effect s h) k
 
 -- ---- deliveries
 
@@ -101,10 +116,6 @@ delivered s h role kind to =
     if nat_le (accepted s h) (position h role kind + s.window) then entries.Deliver role kind to else entries.List role kind (accepted s h)
 
 -- ---- begins
-
--- the role has an open pass on the key
-abbrev pub IsWorking : Setting → List Entry → Role → Key → Type 0
-IsWorking s h role key = (n : ℕ) × (is_pass_of role key (open_pass s h n) ≡ true)
 
 -- the key is one of the role's kind of work, and an accepted write named it
 abbrev pub IsQueued : Setting → List Entry → Role → Key → Type 0
@@ -136,9 +147,10 @@ AnswersNext s h pass named answer =
     BarOf (outdated s h named (origin_at pass (origins s h))) (λ present. Ended present) answer
     (Need (IsOpen (open_pass s h pass)) (NotNow (NoPass pass)) answer (Fits s h 1 answer))
 
--- a call or the end of the pass
-abbrev pub IsOfPass : ℕ → Entry → Type 0
-IsOfPass pass e = ((call : Call) × (reply : Reply) × (e ≡ entries.Call (Pass pass) call reply)) ⊎ ((cause : Cause) × (e ≡ entries.End pass cause))
+-- the call that the pass makes next, or its end
+abbrev pub IsOfPass : Setting → List Entry → ℕ → Entry → Type 0
+IsOfPass s h pass e =
+    ((call : Call) × MayCall s h (open_pass s h pass) call × IsCalled s h (Pass pass) call e) ⊎ ((cause : Cause) × MayEnd s h (open_pass s h pass) cause × (e ≡ entries.End pass cause))
 
 -- ---- all moves
 
@@ -154,8 +166,9 @@ abbrev pub Grows : Setting → List Entry → Move → List Entry → Type 0
 Grows s h Script k = GrowsByScript s h k
 Grows s h (Deliver role kind to) k = k ≡ delivered s h role kind to ∷ h
 Grows s h (Begin role key) k = k ≡ beginning s h role key ∷ h
-Grows s h (Next pass named) k = (e : Entry) × IsOfPass pass e × (k ≡ e ∷ h)
+Grows s h (Next pass named) k = (e : Entry) × IsOfPass s h pass e × (k ≡ e ∷ h)
 
 -- a move that is made adds its entries, and any other leaves the history as it was
 abbrev pub Leaves : Setting → List Entry → Move → Stepped → List Entry → Type 0
-Leaves s h move answer k = MatchBool (is_done answer) (Grows s h move k) (k ≡ h)
+Leaves s h move Done k = Grows s h move k
+Leaves s h move other k = k ≡ h

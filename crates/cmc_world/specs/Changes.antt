@@ -6,7 +6,7 @@ use Rattle.cmc_objects.specs.declared.entry.Step.{Step}
 use Rattle.cmc_objects.specs.declared.entry.Step.TheVariants as steps
 use Rattle.cmc_model.specs.Histories.{role_eq}
 use Rattle.cmc_rules.specs.Positions.{position_of}
-use Rattle.cmc_rules.specs.Passes.{with_position}
+use Rattle.cmc_rules.specs.Memory.{with_position}
 use Rattle.cmc_held.specs.declared.standings.Standing.{Standing}
 use Rattle.cmc_held.specs.Standing.{with_flag}
 

@@ -12,7 +12,9 @@ use Rattle.cmc_model.specs.Replies.{State}
 use Rattle.cmc_model.specs.Histories.{Setting, moment, state, runs, incarnation}
 use Rattle.cmc_model.specs.Writes.{writes}
 use Rattle.cmc_rules.specs.Positions.{position}
-use Rattle.cmc_rules.specs.Passes.{open_pass, origins, past}
+use Rattle.cmc_rules.specs.Passes.{open_pass}
+use Rattle.cmc_rules.specs.Origins.{origins}
+use Rattle.cmc_rules.specs.Memory.{past}
 use Rattle.cmc_rules.specs.Scripting.{scripted, held}
 use Rattle.cmc_rules.specs.Following.{owed, written}
 use Rattle.cmc_rules.specs.Runs.{IsRun}

@@ -5,7 +5,7 @@ use Rattle.cmc_meta.specs.declared.key.Kind.{Kind}
 use Rattle.cmc_objects.specs.declared.object.Object.{Object}
 use Rattle.cmc_model.specs.declared.write.Write.{Write}
 use Rattle.cmc_rules.specs.declared.progress.Past.{Past}
-use Rattle.cmc_rules.specs.Passes.{with_own}
+use Rattle.cmc_rules.specs.Memory.{with_own}
 use Rattle.cmc_rules.specs.Positions.{position_of}
 use Rattle.cmc_held.specs.declared.standings.Standing.{Standing}
 use Rattle.cmc_world.specs.Changes.{writing}

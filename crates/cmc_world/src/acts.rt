@@ -2,7 +2,7 @@
 ghost use Rattle.std.specs.Prelude.{◌≡◌, IfOk};
 ghost use Rattle.cmc_pass.specs.declared.pass.Desk.{Desk as DeskValue};
 ghost use Rattle.cmc_rules.specs.Acts as acts;
-ghost use Rattle.cmc_rules.specs.Triggering.{HasDatedFailure};
+ghost use Rattle.cmc_rules.specs.Dates.{HasDatedFailure};
 ghost use Rattle.cmc_world.specs.Acting.{act_by};
 
 use cmc_meta::Texts;

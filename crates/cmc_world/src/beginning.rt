@@ -1,9 +1,10 @@
 //! Roles begin passes.
 ghost use Rattle.std.specs.Option.{option_copied};
 ghost use Rattle.std.specs.Prelude.{◌≡◌, ◌↔◌, ◌<◌, ◌∷◌, IsTrue, IfOk, OnOk, OnErr, true, length};
-ghost use Rattle.cmc_held.specs.Dues as dues;
+ghost use Rattle.cmc_rules.specs.Sameness as sameness;
 ghost use Rattle.cmc_held.specs.Remembered.{past_or_new};
-ghost use Rattle.cmc_rules.specs.Passes.{IsSame, new_pass};
+ghost use Rattle.cmc_rules.specs.Passes.{new_pass};
+ghost use Rattle.cmc_rules.specs.Sameness.{IsSame};
 ghost use Rattle.cmc_rules.specs.Positions as spec;
 ghost use Rattle.cmc_model.specs.Writes.{is_known};
 ghost use Rattle.cmc_world.specs.Answers.{AnswersBegin, Leaves, beginning};
@@ -34,7 +35,7 @@ pub(crate) struct Prepared {
 
 /// The first own write of which the role was not told.
 fn own_write(past: Option<&Past>, at: Positions) -> Option<u64>
-    ensures { result ≡ dues.own_above (past_or_new (option_copied past.entry)).own at }
+    ensures { result ≡ sameness.own_above (past_or_new (option_copied past.entry)).own at }
 {
     let none = Positions {
         certificates: 0,

@@ -5,8 +5,9 @@ ghost use Rattle.cmc_rules.specs.Acts.{act};
 ghost use Rattle.cmc_rules.specs.Causes.{MayCall, MayEnd};
 ghost use Rattle.cmc_rules.specs.Legality.{IsOpen};
 ghost use Rattle.cmc_rules.specs.Passes as spec;
+ghost use Rattle.cmc_rules.specs.Memory as memory;
 ghost use Rattle.cmc_model.specs.Replies as replies;
-ghost use Rattle.cmc_rules.specs.Triggering.{HasDatedFailure};
+ghost use Rattle.cmc_rules.specs.Dates.{HasDatedFailure};
 ghost use Rattle.cmc_world.specs.Acting.{IsServed, IsDoingBy, IsDoing, IsCalling, IsClosing, MadeCall, GoesOn};
 ghost use Rattle.cmc_world.specs.Answers.{AnswersNext, Leaves, outdated, outdated_at};
 ghost use Rattle.cmc_world.specs.Kept.{setting_of};
@@ -92,7 +93,7 @@ fn doing_of(alloc: Global, pass: &OpenPass) -> Result<Doing, AllocError>
 }
 
 fn ending_at(stage: Stage) -> Ending
-    ensures { result ≡ spec.ending_at stage }
+    ensures { result ≡ memory.ending_at stage }
 {
     match stage {
         Stage::Fresh => Ending::Nothing,
@@ -178,7 +179,7 @@ impl World {
     fn call(&mut self, alloc: Global, pass: u64, call: Call) -> Result<(), AllocError>
         requires may { MayCall (setting_of self.old.scenario) self.old.history (spec.open_pass (setting_of self.old.scenario) self.old.history pass) call }
         requires room { length self.old.history < self.old.scenario.events }
-        ensures ok { OnOk result (MadeCall pass call self.old self.new) }
+        ensures ok { OnOk result (MadeCall (Who.Pass pass) call self.old self.new) }
         ensures err { OnErr result (self.new ≡ self.old) }
     {
         self.is_short();

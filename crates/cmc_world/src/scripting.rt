@@ -13,10 +13,12 @@ ghost use Rattle.cmc_model.specs.Objects.{object_at};
 ghost use Rattle.cmc_rules.specs.Scripting.{scripted};
 ghost use Rattle.cmc_held.specs.Standing.{standing_of};
 ghost use Rattle.cmc_setup.specs.Setups.{IsSetup, IsTickForm, seconds_of};
+ghost use Rattle.cmc_world.specs.Acting.{MadeCall};
 ghost use Rattle.cmc_world.specs.Answers as spec;
 ghost use Rattle.cmc_world.specs.Changes.{keeping, scripted_standing, starting, stopping};
 ghost use Rattle.cmc_world.specs.Kept.{setting_of};
-ghost use Rattle.cmc_world.specs.Scripted.{effect_besides, effect_in, effect_on, standing_after};
+ghost use Rattle.cmc_world.specs.Scripted.{effect_in, standing_after};
+ghost use Rattle.cmc_rules.specs.Following.{effect_besides, effect_on};
 ghost use Rattle.cmc_world.specs.declared.moves.Move.TheVariants as moves;
 ghost use Rattle.cmc_world.specs.declared.moves.Stepped.TheVariants as answers;
 
@@ -248,7 +250,7 @@ impl World {
         requires may { spec.AnswersScript (setting_of self.old.scenario) self.old.history answers.Done }
         requires setup { IsSetup self.old.scenario }
         requires effect { spec.next_effect (setting_of self.old.scenario) self.old.history ≡ Some (effects.Call call) }
-        ensures ok { OnOk result ((reply : ReplyValue) × (self.new ≡ record { scenario = self.old.scenario; history = Entry.Call who.User call reply ∷ Entry.Script (scripted self.old.history + 1) ∷ self.old.history })) }
+        ensures ok { OnOk result (MadeCall who.User call (record { scenario = self.old.scenario; history = Entry.Script (scripted self.old.history + 1) ∷ self.old.history }) self.new) }
         ensures err { OnErr result (self.new ≡ self.old) }
     {
         self.history.reserve(2)?;

@@ -5,7 +5,7 @@ ghost use Rattle.cmc_objects.specs.declared.entry.Entry.{Entry};
 ghost use Rattle.cmc_model.specs.Histories as spec;
 ghost use Rattle.cmc_rules.specs.Rights.{KeepsRights};
 ghost use Rattle.cmc_rules.specs.Runs.{IsRun};
-ghost use Rattle.cmc_setup.specs.Setups.{Setup};
+ghost use Rattle.cmc_model.specs.Histories.{Setting};
 ghost use Rattle.cmc_world.specs.Answers.{Answers, Leaves};
 ghost use Rattle.cmc_world.specs.Kept.{setting_of};
 ghost use Rattle.cmc_world.specs.Leading.{Lead, Extends};
@@ -204,8 +204,8 @@ impl World {
 
 /// A law: whatever list of moves is made, one after another, on a new world, the history that they lead to is
 /// legal, caused, and follows the script, and keeps the rights of the roles; and no move changes what stood in
-/// the history before.
+/// the history before. What each move is answered, and what it leaves, is all that is asked.
 pub fn every_list_of_moves()
-    ensures keeps { (u : Setup) (moves : List MoveValue) (h : List Entry) → Lead u moves [] h → IsRun (setting_of u) h × KeepsRights (setting_of u) h }
-    ensures grows { (u : Setup) (moves : List MoveValue) (h k : List Entry) → Lead u moves h k → Extends h k }
+    ensures keeps { (s : Setting) (moves : List MoveValue) (h : List Entry) → Lead s moves [] h → IsRun s h × KeepsRights s h }
+    ensures grows { (s : Setting) (moves : List MoveValue) (h k : List Entry) → Lead s moves h k → Extends h k }
 {}

@@ -31,18 +31,12 @@ pub record WrittenSoFar (old now : Option (List ℕ)) (piece rest : List ℕ) : 
   pub whole : piece ≡ done ++ rest
   pub added : Appends old now done
 
-pub written_nothing : (a : Option (List ℕ)) (piece : List ℕ) → WrittenSoFar a a piece piece
-written_nothing a piece = record { done = []; whole = refl; added = Appends-nil a }
-
 pub written_more : (a b c : Option (List ℕ)) (piece rest : List ℕ) (n : ℕ) → WrittenSoFar a b piece rest → Appends b c (take n rest) → WrittenSoFar a c piece (drop n rest)
 written_more a b c piece rest n h more = record {
   done = h.done ++ take n rest;
   whole = h.whole ∙ ap (λ l. h.done ++ l) (sym (take-append-drop n rest)) ∙ sym (append_assoc h.done (take n rest) (drop n rest));
   added = Appends-trans a b c h.done (take n rest) h.added more;
 }
-
-pub written_all : (a b : Option (List ℕ)) (piece rest : List ℕ) → WrittenSoFar a b piece rest → rest ≡ [] → Appends a b piece
-written_all a b piece rest h end = subst (Appends a b) (sym (h.whole ∙ ap (λ l. h.done ++ l) end ∙ append-nil h.done)) h.added
 
 pub written_part : (a b c : Option (List ℕ)) (piece rest : List ℕ) → WrittenSoFar a b piece rest → AppendsPrefix b c rest → AppendsPrefix a c piece
 written_part a b c piece rest h later = subst (AppendsPrefix a c) (sym h.whole) (prefix_later a b c h.done rest h.added later)

@@ -1,9 +1,3 @@
-use Rattle.std.proofs.Common.{◌≡◌, List, subst, ◌∙◌, ap}
-use Rattle.cmc_objects.specs.declared.entry.Positions.{Positions}
-use Rattle.cmc_model.specs.declared.write.Write.{Write}
-use Rattle.cmc_model.specs.Writes.{writes}
-use Rattle.cmc_rules.specs.Viewing.{views_in}
-use Rattle.cmc_held.specs.Sight.{caches_at}
 use Rattle.cmc_world.specs.Kept.{setting_of}
 use Rattle.cmc_plain.proofs.Sights.{sees_told}
 use Rattle.cmc_plain.proofs.begins.caches_of.Goals as goal

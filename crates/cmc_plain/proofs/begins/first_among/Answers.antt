@@ -2,7 +2,7 @@ use Rattle.std.proofs.Common.{List, Some, sym, subst}
 use Rattle.cmc_meta.specs.declared.key.Key.{Key}
 use Rattle.cmc_world.specs.Kept.{setting_of}
 use Rattle.cmc_plain.specs.Searches.{FindsKey}
-use Rattle.cmc_plain.proofs.Keys.{KeysLeft, all_keys_left, first_known, fewer_keys_left, key_found}
+use Rattle.cmc_plain.proofs.Keys.{KeysLeft, all_keys_left, fewer_keys_left, key_found}
 use Rattle.cmc_plain.proofs.begins.first_among.Goals as goal
 
 pub loop-key-init : goal.loop-key-init

@@ -1,4 +1,4 @@
-use Rattle.std.proofs.Common.{ℕ, subst, arith, ◌≡◌, Option}
+use Rattle.std.proofs.Common.{subst, arith, ◌≡◌, Option}
 use Rattle.cmc_meta.specs.declared.key.Key.{Key}
 use Rattle.cmc_world.specs.Kept.{setting_of}
 use Rattle.cmc_plain.specs.Searches.{HasNoneBefore, FitsSome, FindsKey}

@@ -1,5 +1,5 @@
 use Rattle.std.proofs.Common.{sym, subst}
-use Rattle.cmc_rules.specs.Triggering.{HasDatedFailure}
+use Rattle.cmc_rules.specs.Dates.{HasDatedFailure}
 use Rattle.cmc_world.specs.Kept.{setting_of}
 use Rattle.cmc_world.proofs.Dated.{dated_views}
 use Rattle.cmc_plain.proofs.begins.is_worth.Goals as goal

@@ -1,5 +1,4 @@
 use Rattle.std.proofs.Common.{◌≡◌, true, Option, subst}
-use Rattle.cmc_setup.specs.Setups.{IsSetup}
 use Rattle.cmc_world.specs.declared.moves.Move.{Move}
 use Rattle.cmc_world.specs.Kept.{setting_of}
 use Rattle.cmc_plain.specs.Searches.{FindsMove}
@@ -11,6 +10,5 @@ unreachable-requires c =
     let u = c.args.world.now.scenario in
     let h = c.args.world.now.history in
     let none = subst (λ (found : Option Move). FindsMove (setting_of u) h found) c.in-None.is c.in_ok-step.ensures in
-    let setup = subst IsSetup c.scenario.ensures c.events-events.ensures.setup in
-    let on : c.in_ok-finished.field-0 ≡ true = c.in_ok-finished.ensures.1 (finished_without_move u h setup.orderly c.is_run.ensures.run c.is_settled.ensures none) in
+    let on : c.in_ok-finished.field-0 ≡ true = c.in_ok-finished.ensures.1 (finished_without_move (setting_of u) h c.is_run.ensures.run c.is_settled.ensures none) in
     absurd (cc (on, c.if-branch.false))

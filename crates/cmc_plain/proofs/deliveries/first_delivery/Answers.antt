@@ -1,4 +1,4 @@
-use Rattle.std.proofs.Common.{ℕ, subst, arith, ◌≡◌}
+use Rattle.std.proofs.Common.{subst, arith, ◌≡◌}
 use Rattle.cmc_world.specs.Kept.{setting_of}
 use Rattle.cmc_plain.specs.Searches.{HasNoneBefore, IsBehindInSome}
 use Rattle.cmc_plain.proofs.Ordering.{no_delivery}

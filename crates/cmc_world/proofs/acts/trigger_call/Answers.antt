@@ -3,18 +3,18 @@ use Rattle.std.proofs.lemmas.Int.{to_z-of_z}
 use Rattle.cmc_objects.specs.declared.role.Role.TheVariants.{Trigger}
 use Rattle.cmc_rules.specs.Acts.{act}
 use Rattle.cmc_world.specs.Plain.{IsPlain}
-use Rattle.cmc_world.proofs.PlainActs.{plain_act, act_desk}
+use Rattle.cmc_world.proofs.Sounds.{plain_act, trigger_desk}
 use Rattle.cmc_world.proofs.acts.trigger_call.Goals as goal
 
 pub returns-in-Nothing : goal.returns-in-Nothing
 returns-in-Nothing c = λ desk.
-    act_desk Trigger c.args.seen.now c.args.now desk c.empty_desk-desk.result
+    trigger_desk c.args.seen.now c.args.now desk c.empty_desk-desk.result
     ∙ ap (λ (n : ℤ). act Trigger c.args.seen.now n c.empty_desk-desk.result) (sym (to_z-of_z w64 c.args.now (search rules)))
     ∙ sym (c.in_ok-act.ensures) ∙ c.in-Nothing.is
 
 pub returns-in-Call : goal.returns-in-Call
 returns-in-Call c = λ desk.
-    act_desk Trigger c.args.seen.now c.args.now desk c.empty_desk-desk.result
+    trigger_desk c.args.seen.now c.args.now desk c.empty_desk-desk.result
     ∙ ap (λ (n : ℤ). act Trigger c.args.seen.now n c.empty_desk-desk.result) (sym (to_z-of_z w64 c.args.now (search rules)))
     ∙ sym (c.in_ok-act.ensures) ∙ c.in-Call.is
 

@@ -1,7 +1,7 @@
 use Rattle.std.proofs.Common.{ap, rules, sym, w64, ◌∙◌}
 use Rattle.std.proofs.lemmas.Int.{to_z-of_z}
 use Rattle.std.specs.Option.{option_copied_mut}
-use Rattle.cmc_rules.specs.Passes.{with_begin}
+use Rattle.cmc_rules.specs.Memory.{with_begin}
 use Rattle.cmc_held.proofs.Memories.{key_changed, noted_is_kept}
 use Rattle.cmc_held.proofs.pasts.Memory.begin.Goals as goal
 use Rattle.cmc_held.proofs.pasts.Memory.begin.Goals.{in-Some, in_default}

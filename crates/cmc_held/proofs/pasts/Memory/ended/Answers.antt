@@ -1,6 +1,6 @@
 use Rattle.std.proofs.Common.{ap, refl, sym, ◌∙◌}
 use Rattle.std.specs.Option.{option_copied_mut}
-use Rattle.cmc_rules.specs.Passes.{with_ending}
+use Rattle.cmc_rules.specs.Memory.{with_ending}
 use Rattle.cmc_held.proofs.Memories.{key_absent, key_changed}
 use Rattle.cmc_held.proofs.pasts.Memory.ended.Goals as goal
 use Rattle.cmc_held.proofs.pasts.Memory.ended.Goals.{in-Some, in_default}

@@ -1,6 +1,6 @@
 use Rattle.std.proofs.Common.{ap, sym, ◌∙◌}
 use Rattle.std.specs.Option.{option_copied_mut}
-use Rattle.cmc_rules.specs.Passes.{with_own}
+use Rattle.cmc_rules.specs.Memory.{with_own}
 use Rattle.cmc_held.proofs.Memories.{key_changed, noted_is_kept}
 use Rattle.cmc_held.proofs.pasts.Memory.wrote.Goals as goal
 use Rattle.cmc_held.proofs.pasts.Memory.wrote.Goals.{in-Some, in_default}

@@ -1,6 +1,6 @@
 use Rattle.std.proofs.Common.{rules, sym, w64, ◌∙◌}
 use Rattle.std.proofs.lemmas.Int.{to_z-of_z}
-use Rattle.cmc_rules.specs.Passes.{with_begin}
+use Rattle.cmc_rules.specs.Memory.{with_begin}
 use Rattle.cmc_held.proofs.RowsOfPasts.{past_changed, ready_in_row, row_here}
 use Rattle.cmc_held.proofs.pasts.Pasts.begin.Goals as goal
 

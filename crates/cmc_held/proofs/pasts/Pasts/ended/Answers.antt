@@ -1,4 +1,4 @@
-use Rattle.cmc_rules.specs.Passes.{with_ending}
+use Rattle.cmc_rules.specs.Memory.{with_ending}
 use Rattle.cmc_held.proofs.RowsOfPasts.{past_changed, row_here}
 use Rattle.cmc_held.proofs.pasts.Pasts.ended.Goals as goal
 

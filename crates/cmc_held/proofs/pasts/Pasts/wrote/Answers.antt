@@ -1,5 +1,5 @@
 use Rattle.std.proofs.Common.{sym, ◌∙◌}
-use Rattle.cmc_rules.specs.Passes.{with_own}
+use Rattle.cmc_rules.specs.Memory.{with_own}
 use Rattle.cmc_held.proofs.RowsOfPasts.{past_changed, ready_in_row, row_here}
 use Rattle.cmc_held.proofs.pasts.Pasts.wrote.Goals as goal
 

@@ -5,7 +5,7 @@ use Rattle.cmc_meta.specs.Keys.{key_eq}
 use Rattle.cmc_rules.specs.declared.progress.Origin.{Origin}
 use Rattle.cmc_rules.specs.declared.progress.Past.{Past}
 use Rattle.cmc_model.specs.Histories.{role_eq}
-use Rattle.cmc_rules.specs.Passes.{with_begin}
+use Rattle.cmc_rules.specs.Memory.{with_begin}
 use Rattle.cmc_held.specs.Open.{pass_at}
 use Rattle.cmc_held.specs.Remembered.{past_at}
 use Rattle.cmc_world.specs.declared.moves.Stepped.TheVariants.{Done}

@@ -1,0 +1,5 @@
+pub mod StandIns
+pub mod Signings
+pub mod Answers
+pub mod Wanting
+pub mod Judging

@@ -1,0 +1,17 @@
+//! What issuers and approvers answer: the certificates that the rows of a scenario stand for, and the judgement of
+//! requests by refused names and approval policies.
+#![tactic(auto)]
+
+mod answered;
+mod certificates;
+mod denial;
+mod judged;
+mod judging;
+mod signing;
+mod stand_ins;
+mod wanting;
+
+pub use answered::{Answered, ScriptedSigner, Signer};
+pub use denial::Denial;
+pub use judged::{Judged, judge};
+pub use signing::signing_of;

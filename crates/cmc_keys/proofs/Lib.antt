@@ -1,0 +1,5 @@
+pub mod ValueLaws
+pub mod FileLaws
+pub mod SyntheticLaws
+pub mod ScriptedLaws
+pub mod SignatureLaws

@@ -1,0 +1,4 @@
+pub mod Kinds
+pub mod Files
+pub mod Synthetic
+pub mod Values

@@ -1,0 +1,18 @@
+//! Whether a private key, a certification request and a Secret fit a Certificate: what the controllers compare.
+//!
+//! No call takes memory.
+#![tactic(auto)]
+
+mod facts;
+mod marks;
+mod matching;
+mod names;
+mod revisions;
+mod sets;
+
+pub use facts::{facts_mean, facts_of, pair_in};
+pub use marks::{asks_for_temporary, has_text, is_next_key, is_temporary, part_under, text_under};
+pub use matching::{is_one_key, key_fits, request_has_key, request_matches};
+pub use names::has_names;
+pub use revisions::revision_of;
+pub use sets::is_same_set;

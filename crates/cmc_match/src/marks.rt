@@ -1,0 +1,83 @@
+//! Labels and annotations, and the data of Secrets, looked up by `str`.
+ghost use Rattle.std.specs.Option.{option_copied};
+ghost use Rattle.std.specs.Prelude.{◌≡◌, ◌↔◌, IsTrue, Some};
+ghost use Rattle.std.specs.Str.{bytes_eq};
+ghost use Rattle.cmc_meta.specs.PairLists.{text_at};
+ghost use Rattle.cmc_match.specs.Marks as spec;
+
+use cmc_meta::{Bytes, Pairs, Text};
+use cmc_objects::{Certificate, Parts, Secret};
+
+fn is_named(name: &Text, key: &str) -> bool
+    ensures { result ≡ bytes_eq key.now name.now }
+{
+    key == name.as_str()
+}
+
+/// The text under the key; `None` exactly where no pair has it.
+pub fn text_under<'a>(pairs: &'a Pairs, key: &str) -> Option<&'a Text>
+    ensures { option_copied result ≡ text_at pairs.now key.now }
+{
+    for (name, text) in pairs.as_map().iter() {
+        if is_named(name, key) {
+            return Some(text);
+        }
+    }
+    None
+}
+
+/// The bytes under the name; `None` exactly where no pair has it.
+pub fn part_under<'a>(parts: &'a Parts, key: &str) -> Option<&'a Bytes>
+    ensures { option_copied result ≡ text_at parts.now key.now }
+{
+    for (name, bytes) in parts.as_map().iter() {
+        if is_named(name, key) {
+            return Some(bytes);
+        }
+    }
+    None
+}
+
+/// Whether this text stands under the key.
+pub fn has_text(pairs: &Pairs, key: &str, text: &str) -> bool
+    ensures value { result ≡ spec.has_text pairs.now key.now text.now }
+    ensures means { IsTrue result ↔ (text_at pairs.now key.now ≡ Some text.now) }
+{
+    match text_under(pairs, key) {
+        None => false,
+        Some(found) => found.as_str() == text,
+    }
+}
+
+/// Whether the Secret is labelled as one that holds the private key of an issuance in progress.
+pub fn is_next_key(secret: &Secret) -> bool
+    ensures { result ≡ spec.is_next_key secret.now }
+{
+    has_text(
+        &secret.meta.labels,
+        "cert-manager.io/next-private-key",
+        "true",
+    )
+}
+
+/// Whether the Secret is annotated as one that holds a temporary certificate.
+pub fn is_temporary(secret: &Secret) -> bool
+    ensures { result ≡ spec.is_temporary secret.now }
+{
+    has_text(
+        &secret.meta.annotations,
+        "cert-manager.io/temporary-certificate",
+        "true",
+    )
+}
+
+/// Whether the Certificate is annotated to get a temporary certificate while its request waits.
+pub fn asks_for_temporary(certificate: &Certificate) -> bool
+    ensures { result ≡ spec.asks_for_temporary certificate.now }
+{
+    has_text(
+        &certificate.meta.annotations,
+        "cert-manager.io/issue-temporary-certificate",
+        "true",
+    )
+}

@@ -1,0 +1,112 @@
+//! Whether a key and a CertificateRequest fit a Certificate.
+ghost use Rattle.std.specs.Prelude.{◌≡◌, ◌↔◌, IsTrue};
+ghost use Rattle.cmc_der.specs.Keys.{key_shown};
+ghost use Rattle.cmc_x509.specs.ReadKeys.{key_file_at};
+ghost use Rattle.cmc_x509.specs.ReadCertificates.{request_at};
+ghost use Rattle.cmc_objects.specs.Defaults.{certificate_duration, key_algorithm, key_size};
+ghost use Rattle.cmc_keys.specs.Kinds.{IsKeyOf, is_key_of};
+ghost use Rattle.cmc_match.specs.Matching as words;
+ghost use Rattle.cmc_match.specs.Matching.{Matches, HasKey};
+
+use crate::names::has_names;
+use crate::sets::is_same_set;
+use cmc_keys::is_key_of;
+use cmc_objects::{CertSpec, CertificateRequest, IssuerRef, KeySpec, RequestSpec};
+use cmc_x509::{Spki, read_csr, read_key};
+
+/// Whether the octets are a file of a private key of the algorithm and the size that are asked for, in whichever
+/// encoding.
+pub fn key_fits(spec: &KeySpec, key: &[u8]) -> bool
+    ensures means { IsTrue result ↔ IsKeyOf (key_algorithm spec.now) (key_size spec.now) key.now }
+    ensures value { result ≡ is_key_of (key_algorithm spec.now) (key_size spec.now) key.now }
+{
+    is_key_of(spec.algorithm_at_use(), spec.size_at_use(), key)
+}
+
+fn is_same_issuer(left: &IssuerRef, right: &IssuerRef) -> bool
+    ensures { result ≡ words.is_same_issuer left.now right.now }
+{
+    left.name.as_str() == right.name.as_str()
+        && left.kind_at_use() == right.kind_at_use()
+        && left.group_at_use() == right.group_at_use()
+}
+
+fn is_same_flag(left: bool, right: bool) -> bool
+    ensures { result ≡ words.is_same_flag left right }
+{
+    if left { right } else { !right }
+}
+
+fn duration_of(request: &RequestSpec) -> u64
+    ensures { result ≡ certificate_duration request.now.duration }
+{
+    match request.duration {
+        Some(duration) => duration,
+        None => 7_776_000,
+    }
+}
+
+#[tactic(auto, unfolding(crate::specs::Matching::has_terms))]
+fn has_terms(spec: &CertSpec, request: &RequestSpec) -> bool
+    ensures { result ≡ words.has_terms spec.now request.now }
+{
+    is_same_issuer(&spec.issuer, &request.issuer)
+        && spec.duration_at_use() == duration_of(request)
+        && is_same_flag(spec.is_ca, request.is_ca)
+        && is_same_set(spec.usages.as_slice(), request.usages.as_slice())
+}
+
+fn asks_for_names(spec: &CertSpec, request: &[u8]) -> bool
+    ensures { result ≡ words.asks_for_names spec.now (request_at request.now) }
+{
+    match read_csr(request) {
+        Err(_) => false,
+        Ok(fields) => has_names(spec, &fields.names),
+    }
+}
+
+#[tactic(auto, unfolding(crate::specs::Matching::matches))]
+fn matches(spec: &CertSpec, request: &CertificateRequest) -> bool
+    ensures { result ≡ words.matches spec.now request.now }
+{
+    asks_for_names(spec, request.spec.request.as_slice()) && has_terms(spec, &request.spec)
+}
+
+/// Whether the request asks for what the specification asks for: its certification request is readable and has the
+/// names, each kind of them as a set, and issuer, duration, the mark of a CA and the set of usages are the same.
+/// Issuer and duration have their defaults where they are absent.
+pub fn request_matches(spec: &CertSpec, request: &CertificateRequest) -> bool
+    ensures means { IsTrue result ↔ Matches spec.now request.now }
+    ensures value { result ≡ words.matches spec.now request.now }
+{
+    matches(spec, request)
+}
+
+/// Whether two public keys have equal parts.
+pub fn is_one_key(left: &Spki<'_>, right: &Spki<'_>) -> bool
+    ensures means { IsTrue result ↔ (key_shown left.now ≡ key_shown right.now) }
+    ensures value { result ≡ words.is_one_key (key_shown left.now) (key_shown right.now) }
+{
+    left.same(right)
+}
+
+#[tactic(auto, unfolding(crate::specs::Matching::has_key))]
+fn has_key(request: &CertificateRequest, file: &[u8]) -> bool
+    ensures { result ≡ words.has_key request.now file.now }
+{
+    match read_key(file) {
+        Err(_) => false,
+        Ok(key) => match read_csr(request.spec.request.as_slice()) {
+            Err(_) => false,
+            Ok(fields) => is_one_key(&key, &fields.key),
+        },
+    }
+}
+
+/// Whether the request's certification request and the file of a private key are readable, and have one public key.
+pub fn request_has_key(request: &CertificateRequest, file: &[u8]) -> bool
+    ensures means { IsTrue result ↔ HasKey request.now file.now }
+    ensures value { result ≡ words.has_key request.now file.now }
+{
+    has_key(request, file)
+}

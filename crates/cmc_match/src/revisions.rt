@@ -1,0 +1,66 @@
+//! The revision of a Certificate that a CertificateRequest is for.
+ghost use Rattle.std.specs.Char.{is_ascii_digit};
+ghost use Rattle.std.specs.List.{list_all};
+ghost use Rattle.std.specs.Option.{option_copied};
+ghost use Rattle.std.specs.Prelude.{◌≡◌, ◌<◌, ◌^◌, ℕ, IfSome, Some, decimal};
+ghost use Rattle.cmc_match.specs.Revisions as words;
+
+use crate::marks::text_under;
+use cmc_meta::Text;
+use cmc_objects::CertificateRequest;
+
+fn are_digits(text: &[u8]) -> bool
+    ensures { result ≡ list_all is_ascii_digit text.now }
+{
+    text.iter().all(|byte| byte.is_ascii_digit())
+}
+
+fn is_decimal(text: &[u8]) -> bool
+    ensures { result ≡ words.is_decimal text.now }
+{
+    !text.is_empty() && (are_digits(text) && (text.len() == 1 || text[0] != b'0'))
+}
+
+#[tactic(auto, using(crate::proofs::NumberLaws::numeral))]
+fn number_in(text: &str) -> Option<u64>
+    ensures { result ≡ words.number_in text.now }
+{
+    if !is_decimal(text.as_bytes()) {
+        return None;
+    }
+    match text.parse::<u64>() {
+        Ok(number) => Some(number),
+        Err(_) => None,
+    }
+}
+
+fn number_of(text: Option<&Text>) -> Option<u64>
+    ensures { result ≡ words.number_of (option_copied text.entry) }
+{
+    match text {
+        None => None,
+        Some(text) => number_in(text.as_str()),
+    }
+}
+
+#[tactic(auto, unfolding(crate::specs::Revisions::revision_of))]
+fn revision(request: &CertificateRequest) -> Option<u64>
+    ensures { result ≡ words.revision_of request.now }
+{
+    number_of(text_under(
+        &request.meta.annotations,
+        "cert-manager.io/certificate-revision",
+    ))
+}
+
+/// The revision of the Certificate that the request is for: the number that its annotation
+/// `cert-manager.io/certificate-revision` writes in decimal, without sign or leading zero, below 2^64. `None` where
+/// there is no annotation, or it writes no such number.
+pub fn revision_of(request: &CertificateRequest) -> Option<u64>
+    ensures value { result ≡ words.revision_of request.now }
+    ensures read { (number : ℕ) → number < 2 ^ 64 →
+        words.revision_text request.now ≡ Some (decimal number) → result ≡ Some number }
+    ensures written { IfSome result (λ number. words.revision_text request.now ≡ Some (decimal number)) }
+{
+    revision(request)
+}

@@ -1,0 +1,149 @@
+-- The plain move is made, where it fits.
+use Rattle.std.proofs.Common.{◌≡◌, ◌⊎◌, ◌==◌, ◌+◌, ◌<◌, ◌≤◌, ℕ, List, Option, Some, None, Bool, true, false, length, refl, sym, subst, inl, inr, arith}
+use Rattle.std.proofs.lemmas.Bool.Decides.{nat_tests, Decides-eqb}
+use Rattle.std.specs.Prelude.{◌↔◌, ◌∷◌, [], IsTrue, if◌then◌else◌}
+use Rattle.cmc_meta.specs.declared.key.Key.{Key}
+use Rattle.cmc_meta.specs.declared.key.Kind.{Kind}
+use Rattle.cmc_objects.specs.declared.role.Role.{Role}
+use Rattle.cmc_objects.specs.declared.entry.Entry.{Entry}
+use Rattle.cmc_rules.specs.declared.progress.OpenPass.{OpenPass}
+use Rattle.cmc_model.specs.declared.write.Write.{Write}
+use Rattle.cmc_model.specs.Histories.{Setting, incarnation}
+use Rattle.cmc_model.specs.Writes.{writes, kind_eq, write_at, last_of_kind}
+use Rattle.cmc_rules.specs.Positions.{position}
+use Rattle.cmc_rules.specs.Passes.{open_pass}
+use Rattle.cmc_rules.specs.Origins.{origins, origin_at}
+use Rattle.cmc_rules.specs.Legality.{IsOfKind, IsOpen}
+use Rattle.cmc_world.specs.declared.moves.Move.{Move}
+use Rattle.cmc_world.specs.declared.moves.Move.TheVariants.{Script, Deliver, Begin, Next}
+use Rattle.cmc_world.specs.declared.moves.Stepped.{Stepped}
+use Rattle.cmc_world.specs.declared.moves.Stepped.TheVariants.{Done, NotNow, Ended, Spent}
+use Rattle.cmc_world.specs.declared.moves.Lack.TheVariants.{ScriptOver, ScriptWaits, Stopped, NoInformer, Held, Current, NotAWrite, InProcess, OwnWrite, SameViews, NotQueued, NoPass}
+use Rattle.cmc_world.specs.Answers.{Need, Bar, BarOf, Fits as HasRoom, outdated, entries_of, next_effect, AnswersScript, AnswersDelivery, AnswersBegin, AnswersNext, Answers}
+use Rattle.cmc_world.proofs.Rest.{same_kind}
+use Rattle.cmc_plain.specs.Plain.{IsStepReady, IsBehind, IsOfPresent, MayBegin, IsChosen}
+use Rattle.cmc_plain.specs.Histories.{entries_for}
+use Rattle.cmc_plain.specs.Searches.{IsAccepted}
+use Rattle.cmc_plain.proofs.OneKind.{last_low}
+
+-- ---- tables
+
+-- a need that is met, and a bar that is not there
+met : {fact rest : Type 0} (refusal answer : Stepped) → fact → Need fact refusal answer rest → rest
+met refusal answer is (inl x) = absurd (x.0 is)
+met refusal answer is (inr x) = x.1
+
+clear : {fact rest : Type 0} (refusal answer : Stepped) → (fact → ⊥) → Bar fact refusal answer rest → rest
+clear refusal answer not (inl x) = absurd (not x.0)
+clear refusal answer not (inr x) = x.1
+
+clear_of : {rest : Type 0} (number : Option ℕ) (refusal : ℕ → Stepped) (answer : Stepped) → number ≡ None → BarOf number refusal answer rest → rest
+clear_of None refusal answer is x = x
+clear_of (Some n) refusal answer is x = absurd (cc is)
+
+-- a move that is possible is made, or does not fit
+abbrev pub IsMade : Setting → List Entry → ℕ → Stepped → Type 0
+IsMade s h more answer = (answer ≡ Done) ⊎ ((answer ≡ Spent (length h)) × (s.events < length h + more))
+
+over : (a b : ℕ) → (a ≤ b → ⊥) → b < a
+over a b not = grind (arith, not)
+
+fitted : (s : Setting) (h : List Entry) (more : ℕ) (answer : Stepped) → HasRoom s h more answer → IsMade s h more answer
+fitted s h more answer (inl x) = inr (x.1, over (length h + more) s.events x.0)
+fitted s h more answer (inr x) = inl x.1
+
+-- ---- the last write of a kind
+
+last_at : (here : Bool) (kind : Kind) (w : Write) (ws : List Write) → kind_eq w.key.kind kind ≡ here
+    → (1 ≤ last_of_kind kind ws → IsOfKind kind (write_at (last_of_kind kind ws) ws)) → 1 ≤ (if here then length (w ∷ ws) else last_of_kind kind ws)
+    → IsOfKind kind (write_at (if here then length (w ∷ ws) else last_of_kind kind ws) (w ∷ ws))
+unfolding write_at
+last_at true kind w ws same below some =
+    subst (λ (b : Bool). IsOfKind kind (if b then Some w else write_at (length (w ∷ ws)) ws)) (sym ((Decides-eqb (length (w ∷ ws)) (length (w ∷ ws))).1 refl)) (same_kind w.key.kind kind same)
+last_at false kind w ws other below some =
+    let low = last_low kind ws in
+    let later : (length (w ∷ ws) == last_of_kind kind ws) ≡ false = grind (arith, nat_tests) in
+    subst (λ (b : Bool). IsOfKind kind (if b then Some w else write_at (last_of_kind kind ws) ws)) (sym later) (below some)
+
+-- it is of the kind, if there is one
+last_is : (kind : Kind) (ws : List Write) → 1 ≤ last_of_kind kind ws → IsOfKind kind (write_at (last_of_kind kind ws) ws)
+unfolding last_of_kind
+last_is kind [] some = absurd (omega (arith, some))
+last_is kind (w ∷ ws) some = last_at (kind_eq w.key.kind kind) kind w ws refl (last_is kind ws) some
+
+-- ---- each move
+
+pub script_made : (s : Setting) (h : List Entry) (answer : Stepped) → IsStepReady s h → AnswersScript s h answer → IsMade s h (entries_of (next_effect s h)) answer
+script_made s h answer c a = fitted s h (entries_of (next_effect s h)) answer (met (NotNow ScriptWaits) answer c.ready (met (NotNow ScriptOver) answer c.left a))
+
+pub delivery_made : (s : Setting) (h : List Entry) (role : Role) (kind : Kind) (answer : Stepped) → IsBehind s h role kind
+    → AnswersDelivery s h role kind (last_of_kind kind (writes s h)) answer → IsMade s h 1 answer
+delivery_made s h role kind answer c a =
+    let above = c.behind in
+    fitted s h 1 answer
+    (met (NotNow (NotAWrite (last_of_kind kind (writes s h)))) answer (above, last_is kind (writes s h) (omega (arith, above)))
+    (clear (NotNow (Current (position h role kind))) answer (λ le. absurd (omega (arith, above, le)))
+    (met (NotNow Held) answer c.free (met (NotNow NoInformer) answer c.informed (met (NotNow Stopped) answer c.running a)))))
+
+begin_made : (s : Setting) (h : List Entry) (role : Role) (key : Key) (answer : Stepped) → MayBegin s h role key → AnswersBegin s h role key answer → IsMade s h 1 answer
+begin_made s h role key answer m a =
+    fitted s h 1 answer
+    (met (NotNow NotQueued) answer (m.work, m.known)
+    (clear (NotNow SameViews) answer m.due.other
+    (clear_of _ (λ version. NotNow (OwnWrite version)) answer m.due.told (clear (NotNow InProcess) answer m.idle (met (NotNow Stopped) answer m.running a)))))
+
+-- the origin of each open pass is of the present incarnation of its role
+abbrev pub ArePresent : Setting → List Entry → Type 0
+ArePresent s h = (n : ℕ) (p : OpenPass) → open_pass s h n ≡ Some p → outdated s h (incarnation s h p.role) (origin_at n (origins s h)) ≡ None
+
+next_made : (s : Setting) (h : List Entry) (n named : ℕ) (answer : Stepped) (o : Option OpenPass) → open_pass s h n ≡ o → ArePresent s h → IsOfPresent s h named o
+    → AnswersNext s h n named answer → IsMade s h 1 answer
+next_made s h n named answer None is present of a = absurd of
+next_made s h n named answer (Some p) is present of a =
+    let now = subst (λ (m : ℕ). outdated s h m (origin_at n (origins s h)) ≡ None) (sym of) (present n p is) in
+    fitted s h 1 answer (met (NotNow (NoPass n)) answer (subst IsOpen (sym is) tt) (clear_of _ (λ present. Ended present) answer now a))
+
+-- the chosen move
+pub chosen_made : (s : Setting) (h : List Entry) (move : Move) (answer : Stepped) → ArePresent s h → IsChosen s h move → Answers s h move answer → IsMade s h (entries_for s h move) answer
+chosen_made s h Script answer present c a = script_made s h answer c a
+chosen_made s h (Next n named) answer present c a = next_made s h n named answer (open_pass s h n) refl present c.2 a
+chosen_made s h (Deliver role kind to) answer present c a =
+    delivery_made s h role kind answer c.2.behind (subst (λ (m : ℕ). AnswersDelivery s h role kind m answer) c.3 a)
+chosen_made s h (Begin role key) answer present c a = begin_made s h role key answer c.3.fits.may a
+
+-- ---- and what an answer tells
+
+passed_need : {fact rest : Type 0} (refusal answer : Stepped) → (IsAccepted refusal → ⊥) → IsAccepted answer → Need fact refusal answer rest → fact × rest
+passed_need refusal answer bad good (inl x) = absurd (bad (subst IsAccepted x.1 good))
+passed_need refusal answer bad good (inr x) = x
+
+passed_bar : {fact rest : Type 0} (refusal answer : Stepped) → (IsAccepted refusal → ⊥) → IsAccepted answer → Bar fact refusal answer rest → (fact → ⊥) × rest
+passed_bar refusal answer bad good (inl x) = absurd (bad (subst IsAccepted x.1 good))
+passed_bar refusal answer bad good (inr x) = x
+
+accepted_made : (s : Setting) (h : List Entry) (more : ℕ) (answer : Stepped) → IsMade s h more answer → IsAccepted answer
+accepted_made s h more answer (inl is) = subst IsAccepted (sym is) tt
+accepted_made s h more answer (inr is) = subst IsAccepted (sym is.0) tt
+
+-- the answer to the next step of the script tells whether it is ready
+pub ready_by : (s : Setting) (h : List Entry) (answer : Stepped) (b : Bool) → AnswersScript s h answer → (IsTrue b ↔ IsAccepted answer) → IsTrue b ↔ IsStepReady s h
+ready_by s h answer b a test = (on, λ c. test.1 (accepted_made s h _ answer (script_made s h answer c a))) where
+  on : IsTrue b → IsStepReady s h
+  on is =
+      let one = passed_need (NotNow ScriptOver) answer (λ bad. bad) (test.0 is) a in
+      let two = passed_need (NotNow ScriptWaits) answer (λ bad. bad) (test.0 is) one.1 in
+      record { left = one.0; ready = two.0 }
+
+-- and that to a delivery of the newest write whether the role is behind
+pub behind_by : (s : Setting) (h : List Entry) (role : Role) (kind : Kind) (answer : Stepped) (b : Bool) → AnswersDelivery s h role kind (last_of_kind kind (writes s h)) answer
+    → (IsTrue b ↔ IsAccepted answer) → IsTrue b ↔ IsBehind s h role kind
+behind_by s h role kind answer b a test = (on, λ c. test.1 (accepted_made s h 1 answer (delivery_made s h role kind answer c a))) where
+  on : IsTrue b → IsBehind s h role kind
+  on is =
+      let good = test.0 is in
+      let one = passed_need (NotNow Stopped) answer (λ bad. bad) good a in
+      let two = passed_need (NotNow NoInformer) answer (λ bad. bad) good one.1 in
+      let three = passed_need (NotNow Held) answer (λ bad. bad) good two.1 in
+      let four = passed_bar (NotNow (Current (position h role kind))) answer (λ bad. bad) good three.1 in
+      let five = passed_need (NotNow (NotAWrite (last_of_kind kind (writes s h)))) answer (λ bad. bad) good four.1 in
+      record { running = one.0; informed = two.0; free = three.0; behind = five.0.0 }

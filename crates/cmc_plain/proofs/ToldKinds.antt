@@ -1,0 +1,124 @@
+-- Which kinds a role writes: only kinds that it is told of.
+use Rattle.std.proofs.Common.{◌≡◌, ℕ, ℤ, pos, List, [], ◌∷◌, Option, Some, None, Bool, true, false, refl, sym, ap, subst, ◌∙◌, inl, inr}
+use Rattle.std.specs.Prelude.{if◌then◌else◌}
+use Rattle.cmc_meta.specs.declared.key.Key.{Key}
+use Rattle.cmc_meta.specs.declared.key.Kind.TheVariants as kinds
+use Rattle.cmc_objects.specs.declared.object.Object.{Object}
+use Rattle.cmc_objects.specs.declared.object.Object.TheVariants.{Cert, Request, Secret}
+use Rattle.cmc_objects.specs.declared.call.Call.{Call}
+use Rattle.cmc_objects.specs.declared.call.Call.TheVariants.{Create, Update, UpdateStatus, Delete, Get}
+use Rattle.cmc_objects.specs.declared.role.Role.{Role}
+use Rattle.cmc_objects.specs.declared.role.Role.TheVariants.{Trigger, KeyManager, RequestManager, Approver, Issuer, Issuing, Readiness}
+use Rattle.cmc_objects.specs.Objects.{key_of}
+use Rattle.cmc_pass.specs.declared.pass.Views.{Views}
+use Rattle.cmc_pass.specs.declared.pass.Desk.{Desk}
+use Rattle.cmc_pass.specs.declared.pass.Act.TheVariants.{Call as Calls}
+use Rattle.cmc_model.specs.Stored.{created}
+use Rattle.cmc_model.specs.Replies.{key_of_call}
+use Rattle.cmc_rules.specs.Positions.{has_informer, works_on_requests, looks_at_secret, looks_at_next, looks_at_requests}
+use Rattle.cmc_rules.specs.Acts.{act}
+use Rattle.cmc_rules.specs.Rights.{MayChange}
+use Rattle.cmc_rules.specs.Sighting.{IsPart, IsPartOf, IsSeen, ForSeen, OnSeen}
+use Rattle.cmc_rules.specs.Sound.{IsOrdinary, IsWithin, shown}
+use Rattle.cmc_model.proofs.Stored.{key_of-created}
+use Rattle.cmc_world.proofs.Sounds.{each_sound}
+
+-- the role is told of the kind of the object
+abbrev IsTold : Role → Object → Type 0
+IsTold role o = has_informer role (key_of o).kind ≡ true
+
+-- ---- what it sees
+
+told_part : {A : Type 0} (role : Role) (kind : A → Object) (looks : Bool) (x : Option A) (o : Object) → ((a : A) → looks ≡ true → IsTold role (kind a)) → IsPart kind (if looks then x else None) o
+    → IsTold role o
+told_part role kind false x o told is = absurd is
+told_part role kind true None o told is = absurd is
+told_part role kind true (Some a) o told is = subst (IsTold role) (sym is) (told a refl)
+
+told_other : {A : Type 0} (role : Role) (kind : A → Object) (blind : Bool) (x : Option A) (o : Object) → ((a : A) → blind ≡ false → IsTold role (kind a)) → IsPart kind (if blind then None else x) o
+    → IsTold role o
+told_other role kind true x o told is = absurd is
+told_other role kind false None o told is = absurd is
+told_other role kind false (Some a) o told is = subst (IsTold role) (sym is) (told a refl)
+
+told_among : {A : Type 0} (role : Role) (kind : A → Object) (xs : List A) (o : Object) → ((a : A) → IsTold role (kind a)) → IsPartOf kind xs o → IsTold role o
+told_among role kind [] o told is = absurd is
+told_among role kind (x ∷ xs) o told (inl is) = subst (IsTold role) (sym is) (told x)
+told_among role kind (x ∷ xs) o told (inr is) = told_among role kind xs o told is
+
+told_list : {A : Type 0} (role : Role) (kind : A → Object) (looks : Bool) (xs : List A) (o : Object) → ((a : A) → looks ≡ true → IsTold role (kind a)) → IsPartOf kind (if looks then xs else []) o
+    → IsTold role o
+told_list role kind false xs o told is = absurd is
+told_list role kind true xs o told is = told_among role kind xs o (λ a. told a refl) is
+
+-- the kinds that it looks at
+certificates_told : (role : Role) → works_on_requests role ≡ false → has_informer role kinds.Certificate ≡ true
+certificates_told role off = ap (λ (b : Bool). if b then false else true) off
+
+requests_told : (role : Role) → works_on_requests role ≡ true → has_informer role kinds.CertificateRequest ≡ true
+requests_told Approver on = refl
+requests_told Issuer on = refl
+requests_told other on = absurd (cc on)
+
+owned_told : (role : Role) → looks_at_requests role ≡ true → has_informer role kinds.CertificateRequest ≡ true
+owned_told KeyManager on = absurd (cc on)
+owned_told other on = refl
+
+secret_told : (role : Role) → looks_at_secret role ≡ true → has_informer role kinds.Secret ≡ true
+secret_told Trigger on = refl
+secret_told KeyManager on = refl
+secret_told Issuing on = refl
+secret_told Readiness on = refl
+secret_told other on = absurd (cc on)
+
+next_told : (role : Role) → looks_at_next role ≡ true → has_informer role kinds.Secret ≡ true
+next_told KeyManager on = refl
+next_told RequestManager on = refl
+next_told Issuing on = refl
+next_told other on = absurd (cc on)
+
+told_seen : (role : Role) (seen : Views) (o : Object) → IsSeen (shown role seen) o → IsTold role o
+told_seen role seen o (inl is) = told_other role Cert (works_on_requests role) seen.certificate o (λ c. certificates_told role) is
+told_seen role seen o (inr (inl is)) = told_part role Secret (looks_at_secret role) seen.secret o (λ k. secret_told role) is
+told_seen role seen o (inr (inr (inl is))) = told_part role Request (works_on_requests role) seen.request o (λ r. requests_told role) is
+told_seen role seen o (inr (inr (inr (inl is)))) = told_list role Secret (looks_at_next role) seen.next o (λ k. next_told role) is
+told_seen role seen o (inr (inr (inr (inr is)))) = told_list role Request (looks_at_requests role) seen.requests o (λ r. owned_told role) is
+
+-- ---- what it makes
+
+told_made : (role : Role) (new : Object) → MayChange role None (Some new) → IsTold role new
+told_made KeyManager (Secret k) (inl may) = refl
+told_made KeyManager other (inl may) = absurd may
+told_made KeyManager new (inr (inl may)) = absurd may
+told_made KeyManager new (inr (inr may)) = absurd may
+told_made RequestManager (Request r) (inl may) = refl
+told_made RequestManager other (inl may) = absurd may
+told_made RequestManager new (inr may) = absurd may
+told_made Issuing (Secret k) (inl may) = refl
+told_made Issuing other (inl may) = absurd may
+told_made Issuing new (inr (inl may)) = absurd may
+told_made Issuing new (inr (inr may)) = absurd may
+told_made other new may = absurd may
+
+-- ---- what it writes
+
+told_under : (role : Role) (seen : Views) (under : Key) (named : ℕ) (leaves : ℕ → Object → Option Object) (rule : Object → Bool → Option ℕ)
+    → ForSeen (IsOrdinary role) (shown role seen) under named leaves rule → has_informer role under.kind ≡ true
+told_under role seen under named leaves rule on = ap (λ (k : Key). has_informer role k.kind) (sym on.key) ∙ told_seen role seen on.old on.sees
+
+told_call : (role : Role) (seen : Views) (call : Call) → OnSeen (IsOrdinary role) (shown role seen) call → has_informer role (key_of_call call).kind ≡ true
+unfolding OnSeen
+told_call role seen (Create object) on =
+    let made = told_made role (created 0 (pos 0) object) (on.makes 0 (pos 0)).rights in
+    ap (λ (k : Key). has_informer role k.kind) (sym (key_of-created 0 (pos 0) object)) ∙ made
+told_call role seen (Update object named) on = told_under role seen (key_of object) named _ _ on
+told_call role seen (UpdateStatus object named) on = told_under role seen (key_of object) named _ _ on
+told_call role seen (Delete key None) on = absurd on
+told_call role seen (Delete key (Some named)) on = told_under role seen key named _ _ on
+told_call role seen (Get key) on = absurd on
+
+-- each call of a role is on a kind that it is told of
+pub writes_known : (role : Role) (seen : Views) (now : ℤ) (desk : Desk) (call : Call) → act role seen now desk ≡ Calls call → has_informer role (key_of_call call).kind ≡ true
+writes_known role seen now desk call is =
+    told_call role seen call
+    (subst (IsWithin role (shown role seen)) (sym ((each_sound role).told seen now desk) ∙ is) ((each_sound role).within (shown role seen) now desk))

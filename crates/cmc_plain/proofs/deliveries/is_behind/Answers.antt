@@ -1,0 +1,15 @@
+use Rattle.std.proofs.Common.{ℕ, List, subst, ap, ◌∙◌}
+use Rattle.cmc_model.specs.declared.write.Write.{Write}
+use Rattle.cmc_model.specs.Writes.{last_of_kind}
+use Rattle.cmc_world.specs.Kept.{setting_of}
+use Rattle.cmc_world.specs.Answers.{AnswersDelivery}
+use Rattle.cmc_plain.proofs.Making.{behind_by}
+use Rattle.cmc_plain.proofs.deliveries.is_behind.Goals as goal
+
+pub returns : goal.returns
+returns c =
+    let s = setting_of c.args.world.now.scenario in
+    let h = c.args.world.now.history in
+    behind_by s h c.args.role c.args.kind c.in_ok-answer.field-0 c.is_accepted.result
+    (subst (λ (to : ℕ). AnswersDelivery s h c.args.role c.args.kind to c.in_ok-answer.field-0) (c.last_of_kind-to.ensures ∙ ap (λ (ws : List Write). last_of_kind c.args.kind ws) c.log.ensures) c.in_ok-answer.ensures)
+    c.is_accepted.ensures

@@ -1,0 +1,106 @@
+-- A pattern by its pieces: each stands for itself, and of the places of a piece the leftmost serves.
+use Rattle.std.proofs.Common.{◌≡◌, ℕ, suc, ◌==◌, Bool, false, List, [], ◌∷◌, ◌++◌, refl, sym, ◌∙◌, ap, subst, append_assoc, arith, ◌↔◌}
+use Rattle.std.proofs.lemmas.List.{append_cancel_left}
+use Rattle.cmc_policy_rules.specs.Matching.{star, EndsWith, StandsFor, Matches, IsPlain, IsCut, IsFirstPlace, StandsNowhere}
+
+first_plain : (byte : ℕ) (piece : List ℕ) → IsPlain (byte ∷ piece) → (byte == star) ≡ false
+first_plain byte piece plain = plain 0 0 (omega arith)
+
+rest_plain : (byte : ℕ) (piece : List ℕ) → IsPlain (byte ∷ piece) → IsPlain piece
+rest_plain byte piece plain = λ k d within. plain (suc k) d (omega arith)
+
+-- a piece stands for itself
+pub piece_taken : (piece behind text : List ℕ) → IsPlain piece → Matches (piece ++ behind) text
+    → (rest : List ℕ) × (text ≡ piece ++ rest) × Matches behind rest
+piece_taken [] behind text plain matched = (text, refl, matched)
+piece_taken (byte ∷ piece) behind text plain matched =
+    let first : text ≡ byte ∷ matched.0 = subst (λ (v : Bool). StandsFor v byte text matched.0) (first_plain byte piece plain) matched.1 in
+    let more : (rest : List ℕ) × (matched.0 ≡ piece ++ rest) × Matches behind rest =
+    piece_taken piece behind matched.0 (rest_plain byte piece plain) matched.2 in
+    (more.0, first ∙ ap (λ (l : List ℕ). byte ∷ l) more.1, more.2)
+
+pub piece_given : (piece behind text rest : List ℕ) → IsPlain piece → text ≡ piece ++ rest → Matches behind rest
+    → Matches (piece ++ behind) text
+piece_given [] behind text rest plain same matched = subst (λ (l : List ℕ). Matches behind l) (sym same) matched
+piece_given (byte ∷ piece) behind text rest plain same matched = (
+  piece ++ rest,
+  subst (λ (v : Bool). StandsFor v byte text (piece ++ rest)) (sym (first_plain byte piece plain)) same,
+  piece_given piece behind (piece ++ rest) rest (rest_plain byte piece plain) refl matched,
+)
+
+pub ends_further : (text middle rest : List ℕ) → EndsWith text middle → EndsWith middle rest → EndsWith text rest
+ends_further text middle rest (front, a) (more, b) =
+    (front ++ more, a ∙ (ap (λ (l : List ℕ). front ++ l) b ∙ sym (append_assoc front more rest)))
+
+-- a star takes up more bytes
+pub star_more : (pattern text later : List ℕ) → EndsWith text later → Matches (star ∷ pattern) later → Matches (star ∷ pattern) text
+star_more pattern text later ends (rest, found, matched) = (rest, ends_further text later rest ends found, matched)
+
+-- the leftmost place of a piece serves
+pub first_place : (pattern piece behind text rest : List ℕ) → IsCut pattern piece behind → IsFirstPlace text piece rest
+    → Matches (star ∷ pattern) text ↔ Matches (star ∷ behind) rest
+first_place pattern piece behind text rest cut place = (
+  (λ (later, ends, matched).
+      let taken : (after : List ℕ) × (later ≡ piece ++ after) × Matches (star ∷ behind) after =
+      piece_taken piece (star ∷ behind) later cut.plain (subst (λ (p : List ℕ). Matches p later) cut.whole matched) in
+      star_more behind rest taken.0
+      (place.leftmost taken.0 (subst (λ (l : List ℕ). EndsWith text l) taken.1 ends)) taken.2),
+  (λ matched. (
+    piece ++ rest,
+    place.here,
+    subst (λ (p : List ℕ). Matches p (piece ++ rest)) (sym cut.whole)
+        (piece_given piece (star ∷ behind) (piece ++ rest) rest cut.plain refl matched),
+  )),
+)
+
+-- a piece that stands nowhere matches nowhere
+pub no_place : (pattern piece behind text : List ℕ) → IsCut pattern piece behind
+    → StandsNowhere text piece → Matches (star ∷ pattern) text → ⊥
+no_place pattern piece behind text cut none (later, ends, matched) =
+    let taken : (after : List ℕ) × (later ≡ piece ++ after) × Matches (star ∷ behind) after =
+    piece_taken piece (star ∷ behind) later cut.plain (subst (λ (p : List ℕ). Matches p later) cut.whole matched) in
+    none taken.0 (subst (λ (l : List ℕ). EndsWith text l) taken.1 ends)
+
+-- a pattern without a star matches itself alone
+pub plain_matches : (pattern text : List ℕ) → IsPlain pattern → Matches pattern text ↔ (text ≡ pattern)
+plain_matches [] text plain = ((λ same. same), (λ same. same))
+plain_matches (byte ∷ pattern) text plain = (
+  (λ matched.
+      let first : text ≡ byte ∷ matched.0 =
+      subst (λ (v : Bool). StandsFor v byte text matched.0) (first_plain byte pattern plain) matched.1 in
+      first ∙ ap (λ (l : List ℕ). byte ∷ l)
+      ((plain_matches pattern matched.0 (rest_plain byte pattern plain)).0 matched.2)),
+  (λ same. (
+    pattern,
+    subst (λ (v : Bool). StandsFor v byte text pattern) (sym (first_plain byte pattern plain)) same,
+    (plain_matches pattern pattern (rest_plain byte pattern plain)).1 refl,
+  )),
+)
+
+-- behind a star it matches the texts that end with it
+pub plain_end : (pattern text : List ℕ) → IsPlain pattern → Matches (star ∷ pattern) text ↔ EndsWith text pattern
+plain_end pattern text plain = (
+  (λ (rest, ends, matched). subst (λ (l : List ℕ). EndsWith text l) ((plain_matches pattern rest plain).0 matched) ends),
+  (λ ends. (pattern, ends, (plain_matches pattern pattern plain).1 refl)),
+)
+
+-- a pattern that begins with a piece
+pub front_piece : (pattern piece behind text rest : List ℕ) → IsCut pattern piece behind → text ≡ piece ++ rest
+    → Matches (star ∷ behind) rest ↔ Matches pattern text
+front_piece pattern piece behind text rest cut same = (
+  (λ matched. subst (λ (p : List ℕ). Matches p text) (sym cut.whole)
+      (piece_given piece (star ∷ behind) text rest cut.plain same matched)),
+  (λ matched.
+      let taken : (after : List ℕ) × (text ≡ piece ++ after) × Matches (star ∷ behind) after =
+      piece_taken piece (star ∷ behind) text cut.plain (subst (λ (p : List ℕ). Matches p text) cut.whole matched) in
+      subst (λ (l : List ℕ). Matches (star ∷ behind) l)
+      (append_cancel_left piece taken.0 rest (sym taken.1 ∙ same)) taken.2),
+)
+
+-- a text that does not begin with the piece
+pub other_front : (pattern piece behind text : List ℕ) → IsCut pattern piece behind
+    → ((rest : List ℕ) → text ≡ piece ++ rest → ⊥) → Matches pattern text → ⊥
+other_front pattern piece behind text cut other matched =
+    let taken : (after : List ℕ) × (text ≡ piece ++ after) × Matches (star ∷ behind) after =
+    piece_taken piece (star ∷ behind) text cut.plain (subst (λ (p : List ℕ). Matches p text) cut.whole matched) in
+    other taken.0 taken.1

@@ -1,0 +1,220 @@
+//! What no clause says: that questions are answered where memory is ample, and that a certificate has the octets
+//! that another writer of DER gave for the same fields; openssl reads them so.
+ghost use Rattle.std.specs.Prelude.{◌≡◌, ◌≤◌, true};
+ghost use Rattle.cmc_objects.specs.Requests.{is_lifetime, is_row_form};
+
+use crate::made_requests;
+use crate::orders::question;
+use crate::values::{octets, text, texts};
+use crate::whole::request;
+use cmc_answers::{Denial, ScriptedSigner, Signer, judge, signing_of};
+use cmc_meta::{Bytes, Texts};
+use cmc_objects::{CertificateRequest, JudgeOrder, Rules, SignRow, Signing};
+use cmc_policy_rules::{Field, Pattern, Patterns, Policies, Policy};
+use std::alloc::Global;
+use std::test::Fail;
+
+const NOW: i64 = 1_893_456_000;
+
+// The request of openssl with all names, serial 300, from a minute before the moment for the hour that the request
+// asks for.
+const OF_REQUEST: &str =
+    "3082014330820110a0030201020202012c300a06082a8648ce3d040302300d310b300906035504030c026361301e170d3239313233313233353930305a170d3330303130313030353930305a30163114301206035504030c0b6578616d706c652e636f6d3059301306072a8648ce3d020106082a8648ce3d03010703420004c8d4912385d6e2891d6cfabb34b212e66324e6f7093596d65399c3133beba273bf1c4ba284d690d02756f61451a3b3791c0f7f9ef6d9ac371ee1fa5258d67588a357305530530603551d11044c304a820b6578616d706c652e636f6d820f7777772e6578616d706c652e636f6d87040a000001861568747470733a2f2f6578616d706c652e636f6d2f78810d61406578616d706c652e636f6d300a06082a8648ce3d040302032100c45a79e5fb53e5c67065464a6a9da05df562506b7d9aed4028425ed404d3f700";
+
+// The same with the number of the question as its serial, for a day, and with the first stand-in key.
+const OF_STAND_IN: &str =
+    "308201423082010fa003020102020107300a06082a8648ce3d040302300d310b300906035504030c026361301e170d3330303130313030303030305a170d3330303130323030303030305a30163114301206035504030c0b6578616d706c652e636f6d3059301306072a8648ce3d020106082a8648ce3d0301070342000400000000000000000000000000000000000000000000000000000000000000010000000000000000000000000000000000000000000000000000000000000001a357305530530603551d11044c304a820b6578616d706c652e636f6d820f7777772e6578616d706c652e636f6d87040a000001861568747470733a2f2f6578616d706c652e636f6d2f78810d61406578616d706c652e636f6d300a06082a8648ce3d0403020321009bffffaa2fe67a9ae6a1e2099d9a1f2d530cf5c619a372ba6bca86a92d9f8473";
+
+/// The request of this name in the table of those that openssl made.
+fn made(alloc: Global, name: &str) -> Result<Bytes, Fail> {
+    for row in made_requests::MADE.lines() {
+        let mut columns = row.split('|');
+        if columns.next() == Some(name) {
+            let request = octets(alloc, columns.next().unwrap_or(""))?;
+            return Ok(Bytes::from_slice(alloc, request.as_slice())?);
+        }
+    }
+    Err(Fail::from("no row"))
+}
+
+fn asking(alloc: Global, name: &str) -> Result<CertificateRequest, Fail> {
+    let mut request = request(alloc)?;
+    request.spec.request = made(alloc, name)?;
+    Ok(request)
+}
+
+fn issue(
+    alloc: Global,
+    seconds: Option<u64>,
+    before: u64,
+    serial: Option<u64>,
+    key: Option<u64>,
+) -> SignRow
+    requires lasts { is_lifetime seconds ≡ true }
+    requires begins { before ≤ 86400 }
+    ensures { is_row_form result ≡ true }
+{
+    SignRow::Issue {
+        seconds,
+        before,
+        serial,
+        key,
+        ca: Bytes::new(alloc),
+    }
+}
+
+fn issued(answer: &Signing) -> &[u8] {
+    match answer {
+        Signing::Issued { certificate, ca: _ } => certificate.as_slice(),
+        _ => &[],
+    }
+}
+
+fn failure(answer: &Signing) -> &str {
+    match answer {
+        Signing::Failed { message } => message.as_str(),
+        _ => "",
+    }
+}
+
+#[test]
+fn issues_certificates(rt: HostRuntime) -> Result<(), Fail> {
+    let alloc = rt.alloc();
+    let asked = asking(alloc, "P-256, all names")?;
+    let row = issue(alloc, None, 60, Some(300), None);
+    let answer = signing_of(alloc, &row, 7, &asked, NOW)?;
+    assert_eq!(rt; issued(&answer), octets(alloc, OF_REQUEST)?.as_slice());
+    let row = issue(alloc, Some(86_400), 0, None, Some(1));
+    let answer = signing_of(alloc, &row, 7, &asked, NOW)?;
+    assert_eq!(rt; issued(&answer), octets(alloc, OF_STAND_IN)?.as_slice());
+    Ok(())
+}
+
+#[test]
+fn fails_what_is_not_readable(rt: HostRuntime) -> Result<(), Fail> {
+    let alloc = rt.alloc();
+    let row = issue(alloc, None, 0, None, None);
+    let answer = signing_of(alloc, &row, 1, &asking(alloc, "Ed25519")?, NOW)?;
+    assert_eq!(rt; failure(&answer), "The request is not readable");
+    let answer = signing_of(alloc, &row, 1, &request(alloc)?, NOW)?;
+    assert_eq!(rt; failure(&answer), "The request is not readable");
+    Ok(())
+}
+
+#[test]
+fn answers_by_the_row(rt: HostRuntime) -> Result<(), Fail> {
+    let alloc = rt.alloc();
+    let asked = asking(alloc, "P-384, no names")?;
+    let der = Bytes::from_slice(alloc, &[1, 2])?;
+    let answer = signing_of(alloc, &SignRow::Raw { der }, 1, &asked, NOW)?;
+    assert_eq!(rt; issued(&answer), [1, 2].as_slice());
+    let message = text(alloc, "no")?;
+    let answer = signing_of(alloc, &SignRow::Fail { message }, 1, &asked, NOW)?;
+    assert_eq!(rt; failure(&answer), "no");
+    let order = question(asked).ok_or("not to be asked")?;
+    let answered = ScriptedSigner.sign(alloc, &order)?;
+    assert!(rt; matches!(answered.answer(), Signing::Pending));
+    assert!(rt; answered.copy()?.order().same(&order));
+    let (order, _) = answered.into_parts();
+    assert_eq!(rt; order.number(), 1);
+    Ok(())
+}
+
+fn patterns(alloc: Global, text: &str) -> Result<Patterns, Fail> {
+    let mut patterns = Patterns::new(alloc);
+    patterns.push(Pattern::from_slice(alloc, text.as_bytes())?)?;
+    Ok(patterns)
+}
+
+/// A policy named `shops` for requests to these issuers, which allows these DNS names and all other names and usages
+/// of the request that openssl made with all names.
+fn policies(alloc: Global, issuers: &str, dns: &str) -> Result<Policies, Fail> {
+    let name = Pattern::from_slice(alloc, b"shops")?;
+    let issuers = patterns(alloc, issuers)?;
+    let common = Some(patterns(alloc, "*")?);
+    let dns = Some(patterns(alloc, dns)?);
+    let ips = Some(patterns(alloc, "*")?);
+    let uris = Some(patterns(alloc, "https://*.com/*")?);
+    let emails = Some(patterns(alloc, "*@example.com")?);
+    let usages = patterns(alloc, "server auth")?;
+    let mut policies = Policies::new(alloc);
+    policies.push(Policy {
+        name,
+        issuers,
+        common,
+        dns,
+        ips,
+        uris,
+        emails,
+        usages,
+        ca: false,
+        min: Some(3_600),
+        max: Some(3_600),
+        algorithm: Some(false),
+        min_size: Some(256),
+        max_size: Some(256),
+    })?;
+    Ok(policies)
+}
+
+/// Why the request may not be approved, in a word.
+fn denial(
+    alloc: Global,
+    request: CertificateRequest,
+    refuse: Texts,
+    policies: Policies,
+) -> Result<&'static str, Fail> {
+    let rules = Rules {
+        issuers: texts(alloc, "*")?,
+        refuse,
+        policies,
+    };
+    let judged = judge(alloc, JudgeOrder { request, rules })?;
+    let word = match judged.denial() {
+        None => "none",
+        Some(Denial::Unreadable) => "unreadable",
+        Some(Denial::Refused) => "refused",
+        Some(Denial::Policy { name, field }) => {
+            if *field == Field::DnsNames && name.as_str() == "shops" {
+                "DNS names by shops"
+            } else {
+                "another policy"
+            }
+        }
+        Some(Denial::Unbound) => "unbound",
+    };
+    Ok(word)
+}
+
+#[test]
+fn judges_by_names(rt: HostRuntime) -> Result<(), Fail> {
+    let alloc = rt.alloc();
+    let named = "P-256, all names";
+    let none = Policies::new(alloc);
+    let word = denial(alloc, request(alloc)?, Texts::new(alloc), none)?;
+    assert_eq!(rt; word, "unreadable");
+    let none = Policies::new(alloc);
+    let word = denial(alloc, asking(alloc, named)?, Texts::new(alloc), none)?;
+    assert_eq!(rt; word, "none");
+    let none = Policies::new(alloc);
+    let refused = texts(alloc, "www.example.com")?;
+    let word = denial(alloc, asking(alloc, named)?, refused, none)?;
+    assert_eq!(rt; word, "refused");
+    Ok(())
+}
+
+#[test]
+fn judges_by_policies(rt: HostRuntime) -> Result<(), Fail> {
+    let alloc = rt.alloc();
+    let named = "P-256, all names";
+    for (issuers, dns, want) in [
+        ("*", "*example.com", "none"),
+        ("ca", "*.example.com", "DNS names by shops"),
+        ("other", "*example.com", "unbound"),
+    ] {
+        let policies = policies(alloc, issuers, dns)?;
+        let word = denial(alloc, asking(alloc, named)?, Texts::new(alloc), policies)?;
+        assert_eq!(rt; word, want);
+    }
+    Ok(())
+}
