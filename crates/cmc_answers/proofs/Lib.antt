@@ -1,1 +1,2 @@
 pub mod GeneralNames
+pub mod IssuedLaws

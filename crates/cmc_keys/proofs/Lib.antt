@@ -1,5 +1,6 @@
 pub mod ValueLaws
 pub mod FileLaws
 pub mod SyntheticLaws
+pub mod KindLaws
 pub mod ScriptedLaws
 pub mod SignatureLaws

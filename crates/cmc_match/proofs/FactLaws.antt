@@ -9,7 +9,7 @@ use Rattle.cmc_objects.specs.declared.secret.Secret.{Secret}
 use Rattle.cmc_objects.specs.declared.key_spec.KeySpec.{KeySpec}
 use Rattle.cmc_objects.specs.declared.request.CertificateRequest.{CertificateRequest}
 use Rattle.cmc_objects.specs.Defaults.{key_algorithm, key_size}
-use Rattle.cmc_keys.proofs.ScriptedLaws.{is_key_means}
+use Rattle.cmc_keys.proofs.KindLaws.{is_key_means}
 use Rattle.cmc_match.specs.Marks.{is_text}
 use Rattle.cmc_match.specs.Facts.{key_in, certificate_in, IsFilled, NamesIssuer, owner_text, NamesOwner, HasRequestedKey, is_given, is_filled, names_issuer, is_absent_or, names_owner, is_requested, has_requested_key}
 use Rattle.cmc_match.proofs.SetLaws.{and_left, and_right, and_both}

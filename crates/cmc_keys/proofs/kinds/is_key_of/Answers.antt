@@ -1,7 +1,7 @@
 use Rattle.std.proofs.Common.{Bool, sym, subst}
 use Rattle.std.specs.Prelude.{◌↔◌, IsTrue}
 use Rattle.cmc_keys.specs.Kinds.{IsKeyOf}
-use Rattle.cmc_keys.proofs.ScriptedLaws.{is_key_means}
+use Rattle.cmc_keys.proofs.KindLaws.{is_key_means}
 use Rattle.cmc_keys.proofs.kinds.is_key_of.Goals as goal
 
 pub returns-clause-means : goal.returns-clause-means

@@ -1,0 +1,57 @@
+-- What is issued is read with the fields that it was made of.
+use Rattle.std.proofs.Common.{◌≡◌, ℕ, List, ◌∷◌, ◌++◌, length, Option, Some, None, ◌≤ℤ◌, refl, arith, length-append, replicate, IsSome}
+use Rattle.std.proofs.lemmas.List.{length-replicate}
+use Rattle.std.specs.Int.{w64, to_be_bytes}
+use Rattle.sha2.specs.Sha256.{sha256}
+use Rattle.cmc_der.specs.Keys.{PublicKey, RequestFields, kind_of}
+use Rattle.cmc_der.specs.Building.{value}
+use Rattle.cmc_time.specs.Asn1.{IsCertificateTime}
+use Rattle.cmc_x509.specs.Certificates.{IsRequest, IsCertificate}
+use Rattle.cmc_x509_build.specs.Certificates.{fields_of, certificate_body}
+use Rattle.cmc_x509_build.specs.Keys.{IsWritable}
+use Rattle.cmc_x509_build.specs.Octets.{signed_octets, signature_algorithm}
+use Rattle.cmc_x509_build.specs.declared.certificates.CertPlan.{CertPlan}
+use Rattle.cmc_x509_build.proofs.CertificateBuiltLaws.{planned_body_is, certificate_is}
+use Rattle.cmc_x509_build.proofs.ServeLaws.{request_serves}
+use Rattle.cmc_x509_build.proofs.ValueLaws.{IsSmall, contents_small, front_small}
+use Rattle.cmc_answers.specs.StandIns.{coordinate, stand_in_point, stand_in_key}
+use Rattle.cmc_answers.specs.Signings.{certificate_of, certified_key}
+
+coordinate_width : (number : ℕ) → length (coordinate number) ≡ 32
+coordinate_width number = omega (arith, length-append (replicate 24 0) (to_be_bytes w64 number), length-replicate {A = ℕ} 24 0)
+
+stand_in_writable : (number : ℕ) → IsWritable (stand_in_key number)
+unfolding stand_in_point
+stand_in_writable number = (
+  tt,
+  (
+    coordinate number ++ coordinate number,
+    refl,
+    omega (arith, coordinate_width number, length-append (coordinate number) (coordinate number)),
+  ),
+)
+
+certified_writable : (row_key : Option ℕ) (key : PublicKey) → IsWritable key → IsWritable (certified_key row_key key)
+certified_writable None key writable = writable
+certified_writable (Some number) key writable = stand_in_writable number
+
+body_small : (body signature : List ℕ) → IsSmall (signed_octets body signature) → IsSmall body
+unfolding signed_octets
+body_small body signature small =
+    front_small body (signature_algorithm ++ value 3 (0 ∷ signature))
+    (contents_small 48 (body ++ (signature_algorithm ++ value 3 (0 ∷ signature))) small)
+
+pub issued_read : (plan : CertPlan) (request : List ℕ) (csr : RequestFields) (row_key : Option ℕ)
+    → IsRequest request csr → IsSome (kind_of csr.key)
+    → IsCertificateTime plan.not_before → IsCertificateTime plan.not_after → plan.not_before ≤ℤ plan.not_after
+    → IsSmall (certificate_of plan csr.names (certified_key row_key csr.key))
+    → IsCertificate (certificate_of plan csr.names (certified_key row_key csr.key)) (fields_of plan csr.names (certified_key row_key csr.key))
+unfolding certificate_of
+issued_read plan request csr row_key is known begins ends ordered small =
+    let serves = request_serves request csr is in
+    let key = certified_key row_key csr.key in
+    let body = certificate_body plan.issuer (fields_of plan csr.names key) in
+    certificate_is body (sha256 body) (fields_of plan csr.names key)
+    (planned_body_is plan csr.names key begins ends ordered (certified_writable row_key csr.key (serves.1 known)) serves.0
+    (body_small body (sha256 body) small))
+    small
