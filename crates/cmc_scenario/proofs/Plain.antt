@@ -1,20 +1,19 @@
 -- What is read lets no time pass, stops and starts no role, and is a scenario.
-use Rattle.std.proofs.Common.{◌≡◌, Ok, ℕ, zero, suc, ◌+◌, List, [], ◌∷◌, false, Bool, None, Option, refl, sym, ◌∙◌, subst, arith}
-use Rattle.std.specs.Prelude.{codes, pos, ◌+ℤ◌, ◌≤ℤ◌, IfOk, fold}
+use Rattle.std.proofs.Common.{◌≡◌, ℕ, zero, suc, ◌+◌, List, [], ◌∷◌, false, Bool, None, Option, refl, sym, ◌∙◌, subst, arith}
+use Rattle.std.specs.Prelude.{pos, ◌+ℤ◌, ◌≤ℤ◌, IfOk, fold}
 use Rattle.std.specs.declared.result.Result.{Result}
 use Rattle.std.specs.Int.Signed.{le_z_yes}
 use Rattle.serde_json.specs.Data.{Data}
 use Rattle.cmc_objects.specs.declared.role.Role.{Role}
 use Rattle.cmc_objects.specs.declared.entry.Step.{Step}
-use Rattle.cmc_objects.specs.declared.entry.Step.TheVariants.{Apply, Delete, Approve, Deny, Answer, Renew, Tick, Stop, Start, Hold, Release, Until, Settle}
+use Rattle.cmc_objects.specs.declared.entry.Step.TheVariants.{Tick}
 use Rattle.cmc_cursor.specs.declared.error.BadField.{BadField}
-use Rattle.cmc_cursor.specs.Reading.{Gives, Field, fields_at, optional_at, at_end}
-use Rattle.cmc_cursor.specs.Readers.{floats_at}
+use Rattle.cmc_cursor.specs.Reading.{Gives, Field}
 use Rattle.cmc_scenario.specs.Scripts.{step_in, script_at}
-use Rattle.cmc_setup.specs.Setups.{Setup, IsSetup, IsTickForm, AreInOrder, IsOrderlyFrom, IsInTurn, running_after, seconds_of, is_tick, switch_of, ticked}
+use Rattle.cmc_setup.specs.Setups.{IsSetup, IsTickForm, AreInOrder, IsOrderlyFrom, IsInTurn, running_after, seconds_of, is_tick, switch_of, ticked}
 use Rattle.cmc_scenario.specs.Scripts.{IsPlain, HasNoTick, HasNoSwitch}
-use Rattle.cmc_scenario.specs.Scenarios.{plain_setup, roles_at, with_roles, members_at, scenario_at}
-use Rattle.cmc_scenario.proofs.Always.{Always, IsOfRead, IsReadScript, is_given, so, next, after, of_step, of_script}
+use Rattle.cmc_scenario.specs.Scenarios.{plain_setup}
+use Rattle.cmc_scenario.proofs.Always.{IsOfRead, IsReadScript, is_given, of_step, of_script}
 
 abbrev IsStill : Step → Type 0
 IsStill step = is_tick step ≡ false
