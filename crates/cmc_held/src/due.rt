@@ -7,9 +7,9 @@ ghost use Rattle.cmc_held.specs.Dues.{shown_positions};
 
 use crate::standings::at_kind;
 use cmc_meta::Kind;
+use cmc_objects::{Positions, Role};
 use cmc_pass::Views;
 use cmc_rules::{Ending, LastPass, Obstacle};
-use cmc_objects::{Positions, Role};
 
 /// The first of the own writes of which the role was not told: the one that is above the position of
 /// its kind. `None` exactly where there is none.

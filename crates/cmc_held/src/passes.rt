@@ -9,8 +9,8 @@ ghost use Rattle.cmc_rules.specs.Passes.{is_pass_of, unless_of, with_stage};
 ghost use Rattle.cmc_held.specs.Open.{IsWorkedOn, pass_at};
 
 use cmc_meta::Key;
-use cmc_rules::{OpenPass, Stage};
 use cmc_objects::Role;
+use cmc_rules::{OpenPass, Stage};
 use std::alloc::{AllocError, Global};
 use std::collections::BTreeMap;
 use std::marker::Model;

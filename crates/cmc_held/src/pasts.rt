@@ -10,9 +10,9 @@ ghost use Rattle.cmc_held.specs.Remembered.{is_noted, is_ready, memory_at, past_
 
 use crate::standings::put_at_kind;
 use cmc_meta::{Key, Kind};
+use cmc_objects::{Positions, Role};
 use cmc_pass::Views;
 use cmc_rules::{Ending, LastPass, Past};
-use cmc_objects::{Positions, Role};
 use std::alloc::{AllocError, Global};
 use std::collections::BTreeMap;
 use std::marker::Model;
