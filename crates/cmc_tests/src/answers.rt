@@ -5,7 +5,7 @@ ghost use Rattle.cmc_objects.specs.Requests.{is_lifetime, is_row_form};
 
 use crate::made_requests;
 use crate::orders::question;
-use crate::values::{octets, text, texts};
+use crate::values::{made, octets, text, texts};
 use crate::whole::request;
 use cmc_answers::{Denial, ScriptedSigner, Signer, judge, signing_of};
 use cmc_meta::{Bytes, Texts};
@@ -25,21 +25,9 @@ const OF_REQUEST: &str =
 const OF_STAND_IN: &str =
     "308201423082010fa003020102020107300a06082a8648ce3d040302300d310b300906035504030c026361301e170d3330303130313030303030305a170d3330303130323030303030305a30163114301206035504030c0b6578616d706c652e636f6d3059301306072a8648ce3d020106082a8648ce3d0301070342000400000000000000000000000000000000000000000000000000000000000000010000000000000000000000000000000000000000000000000000000000000001a357305530530603551d11044c304a820b6578616d706c652e636f6d820f7777772e6578616d706c652e636f6d87040a000001861568747470733a2f2f6578616d706c652e636f6d2f78810d61406578616d706c652e636f6d300a06082a8648ce3d0403020321009bffffaa2fe67a9ae6a1e2099d9a1f2d530cf5c619a372ba6bca86a92d9f8473";
 
-/// The request of this name in the table of those that openssl made.
-fn made(alloc: Global, name: &str) -> Result<Bytes, Fail> {
-    for row in made_requests::MADE.lines() {
-        let mut columns = row.split('|');
-        if columns.next() == Some(name) {
-            let request = octets(alloc, columns.next().unwrap_or(""))?;
-            return Ok(Bytes::from_slice(alloc, request.as_slice())?);
-        }
-    }
-    Err(Fail::from("no row"))
-}
-
 fn asking(alloc: Global, name: &str) -> Result<CertificateRequest, Fail> {
     let mut request = request(alloc)?;
-    request.spec.request = made(alloc, name)?;
+    request.spec.request = made(alloc, &[made_requests::MADE], name)?;
     Ok(request)
 }
 

@@ -11,7 +11,11 @@ mod cursor;
 #[cfg(test)]
 mod der;
 #[cfg(test)]
+mod facts;
+#[cfg(test)]
 mod history;
+#[cfg(test)]
+mod keys;
 #[cfg(test)]
 mod made_certificates;
 #[cfg(test)]

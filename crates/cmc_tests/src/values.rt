@@ -1,5 +1,5 @@
 //! The small values that the tests build theirs of.
-use cmc_meta::{Key, Kind, Name, ObjectMeta, Owners, Pairs, Text, Texts};
+use cmc_meta::{Bytes, Key, Kind, Name, ObjectMeta, Owners, Pairs, Text, Texts};
 use cmc_objects::{CertSpec, IssuerRef, KeySpec};
 use std::alloc::{AllocError, Global};
 use std::test::Fail;
@@ -26,6 +26,20 @@ pub fn octets(alloc: Global, text: &str) -> Result<Vec<u8>, AllocError> {
         }
     }
     Ok(octets)
+}
+
+/// The octets of the first row of this name in tables of made files, whose columns are a name and the octets.
+pub fn made(alloc: Global, tables: &[&str], name: &str) -> Result<Bytes, Fail> {
+    for table in tables {
+        for row in table.lines() {
+            let mut columns = row.split('|');
+            if columns.next() == Some(name) {
+                let file = octets(alloc, columns.next().unwrap_or(""))?;
+                return Ok(Bytes::from_slice(alloc, file.as_slice())?);
+            }
+        }
+    }
+    Err(Fail::from("no row"))
 }
 
 pub fn text(alloc: Global, text: &str) -> Result<Text, Fail> {
