@@ -3,10 +3,10 @@ ghost use Rattle.std.specs.Prelude.{◌≡◌, IfOk};
 ghost use Rattle.cmc_rules.specs.Dates.{IsDatedOption, HasDatedFailure};
 
 use crate::values::{least_spec, new_meta, octets, text};
-use cmc_meta::{Bytes, Condition, ConditionKind, Conditions, Text, Texts, Tri};
+use cmc_meta::{Bytes, Condition, ConditionKind, Conditions, ObjectMeta, Pairs, Text, Texts, Tri};
 use cmc_objects::{
-    Algorithm, Call, CertStatus, Certificate, CertificateRequest, Material, Object, Parts,
-    RequestSpec, RequestStatus, Rules, Secret,
+    Algorithm, Call, CertStatus, Certificate, CertificateRequest, IssuerRef, Material, Object,
+    Parts, RequestSpec, RequestStatus, Rules, Secret,
 };
 use cmc_pass::{Act, Desk, Requests, Views};
 use cmc_policy_rules::Policies;
@@ -122,8 +122,8 @@ fn certificate(
     })
 }
 
-/// The Secret, without the parts that are empty texts.
-fn secret(alloc: Global, key: &str, certificate: &str, mark: (&str, &str)) -> Result<Secret, Fail> {
+/// The data of the Secret, without the parts that are empty texts.
+fn parts(alloc: Global, key: &str, certificate: &str) -> Result<Parts, Fail> {
     let mut parts = Parts::new(alloc);
     if !key.is_empty() {
         parts.set(text(alloc, "tls.key")?, bytes(alloc, key)?)?;
@@ -131,45 +131,77 @@ fn secret(alloc: Global, key: &str, certificate: &str, mark: (&str, &str)) -> Re
     if !certificate.is_empty() {
         parts.set(text(alloc, "tls.crt")?, bytes(alloc, certificate)?)?;
     }
-    let mut meta = new_meta(alloc, "web-tls")?;
+    Ok(parts)
+}
+
+/// The annotations of the issuer, and then the mark, which may change one of them.
+fn annotations(alloc: Global, mark: (&str, &str)) -> Result<Pairs, Fail> {
+    let mut annotations = Pairs::new(alloc);
     for (key, value) in [
         ("cert-manager.io/issuer-name", "ca"),
         ("cert-manager.io/issuer-kind", "Issuer"),
         ("cert-manager.io/issuer-group", "cert-manager.io"),
         mark,
     ] {
-        meta.annotations
-            .set(text(alloc, key)?, text(alloc, value)?)?;
+        annotations.set(text(alloc, key)?, text(alloc, value)?)?;
     }
+    Ok(annotations)
+}
+
+fn meta(alloc: Global, name: &str, annotations: Pairs) -> Result<ObjectMeta, Fail> {
+    let mut meta = new_meta(alloc, name)?;
+    meta.annotations = annotations;
+    Ok(meta)
+}
+
+fn secret(alloc: Global, key: &str, certificate: &str, mark: (&str, &str)) -> Result<Secret, Fail> {
+    let meta = meta(alloc, "web-tls", annotations(alloc, mark)?)?;
     let kind_text = text(alloc, "Opaque")?;
     Ok(Secret {
         meta,
         kind_text,
-        parts,
+        parts: parts(alloc, key, certificate)?,
     })
 }
 
-/// A request of the revision, with this signing request in hexadecimal and else as the Certificate asks.
-fn request(alloc: Global, revision: &str, der: &str) -> Result<CertificateRequest, Fail> {
-    let mut meta = new_meta(alloc, "web-1")?;
+fn revision(alloc: Global, number: &str) -> Result<Pairs, Fail> {
+    let mut annotations = Pairs::new(alloc);
     let key = text(alloc, "cert-manager.io/certificate-revision")?;
-    meta.annotations.set(key, text(alloc, revision)?)?;
-    let spec = least_spec(alloc, "web-tls", "example.com")?;
+    annotations.set(key, text(alloc, number)?)?;
+    Ok(annotations)
+}
+
+fn request_spec(alloc: Global, der: &str) -> Result<RequestSpec, Fail> {
+    let name = text(alloc, "ca")?;
+    Ok(RequestSpec {
+        issuer: IssuerRef {
+            name,
+            kind: None,
+            group: None,
+        },
+        duration: None,
+        is_ca: false,
+        usages: Texts::new(alloc),
+        request: bytes(alloc, der)?,
+    })
+}
+
+fn no_status(alloc: Global) -> RequestStatus {
+    RequestStatus {
+        conditions: Conditions::new(alloc),
+        certificate: Bytes::new(alloc),
+        ca: Bytes::new(alloc),
+        failure: None,
+    }
+}
+
+/// A request of the revision, with this signing request in hexadecimal and else as the Certificate asks.
+fn request(alloc: Global, number: &str, der: &str) -> Result<CertificateRequest, Fail> {
+    let meta = meta(alloc, "web-1", revision(alloc, number)?)?;
     Ok(CertificateRequest {
         meta,
-        spec: RequestSpec {
-            issuer: spec.issuer.copy()?,
-            duration: None,
-            is_ca: false,
-            usages: Texts::new(alloc),
-            request: bytes(alloc, der)?,
-        },
-        status: RequestStatus {
-            conditions: Conditions::new(alloc),
-            certificate: Bytes::new(alloc),
-            ca: Bytes::new(alloc),
-            failure: None,
-        },
+        spec: request_spec(alloc, der)?,
+        status: no_status(alloc),
     })
 }
 
