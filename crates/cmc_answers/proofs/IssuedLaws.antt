@@ -1,5 +1,7 @@
 -- What is issued is read with the fields that it was made of.
-use Rattle.std.proofs.Common.{◌≡◌, ℕ, List, ◌∷◌, ◌++◌, length, Option, Some, None, ◌≤ℤ◌, refl, arith, length-append, replicate, IsSome}
+use Rattle.std.proofs.Common.{◌≡◌, ℕ, ℤ, pos, ◌+ℤ◌, List, ◌∷◌, ◌++◌, ◌&&◌, Bool, true, false, length, Option, Some, None, ◌≤ℤ◌, refl, arith, length-append, replicate, IsSome, int_le}
+use Rattle.std.specs.Prelude.{neg_ℤ}
+use Rattle.std.proofs.lemmas.Int.{ints}
 use Rattle.std.proofs.lemmas.List.{length-replicate}
 use Rattle.std.specs.Int.{w64, to_be_bytes}
 use Rattle.sha2.specs.Sha256.{sha256}
@@ -7,15 +9,19 @@ use Rattle.cmc_der.specs.Keys.{PublicKey, RequestFields, kind_of}
 use Rattle.cmc_der.specs.Building.{value}
 use Rattle.cmc_time.specs.Asn1.{IsCertificateTime}
 use Rattle.cmc_x509.specs.Certificates.{IsRequest, IsCertificate}
+use Rattle.cmc_x509.specs.KeyFiles.{IsKeyFile}
 use Rattle.cmc_x509_build.specs.Certificates.{fields_of, certificate_body}
 use Rattle.cmc_x509_build.specs.Keys.{IsWritable}
 use Rattle.cmc_x509_build.specs.Octets.{signed_octets, signature_algorithm}
 use Rattle.cmc_x509_build.specs.declared.certificates.CertPlan.{CertPlan}
 use Rattle.cmc_x509_build.proofs.CertificateBuiltLaws.{planned_body_is, certificate_is}
-use Rattle.cmc_x509_build.proofs.ServeLaws.{request_serves}
+use Rattle.cmc_x509_build.proofs.ServeLaws.{request_serves, key_file_serves}
 use Rattle.cmc_x509_build.proofs.ValueLaws.{IsSmall, contents_small, front_small}
 use Rattle.cmc_answers.specs.StandIns.{coordinate, stand_in_point, stand_in_key}
 use Rattle.cmc_answers.specs.Signings.{certificate_of, certified_key}
+use Rattle.cmc_answers.specs.Temporary.{temporary_plan}
+use Rattle.cmc_objects.specs.Requests.{is_run_time}
+use borrow.Author.Differences.{le-true}
 
 coordinate_width : (number : ℕ) → length (coordinate number) ≡ 32
 coordinate_width number = omega (arith, length-append (replicate 24 0) (to_be_bytes w64 number), length-replicate {A = ℕ} 24 0)
@@ -54,4 +60,31 @@ issued_read plan request csr row_key is known begins ends ordered small =
     certificate_is body (sha256 body) (fields_of plan csr.names key)
     (planned_body_is plan csr.names key begins ends ordered (certified_writable row_key csr.key (serves.1 known)) serves.0
     (body_small body (sha256 body) small))
+    small
+
+-- ---- what stands in
+
+both_hold : (a b : Bool) → (a && b) ≡ true → (a ≡ true) × (b ≡ true)
+both_hold true b e = (refl, e)
+both_hold false b e = absurd (cc e)
+
+run_time : (now : ℤ) → is_run_time now ≡ true → (IsCertificateTime now × IsCertificateTime (now +ℤ pos 7776000)) × (now ≤ℤ (now +ℤ pos 7776000))
+run_time now is =
+    let holds = both_hold (int_le (neg_ℤ (pos 599616000)) now) (int_le now (pos 250246627200)) is in
+    let low = le-true (neg_ℤ (pos 599616000)) now holds.0 in
+    let high = le-true now (pos 250246627200) holds.1 in
+    (((omega (arith, ints, low, high), omega (arith, ints, low, high)), (omega (arith, ints, low, high), omega (arith, ints, low, high))), omega (arith, ints))
+
+pub temporary_read : (request file : List ℕ) (csr : RequestFields) (key : PublicKey) (now : ℤ)
+    → IsRequest request csr → IsKeyFile file key → is_run_time now ≡ true
+    → IsSmall (certificate_of (temporary_plan now) csr.names key)
+    → IsCertificate (certificate_of (temporary_plan now) csr.names key) (fields_of (temporary_plan now) csr.names key)
+unfolding certificate_of temporary_plan
+temporary_read request file csr key now is has time small =
+    let serves = request_serves request csr is in
+    let times = run_time now time in
+    let plan = temporary_plan now in
+    let body = certificate_body plan.issuer (fields_of plan csr.names key) in
+    certificate_is body (sha256 body) (fields_of plan csr.names key)
+    (planned_body_is plan csr.names key times.0.0 times.0.1 times.1 (key_file_serves file key has) serves.0 (body_small body (sha256 body) small))
     small

@@ -1,5 +1,6 @@
 pub mod StandIns
 pub mod Signings
+pub mod Temporary
 pub mod Answers
 pub mod Wanting
 pub mod Judging

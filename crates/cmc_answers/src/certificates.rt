@@ -18,8 +18,9 @@ fn signed(alloc: Global, body: &[u8]) -> Result<Bytes, AllocError>
     cert_whole(alloc, body, &signature)
 }
 
+/// The certificate of this plan with the names of the signing request, for this key.
 #[tactic(auto, unfolding(crate::specs::Signings::certificate_of))]
-fn certificate_with(
+pub fn certificate_with(
     alloc: Global,
     plan: &CertPlan,
     csr: &CsrFields<'_>,

@@ -10,6 +10,7 @@ mod judging;
 mod laws;
 mod signing;
 mod stand_ins;
+mod standing_in;
 mod wanting;
 
 pub use answered::{Answered, ScriptedSigner, Signer};
@@ -17,3 +18,4 @@ pub use denial::Denial;
 pub use judged::{Judged, judge};
 pub use laws::issued_is_read;
 pub use signing::signing_of;
+pub use standing_in::{temporary, temporary_is_read};

@@ -1,2 +1,15 @@
 mod FloatFree
 mod Bare
+mod Slots
+mod Entries
+mod ValuesAgain
+mod DecimalsAgain
+mod PrintedSpecs
+mod SpecsAgain
+mod MetadataAgain
+mod ObjectsAgain
+mod LongDurations
+mod Only
+mod OnlySpecs
+mod OnlyObjects
+mod OwnersHaveUids

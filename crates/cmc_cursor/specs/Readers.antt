@@ -1,8 +1,10 @@
 -- The readings of single values. A value of another type fails at the value itself.
-use Rattle.std.specs.Prelude.{ℕ, List, [], ◌∷◌, ◌++◌, ◌+◌, ◌^◌, codes, decimal, Bool, not, ◌&&◌, ◌||◌, ◌==◌, if◌then◌else◌, nat_lt, nat_le, length, slice_index, Ok, Err, Some, None, option_and_then}
+use Rattle.std.specs.Prelude.{ℕ, List, [], ◌∷◌, ◌++◌, ◌+◌, ◌^◌, decimal, Bool, not, ◌&&◌, ◌||◌, ◌==◌, if◌then◌else◌, nat_lt, nat_le, length, slice_index, Ok, Err, Some, None, option_and_then}
 use Rattle.std.specs.declared.option.Option.{Option}
 use Rattle.std.specs.Char.{is_ascii_digit}
 use Rattle.std.specs.List.{list_all}
+use Rattle.std.specs.Ordering.{nat_cmp, match_ordering}
+use Rattle.std.specs.Cmp.Lexicographic.{slice_cmp}
 use Rattle.std.specs.Str.{bytes_eq}
 use Rattle.std.specs.Str.Parse.{digits_value}
 use Rattle.std.specs.declared.result.Result.{Result}
@@ -10,10 +12,10 @@ use Rattle.base64.specs.Engines.{standard}
 use Rattle.base64.specs.GeneralPurpose.{decode_of}
 use Rattle.base64.specs.declared.decode.DecodeError.{DecodeError}
 use Rattle.serde_json.specs.Data.{Data, null, boolean, number, string, array, object, Items, no_items, item, Members, no_members, member}
-use Rattle.serde_json.specs.Find.{as_bool, as_number, as_str, as_u64, is_float}
+use Rattle.serde_json.specs.Find.{get, as_bool, as_number, as_str, as_u64, is_float}
 use Rattle.cmc_meta.specs.Names.{is_subdomain}
 use Rattle.cmc_meta.specs.PairLists.{with_text}
-use Rattle.cmc_cursor.specs.Reading.{Read, Check, ◌>>=◌, under}
+use Rattle.cmc_cursor.specs.Reading.{Read, Check, ◌>>=◌, under, Field}
 
 -- The value that was found, if any.
 abbrev pub found : {A : Type 0} → Option A → Read A
@@ -92,14 +94,10 @@ decoded (Err e) = Err []
 abbrev pub bytes_at : Data → Read (List ℕ)
 bytes_at d = text_at d >>= (λ t. decoded (decode_of standard t))
 
--- An entry of a Secret's data. A certificate is not read yet: its entry fails, whatever it holds.
-abbrev pub part_at : List ℕ → Data → Read (List ℕ)
-part_at name d = if bytes_eq name (codes "tls.crt") then Err [] else bytes_at d
-
 -- The data with the bytes of each member put under its name, one after another.
 abbrev pub parts_with : List (List ℕ × List ℕ) → Members → Read (List (List ℕ × List ℕ))
 parts_with parts no_members = Ok parts
-parts_with parts (member name d ms) = under name (part_at name d) >>= (λ bytes. parts_with (with_text parts name bytes) ms)
+parts_with parts (member name d ms) = under name (bytes_at d) >>= (λ bytes. parts_with (with_text parts name bytes) ms)
 
 -- A Secret's data: an object of names to bytes.
 abbrev pub parts_at : Data → Read (List (List ℕ × List ℕ))
@@ -109,6 +107,20 @@ parts_at (boolean b) = Err []
 parts_at (number n) = Err []
 parts_at (string s) = Err []
 parts_at (array ds) = Err []
+
+-- The texts of the members put under their names, one after another.
+abbrev pub pairs_with : List (List ℕ × List ℕ) → Members → Read (List (List ℕ × List ℕ))
+pairs_with pairs no_members = Ok pairs
+pairs_with pairs (member name d ms) = under name (text_at d) >>= (λ text. pairs_with (with_text pairs name text) ms)
+
+-- Labels and annotations: an object of texts under names.
+abbrev pub pairs_at : Data → Read (List (List ℕ × List ℕ))
+pairs_at (object ms) = pairs_with [] ms
+pairs_at null = Err []
+pairs_at (boolean b) = Err []
+pairs_at (number n) = Err []
+pairs_at (string s) = Err []
+pairs_at (array ds) = Err []
 
 -- No number in the value is kept as a float: the first that is fails at its own path.
 abbrev mutual
@@ -132,3 +144,23 @@ abbrev mutual
 abbrev pub with_front : {A : Type 0} → List A → Read (List A) → Read (List A)
 with_front front (Ok xs) = Ok (front ++ xs)
 with_front front (Err path) = Err path
+
+-- A member that is not read: it may hold anything but a float.
+abbrev pub passes : List ℕ → Option Data → Check
+passes name None = Ok tt
+passes name (Some d) = under name (floats_at d)
+
+-- The text of a member of a value, if any.
+abbrev pub text_member : List ℕ → Data → Option (List ℕ)
+text_member name d = option_and_then as_str (get name d)
+
+-- The member of that name, where it stands, and the members behind it. The members before it are dropped: each may
+-- hold anything but a float.
+abbrev pub sought_at : List ℕ → List Field → Read (Option Data × List Field)
+sought_at name [] = Ok (None, [])
+sought_at name (f ∷ fs) = match_ordering (slice_cmp nat_cmp f.0 name) (under f.0 (floats_at f.1) >>= (λ _. sought_at name fs)) (Ok (Some f.1, fs)) (Ok (None, f ∷ fs))
+
+-- All members are dropped: each may hold anything but a float.
+abbrev pub dropped_at : List Field → Check
+dropped_at [] = Ok tt
+dropped_at (f ∷ fs) = under f.0 (floats_at f.1) >>= (λ _. dropped_at fs)

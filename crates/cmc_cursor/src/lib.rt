@@ -7,14 +7,16 @@
 
 mod contents;
 mod cursor;
+mod dropping;
 mod error;
 mod floats;
 mod values;
 mod wording;
 
-pub use contents::{bytes, parts};
+pub use contents::{bytes, pairs, parts};
 pub use cursor::{Fields, at, check_end, fields, optional, required};
+pub use dropping::{drop_rest, member, pass, seek};
 pub use error::BadField;
 pub use floats::check_floats;
 pub use values::{count, flag, small_count, text, texts, word};
-pub use wording::{decimal, name, name_of, printable, short_text};
+pub use wording::{decimal, decimal_of, name, name_of, printable, short_text};

@@ -76,8 +76,9 @@ fn is_decimal_text(bytes: &[u8]) -> bool
     !bytes.is_empty() && (are_digits(bytes) && (bytes.len() == 1 || bytes[0] != b'0'))
 }
 
+/// The number that a decimal text writes, without sign or leading zero: 0 to 2^64 - 1.
 #[tactic(auto, using(crate::proofs::Digits::numeral))]
-fn decimal_of(alloc: Global, text: &str) -> Result<u64, BadField>
+pub fn decimal_of(alloc: Global, text: &str) -> Result<u64, BadField>
     ensures { Gives (λ t. t) result (decimal_in text.now) }
 {
     if !is_decimal_text(text.as_bytes()) {

@@ -15,7 +15,7 @@ use Rattle.cmc_objects.specs.declared.entry.Entry.{Entry}
 use Rattle.cmc_objects.specs.declared.entry.Entry.TheVariants.{Script, Call as Called, Deliver, List as Listed, Begin, Ask, Made, Signed, Answered, Judged, End, Stop, Start, Tick}
 use Rattle.cmc_model.specs.declared.write.Write.{Write}
 use Rattle.cmc_model.specs.Objects.{Objects, object_at}
-use Rattle.cmc_model.specs.Replies.{State, is_accepted, key_of_call, stored, put_at}
+use Rattle.cmc_model.specs.Replies.{State, is_accepted, key_of_call, settled, stored, put_at}
 use Rattle.cmc_model.specs.Histories.{Setting, moment, state, accepted}
 use Rattle.cmc_model.specs.Writes.{writes, write_of, contents, oldest, objects_at}
 use Rattle.cmc_model.proofs.Keys.{key_cmp-IsAntisymmetric}
@@ -29,7 +29,6 @@ use Rattle.cmc_model.specs.Replies.{stored_over}
 
 -- a call stores by what stands under its own key
 stored-over : (v : ℕ) (now : ℤ) (m : Objects) (call : Call) → stored v now m call ≡ stored_over v now (object_at m (key_of_call call)) call
-stored-over v now m (Create object) = refl
 stored-over v now m other = refl
 
 key_eq-by_cmp : (a b : Key) → key_eq a b ≡ eq_by_cmp key_cmp a b
@@ -105,8 +104,8 @@ pub entry_read : (s : Setting) (e : Entry) (h : List Entry) (position : ℕ) (ke
 entry_read s (Script step) h position key standing is = record { moment_is = is.moment_is; count_is = is.count_is; object_is = is.object_is }
 entry_read s (Called who call reply) h position key standing is = record {
   moment_is = is.moment_is;
-  count_is = counted call (accepted s h) standing.accepted position (is_accepted reply) is.count_is;
-  object_is = called s call (is_accepted reply) h position key standing is;
+  count_is = counted (settled call reply) (accepted s h) standing.accepted position (is_accepted reply) is.count_is;
+  object_is = called s (settled call reply) (is_accepted reply) h position key standing is;
 }
 entry_read s (Deliver role kind to) h position key standing is = record { moment_is = is.moment_is; count_is = is.count_is; object_is = is.object_is }
 entry_read s (Listed role kind to) h position key standing is = record { moment_is = is.moment_is; count_is = is.count_is; object_is = is.object_is }

@@ -8,13 +8,13 @@ use Rattle.cmc_objects.specs.declared.call.Call.TheVariants.{Create, Update, Upd
 use Rattle.cmc_objects.specs.declared.entry.Entry.{Entry}
 use Rattle.cmc_objects.specs.declared.entry.Entry.TheVariants.{Script, Call as Called, Deliver, List as Listed, Begin, Ask, Made, Signed, Answered, Judged, End, Stop, Start, Tick}
 use Rattle.cmc_model.specs.Stored.{created, revised, restated}
-use Rattle.cmc_model.specs.Replies.{is_accepted, key_of_call, stored_over}
+use Rattle.cmc_model.specs.Replies.{is_accepted, key_of_call, settled, stored_over}
 use Rattle.cmc_model.specs.Histories.{moment_with}
 use Rattle.cmc_history.specs.declared.standing.Standing.{Standing}
 
--- the call of an entry that is an accepted write
+-- the call of an entry that is an accepted write, under the name that its reply has
 abbrev pub written_call : Entry → Option Call
-written_call (Called who call reply) = if is_accepted reply then Some call else None
+written_call (Called who call reply) = if is_accepted reply then Some (settled call reply) else None
 written_call other = None
 
 -- what a call, accepted as this version, leaves under this key

@@ -1,5 +1,4 @@
 // What stands under one key as the entries of a run are read in order of time.
-ghost use Rattle.std.specs.Option.{option_copied};
 ghost use Rattle.std.specs.Prelude.{◌≡◌, reverse, IfOk};
 ghost use Rattle.cmc_meta.specs.Keys.{key_eq};
 ghost use Rattle.cmc_objects.specs.Objects.{key_of};
@@ -11,7 +10,7 @@ ghost use Rattle.cmc_model.specs.Replies.{stored_over};
 
 use cmc_meta::Key;
 use cmc_objects::{Call, Entry, Object, Reply};
-use cmc_store::{make, restatement, revision};
+use cmc_store::{make, restatement, revision, settled};
 use std::alloc::{AllocError, Global};
 
 /// What the entries that were read come to for one key.
@@ -31,12 +30,13 @@ fn is_ok(reply: &Reply) -> bool
     matches!(reply, Reply::Ok { .. })
 }
 
-fn call_of_write(entry: &Entry) -> Option<&Call>
-    ensures { option_copied result ≡ written_call entry.now }
+/// The call of an accepted write, under the name that its reply has. `Err` where there is no memory.
+fn call_of_write(entry: &Entry) -> Result<Option<Call>, AllocError>
+    ensures { IfOk result (λ c. c ≡ written_call entry.now) }
 {
     match entry {
-        Entry::Call { call, reply, .. } if is_ok(reply) => Some(call),
-        _ => None,
+        Entry::Call { call, reply, .. } if is_ok(reply) => Ok(Some(settled(call, reply)?)),
+        _ => Ok(None),
     }
 }
 
@@ -60,7 +60,10 @@ fn is_spoken_of(key: &Key, call: &Call) -> bool
     ensures { result ≡ key_eq key.now (key_of_call call.now) }
 {
     match call {
-        Call::Create { object } => is_under(key, object),
+        Call::Create {
+            object,
+            generate: _,
+        } => is_under(key, object),
         Call::Update { object, version: _ } => is_under(key, object),
         Call::UpdateStatus { object, version: _ } => is_under(key, object),
         Call::Delete {
@@ -99,7 +102,10 @@ fn store(
     ensures { IfOk result (λ o. o ≡ stored_over version now old call.now) }
 {
     match call {
-        Call::Create { object } => Ok(Some(make(alloc, object, version, now)?)),
+        Call::Create {
+            object,
+            generate: _,
+        } => Ok(Some(make(alloc, object, version, now)?)),
         Call::Update { object, version: _ } => revise(old, object, version),
         Call::UpdateStatus { object, version: _ } => restate(old, object, version),
         Call::Delete { key: _, version: _ } => Ok(None),
@@ -141,13 +147,13 @@ fn read(
         object,
     } = standing;
     let after = moment_after(entry, moment);
-    match call_of_write(entry) {
+    match call_of_write(entry)? {
         Some(call) => {
             if accepted < position {
                 Ok(Standing {
                     moment: after,
                     accepted: accepted + 1,
-                    object: write(alloc, moment, accepted + 1, key, object, call)?,
+                    object: write(alloc, moment, accepted + 1, key, object, &call)?,
                 })
             } else {
                 Ok(Standing {

@@ -11,12 +11,14 @@ use Rattle.cmc_objects.specs.declared.issuer.IssuerRef.{IssuerRef}
 use Rattle.cmc_objects.specs.declared.secret.Secret.{Secret}
 use Rattle.cmc_objects.specs.declared.key_spec.KeySpec.{KeySpec}
 use Rattle.cmc_objects.specs.declared.certificate.CertSpec.{CertSpec}
+use Rattle.cmc_objects.specs.declared.certificate.Certificate.{Certificate}
 use Rattle.cmc_objects.specs.declared.request.CertificateRequest.{CertificateRequest}
 use Rattle.cmc_objects.specs.Defaults.{issuer_kind, issuer_group, key_algorithm, key_size}
 use Rattle.cmc_policies.specs.Reasons.{Known}
 use Rattle.cmc_keys.specs.Kinds.{IsKeyOf, is_key_of}
 use Rattle.cmc_match.specs.Marks.{has_text, is_temporary}
 use Rattle.cmc_match.specs.Matching.{HasKey, is_one_key, matches, has_key}
+use Rattle.cmc_match.specs.Revisions.{current_request}
 
 -- the private key of the Secret, and its certificate, both in DER
 abbrev pub key_in : Secret → Option (List ℕ)
@@ -161,3 +163,7 @@ known_of spec name secret current = record {
   not_before = begins (pair_at secret);
   not_after = ends (pair_at secret);
 }
+
+-- what is known of the Certificate's Secret and of the current one of its requests
+abbrev pub known_for : Certificate → Option Secret → List CertificateRequest → Known
+known_for certificate secret requests = known_of certificate.spec certificate.meta.name secret (current_request certificate.status.revision requests)

@@ -15,8 +15,9 @@ ghost use Rattle.cmc_objects.specs.declared.request.CertificateRequest.{Certific
 
 use crate::marks::{has_text, is_temporary, part_under, text_under};
 use crate::matching::{is_one_key, key_fits, request_has_key, request_matches};
+use crate::revisions::current_request;
 use cmc_meta::{Bytes, Name};
-use cmc_objects::{CertSpec, CertificateRequest, IssuerRef, KeySpec, Secret};
+use cmc_objects::{CertSpec, Certificate, CertificateRequest, IssuerRef, KeySpec, Secret};
 use cmc_policies::Facts;
 use cmc_x509::{CertFields, read_cert, read_key};
 
@@ -247,6 +248,18 @@ pub fn facts_of(
         None => facts_without(is_unchanged(spec, current)),
         Some(secret) => facts_in(spec, name, secret, current),
     }
+}
+
+/// What the checks of the Certificate look at: its Secret, and the current one of its requests.
+pub fn facts_for(
+    certificate: &Certificate,
+    secret: Option<&Secret>,
+    requests: &[CertificateRequest],
+) -> Facts
+    ensures { known result ≡ words.known_for certificate.now (option_copied secret.entry) requests.now }
+{
+    let current = current_request(certificate.status.revision, requests);
+    facts_of(&certificate.spec, &certificate.meta.name, secret, current)
 }
 
 /// A law: what the flags of a Secret say, in the words of its data and its annotations. (`pair` is `pair_in`, and

@@ -65,7 +65,8 @@ pub fn revision_of(request: &CertificateRequest) -> Option<u64>
     revision(request)
 }
 
-fn is_of(request: &CertificateRequest, revision: u64) -> bool
+/// Whether the request is for this revision of its Certificate.
+pub fn is_of(request: &CertificateRequest, revision: u64) -> bool
     ensures { result ≡ words.is_of revision request.now }
 {
     match revision_of(request) {

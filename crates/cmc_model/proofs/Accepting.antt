@@ -1,7 +1,7 @@
 -- An accepted call found what it names.
 use Rattle.std.proofs.Common.{◌≡◌, ◌≢◌, ◌==◌, ◌+◌, ℕ, List, Option, Some, None, Bool, true, false, refl, ap, inl, inr, arith}
 use Rattle.std.proofs.lemmas.Bool.Decides.{nat_tests}
-use Rattle.std.specs.Prelude.{MatchBool}
+use Rattle.std.specs.Prelude.{MatchBool, if◌then◌else◌}
 use Rattle.std.specs.List.{list_any}
 use Rattle.cmc_objects.specs.declared.object.Object.{Object}
 use Rattle.cmc_objects.specs.declared.call.Call.{Call}
@@ -12,11 +12,9 @@ use Rattle.cmc_objects.specs.Objects.{key_of, name_of, version_of}
 use Rattle.cmc_model.specs.Objects.{Objects, object_at}
 use Rattle.cmc_model.specs.Stored.{updated, with_status}
 use Rattle.cmc_model.specs.Admission.{is_taken, refusing_rule}
-use Rattle.cmc_model.specs.Replies.{State, IsReply, IsServed, IsCreated, IsUpdated, IsRestated, IsDeleted, IsGot, IsChange, IsAdmitted, is_accepted}
+use Rattle.cmc_model.specs.Replies.{State, IsReply, IsServed, IsCreated, IsUpdated, IsRestated, IsDeleted, IsGot, IsChange, IsAdmitted, is_accepted, under_reply, settled}
+use Rattle.cmc_model.proofs.Settling.{refused, settled_served}
 use Rattle.cmc_model.specs.Accepting.{IsNamed, IsOnVersion, IsFounded}
-
-pub refused : (reply right : Reply) → is_accepted right ≡ false → is_accepted reply ≡ true → reply ≡ right → ⊥
-refused reply right no_write ok is = let e = ap is_accepted is in absurd (cc (e, no_write, ok))
 
 changed : (n : ℕ) (name : List ℕ) (old new : Object) (reply : Reply) → IsChange n name old new reply → is_accepted reply ≡ true → new ≢ old
 changed n name old new reply (inl same) ok = absurd (refused reply (Unchanged (version_of old)) refl ok same.1)
@@ -66,9 +64,11 @@ by_get : (n : ℕ) (old : Option Object) (reply : Reply) → IsGot n old reply �
 by_get n None reply right ok = refused reply (NotFound n) refl ok right
 by_get n (Some old) reply right ok = refused reply (Found old) refl ok right
 
-pub founded : (n : ℕ) (objects : Objects) (call : Call) (reply : Reply) → IsServed n objects call reply → is_accepted reply ≡ true → IsFounded objects call
-unfolding IsFounded
-founded n objects (Create object) reply right ok = by_create n (is_taken objects object) object (object_at objects (key_of object)) reply right ok
+pub founded : (n : ℕ) (objects : Objects) (call : Call) (reply : Reply) → IsServed n objects call reply → is_accepted reply ≡ true → IsFounded objects (settled call reply)
+unfolding IsFounded settled
+founded n objects (Create object generate) reply right ok =
+    let made : Object = if generate then under_reply object reply else object in
+    by_create n (is_taken objects made) made (object_at objects (key_of made)) reply (settled_served n objects (Create object generate) reply right ok) ok
 founded n objects (Update object named) reply right ok = by_update n (is_taken objects object) object named (object_at objects (key_of object)) reply right ok
 founded n objects (UpdateStatus object named) reply right ok = by_status n object named (object_at objects (key_of object)) reply right ok
 founded n objects (Delete key named) reply right ok = by_delete n named key.name (object_at objects key) reply right ok
@@ -80,5 +80,5 @@ served_by true st call reply right ok = absurd (refused reply (Unavailable (st.c
 served_by false st call reply right ok = right
 
 -- an accepted call found what it names
-pub accepted_found : (faults : List ℕ) (st : State) (call : Call) (reply : Reply) → IsReply faults st call reply → is_accepted reply ≡ true → IsFounded st.objects call
+pub accepted_found : (faults : List ℕ) (st : State) (call : Call) (reply : Reply) → IsReply faults st call reply → is_accepted reply ≡ true → IsFounded st.objects (settled call reply)
 accepted_found faults st call reply right ok = founded st.accepted st.objects call reply (served_by (list_any (λ n. n == st.calls + 1) faults) st call reply right ok) ok

@@ -4,4 +4,9 @@ pub mod Maps
 pub mod Writes
 pub mod Stored
 pub mod Versions
+pub mod Settling
 pub mod Accepting
+pub mod Admission
+pub mod Writing
+pub mod Permanence
+pub mod Verdicts

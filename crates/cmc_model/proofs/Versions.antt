@@ -15,9 +15,10 @@ use Rattle.cmc_objects.specs.Objects.{key_of, version_of}
 use Rattle.cmc_model.specs.declared.write.Write.{Write}
 use Rattle.cmc_model.specs.Objects.{Objects, no_objects, object_at}
 use Rattle.cmc_model.specs.Stored.{revised, restated}
-use Rattle.cmc_model.specs.Replies.{State, IsReply, IsServed, IsGot, is_accepted, key_of_call, from_old, stored, put_at}
+use Rattle.cmc_model.specs.Replies.{State, IsReply, IsServed, IsGot, is_accepted, key_of_call, from_old, settled, stored, put_at}
 use Rattle.cmc_model.specs.Writes.{write_of, contents}
 use Rattle.cmc_model.specs.Versions.{uid_of, IsVersion}
+use Rattle.cmc_model.proofs.Settling.{settled_served}
 use Rattle.cmc_model.proofs.Keys.{key_cmp-total, key_cmp-IsAntisymmetric}
 use Rattle.cmc_model.proofs.Stored.{version_of-created, uid_of-created, key_of-created, version_of-revised, uid_of-revised, key_of-revised, version_of-restated, uid_of-restated, key_of-restated}
 
@@ -53,7 +54,7 @@ lawful_get n key (Some old) reply right ok = absurd (let e = ap is_accepted righ
 
 lawful_call : (n : ℕ) (now : ℤ) (m : Objects) (call : Call) (reply : Reply) → IsServed n m call reply → is_accepted reply ≡ true
     → IsLawfulObject (n + 1) (key_of_call call) (object_at m (key_of_call call)) (stored (n + 1) now m call)
-lawful_call n now m (Create object) reply right ok = (version_of-created (n + 1) now object, inl (uid_of-created (n + 1) now object, key_of-created (n + 1) now object))
+lawful_call n now m (Create object generate) reply right ok = (version_of-created (n + 1) now object, inl (uid_of-created (n + 1) now object, key_of-created (n + 1) now object))
 lawful_call n now m (Update object named) reply right ok = lawful_update (n + 1) (key_of object) object (object_at m (key_of object))
 lawful_call n now m (UpdateStatus object named) reply right ok = lawful_status (n + 1) (key_of object) object (object_at m (key_of object))
 lawful_call n now m (Delete key named) reply right ok = tt
@@ -68,7 +69,7 @@ lawful_write now st call ws count leaves right =
     subst (λ (m : Objects). IsLawfulObject (length (write_of now st call ∷ ws)) (key_of_call call) (object_at m (key_of_call call)) (stored (st.accepted + 1) now st.objects call)) (sym leaves) there
 
 pub lawful_called : (faults : List ℕ) (now : ℤ) (st : State) (call : Call) (reply : Reply) (ws : List Write) (b : Bool) → is_accepted reply ≡ b
-    → length ws ≡ st.accepted → contents ws ≡ st.objects → IsReply faults st call reply → IsLawful ws → IsLawful (if b then write_of now st call ∷ ws else ws)
+    → length ws ≡ st.accepted → contents ws ≡ st.objects → IsReply faults st call reply → IsLawful ws → IsLawful (if b then write_of now st (settled call reply) ∷ ws else ws)
 lawful_called faults now st call reply ws false e count leaves right lawful = lawful
 lawful_called faults now st call reply ws true e count leaves right lawful =
     let served : IsServed st.accepted st.objects call reply =
@@ -76,7 +77,7 @@ lawful_called faults now st call reply ws true e count leaves right lawful =
       | true ↦ λ r. absurd (let k = ap is_accepted r in cc (k, e))
       | false ↦ λ r. r
     ] right in
-    (lawful_write now st call ws count leaves (lawful_call st.accepted now st.objects call reply served e), lawful)
+    (lawful_write now st (settled call reply) ws count leaves (lawful_call st.accepted now st.objects (settled call reply) reply (settled_served st.accepted st.objects call reply served e) e), lawful)
 
 -- ---- what stands is a version
 

@@ -9,7 +9,7 @@ use Rattle.cmc_objects.specs.declared.entry.Entry.{Entry}
 use Rattle.cmc_objects.specs.declared.entry.Entry.TheVariants.{Call as Called}
 use Rattle.cmc_model.specs.declared.write.Write.{Write}
 use Rattle.cmc_model.specs.Objects.{Objects}
-use Rattle.cmc_model.specs.Replies.{State, is_accepted, put_at, key_of_call, stored}
+use Rattle.cmc_model.specs.Replies.{State, is_accepted, put_at, key_of_call, settled, stored}
 use Rattle.cmc_model.specs.Histories.{Setting, moment, state, objects, accepted}
 use Rattle.cmc_model.specs.Writes.{writes, write_of, contents, oldest, of_kind, kind_eq, objects_of}
 
@@ -38,7 +38,7 @@ counted false w ws n h = h
 -- there are as many writes as were accepted
 pub writes_count : (s : Setting) (h : List Entry) → length (writes s h) ≡ accepted s h
 writes_count s [] = refl
-writes_count s (Called who call reply ∷ h) = counted (is_accepted reply) (write_of (moment s h) (state s h) call) (writes s h) (accepted s h) (writes_count s h)
+writes_count s (Called who call reply ∷ h) = counted (is_accepted reply) (write_of (moment s h) (state s h) (settled call reply)) (writes s h) (accepted s h) (writes_count s h)
 writes_count s (other ∷ h) = writes_count s h
 
 left : (b : Bool) (now : ℤ) (st : State) (call : Call) (ws : List Write) → contents ws ≡ st.objects
@@ -51,7 +51,7 @@ left false now st call ws h = h
 pub writes_leave : (s : Setting) (h : List Entry) → contents (writes s h) ≡ objects s h
 unfolding contents
 writes_leave s [] = refl
-writes_leave s (Called who call reply ∷ h) = left (is_accepted reply) (moment s h) (state s h) call (writes s h) (writes_leave s h)
+writes_leave s (Called who call reply ∷ h) = left (is_accepted reply) (moment s h) (state s h) (settled call reply) (writes s h) (writes_leave s h)
 writes_leave s (other ∷ h) = writes_leave s h
 
 older : (b : Bool) (p : ℕ) (w : Write) (ws : List Write) → p ≤ length ws → oldest p (if b then w ∷ ws else ws) ≡ oldest p ws
@@ -60,7 +60,7 @@ older false p w ws h = refl
 
 -- the first writes are the same after any entry
 pub oldest-entry : (s : Setting) (e : Entry) (h : List Entry) (p : ℕ) → p ≤ accepted s h → oldest p (writes s (e ∷ h)) ≡ oldest p (writes s h)
-oldest-entry s (Called who call reply) h p le = older (is_accepted reply) p (write_of (moment s h) (state s h) call) (writes s h) (omega (arith, le, writes_count s h))
+oldest-entry s (Called who call reply) h p le = older (is_accepted reply) p (write_of (moment s h) (state s h) (settled call reply)) (writes s h) (omega (arith, le, writes_count s h))
 oldest-entry s other h p le = refl
 
 pub objects_of-older : (kind : Kind) (s : Setting) (e : Entry) (h : List Entry) (p : ℕ) → p ≤ accepted s h → objects_of kind s (e ∷ h) p ≡ objects_of kind s h p

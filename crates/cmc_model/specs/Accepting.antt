@@ -18,9 +18,9 @@ pub record IsOnVersion (old new : Object) (named : ℕ) (rule : Option ℕ) : Ty
   pub change : new ≢ old
   pub passed : rule ≡ None
 
--- a create found nothing, every other write an object, at the version that it names
+-- a create found nothing under its name, every other write an object, at the version that it names
 unfoldable pub IsFounded : Objects → Call → Type 0
-IsFounded objects (Create object) = (object_at objects (key_of object) ≡ None) × (refusing_rule None object false (is_taken objects object) ≡ None)
+IsFounded objects (Create object generate) = (object_at objects (key_of object) ≡ None) × (refusing_rule None object false (is_taken objects object) ≡ None)
 IsFounded objects (Update object named) =
     (old : Object) × (object_at objects (key_of object) ≡ Some old)
     × IsOnVersion old (updated old object) named (refusing_rule (Some old) object false (is_taken objects object))

@@ -2,9 +2,11 @@ pub mod Objects
 pub mod Specs
 pub mod Stored
 pub mod Admission
+pub mod Generated
 pub mod Replies
 pub mod Histories
 pub mod Writes
 pub mod Summaries
 pub mod Versions
 pub mod Accepting
+pub mod Verdicts

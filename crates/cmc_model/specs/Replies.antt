@@ -11,6 +11,7 @@ use Rattle.cmc_objects.specs.Objects.{key_of, name_of, version_of}
 use Rattle.cmc_model.specs.Objects.{Objects, no_objects, object_at, with_object, without_object}
 use Rattle.cmc_model.specs.Stored.{created, updated, with_status, revised, restated}
 use Rattle.cmc_model.specs.Admission.{is_taken, refusing_rule}
+use Rattle.cmc_model.specs.Generated.{named, free_named}
 
 -- a store: its objects, the accepted writes so far and the calls so far
 pub record State : Type 0 where
@@ -37,6 +38,9 @@ abbrev pub IsCreated : ℕ → Bool → Object → Option Object → Reply → T
 IsCreated accepted taken object (Some old) reply = reply ≡ AlreadyExists (version_of old)
 IsCreated accepted taken object None reply = IsAdmitted (refusing_rule None object false taken) (reply ≡ Ok (accepted + 1) (name_of object)) reply
 
+abbrev pub IsCreatedIn : ℕ → Objects → Object → Reply → Type 0
+IsCreatedIn accepted objects object reply = IsCreated accepted (is_taken objects object) object (object_at objects (key_of object)) reply
+
 -- the object that stands has the named version, or there is a conflict
 abbrev pub IsAtVersion : ℕ → Object → Type 0 → Reply → Type 0
 IsAtVersion named old served reply = MatchBool (named == version_of old) served (reply ≡ Conflict named (version_of old))
@@ -60,9 +64,9 @@ abbrev pub IsGot : ℕ → Option Object → Reply → Type 0
 IsGot accepted None reply = reply ≡ NotFound accepted
 IsGot accepted (Some old) reply = reply ≡ Found old
 
--- the reply of the objects that stand
+-- The reply of the objects that stand. A create that wants a generated name is one of the first name that is free.
 abbrev pub IsServed : ℕ → Objects → Call → Reply → Type 0
-IsServed accepted objects (Create object) reply = IsCreated accepted (is_taken objects object) object (object_at objects (key_of object)) reply
+IsServed accepted objects (Create object generate) reply = IsCreatedIn accepted objects (if generate then free_named (accepted + 1) objects object else object) reply
 IsServed accepted objects (Update object named) reply = IsUpdated accepted (is_taken objects object) object named (object_at objects (key_of object)) reply
 IsServed accepted objects (UpdateStatus object named) reply = IsRestated accepted object named (object_at objects (key_of object)) reply
 IsServed accepted objects (Delete key named) reply = IsDeleted accepted named key.name (object_at objects key) reply
@@ -86,9 +90,9 @@ is_accepted (AlreadyExists have) = false
 is_accepted (Invalid rule) = false
 is_accepted (Unavailable number) = false
 
--- the key that a call speaks of
+-- the key that a call speaks of, where no name is to be generated
 abbrev pub key_of_call : Call → Key
-key_of_call (Create object) = key_of object
+key_of_call (Create object generate) = key_of object
 key_of_call (Update object named) = key_of object
 key_of_call (UpdateStatus object named) = key_of object
 key_of_call (Delete key named) = key
@@ -100,7 +104,7 @@ from_old change (Some old) = Some (change old)
 
 -- what a call that is accepted as this version leaves under its key, where this stood there
 abbrev pub stored_over : ℕ → ℤ → Option Object → Call → Option Object
-stored_over version now old (Create object) = Some (created version now object)
+stored_over version now old (Create object generate) = Some (created version now object)
 stored_over version now old (Update object named) = from_old (λ o. revised version o object) old
 stored_over version now old (UpdateStatus object named) = from_old (λ o. restated version o object) old
 stored_over version now old (Delete key named) = None
@@ -109,6 +113,16 @@ stored_over version now old (Get key) = old
 -- and where these objects stood
 abbrev pub stored : ℕ → ℤ → Objects → Call → Option Object
 stored version now objects call = stored_over version now (object_at objects (key_of_call call)) call
+
+-- the object under the name that the reply has
+abbrev pub under_reply : Object → Reply → Object
+under_reply object (Ok version name) = named name object
+under_reply object other = object
+
+-- the call with the name that its reply has: what a create with a generated name comes to
+unfoldable pub settled : Call → Reply → Call
+settled (Create object generate) reply = Create (if generate then under_reply object reply else object) false
+settled other reply = other
 
 -- the objects with this one under the key, or with none
 abbrev pub put_at : Objects → Key → Option Object → Objects
@@ -119,14 +133,14 @@ put_at objects key None = without_object objects key
 abbrev pub state_after : ℤ → State → Call → Reply → State
 state_after now s call reply =
     record {
-      objects = if is_accepted reply then put_at s.objects (key_of_call call) (stored (s.accepted + 1) now s.objects call) else s.objects;
+      objects = if is_accepted reply then put_at s.objects (key_of_call (settled call reply)) (stored (s.accepted + 1) now s.objects (settled call reply)) else s.objects;
       accepted = if is_accepted reply then s.accepted + 1 else s.accepted;
       calls = s.calls + 1;
     }
 
 -- the key that an accepted write wrote, and what it stored there
 abbrev pub key_written : Call → Reply → Option Key
-key_written call reply = if is_accepted reply then Some (key_of_call call) else None
+key_written call reply = if is_accepted reply then Some (key_of_call (settled call reply)) else None
 
 abbrev pub object_written : ℤ → State → Call → Reply → Option Object
-object_written now s call reply = if is_accepted reply then stored (s.accepted + 1) now s.objects call else None
+object_written now s call reply = if is_accepted reply then stored (s.accepted + 1) now s.objects (settled call reply) else None

@@ -9,15 +9,15 @@ use Rattle.cmc_objects.specs.declared.entry.Entry.{Entry}
 use Rattle.cmc_objects.specs.declared.entry.Entry.TheVariants.{Call as Called}
 use Rattle.cmc_model.specs.declared.write.Write.{Write}
 use Rattle.cmc_model.specs.Objects.{Objects, no_objects}
-use Rattle.cmc_model.specs.Replies.{State, is_accepted, key_of_call, stored, put_at}
+use Rattle.cmc_model.specs.Replies.{State, is_accepted, key_of_call, settled, stored, put_at}
 use Rattle.cmc_model.specs.Histories.{Setting, moment, state}
 
--- what a call writes that is accepted now
+-- what a call writes that is accepted now, under the name that it has
 abbrev pub write_of : ℤ → State → Call → Write
 write_of now state call = record { key = key_of_call call; object = stored (state.accepted + 1) now state.objects call }
 
 abbrev pub writes_with : ℤ → State → List Write → Entry → List Write
-writes_with moment state ws (Called who call reply) = if is_accepted reply then write_of moment state call ∷ ws else ws
+writes_with moment state ws (Called who call reply) = if is_accepted reply then write_of moment state (settled call reply) ∷ ws else ws
 writes_with moment state ws other = ws
 
 -- the accepted writes, the newest first: the version of a write is its place, counted from the oldest

@@ -1,10 +1,11 @@
-//! The definitions that contracts cite: objects, replies, histories, which of them are legal, and
-//! which follow a script, with the plain data types that definitions compute. It has no code beside
-//! these types.
+//! The definitions that contracts cite: objects, replies, admission, histories, writes and versions, with the plain
+//! data types that definitions compute, and a law. It has no code beside these types.
 #![tactic(auto)]
 
+mod laws;
 mod summary;
 mod write;
 
+pub use laws::verdicts_stay;
 pub use summary::{Summary, WaitName, Waiting, Waits};
 pub use write::Write;

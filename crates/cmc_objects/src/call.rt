@@ -7,8 +7,9 @@ use std::alloc::AllocError;
 /// A call on the store (Kubernetes API conventions, verbs and optimistic concurrency).
 #[derive(Drop)]
 pub enum Call {
-    /// Stores a new object.
-    Create { object: Object },
+    /// Stores a new object. With `generate` the object's name and a dash are the prefix from which its name is made
+    /// (Kubernetes API conventions, `generateName`).
+    Create { object: Object, generate: bool },
     /// Replaces all but the status of the object that has this version.
     Update { object: Object, version: u64 },
     /// Replaces the status of the object that has this version.
@@ -25,8 +26,9 @@ impl Call {
         ensures { IfOk result (λ c. c ≡ self.now) }
     {
         match self {
-            Call::Create { object } => Ok(Call::Create {
+            Call::Create { object, generate } => Ok(Call::Create {
                 object: object.copy()?,
+                generate: *generate,
             }),
             Call::Update { object, version } => Ok(Call::Update {
                 object: object.copy()?,

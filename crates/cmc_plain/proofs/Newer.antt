@@ -14,17 +14,19 @@ use Rattle.cmc_objects.specs.declared.call.Reply.{Reply}
 use Rattle.cmc_objects.specs.declared.call.Reply.TheVariants.{Ok, Unchanged, Found, Conflict, NotFound, AlreadyExists, Invalid, Unavailable}
 use Rattle.cmc_objects.specs.declared.entry.Entry.{Entry}
 use Rattle.cmc_objects.specs.declared.role.Role.{Role}
-use Rattle.cmc_objects.specs.Objects.{key_of, name_of, version_of}
+use Rattle.cmc_objects.specs.Objects.{key_of, kind_of, name_of, version_of}
 use Rattle.cmc_model.specs.declared.write.Write.{Write}
 use Rattle.cmc_model.specs.Objects.{Objects, object_at}
 use Rattle.cmc_model.specs.Stored.{updated, with_status}
-use Rattle.cmc_model.specs.Admission.{is_taken}
-use Rattle.cmc_model.specs.Replies.{State, IsReply, IsServed, IsCreated, IsUpdated, IsRestated, IsDeleted, IsGot, IsChange, key_of_call}
+use Rattle.cmc_model.specs.Admission.{is_taken, refusing_rule}
+use Rattle.cmc_model.specs.Generated.{free_named}
+use Rattle.cmc_model.specs.Replies.{State, IsReply, IsServed, IsCreated, IsUpdated, IsRestated, IsDeleted, IsGot, IsChange, IsAdmitted, IsCreatedIn, key_of_call}
 use Rattle.cmc_model.specs.Histories.{Setting, state, objects}
 use Rattle.cmc_model.specs.Writes.{writes, kind_eq, last_of_kind, last_under}
 use Rattle.cmc_rules.specs.Positions.{has_informer}
 use Rattle.cmc_rules.specs.Legality.{IsLegal}
 use Rattle.cmc_model.specs.Versions.{IsVersion}
+use Rattle.cmc_model.proofs.Settling.{kind_of-named}
 use Rattle.cmc_model.proofs.Versions.{IsLawful, lawful_object}
 use Rattle.cmc_rules.proofs.Versions.{lawful, stands_is_version}
 use Rattle.cmc_plain.proofs.OneKind.{last_low}
@@ -115,26 +117,32 @@ IsLowObject n (Some old) = version_of old ≤ n
 replied : (n : ℕ) (reply right : Reply) → IsLowReply n right → reply ≡ right → IsLowReply n reply
 replied n reply right low is = subst (IsLowReply n) (sym is) low
 
+-- a rule that refuses names no version
+low_admitted : (n : ℕ) (rule : Option ℕ) (served : Type 0) (reply : Reply) → (served → IsLowReply n reply) → IsAdmitted rule served reply → IsLowReply n reply
+low_admitted n None served reply low right = low right
+low_admitted n (Some rule) served reply low right = replied n reply (Invalid rule) tt right
+
 low_created : (n m : ℕ) (taken : Bool) (object : Object) (old : Option Object) (reply : Reply) → IsLowObject n old → IsCreated m taken object old reply → IsLowReply n reply
 low_created n m taken object (Some old) reply low right = replied n reply (AlreadyExists (version_of old)) low right
-low_created n m taken object None reply low right = replied n reply (Ok (m + 1) (name_of object)) tt right
+low_created n m taken object None reply low right =
+    low_admitted n (refusing_rule None object false taken) (reply ≡ Ok (m + 1) (name_of object)) reply (λ ok. replied n reply (Ok (m + 1) (name_of object)) tt ok) right
 
 low_change : (n m : ℕ) (name : List ℕ) (old new : Object) (reply : Reply) → IsChange m name old new reply → IsLowReply n reply
 low_change n m name old new reply (inl same) = replied n reply (Unchanged (version_of old)) tt same.1
 low_change n m name old new reply (inr other) = replied n reply (Ok (m + 1) name) tt other.1
 
-low_at : (at : Bool) (n m named : ℕ) (name : List ℕ) (old new : Object) (reply : Reply) → version_of old ≤ n
-    → MatchBool at (IsChange m name old new reply) (reply ≡ Conflict named (version_of old)) → IsLowReply n reply
-low_at true n m named name old new reply low right = low_change n m name old new reply right
-low_at false n m named name old new reply low right = replied n reply (Conflict named (version_of old)) low right
+low_at : (at : Bool) (n m named : ℕ) (name : List ℕ) (old new : Object) (rule : Option ℕ) (reply : Reply) → version_of old ≤ n
+    → MatchBool at (IsAdmitted rule (IsChange m name old new reply) reply) (reply ≡ Conflict named (version_of old)) → IsLowReply n reply
+low_at true n m named name old new rule reply low right = low_admitted n rule (IsChange m name old new reply) reply (low_change n m name old new reply) right
+low_at false n m named name old new rule reply low right = replied n reply (Conflict named (version_of old)) low right
 
 low_updated : (n m : ℕ) (taken : Bool) (object : Object) (named : ℕ) (old : Option Object) (reply : Reply) → IsLowObject n old → IsUpdated m taken object named old reply → IsLowReply n reply
 low_updated n m taken object named None reply low right = replied n reply (NotFound m) tt right
-low_updated n m taken object named (Some old) reply low right = low_at (named == version_of old) n m named (name_of object) old (updated old object) reply low right
+low_updated n m taken object named (Some old) reply low right = low_at (named == version_of old) n m named (name_of object) old (updated old object) (refusing_rule (Some old) object false taken) reply low right
 
 low_restated : (n m : ℕ) (object : Object) (named : ℕ) (old : Option Object) (reply : Reply) → IsLowObject n old → IsRestated m object named old reply → IsLowReply n reply
 low_restated n m object named None reply low right = replied n reply (NotFound m) tt right
-low_restated n m object named (Some old) reply low right = low_at (named == version_of old) n m named (name_of object) old (with_status old object) reply low right
+low_restated n m object named (Some old) reply low right = low_at (named == version_of old) n m named (name_of object) old (with_status old object) (refusing_rule (Some old) object true false) reply low right
 
 low_delete_at : (at : Bool) (n m named : ℕ) (name : List ℕ) (old : Object) (reply : Reply) → version_of old ≤ n
     → MatchBool at (reply ≡ Ok (m + 1) name) (reply ≡ Conflict named (version_of old)) → IsLowReply n reply
@@ -151,14 +159,25 @@ low_got : (n m : ℕ) (old : Option Object) (reply : Reply) → IsLowObject n ol
 low_got n m None reply low right = replied n reply (NotFound m) tt right
 low_got n m (Some old) reply low right = replied n reply (Found old) low right
 
-low_served : (n m : ℕ) (stored : Objects) (call : Call) (reply : Reply) → IsLowObject n (object_at stored (key_of_call call)) → IsServed m stored call reply → IsLowReply n reply
-low_served n m stored (Create object) reply low right = low_created n m (is_taken stored object) object (object_at stored (key_of object)) reply low right
-low_served n m stored (Update object named) reply low right = low_updated n m (is_taken stored object) object named (object_at stored (key_of object)) reply low right
-low_served n m stored (UpdateStatus object named) reply low right = low_restated n m object named (object_at stored (key_of object)) reply low right
-low_served n m stored (Delete key named) reply low right = low_deleted n m named key.name (object_at stored key) reply low right
-low_served n m stored (Get key) reply low right = low_got n m (object_at stored key) reply low right
+-- what stands under each key of the kind is low
+abbrev IsLowKind : ℕ → Objects → Kind → Type 0
+IsLowKind n stored kind = (key : Key) → key.kind ≡ kind → IsLowObject n (object_at stored key)
 
-low_by : (fails : Bool) (n : ℕ) (st : State) (call : Call) (reply : Reply) → IsLowObject n (object_at st.objects (key_of_call call))
+low_made : (n m : ℕ) (stored : Objects) (object : Object) (reply : Reply) → IsLowKind n stored (kind_of object) → IsCreatedIn m stored object reply → IsLowReply n reply
+low_made n m stored object reply low right = low_created n m (is_taken stored object) object (object_at stored (key_of object)) reply (low (key_of object) refl) right
+
+low_served : (n m : ℕ) (stored : Objects) (call : Call) (reply : Reply) → IsLowKind n stored (key_of_call call).kind → IsServed m stored call reply → IsLowReply n reply
+unfolding free_named
+low_served n m stored (Create object false) reply low right = low_made n m stored object reply low right
+low_served n m stored (Create object true) reply low right =
+    let made : Object = free_named (m + 1) stored object in
+    low_made n m stored made reply (λ key same. low key (same ∙ kind_of-named _ object)) right
+low_served n m stored (Update object named) reply low right = low_updated n m (is_taken stored object) object named (object_at stored (key_of object)) reply (low (key_of object) refl) right
+low_served n m stored (UpdateStatus object named) reply low right = low_restated n m object named (object_at stored (key_of object)) reply (low (key_of object) refl) right
+low_served n m stored (Delete key named) reply low right = low_deleted n m named key.name (object_at stored key) reply (low key refl) right
+low_served n m stored (Get key) reply low right = low_got n m (object_at stored key) reply (low key refl) right
+
+low_by : (fails : Bool) (n : ℕ) (st : State) (call : Call) (reply : Reply) → IsLowKind n st.objects (key_of_call call).kind
     → MatchBool fails (reply ≡ Unavailable (st.calls + 1)) (IsServed st.accepted st.objects call reply) → IsLowReply n reply
 low_by true n st call reply low right = replied n reply (Unavailable (st.calls + 1)) tt right
 low_by false n st call reply low right = low_served n st.accepted st.objects call reply low right
@@ -172,4 +191,4 @@ pub low_reply : (s : Setting) (h : List Entry) (call : Call) (reply : Reply) →
     → IsLowReply (last_of_kind (key_of_call call).kind (writes s h)) reply
 low_reply s h call reply legal right =
     low_by (list_any (λ n. n == (state s h).calls + 1) s.faults) (last_of_kind (key_of_call call).kind (writes s h)) (state s h) call reply
-    (low_object s h (key_of_call call) (object_at (objects s h) (key_of_call call)) legal refl) right
+    (λ key same. subst (λ (kind : Kind). IsLowObject (last_of_kind kind (writes s h)) (object_at (objects s h) key)) same (low_object s h key (object_at (objects s h) key) legal refl)) right

@@ -1,5 +1,6 @@
 -- A store has one right reply to a call.
 use Rattle.std.proofs.Common.{◌≡◌, ◌∙◌, ℕ, ◌+◌, ◌==◌, Bool, true, false, List, Option, Some, None, MatchBool, inl, inr, sym}
+use Rattle.std.specs.Prelude.{if◌then◌else◌}
 use Rattle.std.specs.List.{list_any}
 use Rattle.cmc_objects.specs.declared.object.Object.{Object}
 use Rattle.cmc_objects.specs.declared.call.Call.{Call}
@@ -10,6 +11,7 @@ use Rattle.cmc_objects.specs.Objects.{key_of, name_of, version_of}
 use Rattle.cmc_model.specs.Objects.{Objects, object_at}
 use Rattle.cmc_model.specs.Stored.{updated, with_status}
 use Rattle.cmc_model.specs.Admission.{is_taken, refusing_rule}
+use Rattle.cmc_model.specs.Generated.{free_named}
 use Rattle.cmc_model.specs.Replies.{State, IsAdmitted, IsChange, IsCreated, IsAtVersion, IsUpdated, IsRestated, IsDeleted, IsGot, IsServed, IsReply}
 
 -- a test that is the same for both replies leaves the same line for both
@@ -64,7 +66,9 @@ one_got accepted None r q x y = x ∙ sym y
 one_got accepted (Some old) r q x y = x ∙ sym y
 
 one_served : (accepted : ℕ) (objects : Objects) (call : Call) (r q : Reply) → IsServed accepted objects call r → IsServed accepted objects call q → r ≡ q
-one_served accepted objects (Create object) r q x y = one_created accepted (is_taken objects object) object (object_at objects (key_of object)) r q x y
+one_served accepted objects (Create object generate) r q x y =
+    let made : Object = if generate then free_named (accepted + 1) objects object else object in
+    one_created accepted (is_taken objects made) made (object_at objects (key_of made)) r q x y
 one_served accepted objects (Update object named) r q x y = one_updated accepted (is_taken objects object) object named (object_at objects (key_of object)) r q x y
 one_served accepted objects (UpdateStatus object named) r q x y = one_restated accepted object named (object_at objects (key_of object)) r q x y
 one_served accepted objects (Delete key named) r q x y = one_deleted accepted named key.name (object_at objects key) r q x y

@@ -32,7 +32,8 @@ use Rattle.cmc_rules.specs.declared.progress.Ending.{Ending}
 use Rattle.cmc_rules.specs.declared.progress.Ending.TheVariants as endings
 use Rattle.cmc_rules.specs.declared.progress.LastPass.{LastPass}
 use Rattle.cmc_rules.specs.declared.progress.Past.{Past}
-use Rattle.cmc_model.specs.Replies.{is_accepted, key_of_call}
+use Rattle.cmc_model.specs.Replies.{is_accepted, key_of_call, settled}
+use Rattle.cmc_model.proofs.Settling.{kind_of-settled}
 use Rattle.cmc_model.specs.Histories.{Setting, moment, state, accepted, role_eq}
 use Rattle.cmc_model.specs.Writes.{writes, write_of, last_of_kind, last_under}
 use Rattle.cmc_rules.specs.Positions.{has_informer, position_of}
@@ -114,11 +115,14 @@ unfolding IsCaused
 own_low s [] role key kind caused = no_own kind (newest_known role kind [])
 own_low s (Called User call reply ∷ h) role key kind caused =
     let low = own_low s h role key kind caused.1 in
-    let more = known_grown (is_accepted reply) role kind (write_of (moment s h) (state s h) call) (writes s h) in
+    let more = known_grown (is_accepted reply) role kind (write_of (moment s h) (state s h) (settled call reply)) (writes s h) in
     omega (arith, low, more)
 own_low s (Called (Pass pass) call reply ∷ h) role key kind caused =
-    own_written (is_accepted reply) (is_pass_of role key (open_pass s h pass)) role kind (write_of (moment s h) (state s h) call) (writes s h) (accepted s h) (past s h role key) (writes_count s h)
-    (λ mine. call_known s h role key call (open_pass s h pass) mine caused.0) (own_low s h role key kind caused.1)
+    let own : Bool = is_accepted reply && is_pass_of role key (open_pass s h pass) in
+    let same : (key_of_call (settled call reply)).kind ≡ (key_of_call call).kind = kind_of-settled call reply in
+    subst (λ (k : Kind). position_of kind (if own then with_own k (accepted s h + 1) (past s h role key) else past s h role key).own ≤ newest_known role kind (writes s (Called (Pass pass) call reply ∷ h))) same
+    (own_written (is_accepted reply) (is_pass_of role key (open_pass s h pass)) role kind (write_of (moment s h) (state s h) (settled call reply)) (writes s h) (accepted s h) (past s h role key) (writes_count s h)
+    (λ mine. ap (has_informer role) same ∙ call_known s h role key call (open_pass s h pass) mine caused.0) (own_low s h role key kind caused.1))
 own_low s (Begin pass who at told now ∷ h) role key kind caused =
     own_begun (role_eq who role && key_eq at key) kind (newest_known role kind (writes s h)) (views s h who at) now (past s h role key) (own_low s h role key kind caused.1)
 own_low s (End pass cause ∷ h) role key kind caused =
@@ -185,9 +189,9 @@ pub refused_low : (s : Setting) (h : List Entry) (n : ℕ) → IsLegal s h → I
 unfolding IsLegal IsCaused
 refused_low s [] n legal caused = tt
 refused_low s (Called User call reply ∷ h) n legal caused =
-    grown_pass (is_accepted reply) (write_of (moment s h) (state s h) call) (writes s h) (open_pass s h n) (refused_low s h n legal.1 caused.1)
+    grown_pass (is_accepted reply) (write_of (moment s h) (state s h) (settled call reply)) (writes s h) (open_pass s h n) (refused_low s h n legal.1 caused.1)
 refused_low s (Called (Pass pass) call reply ∷ h) n legal caused =
-    grown_pass (is_accepted reply) (write_of (moment s h) (state s h) call) (writes s h) (called n (Pass pass) (stage_after s h call reply) (open_pass s h n))
+    grown_pass (is_accepted reply) (write_of (moment s h) (state s h) (settled call reply)) (writes s h) (called n (Pass pass) (stage_after s h call reply) (open_pass s h n))
     (pass_called (n == pass) s h n pass call reply refl (low_reply s h call reply legal.1 legal.0.0) caused.0 (refused_low s h n legal.1 caused.1))
 refused_low s (Begin pass role key at now ∷ h) n legal caused =
     over_begin (HasLowStage (writes s h)) (n == pass) (new_pass role key (views s h role key) now) (open_pass s h n) tt (refused_low s h n legal.1 caused.1)
@@ -370,7 +374,7 @@ unfolding IsLegal IsCaused
 last_fair s [] role key legal caused = tt
 last_fair s (Called who call reply ∷ h) role key legal caused =
     subst (IsFairLast role s.rules (writes s (Called who call reply ∷ h))) (sym (last_called s h role key (past s h role key) who (key_of_call call).kind (is_accepted reply)))
-    (grown_last (is_accepted reply) role s.rules (write_of (moment s h) (state s h) call) (writes s h) (past s h role key).last (last_fair s h role key legal.1 caused.1))
+    (grown_last (is_accepted reply) role s.rules (write_of (moment s h) (state s h) (settled call reply)) (writes s h) (past s h role key).last (last_fair s h role key legal.1 caused.1))
 last_fair s (Begin pass who at told now ∷ h) role key legal caused =
     fair_begun (role_eq who role && key_eq at key) role s.rules (writes s h) (views s h who at) now (past s h role key) (last_fair s h role key legal.1 caused.1)
 last_fair s (End pass cause ∷ h) role key legal caused =

@@ -3,6 +3,7 @@ use Rattle.std.proofs.Common.{◌≡◌, ℕ, ◌+◌, ◌-◌, ◌<◌, List, [
 use Rattle.std.proofs.lemmas.List.{drop_more}
 use Rattle.std.proofs.lemmas.Option.{slice_get-get_or}
 use Rattle.std.specs.Prelude.{if◌then◌else◌}
+use Rattle.cmc_objects.specs.declared.call.Call.{Call}
 use Rattle.cmc_objects.specs.declared.role.Role.{Role}
 use Rattle.cmc_objects.specs.declared.entry.Step.{Step}
 use Rattle.cmc_objects.specs.declared.entry.Step.TheVariants as steps
@@ -11,9 +12,9 @@ use Rattle.cmc_objects.specs.declared.entry.Entry.{Entry}
 use Rattle.cmc_objects.specs.declared.entry.Entry.TheVariants.{Script, Call as Called, Deliver, List as Listed, Stop, Start, Tick}
 use Rattle.cmc_rules.specs.declared.effect.Effect.{Effect}
 use Rattle.cmc_rules.specs.declared.effect.Effect.TheVariants as effects
-use Rattle.cmc_model.specs.Histories.{Setting, runs, role_eq}
+use Rattle.cmc_model.specs.Histories.{Setting, moment, objects, runs, role_eq}
 use Rattle.cmc_rules.specs.Scripting.{scripted, step_at}
-use Rattle.cmc_rules.specs.Following.{call_of, effect_of, owed, IsNextStep, Follows}
+use Rattle.cmc_rules.specs.Following.{call_of, call_or, effect_of, owed, IsNextStep, Follows}
 use Rattle.cmc_setup.specs.Setups.{Setup, is_among, without_role, IsOrderlyFrom}
 use Rattle.cmc_setup.proofs.Orderly.{among_after}
 use Rattle.cmc_world.specs.Kept.{setting_of}
@@ -55,6 +56,12 @@ done running owes effect left is o = record {
 
 -- ---- a step
 
+-- a call changes nothing of it
+after_call : (running : Role → Bool) (call : Option Call) (roles : List Role) (left : List Step) → ((r : Role) → is_among roles r ≡ running r)
+    → IsOrderlyFrom roles left → IsOrderlyAfter running (call_or call None) left
+after_call running None roles left same ahead = record { roles = roles; same = same; stopped = tt; ahead = ahead }
+after_call running (Some call) roles left same ahead = record { roles = roles; same = same; stopped = tt; ahead = ahead }
+
 next_step : (s : Setting) (h : List Entry) (step : Step) (roles : List Role) (left : List Step) → ((r : Role) → is_among roles r ≡ runs s h r)
     → IsOrderlyFrom roles (step ∷ left) → IsOrderlyAfter (runs s h) (effect_of s h step) left
 unfolding call_of
@@ -70,7 +77,21 @@ next_step s h (steps.Start role behind) roles left same ahead = record {
   stopped = sym (same role) ∙ ahead.0;
   ahead = ahead.1;
 }
-next_step s h other roles left same ahead = record { roles = roles; same = same; stopped = tt; ahead = ahead.1 }
+next_step s h (steps.Apply object version) roles left same ahead = record { roles = roles; same = same; stopped = tt; ahead = ahead.1 }
+next_step s h (steps.Delete key version) roles left same ahead = record { roles = roles; same = same; stopped = tt; ahead = ahead.1 }
+next_step s h (steps.Tick seconds) roles left same ahead = record { roles = roles; same = same; stopped = tt; ahead = ahead.1 }
+next_step s h (steps.Hold role kind) roles left same ahead = record { roles = roles; same = same; stopped = tt; ahead = ahead.1 }
+next_step s h (steps.Release role kind) roles left same ahead = record { roles = roles; same = same; stopped = tt; ahead = ahead.1 }
+next_step s h (steps.Until role kind writes) roles left same ahead = record { roles = roles; same = same; stopped = tt; ahead = ahead.1 }
+next_step s h steps.Settle roles left same ahead = record { roles = roles; same = same; stopped = tt; ahead = ahead.1 }
+next_step s h (steps.Approve certificate revision) roles left same ahead =
+    after_call (runs s h) (call_of (moment s h) (objects s h) (steps.Approve certificate revision)) roles left same ahead.1
+next_step s h (steps.Deny certificate revision) roles left same ahead =
+    after_call (runs s h) (call_of (moment s h) (objects s h) (steps.Deny certificate revision)) roles left same ahead.1
+next_step s h (steps.Answer certificate revision row) roles left same ahead =
+    after_call (runs s h) (call_of (moment s h) (objects s h) (steps.Answer certificate revision row)) roles left same ahead.1
+next_step s h (steps.Renew certificate) roles left same ahead =
+    after_call (runs s h) (call_of (moment s h) (objects s h) (steps.Renew certificate)) roles left same ahead.1
 
 over_script : (s : Setting) (h : List Entry) (number : ℕ) → IsNextStep s h number → IsOrderlyAfter (runs s h) (owed s h) (drop (scripted h) s.script)
     → IsOrderlyAfter (runs s h) (option_and_then (effect_of s h) (step_at s.script number)) (drop (scripted h + 1) s.script)

@@ -9,17 +9,19 @@ use Rattle.cmc_objects.specs.declared.call.Call.{Call}
 use Rattle.cmc_objects.specs.declared.call.Call.TheVariants.{Create, Update, UpdateStatus, Delete, Get}
 use Rattle.cmc_objects.specs.declared.role.Role.{Role}
 use Rattle.cmc_objects.specs.declared.role.Role.TheVariants.{Trigger, KeyManager, RequestManager, Approver, Issuer, Issuing, Readiness}
-use Rattle.cmc_objects.specs.Objects.{key_of}
+use Rattle.cmc_objects.specs.Objects.{key_of, kind_of}
 use Rattle.cmc_pass.specs.declared.pass.Views.{Views}
 use Rattle.cmc_pass.specs.declared.pass.Desk.{Desk}
 use Rattle.cmc_pass.specs.declared.pass.Act.TheVariants.{Call as Calls}
 use Rattle.cmc_model.specs.Stored.{created}
+use Rattle.cmc_model.specs.Generated.{named}
 use Rattle.cmc_model.specs.Replies.{key_of_call}
 use Rattle.cmc_rules.specs.Positions.{has_informer, works_on_requests, looks_at_secret, looks_at_next, looks_at_requests}
 use Rattle.cmc_rules.specs.Acts.{act}
 use Rattle.cmc_rules.specs.Rights.{MayChange}
-use Rattle.cmc_rules.specs.Sighting.{IsPart, IsPartOf, IsSeen, ForSeen, OnSeen}
+use Rattle.cmc_rules.specs.Sighting.{IsPart, IsPartOf, IsSeen, ForNone, ForSeen, OnSeen}
 use Rattle.cmc_rules.specs.Sound.{IsOrdinary, IsWithin, shown}
+use Rattle.cmc_model.proofs.Settling.{kind_of-named}
 use Rattle.cmc_model.proofs.Stored.{key_of-created}
 use Rattle.cmc_world.proofs.Sounds.{each_sound}
 
@@ -106,11 +108,15 @@ told_under : (role : Role) (seen : Views) (under : Key) (named : ℕ) (leaves : 
     → ForSeen (IsOrdinary role) (shown role seen) under named leaves rule → has_informer role under.kind ≡ true
 told_under role seen under named leaves rule on = ap (λ (k : Key). has_informer role k.kind) (sym on.key) ∙ told_seen role seen on.old on.sees
 
-told_call : (role : Role) (seen : Views) (call : Call) → OnSeen (IsOrdinary role) (shown role seen) call → has_informer role (key_of_call call).kind ≡ true
-unfolding OnSeen
-told_call role seen (Create object) on =
+told_create : (role : Role) (object : Object) → ForNone (IsOrdinary role) object → has_informer role (kind_of object) ≡ true
+told_create role object on =
     let made = told_made role (created 0 (pos 0) object) (on.makes 0 (pos 0)).rights in
     ap (λ (k : Key). has_informer role k.kind) (sym (key_of-created 0 (pos 0) object)) ∙ made
+
+told_call : (role : Role) (seen : Views) (call : Call) → OnSeen (IsOrdinary role) (shown role seen) call → has_informer role (key_of_call call).kind ≡ true
+unfolding OnSeen
+told_call role seen (Create object false) on = told_create role object on
+told_call role seen (Create object true) on = ap (has_informer role) (sym (kind_of-named [] object)) ∙ told_create role (named [] object) (on [])
 told_call role seen (Update object named) on = told_under role seen (key_of object) named _ _ on
 told_call role seen (UpdateStatus object named) on = told_under role seen (key_of object) named _ _ on
 told_call role seen (Delete key None) on = absurd on

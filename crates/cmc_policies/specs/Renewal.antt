@@ -3,6 +3,12 @@ use Rattle.std.specs.Prelude.{ℕ, ◌+◌, ◌-◌, ◌*◌, ◌/◌, ◌^◌, 
 use Rattle.cmc_policies.specs.declared.renewal.Renew.{Renew}
 use Rattle.cmc_policies.specs.declared.renewal.Renew.TheVariants.{Default, Before, Percent}
 
+-- how a specification has its certificate renewed: by a percentage, by a duration, or as it says nothing
+abbrev pub renew_by : Option ℕ → Option ℕ → Renew
+renew_by (Some part) before = Percent part
+renew_by None (Some seconds) = Before seconds
+renew_by None None = Default
+
 -- from 1950-01-01T00:00:00Z to 9999-12-31T23:59:59Z
 abbrev pub IsCertificateTime : ℤ → Type 0
 IsCertificateTime at = (neg_ℤ (pos 631_152_000) ≤ℤ at) × (at ≤ℤ pos 253_402_300_799)

@@ -14,6 +14,20 @@ pub enum Renew {
     Percent(u32),
 }
 
+impl Renew {
+    /// How a specification has its certificate renewed: by `renewBeforePercentage`, where that is given, else by
+    /// `renewBefore` in seconds, else as it says nothing.
+    pub fn by(percent: Option<u32>, before: Option<u64>) -> Renew
+        ensures { result ≡ spec.renew_by percent before }
+    {
+        match (percent, before) {
+            (Some(part), _) => Renew::Percent(part),
+            (None, Some(seconds)) => Renew::Before(seconds),
+            (None, None) => Renew::Default,
+        }
+    }
+}
+
 // The seconds before the end of a lifetime at which the renewal begins.
 fn lead(lifetime: u64, renew: Renew) -> u64
     requires { lifetime < 2 ^ 40 }

@@ -1,5 +1,5 @@
 -- The entries of a history and the summary as JSON trees.
-use Rattle.std.specs.Prelude.{ℕ, ℤ, List, ◌++◌, map, codes, Some, None}
+use Rattle.std.specs.Prelude.{ℕ, ℤ, true, false, List, ◌++◌, map, codes, Some, None}
 use Rattle.serde_json.specs.Data.{Data, boolean, string, array, object, Members, no_members, put}
 use Rattle.serde_json.specs.View.{items_of}
 use Rattle.cmc_meta.specs.declared.key.Key.{Key}
@@ -25,12 +25,11 @@ use Rattle.cmc_objects.specs.declared.orders.Signing.TheVariants as answers
 use Rattle.cmc_objects.specs.Requests.{Signs}
 use Rattle.cmc_meta.specs.declared.key.Kind.{Kind}
 use Rattle.cmc_meta.specs.declared.object_meta.ObjectMeta.{ObjectMeta}
-use Rattle.cmc_objects.specs.Objects.{version_of}
+use Rattle.cmc_objects.specs.Objects.{key_of, name_of, version_of}
 use Rattle.cmc_model.specs.declared.summary.Summary.{Summary}
 use Rattle.cmc_model.specs.declared.summary.Waiting.{Waiting}
 use Rattle.cmc_model.specs.declared.summary.WaitName.{WaitName}
 use Rattle.cmc_model.specs.declared.summary.WaitName.TheVariants.{Stopped}
-use Rattle.cmc_model.specs.Replies.{key_of_call}
 use Rattle.cmc_codec.specs.Trees.{natural}
 use Rattle.cmc_codec.specs.Puts.{put_list, base64_text}
 use Rattle.cmc_codec.specs.Words.{kind_name, role_name}
@@ -52,7 +51,7 @@ lone name n = object (put name (natural n) no_members)
 
 -- A create is answered with the name that the object has.
 abbrev pub ok_members : Call → ℕ → List ℕ → Members
-ok_members (Create o) version name = put (codes "name") (string name) (put (codes "ok") (natural version) no_members)
+ok_members (Create o generate) version name = put (codes "name") (string name) (put (codes "ok") (natural version) no_members)
 ok_members (Update o v) version name = put (codes "ok") (natural version) no_members
 ok_members (UpdateStatus o v) version name = put (codes "ok") (natural version) no_members
 ok_members (Delete k v) version name = put (codes "ok") (natural version) no_members
@@ -78,15 +77,25 @@ who_tree User = string (codes "user")
 who_tree (Pass n) = natural n
 
 abbrev pub call_name : Call → List ℕ
-call_name (Create o) = codes "create"
+call_name (Create o false) = codes "create"
+call_name (Create o true) = codes "generate"
 call_name (Update o v) = codes "update"
 call_name (UpdateStatus o v) = codes "updateStatus"
 call_name (Delete k v) = codes "delete"
 call_name (Get k) = codes "get"
 
+-- The key of the call's object; where its name is to be generated, the prefix alone.
+abbrev pub call_key : Call → List ℕ
+call_key (Create o false) = key_text (key_of o)
+call_key (Create o true) = name_of o ++ codes "-"
+call_key (Update o v) = key_text (key_of o)
+call_key (UpdateStatus o v) = key_text (key_of o)
+call_key (Delete k v) = key_text k
+call_key (Get k) = key_text k
+
 -- The object that is written.
 abbrev pub put_written : Call → Members → Members
-put_written (Create o) ms = put (codes "object") (object_tree o) ms
+put_written (Create o generate) ms = put (codes "object") (object_tree o) ms
 put_written (Update o v) ms = put (codes "object") (object_tree o) ms
 put_written (UpdateStatus o v) ms = put (codes "object") (object_tree o) ms
 put_written (Delete k v) ms = ms
@@ -94,7 +103,7 @@ put_written (Get k) ms = ms
 
 -- The version that the call names.
 abbrev pub put_version : Call → Members → Members
-put_version (Create o) ms = ms
+put_version (Create o generate) ms = ms
 put_version (Update o v) ms = put (codes "version") (natural v) ms
 put_version (UpdateStatus o v) ms = put (codes "version") (natural v) ms
 put_version (Delete k None) ms = ms
@@ -110,7 +119,7 @@ put_call who call reply ms =
     (put_version call
     (put (codes "reply") (reply_tree call reply)
     (put_written call
-    (put (codes "key") (string (key_text (key_of_call call)))
+    (put (codes "key") (string (call_key call))
     (put (codes "call") (string (call_name call))
     (put (codes "is") (string (codes "call")) ms))))))
 

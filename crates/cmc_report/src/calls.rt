@@ -1,10 +1,10 @@
 // Calls and replies as JSON.
-ghost use Rattle.std.specs.Prelude.{◌≡◌, codes, IfOk, OnOk, string_bytes};
+ghost use Rattle.std.specs.Prelude.{◌≡◌, ◌++◌, codes, IfOk, OnOk, string_bytes};
 ghost use Rattle.serde_json.specs.Data.{object, put};
-ghost use Rattle.cmc_objects.specs.Objects.{key_of};
+ghost use Rattle.cmc_objects.specs.Objects.{key_of, name_of};
 ghost use Rattle.cmc_codec.specs.Printed.{object_tree};
-ghost use Rattle.cmc_model.specs.Replies.{key_of_call};
 ghost use Rattle.cmc_codec.specs.Trees.{data_of, members_of};
+ghost use Rattle.cmc_report.specs.Trees as spec;
 ghost use Rattle.cmc_report.specs.Trees.{name_text, key_text, lone, ok_members, conflict_tree, reply_tree, who_tree, call_name, put_written, put_version, put_call};
 
 use cmc_codec::{Members, Tree, kind_word, put_count, put_text, tree_of};
@@ -91,7 +91,14 @@ fn verb(call: &Call) -> &'static str
     ensures { result.now ≡ call_name call.now }
 {
     match call {
-        Call::Create { .. } => "create",
+        Call::Create {
+            object: _,
+            generate: false,
+        } => "create",
+        Call::Create {
+            object: _,
+            generate: true,
+        } => "generate",
         Call::Update { .. } => "update",
         Call::UpdateStatus { .. } => "updateStatus",
         Call::Delete { .. } => "delete",
@@ -106,11 +113,26 @@ fn object_key(alloc: Global, object: &Object) -> Result<String, AllocError>
     key_word(alloc, &key)
 }
 
+fn prefix_word(alloc: Global, object: &Object) -> Result<String, AllocError>
+    ensures { IfOk result (λ s. string_bytes s ≡ name_of object.now ++ codes "-") }
+{
+    let mut word = String::from_str(alloc, object.meta().name.as_str())?;
+    word.push_str("-")?;
+    Ok(word)
+}
+
 fn call_key(alloc: Global, call: &Call) -> Result<String, AllocError>
-    ensures { IfOk result (λ s. string_bytes s ≡ key_text (key_of_call call.now)) }
+    ensures { IfOk result (λ s. string_bytes s ≡ spec.call_key call.now) }
 {
     match call {
-        Call::Create { object } => object_key(alloc, object),
+        Call::Create {
+            object,
+            generate: false,
+        } => object_key(alloc, object),
+        Call::Create {
+            object,
+            generate: true,
+        } => prefix_word(alloc, object),
         Call::Update { object, .. } => object_key(alloc, object),
         Call::UpdateStatus { object, .. } => object_key(alloc, object),
         Call::Delete { key, .. } => key_word(alloc, key),
@@ -129,7 +151,10 @@ fn add_written(members: &mut Members, alloc: Global, call: &Call) -> Result<(), 
     ensures { OnOk result (members_of members.new ≡ put_written call.now (members_of members.old)) }
 {
     match call {
-        Call::Create { object } => add_object(members, alloc, object),
+        Call::Create {
+            object,
+            generate: _,
+        } => add_object(members, alloc, object),
         Call::Update { object, .. } => add_object(members, alloc, object),
         Call::UpdateStatus { object, .. } => add_object(members, alloc, object),
         Call::Delete { .. } | Call::Get { .. } => Ok(()),

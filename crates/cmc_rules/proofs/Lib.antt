@@ -7,3 +7,4 @@ pub mod Lines
 pub mod Conditions
 pub mod Carrying
 pub mod Sighted
+pub mod Answered

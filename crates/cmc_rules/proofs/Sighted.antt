@@ -6,7 +6,6 @@ use Rattle.std.specs.FinMap as map
 use Rattle.std.specs.FinMap.{get-entries}
 use Rattle.std.specs.FinMap.Entries.{find, is_sorted, below_all}
 use Rattle.std.specs.Ordering.{is_lt, is_eq, ordering_reverse, eq_by_cmp}
-use Rattle.std.proofs.lemmas.Bool.{and_parts}
 use Rattle.std.proofs.lemmas.Cmp.{eq_by_cmp_equiv}
 use Rattle.cmc_meta.specs.declared.key.Key.{Key}
 use Rattle.cmc_meta.specs.declared.key.Kind.TheVariants as kinds
@@ -20,14 +19,18 @@ use Rattle.cmc_objects.specs.declared.call.Call.{Call}
 use Rattle.cmc_objects.specs.declared.call.Call.TheVariants.{Create, Update, UpdateStatus, Delete, Get}
 use Rattle.cmc_objects.specs.declared.role.Role.{Role}
 use Rattle.cmc_objects.specs.declared.entry.Entry.{Entry}
-use Rattle.cmc_objects.specs.declared.entry.Entry.TheVariants.{Script, Call as Called, Begin, End, Stop}
+use Rattle.cmc_objects.specs.declared.entry.Entry.TheVariants.{Call as Called, Begin, End, Stop}
 use Rattle.cmc_objects.specs.Objects.{key_of, version_of}
 use Rattle.cmc_pass.specs.declared.pass.Views.{Views}
 use Rattle.cmc_model.specs.declared.write.Write.{Write}
 use Rattle.cmc_rules.specs.declared.progress.OpenPass.{OpenPass}
 use Rattle.cmc_model.specs.Objects.{Objects, object_at}
-use Rattle.cmc_model.specs.Stored.{created, revised, restated}
-use Rattle.cmc_model.specs.Replies.{is_accepted, key_of_call, stored}
+use Rattle.cmc_model.specs.Stored.{revised, restated}
+use Rattle.cmc_objects.specs.declared.call.Reply.{Reply}
+use Rattle.cmc_objects.specs.declared.call.Reply.TheVariants.{Ok, Unchanged, Found, Conflict, NotFound, AlreadyExists, Invalid, Unavailable}
+use Rattle.cmc_model.specs.Generated.{named}
+use Rattle.cmc_model.specs.Replies.{is_accepted, key_of_call, under_reply, settled, stored}
+use Rattle.cmc_model.proofs.Writing.{IsCallOf}
 use Rattle.cmc_model.specs.Accepting.{IsFounded}
 use Rattle.cmc_model.specs.Histories.{Setting, moment, state, objects, accepted}
 use Rattle.cmc_model.specs.Writes.{writes, write_of}
@@ -36,7 +39,7 @@ use Rattle.cmc_rules.specs.Viewing.{Caches, caches, certificate_in, request_in, 
 use Rattle.cmc_rules.specs.Passes.{open_pass, called, new_pass, stage_after}
 use Rattle.cmc_rules.specs.Legality.{IsLegal}
 use Rattle.cmc_model.specs.Versions.{IsVersion, HasVersion}
-use Rattle.cmc_rules.specs.Sighting.{IsAmong, IsPart, IsPartOf, IsSeen, OnSeen}
+use Rattle.cmc_rules.specs.Sighting.{IsAmong, IsPart, IsPartOf, IsSeen, ForNone, OnSeen}
 use Rattle.cmc_model.proofs.Keys.{key_cmp-total}
 use Rattle.cmc_model.proofs.Versions.{IsLawful, lawful_object, versions_low}
 use Rattle.cmc_rules.proofs.Versions.{lawful, stands_is_version}
@@ -244,7 +247,7 @@ saw_more b w ws (Some p) known = known_more b w ws p.seen known
 pub saw_known : (s : Setting) (h : List Entry) (n : ℕ) → IfSome (open_pass s h n) (SawKnown (writes s h))
 saw_known s [] n = tt
 saw_known s (Called who call reply ∷ h) n =
-    saw_more (is_accepted reply) (write_of (moment s h) (state s h) call) (writes s h) (called n who (stage_after s h call reply) (open_pass s h n))
+    saw_more (is_accepted reply) (write_of (moment s h) (state s h) (settled call reply)) (writes s h) (called n who (stage_after s h call reply) (open_pass s h n))
     (over_call (SawKnown (writes s h)) n who (stage_after s h call reply) (open_pass s h n) (λ p known. known) (saw_known s h n))
 saw_known s (Begin pass role key at now ∷ h) n =
     over_begin (SawKnown (writes s h)) (n == pass) (new_pass role key (views s h role key) now) (open_pass s h n) (views_known s h role key) (saw_known s h n)
@@ -261,23 +264,30 @@ stands_as_seen s h seen key named old stood legal known is version there same =
     let stored = known old is in
     version_has_one_object s h stored.0 key old stood legal stored.1 (stands_is_version s h key stood there) (version ∙ sym same)
 
--- the call, accepted now, is so by what stood under its key
-abbrev pub IsCallOf : (Option Object → Option Object → Type 0) → Setting → List Entry → Call → Type 0
-IsCallOf P s h call = P (object_at (objects s h) (key_of_call call)) (stored (accepted s h + 1) (moment s h) (objects s h) call)
+under_any : (P : Option Object → Option Object → Type 0) (object : Object) (reply : Reply) → is_accepted reply ≡ true → ((name : List ℕ) → ForNone P (named name object)) → ForNone P (under_reply object reply)
+under_any P object (Ok version name) ok on = on name
+under_any P object (Unchanged version) ok on = absurd (cc ok)
+under_any P object (Found other) ok on = absurd (cc ok)
+under_any P object (Conflict named have) ok on = absurd (cc ok)
+under_any P object (NotFound at) ok on = absurd (cc ok)
+under_any P object (AlreadyExists have) ok on = absurd (cc ok)
+under_any P object (Invalid rule) ok on = absurd (cc ok)
+under_any P object (Unavailable number) ok on = absurd (cc ok)
 
 -- one lemma for the writes of all roles: what P holds of what was seen and what the call leaves, it holds of what stands and what is stored
-pub as_seen : (P : Option Object → Option Object → Type 0) (s : Setting) (h : List Entry) (seen : Views) (call : Call) → IsLegal s h → AreKnown (writes s h) seen
-    → IsFounded (objects s h) call → OnSeen P seen call → IsCallOf P s h call
-unfolding OnSeen IsFounded
-as_seen P s h seen (Create object) legal known is on = rw is.0 (on.makes (accepted s h + 1) (moment s h))
-as_seen P s h seen (Update object named) legal known is on =
+pub as_seen : (P : Option Object → Option Object → Type 0) (s : Setting) (h : List Entry) (seen : Views) (call : Call) (reply : Reply) → IsLegal s h → AreKnown (writes s h) seen
+    → is_accepted reply ≡ true → IsFounded (objects s h) (settled call reply) → OnSeen P seen call → IsCallOf P s h (settled call reply)
+unfolding OnSeen IsFounded settled
+as_seen P s h seen (Create object false) reply legal known ok is on = rw is.0 (on.makes (accepted s h + 1) (moment s h))
+as_seen P s h seen (Create object true) reply legal known ok is on = rw is.0 ((under_any P object reply ok on).makes (accepted s h + 1) (moment s h))
+as_seen P s h seen (Update object named) reply legal known ok is on =
     let same = stands_as_seen s h seen (key_of object) named on.old is.0 legal known on.sees on.version is.1 is.2.version in
     rw is.1 (subst (λ (o : Object). P (Some o) (Some (revised (accepted s h + 1) o object))) same (on.changes (accepted s h + 1)))
-as_seen P s h seen (UpdateStatus object named) legal known is on =
+as_seen P s h seen (UpdateStatus object named) reply legal known ok is on =
     let same = stands_as_seen s h seen (key_of object) named on.old is.0 legal known on.sees on.version is.1 is.2.version in
     rw is.1 (subst (λ (o : Object). P (Some o) (Some (restated (accepted s h + 1) o object))) same (on.changes (accepted s h + 1)))
-as_seen P s h seen (Delete key None) legal known is on = absurd on
-as_seen P s h seen (Delete key (Some named)) legal known is on =
+as_seen P s h seen (Delete key None) reply legal known ok is on = absurd on
+as_seen P s h seen (Delete key (Some named)) reply legal known ok is on =
     let same = stands_as_seen s h seen key named on.old is.0 legal known on.sees on.version is.1 is.2 in
     rw is.1 (subst (λ (o : Object). P (Some o) None) same (on.changes (accepted s h + 1)))
-as_seen P s h seen (Get key) legal known is on = absurd on
+as_seen P s h seen (Get key) reply legal known ok is on = absurd on

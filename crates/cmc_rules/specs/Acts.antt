@@ -7,8 +7,10 @@ use Rattle.cmc_pass.specs.declared.pass.Desk.{Desk}
 use Rattle.cmc_pass.specs.declared.pass.Act.{Act}
 use Rattle.cmc_pass.specs.declared.pass.Act.TheVariants.{Nothing}
 use Rattle.cmc_rules.specs.Triggering.{trigger}
+use Rattle.cmc_rules.specs.Readying.{readiness}
+use Rattle.cmc_rules.specs.Revising.{revise}
 
--- the act of the role on these views at this moment; the roles but the trigger do nothing yet
+-- the act of the role on these views at this moment; trigger, readiness and revision run, the others do nothing yet
 unfoldable pub act : Role → Views → ℤ → Desk → Act
 act Trigger views moment desk = trigger views moment
 act KeyManager views moment desk = Nothing
@@ -16,5 +18,5 @@ act RequestManager views moment desk = Nothing
 act Approver views moment desk = Nothing
 act Issuer views moment desk = Nothing
 act Issuing views moment desk = Nothing
-act Readiness views moment desk = Nothing
-act Revision views moment desk = Nothing
+act Readiness views moment desk = readiness views moment
+act Revision views moment desk = revise views

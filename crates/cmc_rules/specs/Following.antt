@@ -21,29 +21,30 @@ use Rattle.cmc_model.specs.Histories.{Setting, moment, objects, accepted, role_e
 use Rattle.cmc_model.specs.Writes.{kind_eq}
 use Rattle.cmc_rules.specs.Passes.{open_pass}
 use Rattle.cmc_rules.specs.Scripting.{scripted, step_at, held}
+use Rattle.cmc_rules.specs.UserWrites.{approval, denial, reply_of_issuer, renewal_of}
 use Rattle.cmc_rules.specs.Resting.{IsAtRest}
 
 -- an apply creates where the key is free; else, and wherever a version is named, it updates
 abbrev pub apply_call : Object → Option ℕ → Option Object → Call
 apply_call object (Some version) old = Update object version
-apply_call object None None = Create object
+apply_call object None None = Create object false
 apply_call object None (Some old) = Update object (version_of old)
 
--- The user call that a step makes on these objects. No scenario that is read today has another step than these two.
-unfoldable pub call_of : Objects → Step → Option Call
-call_of objects (steps.Apply object version) = Some (apply_call object version (object_at objects (key_of object)))
-call_of objects (steps.Delete key version) = Some (Delete key version)
-call_of objects (steps.Approve certificate revision) = None
-call_of objects (steps.Deny certificate revision) = None
-call_of objects (steps.Answer certificate revision row) = None
-call_of objects (steps.Renew certificate) = None
-call_of objects (steps.Tick seconds) = None
-call_of objects (steps.Stop role) = None
-call_of objects (steps.Start role behind) = None
-call_of objects (steps.Hold role kind) = None
-call_of objects (steps.Release role kind) = None
-call_of objects (steps.Until role kind writes) = None
-call_of objects steps.Settle = None
+-- The user call that a step makes at this moment on these objects.
+unfoldable pub call_of : ℤ → Objects → Step → Option Call
+call_of moment objects (steps.Apply object version) = Some (apply_call object version (object_at objects (key_of object)))
+call_of moment objects (steps.Delete key version) = Some (Delete key version)
+call_of moment objects (steps.Approve certificate revision) = approval moment objects certificate revision
+call_of moment objects (steps.Deny certificate revision) = denial moment objects certificate revision
+call_of moment objects (steps.Answer certificate revision row) = reply_of_issuer moment objects certificate revision row
+call_of moment objects (steps.Renew certificate) = renewal_of moment (object_at objects certificate)
+call_of moment objects (steps.Tick seconds) = None
+call_of moment objects (steps.Stop role) = None
+call_of moment objects (steps.Start role behind) = None
+call_of moment objects (steps.Hold role kind) = None
+call_of moment objects (steps.Release role kind) = None
+call_of moment objects (steps.Until role kind writes) = None
+call_of moment objects steps.Settle = None
 
 -- What a step that makes no call has happen, after so many accepted writes and at this moment. A start tells the role of
 -- all but the last so many of the writes.
@@ -69,7 +70,7 @@ call_or None other = other
 
 -- what a step has happen directly after it, where these objects stand
 abbrev pub effect_on : Objects → ℕ → ℤ → Step → Option Effect
-effect_on objects accepted moment step = call_or (call_of objects step) (effect_besides accepted moment step)
+effect_on objects accepted moment step = call_or (call_of moment objects step) (effect_besides accepted moment step)
 
 abbrev pub effect_of : Setting → List Entry → Step → Option Effect
 effect_of s h step = effect_on (objects s h) (accepted s h) (moment s h) step

@@ -9,11 +9,15 @@ pub mod Legality
 pub mod Causes
 pub mod Scripting
 pub mod Resting
+pub mod Answering
+pub mod UserWrites
 pub mod Following
 pub mod Runs
 pub mod Chains
 pub mod Dates
 pub mod Triggering
+pub mod Readying
+pub mod Revising
 pub mod Acts
 pub mod Rights
 pub mod Sighting

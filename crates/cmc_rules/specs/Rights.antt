@@ -18,7 +18,7 @@ use Rattle.cmc_objects.specs.declared.entry.Who.TheVariants.{User, Pass}
 use Rattle.cmc_objects.specs.declared.entry.Entry.{Entry}
 use Rattle.cmc_objects.specs.declared.entry.Entry.TheVariants.{Script, Call as Called, Deliver, List as Listed, Begin, Ask, Made, Signed, Answered, Judged, End, Stop, Start, Tick}
 use Rattle.cmc_model.specs.Objects.{object_at}
-use Rattle.cmc_model.specs.Replies.{key_of_call, stored, is_accepted}
+use Rattle.cmc_model.specs.Replies.{key_of_call, settled, stored, is_accepted}
 use Rattle.cmc_model.specs.Histories.{Setting, moment, objects, accepted}
 use Rattle.cmc_rules.specs.declared.progress.OpenPass.{OpenPass}
 use Rattle.cmc_rules.specs.Viewing.{has_next_label}
@@ -112,14 +112,14 @@ MayChange roles.Revision old new = Takes IsRequest old new
 
 -- ---- in a history
 
--- the call, accepted now, changes what stands under its key as the role of the pass may
+-- the call, accepted now under the name that it has, changes what stands under its key as the role of the pass may
 abbrev pub IsRightful : Setting → List Entry → Call → Option OpenPass → Type 0
 IsRightful s h call None = ⊥
 IsRightful s h call (Some p) = MayChange p.role (object_at (objects s h) (key_of_call call)) (stored (accepted s h + 1) (moment s h) (objects s h) call)
 
 abbrev pub IsRightfulCall : Setting → List Entry → Who → Call → Reply → Type 0
 IsRightfulCall s h User call reply = Unit {0}
-IsRightfulCall s h (Pass pass) call reply = MatchBool (is_accepted reply) (IsRightful s h call (open_pass s h pass)) (Unit {0})
+IsRightfulCall s h (Pass pass) call reply = MatchBool (is_accepted reply) (IsRightful s h (settled call reply) (open_pass s h pass)) (Unit {0})
 
 abbrev pub IsRightfulEntry : Setting → List Entry → Entry → Type 0
 IsRightfulEntry s h (Script step) = Unit {0}

@@ -9,6 +9,7 @@ use Rattle.cmc_objects.specs.Objects.{key_of, version_of}
 use Rattle.cmc_pass.specs.declared.pass.Views.{Views}
 use Rattle.cmc_model.specs.Stored.{created, revised, restated}
 use Rattle.cmc_model.specs.Admission.{refusing_rule}
+use Rattle.cmc_model.specs.Generated.{named}
 
 -- the item stands in the list
 abbrev pub IsAmong : {A : Type 0} → A → List A → Type 0
@@ -46,9 +47,11 @@ pub record ForNone (P : Option Object → Option Object → Type 0) (object : Ob
   pub makes : (next : ℕ) (now : ℤ) → P None (Some (created next now object))
   pub passes : (taken : Bool) → refusing_rule None object false taken ≡ None
 
--- P holds of what the call was made for and of what it leaves, and no rule refuses it where it finds what was seen
+-- P holds of what the call was made for and of what it leaves, and no rule refuses it where it finds what was seen; of a create
+-- with a generated name this is so whatever name it gets
 unfoldable pub OnSeen : (Option Object → Option Object → Type 0) → Views → Call → Type 0
-OnSeen P seen (Create object) = ForNone P object
+OnSeen P seen (Create object false) = ForNone P object
+OnSeen P seen (Create object true) = (name : List ℕ) → ForNone P (named name object)
 OnSeen P seen (Update object named) = ForSeen P seen (key_of object) named (λ next old. Some (revised next old object)) (λ old taken. refusing_rule (Some old) object false taken)
 OnSeen P seen (UpdateStatus object named) = ForSeen P seen (key_of object) named (λ next old. Some (restated next old object)) (λ old taken. refusing_rule (Some old) object true taken)
 OnSeen P seen (Delete key None) = ⊥

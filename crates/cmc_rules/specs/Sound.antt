@@ -67,6 +67,11 @@ abbrev pub IsTriggerMoment : Option Certificate → Option Secret → ℤ → Ty
 IsTriggerMoment None secret at = ⊥
 IsTriggerMoment (Some c) secret at = IsEndOfBackoff c.status.last_failure c.status at ⊎ IsRenewal (frame_of at c).renew (pair_at secret) at
 
+-- the certificate that the Secret's key and certificate are a pair with expires
+abbrev pub IsExpiry : Option CertificateFields → ℤ → Type 0
+IsExpiry None at = ⊥
+IsExpiry (Some fields) at = at ≡ fields.not_after
+
 abbrev pub IsDueMoment : Role → Views → ℤ → Type 0
 IsDueMoment roles.Trigger seen at = IsTriggerMoment seen.certificate seen.secret at
 IsDueMoment roles.KeyManager seen at = ⊥
@@ -74,7 +79,7 @@ IsDueMoment roles.RequestManager seen at = ⊥
 IsDueMoment roles.Approver seen at = ⊥
 IsDueMoment roles.Issuer seen at = ⊥
 IsDueMoment roles.Issuing seen at = ⊥
-IsDueMoment roles.Readiness seen at = ⊥
+IsDueMoment roles.Readiness seen at = IsExpiry (pair_at seen.secret) at
 IsDueMoment roles.Revision seen at = ⊥
 
 -- no moment after t and up to u is due

@@ -14,10 +14,8 @@ use Rattle.cmc_objects.specs.declared.call.Call.TheVariants.{UpdateStatus}
 use Rattle.cmc_objects.specs.Requests.{is_stated}
 use Rattle.cmc_policies.specs.declared.facts.Frame.{Frame}
 use Rattle.cmc_policies.specs.declared.facts.Reason.{Reason}
-use Rattle.cmc_policies.specs.declared.renewal.Renew.{Renew}
-use Rattle.cmc_policies.specs.declared.renewal.Renew.TheVariants.{Default, Before, Percent}
 use Rattle.cmc_policies.specs.Reasons.{reason_name}
-use Rattle.cmc_policies.specs.Renewal.{backoff}
+use Rattle.cmc_policies.specs.Renewal.{backoff, renew_by}
 use Rattle.cmc_pass.specs.declared.pass.Views.{Views}
 use Rattle.cmc_pass.specs.declared.pass.Act.{Act}
 use Rattle.cmc_pass.specs.declared.pass.Act.TheVariants.{Nothing, Call as Calls}
@@ -71,12 +69,6 @@ is_held_back moment requests certificate =
 abbrev pub for_reason : ℤ → List CertificateRequest → Certificate → Option Reason → Act
 for_reason moment requests certificate None = Nothing
 for_reason moment requests certificate (Some reason) = if is_held_back moment requests certificate then Nothing else issue_call moment reason certificate
-
--- when the specification has its certificate renewed: by a percentage, by a duration, or as it says nothing
-abbrev pub renew_by : Option ℕ → Option ℕ → Renew
-renew_by (Some part) before = Percent part
-renew_by None (Some seconds) = Before seconds
-renew_by None None = Default
 
 abbrev pub frame_of : ℤ → Certificate → Frame
 frame_of moment certificate = record { now = moment; renew = renew_by certificate.spec.renew_percent certificate.spec.renew_before }

@@ -3,7 +3,9 @@
 #![tactic(auto)]
 
 mod effect;
+mod laws;
 mod progress;
 
 pub use effect::Effect;
+pub use laws::verdicts_stay;
 pub use progress::{Ending, LastPass, Obstacle, OpenPass, Origin, Past, Stage};

@@ -1,26 +1,15 @@
--- What is true of each step that is read.
-use Rattle.std.proofs.Common.{◌≡◌, ℕ, zero, suc, ◌+◌, ◌<◌, ◌≤◌, List, [], ◌∷◌, length, Bool, true, false, Option, Some, None, Ok, Err, refl, subst, ap, arith}
-use Rattle.std.specs.Prelude.{All, IfOk, codes, decimal, nat_lt, if◌then◌else◌}
+-- What a reading gives, if it gives anything.
+use Rattle.std.proofs.Common.{◌≡◌, ℕ, ◌+◌, ◌<◌, ◌≤◌, List, [], ◌∷◌, length, Bool, true, false, Ok, Err, Option, Some, None, refl, ap, subst, arith}
+use Rattle.std.specs.Prelude.{if◌then◌else◌, decimal, IfOk, nat_lt, nat_le, ◌&&◌}
+use Rattle.std.specs.List.{list_all}
 use Rattle.std.specs.declared.result.Result.{Result}
-use Rattle.std.specs.Str.{bytes_eq}
 use Rattle.std.proofs.lemmas.Bool.Decides.{nat_tests}
 use Rattle.serde_json.specs.Data.{Data, null, boolean, number, string, array, object, Items, no_items, item}
-use Rattle.cmc_meta.specs.declared.key.Key.{Key}
-use Rattle.cmc_objects.specs.declared.object.Object.{Object}
-use Rattle.cmc_objects.specs.declared.entry.Step.{Step}
-use Rattle.cmc_objects.specs.declared.entry.Step.TheVariants.{Apply, Delete, Settle}
 use Rattle.cmc_cursor.specs.declared.error.BadField.{BadField}
 use Rattle.cmc_cursor.specs.declared.error.BadField.TheVariants.{Path, NoMemory}
-use Rattle.cmc_cursor.specs.Reading.{Read, Gives, ◌>>=◌, under, Field, fields_at, optional_at, required_at, at_end}
-use Rattle.cmc_cursor.specs.Readers.{word_at}
-use Rattle.cmc_scenario.specs.Certificates as certificates
-use Rattle.cmc_scenario.specs.Certificates.{spec_at}
-use Rattle.cmc_scenario.specs.Secrets as secrets
-use Rattle.cmc_scenario.specs.Secrets.{parts_of}
-use Rattle.cmc_scenario.specs.Metadata.{head_at}
-use Rattle.cmc_scenario.specs.Applied.{passes, kind_version_at, stranger_in, object_in, applied_at, text_member}
-use Rattle.cmc_scenario.specs.Keys.{key_at}
-use Rattle.cmc_scenario.specs.Scripts.{named_version_at, apply_in, delete_in, settle_in, stray_in, is_later_word, step_in, step_at, numbered_step_at, steps_from, steps_at, script_at}
+use Rattle.cmc_cursor.specs.Reading.{Read, Gives, ◌>>=◌, under}
+use Rattle.cmc_cursor.specs.Readers.{count_at}
+use Rattle.cmc_scenario.specs.Lists.{numbered_at, numbered_below, items_from, list_at, member_or, member_option, bounded_at}
 
 -- what a reading gives, if it gives anything, is so
 pub record Always {A : Type 0} (P : A → Type 0) (r : Read A) : Type 0 where
@@ -63,11 +52,8 @@ pub where_true : {A : Type 0} (P : A → Type 0) (b : Bool) (x : Read A) (path :
 where_true P true x path first = first refl
 where_true P false x path first = failed path
 
-also : {A : Type 0} (P : A → Type 0) (Fact : Type 0) (r : Read A) → Fact → Always P r → Always (λ x. Fact × P x) r
+pub also : {A : Type 0} (P : A → Type 0) (Fact : Type 0) (r : Read A) → Fact → Always P r → Always (λ x. Fact × P x) r
 also P Fact r fact always = record { each = λ x e. (fact, always.each x e) }
-
-is_below : (n : ℕ) → nat_lt n 10000 ≡ true → n < 10000
-is_below n e = grind (arith, nat_tests)
 
 -- what was read by a reading of which it is always so, is so
 pub is_given : {A : Type 0} (P : A → Type 0) (result : Result A BadField) (r : Read A) → Always P r → Gives (λ x. x) result r → IfOk result P
@@ -75,107 +61,86 @@ is_given P (Ok x) r always gives = always.each x gives
 is_given P (Err (Path path)) r always gives = tt
 is_given P (Err NoMemory) r always gives = tt
 
--- what is so of each step that applies or deletes, and of settling
-pub record IsOfRead (P : Step → Type 0) : Type 0 where
-  pub apply : (object : Object) (version : Option ℕ) → P (Apply object version)
-  pub delete : (key : Key) (version : Option ℕ) → P (Delete key version)
-  pub settle : P Settle
+-- both are so
+pub with_both : {A : Type 0} (P Q : A → Type 0) (r : Read A) → Always P r → Always Q r → Always (λ x. P x × Q x) r
+with_both P Q r first second = record { each = λ x e. (first.each x e, second.each x e) }
 
-of_certificate : (P : Step → Type 0) → IsOfRead P → (fs : List Field) → Always P (certificates.certificate_in fs)
-unfolding certificates.certificate_in certificates.apply_of
-of_certificate P facts fs = next P (required_at (codes "apiVersion") fs) _ (λ api. next P (under (codes "apiVersion") (word_at (codes "cert-manager.io/v1") api.0)) _ (λ first. next P (required_at (codes "kind") api.1) _ (λ kind. next P (required_at (codes "metadata") kind.1) _ (λ metadata. next P (under (codes "metadata") (head_at certificates.longest_name metadata.0)) _ (λ head. next P (required_at (codes "spec") metadata.1) _ (λ rest. next P (under (codes "spec") (spec_at head.name rest.0)) _ (λ spec. next P (at_end rest.1) _ (λ end. so (facts.apply _ _)))))))))
+-- what is so of each is also so in another way
+pub further : {A : Type 0} (P Q : A → Type 0) (r : Read A) → ((x : A) → P x → Q x) → Always P r → Always Q r
+further P Q r f first = record { each = λ x e. f x (first.each x e) }
 
-of_secret : (P : Step → Type 0) → IsOfRead P → (fs : List Field) → Always P (secrets.secret_in fs)
-unfolding secrets.secret_in
-of_secret P facts fs = next P (required_at (codes "apiVersion") fs) _ (λ api. next P (under (codes "apiVersion") (word_at (codes "v1") api.0)) _ (λ first. next P (optional_at (codes "data") api.1) _ (λ given. next P (parts_of given.0) _ (λ parts. next P (required_at (codes "kind") given.1) _ (λ kind. next P (required_at (codes "metadata") kind.1) _ (λ metadata. next P (under (codes "metadata") (head_at secrets.longest_name metadata.0)) _ (λ head. next P (at_end metadata.1) _ (λ end. so (facts.apply _ _)))))))))
+-- ---- members that may be left out
 
-of_stranger : (P : Step → Type 0) (kind : Option (List ℕ)) (fs : List Field) → Always P (stranger_in kind fs)
-unfolding stranger_in
-of_stranger P kind fs = next P (required_at (codes "apiVersion") fs) _ (λ api. next P (under (codes "apiVersion") (kind_version_at kind api.0)) _ (λ first. next P (optional_at (codes "data") api.1) _ (λ given. next P (passes (codes "data") given.0) _ (λ second. next P (required_at (codes "kind") given.1) _ (λ last. failed (codes "kind"))))))
+pub of_member_or : {A : Type 0} (P : A → Type 0) (default : A) (name : List ℕ) (read : Data → Read A) (given : Option Data) → P default → ((d : Data) → Always P (read d)) → Always P (member_or default name read given)
+of_member_or P default name read None usual each = so usual
+of_member_or P default name read (Some d) usual each = below P name (read d) (each d)
 
-of_object : (P : Step → Type 0) → IsOfRead P → (kind : Option (List ℕ)) (fs : List Field) → Always P (object_in kind fs)
-of_object P facts None fs = of_stranger P None fs
-of_object P facts (Some kind) fs =
-    either P (bytes_eq kind (codes "Certificate")) (certificates.certificate_in fs) (if bytes_eq kind (codes "Secret") then secrets.secret_in fs else stranger_in (Some kind) fs) (of_certificate P facts fs)
-    (either P (bytes_eq kind (codes "Secret")) (secrets.secret_in fs) (stranger_in (Some kind) fs) (of_secret P facts fs) (of_stranger P (Some kind) fs))
+pub of_member_option : {A : Type 0} (P : A → Type 0) (Q : Option A → Type 0) (name : List ℕ) (read : Data → Read A) (given : Option Data) → Q None → ((x : A) → P x → Q (Some x)) → ((d : Data) → Always P (read d))
+    → Always Q (member_option name read given)
+of_member_option P Q name read None none some each = so none
+of_member_option P Q name read (Some d) none some each = after P Q (under name (read d)) (λ x. Ok (Some x)) (below P name (read d) (each d)) (λ x is. so (some x is))
 
-of_applied : (P : Step → Type 0) → IsOfRead P → (d : Data) → Always P (applied_at d)
-unfolding applied_at
-of_applied P facts d = next P (fields_at d) (object_in (text_member (codes "kind") d)) (λ fs. of_object P facts (text_member (codes "kind") d) fs)
+pub of_bounded : (least most : ℕ) (d : Data) → Always (λ n. (nat_le least n && nat_le n most) ≡ true) (bounded_at least most d)
+of_bounded least most d =
+    next (λ n. (nat_le least n && nat_le n most) ≡ true) (count_at d) (λ n. if nat_le least n && nat_le n most then Ok n else Err [])
+    (λ n. where_true (λ m. (nat_le least m && nat_le m most) ≡ true) (nat_le least n && nat_le n most) (Ok n) [] (λ e. so e))
 
-of_apply : (P : Step → Type 0) → IsOfRead P → (fs : List Field) → Always P (apply_in fs)
-unfolding apply_in
-of_apply P facts fs = next P (required_at (codes "do") fs) _ (λ word. next P (required_at (codes "object") word.1) _ (λ given. after P P (under (codes "object") (applied_at given.0)) _ (below P (codes "object") (applied_at given.0) (of_applied P facts given.0)) (λ step is. next P (at_end given.1) _ (λ end. so is))))
+-- ---- lists
 
-of_delete : (P : Step → Type 0) → IsOfRead P → (fs : List Field) → Always P (delete_in fs)
-unfolding delete_in
-of_delete P facts fs = next P (required_at (codes "do") fs) _ (λ word. next P (required_at (codes "key") word.1) _ (λ given. next P (under (codes "key") (key_at given.0)) _ (λ key. next P (optional_at (codes "version") given.1) _ (λ version. next P (named_version_at version.0) _ (λ named. next P (at_end version.1) _ (λ end. so (facts.delete _ _)))))))
+pub both : (a b : Bool) → a ≡ true → b ≡ true → (a && b) ≡ true
+both true true first second = refl
+both true false first second = second
+both false b first second = first
 
-of_settle : (P : Step → Type 0) → IsOfRead P → (fs : List Field) → Always P (settle_in fs)
-unfolding settle_in
-of_settle P facts fs = next P (required_at (codes "do") fs) _ (λ word. next P (at_end word.1) _ (λ end. so facts.settle))
+pub of_numbered : {A : Type 0} (P : A → Type 0) (read : Data → Read A) → ((d : Data) → Always P (read d)) → (n : ℕ) (d : Data) → Always P (numbered_at read n d)
+unfolding numbered_at
+of_numbered P read each n d = below P (decimal n) (read d) (each d)
 
-of_stray : (P : Step → Type 0) (fs : List Field) → Always P (stray_in fs)
-unfolding stray_in
-of_stray P fs = next P (optional_at (codes "behind") fs) _ (λ behind. next P (passes (codes "behind") behind.0) _ (λ first. next P (optional_at (codes "certificate") behind.1) _ (λ certificate. next P (passes (codes "certificate") certificate.0) _ (λ second. next P (required_at (codes "do") certificate.1) _ (λ word. failed (codes "do"))))))
+pub of_numbered_below : {A : Type 0} (P : A → Type 0) (most : ℕ) (read : Data → Read A) → ((d : Data) → Always P (read d)) → (n : ℕ) (d : Data) → Always P (numbered_below most read n d)
+unfolding numbered_below
+of_numbered_below P most read each n d = where_true P (nat_lt n most) (under (decimal n) (read d)) (decimal n) (λ e. below P (decimal n) (read d) (each d))
 
--- what is so of applying, of deleting and of settling is so of each step that is read
-pub of_step : (P : Step → Type 0) → IsOfRead P → (word : Option (List ℕ)) (fs : List Field) → Always P (step_in word fs)
-of_step P facts None fs = of_stray P fs
-of_step P facts (Some word) fs =
-    let last : Always P (if is_later_word word then Err [] else stray_in fs) = either P (is_later_word word) (Err []) (stray_in fs) (failed []) (of_stray P fs) in
-    let third = either P (bytes_eq word (codes "settle")) (settle_in fs) (if is_later_word word then Err [] else stray_in fs) (of_settle P facts fs) last in
-    let rest = either P (bytes_eq word (codes "delete")) (delete_in fs) (if bytes_eq word (codes "settle") then settle_in fs else (if is_later_word word then Err [] else stray_in fs)) (of_delete P facts fs) third in
-    either P (bytes_eq word (codes "apply")) (apply_in fs) (if bytes_eq word (codes "delete") then delete_in fs else (if bytes_eq word (codes "settle") then settle_in fs else (if is_later_word word then Err [] else stray_in fs))) (of_apply P facts fs) rest
+pub of_items : {A : Type 0} (p : A → Bool) (read : ℕ → Data → Read A) → ((n : ℕ) (d : Data) → Always (λ x. p x ≡ true) (read n d)) → (n : ℕ) (ds : Items) → Always (λ xs. list_all p xs ≡ true) (items_from read n ds)
+of_items p read each n no_items = so refl
+of_items p read each n (item d ds) =
+    after (λ x. p x ≡ true) (λ xs. list_all p xs ≡ true) (read n d) (λ x. items_from read (n + 1) ds >>= (λ xs. Ok (x ∷ xs))) (each n d)
+    (λ x first. after (λ xs. list_all p xs ≡ true) (λ xs. list_all p xs ≡ true) (items_from read (n + 1) ds) (λ xs. Ok (x ∷ xs)) (of_items p read each (n + 1) ds) (λ xs rest. so (both (p x) (list_all p xs) first rest)))
 
-of_value : (P : Step → Type 0) → IsOfRead P → (d : Data) → Always P (step_at d)
-unfolding step_at
-of_value P facts d = next P (fields_at d) (step_in (text_member (codes "do") d)) (λ fs. of_step P facts (text_member (codes "do") d) fs)
+-- a list that is read item by item
+pub of_list : {A : Type 0} (p : A → Bool) (read : ℕ → Data → Read A) → ((n : ℕ) (d : Data) → Always (λ x. p x ≡ true) (read n d)) → (d : Data) → Always (λ xs. list_all p xs ≡ true) (list_at read d)
+of_list p read each (array ds) = of_items p read each 0 ds
+of_list p read each null = failed []
+of_list p read each (boolean b) = failed []
+of_list p read each (number n) = failed []
+of_list p read each (string s) = failed []
+of_list p read each (object ms) = failed []
 
--- a step is read at a place below 10,000 alone
-of_numbered : (P : Step → Type 0) → IsOfRead P → (n : ℕ) (d : Data) → Always (λ step. (n < 10000) × P step) (numbered_step_at n d)
-unfolding numbered_step_at
-of_numbered P facts n d =
-    where_true (λ step. (n < 10000) × P step) (nat_lt n 10000) (under (decimal n) (step_at d)) (decimal n)
-    (λ e. below (λ step. (n < 10000) × P step) (decimal n) (step_at d) (also P (n < 10000) (step_at d) (is_below n e) (of_value P facts d)))
+is_below : (n most : ℕ) → nat_lt n most ≡ true → n < most
+is_below n most e = grind (arith, nat_tests)
 
-more : (P : Step → Type 0) (step : Step) (rest : List Step) → P step → All P rest → All P (step ∷ rest)
-more P step rest first all zero d h = first
-more P step rest first all (suc k) d h = all k d (omega (arith, h))
+-- from place n on there are at most so many
+record IsShortFrom {A : Type 0} (most n : ℕ) (xs : List A) : Type 0 where
+  short : n ≤ most → n + length xs ≤ most
 
-nothing : (P : Step → Type 0) → All P []
-nothing P k d h = absurd (omega (arith, h))
+one_more : {A : Type 0} (most n : ℕ) (x : A) (xs : List A) → n < most → IsShortFrom most (n + 1) xs → IsShortFrom most n (x ∷ xs)
+one_more most n x xs room rest = record { short = λ h. omega (arith, rest.short (omega arith)) }
 
--- what is so of the steps from place n on
-record IsReadFrom (P : Step → Type 0) (n : ℕ) (steps : List Step) : Type 0 where
-  each : All P steps
-  short : n ≤ 10000 → n + length steps ≤ 10000
+of_short : {A : Type 0} (most : ℕ) (read : Data → Read A) (n : ℕ) (ds : Items) → Always (IsShortFrom most n) (items_from (numbered_below most read) n ds)
+unfolding numbered_below
+of_short most read n no_items = so (record { short = λ h. omega (arith, h) })
+of_short most read n (item d ds) =
+    after (λ x. n < most) (IsShortFrom most n) (numbered_below most read n d) (λ x. items_from (numbered_below most read) (n + 1) ds >>= (λ xs. Ok (x ∷ xs)))
+    (where_true (λ x. n < most) (nat_lt n most) (under (decimal n) (read d)) (decimal n) (λ e. record { each = λ x is. is_below n most e }))
+    (λ x room. after (IsShortFrom most (n + 1)) (IsShortFrom most n) (items_from (numbered_below most read) (n + 1) ds) (λ xs. Ok (x ∷ xs)) (of_short most read (n + 1) ds) (λ xs rest. so (one_more most n x xs room rest)))
 
-one_more : (P : Step → Type 0) (n : ℕ) (step : Step) (rest : List Step) → n < 10000 → P step → IsReadFrom P (n + 1) rest → IsReadFrom P n (step ∷ rest)
-one_more P n step rest room first all = record { each = more P step rest first all.each; short = λ h. omega (arith, all.short (omega arith)) }
+is_most : {A : Type 0} (most : ℕ) (xs : List A) → IsShortFrom most 0 xs → nat_le (length xs) most ≡ true
+is_most most xs is = let few : length xs ≤ most = omega (arith, is.short (omega arith)) in grind (arith, nat_tests)
 
-of_steps : (P : Step → Type 0) → IsOfRead P → (n : ℕ) (ds : Items) → Always (IsReadFrom P n) (steps_from n ds)
-of_steps P facts n no_items = so (record { each = nothing P; short = λ h. omega (arith, h) })
-of_steps P facts n (item d ds) =
-    after (λ step. (n < 10000) × P step) (IsReadFrom P n) (numbered_step_at n d) (λ s. steps_from (n + 1) ds >>= (λ ss. Ok (s ∷ ss))) (of_numbered P facts n d)
-    (λ s first. after (IsReadFrom P (n + 1)) (IsReadFrom P n) (steps_from (n + 1) ds) (λ ss. Ok (s ∷ ss)) (of_steps P facts (n + 1) ds) (λ ss all. so (one_more P n s ss first.0 first.1 all)))
-
-of_list : (P : Step → Type 0) → IsOfRead P → (d : Data) → Always (IsReadFrom P 0) (steps_at d)
-of_list P facts (array ds) = of_steps P facts 0 ds
-of_list P facts null = failed []
-of_list P facts (boolean b) = failed []
-of_list P facts (number n) = failed []
-of_list P facts (string s) = failed []
-of_list P facts (object ms) = failed []
-
--- a script that is read: what is so of applying, of deleting and of settling is so of each step, and there are at most 10,000
-pub record IsReadScript (P : Step → Type 0) (steps : List Step) : Type 0 where
-  pub each : All P steps
-  pub short : length steps ≤ 10000
-
-as_script : (P : Step → Type 0) (steps : List Step) → IsReadFrom P 0 steps → IsReadScript P steps
-as_script P steps is = record { each = is.each; short = omega (arith, is.short (omega arith)) }
-
-pub of_script : (P : Step → Type 0) → IsOfRead P → (d : Option Data) → Always (IsReadScript P) (script_at d)
-of_script P facts None = so (record { each = nothing P; short = omega arith })
-of_script P facts (Some d) = below (IsReadScript P) (codes "script") (steps_at d) (record { each = λ steps e. as_script P steps ((of_list P facts d).each steps e) })
+-- a list of at most so many
+pub of_short_list : {A : Type 0} (most : ℕ) (read : Data → Read A) (d : Data) → Always (λ xs. nat_le (length xs) most ≡ true) (list_at (numbered_below most read) d)
+of_short_list most read (array ds) = further (IsShortFrom most 0) (λ xs. nat_le (length xs) most ≡ true) (items_from (numbered_below most read) 0 ds) (λ xs is. is_most most xs is) (of_short most read 0 ds)
+of_short_list most read null = failed []
+of_short_list most read (boolean b) = failed []
+of_short_list most read (number n) = failed []
+of_short_list most read (string s) = failed []
+of_short_list most read (object ms) = failed []

@@ -1,3 +1,7 @@
 pub mod OneMore
 pub mod Always
-pub mod Plain
+pub mod RowForms
+pub mod PolicyForms
+pub mod StepForms
+pub mod SetupForms
+mod LoadLaws

@@ -1,7 +1,9 @@
-pub mod Metadata
-pub mod Certificates
-pub mod Secrets
 pub mod Applied
 pub mod Keys
+pub mod Lists
+pub mod Roles
+pub mod MaterialRows
+pub mod Approvers
 pub mod Scripts
 pub mod Scenarios
+pub mod Loads

@@ -1,80 +1,114 @@
 -- The form of a scenario.
-use Rattle.std.specs.Prelude.{◌≡◌, ℕ, pos, List, [], ◌∷◌, ◌+◌, decimal, codes, if◌then◌else◌, Ok, Err, Some, None}
-use Rattle.std.specs.declared.option.Option.{Option}
+use Rattle.std.specs.Prelude.{◌≡◌, ℕ, ℤ, pos, List, [], ◌∷◌, ◌+◌, ◌&&◌, int_le, nat_lt, decimal, codes, if◌then◌else◌, Ok, Err}
 use Rattle.std.specs.declared.result.Result.{Result}
-use Rattle.std.specs.Str.{bytes_eq}
 use Rattle.serde_json.specs.Data.{Data, null, boolean, number, string, array, object, Items, no_items, item}
+use Rattle.serde_json.specs.Find.{get}
+use Rattle.cmc_time.specs.Reading.{rfc3339_seconds}
 use Rattle.cmc_objects.specs.declared.entry.Step.{Step}
-use Rattle.cmc_objects.specs.declared.orders.Rules.{Rules}
-use Rattle.cmc_objects.specs.declared.role.Role.{Role}
-use Rattle.cmc_objects.specs.declared.role.Role.TheVariants.{Trigger}
-use Rattle.cmc_cursor.specs.Reading.{Read, Check, ◌>>=◌, under, fields_at, optional_at, at_end}
-use Rattle.cmc_cursor.specs.Readers.{text_at, floats_at}
-use Rattle.cmc_scenario.specs.Scripts.{script_at}
-use Rattle.cmc_setup.specs.Setups.{Setup, with_role}
+use Rattle.cmc_cursor.specs.Reading.{Read, ◌>>=◌, under, Field, fields_at, optional_at, at_end}
+use Rattle.cmc_cursor.specs.Readers.{found, text_at, count_at, floats_at}
+use Rattle.cmc_setup.specs.Setups.{Setup, first_moment, last_moment}
+use Rattle.cmc_setup.specs.Stages.{first_stage}
 use Rattle.cmc_setup.specs.declared.scenario.Scenario.{Scenario}
+use Rattle.cmc_scenario.specs.Approvers.{approver_at, plain_approver}
+use Rattle.cmc_scenario.specs.Lists.{member_or, bounded_at}
+use Rattle.cmc_scenario.specs.MaterialRows.{material_at}
+use Rattle.cmc_scenario.specs.Roles.{roles_at, with_roles}
+use Rattle.cmc_scenario.specs.Scripts.{script_at}
+use Rattle.cmc_scenario.specs.declared.members.World.{World}
+use Rattle.cmc_scenario.specs.declared.members.Beginning.{Beginning}
 use Rattle.cmc_scenario.specs.declared.reading.BadScenario.{BadScenario}
 use Rattle.cmc_scenario.specs.declared.reading.BadScenario.TheVariants as bad
 
--- The role of that name. The names of roles that are not built yet are not known.
-abbrev pub role_in : List ℕ → Read Role
-role_in t = if bytes_eq t (codes "trigger") then Ok Trigger else Err []
+-- A size is 1 to 250,000.
+abbrev pub size_at : Data → Read ℕ
+size_at d = bounded_at 1 250000 d
 
-abbrev pub role_at : Data → Read Role
-role_at d = text_at d >>= role_in
+-- A number above the one before it.
+abbrev pub rising_at : ℕ → Data → Read ℕ
+rising_at last d = count_at d >>= (λ k. if nat_lt last k then Ok k else Err [])
 
--- The roles, and those of a list whose places count from n. One that is named again counts once.
-abbrev pub roles_with : ℕ → List Role → Items → Read (List Role)
-roles_with n roles no_items = Ok roles
-roles_with n roles (item d ds) = under (decimal n) (role_at d) >>= (λ role. roles_with (n + 1) (with_role roles role) ds)
+-- The numbers of a list whose places count from n, each above all before it.
+abbrev pub rising_from : ℕ → ℕ → Items → Read (List ℕ)
+rising_from n last no_items = Ok []
+rising_from n last (item d ds) = under (decimal n) (rising_at last d) >>= (λ k. rising_from (n + 1) k ds >>= (λ ks. Ok (k ∷ ks)))
 
-abbrev pub named_roles_at : Data → Read (List Role)
-named_roles_at (array ds) = roles_with 0 [] ds
-named_roles_at null = Err []
-named_roles_at (boolean b) = Err []
-named_roles_at (number n) = Err []
-named_roles_at (string s) = Err []
-named_roles_at (object ms) = Err []
+-- The numbers of the store calls that fail, from 1.
+abbrev pub faults_at : Data → Read (List ℕ)
+faults_at (array ds) = rising_from 0 0 ds
+faults_at null = Err []
+faults_at (boolean b) = Err []
+faults_at (number n) = Err []
+faults_at (string s) = Err []
+faults_at (object ms) = Err []
 
--- The roles that run from the beginning on.
-abbrev pub roles_at : Option Data → Read (List Role)
-roles_at None = Ok []
-roles_at (Some d) = under (codes "roles") (named_roles_at d)
+-- A moment where runs lie.
+abbrev pub in_run : ℤ → Read ℤ
+in_run at = if int_le first_moment at && int_le at last_moment then Ok at else Err []
 
--- The roles have to stand. Where they do not, they fail only after all else has passed.
-abbrev pub with_roles : Option Data → Check
-with_roles None = Err (codes "roles")
-with_roles (Some d) = Ok tt
+abbrev pub moment_in : List ℕ → Read ℤ
+moment_in t = found (rfc3339_seconds t) >>= in_run
 
--- An approver that judges the requests of all issuers and refuses none.
-abbrev pub plain_approver_rules : Rules
-plain_approver_rules = record { issuers = codes "*" ∷ []; refuse = []; policies = [] }
+abbrev pub moment_at : Data → Read ℤ
+moment_at d = text_at d >>= moment_in
 
--- What a scenario that gives its roles and its script alone stands for: a run from 2030-01-01T00:00:00Z on, in which no call is
--- made to fail.
-abbrev pub plain_setup : List Role → List Step → Setup
-plain_setup roles script = record {
-  events = 100000;
-  window = 1000;
-  moment = pos 1893456000;
-  roles = roles;
-  faults = [];
-  approver = plain_approver_rules;
-  material = [];
+-- The members up to the material.
+unfoldable pub world_in : List Field → Read (World × List Field)
+world_in fs = do
+  first ← optional_at (codes "approver") fs
+  approver ← member_or plain_approver (codes "approver") approver_at first.0
+  second ← optional_at (codes "events") first.1
+  events ← member_or 100000 (codes "events") size_at second.0
+  third ← optional_at (codes "faults") second.1
+  faults ← member_or [] (codes "faults") faults_at third.0
+  fourth ← optional_at (codes "material") third.1
+  material ← member_or [] (codes "material") material_at fourth.0
+  Ok (record { approver = approver; events = events; faults = faults; material = material }, fourth.1)
+
+-- From 2030-01-01T00:00:00Z on, where no other moment is given.
+abbrev pub usual_moment : ℤ
+usual_moment = pos 1893456000
+
+-- The moment and the roles.
+unfoldable pub beginning_in : List Field → Read (Beginning × List Field)
+beginning_in fs = do
+  first ← optional_at (codes "now") fs
+  moment ← member_or usual_moment (codes "now") moment_at first.0
+  second ← optional_at (codes "roles") first.1
+  roles ← roles_at second.0
+  Ok (record { moment = moment; roles = roles }, second.1)
+
+abbrev pub setup_of : World → Beginning → List Step → ℕ → Setup
+setup_of world beginning script window = record {
+  events = world.events;
+  window = window;
+  moment = beginning.moment;
+  roles = beginning.roles;
+  faults = world.faults;
+  approver = world.approver;
+  material = world.material;
   script = script;
 }
 
--- The scenario of a value, or the first failing path.
+-- The scenario of an object's members, or the first failing path.
+unfoldable pub setup_in : List Field → Read Setup
+setup_in fs = do
+  world ← world_in fs
+  beginning ← beginning_in world.1
+  first ← optional_at (codes "script") beginning.1
+  script ← script_at (first_stage beginning.0.roles beginning.0.moment) first.0
+  second ← optional_at (codes "window") first.1
+  window ← member_or 1000 (codes "window") size_at second.0
+  end ← at_end second.1
+  Ok (setup_of world.0 beginning.0 script window)
+
+-- The scenario of a value.
 unfoldable pub members_at : Data → Read Scenario
 members_at d = do
   fs ← fields_at d
-  roles ← optional_at (codes "roles") fs
-  named ← roles_at roles.0
-  script ← optional_at (codes "script") roles.1
-  steps ← script_at script.0
-  end ← at_end script.1
-  given ← with_roles roles.0
-  Ok (plain_setup named steps)
+  setup ← setup_in fs
+  given ← with_roles (get (codes "roles") d)
+  Ok setup
 
 -- The same, where no number in the whole value is kept as a float.
 unfoldable pub scenario_at : Data → Read Scenario

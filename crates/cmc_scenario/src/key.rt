@@ -9,7 +9,8 @@ use cmc_meta::{Key, Kind, Text};
 use serde_json::Value;
 use std::alloc::Global;
 
-fn kind_of(alloc: Global, text: &str) -> Result<Kind, BadField>
+/// The kind of that name.
+pub fn kind_of(alloc: Global, text: &str) -> Result<Kind, BadField>
     ensures { Gives (λ t. t) result (kind_in text.now) }
 {
     match text {
@@ -29,8 +30,9 @@ fn split(alloc: Global, text: &str) -> Result<(&str, &str), BadField>
     }
 }
 
+/// A namespace and a name, with a slash between them.
 #[tactic(auto, unfolding(crate::specs::Keys::key_of_kind))]
-fn key_under(alloc: Global, kind: Kind, text: &str) -> Result<Key, BadField>
+pub fn key_under(alloc: Global, kind: Kind, text: &str) -> Result<Key, BadField>
     ensures { Gives (λ t. t) result (key_of_kind kind text.now) }
 {
     let (namespace, name) = split(alloc, text)?;

@@ -5,13 +5,21 @@
 #![tactic(auto)]
 
 mod applied;
-mod certificate;
+mod approver;
+mod certificate_steps;
+mod generating;
 mod key;
-mod metadata;
+mod material;
+mod members;
+mod optional;
+mod policy;
 mod reading;
-mod secret;
+mod role_steps;
+mod roles;
+mod rows;
 mod step;
 mod steps;
 
 pub use cmc_setup::{Roles, Scenario, Steps, is_setup};
+pub use generating::generate;
 pub use reading::{BadScenario, read};

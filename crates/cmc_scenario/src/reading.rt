@@ -1,20 +1,21 @@
 // Reads scenarios.
-ghost use Rattle.std.specs.Prelude.{◌≡◌, [], decimal, false, IfOk, OnOk};
-ghost use Rattle.serde_json.specs.View.{view, items_view};
+ghost use Rattle.std.specs.Prelude.{◌≡◌, false, OnOk, map};
+ghost use Rattle.serde_json.specs.View.{view};
 ghost use Rattle.serde_json.specs.Written.{has_float};
-ghost use Rattle.cmc_cursor.specs.Reading.{Gives, under};
-ghost use Rattle.cmc_cursor.specs.Seen.{shown_option};
-ghost use Rattle.cmc_scenario.specs.Scripts.{IsPlain};
-ghost use Rattle.cmc_scenario.specs.Scenarios.{role_at, roles_with, named_roles_at, roles_at, with_roles, plain_approver_rules, plain_setup, members_at, scenario_at, IsReading};
+ghost use Rattle.cmc_setup.specs.Setups.{IsSetup};
+ghost use Rattle.cmc_cursor.specs.Reading.{Gives};
+ghost use Rattle.cmc_cursor.specs.Seen.{shown};
+ghost use Rattle.cmc_scenario.specs.Scenarios.{setup_of, setup_in, members_at, scenario_at, IsReading};
 
+use crate::members::{Beginning, LARGEST_SIZE, World, beginning_members, world_members};
+use crate::optional::bounded_or;
+use crate::roles::check_given;
 use crate::steps::script;
-use cmc_cursor::{BadField, at, check_end, check_floats, fields, optional};
-use cmc_meta::{Numbers, Text, Texts};
-use cmc_objects::{Material, Role, Rules};
-use cmc_policy_rules::Policies;
-use cmc_setup::{Roles, Scenario, Steps};
+use cmc_cursor::{BadField, Fields, check_end, check_floats, fields, optional};
+use cmc_meta::Text;
+use cmc_setup::{Scenario, Steps};
 use serde_json::Value;
-use std::alloc::{AllocError, Global};
+use std::alloc::Global;
 
 /// Why a value is no scenario.
 #[derive(Drop)]
@@ -26,99 +27,34 @@ pub enum BadScenario {
     NoMemory,
 }
 
-fn role_of(alloc: Global, value: &Value) -> Result<Role, BadField>
-    ensures { Gives (λ t. t) result (role_at (view value.now)) }
+fn put_together(world: World, beginning: Beginning, script: Steps, window: u64) -> Scenario
+    requires { IsSetup (setup_of world beginning script window) }
+    ensures { result ≡ setup_of world beginning script window }
 {
-    match value.as_str() {
-        Some("trigger") => Ok(Role::Trigger),
-        _ => Err(BadField::Path(Text::new(alloc))),
-    }
-}
-
-fn numbered_role(alloc: Global, place: usize, value: &Value) -> Result<Role, BadField>
-    ensures { Gives (λ t. t) result (under (decimal place) (role_at (view value.now))) }
-{
-    at(
-        alloc,
-        place.to_string(alloc)?.as_str(),
-        role_of(alloc, value),
+    let World {
+        approver,
+        events,
+        faults,
+        material,
+    } = world;
+    let Beginning { moment, roles } = beginning;
+    Scenario::new(
+        events, window, moment, roles, faults, approver, material, script,
     )
 }
 
-fn roles_of(alloc: Global, items: &[Value]) -> Result<Roles, BadField>
-    ensures { Gives (λ t. t) result (roles_with 0 [] (items_view items.now)) }
+#[tactic(auto, unfolding(crate::specs::Scenarios::setup_in))]
+fn setup(alloc: Global, rest: Fields<'_, '_>) -> Result<Scenario, BadField>
+    ensures { Gives (λ t. t) result (setup_in (map shown rest.now)) }
 {
-    let mut roles = Roles::new(alloc);
-    for (place, item) in items.iter().enumerate() {
-        match numbered_role(alloc, place, item) {
-            Ok(role) => roles.add(role)?,
-            Err(error) => return Err(error),
-        }
-    }
-    Ok(roles)
-}
-
-fn named_roles(alloc: Global, value: &Value) -> Result<Roles, BadField>
-    ensures { Gives (λ t. t) result (named_roles_at (view value.now)) }
-{
-    match value {
-        Value::Array(items) => roles_of(alloc, items.as_slice()),
-        _ => Err(BadField::Path(Text::new(alloc))),
-    }
-}
-
-/// The roles of the member `roles`.
-fn given_roles(alloc: Global, value: Option<&Value>) -> Result<Roles, BadField>
-    ensures { Gives (λ t. t) result (roles_at (shown_option value.entry)) }
-{
-    match value {
-        None => Ok(Roles::new(alloc)),
-        Some(value) => at(alloc, "roles", named_roles(alloc, value)),
-    }
-}
-
-fn check_given(alloc: Global, roles: Option<&Value>) -> Result<(), BadField>
-    ensures { Gives (λ t. t) result (with_roles (shown_option roles.entry)) }
-{
-    match roles {
-        None => Err(BadField::Path(Text::from_str(alloc, "roles")?)),
-        Some(_) => Ok(()),
-    }
-}
-
-/// The approver of a scenario that names none: it judges the requests of all issuers, refuses none and
-/// has no policies.
-fn plain_approver(alloc: Global) -> Result<Rules, AllocError>
-    ensures { IfOk result (λ r. r ≡ plain_approver_rules) }
-{
-    let mut issuers = Texts::new(alloc);
-    issuers.push(Text::from_str(alloc, "*")?)?;
-    Ok(Rules {
-        issuers,
-        refuse: Texts::new(alloc),
-        policies: Policies::new(alloc),
-    })
-}
-
-/// The scenario that says no more than its roles and its script.
-fn plain(alloc: Global, roles: Roles, script: Steps) -> Result<Scenario, AllocError>
-    requires { IsPlain script }
-    ensures { IfOk result (λ s. s ≡ plain_setup roles script) }
-{
-    let approver = plain_approver(alloc)?;
-    let _order = roles.as_slice();
-    let faults = Numbers::new(alloc);
-    let material = Material::new(alloc);
-    Ok(Scenario::new(
-        100_000,
-        1_000,
-        1_893_456_000,
-        roles,
-        faults,
-        approver,
-        material,
-        script,
-    ))
+    let (world, rest) = world_members(alloc, rest)?;
+    let (beginning, rest) = beginning_members(alloc, rest)?;
+    let (given, rest) = optional(alloc, rest, "script")?;
+    let script = script(alloc, beginning.roles.as_slice(), beginning.moment, given)?;
+    let (given, rest) = optional(alloc, rest, "window")?;
+    let window = bounded_or(alloc, "window", given, 1_000, 1, LARGEST_SIZE)?;
+    check_end(alloc, rest)?;
+    Ok(put_together(world, beginning, script, window))
 }
 
 #[tactic(auto, unfolding(crate::specs::Scenarios::members_at))]
@@ -126,13 +62,9 @@ fn members(alloc: Global, value: &Value) -> Result<Scenario, BadField>
     ensures { Gives (λ t. t) result (members_at (view value.now)) }
 {
     let members = fields(alloc, value)?;
-    let (named, rest) = optional(alloc, &members, "roles")?;
-    let roles = given_roles(alloc, named)?;
-    let (given, rest) = optional(alloc, rest, "script")?;
-    let script = script(alloc, given)?;
-    check_end(alloc, rest)?;
-    check_given(alloc, named)?;
-    Ok(plain(alloc, roles, script)?)
+    let scenario = setup(alloc, &members)?;
+    check_given(alloc, value.get("roles"))?;
+    Ok(scenario)
 }
 
 #[tactic(auto, unfolding(crate::specs::Scenarios::scenario_at))]
@@ -147,9 +79,20 @@ fn whole(alloc: Global, value: &Value) -> Result<Scenario, BadField>
 
 /// The scenario that a value describes.
 ///
-/// It has `roles`, a list of the roles that run from the beginning on, and may have `script`, a list
-/// of at most 10,000 steps `apply`, `delete` and `settle`. The one role that is known is `trigger`,
-/// and named again it counts once. No other member may stand, and no number may be a float.
+/// It is an object with these members, none of which has to stand but `roles`:
+/// - `events` and `window`, 1 to 250,000 (100,000 and 1,000 where left out);
+/// - `now`, a moment of RFC 3339 from 1951-01-01T00:00:00Z to 9900-01-01T00:00:00Z
+///   (2030-01-01T00:00:00Z where left out);
+/// - `roles`, the names of the roles that run from the beginning on; the one that can run today is
+///   `trigger`, and named again it counts once;
+/// - `faults`, the numbers of the store calls that fail, from 1, each above the one before;
+/// - `approver`, `issuers` (all where left out), `policies` and `refuse`;
+/// - `material`, the key rows and reply rows of Certificates, by `namespace/name`;
+/// - `script`, a list of at most 10,000 steps.
+///
+/// No other member may stand, and no number may be a float. A step that stops a role that does not
+/// run, starts one that runs, holds an informer that is held or that the role has not, releases one
+/// that is not held, or lets more time pass than there is fails as a whole.
 ///
 /// # Errors
 ///

@@ -1,14 +1,16 @@
 // One step of a script.
-ghost use Rattle.std.specs.Prelude.{◌≡◌, false, None, IfOk, map, option_map};
+ghost use Rattle.std.specs.Prelude.{◌≡◌, map, option_map};
 ghost use Rattle.serde_json.specs.View.{view};
 ghost use Rattle.cmc_cursor.specs.Reading.{Gives};
-ghost use Rattle.cmc_cursor.specs.Seen.{shown, shown_option};
-ghost use Rattle.cmc_setup.specs.Setups.{is_tick, switch_of};
-ghost use Rattle.cmc_scenario.specs.Scripts.{apply_in, named_version_at, delete_in, settle_in, stray_in, is_later_word, step_in, step_at};
+ghost use Rattle.cmc_cursor.specs.Seen.{shown};
+ghost use Rattle.cmc_scenario.specs.Scripts.{apply_in, delete_in, stray_in, step_in, step_at, running_in, waiting_in};
 
 use crate::applied::{applied, member, pass};
+use crate::certificate_steps::{answer, approve, deny, renew};
 use crate::key::key;
-use cmc_cursor::{BadField, Fields, at, check_end, count, fields, optional, required};
+use crate::optional::count_option;
+use crate::role_steps::{hold, release, settle, start, stop, tick, until};
+use cmc_cursor::{BadField, Fields, at, check_end, fields, optional, required};
 use cmc_meta::Text;
 use cmc_objects::Step;
 use serde_json::Value;
@@ -25,15 +27,6 @@ fn apply(alloc: Global, rest: Fields<'_, '_>) -> Result<Step, BadField>
     Ok(step)
 }
 
-fn named_version(alloc: Global, value: Option<&Value>) -> Result<Option<u64>, BadField>
-    ensures { Gives (λ t. t) result (named_version_at (shown_option value.entry)) }
-{
-    match value {
-        None => Ok(None),
-        Some(value) => Ok(Some(at(alloc, "version", count(alloc, value))?)),
-    }
-}
-
 #[tactic(auto, unfolding(crate::specs::Scripts::delete_in))]
 fn delete(alloc: Global, rest: Fields<'_, '_>) -> Result<Step, BadField>
     ensures { Gives (λ t. t) result (delete_in (map shown rest.now)) }
@@ -42,18 +35,9 @@ fn delete(alloc: Global, rest: Fields<'_, '_>) -> Result<Step, BadField>
     let (given, rest) = required(alloc, rest, "key")?;
     let key = at(alloc, "key", key(alloc, given))?;
     let (given, rest) = optional(alloc, rest, "version")?;
-    let version = named_version(alloc, given)?;
+    let version = count_option(alloc, "version", given)?;
     check_end(alloc, rest)?;
     Ok(Step::Delete { key, version })
-}
-
-#[tactic(auto, unfolding(crate::specs::Scripts::settle_in))]
-fn settle(alloc: Global, rest: Fields<'_, '_>) -> Result<Step, BadField>
-    ensures { Gives (λ t. t) result (settle_in (map shown rest.now)) }
-{
-    let (_, rest) = required(alloc, rest, "do")?;
-    check_end(alloc, rest)?;
-    Ok(Step::Settle)
 }
 
 #[tactic(auto, unfolding(crate::specs::Scripts::stray_in))]
@@ -68,21 +52,26 @@ fn stray(alloc: Global, rest: Fields<'_, '_>) -> Result<Step, BadField>
     Err(BadField::Path(Text::from_str(alloc, "do")?))
 }
 
-fn is_later(word: &str) -> bool
-    ensures { result ≡ is_later_word word.now }
+fn waiting(alloc: Global, word: &str, rest: Fields<'_, '_>) -> Result<Step, BadField>
+    ensures { Gives (λ t. t) result (waiting_in word.now (map shown rest.now)) }
 {
     match word {
-        "approve"
-        | "deny"
-        | "answer"
-        | "renew"
-        | "tick"
-        | "stop"
-        | "start"
-        | "hold"
-        | "release"
-        | "until" => true,
-        _ => false,
+        "hold" => hold(alloc, rest),
+        "release" => release(alloc, rest),
+        "until" => until(alloc, rest),
+        "settle" => settle(alloc, rest),
+        _ => stray(alloc, rest),
+    }
+}
+
+fn running(alloc: Global, word: &str, rest: Fields<'_, '_>) -> Result<Step, BadField>
+    ensures { Gives (λ t. t) result (running_in word.now (map shown rest.now)) }
+{
+    match word {
+        "tick" => tick(alloc, rest),
+        "stop" => stop(alloc, rest),
+        "start" => start(alloc, rest),
+        _ => waiting(alloc, word, rest),
     }
 }
 
@@ -92,18 +81,19 @@ fn form(alloc: Global, word: Option<&str>, rest: Fields<'_, '_>) -> Result<Step,
     match word {
         Some("apply") => apply(alloc, rest),
         Some("delete") => delete(alloc, rest),
-        Some("settle") => settle(alloc, rest),
-        Some(word) if is_later(word) => Err(BadField::Path(Text::new(alloc))),
-        _ => stray(alloc, rest),
+        Some("approve") => approve(alloc, rest),
+        Some("deny") => deny(alloc, rest),
+        Some("answer") => answer(alloc, rest),
+        Some("renew") => renew(alloc, rest),
+        Some(word) => running(alloc, word, rest),
+        None => stray(alloc, rest),
     }
 }
 
 /// One step.
 #[tactic(auto, unfolding(crate::specs::Scripts::step_at))]
 pub fn step(alloc: Global, value: &Value) -> Result<Step, BadField>
-    ensures form { Gives (λ t. t) result (step_at (view value.now)) }
-    ensures still { IfOk result (λ s. is_tick s ≡ false) }
-    ensures steady { IfOk result (λ s. switch_of s ≡ None) }
+    ensures { Gives (λ t. t) result (step_at (view value.now)) }
 {
     let members = fields(alloc, value)?;
     form(alloc, member(value, "do"), &members)

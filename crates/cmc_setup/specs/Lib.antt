@@ -1,2 +1,6 @@
+pub mod Forms
+pub mod Holds
 pub mod Setups
-pub mod Running
+pub mod Flags
+pub mod Holding
+pub mod Stages

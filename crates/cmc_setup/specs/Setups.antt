@@ -1,7 +1,7 @@
 -- What a scenario is: all that a run is given.
 use Rattle.std.specs.Prelude.{◌≡◌, ℕ, ℤ, pos, neg_ℤ, ◌+◌, ◌+ℤ◌, ◌<◌, ◌≤◌, ◌≤ℤ◌, ◌==◌, nat_lt, Bool, true, false, not, if◌then◌else◌, Some, None, List, [], ◌∷◌, length, All, sum_by}
 use Rattle.std.specs.declared.option.Option.{Option}
-use Rattle.std.specs.List.{list_any, filter, insert, position_or_len}
+use Rattle.std.specs.List.{list_any, list_all, filter, insert, position_or_len}
 use Rattle.cmc_meta.specs.declared.key.Key.{Key}
 use Rattle.cmc_objects.specs.declared.entry.Step.{Step}
 use Rattle.cmc_objects.specs.declared.entry.Step.TheVariants.{Tick, Stop, Start}
@@ -9,6 +9,8 @@ use Rattle.cmc_objects.specs.declared.orders.Rules.{Rules}
 use Rattle.cmc_objects.specs.declared.role.Role.{Role}
 use Rattle.cmc_objects.specs.declared.rows.Rows.{Rows}
 use Rattle.cmc_objects.specs.Roles.{role_rank}
+use Rattle.cmc_setup.specs.Forms.{is_approver_form, is_material_form, is_step_form}
+use Rattle.cmc_setup.specs.Holds.{AreHeldInTurn, none_held}
 
 -- what contracts see of a scenario
 pub record Setup : Type 0 where
@@ -122,3 +124,7 @@ pub record IsSetup (setup : Setup) : Type 0 where
   pub faults : RiseFrom 0 setup.faults
   pub roles : AreInOrder setup.roles
   pub orderly : IsOrderlyFrom setup.roles setup.script
+  pub held : AreHeldInTurn none_held setup.script
+  pub approver : is_approver_form setup.approver ≡ true
+  pub material : is_material_form setup.material ≡ true
+  pub steps : list_all is_step_form setup.script ≡ true

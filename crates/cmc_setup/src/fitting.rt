@@ -1,21 +1,20 @@
 // Whether parts make a scenario.
 ghost use Rattle.std.specs.Prelude.{◌≡◌, ◌↔◌, ℕ, pos, ◌+ℤ◌, ◌≤◌, ◌≤ℤ◌, IsTrue, List, All, length};
-ghost use Rattle.cmc_meta.specs.declared.key.Key.{Key};
-ghost use Rattle.cmc_objects.specs.declared.orders.Rules.{Rules};
-ghost use Rattle.cmc_objects.specs.declared.rows.Rows.{Rows};
 ghost use Rattle.cmc_setup.specs.Setups.{IsSetup, IsTickForm, RiseFrom, first_moment, last_moment, seconds_of, ticked};
 
+use crate::forms::{are_steps, is_approver, is_material};
+use crate::holding::are_held_in_turn;
 use crate::roles::Roles;
 use crate::running::are_orderly;
 use crate::steps::Steps;
 use cmc_meta::Numbers;
-use cmc_objects::Step;
+use cmc_objects::{Material, Rules, Step};
 
 // 1951-01-01T00:00:00Z
 const FIRST_MOMENT: i64 = -599_616_000;
 
-// 9900-01-01T00:00:00Z
-const LAST_MOMENT: i64 = 250_246_627_200;
+/// 9900-01-01T00:00:00Z, in seconds since 1970-01-01T00:00:00Z.
+pub const LAST_MOMENT: i64 = 250_246_627_200;
 
 // The most entries of a history, and the most accepted writes that a watch reaches back over.
 const LARGEST_SIZE: u64 = 250_000;
@@ -80,7 +79,8 @@ fn have_tick_form(steps: &[Step]) -> bool
     true
 }
 
-fn seconds_in(step: &Step) -> u64
+/// How many seconds the step lets pass.
+pub fn seconds_in(step: &Step) -> u64
     ensures { result ≡ seconds_of step.now }
 {
     match step {
@@ -134,21 +134,34 @@ fn fit(now: i64, steps: &[Step]) -> bool
 /// Whether these parts make a scenario: `events` and `window` are 1 to 250,000, the beginning `now`
 /// is not before 1951-01-01T00:00:00Z, all ticks end by 9900-01-01T00:00:00Z, `faults` ascend from 1,
 /// and `script` has at most 10,000 steps, whose ticks have 1 to 1,000,000,000 seconds each, and which
-/// stop a role only where it runs and start it only where it does not, `roles` running at first.
-/// `Roles` are always in their order, and whatever the approver and the material are, they fit.
+/// stop a role only where it runs and start it only where it does not, `roles` running at first, and
+/// hold an informer only where the role has it and it is not held, and release it only where it is.
+///
+/// The approver has at most 100 policies, whose lists have at most 100 patterns of 1 to 253 bytes each
+/// (of addresses: four or sixteen octets, or `*`) and whose durations are at most 999,999,999 hours.
+/// The material has rows of Certificates, none of them a `KeyRow::Default`, with lifetimes of 1 to
+/// 3,153,600,000 seconds that begin at most 86,400 seconds early; so has each step that answers, which
+/// has no free row. Steps that approve, deny, answer or renew name a Certificate. `Roles` are always in
+/// their order.
 pub fn is_setup(
     events: u64,
     window: u64,
     now: i64,
     roles: &Roles,
     faults: &Numbers,
+    approver: &Rules,
+    material: &Material,
     script: &Steps,
 ) -> bool
-    ensures { (approver : Rules) → (material : List (Key × Rows)) → (IsTrue result ↔ IsSetup (record { events = events; window = window; moment = now; roles = roles.now; faults = faults.now; approver = approver; material = material; script = script.now })) }
+    ensures { IsTrue result ↔ IsSetup (record { events = events; window = window; moment = now; roles = roles.now; faults = faults.now; approver = approver.now; material = material.now; script = script.now }) }
 {
     is_size(events)
         && is_size(window)
         && rise(faults.as_slice())
         && fit(now, script.as_slice())
         && are_orderly(roles.as_slice(), script.as_slice())
+        && are_held_in_turn(script.as_slice())
+        && is_approver(approver)
+        && is_material(material)
+        && are_steps(script.as_slice())
 }

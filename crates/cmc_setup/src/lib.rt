@@ -4,12 +4,17 @@
 #![tactic(auto)]
 
 mod fitting;
+mod flags;
+mod forms;
+mod holding;
 mod roles;
 mod running;
 mod scenario;
+mod stage;
 mod steps;
 
 pub use fitting::is_setup;
 pub use roles::Roles;
 pub use scenario::Scenario;
+pub use stage::Stage;
 pub use steps::Steps;

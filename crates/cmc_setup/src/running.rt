@@ -1,63 +1,12 @@
 // Which roles run, from one step of a script to the next.
-ghost use Rattle.std.specs.Prelude.{◌≡◌, ◌==◌, ◌↔◌, IsTrue, List, MatchOption, if◌then◌else◌};
+ghost use Rattle.std.specs.Prelude.{◌≡◌, ◌↔◌, IsTrue, List, MatchOption, true, false};
 ghost use Rattle.cmc_objects.specs.declared.role.Role.{Role as RoleValue};
-ghost use Rattle.cmc_objects.specs.Roles.{role_rank};
-ghost use Rattle.cmc_setup.specs.Setups.{IsInTurn, IsOrderlyFrom, is_among, running_after, switch_of};
-ghost use Rattle.cmc_setup.specs.Running.{Tells, is_on};
+ghost use Rattle.cmc_setup.specs.Setups.{IsOrderlyFrom, running_after, switch_of};
+ghost use Rattle.cmc_setup.specs.Stages.{may_switch};
+ghost use Rattle.cmc_setup.specs.Flags.{Tells, flag_of};
 
-use crate::roles::contains;
+use crate::flags::RoleFlags;
 use cmc_objects::{Role, Step};
-
-// A flag for each role, in the order of roles.
-#[derive(Clone, Copy)]
-struct Running {
-    flags: [bool; 8],
-}
-
-impl Running {
-    fn of(roles: &[Role]) -> Running
-        ensures { Tells result.flags roles.now }
-    {
-        let flags = [
-            contains(roles, Role::Trigger),
-            contains(roles, Role::KeyManager),
-            contains(roles, Role::RequestManager),
-            contains(roles, Role::Approver),
-            contains(roles, Role::Issuer),
-            contains(roles, Role::Issuing),
-            contains(roles, Role::Readiness),
-            contains(roles, Role::Revision),
-        ];
-        Running { flags }
-    }
-
-    #[tactic(auto, unfolding(crate::specs::Running::is_on))]
-    fn has(self, role: Role) -> bool
-        ensures { result ≡ is_on self.flags role }
-    {
-        self.flags[role.rank() as usize]
-    }
-
-    #[tactic(auto, unfolding(crate::specs::Running::is_on))]
-    fn with(self, role: Role, on: bool) -> Running
-        ensures { (r : RoleValue) → is_on result.flags r ≡ (if role_rank role == role_rank r then on else is_on self.flags r) }
-    {
-        let mut flags = self.flags;
-        flags[role.rank() as usize] = on;
-        Running { flags }
-    }
-
-    /// The roles that run after the step, where it is in turn.
-    fn after(self, step: &Step) -> Option<Running>
-        ensures { (before : List RoleValue) → Tells self.flags before → MatchOption result (IsInTurn before (switch_of step.now) → ⊥) (λ next. IsInTurn before (switch_of step.now) × Tells next.flags (running_after before (switch_of step.now))) }
-    {
-        match switch(step) {
-            None => Some(self),
-            Some((role, on)) if self.has(role) == on => None,
-            Some((role, on)) => Some(self.with(role, on)),
-        }
-    }
-}
 
 fn switch(step: &Step) -> Option<(Role, bool)>
     ensures { result ≡ switch_of step.now }
@@ -79,14 +28,25 @@ fn switch(step: &Step) -> Option<(Role, bool)>
     }
 }
 
+/// The roles that run after the step, where it is in turn.
+pub fn switched(running: RoleFlags, step: &Step) -> Option<RoleFlags>
+    ensures { (before : List RoleValue) → Tells (flag_of running) before → MatchOption result (may_switch before (switch_of step.now) ≡ false) (λ next. (may_switch before (switch_of step.now) ≡ true) × Tells (flag_of next) (running_after before (switch_of step.now))) }
+{
+    match switch(step) {
+        None => Some(running),
+        Some((role, on)) if running.has(role) == on => None,
+        Some((role, on)) => Some(running.with(role, on)),
+    }
+}
+
 /// Whether each stop is of a role that runs when its turn comes, and each start of one that does not,
 /// where these roles run at first.
 pub fn are_orderly(roles: &[Role], steps: &[Step]) -> bool
     ensures { IsTrue result ↔ IsOrderlyFrom roles.now steps.now }
 {
-    let mut running = Running::of(roles);
+    let mut running = RoleFlags::of(roles);
     for step in steps {
-        match running.after(step) {
+        match switched(running, step) {
             Some(next) => running = next,
             None => return false,
         }

@@ -1,3 +1,4 @@
 pub mod Changes
 pub mod Answers
 pub mod Kept
+pub mod Claims

@@ -1,15 +1,17 @@
 // The calls, each on the objects alone.
-ghost use Rattle.std.specs.Prelude.{◌≡◌, ◌+◌, ◌<◌, ◌^◌, Some, None, IfOk, OnErr};
+ghost use Rattle.std.specs.Option.{option_copied};
+ghost use Rattle.std.specs.Prelude.{◌≡◌, ◌+◌, ◌<◌, ◌^◌, false, Some, None, IfOk, OnErr};
 ghost use Rattle.cmc_objects.specs.Objects.{key_of};
 ghost use Rattle.cmc_model.specs.Objects.{object_at, with_object};
-ghost use Rattle.cmc_model.specs.Admission.{is_taken};
+ghost use Rattle.cmc_model.specs.Admission.{is_taken, refusing_rule};
 ghost use Rattle.cmc_model.specs.Stored.{created, revised, restated};
 ghost use Rattle.cmc_model.specs.Replies.{IsCreated, IsUpdated, IsRestated, IsDeleted, IsGot, from_old};
-ghost use Rattle.cmc_store.specs.Answers.{IsAnswer};
+ghost use Rattle.cmc_store.specs.Answers.{IsAnswer, refusal_of};
 ghost use Rattle.cmc_objects.specs.declared.call.Reply.TheVariants.{Ok as Accepted};
 
+use crate::catalogue::Catalogue;
 use crate::changes::{make, restate, revise};
-use crate::shelf::Shelf;
+use cmc_admit::admit;
 use cmc_meta::Key;
 use cmc_objects::{Object, Reply};
 use std::alloc::{AllocError, Global};
@@ -34,11 +36,28 @@ fn refused(reply: Reply) -> Replied
     }
 }
 
+/// What a call that a rule refuses is answered; none where no rule does.
+fn refusal(old: Option<&Object>, new: &Object, status: bool, taken: bool) -> Option<Replied>
+    ensures { result ≡ refusal_of (refusing_rule (option_copied old.entry) new.now status taken) }
+{
+    match admit(old, new, status, taken) {
+        Ok(()) => None,
+        Err(invalid) => Some(refused(Reply::Invalid { rule: invalid.rule })),
+    }
+}
+
 /// Puts the object under the key, as this version.
-fn write(shelf: &mut Shelf, key: Key, object: Object, version: u64) -> Result<Replied, AllocError>
-    ensures after { IfOk result (λ r. shelf.new ≡ with_object shelf.old key object) }
+fn write(
+    catalogue: &mut Catalogue,
+    key: Key,
+    object: Object,
+    version: u64,
+) -> Result<Replied, AllocError>
+    requires key { key_of object ≡ key }
+    requires free { is_taken catalogue.old object ≡ false }
+    ensures after { IfOk result (λ r. catalogue.new ≡ with_object catalogue.old key object) }
     ensures told { IfOk result (λ r. r ≡ record { reply = Accepted version key.name; key = Some key; object = Some object }) }
-    ensures err { OnErr result (shelf.new ≡ shelf.old) }
+    ensures err { OnErr result (catalogue.new ≡ catalogue.old) }
 {
     let reply = Reply::Ok {
         version,
@@ -46,7 +65,7 @@ fn write(shelf: &mut Shelf, key: Key, object: Object, version: u64) -> Result<Re
     };
     let told = key.copy()?;
     let copy = object.copy()?;
-    shelf.put(key, object)?;
+    catalogue.put(key, object)?;
     Ok(Replied {
         reply,
         key: Some(told),
@@ -55,91 +74,100 @@ fn write(shelf: &mut Shelf, key: Key, object: Object, version: u64) -> Result<Re
 }
 
 pub fn create(
-    shelf: &mut Shelf,
+    catalogue: &mut Catalogue,
     alloc: Global,
     accepted: u64,
     now: i64,
     object: &Object,
 ) -> Result<Replied, AllocError>
     requires { accepted + 1 < 2 ^ 64 }
-    ensures reply { IfOk result (λ r. IsCreated accepted (is_taken shelf.old object.now) object.now (object_at shelf.old (key_of object.now)) r.reply) }
-    ensures answer { IfOk result (λ r. IsAnswer (key_of object.now) (Some (created (accepted + 1) now object.now)) shelf.old shelf.new r) }
-    ensures err { OnErr result (shelf.new ≡ shelf.old) }
+    ensures reply { IfOk result (λ r. IsCreated accepted (is_taken catalogue.old object.now) object.now (object_at catalogue.old (key_of object.now)) r.reply) }
+    ensures answer { IfOk result (λ r. IsAnswer (key_of object.now) (Some (created (accepted + 1) now object.now)) catalogue.old catalogue.new r) }
+    ensures err { OnErr result (catalogue.new ≡ catalogue.old) }
 {
     let key = object.key()?;
-    match shelf.get(&key) {
+    match catalogue.get(&key) {
         Some(old) => Ok(refused(Reply::AlreadyExists {
             have: old.meta().version,
         })),
-        None => {
-            let made = make(alloc, object, accepted + 1, now)?;
-            write(shelf, key, made, accepted + 1)
-        }
+        None => match refusal(None, object, false, catalogue.has_taken(object)?) {
+            Some(replied) => Ok(replied),
+            None => {
+                let made = make(alloc, object, accepted + 1, now)?;
+                write(catalogue, key, made, accepted + 1)
+            }
+        },
     }
 }
 
 pub fn update(
-    shelf: &mut Shelf,
+    catalogue: &mut Catalogue,
     accepted: u64,
     object: &Object,
     named: u64,
 ) -> Result<Replied, AllocError>
     requires { accepted + 1 < 2 ^ 64 }
-    ensures reply { IfOk result (λ r. IsUpdated accepted (is_taken shelf.old object.now) object.now named (object_at shelf.old (key_of object.now)) r.reply) }
-    ensures answer { IfOk result (λ r. IsAnswer (key_of object.now) (from_old (λ old. revised (accepted + 1) old object.now) (object_at shelf.old (key_of object.now))) shelf.old shelf.new r) }
-    ensures err { OnErr result (shelf.new ≡ shelf.old) }
+    ensures reply { IfOk result (λ r. IsUpdated accepted (is_taken catalogue.old object.now) object.now named (object_at catalogue.old (key_of object.now)) r.reply) }
+    ensures answer { IfOk result (λ r. IsAnswer (key_of object.now) (from_old (λ old. revised (accepted + 1) old object.now) (object_at catalogue.old (key_of object.now))) catalogue.old catalogue.new r) }
+    ensures err { OnErr result (catalogue.new ≡ catalogue.old) }
 {
     let key = object.key()?;
-    let Some(old) = shelf.get(&key) else {
+    let Some(old) = catalogue.get(&key) else {
         return Ok(refused(Reply::NotFound { at: accepted }));
     };
     let have = old.meta().version;
     if named != have {
         return Ok(refused(Reply::Conflict { named, have }));
     }
-    match revise(old, object, accepted + 1)? {
-        None => Ok(refused(Reply::Unchanged { version: have })),
-        Some(new) => write(shelf, key, new, accepted + 1),
+    match refusal(Some(old), object, false, catalogue.has_taken(object)?) {
+        Some(replied) => Ok(replied),
+        None => match revise(old, object, accepted + 1)? {
+            None => Ok(refused(Reply::Unchanged { version: have })),
+            Some(new) => write(catalogue, key, new, accepted + 1),
+        },
     }
 }
 
 pub fn update_status(
-    shelf: &mut Shelf,
+    catalogue: &mut Catalogue,
     accepted: u64,
     object: &Object,
     named: u64,
 ) -> Result<Replied, AllocError>
     requires { accepted + 1 < 2 ^ 64 }
-    ensures reply { IfOk result (λ r. IsRestated accepted object.now named (object_at shelf.old (key_of object.now)) r.reply) }
-    ensures answer { IfOk result (λ r. IsAnswer (key_of object.now) (from_old (λ old. restated (accepted + 1) old object.now) (object_at shelf.old (key_of object.now))) shelf.old shelf.new r) }
-    ensures err { OnErr result (shelf.new ≡ shelf.old) }
+    ensures reply { IfOk result (λ r. IsRestated accepted object.now named (object_at catalogue.old (key_of object.now)) r.reply) }
+    ensures answer { IfOk result (λ r. IsAnswer (key_of object.now) (from_old (λ old. restated (accepted + 1) old object.now) (object_at catalogue.old (key_of object.now))) catalogue.old catalogue.new r) }
+    ensures err { OnErr result (catalogue.new ≡ catalogue.old) }
 {
     let key = object.key()?;
-    let Some(old) = shelf.get(&key) else {
+    let Some(old) = catalogue.get(&key) else {
         return Ok(refused(Reply::NotFound { at: accepted }));
     };
     let have = old.meta().version;
     if have != named {
         return Ok(refused(Reply::Conflict { named, have }));
     }
-    match restate(old, object, accepted + 1)? {
-        None => Ok(refused(Reply::Unchanged { version: have })),
-        Some(new) => write(shelf, key, new, accepted + 1),
+    match refusal(Some(old), object, true, false) {
+        Some(replied) => Ok(replied),
+        None => match restate(old, object, accepted + 1)? {
+            None => Ok(refused(Reply::Unchanged { version: have })),
+            Some(new) => write(catalogue, key, new, accepted + 1),
+        },
     }
 }
 
 pub fn delete(
-    shelf: &mut Shelf,
+    catalogue: &mut Catalogue,
     accepted: u64,
     key: &Key,
     named: Option<u64>,
 ) -> Result<Replied, AllocError>
     requires { accepted + 1 < 2 ^ 64 }
-    ensures reply { IfOk result (λ r. IsDeleted accepted named key.now.name (object_at shelf.old key.now) r.reply) }
-    ensures answer { IfOk result (λ r. IsAnswer key.now None shelf.old shelf.new r) }
-    ensures err { OnErr result (shelf.new ≡ shelf.old) }
+    ensures reply { IfOk result (λ r. IsDeleted accepted named key.now.name (object_at catalogue.old key.now) r.reply) }
+    ensures answer { IfOk result (λ r. IsAnswer key.now None catalogue.old catalogue.new r) }
+    ensures err { OnErr result (catalogue.new ≡ catalogue.old) }
 {
-    let Some(old) = shelf.get(key) else {
+    let Some(old) = catalogue.get(key) else {
         return Ok(refused(Reply::NotFound { at: accepted }));
     };
     let have = old.meta().version;
@@ -148,7 +176,7 @@ pub fn delete(
         _ => {
             let name = key.name.copy()?;
             let gone = key.copy()?;
-            shelf.remove(key);
+            catalogue.remove(key)?;
             Ok(Replied {
                 reply: Reply::Ok {
                     version: accepted + 1,
@@ -161,11 +189,11 @@ pub fn delete(
     }
 }
 
-pub fn get(shelf: &Shelf, accepted: u64, key: &Key) -> Result<Replied, AllocError>
-    ensures reply { IfOk result (λ r. IsGot accepted (object_at shelf.now key.now) r.reply) }
-    ensures answer { IfOk result (λ r. IsAnswer key.now (object_at shelf.now key.now) shelf.now shelf.now r) }
+pub fn get(catalogue: &Catalogue, accepted: u64, key: &Key) -> Result<Replied, AllocError>
+    ensures reply { IfOk result (λ r. IsGot accepted (object_at catalogue.now key.now) r.reply) }
+    ensures answer { IfOk result (λ r. IsAnswer key.now (object_at catalogue.now key.now) catalogue.now catalogue.now r) }
 {
-    match shelf.get(key) {
+    match catalogue.get(key) {
         Some(old) => Ok(refused(Reply::Found {
             object: old.copy()?,
         })),

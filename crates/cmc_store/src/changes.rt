@@ -1,14 +1,11 @@
 // What a create, an update and a status update make of objects.
 ghost use Rattle.std.specs.Prelude.{◌≡◌, IfOk};
-ghost use Rattle.cmc_model.specs.Specs.{keeps_spec, cert_spec_eq, request_spec_eq};
 ghost use Rattle.cmc_model.specs.Stored.{new_meta, created, merged_meta, updated, with_status, generation_after, numbered, revised, restated};
 ghost use Rattle.cmc_store.specs.Changes.{IsRevision, IsRestatement};
 
+use cmc_admit::is_spec_kept;
 use cmc_meta::ObjectMeta;
-use cmc_objects::{
-    CertSpec, CertStatus, Certificate, CertificateRequest, Object, RequestSpec, RequestStatus,
-    Secret,
-};
+use cmc_objects::{CertStatus, Certificate, CertificateRequest, Object, RequestStatus, Secret};
 use std::alloc::{AllocError, Global};
 
 fn fresh_meta(
@@ -115,28 +112,6 @@ fn merge_status(old: &Object, new: &Object) -> Result<Object, AllocError>
             status: q.status.copy()?,
         })),
         _ => old.copy(),
-    }
-}
-
-fn same_cert_spec(old: &CertSpec, new: &CertSpec) -> bool
-    ensures { result ≡ cert_spec_eq old.now new.now }
-{
-    old.same(new)
-}
-
-fn same_request_spec(old: &RequestSpec, new: &RequestSpec) -> bool
-    ensures { result ≡ request_spec_eq old.now new.now }
-{
-    old.same(new)
-}
-
-fn is_spec_kept(old: &Object, new: &Object) -> bool
-    ensures { result ≡ keeps_spec old.now new.now }
-{
-    match (old, new) {
-        (Object::Cert(a), Object::Cert(b)) => same_cert_spec(&a.spec, &b.spec),
-        (Object::Request(a), Object::Request(b)) => same_request_spec(&a.spec, &b.spec),
-        _ => true,
     }
 }
 

@@ -3,11 +3,13 @@ ghost use Rattle.std.specs.List.{list_any};
 ghost use Rattle.std.specs.Option.{option_copied};
 ghost use Rattle.std.specs.Prelude.{◌≡◌, ◌==◌, ◌+◌, ◌-◌, ◌<◌, ◌^◌, IfOk, OnErr, [], Some, None, if◌then◌else◌, false};
 ghost use Rattle.cmc_model.specs.Objects.{object_at};
-ghost use Rattle.cmc_model.specs.Replies.{IsReply, IsServed, empty_store, is_accepted, key_of_call, key_written, object_written, state_after, stored};
+ghost use Rattle.cmc_model.specs.Replies.{IsReply, IsServed, empty_store, is_accepted, key_of_call, key_written, object_written, settled, state_after, stored};
 ghost use Rattle.cmc_store.specs.Answers.{IsAnswer};
 ghost use Rattle.cmc_store.specs.Kept.{Kept};
 
-use crate::calls::{Replied, create, delete, get, update, update_status};
+use crate::calls::{Replied, delete, get, update, update_status};
+use crate::catalogue::Catalogue;
+use crate::generating::create_named;
 use crate::shelf::Shelf;
 use cmc_meta::{Key, Numbers};
 use cmc_objects::{Call, Object, Reply};
@@ -18,7 +20,7 @@ use std::marker::Model;
 /// The versioned store, which answers one call at a time.
 #[derive(Drop)]
 pub struct Store {
-    shelf: Shelf,
+    catalogue: Catalogue,
     accepted: u64,
     calls: u64,
     faults: Numbers,
@@ -27,14 +29,14 @@ pub struct Store {
 impl Model for Store {
     ghost use Rattle.std.specs.Prelude.{◌≤◌};
     ghost use Rattle.std.specs.Coded.{codes};
-    ghost use Rattle.cmc_store.specs.contracts.shelf.Shelf as shelf_row;
+    ghost use Rattle.cmc_store.specs.contracts.catalogue.Catalogue as catalogue_row;
     ghost use Rattle.cmc_store.specs.Kept.{Kept};
 
     ghost Value = { Kept };
 
-    ghost coded = { Prim.hlevel (codes, shelf_row.the_row.coded) };
+    ghost coded = { Prim.hlevel (codes, catalogue_row.the_row.coded) };
 
-    ghost view = { λ s. record { faults = s.faults; state = record { objects = s.shelf; accepted = s.accepted; calls = s.calls } } };
+    ghost view = { λ s. record { faults = s.faults; state = record { objects = s.catalogue; accepted = s.accepted; calls = s.calls } } };
 
     ghost invariant = { λ s. s.accepted ≤ s.calls };
 }
@@ -46,7 +48,7 @@ impl Store {
         ensures { result ≡ record { faults = faults; state = empty_store } }
     {
         Store {
-            shelf: Shelf::new(alloc),
+            catalogue: Catalogue::new(alloc),
             accepted: 0,
             calls: 0,
             faults,
@@ -57,21 +59,21 @@ impl Store {
     pub fn peek(&self, key: &Key) -> Option<&Object>
         ensures { option_copied result ≡ object_at self.now.state.objects key.now }
     {
-        self.shelf.get(key)
+        self.catalogue.get(key)
     }
 
     /// The objects under their keys.
     pub fn shelf(&self) -> &Shelf
         ensures { result.now ≡ self.now.state.objects }
     {
-        &self.shelf
+        self.catalogue.shelf()
     }
 
     /// The map that keeps the objects, to go over them in order of key.
     pub fn objects(&self) -> &BTreeMap<Key, Object>
         ensures { finite.entries self.now.state.objects ≡ result.now.entries }
     {
-        self.shelf.objects()
+        self.catalogue.shelf().objects()
     }
 
     /// How many writes were accepted.
@@ -109,7 +111,7 @@ impl Store {
                 object: None,
             });
         }
-        let replied = serve(&mut self.shelf, alloc, self.accepted, now, call)?;
+        let replied = serve(&mut self.catalogue, alloc, self.accepted, now, call)?;
         self.calls = number;
         if is_ok(&replied.reply) {
             self.accepted += 1;
@@ -130,23 +132,28 @@ fn is_ok(reply: &Reply) -> bool
     matches!(reply, Reply::Ok { .. })
 }
 
+#[tactic(auto, unfolding(cmc_model::specs::Replies::settled))]
 fn serve(
-    shelf: &mut Shelf,
+    catalogue: &mut Catalogue,
     alloc: Global,
     accepted: u64,
     now: i64,
     call: &Call,
 ) -> Result<Replied, AllocError>
     requires room { accepted + 1 < 2 ^ 64 }
-    ensures reply { IfOk result (λ r. IsServed accepted shelf.old call.now r.reply) }
-    ensures answer { IfOk result (λ r. IsAnswer (key_of_call call.now) (stored (accepted + 1) now shelf.old call.now) shelf.old shelf.new r) }
-    ensures err { OnErr result (shelf.new ≡ shelf.old) }
+    ensures reply { IfOk result (λ r. IsServed accepted catalogue.old call.now r.reply) }
+    ensures answer { IfOk result (λ r. IsAnswer (key_of_call (settled call.now r.reply)) (stored (accepted + 1) now catalogue.old (settled call.now r.reply)) catalogue.old catalogue.new r) }
+    ensures err { OnErr result (catalogue.new ≡ catalogue.old) }
 {
     match call {
-        Call::Create { object } => create(shelf, alloc, accepted, now, object),
-        Call::Update { object, version } => update(shelf, accepted, object, *version),
-        Call::UpdateStatus { object, version } => update_status(shelf, accepted, object, *version),
-        Call::Delete { key, version } => delete(shelf, accepted, key, *version),
-        Call::Get { key } => get(shelf, accepted, key),
+        Call::Create { object, generate } => {
+            create_named(catalogue, alloc, accepted, now, object, *generate)
+        }
+        Call::Update { object, version } => update(catalogue, accepted, object, *version),
+        Call::UpdateStatus { object, version } => update_status(
+            catalogue, accepted, object, *version,
+        ),
+        Call::Delete { key, version } => delete(catalogue, accepted, key, *version),
+        Call::Get { key } => get(catalogue, accepted, key),
     }
 }

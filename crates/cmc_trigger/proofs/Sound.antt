@@ -22,6 +22,7 @@ use Rattle.cmc_pass.specs.declared.pass.Views.{Views}
 use Rattle.cmc_pass.specs.declared.pass.Desk.{Desk}
 use Rattle.cmc_pass.specs.declared.pass.Act.{Act}
 use Rattle.cmc_pass.specs.declared.pass.Act.TheVariants.{Nothing}
+use Rattle.cmc_model.proofs.Admission.{certificate_status_passes}
 use Rattle.cmc_rules.specs.Rights.{other_conditions}
 use Rattle.cmc_model.specs.Stored.{with_status, numbered}
 use Rattle.cmc_rules.specs.Chains.{trigger_chain, trigger_reason}
@@ -50,7 +51,7 @@ issue_is seen now reason c sees = record {
   key = refl;
   version = refl;
   changes = λ next. record { rights = (refl, refl, record { rest = refl; others = others now reason c.status }); dated = λ dated. dated };
-  passes = λ taken. refl;
+  passes = λ taken. certificate_status_passes (Some (Cert c)) _ taken;
 }
 
 reason_is : (seen : Views) (now : ℤ) (c : Certificate) (reason : Option Reason) → seen.certificate ≡ Some c → Is seen (for_reason now seen.requests c reason)

@@ -60,16 +60,6 @@ fn for_reason(
     issue_call(alloc, moment, reason, certificate)
 }
 
-fn renew_by(percent: Option<u32>, before: Option<u64>) -> Renew
-    ensures { result ≡ spec.renew_by percent before }
-{
-    match (percent, before) {
-        (Some(part), _) => Renew::Percent(part),
-        (None, Some(seconds)) => Renew::Before(seconds),
-        (None, None) => Renew::Default,
-    }
-}
-
 #[tactic(auto, unfolding(cmc_rules::specs::Triggering::for_certificate))]
 fn for_certificate(
     alloc: Global,
@@ -86,7 +76,7 @@ fn for_certificate(
     }
     let frame = Frame {
         now: moment,
-        renew: renew_by(
+        renew: Renew::by(
             certificate.spec.renew_percent,
             certificate.spec.renew_before,
         ),

@@ -1,9 +1,9 @@
 //! Why a Certificate must be issued.
 ghost use Rattle.std.specs.Prelude.{◌≡◌};
 ghost use Rattle.cmc_policies.specs.Reasons.{first_of, known};
-ghost use Rattle.cmc_rules.specs.Chains.{known_for, trigger_chain, trigger_reason};
+ghost use Rattle.cmc_rules.specs.Chains.{trigger_chain, trigger_reason};
 
-use cmc_match::{current_request, facts_of};
+use cmc_match::facts_for;
 use cmc_objects::{Certificate, CertificateRequest, Secret};
 use cmc_policies::{Chain, Check, Empty, Facts, Frame, Link, Reason};
 
@@ -40,22 +40,6 @@ fn first_reason(frame: Frame, facts: &Facts) -> Option<Reason>
     Link::new(absent, Link::new(missing, Link::new(unpaired, of_owner))).first(facts)
 }
 
-fn facts(
-    certificate: &Certificate,
-    secret: &Option<Secret>,
-    requests: &[CertificateRequest],
-) -> Facts
-    ensures { known result ≡ known_for certificate.now secret.now requests.now }
-{
-    let current = current_request(certificate.status.revision, requests);
-    facts_of(
-        &certificate.spec,
-        &certificate.meta.name,
-        secret.as_ref(),
-        current,
-    )
-}
-
 /// Why the Certificate must be issued, judged in the frame: the first reason of the row that holds of its Secret
 /// and of the current one of its requests.
 pub fn reason_for(
@@ -66,5 +50,5 @@ pub fn reason_for(
 ) -> Option<Reason>
     ensures { result ≡ trigger_reason frame certificate.now secret.now requests.now }
 {
-    first_reason(frame, &facts(certificate, secret, requests))
+    first_reason(frame, &facts_for(certificate, secret.as_ref(), requests))
 }

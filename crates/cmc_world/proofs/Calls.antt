@@ -17,7 +17,7 @@ use Rattle.cmc_model.specs.declared.write.Write.{Write}
 use Rattle.cmc_rules.specs.declared.progress.Stage.{Stage}
 use Rattle.cmc_rules.specs.declared.progress.OpenPass.{OpenPass}
 use Rattle.cmc_rules.specs.declared.progress.Past.{Past}
-use Rattle.cmc_model.specs.Replies.{State, IsReply, is_accepted, key_of_call, key_written, object_written, state_after}
+use Rattle.cmc_model.specs.Replies.{State, IsReply, is_accepted, key_of_call, key_written, object_written, settled, state_after}
 use Rattle.cmc_model.specs.Histories.{Setting, moment, state, accepted, role_eq}
 use Rattle.cmc_model.specs.Writes.{write_of}
 use Rattle.cmc_rules.specs.Positions.{position_of}
@@ -82,7 +82,7 @@ kept_call s h w n call c reply key object stage now version entry fs st log t op
     staged ∙ ap (λ (m : ℕ). stage_by m c.kind c.last reply) e ∙ ap (λ (kind : Kind). stage_by (length h + 1) kind c.last reply) is.kind ∙ ap (λ (m : ℕ). stage_by (length h + 1) (key_of_call call).kind m reply) is.last in
     let right_is = right_reply s h w call reply k right in
     let after_is : st ≡ state_after (moment s h) (state s h) call reply = after ∙ ap (λ (x : ℤ). state_after x w.state call reply) now_is ∙ ap (λ (x : State). state_after (moment s h) x call reply) k.held.state in
-    let log_is : log ≡ (if is_accepted reply then write_of (moment s h) (state s h) call ∷ w.log else w.log) =
+    let log_is : log ≡ (if is_accepted reply then write_of (moment s h) (state s h) (settled call reply) ∷ w.log else w.log) =
     logged_is ∙ ap (λ (x : Option Key). logged x object w.log) named ∙ ap (λ (x : Option Object). logged (key_written call reply) x w.log) stored
     ∙ ap (λ (x : ℤ). logged (key_written call reply) (object_written x w.state call reply) w.log) now_is
     ∙ ap (λ (x : State). logged (key_written call reply) (object_written (moment s h) x call reply) w.log) k.held.state

@@ -1,5 +1,5 @@
 -- What is counted of a role stays below the length of the history, and a world's counts of an accepted call are what its history says.
-use Rattle.std.proofs.Common.{◌≡◌, ℕ, ℤ, ◌+◌, ◌≤◌, Bool, true, false, List, [], ◌∷◌, length, Option, Some, None, refl, arith}
+use Rattle.std.proofs.Common.{◌≡◌, ℕ, ℤ, ◌+◌, ◌≤◌, Bool, true, false, List, [], ◌∷◌, length, Option, Some, None, refl, ap, ◌∙◌, arith}
 use Rattle.std.specs.Prelude.{◌&&◌, if◌then◌else◌, option_map}
 use Rattle.std.specs.List.{list_any}
 use Rattle.cmc_meta.specs.declared.key.Key.{Key}
@@ -12,7 +12,8 @@ use Rattle.cmc_objects.specs.declared.entry.Entry.{Entry}
 use Rattle.cmc_objects.specs.declared.entry.Entry.TheVariants.{Call as Called, Start}
 use Rattle.cmc_model.specs.declared.write.Write.{Write}
 use Rattle.cmc_rules.specs.declared.progress.Past.{Past}
-use Rattle.cmc_model.specs.Replies.{State, is_accepted, key_of_call, key_written, object_written, stored}
+use Rattle.cmc_model.specs.Replies.{State, is_accepted, key_of_call, key_written, object_written, settled, stored}
+use Rattle.cmc_model.proofs.Settling.{kind_of-settled}
 use Rattle.cmc_model.specs.Histories.{Setting, incarnation, role_eq}
 use Rattle.cmc_model.specs.Writes.{write_of}
 use Rattle.cmc_rules.specs.Memory.{with_own}
@@ -56,8 +57,8 @@ logged_if false key object ws = refl
 
 -- the log takes what the store says that a call wrote
 pub logged_called : (now : ℤ) (st : State) (call : Call) (reply : Reply) (ws : List Write)
-    → logged (key_written call reply) (object_written now st call reply) ws ≡ (if is_accepted reply then write_of now st call ∷ ws else ws)
-logged_called now st call reply ws = logged_if (is_accepted reply) (key_of_call call) (stored (st.accepted + 1) now st.objects call) ws
+    → logged (key_written call reply) (object_written now st call reply) ws ≡ (if is_accepted reply then write_of now st (settled call reply) ∷ ws else ws)
+logged_called now st call reply ws = logged_if (is_accepted reply) (key_of_call (settled call reply)) (stored (st.accepted + 1) now st.objects (settled call reply)) ws
 
 counted_if : (a b : Bool) (key : Key) (writer other : Standing)
     → counted (option_map (λ (k : Key). k.kind) (if a then Some key else None)) b writer other ≡ (if a && b then writing key.kind writer else other)
@@ -67,7 +68,9 @@ counted_if false b key writer other = refl
 -- an accepted call counts for its writer alone
 pub counted_called : (call : Call) (reply : Reply) (own : Bool) (writer other : Standing)
     → counted (option_map (λ (k : Key). k.kind) (key_written call reply)) own writer other ≡ (if is_accepted reply && own then writing (key_of_call call).kind writer else other)
-counted_called call reply own writer other = counted_if (is_accepted reply) own (key_of_call call) writer other
+counted_called call reply own writer other =
+    counted_if (is_accepted reply) own (key_of_call (settled call reply)) writer other
+    ∙ ap (λ (k : Kind). if is_accepted reply && own then writing k writer else other) (kind_of-settled call reply)
 
 noted_if : (a b : Bool) (key : Key) (version : ℕ) (past : Past)
     → noted (option_map (λ (k : Key). k.kind) (if a then Some key else None)) version b past ≡ (if a && b then with_own key.kind version past else past)
@@ -77,4 +80,6 @@ noted_if false b key version past = refl
 -- an accepted call is remembered as its writer's own
 pub noted_called : (call : Call) (reply : Reply) (version : ℕ) (own : Bool) (past : Past)
     → noted (option_map (λ (k : Key). k.kind) (key_written call reply)) version own past ≡ (if is_accepted reply && own then with_own (key_of_call call).kind version past else past)
-noted_called call reply version own past = noted_if (is_accepted reply) own (key_of_call call) version past
+noted_called call reply version own past =
+    noted_if (is_accepted reply) own (key_of_call (settled call reply)) version past
+    ∙ ap (λ (k : Kind). if is_accepted reply && own then with_own k version past else past) (kind_of-settled call reply)

@@ -1,8 +1,12 @@
 -- In a run the moment of a last failure, wherever one stands, lies in the years 1950 to 9999.
 use Rattle.std.proofs.Common.{◌≡◌, ℕ, ℤ, ◌+◌, List, [], ◌∷◌, Option, Some, None, Bool, true, false, refl, subst, inl, inr}
-use Rattle.std.specs.Prelude.{if◌then◌else◌, IfSome, option_and_then}
+use Rattle.std.specs.Prelude.{if◌then◌else◌, IfSome, codes, option_map, option_and_then}
 use Rattle.cmc_meta.specs.declared.key.Key.{Key}
+use Rattle.cmc_meta.specs.declared.conditions.Condition.{Condition}
+use Rattle.cmc_meta.specs.declared.conditions.ConditionKind.TheVariants.{Approved, Denied}
 use Rattle.cmc_objects.specs.declared.certificate.Certificate.{Certificate}
+use Rattle.cmc_objects.specs.declared.request.CertificateRequest.{CertificateRequest}
+use Rattle.cmc_objects.specs.declared.rows.SignRow.{SignRow}
 use Rattle.cmc_objects.specs.declared.object.Object.{Object}
 use Rattle.cmc_objects.specs.declared.object.Object.TheVariants.{Cert, Request, Secret}
 use Rattle.cmc_objects.specs.declared.call.Call.{Call}
@@ -19,7 +23,7 @@ use Rattle.cmc_pass.specs.declared.pass.Views.{Views}
 use Rattle.cmc_model.specs.declared.write.Write.{Write}
 use Rattle.cmc_model.specs.Objects.{Objects, object_at}
 use Rattle.cmc_model.specs.Stored.{created, updated, with_status, generation_after, numbered, revised, restated}
-use Rattle.cmc_model.specs.Replies.{IsReply, is_accepted, key_of_call, from_old, stored}
+use Rattle.cmc_model.specs.Replies.{IsReply, is_accepted, key_of_call, from_old, settled, stored}
 use Rattle.cmc_model.specs.Histories.{Setting, moment, state, objects, accepted}
 use Rattle.cmc_model.specs.Writes.{writes, write_of, contents}
 use Rattle.cmc_model.specs.Versions.{IsVersion}
@@ -32,7 +36,8 @@ use Rattle.cmc_rules.specs.Passes.{open_pass}
 use Rattle.cmc_rules.specs.Legality.{IsLegal}
 use Rattle.cmc_rules.specs.Causes.{IsCaused, MayCall}
 use Rattle.cmc_rules.specs.Scripting.{step_at}
-use Rattle.cmc_rules.specs.Following.{apply_call, call_of, effect_of, owed, Follows}
+use Rattle.cmc_rules.specs.UserWrites.{verdict, judge_call, answer_call, renew_call, renewal_of, request_for}
+use Rattle.cmc_rules.specs.Following.{apply_call, call_of, call_or, effect_of, owed, Follows}
 use Rattle.cmc_rules.specs.Runs.{IsRun}
 use Rattle.cmc_model.proofs.Versions.{standing}
 use Rattle.cmc_model.proofs.Writes.{writes_leave}
@@ -111,11 +116,20 @@ IsDatedCall (UpdateStatus object named) = IsDated (Some object)
 IsDatedCall other = Unit {0}
 
 dated_stored : (version : ℕ) (now : ℤ) (m : Objects) (call : Call) → IsDated (object_at m (key_of_call call)) → IsDatedCall call → IsDated (stored version now m call)
-dated_stored version now m (Create object) dated given = dated_created version now object
+dated_stored version now m (Create object generate) dated given = dated_created version now object
 dated_stored version now m (Update object named) dated given = dated_revised version object (object_at m (key_of object)) dated
 dated_stored version now m (UpdateStatus object named) dated given = dated_restated version object (object_at m (key_of object)) given dated
 dated_stored version now m (Delete key named) dated given = tt
 dated_stored version now m (Get key) dated given = dated
+
+-- the name changes nothing of that
+dated_settled : (call : Call) (reply : Reply) → IsDatedCall call → IsDatedCall (settled call reply)
+unfolding settled
+dated_settled (Create object generate) reply given = tt
+dated_settled (Update object named) reply given = tt
+dated_settled (UpdateStatus object named) reply given = given
+dated_settled (Delete key named) reply given = tt
+dated_settled (Get key) reply given = tt
 
 -- ---- calls of users
 
@@ -131,23 +145,51 @@ dated_apply object (Some version) old = tt
 dated_apply object None None = tt
 dated_apply object None (Some old) = tt
 
-dated_effect : (s : Setting) (h : List Entry) (step : Step) → IsDatedEffect (effect_of s h step)
+dated_judged : (condition : Condition) (request : Option CertificateRequest) → IsDatedEffect (call_or (option_map (judge_call condition) request) None)
+unfolding judge_call
+dated_judged condition None = tt
+dated_judged condition (Some request) = tt
+
+dated_answered : (row : SignRow) (moment : ℤ) (request : Option CertificateRequest) → IsDatedEffect (call_or (option_map (answer_call row moment) request) None)
+unfolding answer_call
+dated_answered row moment None = tt
+dated_answered row moment (Some request) = tt
+
+-- a Certificate that is to be issued anew keeps the time of its last failure
+dated_renewal : (moment : ℤ) (old : Option Object) → IsDated old → IsDatedEffect (call_or (renewal_of moment old) None)
+unfolding renew_call
+dated_renewal moment None dated = tt
+dated_renewal moment (Some (Cert c)) dated = dated
+dated_renewal moment (Some (Request r)) dated = tt
+dated_renewal moment (Some (Secret k)) dated = tt
+
+-- the objects that stand are dated
+abbrev StandDated : Setting → List Entry → Type 0
+StandDated s h = (key : Key) → IsDated (object_at (objects s h) key)
+
+dated_effect : (s : Setting) (h : List Entry) (step : Step) → StandDated s h → IsDatedEffect (effect_of s h step)
 unfolding call_of
-dated_effect s h (steps.Apply object version) = dated_apply object version (object_at (objects s h) (key_of object))
-dated_effect s h other = tt
+dated_effect s h (steps.Apply object version) stand = dated_apply object version (object_at (objects s h) (key_of object))
+dated_effect s h (steps.Approve certificate revision) stand =
+    dated_judged (verdict Approved (codes "approved by the script") (moment s h)) (request_for (objects s h) certificate revision)
+dated_effect s h (steps.Deny certificate revision) stand =
+    dated_judged (verdict Denied (codes "denied by the script") (moment s h)) (request_for (objects s h) certificate revision)
+dated_effect s h (steps.Answer certificate revision row) stand = dated_answered row (moment s h) (request_for (objects s h) certificate revision)
+dated_effect s h (steps.Renew certificate) stand = dated_renewal (moment s h) (object_at (objects s h) certificate) (stand certificate)
+dated_effect s h other stand = tt
 
-dated_step : (s : Setting) (h : List Entry) (step : Option Step) → IsDatedEffect (option_and_then (effect_of s h) step)
-dated_step s h None = tt
-dated_step s h (Some step) = dated_effect s h step
+dated_step : (s : Setting) (h : List Entry) (step : Option Step) → StandDated s h → IsDatedEffect (option_and_then (effect_of s h) step)
+dated_step s h None stand = tt
+dated_step s h (Some step) stand = dated_effect s h step stand
 
--- no step has a status written
-dated_owed : (s : Setting) (h : List Entry) → IsDatedEffect (owed s h)
-dated_owed s [] = tt
-dated_owed s (Script step ∷ h) = dated_step s h (step_at s.script step)
-dated_owed s (other ∷ h) = tt
+-- no step has another time of a last failure written than the one that stands
+dated_owed : (s : Setting) (h : List Entry) → StandDated s h → IsDatedEffect (owed s h)
+dated_owed s [] stand = tt
+dated_owed s (Script step ∷ h) stand = dated_step s h (step_at s.script step) stand
+dated_owed s (other ∷ h) stand = tt
 
-dated_user : (s : Setting) (h : List Entry) (call : Call) → owed s h ≡ Some (effects.Call call) → IsDatedCall call
-dated_user s h call is = subst IsDatedEffect is (dated_owed s h)
+dated_user : (s : Setting) (h : List Entry) (call : Call) → AreDated (writes s h) → owed s h ≡ Some (effects.Call call) → IsDatedCall call
+dated_user s h call dated is = subst IsDatedEffect is (dated_owed s h (λ key. dated_standing (writes s h) (objects s h) key dated (writes_leave s h)))
 
 -- ---- histories
 
@@ -159,8 +201,8 @@ after_call s h call true leaves dated = (leaves refl (dated_standing (writes s h
 after_call s h call false leaves dated = dated
 
 by_pass : (s : Setting) (h : List Entry) (p : Option OpenPass) (call : Call) (reply : Reply) → IsLegal s h → IfSome p (SawKnown (writes s h)) → MayCall s h p call
-    → IsReply s.faults (state s h) call reply → is_accepted reply ≡ true → IsDated (object_at (objects s h) (key_of_call call))
-    → IsDated (stored (accepted s h + 1) (moment s h) (objects s h) call)
+    → IsReply s.faults (state s h) call reply → is_accepted reply ≡ true → IsDated (object_at (objects s h) (key_of_call (settled call reply)))
+    → IsDated (stored (accepted s h + 1) (moment s h) (objects s h) (settled call reply))
 by_pass s h None call reply legal known may right ok dated = absurd may
 by_pass s h (Some p) call reply legal known may right ok dated = (ordinary_write s h p call reply legal known may right ok).dated dated
 
@@ -169,9 +211,11 @@ pub dated_writes : (s : Setting) (h : List Entry) → IsLegal s h → IsCaused s
 unfolding IsLegal IsCaused Follows
 dated_writes s [] legal caused follows = tt
 dated_writes s (Called User call reply ∷ h) legal caused follows =
-    after_call s h call (is_accepted reply) (λ ok dated. dated_stored (accepted s h + 1) (moment s h) (objects s h) call dated (dated_user s h call follows.0)) (dated_writes s h legal.1 caused.1 follows.1)
+    let before = dated_writes s h legal.1 caused.1 follows.1 in
+    after_call s h (settled call reply) (is_accepted reply)
+    (λ ok dated. dated_stored (accepted s h + 1) (moment s h) (objects s h) (settled call reply) dated (dated_settled call reply (dated_user s h call before follows.0))) before
 dated_writes s (Called (Pass pass) call reply ∷ h) legal caused follows =
-    after_call s h call (is_accepted reply) (λ ok dated. by_pass s h (open_pass s h pass) call reply legal.1 (saw_known s h pass) caused.0 legal.0.0 ok dated)
+    after_call s h (settled call reply) (is_accepted reply) (λ ok dated. by_pass s h (open_pass s h pass) call reply legal.1 (saw_known s h pass) caused.0 legal.0.0 ok dated)
     (dated_writes s h legal.1 caused.1 follows.1)
 dated_writes s (other ∷ h) legal caused follows = dated_writes s h legal.1 caused.1 follows.1
 

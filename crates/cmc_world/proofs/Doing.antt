@@ -30,7 +30,7 @@ served_stage (Refused entry obstacle) other = tt
 served_stage Barred other = absurd (other refl)
 
 pub served_of : (s : Setting) (h : List Entry) (w : Holdings) (n : ℕ) (p : OpenPass) → IsKept s h w → w.opened n ≡ Some p → IsServed p.stage
-served_of s h w n p k e = served_stage p.stage (no_barred s h n p k.held.run.legal (opened_is s h w n p k e))
+served_of s h w n p k e = served_stage p.stage (no_barred s h n p k.held.run (opened_is s h w n p k e))
 
 one_doing : (s : Setting) (h : List Entry) (n : ℕ) (p : OpenPass) (d : Doing) → open_pass s h n ≡ Some p
     → ((x : Desk) → IsDoingBy p.stage (act p.role p.seen p.since x) d) → IsDoing s h n d

@@ -17,7 +17,7 @@ use Rattle.cmc_model.specs.declared.write.Write.{Write}
 use Rattle.cmc_rules.specs.declared.progress.OpenPass.{OpenPass}
 use Rattle.cmc_rules.specs.declared.progress.Origin.{Origin}
 use Rattle.cmc_rules.specs.declared.progress.Past.{Past}
-use Rattle.cmc_model.specs.Replies.{State, IsReply, is_accepted, key_of_call, state_after}
+use Rattle.cmc_model.specs.Replies.{State, IsReply, is_accepted, key_of_call, settled, state_after}
 use Rattle.cmc_model.specs.Histories.{Setting, moment, state, accepted, incarnation, role_eq}
 use Rattle.cmc_model.specs.Writes.{write_of}
 use Rattle.cmc_rules.specs.Positions.{positions}
@@ -136,7 +136,7 @@ past_of_call s h n p kind b r key is = ap (λ (o : Option OpenPass). if b && is_
 pub kept_called : (s : Setting) (h : List Entry) (w : Holdings) (n : ℕ) (p : OpenPass) (call : Call) (reply : Reply) (st : State) (log : List Write) (t : Role → Standing) (opened : ℕ → Option OpenPass) (pasts : Role → Key → Past)
     → IsKept s h w → open_pass s h n ≡ Some p → IsReply s.faults (state s h) call reply → MayCall s h (Some p) call → length h < s.events
     → st ≡ state_after (moment s h) (state s h) call reply
-    → log ≡ (if is_accepted reply then write_of (moment s h) (state s h) call ∷ w.log else w.log)
+    → log ≡ (if is_accepted reply then write_of (moment s h) (state s h) (settled call reply) ∷ w.log else w.log)
     → ((r : Role) → t r ≡ (if is_accepted reply && role_eq p.role r then writing (key_of_call call).kind (w.standing p.role) else w.standing r))
     → ((m : ℕ) → opened m ≡ (if m == n then option_map (with_stage (stage_after s h call reply)) (w.opened m) else w.opened m))
     → ((r : Role) (k : Key) → pasts r k ≡ (if is_accepted reply && (role_eq p.role r && key_eq p.key k) then with_own (key_of_call call).kind (accepted s h + 1) (w.past r k) else w.past r k))
@@ -146,7 +146,7 @@ kept_called s h w n p call reply st log t opened pasts k is right may room after
   held = record {
     faults = k.held.faults;
     state = after;
-    log = logged ∙ ap (λ (l : List Write). if is_accepted reply then write_of (moment s h) (state s h) call ∷ l else l) k.held.log;
+    log = logged ∙ ap (λ (l : List Write). if is_accepted reply then write_of (moment s h) (state s h) (settled call reply) ∷ l else l) k.held.log;
     moment = k.held.moment;
     made = k.held.made;
     standing = λ r.
@@ -232,14 +232,14 @@ held_scripted s h w step made t k next is room counted put = record {
 pub kept_users : (s : Setting) (h : List Entry) (w : Holdings) (call : Call) (reply : Reply) (st : State) (log : List Write)
     → IsHeld s h w → owed s h ≡ Some (effects.Call call) → IsReply s.faults (state s h) call reply → length h < s.events
     → st ≡ state_after (moment s h) (state s h) call reply
-    → log ≡ (if is_accepted reply then write_of (moment s h) (state s h) call ∷ w.log else w.log)
+    → log ≡ (if is_accepted reply then write_of (moment s h) (state s h) (settled call reply) ∷ w.log else w.log)
     → IsKept s (Called User call reply ∷ h) (record w { state = st; log = log })
 unfolding IsLegal IsCaused Follows
 kept_users s h w call reply st log k due right room after logged = record {
   held = record {
     faults = k.faults;
     state = after;
-    log = logged ∙ ap (λ (l : List Write). if is_accepted reply then write_of (moment s h) (state s h) call ∷ l else l) k.log;
+    log = logged ∙ ap (λ (l : List Write). if is_accepted reply then write_of (moment s h) (state s h) (settled call reply) ∷ l else l) k.log;
     moment = k.moment;
     made = k.made;
     standing = λ r. k.standing r ∙ uncounted (is_accepted reply) s h r;

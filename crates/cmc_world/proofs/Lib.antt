@@ -5,6 +5,7 @@ pub mod Origins
 pub mod Dated
 pub mod Rights
 pub mod Moments
+pub mod Found
 pub mod Sounds
 pub mod Rest
 pub mod Events

@@ -8,7 +8,7 @@ use Rattle.cmc_objects.specs.declared.entry.Entry.{Entry}
 use Rattle.cmc_objects.specs.declared.entry.Entry.TheVariants.{Call as Called}
 use Rattle.cmc_pass.specs.declared.pass.Act.{Act}
 use Rattle.cmc_pass.specs.declared.pass.Act.TheVariants.{Nothing, Call as Calls, Ask as Asks, Issue}
-use Rattle.cmc_model.specs.Replies.{IsReply, is_accepted}
+use Rattle.cmc_model.specs.Replies.{IsReply, is_accepted, settled}
 use Rattle.cmc_model.specs.Histories.{Setting, state}
 use Rattle.cmc_model.specs.Writes.{writes}
 use Rattle.cmc_rules.specs.declared.progress.OpenPass.{OpenPass}
@@ -23,7 +23,8 @@ use Rattle.cmc_rules.specs.Sound.{IsOrdinary, IsWithin}
 use Rattle.cmc_rules.specs.Rights.{IsRightful, KeepsRights}
 use Rattle.cmc_rules.specs.Runs.{IsRun}
 use Rattle.cmc_model.proofs.Accepting.{accepted_found}
-use Rattle.cmc_rules.proofs.Sighted.{IsCallOf, SawKnown, saw_known, as_seen}
+use Rattle.cmc_model.proofs.Writing.{IsCallOf}
+use Rattle.cmc_rules.proofs.Sighted.{SawKnown, saw_known, as_seen}
 use Rattle.cmc_world.proofs.Sounds.{each_sound}
 
 -- the call that a pass makes next is its act
@@ -43,12 +44,12 @@ ordinary_call s h p call may =
 
 -- and so, once it is accepted, for what stood
 pub ordinary_write : (s : Setting) (h : List Entry) (p : OpenPass) (call : Call) (reply : Reply) → IsLegal s h → SawKnown (writes s h) p → MayCall s h (Some p) call
-    → IsReply s.faults (state s h) call reply → is_accepted reply ≡ true → IsCallOf (IsOrdinary p.role) s h call
+    → IsReply s.faults (state s h) call reply → is_accepted reply ≡ true → IsCallOf (IsOrdinary p.role) s h (settled call reply)
 ordinary_write s h p call reply legal known may right ok =
-    as_seen (IsOrdinary p.role) s h p.seen call legal known (accepted_found s.faults (state s h) call reply right ok) (ordinary_call s h p call may)
+    as_seen (IsOrdinary p.role) s h p.seen call reply legal known ok (accepted_found s.faults (state s h) call reply right ok) (ordinary_call s h p call may)
 
 rightful : (s : Setting) (h : List Entry) (call : Call) (reply : Reply) (p : Option OpenPass) → IsLegal s h → IfSome p (SawKnown (writes s h)) → MayCall s h p call
-    → IsReply s.faults (state s h) call reply → is_accepted reply ≡ true → IsRightful s h call p
+    → IsReply s.faults (state s h) call reply → is_accepted reply ≡ true → IsRightful s h (settled call reply) p
 rightful s h call reply None legal known may right ok = absurd may
 rightful s h call reply (Some p) legal known may right ok = (ordinary_write s h p call reply legal known may right ok).rights
 
@@ -62,7 +63,7 @@ unfolding IsLegal IsCaused KeepsRights
 keeps s [] legal caused = tt
 keeps s (Called User call reply ∷ h) legal caused = (tt, keeps s h legal.1 caused.1)
 keeps s (Called (Pass pass) call reply ∷ h) legal caused = (
-  where_accepted (is_accepted reply) (IsRightful s h call (open_pass s h pass)) (λ ok. rightful s h call reply (open_pass s h pass) legal.1 (saw_known s h pass) caused.0 legal.0.0 ok),
+  where_accepted (is_accepted reply) (IsRightful s h (settled call reply) (open_pass s h pass)) (λ ok. rightful s h call reply (open_pass s h pass) legal.1 (saw_known s h pass) caused.0 legal.0.0 ok),
   keeps s h legal.1 caused.1,
 )
 keeps s (other ∷ h) legal caused = (tt, keeps s h legal.1 caused.1)

@@ -10,6 +10,8 @@ use Rattle.cmc_pass.specs.declared.pass.Act.TheVariants.{Nothing, Call as Calls,
 use Rattle.cmc_rules.specs.Acts.{act}
 use Rattle.cmc_rules.specs.Sound.{IsWithin, IsSound, shown}
 use Rattle.cmc_trigger.proofs.Sound.{trigger_sound}
+use Rattle.cmc_status.proofs.Readiness.{readiness_sound}
+use Rattle.cmc_status.proofs.History.{revision_sound}
 use Rattle.cmc_world.specs.Plain.{IsPlain}
 
 -- a role that does nothing keeps all laws
@@ -30,8 +32,8 @@ each_sound RequestManager = doing_nothing RequestManager (λ seen now desk. refl
 each_sound Approver = doing_nothing Approver (λ seen now desk. refl)
 each_sound Issuer = doing_nothing Issuer (λ seen now desk. refl)
 each_sound Issuing = doing_nothing Issuing (λ seen now desk. refl)
-each_sound Readiness = doing_nothing Readiness (λ seen now desk. refl)
-each_sound Revision = doing_nothing Revision (λ seen now desk. refl)
+each_sound Readiness = readiness_sound
+each_sound Revision = revision_sound
 
 -- ---- what they give
 
@@ -53,7 +55,15 @@ pub any_desk : (role : Role) (seen : Views) (now : ℤ) (d e : Desk) → d.rules
 any_desk role seen now d e rules is =
     (each_sound role).idle seen now now d e rules (λ at due later low. never (int_le at now) later low) (grind (arith, ints)) is
 
--- the trigger looks at no desk
+-- trigger, readiness and revision look at no desk
 pub trigger_desk : (seen : Views) (now : ℤ) (d e : Desk) → act Trigger seen now d ≡ act Trigger seen now e
 unfolding act
 trigger_desk seen now d e = refl
+
+pub readiness_desk : (seen : Views) (now : ℤ) (d e : Desk) → act Readiness seen now d ≡ act Readiness seen now e
+unfolding act
+readiness_desk seen now d e = refl
+
+pub revision_desk : (seen : Views) (now : ℤ) (d e : Desk) → act Revision seen now d ≡ act Revision seen now e
+unfolding act
+revision_desk seen now d e = refl

@@ -1,5 +1,6 @@
--- No right reply is Invalid while no rule refuses, so no open pass was barred.
-use Rattle.std.proofs.Common.{◌≡◌, ◌==◌, ◌+◌, ℕ, List, [], ◌∷◌, length, Option, Some, None, Bool, true, false, sym, subst, inl, inr}
+-- No rule refuses a call of a pass, so no open pass is barred.
+use Rattle.std.proofs.Common.{◌≡◌, ◌==◌, ◌+◌, ℕ, List, [], ◌∷◌, length, Option, Some, None, Bool, true, false, refl, sym, subst, inl, inr, arith}
+use Rattle.std.proofs.lemmas.Bool.Decides.{nat_tests}
 use Rattle.std.specs.Prelude.{MatchBool, IfSome}
 use Rattle.std.specs.List.{list_any}
 use Rattle.cmc_meta.specs.declared.key.Kind.{Kind}
@@ -9,6 +10,8 @@ use Rattle.cmc_objects.specs.declared.call.Call.TheVariants.{Create, Update, Upd
 use Rattle.cmc_objects.specs.declared.call.Reply.{Reply}
 use Rattle.cmc_objects.specs.declared.call.Reply.TheVariants.{Ok, Unchanged, Found, Conflict, NotFound, AlreadyExists, Invalid, Unavailable}
 use Rattle.cmc_objects.specs.declared.entry.Entry.{Entry}
+use Rattle.cmc_objects.specs.declared.entry.Who.TheVariants.{User, Pass}
+use Rattle.cmc_pass.specs.declared.pass.Views.{Views}
 use Rattle.cmc_objects.specs.declared.entry.Entry.TheVariants.{Call as Called, Begin, End, Stop}
 use Rattle.cmc_objects.specs.Objects.{key_of, name_of, version_of}
 use Rattle.cmc_rules.specs.declared.progress.OpenPass.{OpenPass}
@@ -16,14 +19,21 @@ use Rattle.cmc_rules.specs.declared.progress.Stage.{Stage}
 use Rattle.cmc_rules.specs.declared.progress.Stage.TheVariants.{Fresh, Wrote, Refused, Barred}
 use Rattle.cmc_model.specs.Objects.{Objects, object_at}
 use Rattle.cmc_model.specs.Stored.{updated, with_status}
-use Rattle.cmc_model.specs.Admission.{is_taken}
-use Rattle.cmc_model.specs.Replies.{State, IsReply, IsServed, IsCreated, IsUpdated, IsRestated, IsDeleted, IsGot, IsChange, key_of_call}
-use Rattle.cmc_model.specs.Histories.{Setting, state}
+use Rattle.cmc_model.specs.Admission.{is_taken, refusing_rule}
+use Rattle.cmc_model.specs.Generated.{free_named}
+use Rattle.cmc_model.specs.Replies.{State, IsReply, IsServed, IsCreated, IsCreatedIn, IsUpdated, IsRestated, IsDeleted, IsGot, IsChange, IsAdmitted, key_of_call}
+use Rattle.cmc_model.specs.Histories.{Setting, accepted, objects, state}
 use Rattle.cmc_model.specs.Writes.{writes, last_under}
 use Rattle.cmc_rules.specs.Viewing.{views}
 use Rattle.cmc_rules.specs.Passes.{open_pass, new_pass, stage_by, stage_after}
 use Rattle.cmc_rules.specs.Legality.{IsLegal}
+use Rattle.cmc_rules.specs.Causes.{IsCaused, MayCall}
+use Rattle.cmc_rules.specs.Runs.{IsRun}
+use Rattle.cmc_rules.specs.Sighting.{OnSeen}
+use Rattle.cmc_rules.specs.Sound.{IsOrdinary}
 use Rattle.cmc_rules.proofs.Carrying.{over_call, over_begin, over_end, over_stop}
+use Rattle.cmc_rules.proofs.Sighted.{AreKnown, SawKnown, saw_known, stands_as_seen}
+use Rattle.cmc_world.proofs.Rights.{ordinary_call}
 
 -- ---- right replies
 
@@ -35,26 +45,30 @@ IsPassed other = Unit {0}
 replied : (reply right : Reply) → IsPassed right → reply ≡ right → IsPassed reply
 replied reply right passed is = subst IsPassed (sym is) passed
 
-passed_created : (n : ℕ) (taken : Bool) (object : Object) (old : Option Object) (reply : Reply) → IsCreated n taken object old reply → IsPassed reply
-passed_created n taken object (Some old) reply right = replied reply (AlreadyExists (version_of old)) tt right
-passed_created n taken object None reply right = replied reply (Ok (n + 1) (name_of object)) tt right
+-- where no rule refuses the call is served
+no_rule : (rule : Option ℕ) (served : Type 0) (reply : Reply) → rule ≡ None → IsAdmitted rule served reply → served
+no_rule None served reply passes right = right
+no_rule (Some rule) served reply passes right = absurd (cc passes)
+
+passed_created : (n : ℕ) (taken : Bool) (object : Object) (old : Option Object) (reply : Reply) → refusing_rule None object false taken ≡ None → IsCreated n taken object old reply → IsPassed reply
+passed_created n taken object (Some old) reply passes right = replied reply (AlreadyExists (version_of old)) tt right
+passed_created n taken object None reply passes right =
+    replied reply (Ok (n + 1) (name_of object)) tt (no_rule (refusing_rule None object false taken) (reply ≡ Ok (n + 1) (name_of object)) reply passes right)
+
+passed_made : (n : ℕ) (objects : Objects) (object : Object) (reply : Reply) → ((taken : Bool) → refusing_rule None object false taken ≡ None) → IsCreatedIn n objects object reply → IsPassed reply
+passed_made n objects object reply passes right = passed_created n (is_taken objects object) object (object_at objects (key_of object)) reply (passes (is_taken objects object)) right
 
 passed_change : (n : ℕ) (name : List ℕ) (old new : Object) (reply : Reply) → IsChange n name old new reply → IsPassed reply
 passed_change n name old new reply (inl same) = replied reply (Unchanged (version_of old)) tt same.1
 passed_change n name old new reply (inr other) = replied reply (Ok (n + 1) name) tt other.1
 
-passed_at : (at : Bool) (n named : ℕ) (name : List ℕ) (old new : Object) (reply : Reply)
-    → MatchBool at (IsChange n name old new reply) (reply ≡ Conflict named (version_of old)) → IsPassed reply
-passed_at true n named name old new reply right = passed_change n name old new reply right
-passed_at false n named name old new reply right = replied reply (Conflict named (version_of old)) tt right
-
-passed_updated : (n : ℕ) (taken : Bool) (object : Object) (named : ℕ) (old : Option Object) (reply : Reply) → IsUpdated n taken object named old reply → IsPassed reply
-passed_updated n taken object named None reply right = replied reply (NotFound n) tt right
-passed_updated n taken object named (Some old) reply right = passed_at (named == version_of old) n named (name_of object) old (updated old object) reply right
-
-passed_restated : (n : ℕ) (object : Object) (named : ℕ) (old : Option Object) (reply : Reply) → IsRestated n object named old reply → IsPassed reply
-passed_restated n object named None reply right = replied reply (NotFound n) tt right
-passed_restated n object named (Some old) reply right = passed_at (named == version_of old) n named (name_of object) old (with_status old object) reply right
+-- a write of what was seen, where that is what stands at the version
+passed_at : (at : Bool) (n named : ℕ) (name : List ℕ) (old new : Object) (rule : Option ℕ) (reply : Reply) → (named == version_of old) ≡ at → (version_of old ≡ named → rule ≡ None)
+    → MatchBool at (IsAdmitted rule (IsChange n name old new reply) reply) (reply ≡ Conflict named (version_of old)) → IsPassed reply
+passed_at true n named name old new rule reply test passes right =
+    let same : version_of old ≡ named = grind (arith, nat_tests) in
+    passed_change n name old new reply (no_rule rule (IsChange n name old new reply) reply (passes same) right)
+passed_at false n named name old new rule reply test passes right = replied reply (Conflict named (version_of old)) tt right
 
 passed_delete_at : (at : Bool) (n named : ℕ) (name : List ℕ) (old : Object) (reply : Reply)
     → MatchBool at (reply ≡ Ok (n + 1) name) (reply ≡ Conflict named (version_of old)) → IsPassed reply
@@ -71,21 +85,51 @@ passed_got : (n : ℕ) (old : Option Object) (reply : Reply) → IsGot n old rep
 passed_got n None reply right = replied reply (NotFound n) tt right
 passed_got n (Some old) reply right = replied reply (Found old) tt right
 
-passed_served : (n : ℕ) (objects : Objects) (call : Call) (reply : Reply) → IsServed n objects call reply → IsPassed reply
-passed_served n objects (Create object) reply right = passed_created n (is_taken objects object) object (object_at objects (key_of object)) reply right
-passed_served n objects (Update object named) reply right = passed_updated n (is_taken objects object) object named (object_at objects (key_of object)) reply right
-passed_served n objects (UpdateStatus object named) reply right = passed_restated n object named (object_at objects (key_of object)) reply right
-passed_served n objects (Delete key named) reply right = passed_deleted n named key.name (object_at objects key) reply right
-passed_served n objects (Get key) reply right = passed_got n (object_at objects key) reply right
+passed_updated : (n : ℕ) (taken : Bool) (object : Object) (named : ℕ) (old : Option Object) (reply : Reply)
+    → ((stood : Object) → old ≡ Some stood → version_of stood ≡ named → refusing_rule (Some stood) object false taken ≡ None) → IsUpdated n taken object named old reply → IsPassed reply
+passed_updated n taken object named None reply passes right = replied reply (NotFound n) tt right
+passed_updated n taken object named (Some old) reply passes right =
+    passed_at (named == version_of old) n named (name_of object) old (updated old object) (refusing_rule (Some old) object false taken) reply refl (passes old refl) right
 
-passed_by : (fails : Bool) (st : State) (call : Call) (reply : Reply)
+passed_restated : (n : ℕ) (object : Object) (named : ℕ) (old : Option Object) (reply : Reply)
+    → ((stood : Object) → old ≡ Some stood → version_of stood ≡ named → refusing_rule (Some stood) object true false ≡ None) → IsRestated n object named old reply → IsPassed reply
+passed_restated n object named None reply passes right = replied reply (NotFound n) tt right
+passed_restated n object named (Some old) reply passes right =
+    passed_at (named == version_of old) n named (name_of object) old (with_status old object) (refusing_rule (Some old) object true false) reply refl (passes old refl) right
+
+-- the call that is for what was seen is served
+passed_served : (P : Option Object → Option Object → Type 0) (s : Setting) (h : List Entry) (seen : Views) (call : Call) (reply : Reply) → IsLegal s h → AreKnown (writes s h) seen
+    → OnSeen P seen call → IsServed (accepted s h) (objects s h) call reply → IsPassed reply
+unfolding OnSeen free_named
+passed_served P s h seen (Create object false) reply legal known on right = passed_made (accepted s h) (objects s h) object reply on.passes right
+passed_served P s h seen (Create object true) reply legal known on right =
+    passed_made (accepted s h) (objects s h) (free_named (accepted s h + 1) (objects s h) object) reply (on _).passes right
+passed_served P s h seen (Update object named) reply legal known on right =
+    let taken = is_taken (objects s h) object in
+    passed_updated (accepted s h) taken object named (object_at (objects s h) (key_of object)) reply
+    (λ stood there at.
+    subst (λ (o : Object). refusing_rule (Some o) object false taken ≡ None) (stands_as_seen s h seen (key_of object) named on.old stood legal known on.sees on.version there at) (on.passes taken))
+    right
+passed_served P s h seen (UpdateStatus object named) reply legal known on right =
+    passed_restated (accepted s h) object named (object_at (objects s h) (key_of object)) reply
+    (λ stood there at.
+    subst (λ (o : Object). refusing_rule (Some o) object true false ≡ None) (stands_as_seen s h seen (key_of object) named on.old stood legal known on.sees on.version there at) (on.passes false))
+    right
+passed_served P s h seen (Delete key named) reply legal known on right = passed_deleted (accepted s h) named key.name (object_at (objects s h) key) reply right
+passed_served P s h seen (Get key) reply legal known on right = passed_got (accepted s h) (object_at (objects s h) key) reply right
+
+passed_by : (fails : Bool) (st : State) (call : Call) (reply : Reply) → (IsServed st.accepted st.objects call reply → IsPassed reply)
     → MatchBool fails (reply ≡ Unavailable (st.calls + 1)) (IsServed st.accepted st.objects call reply) → IsPassed reply
-passed_by true st call reply right = replied reply (Unavailable (st.calls + 1)) tt right
-passed_by false st call reply right = passed_served st.accepted st.objects call reply right
+passed_by true st call reply passes right = replied reply (Unavailable (st.calls + 1)) tt right
+passed_by false st call reply passes right = passes right
 
--- no right reply is Invalid
-pub passed_reply : (faults : List ℕ) (st : State) (call : Call) (reply : Reply) → IsReply faults st call reply → IsPassed reply
-passed_reply faults st call reply right = passed_by (list_any (λ n. n == st.calls + 1) faults) st call reply right
+-- no right reply to a pass is Invalid
+passed_reply : (s : Setting) (h : List Entry) (p : Option OpenPass) (call : Call) (reply : Reply) → IsLegal s h → IfSome p (SawKnown (writes s h)) → MayCall s h p call
+    → IsReply s.faults (state s h) call reply → IsPassed reply
+passed_reply s h None call reply legal known may right = absurd may
+passed_reply s h (Some p) call reply legal known may right =
+    passed_by (list_any (λ n. n == (state s h).calls + 1) s.faults) (state s h) call reply
+    (passed_served (IsOrdinary p.role) s h p.seen call reply legal known (ordinary_call s h p call may)) right
 
 -- ---- how far passes have come
 
@@ -107,26 +151,27 @@ served_stage : (entry : ℕ) (kind : Kind) (last : ℕ) (reply : Reply) → IsPa
 served_stage entry kind last (Invalid rule) passed = passed
 served_stage entry kind last other passed = tt
 
-served_after : (s : Setting) (h : List Entry) (call : Call) (reply : Reply) → IsReply s.faults (state s h) call reply → IsServedStage (stage_after s h call reply)
-served_after s h call reply right =
-    served_stage (length h + 1) (key_of_call call).kind (last_under (key_of_call call) (writes s h)) reply (passed_reply s.faults (state s h) call reply right)
+served_after : (s : Setting) (h : List Entry) (call : Call) (reply : Reply) → IsPassed reply → IsServedStage (stage_after s h call reply)
+served_after s h call reply passed = served_stage (length h + 1) (key_of_call call).kind (last_under (key_of_call call) (writes s h)) reply passed
 
 -- no open pass is barred
-pub served_pass : (s : Setting) (h : List Entry) (n : ℕ) → IsLegal s h → IsServedOption (open_pass s h n)
-unfolding IsLegal
-served_pass s [] n legal = tt
-served_pass s (Called who call reply ∷ h) n legal =
-    over_call IsServedPass n who (stage_after s h call reply) (open_pass s h n) (λ p old. served_after s h call reply legal.0.0) (served_pass s h n legal.1)
-served_pass s (Begin pass role key at now ∷ h) n legal =
-    over_begin IsServedPass (n == pass) (new_pass role key (views s h role key) now) (open_pass s h n) tt (served_pass s h n legal.1)
-served_pass s (End pass cause ∷ h) n legal = over_end IsServedPass (n == pass) (open_pass s h n) (served_pass s h n legal.1)
-served_pass s (Stop role ∷ h) n legal = over_stop IsServedPass role (open_pass s h n) (served_pass s h n legal.1)
-served_pass s (other ∷ h) n legal = served_pass s h n legal.1
+pub served_pass : (s : Setting) (h : List Entry) (n : ℕ) → IsLegal s h → IsCaused s h → IsServedOption (open_pass s h n)
+unfolding IsLegal IsCaused
+served_pass s [] n legal caused = tt
+served_pass s (Called User call reply ∷ h) n legal caused = served_pass s h n legal.1 caused.1
+served_pass s (Called (Pass pass) call reply ∷ h) n legal caused =
+    let passed = passed_reply s h (open_pass s h pass) call reply legal.1 (saw_known s h pass) caused.0 legal.0.0 in
+    over_call IsServedPass n (Pass pass) (stage_after s h call reply) (open_pass s h n) (λ p old. served_after s h call reply passed) (served_pass s h n legal.1 caused.1)
+served_pass s (Begin pass role key at now ∷ h) n legal caused =
+    over_begin IsServedPass (n == pass) (new_pass role key (views s h role key) now) (open_pass s h n) tt (served_pass s h n legal.1 caused.1)
+served_pass s (End pass cause ∷ h) n legal caused = over_end IsServedPass (n == pass) (open_pass s h n) (served_pass s h n legal.1 caused.1)
+served_pass s (Stop role ∷ h) n legal caused = over_stop IsServedPass role (open_pass s h n) (served_pass s h n legal.1 caused.1)
+served_pass s (other ∷ h) n legal caused = served_pass s h n legal.1 caused.1
 
 -- and so of a pass that is known to be open
-pub open_is_served : (s : Setting) (h : List Entry) (n : ℕ) (p : OpenPass) → IsLegal s h → open_pass s h n ≡ Some p → IsServedStage p.stage
-open_is_served s h n p legal open_here = subst IsServedOption open_here (served_pass s h n legal)
+pub open_is_served : (s : Setting) (h : List Entry) (n : ℕ) (p : OpenPass) → IsRun s h → open_pass s h n ≡ Some p → IsServedStage p.stage
+open_is_served s h n p run open_here = subst IsServedOption open_here (served_pass s h n run.legal run.caused)
 
 -- its stage is not Barred
-pub no_barred : (s : Setting) (h : List Entry) (n : ℕ) (p : OpenPass) → IsLegal s h → open_pass s h n ≡ Some p → p.stage ≡ Barred → ⊥
-no_barred s h n p legal open_here barred = subst IsServedStage barred (open_is_served s h n p legal open_here)
+pub no_barred : (s : Setting) (h : List Entry) (n : ℕ) (p : OpenPass) → IsRun s h → open_pass s h n ≡ Some p → p.stage ≡ Barred → ⊥
+no_barred s h n p run open_here barred = subst IsServedStage barred (open_is_served s h n p run open_here)

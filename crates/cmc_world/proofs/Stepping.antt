@@ -1,10 +1,10 @@
 -- What the next step of the script has happen, and that a world stays what its history says as the step is made.
 use Rattle.std.proofs.Common.{◌≡◌, ℕ, ℤ, pos, ◌+◌, ◌-◌, ◌<◌, ◌≤◌, ◌^◌, List, ◌∷◌, length, Option, Some, None, refl, sym, ap, subst, ◌∙◌, arith}
-use Rattle.std.specs.List.{All}
-use Rattle.std.specs.Prelude.{◌≤ℤ◌, neg_ℤ, option_and_then, slice_get, slice_index_or, if◌then◌else◌}
+use Rattle.std.specs.Prelude.{◌≤ℤ◌, neg_ℤ, int_le, Bool, true, false, option_and_then, slice_get, if◌then◌else◌}
 use Rattle.std.proofs.lemmas.Int.{ints}
 use Rattle.std.proofs.lemmas.Option.{slice_get-get_or}
 use Rattle.cmc_meta.specs.declared.key.Key.{Key}
+use Rattle.cmc_objects.specs.Requests.{is_run_time}
 use Rattle.cmc_objects.specs.declared.role.Role.{Role}
 use Rattle.cmc_objects.specs.declared.call.Call.{Call}
 use Rattle.cmc_objects.specs.declared.object.Object.{Object}
@@ -19,15 +19,15 @@ use Rattle.cmc_rules.specs.declared.effect.Effect.TheVariants as effects
 use Rattle.cmc_model.specs.declared.write.Write.{Write}
 use Rattle.cmc_rules.specs.declared.progress.OpenPass.{OpenPass}
 use Rattle.cmc_rules.specs.declared.progress.Past.{Past}
-use Rattle.cmc_model.specs.Replies.{State, IsReply, is_accepted, key_written, object_written, state_after}
+use Rattle.cmc_model.specs.Replies.{State, IsReply, is_accepted, key_written, object_written, settled, state_after}
 use Rattle.cmc_model.specs.Histories.{Setting, moment, state, objects, accepted, role_eq}
 use Rattle.cmc_model.specs.Writes.{write_of}
 use Rattle.cmc_rules.specs.Passes.{unless_of}
 use Rattle.cmc_rules.specs.Memory.{no_past}
 use Rattle.cmc_rules.specs.Scripting.{scripted, step_at}
-use Rattle.cmc_rules.specs.Following.{call_of, effect_of, owed, IsNextStep, Follows}
+use Rattle.cmc_rules.specs.Following.{call_of, call_or, effect_of, owed, IsNextStep, Follows}
 use Rattle.cmc_rules.proofs.Positions.{calls_short}
-use Rattle.cmc_setup.specs.Setups.{Setup, IsSetup, IsTickForm}
+use Rattle.cmc_setup.specs.Setups.{Setup, IsSetup}
 use Rattle.cmc_store.specs.Kept.{Kept}
 use Rattle.cmc_held.specs.declared.standings.Standing.{Standing}
 use Rattle.cmc_world.specs.declared.moves.Stepped.TheVariants.{Done}
@@ -36,29 +36,27 @@ use Rattle.cmc_world.specs.Changes.{stopping, starting, scripted_standing}
 use Rattle.cmc_world.specs.Kept.{setting_of, Holdings, IsHeld, IsKept}
 use Rattle.cmc_world.specs.Noting.{logged}
 use Rattle.cmc_world.specs.Scripted.{effect_in, standing_after}
-use Rattle.cmc_world.specs.Short.{IsShortStep}
 use Rattle.cmc_world.proofs.Counts.{incarnation_short, logged_called}
 use Rattle.cmc_world.proofs.Events.{held_scripted, kept_users, kept_ticked, kept_stopped, kept_started}
-use Rattle.cmc_world.proofs.Moments.{moments_low, scripted_low}
+use Rattle.cmc_world.proofs.Moments.{moments_within}
 use Rattle.cmc_world.proofs.Tables.{MayStep, may_step}
+use borrow.Author.Differences.{le-false}
 
 -- ---- what a scenario's type keeps
 
-short_form : (step : Step) → IsTickForm step → IsShortStep step
-short_form (steps.Tick seconds) form = form.most
-short_form other form = tt
+at_most : (a b : ℤ) (t : Bool) → int_le a b ≡ t → a ≤ℤ b → t ≡ true
+at_most a b true test h = refl
+at_most a b false test h = absurd (omega (arith, ints, le-false a b test, h))
 
--- the ticks of a scenario are short
-pub short_steps : (script : List Step) → All IsTickForm script → All IsShortStep script
-short_steps script ticks = λ k d within. short_form (slice_index_or script k d) (ticks k d within)
-
--- so the present moment stays far within the range of moments
-pub moment_bounds : (u : Setup) (h : List Entry) → IsSetup u → Follows (setting_of u) h
-    → (neg_ℤ (pos 1000000000000) ≤ℤ moment (setting_of u) h) × (moment (setting_of u) h ≤ℤ pos 11000000000000)
-moment_bounds u h setup follows =
-    let within = moments_low (setting_of u) h (short_steps u.script setup.ticks) follows in
-    let made = scripted_low (setting_of u) h follows in
-    (omega (arith, ints, within.0, setup.begins), omega (arith, ints, within.1, made, setup.short, setup.ends))
+-- the moments of a run lie where the type of its scenario has them
+pub run_moment : (u : Setup) (h : List Entry) → IsSetup u → Follows (setting_of u) h → is_run_time (moment (setting_of u) h) ≡ true
+run_moment u h setup follows =
+    let within = moments_within (setting_of u) h follows in
+    let first : neg_ℤ (pos 599616000) ≤ℤ moment (setting_of u) h = omega (arith, ints, within.0, setup.begins) in
+    let last : moment (setting_of u) h ≤ℤ pos 250246627200 = omega (arith, ints, within.1, setup.ends) in
+    let low : int_le (neg_ℤ (pos 599616000)) (moment (setting_of u) h) ≡ true = at_most _ _ _ refl first in
+    let high : int_le (moment (setting_of u) h) (pos 250246627200) ≡ true = at_most _ _ _ refl last in
+    rw (low, high) refl
 
 -- one more call can be counted
 pub calls_fit : (u : Setup) (h : List Entry) (w : Holdings) → IsSetup u → IsKept (setting_of u) h w → w.state.calls < 2 ^ 64 - 1
@@ -156,11 +154,24 @@ stop_kept s h k w made role t opened kept may due counted put closed grown =
     subst (λ l. IsKept s l (record w { made = made; standing = t; opened = opened })) (sym (numbered s h k w made (Stop role) kept.held counted grown))
     (kept_stopped s (Script (scripted h + 1) ∷ h) (record w { made = made }) role t opened stepped.0 due (omega (arith, stepped.1)) put closed)
 
+-- a call is no start
+no_start : (call : Option Call) (role : Role) (at : ℕ) → call_or call None ≡ Some (effects.Start role at) → ⊥
+no_start None role at is = cc is
+no_start (Some call) role at is = cc is
+
 -- a start tells of no more than was written
 pub low_start : (s : Setting) (h : List Entry) (step : Step) (role : Role) (at : ℕ) → effect_of s h step ≡ Some (effects.Start role at) → at ≤ accepted s h
 unfolding call_of
 low_start s h (steps.Start other behind) role at has = let is : accepted s h - behind ≡ at = cc has in omega (arith, is)
-low_start s h other role at has = absurd (cc has)
+low_start s h (steps.Apply object version) role at has = absurd (cc has)
+low_start s h (steps.Delete key version) role at has = absurd (cc has)
+low_start s h (steps.Tick seconds) role at has = absurd (cc has)
+low_start s h (steps.Stop other) role at has = absurd (cc has)
+low_start s h (steps.Hold other kind) role at has = absurd (cc has)
+low_start s h (steps.Release other kind) role at has = absurd (cc has)
+low_start s h (steps.Until other kind writes) role at has = absurd (cc has)
+low_start s h steps.Settle role at has = absurd (cc has)
+low_start s h other role at has = absurd (no_start (call_of (moment s h) (objects s h) other) role at has)
 
 -- a start
 pub start_kept : (s : Setting) (h k : List Entry) (w : Holdings) (made : ℕ) (role : Role) (at : ℕ) (t : Role → Standing) (pasts : Role → Key → Past)
@@ -176,13 +187,13 @@ start_kept s h k w made role at t pasts kept may due counted put forgot grown =
 
 logged_kept : (s : Setting) (h : List Entry) (w : Holdings) (call : Call) (reply : Reply) (now : ℤ) (log grown : List Write) (key : Option Key) (object : Option Object)
     → IsHeld s h w → now ≡ w.moment → log ≡ w.log → key ≡ key_written call reply → object ≡ object_written now w.state call reply → grown ≡ logged key object log
-    → grown ≡ (if is_accepted reply then write_of (moment s h) (state s h) call ∷ w.log else w.log)
+    → grown ≡ (if is_accepted reply then write_of (moment s h) (state s h) (settled call reply) ∷ w.log else w.log)
 logged_kept s h w call reply now log grown key object held same_now same_log told stored put =
     put ∙ ap (λ q. logged q object log) told ∙ ap (λ o. logged (key_written call reply) o log) stored
     ∙ logged_called now w.state call reply log
-    ∙ ap (λ m. if is_accepted reply then write_of m w.state call ∷ log else log) (same_now ∙ held.moment)
-    ∙ ap (λ st. if is_accepted reply then write_of (moment s h) st call ∷ log else log) held.state
-    ∙ ap (λ (l : List Write). if is_accepted reply then write_of (moment s h) (state s h) call ∷ l else l) same_log
+    ∙ ap (λ m. if is_accepted reply then write_of m w.state (settled call reply) ∷ log else log) (same_now ∙ held.moment)
+    ∙ ap (λ st. if is_accepted reply then write_of (moment s h) st (settled call reply) ∷ log else log) held.state
+    ∙ ap (λ (l : List Write). if is_accepted reply then write_of (moment s h) (state s h) (settled call reply) ∷ l else l) same_log
 
 -- a call of a user, that the store answered and the log took
 pub call_kept : (s : Setting) (h k : List Entry) (w : Holdings) (made : ℕ) (call : Call) (reply : Reply) (now : ℤ) (store : Kept) (log grown : List Write) (key : Option Key) (object : Option Object)

@@ -1,22 +1,25 @@
 -- What the tests of a scan say of all keys of a role and of all roles, and those on the next step of the script.
-use Rattle.std.proofs.Common.{◌≡◌, ℕ, ◌+◌, ◌-◌, ◌<◌, ◌≤◌, List, [], ◌∷◌, length, reverse, take, get_or, Option, Some, None, Bool, true, refl, sym, ap, subst, ◌∙◌, arith}
+use Rattle.std.proofs.Common.{◌≡◌, ℕ, ◌+◌, ◌-◌, ◌<◌, ◌≤◌, List, [], ◌∷◌, length, reverse, take, get_or, Option, Some, None, Bool, true, zero, suc, refl, sym, ap, subst, ◌∙◌, arith}
+use Rattle.std.proofs.lemmas.Bool.{and_parts}
 use Rattle.std.proofs.lemmas.Result.{IfOk-weaker}
 use Rattle.std.proofs.lemmas.List.Elements.{All-nil, All-cons, All-more}
 use Rattle.std.proofs.lemmas.List.{take_all, length-reverse, reverse-reverse, get_or-reverse}
 use Rattle.std.proofs.lemmas.Option.{slice_get_within}
-use Rattle.std.specs.Prelude.{◌↔◌, slice_get, option_and_then, IsTrue, IfOk, Result}
-use Rattle.std.specs.List.{All}
+use Rattle.std.specs.Prelude.{◌↔◌, slice_get, option_and_then, option_map, is_some, IsTrue, IfOk, Result, if◌then◌else◌}
+use Rattle.std.specs.List.{All, list_all}
 use Rattle.std.specs.declared.alloc.AllocError.{AllocError}
 use Rattle.cmc_objects.specs.declared.role.Role.{Role}
 use Rattle.cmc_objects.specs.declared.role.Role.TheVariants.{Trigger, KeyManager, RequestManager, Approver, Issuer, Issuing, Readiness, Revision}
+use Rattle.cmc_objects.specs.declared.call.Call.{Call}
 use Rattle.cmc_objects.specs.declared.entry.Step.{Step}
 use Rattle.cmc_objects.specs.declared.entry.Entry.{Entry}
+use Rattle.cmc_setup.specs.Forms.{is_step_form}
 use Rattle.cmc_model.specs.declared.write.Write.{Write}
 use Rattle.cmc_model.specs.Histories.{Setting, runs}
 use Rattle.cmc_model.specs.Writes.{writes}
 use Rattle.cmc_rules.specs.Passes.{open_pass}
 use Rattle.cmc_rules.specs.Scripting.{scripted, step_at}
-use Rattle.cmc_rules.specs.Following.{effect_of, IsReady}
+use Rattle.cmc_rules.specs.Following.{call_or, effect_of, IsReady}
 use Rattle.cmc_rules.specs.Resting.{RestsOn, IsAtRest}
 use Rattle.cmc_world.specs.declared.moves.Stepped.{Stepped}
 use Rattle.cmc_world.specs.Answers.{AnswersScript, entries_of, next_effect}
@@ -108,6 +111,19 @@ pub at_rest_closed : (s : Setting) (h : List Entry) (closed : Bool) (r : Result 
 at_rest_closed s h closed r on e found = IfOk-weaker r _ _ (λ b all. all_at_rest s h b (e.0 on) all) found
 
 -- ---- the next step
+
+-- a step of a script has the form of one
+pub formed_at : (script : List Step) (place : ℕ) (step : Step) → list_all is_step_form script ≡ true → slice_get script place ≡ Some step → is_step_form step ≡ true
+formed_at [] place step forms is = absurd (cc is)
+formed_at (other ∷ script) zero step forms is =
+    let same : other ≡ step = cc is in
+    subst (λ (s : Step). is_step_form s ≡ true) same (and_parts (is_step_form other) (list_all is_step_form script) forms).0
+formed_at (other ∷ script) (suc place) step forms is = formed_at script place step (and_parts (is_step_form other) (list_all is_step_form script) forms).1 is
+
+-- a call for what was found is one entry more
+pub entries_mapped : {A : Type 0} → (call : A → Call) (found : Option A) → entries_of (call_or (option_map call found) None) ≡ (if is_some found then 2 else 1)
+entries_mapped call None = refl
+entries_mapped call (Some x) = refl
 
 is_left : (script : List Step) (n : ℕ) (step : Step) → step_at script (n + 1) ≡ Some step → n < length script
 is_left script n step is = let place : n + 1 - 1 ≡ n = omega arith in slice_get_within script n step (subst (λ (m : ℕ). slice_get script m ≡ Some step) place is)

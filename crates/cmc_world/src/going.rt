@@ -116,7 +116,10 @@ fn key_of_call(call: &Call) -> Result<Key, AllocError>
     ensures { IfOk result (λ k. k ≡ replies.key_of_call call.now) }
 {
     match call {
-        Call::Create { object } => object.key(),
+        Call::Create {
+            object,
+            generate: _,
+        } => object.key(),
         Call::Update { object, .. } => object.key(),
         Call::UpdateStatus { object, .. } => object.key(),
         Call::Delete { key, .. } => key.copy(),

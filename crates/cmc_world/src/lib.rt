@@ -13,6 +13,7 @@ mod readers;
 mod resting;
 mod scripting;
 mod telling;
+mod user_writes;
 mod world;
 
 pub use moves::{Lack, Move, Stepped};

@@ -1,12 +1,13 @@
 //! When nothing is left to do, and what the next step of the script waits for.
 ghost use Rattle.std.specs.Option.{option_copied};
-ghost use Rattle.std.specs.Prelude.{◌≡◌, ◌↔◌, ◌⊎◌, ◌+◌, ◌≤◌, ◌||◌, ℕ, Some, None, IsTrue, IfOk, All, List, length};
+ghost use Rattle.std.specs.Prelude.{◌≡◌, ◌↔◌, ◌⊎◌, ◌+◌, ◌≤◌, ◌||◌, ℕ, ℤ, Some, None, IsTrue, IfOk, All, List, length, if◌then◌else◌};
 ghost use Rattle.cmc_objects.specs.declared.entry.Entry.{Entry};
 ghost use Rattle.cmc_model.specs.declared.write.Write.{Write as WriteValue};
 ghost use Rattle.cmc_pass.specs.declared.pass.Act.TheVariants.{Nothing};
 ghost use Rattle.cmc_pass.specs.declared.pass.Desk.{Desk as DeskValue};
 ghost use Rattle.cmc_rules.specs.Acts as acts;
 ghost use Rattle.cmc_rules.specs.Following as following;
+ghost use Rattle.cmc_rules.specs.UserWrites as writes_of;
 ghost use Rattle.cmc_model.specs.Histories.{Setting, runs};
 ghost use Rattle.cmc_rules.specs.Passes.{open_pass};
 ghost use Rattle.cmc_rules.specs.Sameness.{IsDue};
@@ -23,6 +24,7 @@ ghost use Rattle.cmc_world.specs.Rest.{IsToldAll, EachKind, RestsIn};
 
 use crate::acts::act_of;
 use crate::moves::{Lack, Stepped, answer_script};
+use crate::user_writes::request_for;
 use crate::world::{World, has_room};
 use cmc_held::{
     Standing, has_informer, is_held, is_same, own_above, present, shown_positions, told_of,
@@ -30,9 +32,10 @@ use cmc_held::{
 };
 use cmc_meta::{Key, Kind};
 use cmc_model::Write;
-use cmc_objects::{Positions, Role, Step};
+use cmc_objects::{Object, Positions, Role, Step};
 use cmc_pass::Views;
 use cmc_rules::Past;
+use cmc_store::Store;
 use std::alloc::{AllocError, Global};
 
 /// Whether the role has nothing to do where it sees this.
@@ -88,25 +91,45 @@ fn has_held(standing: Standing) -> bool
     standing.held.certificates || standing.held.requests || standing.held.secrets
 }
 
-/// How many entries the step makes: its own, and one for what it has happen.
-#[tactic(auto, unfolding(cmc_rules::specs::Following::call_of))]
-fn entries_needed(step: &Step) -> u64
-    ensures { (s : Setting) → (h : List Entry) → result ≡ entries_of (following.effect_of s h step.now) }
+/// The entry of a step, and one for what it has happen.
+fn entries_if(happens: bool) -> u64
+    ensures { result ≡ (if happens then 2 else 1) }
+{
+    if happens { 2 } else { 1 }
+}
+
+fn is_certificate(object: Option<&Object>) -> bool
+    ensures { (moment : ℤ) → entries_of (following.call_or (writes_of.renewal_of moment (option_copied object.entry)) None) ≡ (if result then 2 else 1) }
+{
+    matches!(object, Some(Object::Cert(_)))
+}
+
+/// How many entries the step makes: its own, and one for what it has happen on what stands in the store.
+#[tactic(auto, unfolding(cmc_rules::specs::Following::call_of), using(crate::proofs::Waiting::entries_mapped))]
+fn entries_needed(store: &Store, step: &Step) -> u64
+    ensures { (accepted : ℕ) → (moment : ℤ) → result ≡ entries_of (following.effect_on store.now.state.objects accepted moment step.now) }
 {
     match step {
+        Step::Approve {
+            certificate,
+            revision,
+        } => entries_if(request_for(store, certificate, *revision).is_some()),
+        Step::Deny {
+            certificate,
+            revision,
+        } => entries_if(request_for(store, certificate, *revision).is_some()),
+        Step::Answer {
+            certificate,
+            revision,
+            row: _,
+        } => entries_if(request_for(store, certificate, *revision).is_some()),
+        Step::Renew { certificate } => entries_if(is_certificate(store.peek(certificate))),
         Step::Apply { .. }
         | Step::Delete { .. }
         | Step::Tick { .. }
         | Step::Stop { .. }
         | Step::Start { .. } => 2,
-        Step::Approve { .. }
-        | Step::Deny { .. }
-        | Step::Answer { .. }
-        | Step::Renew { .. }
-        | Step::Hold { .. }
-        | Step::Release { .. }
-        | Step::Until { .. }
-        | Step::Settle => 1,
+        Step::Hold { .. } | Step::Release { .. } | Step::Until { .. } | Step::Settle => 1,
     }
 }
 
@@ -363,7 +386,11 @@ impl World {
     {
         let ready = self.is_ready(alloc, step)?;
         let entries = self.history.len();
-        let room = has_room(entries, self.scenario.events(), entries_needed(step));
+        let room = has_room(
+            entries,
+            self.scenario.events(),
+            entries_needed(&self.store, step),
+        );
         Ok(answer_script(true, ready, entries, room))
     }
 

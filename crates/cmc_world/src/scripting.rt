@@ -1,17 +1,19 @@
 //! The next step of the script is made, with what it has happen.
-ghost use Rattle.std.specs.List.{All};
+ghost use Rattle.std.specs.List.{All, list_all};
 ghost use Rattle.std.specs.Option.{option_copied};
-ghost use Rattle.std.specs.Prelude.{◌≡◌, ◌+◌, ◌-◌, ◌<◌, ◌≤◌, ◌^◌, ◌∷◌, ◌+ℤ◌, ◌≤ℤ◌, pos, neg_ℤ, IfOk, OnOk, OnErr, None, Some, slice_get, if◌then◌else◌};
+ghost use Rattle.std.specs.Prelude.{◌≡◌, ◌+◌, ◌-◌, ◌<◌, ◌≤◌, ◌^◌, ◌∷◌, ◌+ℤ◌, pos, IfOk, OnOk, OnErr, None, Some, slice_get, true, if◌then◌else◌};
 ghost use Rattle.cmc_objects.specs.declared.call.Reply.{Reply as ReplyValue};
 ghost use Rattle.cmc_objects.specs.declared.entry.Who.TheVariants as who;
 ghost use Rattle.cmc_objects.specs.declared.role.Role.{Role as RoleValue};
 ghost use Rattle.cmc_objects.specs.Objects.{key_of};
+ghost use Rattle.cmc_objects.specs.Requests.{is_run_time};
 ghost use Rattle.cmc_rules.specs.declared.effect.Effect.TheVariants as effects;
 ghost use Rattle.cmc_rules.specs.Following.{apply_call, call_of};
 ghost use Rattle.cmc_model.specs.Histories.{role_eq};
 ghost use Rattle.cmc_model.specs.Objects.{object_at};
 ghost use Rattle.cmc_rules.specs.Scripting.{scripted};
 ghost use Rattle.cmc_held.specs.Standing.{standing_of};
+ghost use Rattle.cmc_setup.specs.Forms.{is_step_form};
 ghost use Rattle.cmc_setup.specs.Setups.{IsSetup, IsTickForm, seconds_of};
 ghost use Rattle.cmc_world.specs.Acting.{MadeCall};
 ghost use Rattle.cmc_world.specs.Answers as spec;
@@ -24,6 +26,7 @@ ghost use Rattle.cmc_world.specs.declared.moves.Stepped.TheVariants as answers;
 
 use crate::moves::Stepped;
 use crate::noting::log_write;
+use crate::user_writes::{answer, approve, deny, renew, request_for};
 use crate::world::World;
 use cmc_held::{Standing, Standings, with_held};
 use cmc_meta::Kind;
@@ -43,7 +46,10 @@ fn call_of_apply(store: &Store, object: &Object, version: Option<u64>) -> Result
     }
     let key = object.key()?;
     match store.peek(&key) {
-        None => Ok(Call::Create { object }),
+        None => Ok(Call::Create {
+            object,
+            generate: false,
+        }),
         Some(old) => {
             let version = old.meta().version;
             Ok(Call::Update { object, version })
@@ -51,11 +57,18 @@ fn call_of_apply(store: &Store, object: &Object, version: Option<u64>) -> Result
     }
 }
 
-/// The user call that the step makes on what stands in the store; none where it makes none. An `Err`
-/// is want of memory.
+/// The user call that the step makes at this moment on what stands in the store; none where it makes none. An
+/// `Err` is want of memory.
 #[tactic(auto, unfolding(cmc_rules::specs::Following::call_of))]
-fn call_for(store: &Store, step: &Step) -> Result<Option<Call>, AllocError>
-    ensures { IfOk result (λ c. c ≡ call_of store.now.state.objects step.now) }
+fn call_for(
+    store: &Store,
+    alloc: Global,
+    moment: i64,
+    step: &Step,
+) -> Result<Option<Call>, AllocError>
+    requires moment { is_run_time moment ≡ true }
+    requires form { is_step_form step.now ≡ true }
+    ensures { IfOk result (λ c. c ≡ call_of moment store.now.state.objects step.now) }
 {
     match step {
         Step::Apply { object, version } => Ok(Some(call_of_apply(store, object, *version)?)),
@@ -63,14 +76,32 @@ fn call_for(store: &Store, step: &Step) -> Result<Option<Call>, AllocError>
             key: key.copy()?,
             version: *version,
         })),
+        Step::Approve {
+            certificate,
+            revision,
+        } => approve(alloc, moment, request_for(store, certificate, *revision)),
+        Step::Deny {
+            certificate,
+            revision,
+        } => deny(alloc, moment, request_for(store, certificate, *revision)),
+        Step::Answer {
+            certificate,
+            revision,
+            row,
+        } => answer(
+            alloc,
+            row,
+            moment,
+            request_for(store, certificate, *revision),
+        ),
+        Step::Renew { certificate } => renew(alloc, moment, store.peek(certificate)),
         _ => Ok(None),
     }
 }
 
 /// The moment so many seconds later.
 fn later(moment: i64, seconds: u64) -> i64
-    requires low { neg_ℤ (pos 1000000000000) ≤ℤ moment }
-    requires high { moment ≤ℤ pos 11000000000000 }
+    requires moment { is_run_time moment ≡ true }
     requires short { seconds ≤ 1000000000 }
     ensures { result ≡ moment +ℤ pos seconds }
 {
@@ -79,8 +110,7 @@ fn later(moment: i64, seconds: u64) -> i64
 
 /// What a step that makes no call has happen.
 fn effect_besides(accepted: u64, moment: i64, step: &Step) -> Option<Effect>
-    requires low { neg_ℤ (pos 1000000000000) ≤ℤ moment }
-    requires high { moment ≤ℤ pos 11000000000000 }
+    requires moment { is_run_time moment ≡ true }
     requires short { seconds_of step.now ≤ 1000000000 }
     ensures { result ≡ effect_besides accepted moment step.now }
 {
@@ -98,13 +128,18 @@ fn effect_besides(accepted: u64, moment: i64, step: &Step) -> Option<Effect>
 }
 
 /// What a step has happen directly after it. An `Err` is want of memory.
-fn effect_on(store: &Store, moment: i64, step: &Step) -> Result<Option<Effect>, AllocError>
-    requires low { neg_ℤ (pos 1000000000000) ≤ℤ moment }
-    requires high { moment ≤ℤ pos 11000000000000 }
+fn effect_on(
+    store: &Store,
+    alloc: Global,
+    moment: i64,
+    step: &Step,
+) -> Result<Option<Effect>, AllocError>
+    requires moment { is_run_time moment ≡ true }
     requires short { seconds_of step.now ≤ 1000000000 }
+    requires form { is_step_form step.now ≡ true }
     ensures { IfOk result (λ e. e ≡ effect_on store.now.state.objects store.now.state.accepted moment step.now) }
 {
-    match call_for(store, step)? {
+    match call_for(store, alloc, moment, step)? {
         Some(call) => Ok(Some(Effect::Call(call))),
         None => Ok(effect_besides(store.accepted(), moment, step)),
     }
@@ -129,17 +164,18 @@ fn step_in(script: &[Step], place: u64) -> Option<&Step>
 /// What the step in this place of the script has happen. An `Err` is want of memory.
 fn effect_in(
     store: &Store,
+    alloc: Global,
     moment: i64,
     script: &[Step],
     place: u64,
 ) -> Result<Option<Effect>, AllocError>
-    requires low { neg_ℤ (pos 1000000000000) ≤ℤ moment }
-    requires high { moment ≤ℤ pos 11000000000000 }
+    requires moment { is_run_time moment ≡ true }
     requires ticks { All IsTickForm script.now }
+    requires forms { list_all is_step_form script.now ≡ true }
     ensures { IfOk result (λ e. e ≡ effect_in store.now.state.objects store.now.state.accepted moment script.now place) }
 {
     match step_in(script, place) {
-        Some(step) => effect_on(store, moment, step),
+        Some(step) => effect_on(store, alloc, moment, step),
         None => Ok(None),
     }
 }
@@ -217,12 +253,13 @@ impl World {
     /// # Errors
     ///
     /// Want of memory alone.
-    pub(crate) fn next_effect(&self) -> Result<Option<Effect>, AllocError>
+    pub(crate) fn next_effect(&self, alloc: Global) -> Result<Option<Effect>, AllocError>
         ensures effect { IfOk result (λ e. e ≡ spec.next_effect (setting_of self.now.scenario) self.now.history) }
         ensures setup { IsSetup self.now.scenario }
     {
         effect_in(
             &self.store,
+            alloc,
             self.moment,
             script_of(&self.scenario),
             self.made,
@@ -328,7 +365,7 @@ impl World {
         ensures scenario { self.new.scenario ≡ self.old.scenario }
         ensures err { OnErr result (self.new ≡ self.old) }
     {
-        match self.next_effect()? {
+        match self.next_effect(alloc)? {
             None => self.make_quiet(),
             Some(Effect::Call(call)) => self.make_call(alloc, call),
             Some(Effect::Tick { now }) => self.make_tick(now),

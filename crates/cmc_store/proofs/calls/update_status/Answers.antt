@@ -3,11 +3,20 @@ use Rattle.cmc_meta.specs.declared.key.Key.{Key}
 use Rattle.cmc_objects.specs.Objects.{key_of}
 use Rattle.cmc_model.specs.Objects.{object_at}
 use Rattle.cmc_model.specs.Replies.{IsRestated}
-use Rattle.cmc_store.proofs.Right.{restated_reply, reply_of_write}
+use Rattle.cmc_model.proofs.Admission.{is_taken-restated}
+use Rattle.cmc_model.proofs.Stored.{key_of-restated}
+use Rattle.cmc_store.proofs.Right.{not_refused, restated_reply, reply_of_write}
 use Rattle.cmc_store.proofs.calls.update_status.Goals as goal
 
 pub returns-in-Some-2-clause-reply : goal.returns-in-Some-2-clause-reply
 returns-in-Some-2-clause-reply c =
-    reply_of_write _ _ (λ reply. IsRestated c.args.accepted c.args.object.now c.args.named (object_at c.args.shelf.now (key_of c.args.object.now)) reply) c.write.ensures.told
-    (restated_reply c.args.accepted c.args.object.now c.in-Some.old.now c.args.named (object_at c.args.shelf.now (key_of c.args.object.now)) c.in_ok-key.key.name
-    (ap (object_at c.args.shelf.now) (sym c.in_ok-key.ensures) ∙ sym c.in-Some.ensures) (cc (c.if-have-named.false, c.meta.ensures)) (rw c.in-Some-2.is at c.in_ok-restate.ensures).0 (ap (λ (k : Key). k.name) c.in_ok-key.ensures))
+    reply_of_write _ _ (λ reply. IsRestated c.args.accepted c.args.object.now c.args.named (object_at c.args.catalogue.now (key_of c.args.object.now)) reply) c.write.ensures.told
+    (restated_reply c.args.accepted c.args.object.now c.in-Some.old.now c.args.named (object_at c.args.catalogue.now (key_of c.args.object.now)) c.in_ok-key.key.name
+    (ap (object_at c.args.catalogue.now) (sym c.in_ok-key.ensures) ∙ sym c.in-Some.ensures.object) (cc (c.if-have-named.false, c.meta.ensures)) (not_refused _ c.in-None.ensures) (rw c.in-Some-2.is at c.in_ok-restate-in-None.ensures).0 (ap (λ (k : Key). k.name) c.in_ok-key.ensures))
+
+pub write-requires-clause-key : goal.write-requires-clause-key
+write-requires-clause-key c = rw (rw c.in-Some-2.is at c.in_ok-restate-in-None.ensures).1 (key_of-restated _ c.in-Some.old.now c.args.object.now ∙ c.in-Some.ensures.stands.0)
+
+pub write-requires-clause-free : goal.write-requires-clause-free
+write-requires-clause-free c =
+    rw (rw c.in-Some-2.is at c.in_ok-restate-in-None.ensures).1 (is_taken-restated _ _ c.in-Some.old.now c.args.object.now ∙ c.in-Some.ensures.stands.1)

@@ -6,20 +6,11 @@ use Rattle.cmc_world.specs.Plain.{IsPlain}
 use Rattle.cmc_world.proofs.Sounds.{plain_act, trigger_desk}
 use Rattle.cmc_world.proofs.acts.trigger_call.Goals as goal
 
-pub returns-in-Nothing : goal.returns-in-Nothing
-returns-in-Nothing c = λ desk.
-    trigger_desk c.args.seen.now c.args.now desk c.empty_desk-desk.result
-    ∙ ap (λ (n : ℤ). act Trigger c.args.seen.now n c.empty_desk-desk.result) (sym (to_z-of_z w64 c.args.now (search rules)))
-    ∙ sym (c.in_ok-act.ensures) ∙ c.in-Nothing.is
+pub plain_call-requires : goal.plain_call-requires
+plain_call-requires c = subst IsPlain (sym (c.in_ok-does.ensures)) (plain_act Trigger c.args.seen.now (to_z w64 (of_z w64 c.args.now)) c.empty_desk.result)
 
-pub returns-in-Call : goal.returns-in-Call
-returns-in-Call c = λ desk.
-    trigger_desk c.args.seen.now c.args.now desk c.empty_desk-desk.result
-    ∙ ap (λ (n : ℤ). act Trigger c.args.seen.now n c.empty_desk-desk.result) (sym (to_z-of_z w64 c.args.now (search rules)))
-    ∙ sym (c.in_ok-act.ensures) ∙ c.in-Call.is
-
-pub unreachable-requires : goal.unreachable-requires
-unreachable-requires c = subst IsPlain (sym (c.in_ok-act.ensures) ∙ c.in-Ask.is) (plain_act Trigger c.args.seen.now (to_z w64 (of_z w64 c.args.now)) c.empty_desk-desk.result)
-
-pub unreachable-requires-in-Issue : goal.unreachable-requires-in-Issue
-unreachable-requires-in-Issue c = subst IsPlain (sym (c.in_ok-act.ensures) ∙ c.in-Issue.is) (plain_act Trigger c.args.seen.now (to_z w64 (of_z w64 c.args.now)) c.empty_desk-desk.result)
+pub returns : goal.returns
+returns c = λ desk.
+    trigger_desk c.args.seen.now c.args.now desk c.empty_desk.result
+    ∙ ap (λ (n : ℤ). act Trigger c.args.seen.now n c.empty_desk.result) (sym (to_z-of_z w64 c.args.now (search rules)))
+    ∙ sym (c.in_ok-does.ensures) ∙ c.plain_call.ensures

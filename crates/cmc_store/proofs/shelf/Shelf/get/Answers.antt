@@ -1,6 +1,6 @@
 use Rattle.std.proofs.Common.{sym, ◌∙◌}
-use Rattle.cmc_model.proofs.Maps.{object_at-from_entries}
+use Rattle.cmc_model.proofs.Maps.{get-lookup}
 use Rattle.cmc_store.proofs.shelf.Shelf.get.Goals as goal
 
 pub returns : goal.returns
-returns c = rw (← c.self.view_is) (c.get.ensures.value ∙ sym (object_at-from_entries _ _))
+returns c = rw (← c.self.view_is) (c.get.ensures.value ∙ sym (get-lookup _ _))

@@ -10,7 +10,7 @@ pub returns-clause-reply : goal.returns-clause-reply
 returns-clause-reply c =
     let none : list_any (λ n. n == c.self.inside.calls + 1) c.self.inside.faults ≡ false =
     ap (list_any (λ n. n == c.self.inside.calls + 1)) (sym c.as_slice.ensures) ∙ sym c.stands_in.ensures ∙ c.if-stands_in.false in
-    let s : State = record { objects = c.self.inside.shelf; accepted = c.self.inside.accepted; calls = c.self.inside.calls } in
+    let s : State = record { objects = c.self.inside.catalogue; accepted = c.self.inside.accepted; calls = c.self.inside.calls } in
     rw (← c.self.view_is) (served_reply c.self.inside.faults s c.args.call.now c.in_ok-replied.replied.reply none c.in_ok-replied.ensures.reply)
 
 pub returns-clause-object : goal.returns-clause-object

@@ -1,27 +1,26 @@
-use Rattle.std.proofs.Common.{◌≡◌, ℤ, List, Option, ap, pos, rules, subst, sym, w64, ◌∙◌}
-use Rattle.std.specs.List.{All}
-use Rattle.std.specs.Prelude.{◌≤ℤ◌, neg_ℤ, IfOk}
+use Rattle.std.proofs.Common.{◌≡◌, ℤ, List, Option, ap, rules, subst, sym, w64, ◌∙◌}
+use Rattle.std.specs.List.{All, list_all}
+use Rattle.std.specs.Prelude.{IfOk, true}
 use Rattle.std.proofs.lemmas.Int.{to_z-of_z}
 use Rattle.cmc_objects.specs.declared.entry.Step.{Step}
+use Rattle.cmc_objects.specs.Requests.{is_run_time}
 use Rattle.cmc_rules.specs.declared.effect.Effect.{Effect}
+use Rattle.cmc_setup.specs.Forms.{is_step_form}
 use Rattle.cmc_setup.specs.Setups.{IsSetup, IsTickForm}
 use Rattle.cmc_world.specs.Answers as spec
 use Rattle.cmc_world.specs.Kept.{Seen, setting_of}
 use Rattle.cmc_world.specs.Scripted.{effect_in}
-use Rattle.cmc_world.proofs.Stepping.{effect_kept, moment_bounds}
+use Rattle.cmc_world.proofs.Stepping.{effect_kept, run_moment}
 use Rattle.cmc_world.proofs.world.World.next_effect.Goals as goal
 
-pub effect_in-requires-clause-low : goal.effect_in-requires-clause-low
-effect_in-requires-clause-low c =
-    let bounds = moment_bounds c.self.inside.scenario c.self.inside.history.entries c.script_of.ensures.setup c.self.invariant.held.run.follows in
+pub effect_in-requires-clause-moment : goal.effect_in-requires-clause-moment
+effect_in-requires-clause-moment c =
+    let run = run_moment c.self.inside.scenario c.self.inside.history.entries c.script_of.ensures.setup c.self.invariant.held.run.follows in
     let same = to_z-of_z w64 c.self.inside.moment (search rules) in
-    subst (λ (m : ℤ). neg_ℤ (pos 1000000000000) ≤ℤ m) (sym (same ∙ c.self.invariant.held.moment)) bounds.0
+    subst (λ (m : ℤ). is_run_time m ≡ true) (sym (same ∙ c.self.invariant.held.moment)) run
 
-pub effect_in-requires-clause-high : goal.effect_in-requires-clause-high
-effect_in-requires-clause-high c =
-    let bounds = moment_bounds c.self.inside.scenario c.self.inside.history.entries c.script_of.ensures.setup c.self.invariant.held.run.follows in
-    let same = to_z-of_z w64 c.self.inside.moment (search rules) in
-    subst (λ (m : ℤ). m ≤ℤ pos 11000000000000) (sym (same ∙ c.self.invariant.held.moment)) bounds.1
+pub effect_in-requires-clause-forms : goal.effect_in-requires-clause-forms
+effect_in-requires-clause-forms c = ap (list_all is_step_form) c.script_of.ensures.value ∙ c.script_of.ensures.setup.steps
 
 pub effect_in-requires-clause-ticks : goal.effect_in-requires-clause-ticks
 effect_in-requires-clause-ticks c = subst (λ (l : List Step). All IsTickForm l) (sym c.script_of.ensures.value) c.script_of.ensures.setup.ticks

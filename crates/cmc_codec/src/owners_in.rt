@@ -1,0 +1,131 @@
+// Owner references, read from JSON.
+ghost use Rattle.std.specs.Prelude.{◌≡◌, Ok, decimal, map};
+ghost use Rattle.serde_json.specs.View.{view, items_view};
+ghost use Rattle.cmc_cursor.specs.Reading.{Gives, under};
+ghost use Rattle.cmc_cursor.specs.Seen.{shown};
+ghost use Rattle.cmc_codec.specs.MetadataForm as forms;
+
+use crate::metadata_in::{found_flag, found_name};
+use cmc_cursor::{BadField, Fields, at, decimal_of, drop_rest, fields, member};
+use cmc_meta::{Kind, OwnerRef, Owners, Text};
+use serde_json::Value;
+use std::alloc::Global;
+
+fn kind_named(text: &str) -> Option<Kind>
+    ensures { result ≡ forms.kind_named text.now }
+{
+    match text {
+        "Certificate" => Some(Kind::Certificate),
+        "CertificateRequest" => Some(Kind::CertificateRequest),
+        "Secret" => Some(Kind::Secret),
+        _ => None,
+    }
+}
+
+fn owner_kind(value: &Value) -> Option<Kind>
+    ensures { result ≡ forms.owner_kind (view value.now) }
+{
+    match member(value, "kind") {
+        None => None,
+        Some(text) => kind_named(text),
+    }
+}
+
+fn uid_of(alloc: Global, text: &str) -> Result<Option<u64>, BadField>
+    ensures { Gives (λ t. t) result (Ok (forms.uid_in text.now)) }
+{
+    let Some(digits) = text.strip_prefix("uid-") else {
+        return Ok(None);
+    };
+    match decimal_of(alloc, digits) {
+        Ok(uid) => Ok(Some(uid)),
+        Err(BadField::Path(_)) => Ok(None),
+        Err(BadField::NoMemory) => Err(BadField::NoMemory),
+    }
+}
+
+fn owner_uid(alloc: Global, value: &Value) -> Result<Option<u64>, BadField>
+    ensures { Gives (λ t. t) result (Ok (forms.owner_uid (view value.now))) }
+{
+    match member(value, "uid") {
+        None => Ok(None),
+        Some(text) => uid_of(alloc, text),
+    }
+}
+
+#[tactic(auto, unfolding(crate::specs::MetadataForm::kept_owner))]
+fn kept_owner(
+    alloc: Global,
+    kind: Kind,
+    uid: u64,
+    rest: Fields<'_, '_>,
+) -> Result<OwnerRef, BadField>
+    ensures { Gives (λ t. t) result (forms.kept_owner kind uid (map shown rest.now)) }
+{
+    let (controller, rest) = found_flag(alloc, rest, "controller")?;
+    let (name, rest) = found_name(alloc, rest, "name")?;
+    drop_rest(alloc, rest)?;
+    Ok(OwnerRef {
+        kind,
+        name,
+        uid,
+        controller,
+    })
+}
+
+fn owner_of(
+    alloc: Global,
+    kind: Option<Kind>,
+    uid: Option<u64>,
+    rest: Fields<'_, '_>,
+) -> Result<Option<OwnerRef>, BadField>
+    ensures { Gives (λ t. t) result (forms.owner_in kind uid (map shown rest.now)) }
+{
+    match (kind, uid) {
+        (Some(kind), Some(uid)) => Ok(Some(kept_owner(alloc, kind, uid, rest)?)),
+        _ => {
+            drop_rest(alloc, rest)?;
+            Ok(None)
+        }
+    }
+}
+
+#[tactic(auto, unfolding(crate::specs::MetadataForm::owner_at))]
+fn owner(alloc: Global, value: &Value) -> Result<Option<OwnerRef>, BadField>
+    ensures { Gives (λ t. t) result (forms.owner_at (view value.now)) }
+{
+    let members = fields(alloc, value)?;
+    let uid = owner_uid(alloc, value)?;
+    owner_of(alloc, owner_kind(value), uid, &members)
+}
+
+fn owner_item(alloc: Global, place: usize, value: &Value) -> Result<Option<OwnerRef>, BadField>
+    ensures { Gives (λ t. t) result (under (decimal place) (forms.owner_at (view value.now))) }
+{
+    at(alloc, place.to_string(alloc)?.as_str(), owner(alloc, value))
+}
+
+fn owners_of(alloc: Global, items: &[Value]) -> Result<Owners, BadField>
+    ensures { Gives (λ t. t) result (forms.owners_from 0 (items_view items.now)) }
+{
+    let mut owners = Owners::new(alloc);
+    for (place, item) in items.iter().enumerate() {
+        match owner_item(alloc, place, item) {
+            Ok(None) => {}
+            Ok(Some(owner)) => owners.push(owner)?,
+            Err(error) => return Err(error),
+        }
+    }
+    Ok(owners)
+}
+
+/// The owner references of an object (Kubernetes API conventions, `ownerReferences`). One whose
+/// kind is not among those of this store, or whose uid is none of this store, is dropped.
+pub fn owners(alloc: Global, value: &Value) -> Result<Owners, BadField>
+    ensures { Gives (λ t. t) result (forms.owners_at (view value.now)) }
+{
+    match value {
+        Value::Array(items) => owners_of(alloc, items.as_slice()),
+        _ => Err(BadField::Path(Text::new(alloc))),
+    }
+}

@@ -1,0 +1,223 @@
+//! Whether a Certificate is ready, and how long its certificate is valid.
+ghost use Rattle.std.specs.Option.{option_copied};
+ghost use Rattle.std.specs.Prelude.{◌≡◌, ◌++◌, ◌&&◌, IfOk, Some, codes};
+ghost use Rattle.cmc_meta.specs.declared.conditions.ConditionKind.TheVariants as kinds;
+ghost use Rattle.cmc_meta.specs.ConditionLists.{condition_at, transitioned};
+ghost use Rattle.cmc_objects.specs.declared.call.Call.TheVariants.{UpdateStatus};
+ghost use Rattle.cmc_objects.specs.declared.object.Object.TheVariants.{Cert};
+ghost use Rattle.cmc_pass.specs.declared.pass.Act.TheVariants.{Call as Calls};
+ghost use Rattle.cmc_objects.specs.declared.role.Role.TheVariants as roles;
+ghost use Rattle.cmc_match.specs.Facts.{pair_at};
+ghost use Rattle.cmc_policies.specs.Reasons.{reason_name};
+ghost use Rattle.cmc_rules.specs.Acts as acts;
+ghost use Rattle.cmc_rules.specs.Readying as spec;
+
+use crate::reasons::reason_for;
+use cmc_match::pair_in;
+use cmc_meta::{Condition, ConditionKind, Text, Tri};
+use cmc_objects::{Call, CertStatus, Certificate, CertificateRequest, Object, Secret};
+use cmc_pass::{Act, Desk, Views};
+use cmc_policies::{Frame, Reason, Renew, renewal_time};
+use std::alloc::{AllocError, Global};
+
+/// What the status says of the certificate that stands: when it begins and ends, and when it is renewed.
+#[derive(Clone, Copy)]
+pub struct Times {
+    pub not_before: Option<i64>,
+    pub not_after: Option<i64>,
+    pub renewal: Option<i64>,
+}
+
+fn times_in(secret: &Secret, renew: Renew) -> Times
+    ensures before { result.not_before ≡ spec.begins_at (pair_at (Some secret.now)) }
+    ensures after { result.not_after ≡ spec.ends_at (pair_at (Some secret.now)) }
+    ensures renewal { result.renewal ≡ spec.renews_at renew (pair_at (Some secret.now)) }
+{
+    match pair_in(secret) {
+        None => Times {
+            not_before: None,
+            not_after: None,
+            renewal: None,
+        },
+        Some(fields) => Times {
+            not_before: Some(fields.not_before),
+            not_after: Some(fields.not_after),
+            renewal: Some(renewal_time(fields.not_before, fields.not_after, renew)),
+        },
+    }
+}
+
+fn times_of(secret: &Option<Secret>, renew: Renew) -> Times
+    ensures before { result.not_before ≡ spec.begins_at (pair_at secret.now) }
+    ensures after { result.not_after ≡ spec.ends_at (pair_at secret.now) }
+    ensures renewal { result.renewal ≡ spec.renews_at renew (pair_at secret.now) }
+{
+    match secret {
+        None => Times {
+            not_before: None,
+            not_after: None,
+            renewal: None,
+        },
+        Some(secret) => times_in(secret, renew),
+    }
+}
+
+fn message(alloc: Global, reason: Reason) -> Result<Text, AllocError>
+    ensures { IfOk result (λ t. t ≡ codes "Certificate is not ready: " ++ reason_name reason) }
+{
+    let mut message = String::from_str(alloc, "Certificate is not ready: ")?;
+    message.push_str(reason.name())?;
+    Text::from_str(alloc, message.as_str())
+}
+
+#[tactic(auto, unfolding(cmc_rules::specs::Readying::ready_condition))]
+fn condition(alloc: Global, moment: i64, reason: Option<Reason>) -> Result<Condition, AllocError>
+    ensures { IfOk result (λ c. c ≡ spec.ready_condition moment reason) }
+{
+    match reason {
+        None => Ok(Condition {
+            kind: ConditionKind::Ready,
+            status: Tri::True,
+            reason: Text::from_str(alloc, "Ready")?,
+            message: Text::from_str(alloc, "Certificate is up to date and has not expired")?,
+            since: moment,
+        }),
+        Some(reason) => Ok(Condition {
+            kind: ConditionKind::Ready,
+            status: Tri::False,
+            reason: Text::from_str(alloc, reason.name())?,
+            message: message(alloc, reason)?,
+            since: moment,
+        }),
+    }
+}
+
+fn is_moment(left: Option<i64>, right: Option<i64>) -> bool
+    ensures { result ≡ spec.is_moment left right }
+{
+    match (left, right) {
+        (None, None) => true,
+        (Some(left), Some(right)) => left == right,
+        _ => false,
+    }
+}
+
+fn says(old: Option<&Condition>, new: &Condition) -> bool
+    ensures { result ≡ spec.says (option_copied old.entry) new.now }
+{
+    match old {
+        None => false,
+        Some(old) => {
+            old.status.same(new.status)
+                && (old.reason.as_str() == new.reason.as_str()
+                    && old.message.as_str() == new.message.as_str())
+        }
+    }
+}
+
+/// Whether the status has the times already.
+fn has_times(status: &CertStatus, times: Times) -> bool
+    ensures { result ≡ (spec.is_moment status.now.not_before times.not_before && (spec.is_moment status.now.not_after times.not_after && spec.is_moment status.now.renewal times.renewal)) }
+{
+    is_moment(status.not_before, times.not_before)
+        && (is_moment(status.not_after, times.not_after)
+            && is_moment(status.renewal, times.renewal))
+}
+
+fn is_settled(condition: &Condition, times: Times, status: &CertStatus) -> bool
+    ensures { result ≡ (spec.says (condition_at status.now.conditions kinds.Ready) condition.now && (spec.is_moment status.now.not_before times.not_before && (spec.is_moment status.now.not_after times.not_after && spec.is_moment status.now.renewal times.renewal))) }
+{
+    says(status.conditions.get(ConditionKind::Ready), condition) && has_times(status, times)
+}
+
+fn status_with(
+    condition: Condition,
+    times: Times,
+    status: &CertStatus,
+) -> Result<CertStatus, AllocError>
+    ensures { IfOk result (λ s. s ≡ record status.now { conditions = transitioned status.now.conditions condition; not_before = times.not_before; not_after = times.not_after; renewal = times.renewal }) }
+{
+    let mut changed = status.copy()?;
+    changed.conditions.set(condition)?;
+    changed.not_before = times.not_before;
+    changed.not_after = times.not_after;
+    changed.renewal = times.renewal;
+    Ok(changed)
+}
+
+fn with_status(certificate: &Certificate, status: CertStatus) -> Result<Act, AllocError>
+    ensures { IfOk result (λ a. a ≡ Calls (UpdateStatus (Cert (record certificate.now { status = status })) certificate.now.meta.version)) }
+{
+    let object = Object::Cert(Certificate {
+        meta: certificate.meta.copy()?,
+        spec: certificate.spec.copy()?,
+        status,
+    });
+    Ok(Act::Call(Call::UpdateStatus {
+        object,
+        version: certificate.meta.version,
+    }))
+}
+
+#[tactic(auto, unfolding(cmc_rules::specs::Readying::is_settled, cmc_rules::specs::Readying::ready_call, cmc_rules::specs::Readying::ready_status))]
+fn ready_by(
+    condition: Condition,
+    renew: Renew,
+    secret: &Option<Secret>,
+    certificate: &Certificate,
+) -> Result<Act, AllocError>
+    ensures { IfOk result (λ a. a ≡ spec.ready_by condition renew (pair_at secret.now) certificate.now) }
+{
+    let times = times_of(secret, renew);
+    if is_settled(&condition, times, &certificate.status) {
+        return Ok(Act::Nothing);
+    }
+    let status = status_with(condition, times, &certificate.status)?;
+    with_status(certificate, status)
+}
+
+fn ready_of(
+    alloc: Global,
+    moment: i64,
+    secret: &Option<Secret>,
+    requests: &[CertificateRequest],
+    certificate: &Certificate,
+) -> Result<Act, AllocError>
+    ensures { IfOk result (λ a. a ≡ spec.ready_of moment secret.now requests.now (Some certificate.now)) }
+{
+    let renew = Renew::by(
+        certificate.spec.renew_percent,
+        certificate.spec.renew_before,
+    );
+    let frame = Frame { now: moment, renew };
+    let reason = reason_for(frame, certificate, secret, requests);
+    let condition = condition(alloc, moment, reason)?;
+    ready_by(condition, renew, secret, certificate)
+}
+
+/// What the readiness controller does on these views at the moment `now`, in seconds since 1970-01-01T00:00:00Z.
+///
+/// It sets Ready to True where the Secret stands, has a key and a certificate that are a pair, fits the specification
+/// and the current request, and has not expired, and to False with the first reason that says otherwise; and it sets
+/// the times of the certificate that stands, and when that is renewed, or takes them away where there is no pair
+/// (cert-manager.io/v1 `CertificateStatus`). It does nothing where there is no Certificate, or its status says all
+/// of this already.
+///
+/// # Errors
+///
+/// Want of memory alone.
+#[tactic(auto, unfolding(cmc_rules::specs::Acts::act, cmc_rules::specs::Readying::readiness))]
+pub fn act_readiness(alloc: Global, views: &Views, now: i64, desk: &Desk) -> Result<Act, AllocError>
+    ensures { IfOk result (λ a. a ≡ acts.act roles.Readiness views.now now desk.now) }
+{
+    match &views.certificate {
+        None => Ok(Act::Nothing),
+        Some(certificate) => ready_of(
+            alloc,
+            now,
+            &views.secret,
+            views.requests.as_slice(),
+            certificate,
+        ),
+    }
+}

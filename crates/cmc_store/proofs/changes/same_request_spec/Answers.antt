@@ -1,6 +1,0 @@
-use Rattle.std.specs.Bool.{one_answer}
-use Rattle.cmc_model.proofs.SameSpecs.{request_spec_eq-Decides}
-use Rattle.cmc_store.proofs.changes.same_request_spec.Goals as goal
-
-pub returns : goal.returns
-returns c = one_answer _ _ c.same.ensures (request_spec_eq-Decides _ _)
