@@ -3,11 +3,13 @@
 ghost use Rattle.std.specs.Prelude.{◌≡◌, ◌≤◌, true};
 ghost use Rattle.cmc_objects.specs.Requests.{is_lifetime, is_row_form};
 
-use crate::made_requests;
 use crate::orders::question;
 use crate::values::{made, octets, text, texts};
 use crate::whole::request;
-use cmc_answers::{Denial, ScriptedSigner, Signer, judge, signing_of};
+use crate::{made_keys, made_requests};
+use cmc_answers::{
+    Denial, ScriptedSigner, Signer, judge, signing_of, temporary, temporary_is_read,
+};
 use cmc_meta::{Bytes, Texts};
 use cmc_objects::{CertificateRequest, JudgeOrder, Rules, SignRow, Signing};
 use cmc_policy_rules::{Field, Pattern, Patterns, Policies, Policy};
@@ -24,6 +26,10 @@ const OF_REQUEST: &str =
 // The same with the number of the question as its serial, for a day, and with the first stand-in key.
 const OF_STAND_IN: &str =
     "308201423082010fa003020102020107300a06082a8648ce3d040302300d310b300906035504030c026361301e170d3330303130313030303030305a170d3330303130323030303030305a30163114301206035504030c0b6578616d706c652e636f6d3059301306072a8648ce3d020106082a8648ce3d0301070342000400000000000000000000000000000000000000000000000000000000000000010000000000000000000000000000000000000000000000000000000000000001a357305530530603551d11044c304a820b6578616d706c652e636f6d820f7777772e6578616d706c652e636f6d87040a000001861568747470733a2f2f6578616d706c652e636f6d2f78810d61406578616d706c652e636f6d300a06082a8648ce3d0403020321009bffffaa2fe67a9ae6a1e2099d9a1f2d530cf5c619a372ba6bca86a92d9f8473";
+
+// What stands in for a certificate of that request and that key from the moment on; openssl reads it so.
+const STANDING_IN: &str =
+    "3082015530820122a0030201020204499602d2300a06082a8648ce3d040302301d311b301906035504030c12636572742d6d616e616765722e6c6f63616c301e170d3330303130313030303030305a170d3330303430313030303030305a30163114301206035504030c0b6578616d706c652e636f6d3059301306072a8648ce3d020106082a8648ce3d03010703420004c8d4912385d6e2891d6cfabb34b212e66324e6f7093596d65399c3133beba273bf1c4ba284d690d02756f61451a3b3791c0f7f9ef6d9ac371ee1fa5258d67588a357305530530603551d11044c304a820b6578616d706c652e636f6d820f7777772e6578616d706c652e636f6d87040a000001861568747470733a2f2f6578616d706c652e636f6d2f78810d61406578616d706c652e636f6d300a06082a8648ce3d0403020321008e637fd94d5398f950f81012c766a315a1fdf99c12efa02bc6df7f0f8158e8de";
 
 fn asking(alloc: Global, name: &str) -> Result<CertificateRequest, Fail> {
     let mut request = request(alloc)?;
@@ -75,6 +81,20 @@ fn issues_certificates(rt: HostRuntime) -> Result<(), Fail> {
     let row = issue(alloc, Some(86_400), 0, None, Some(1));
     let answer = signing_of(alloc, &row, 7, &asked, NOW)?;
     assert_eq!(rt; issued(&answer), octets(alloc, OF_STAND_IN)?.as_slice());
+    Ok(())
+}
+
+#[test]
+fn stands_in_while_a_request_waits(rt: HostRuntime) -> Result<(), Fail> {
+    let alloc = rt.alloc();
+    temporary_is_read();
+    let request = made(alloc, &[made_requests::MADE], "P-256, all names")?;
+    let key = made(alloc, &[made_keys::MADE], "p256 as PrivateKeyInfo")?;
+    let expected = octets(alloc, STANDING_IN)?;
+    let certificate = temporary(alloc, request.as_slice(), key.as_slice(), NOW)?;
+    assert!(rt; matches!(&certificate, Some(octets) if octets.as_slice() == expected.as_slice()));
+    assert!(rt; temporary(alloc, key.as_slice(), key.as_slice(), NOW)?.is_none());
+    assert!(rt; temporary(alloc, request.as_slice(), request.as_slice(), NOW)?.is_none());
     Ok(())
 }
 

@@ -1,7 +1,7 @@
 //! What no clause says: that a history takes entries and answers objects at versions, with ample memory.
 use crate::store::made;
 use crate::values::key;
-use crate::whole::certificate;
+use crate::whole::admitted_certificate;
 use cmc_history::History;
 use cmc_meta::{Key, Kind, Numbers};
 use cmc_objects::{Call, Entry, Object, Who};
@@ -37,12 +37,13 @@ fn looks_at_each_version(rt: HostRuntime) -> Result<(), Fail> {
     let mut history = History::new(alloc);
     let web = key(alloc, Kind::Certificate, "web")?;
     let create = Call::Create {
-        object: Object::Cert(certificate(alloc)?),
+        object: Object::Cert(admitted_certificate(alloc)?),
+        generate: false,
     };
     note(&mut history, &mut store, alloc, create.copy()?)?;
     note(&mut history, &mut store, alloc, create)?;
     let state = Call::UpdateStatus {
-        object: Object::Cert(certificate(alloc)?),
+        object: Object::Cert(admitted_certificate(alloc)?),
         version: 1,
     };
     note(&mut history, &mut store, alloc, state)?;

@@ -3,6 +3,8 @@
 #![tactic(auto)]
 
 #[cfg(test)]
+mod admission;
+#[cfg(test)]
 mod answers;
 #[cfg(test)]
 mod codec;
@@ -33,6 +35,8 @@ mod model;
 #[cfg(test)]
 mod objects;
 #[cfg(test)]
+mod objects_read;
+#[cfg(test)]
 mod orders;
 #[cfg(test)]
 mod pass;
@@ -48,14 +52,9 @@ mod scenario;
 mod store;
 #[cfg(test)]
 mod time;
-#[cfg(test)]
-mod trigger;
-#[cfg(test)]
-mod values;
+pub mod values;
 #[cfg(test)]
 mod whole;
-#[cfg(test)]
-mod world;
 #[cfg(test)]
 mod x509;
 #[cfg(test)]

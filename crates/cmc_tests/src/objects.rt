@@ -240,12 +240,14 @@ fn copies_each_call(rt: HostRuntime) -> Result<(), Fail> {
     let web = key(alloc, Kind::Certificate, "web")?;
     let create = Call::Create {
         object: Object::Request(request(alloc)?),
+        generate: true,
     };
     assert!(rt;
         matches!(
             create.copy()?,
             Call::Create {
-                object: Object::Request(_)
+                object: Object::Request(_),
+                generate: true,
             }
         )
     );

@@ -1,6 +1,7 @@
-//! What no clause says: that a scenario is read, with its defaults, where memory is ample.
-use cmc_objects::{Role, Step};
-use cmc_scenario::{Roles, Scenario, read};
+//! What no clause says: that a scenario is read, with its defaults, where memory is ample, and which texts are
+//! scenarios and where others fail.
+use cmc_objects::{KeyRow, Role, SignRow, Step};
+use cmc_scenario::{BadScenario, Roles, Scenario, read};
 use serde_json::Value;
 use std::alloc::Global;
 use std::test::Fail;
@@ -10,6 +11,24 @@ fn scenario(alloc: Global, text: &str) -> Result<Scenario, Fail> {
         Ok(value) => read(alloc, &value).map_err(|_| Fail::from("no scenario")),
         Err(_) => Err(Fail::from("no JSON")),
     }
+}
+
+/// Where a text fails, or `ok`.
+fn told(alloc: Global, text: &str) -> Result<String, Fail> {
+    let Ok(value) = Value::from_str(alloc, text) else {
+        return Err(Fail::from("no JSON"));
+    };
+    match read(alloc, &value) {
+        Ok(_) => Ok(String::from_str(alloc, "ok")?),
+        Err(BadScenario::Path(path)) => Ok(format!(in alloc; "at {}", path.as_str())?),
+        Err(BadScenario::NoMemory) => Err(Fail::from("no memory")),
+    }
+}
+
+/// Where a scenario with this script fails, whose role `trigger` runs at first.
+fn script_told(alloc: Global, steps: &str) -> Result<String, Fail> {
+    let text = format!(in alloc; "{{\"roles\":[\"trigger\"],\"script\":[{steps}]}}")?;
+    told(alloc, text.as_str())
 }
 
 #[test]
@@ -30,5 +49,354 @@ fn fills_in_what_a_scenario_leaves_out(rt: HostRuntime) -> Result<(), Fail> {
     let mut roles = Roles::new(alloc);
     roles.push(Role::Trigger)?;
     assert!(rt; matches!(roles.copy()?.as_slice(), [Role::Trigger]));
+    Ok(())
+}
+
+#[test]
+fn reads_the_members_that_stand(rt: HostRuntime) -> Result<(), Fail> {
+    let alloc = rt.alloc();
+    let text =
+        r#"{"events":7,"faults":[2,9],"now":"2031-01-01T00:00:00Z","roles":["trigger"],"window":3}"#;
+    let scenario = scenario(alloc, text)?;
+    assert_eq!(rt; scenario.events(), 7);
+    assert_eq!(rt; scenario.window(), 3);
+    assert_eq!(rt; scenario.now(), 1_924_992_000);
+    assert!(rt; matches!(scenario.faults(), [2, 9]));
+    assert!(rt; matches!(scenario.roles(), [Role::Trigger]));
+    Ok(())
+}
+
+#[test]
+fn reads_rows_and_policies(rt: HostRuntime) -> Result<(), Fail> {
+    let alloc = rt.alloc();
+    let material =
+        r#"{"default/web":{"keys":[{"synthetic":5}],"replies":[{"before":60,"reply":"issue"},{"reply":"fail"}]}}"#;
+    let approver =
+        r#"{"policies":[{"ipAddresses":["*","10.0.0.1"],"minDuration":"1h","name":"web"}],"refuse":["x"]}"#;
+    let text = format!(in alloc;
+        "{{\"approver\":{approver},\"material\":{material},\"roles\":[]}}"
+    )?;
+    let scenario = scenario(alloc, text.as_str())?;
+    for (key, rows) in scenario.material().as_map().iter() {
+        assert!(rt; key.name.as_str() == "web");
+        assert!(rt; matches!(rows.keys.as_slice(), [KeyRow::Synthetic(5)]));
+        assert!(rt;
+            matches!(
+                rows.replies.as_slice(),
+                [
+                    SignRow::Issue {
+                        seconds: None,
+                        before: 60,
+                        ..
+                    },
+                    SignRow::Fail { .. }
+                ]
+            )
+        );
+    }
+    let policies = scenario.approver().policies.as_slice();
+    assert_eq!(rt; policies.len(), 1);
+    let policy = &policies[0];
+    assert!(rt; policy.min == Some(3_600));
+    assert!(rt; policy.issuers.as_slice().len() == 1);
+    let Some(addresses) = &policy.ips else {
+        return Err(Fail::from("no addresses"));
+    };
+    assert!(rt; matches!(addresses.as_slice()[1].as_slice(), [10, 0, 0, 1]));
+    Ok(())
+}
+
+#[test]
+fn tells_where_members_fail(rt: HostRuntime) -> Result<(), Fail> {
+    let alloc = rt.alloc();
+    for (text, answer) in [
+        (r#"{"events":0}"#, "at events"),
+        (r#"{"events":1.5}"#, "at events"),
+        (r#"{"events":250001}"#, "at events"),
+        (r#"{"events":1e3}"#, "at events"),
+        (
+            r#"{"events":1234567890123456789012345678901234567890}"#,
+            "at events",
+        ),
+        (r#"{"events":1,"roles":[],"window":250000}"#, "ok"),
+        (r#"{"events":250000,"roles":[],"window":0}"#, "at window"),
+        (r#"{}"#, "at roles"),
+        (r#"{"x":1}"#, "at x"),
+        (r#"{"script":5}"#, "at script"),
+        (r#"[]"#, "at "),
+        (r#"{"":1}"#, "at "),
+        (r#"{"now":[1.5]}"#, "at now"),
+        (r#"{"now":"1951-01-01T00:00:00Z","roles":[]}"#, "ok"),
+        (r#"{"now":"1950-12-31T23:59:59Z","roles":[]}"#, "at now"),
+        (r#"{"now":"9900-01-01T00:00:00Z","roles":[]}"#, "ok"),
+        (r#"{"now":"9900-01-01T00:00:01Z","roles":[]}"#, "at now"),
+        (r#"{"faults":[1,2,9],"roles":[]}"#, "ok"),
+        (r#"{"faults":[0],"roles":[]}"#, "at faults.0"),
+        (r#"{"faults":[2,2],"roles":[]}"#, "at faults.1"),
+        (r#"{"faults":[3,2,1],"roles":[]}"#, "at faults.1"),
+        (r#"{"roles":["trigger","trigger"]}"#, "ok"),
+        (r#"{"roles":["trigger","keymanager"]}"#, "at roles.1"),
+        (r#"{"roles":["Trigger"]}"#, "at roles.0"),
+        (r#"{"approver":{"a":1}}"#, "at approver.a"),
+        (
+            r#"{"approver":{"issuers":["x",1]}}"#,
+            "at approver.issuers.1",
+        ),
+    ] {
+        assert_eq!(rt; told(alloc, text)?.as_str(), answer);
+    }
+    Ok(())
+}
+
+#[test]
+fn tells_where_steps_fail(rt: HostRuntime) -> Result<(), Fail> {
+    let alloc = rt.alloc();
+    for (steps, answer) in [
+        (r#"{"do":"settle"}"#, "ok"),
+        (r#"{"a":1,"do":"x"}"#, "at script.0.a"),
+        (r#"{"DO":1}"#, "at script.0.DO"),
+        (r#"{"certificate":5,"do":"x"}"#, "at script.0.do"),
+        (r#"{"certificate":1.5,"do":"x"}"#, "at script.0.certificate"),
+        (
+            r#"{"behind":0,"do":"stop","role":"trigger"}"#,
+            "at script.0.behind",
+        ),
+        (r#"{"do":"stop","role":"trigger"}"#, "ok"),
+        (r#"{"do":"stop","role":"issuer"}"#, "at script.0"),
+        (
+            r#"{"do":"settle"},{"do":"stop","role":"issuer"}"#,
+            "at script.1",
+        ),
+        (r#"{"do":"stop","role":"Issuer"}"#, "at script.0.role"),
+        (
+            r#"{"behind":0,"do":"start","role":"trigger"}"#,
+            "at script.0",
+        ),
+        (r#"{"behind":0,"do":"start","role":"readiness"}"#, "ok"),
+        (
+            r#"{"behind":0,"do":"start","role":"issuer"}"#,
+            "at script.0.role",
+        ),
+        (r#"{"do":"start","role":"issuer"}"#, "at script.0.behind"),
+        (r#"{"do":"hold","kind":"Secret","role":"trigger"}"#, "ok"),
+        (
+            r#"{"do":"hold","kind":"Secret","role":"approver"}"#,
+            "at script.0",
+        ),
+        (
+            r#"{"do":"hold","kind":"CertificateRequest","role":"keymanager"}"#,
+            "at script.0",
+        ),
+        (
+            r#"{"do":"release","kind":"Secret","role":"trigger"}"#,
+            "at script.0",
+        ),
+        (
+            r#"{"do":"until","kind":"Secret","writes":1}"#,
+            "at script.0.role",
+        ),
+        (r#"{"do":"tick","seconds":0}"#, "at script.0.seconds"),
+        (r#"{"do":"tick","seconds":1e3}"#, "at script.0.seconds"),
+        (r#"{"do":"tick","seconds":1000000000}"#, "ok"),
+        (
+            r#"{"do":"tick","seconds":1000000001}"#,
+            "at script.0.seconds",
+        ),
+        (
+            r#"{"certificate":"default/web","do":"approve","revision":1}"#,
+            "ok",
+        ),
+        (
+            r#"{"certificate":"default/web","do":"deny"}"#,
+            "at script.0.revision",
+        ),
+        (
+            r#"{"certificate":"web","do":"renew"}"#,
+            "at script.0.certificate",
+        ),
+        (
+            r#"{"certificate":"a/b","do":"answer","revision":1,"row":{"reply":"pending"}}"#,
+            "ok",
+        ),
+        (
+            r#"{"certificate":"a/b","do":"answer","revision":1,"row":{"seconds":1}}"#,
+            "at script.0.row.reply",
+        ),
+    ] {
+        assert_eq!(rt; script_told(alloc, steps)?.as_str(), answer);
+    }
+    Ok(())
+}
+
+const HOLD: &str = r#"{"do":"hold","kind":"Secret","role":"trigger"}"#;
+
+const RELEASE: &str = r#"{"do":"release","kind":"Secret","role":"trigger"}"#;
+
+const STOP: &str = r#"{"do":"stop","role":"trigger"}"#;
+
+const START: &str = r#"{"behind":3,"do":"start","role":"trigger"}"#;
+
+#[test]
+fn steps_come_in_turn(rt: HostRuntime) -> Result<(), Fail> {
+    let alloc = rt.alloc();
+    for (first, second, third, answer) in [
+        (HOLD, RELEASE, HOLD, "ok"),
+        (HOLD, HOLD, RELEASE, "at script.1"),
+        (HOLD, RELEASE, RELEASE, "at script.2"),
+        (STOP, START, STOP, "ok"),
+        (STOP, STOP, START, "at script.1"),
+        (STOP, START, START, "at script.2"),
+        (HOLD, STOP, HOLD, "at script.2"),
+        (HOLD, STOP, RELEASE, "ok"),
+    ] {
+        let steps = format!(in alloc; "{first},{second},{third}")?;
+        assert_eq!(rt; script_told(alloc, steps.as_str())?.as_str(), answer);
+    }
+    Ok(())
+}
+
+#[test]
+fn a_script_ends_in_time(rt: HostRuntime) -> Result<(), Fail> {
+    let alloc = rt.alloc();
+    for (seconds, answer) in [(60, "ok"), (61, "at script.0")] {
+        let text = format!(in alloc;
+            "{{\"now\":\"9899-12-31T23:59:00Z\",\"roles\":[],\"script\":[{{\"do\":\"tick\",\"seconds\":{seconds}}}]}}"
+        )?;
+        assert_eq!(rt; told(alloc, text.as_str())?.as_str(), answer);
+    }
+    Ok(())
+}
+
+#[test]
+fn a_script_has_ten_thousand_steps(rt: HostRuntime) -> Result<(), Fail> {
+    let alloc = rt.alloc();
+    let mut steps = String::from_str(alloc, r#"{"do":"settle"}"#)?;
+    for _ in 1..10_000 {
+        steps.push_str(r#",{"do":"settle"}"#)?;
+    }
+    assert_eq!(rt; script_told(alloc, steps.as_str())?.as_str(), "ok");
+    steps.push_str(",5")?;
+    assert_eq!(rt;
+        script_told(alloc, steps.as_str())?.as_str(),
+        "at script.10000"
+    );
+    Ok(())
+}
+
+#[test]
+fn tells_where_rows_fail(rt: HostRuntime) -> Result<(), Fail> {
+    let alloc = rt.alloc();
+    for (rows, answer) in [
+        (r#"{"a/b":{}}"#, "ok"),
+        (r#"{"b":{}}"#, "at material.b"),
+        (r#"{"a/b/c":{}}"#, "at material.a/b/c"),
+        (r#"{"a/b":{"keys":[{}]}}"#, "at material.a/b.keys.0"),
+        (
+            r#"{"a/b":{"keys":[{"der":"AAAA","synthetic":1}]}}"#,
+            "at material.a/b.keys.0.synthetic",
+        ),
+        (
+            r#"{"a/b":{"keys":[{"synthetic":1},{"der":"AAA"}]}}"#,
+            "at material.a/b.keys.1.der",
+        ),
+        (
+            r#"{"a/b":{"keys":[{"Der":""}]}}"#,
+            "at material.a/b.keys.0.Der",
+        ),
+        (
+            r#"{"a/b":{"replies":[{"reply":{}}]}}"#,
+            "at material.a/b.replies.0.reply",
+        ),
+        (
+            r#"{"a/b":{"replies":[{"DER":"","reply":"raw"}]}}"#,
+            "at material.a/b.replies.0.DER",
+        ),
+        (
+            r#"{"a/b":{"replies":[{"reply":"issue","seconds":3153600000}]}}"#,
+            "ok",
+        ),
+        (
+            r#"{"a/b":{"replies":[{"reply":"issue","seconds":3153600001}]}}"#,
+            "at material.a/b.replies.0.seconds",
+        ),
+        (
+            r#"{"a/b":{"replies":[{"reply":"issue","seconds":0}]}}"#,
+            "at material.a/b.replies.0.seconds",
+        ),
+        (
+            r#"{"a/b":{"replies":[{"before":86400,"reply":"issue"}]}}"#,
+            "ok",
+        ),
+        (
+            r#"{"a/b":{"replies":[{"before":86401,"reply":"issue"}]}}"#,
+            "at material.a/b.replies.0.before",
+        ),
+        (
+            r#"{"a/b":{"replies":[{"reply":"pending","seconds":1}]}}"#,
+            "at material.a/b.replies.0.seconds",
+        ),
+        (
+            r#"{"a/b":{"replies":[{"key":1,"reply":"raw"}]}}"#,
+            "at material.a/b.replies.0.der",
+        ),
+        (
+            r#"{"a/b":{"replies":[{"der":"","reply":"raw"},{"reply":"fail"}]}}"#,
+            "ok",
+        ),
+    ] {
+        let text = format!(in alloc; "{{\"material\":{rows},\"roles\":[]}}")?;
+        assert_eq!(rt; told(alloc, text.as_str())?.as_str(), answer);
+    }
+    Ok(())
+}
+
+#[test]
+fn tells_where_policies_fail(rt: HostRuntime) -> Result<(), Fail> {
+    let alloc = rt.alloc();
+    for (policy, answer) in [
+        (r#"{"dnsNames":["*.example.com"],"name":"web"}"#, "ok"),
+        (r#"{"name":""}"#, "ok"),
+        (
+            r#"{"dnsNames":["*.example.com"]}"#,
+            "at approver.policies.0.name",
+        ),
+        (
+            r#"{"dnsNames":["a",""],"name":"web"}"#,
+            "at approver.policies.0.dnsNames.1",
+        ),
+        (
+            r#"{"ipAddresses":["*","10.0.0.1","::1"],"name":"web"}"#,
+            "ok",
+        ),
+        (
+            r#"{"ipAddresses":["010.0.0.1"],"name":"web"}"#,
+            "at approver.policies.0.ipAddresses.0",
+        ),
+        (
+            r#"{"ipAddresses":["::ffff:1.2.3.4"],"name":"web"}"#,
+            "at approver.policies.0.ipAddresses.0",
+        ),
+        (
+            r#"{"maxDuration":"1000000000h","name":"web"}"#,
+            "at approver.policies.0.maxDuration",
+        ),
+        (r#"{"maxDuration":"999999999h","name":"web"}"#, "ok"),
+        (
+            r#"{"algorithm":"DSA","name":"web"}"#,
+            "at approver.policies.0.algorithm",
+        ),
+        (
+            r#"{"minSize":4294967296,"name":"web"}"#,
+            "at approver.policies.0.minSize",
+        ),
+        (r#"{"isCA":1,"name":"web"}"#, "at approver.policies.0.isCA"),
+        (
+            r#"{"name":"web","organizations":[]}"#,
+            "at approver.policies.0.organizations",
+        ),
+    ] {
+        let text = format!(in alloc; "{{\"approver\":{{\"policies\":[{policy}]}},\"roles\":[]}}")?;
+        assert_eq!(rt; told(alloc, text.as_str())?.as_str(), answer);
+    }
     Ok(())
 }

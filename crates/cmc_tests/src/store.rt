@@ -1,6 +1,6 @@
 //! What no clause says: that each reply comes, with ample memory.
 use crate::values::key;
-use crate::whole::certificate;
+use crate::whole::admitted_certificate;
 use cmc_meta::{Kind, Numbers};
 use cmc_objects::{Call, Object, Reply};
 use cmc_store::Store;
@@ -23,7 +23,8 @@ fn answers_each_call(rt: HostRuntime) -> Result<(), Fail> {
     let mut store = Store::new(alloc, faults);
     let web = key(alloc, Kind::Certificate, "web")?;
     let create = Call::Create {
-        object: Object::Cert(certificate(alloc)?),
+        object: Object::Cert(admitted_certificate(alloc)?),
+        generate: false,
     };
     assert!(rt;
         matches!(
@@ -38,7 +39,7 @@ fn answers_each_call(rt: HostRuntime) -> Result<(), Fail> {
         )
     );
     let state = Call::UpdateStatus {
-        object: Object::Cert(certificate(alloc)?),
+        object: Object::Cert(admitted_certificate(alloc)?),
         version: 1,
     };
     assert!(rt;
@@ -54,7 +55,7 @@ fn answers_each_call(rt: HostRuntime) -> Result<(), Fail> {
         )
     );
     let again = Call::UpdateStatus {
-        object: Object::Cert(certificate(alloc)?),
+        object: Object::Cert(admitted_certificate(alloc)?),
         version: 2,
     };
     assert!(rt;

@@ -102,6 +102,13 @@ pub fn certificate(alloc: Global) -> Result<Certificate, Fail> {
     })
 }
 
+/// The same, without a percentage, so that each admission rule lets it pass.
+pub fn admitted_certificate(alloc: Global) -> Result<Certificate, Fail> {
+    let mut certificate = certificate(alloc)?;
+    certificate.spec.renew_percent = None;
+    Ok(certificate)
+}
+
 pub fn request(alloc: Global) -> Result<CertificateRequest, Fail> {
     Ok(CertificateRequest {
         meta: meta(alloc, "web-1")?,

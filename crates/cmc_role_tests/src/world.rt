@@ -1,6 +1,5 @@
 // What no clause says: that each answer of a step can come, and that passes write, find nothing to do and are
 // refused. Pseudo-random moves are made on a world of several Certificates and Secrets, with lag, stops and starts.
-use crate::values::{key, least_spec, new_meta, text};
 use cmc_history::History;
 use cmc_meta::{Bytes, Conditions, Key, Kind, Numbers, Texts};
 use cmc_objects::{
@@ -8,6 +7,7 @@ use cmc_objects::{
 };
 use cmc_policy_rules::Policies;
 use cmc_scenario::{Roles, Scenario, Steps, is_setup};
+use cmc_tests::values::{key, least_spec, new_meta, text};
 use cmc_world::{Lack, Move, Stepped, World};
 use std::alloc::Global;
 use std::test::Fail;
@@ -99,7 +99,16 @@ fn scenario_of(
     material: Material,
     script: Steps,
 ) -> Result<Scenario, Fail> {
-    if is_setup(45, 2, 1_893_456_000, &roles, &faults, &script) {
+    if is_setup(
+        45,
+        2,
+        1_893_456_000,
+        &roles,
+        &faults,
+        &approver,
+        &material,
+        &script,
+    ) {
         return Ok(Scenario::new(
             45,
             2,

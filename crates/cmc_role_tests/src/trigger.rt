@@ -2,7 +2,6 @@
 ghost use Rattle.std.specs.Prelude.{◌≡◌, IfOk};
 ghost use Rattle.cmc_rules.specs.Dates.{IsDatedOption, HasDatedFailure};
 
-use crate::values::{least_spec, new_meta, octets, text};
 use cmc_meta::{Bytes, Condition, ConditionKind, Conditions, ObjectMeta, Pairs, Text, Texts, Tri};
 use cmc_objects::{
     Algorithm, Call, CertStatus, Certificate, CertificateRequest, IssuerRef, Material, Object,
@@ -10,6 +9,7 @@ use cmc_objects::{
 };
 use cmc_pass::{Act, Desk, Requests, Views};
 use cmc_policy_rules::Policies;
+use cmc_tests::values::{least_spec, new_meta, octets, text};
 use cmc_trigger::{act, is_sound};
 use std::alloc::{AllocError, Global};
 use std::test::Fail;
@@ -24,10 +24,10 @@ const CERTIFICATE: &str =
 
 /// Requests that `openssl req -new` made: of that key for the name of the Certificate, of that key for another
 /// name, and of the other key for the name.
-const REQUEST: &str =
+pub(crate) const REQUEST: &str =
     "3081e530818b02010030003059301306072a8648ce3d020106082a8648ce3d03010703420004c8d4912385d6e2891d6cfabb34b212e66324e6f7093596d65399c3133beba273bf1c4ba284d690d02756f61451a3b3791c0f7f9ef6d9ac371ee1fa5258d67588a029302706092a864886f70d01090e311a301830160603551d11040f300d820b6578616d706c652e636f6d300a06082a8648ce3d0403020349003046022100e553e0951877fe6777405e1651fb6b8127ab59fd3a9b9e14ec8920985b7884730221009f19801692ffff8620f22772810b314d00374857e60baf00f9d3ada0f891f800";
 
-const OTHER_NAME: &str =
+pub(crate) const OTHER_NAME: &str =
     "3081eb30819102010030003059301306072a8648ce3d020106082a8648ce3d03010703420004c8d4912385d6e2891d6cfabb34b212e66324e6f7093596d65399c3133beba273bf1c4ba284d690d02756f61451a3b3791c0f7f9ef6d9ac371ee1fa5258d67588a02f302d06092a864886f70d01090e3120301e301c0603551d110415301382116f746865722e6578616d706c652e636f6d300a06082a8648ce3d040302034900304602210097e19f05a2f2a815e7642d77443080c118bf27b695cc25833fb6fbb1d73391d90221008337014d79b3ccc597861c48302da091dbcd9d5a193951e3541bf38474a44053";
 
 const OTHER_KEY: &str =
@@ -42,19 +42,19 @@ const NOW: i64 = 1_893_456_000;
 /// What the controller sees: the parts of the Secret in hexadecimal and an annotation of it beside those of the
 /// issuer, the requests by revision and signing request, the status of Issuing, and the last failure; and when.
 #[derive(Clone, Copy)]
-struct Case {
-    parts: Option<(&'static str, &'static str)>,
-    mark: (&'static str, &'static str),
-    algorithm: Option<Algorithm>,
-    requests: &'static [(&'static str, &'static str)],
-    issuing: Option<Tri>,
-    failed: Option<i64>,
-    attempts: Option<u32>,
-    now: i64,
+pub(crate) struct Case {
+    pub(crate) parts: Option<(&'static str, &'static str)>,
+    pub(crate) mark: (&'static str, &'static str),
+    pub(crate) algorithm: Option<Algorithm>,
+    pub(crate) requests: &'static [(&'static str, &'static str)],
+    pub(crate) issuing: Option<Tri>,
+    pub(crate) failed: Option<i64>,
+    pub(crate) attempts: Option<u32>,
+    pub(crate) now: i64,
 }
 
 /// No Secret and no request; the Certificate was never tried.
-const NONE: Case = Case {
+pub(crate) const NONE: Case = Case {
     parts: None,
     mark: ("cert-manager.io/issuer-name", "ca"),
     algorithm: Some(Algorithm::Ecdsa),
@@ -66,7 +66,7 @@ const NONE: Case = Case {
 };
 
 /// All is well, a second before the certificate is to be renewed: 30 of its 90 days before its end.
-const WELL: Case = Case {
+pub(crate) const WELL: Case = Case {
     parts: Some((KEY, CERTIFICATE)),
     mark: ("cert-manager.io/certificate-name", "web"),
     requests: &[("1", REQUEST)],
@@ -196,7 +196,7 @@ fn no_status(alloc: Global) -> RequestStatus {
 }
 
 /// A request of the revision, with this signing request in hexadecimal and else as the Certificate asks.
-fn request(alloc: Global, number: &str, der: &str) -> Result<CertificateRequest, Fail> {
+pub(crate) fn request(alloc: Global, number: &str, der: &str) -> Result<CertificateRequest, Fail> {
     let meta = meta(alloc, "web-1", revision(alloc, number)?)?;
     Ok(CertificateRequest {
         meta,
@@ -232,7 +232,7 @@ fn told(alloc: Global, act: &Act) -> Result<String, AllocError> {
     format!(in alloc; "{version} {since} {reason}: {message}")
 }
 
-fn desk(alloc: Global) -> Desk {
+pub(crate) fn desk(alloc: Global) -> Desk {
     Desk {
         material: Material::new(alloc),
         asked: 0,
@@ -244,7 +244,7 @@ fn desk(alloc: Global) -> Desk {
     }
 }
 
-fn views(alloc: Global, case: &Case) -> Result<Views, Fail>
+pub(crate) fn views(alloc: Global, case: &Case) -> Result<Views, Fail>
     requires { IsDatedOption case.now.failed }
     ensures { IfOk result HasDatedFailure }
 {

@@ -1,0 +1,233 @@
+//! What no clause says: what the readiness and the revision controllers write, as texts, and that there is an answer
+//! where memory is ample.
+ghost use Rattle.std.specs.Prelude.{◌≡◌, None};
+
+use crate::trigger::{Case, NONE, OTHER_NAME, REQUEST, WELL, desk, request, views};
+use cmc_meta::{Condition, ConditionKind, Text, Tri};
+use cmc_objects::{Call, CertStatus, CertificateRequest, Object};
+use cmc_pass::{Act, Views};
+use cmc_status::{act_readiness, act_revision, is_readiness_sound, is_revision_sound};
+use cmc_tests::values::{name as object_name, text};
+use std::alloc::{AllocError, Global};
+use std::test::Fail;
+
+/// When the certificate of the tests begins, ends and is renewed: openssl prints the first two.
+const TIMES: &str = "1795748973 1803524973 1800932973";
+
+fn moment(alloc: Global, at: Option<i64>) -> Result<String, AllocError> {
+    match at {
+        None => format!(in alloc; "-"),
+        Some(at) => format!(in alloc; "{at}"),
+    }
+}
+
+fn times_of(alloc: Global, status: &CertStatus) -> Result<String, AllocError> {
+    let before = moment(alloc, status.not_before)?;
+    let after = moment(alloc, status.not_after)?;
+    let renewal = moment(alloc, status.renewal)?;
+    format!(in alloc; "{before} {after} {renewal}")
+}
+
+fn ready_of(alloc: Global, status: &CertStatus) -> Result<String, AllocError> {
+    let Some(condition) = status.conditions.get(ConditionKind::Ready) else {
+        return format!(in alloc; "no condition");
+    };
+    let reason = condition.reason.as_str();
+    let message = condition.message.as_str();
+    let since = condition.since;
+    if condition.status.same(Tri::True) {
+        format!(in alloc; "{since} True {reason}: {message}")
+    } else {
+        format!(in alloc; "{since} False {reason}: {message}")
+    }
+}
+
+/// What the act writes: the version that it names, the condition Ready and the times.
+fn told(alloc: Global, act: &Act) -> Result<String, AllocError> {
+    let Act::Call(
+        Call::UpdateStatus {
+            object: Object::Cert(certificate),
+            version,
+        },
+    ) = act
+    else {
+        return format!(in alloc; "nothing");
+    };
+    let ready = ready_of(alloc, &certificate.status)?;
+    let times = times_of(alloc, &certificate.status)?;
+    format!(in alloc; "{version} {ready} {times}")
+}
+
+fn told_of(alloc: Global, case: &Case) -> Result<String, Fail>
+    requires { case.now.failed ≡ None }
+{
+    let views = views(alloc, case)?;
+    let desk = desk(alloc);
+    let act = act_readiness(alloc, &views, case.now, &desk)?;
+    Ok(told(alloc, &act)?)
+}
+
+// What the status says comes from the Secret, the specification and the current request alone.
+#[test]
+fn says_whether_a_certificate_is_ready(rt: HostRuntime) -> Result<(), Fail> {
+    let alloc = rt.alloc();
+    is_readiness_sound();
+    let ends = Case {
+        now: 1_803_524_973,
+        ..WELL
+    };
+    let last = Case {
+        now: 1_803_524_972,
+        ..WELL
+    };
+    let other_issuer = Case {
+        mark: ("cert-manager.io/issuer-name", "other"),
+        ..WELL
+    };
+    let temporary = Case {
+        mark: ("cert-manager.io/temporary-certificate", "true"),
+        ..WELL
+    };
+    let rsa = Case {
+        algorithm: None,
+        ..WELL
+    };
+    let other_name = Case {
+        requests: &[("1", OTHER_NAME)],
+        ..WELL
+    };
+    for (case, reason, times) in [
+        (
+            NONE,
+            "False DoesNotExist: Certificate is not ready: DoesNotExist",
+            "- - -",
+        ),
+        (
+            WELL,
+            "True Ready: Certificate is up to date and has not expired",
+            TIMES,
+        ),
+        (
+            last,
+            "True Ready: Certificate is up to date and has not expired",
+            TIMES,
+        ),
+        (
+            ends,
+            "False Expired: Certificate is not ready: Expired",
+            TIMES,
+        ),
+        (
+            other_issuer,
+            "True Ready: Certificate is up to date and has not expired",
+            TIMES,
+        ),
+        (
+            temporary,
+            "False MissingData: Certificate is not ready: MissingData",
+            TIMES,
+        ),
+        (
+            rsa,
+            "False SecretMismatch: Certificate is not ready: SecretMismatch",
+            TIMES,
+        ),
+        (
+            other_name,
+            "False RequestChanged: Certificate is not ready: RequestChanged",
+            TIMES,
+        ),
+    ] {
+        let never_failed = Case {
+            failed: None,
+            ..case
+        };
+        let now = case.now;
+        let expected = format!(in alloc; "3 {now} {reason} {times}")?;
+        assert_eq!(rt; told_of(alloc, &never_failed)?.as_str(), expected.as_str());
+    }
+    Ok(())
+}
+
+/// A request of this name and revision that is Ready as the status says.
+fn ready_request(
+    alloc: Global,
+    name: &str,
+    number: &str,
+    status: Tri,
+) -> Result<CertificateRequest, Fail> {
+    let mut request = request(alloc, number, REQUEST)?;
+    request.meta.name = object_name(alloc, name)?;
+    let reason = text(alloc, "Issued")?;
+    request.status.conditions.set(Condition {
+        kind: ConditionKind::Ready,
+        status,
+        reason,
+        message: Text::new(alloc),
+        since: 0,
+    })?;
+    Ok(request)
+}
+
+/// The name of the request that goes, where this is the limit and these are the requests by name, revision and Ready.
+fn gone_of(
+    alloc: Global,
+    case: &Case,
+    limit: Option<u32>,
+    rows: &[(&str, &str, Tri)],
+) -> Result<String, Fail>
+    requires { case.now.failed ≡ None }
+{
+    let mut views: Views = views(alloc, case)?;
+    for (name, number, status) in rows {
+        views
+            .requests
+            .push(ready_request(alloc, name, number, *status)?)?;
+    }
+    if let Some(certificate) = &mut views.certificate {
+        certificate.spec.history_limit = limit;
+    }
+    let desk = desk(alloc);
+    match act_revision(alloc, &views, 0, &desk)? {
+        Act::Call(
+            Call::Delete {
+                key,
+                version: Some(_),
+            },
+        ) => Ok(String::from_str(alloc, key.name.as_str())?),
+        _ => Ok(String::from_str(alloc, "nothing")?),
+    }
+}
+
+#[test]
+fn keeps_as_many_requests_as_the_limit(rt: HostRuntime) -> Result<(), Fail> {
+    let alloc = rt.alloc();
+    is_revision_sound();
+    let issuing = Case {
+        issuing: Some(Tri::True),
+        ..NONE
+    };
+    let two = [("b", "1", Tri::True), ("c", "2", Tri::True)];
+    let later = [("b", "2", Tri::True), ("c", "1", Tri::True)];
+    let same = [("b", "1", Tri::True), ("c", "1", Tri::True)];
+    let failed = [("b", "1", Tri::False), ("c", "2", Tri::True)];
+    let unnumbered = [("b", "x", Tri::True), ("c", "2", Tri::True)];
+    for (case, limit, rows, gone) in [
+        (NONE, Some(1), two, "b"),
+        (NONE, Some(1), later, "c"),
+        (NONE, Some(1), same, "b"),
+        (NONE, Some(2), two, "nothing"),
+        (NONE, Some(1), failed, "nothing"),
+        (NONE, Some(1), unnumbered, "nothing"),
+        (NONE, None, two, "nothing"),
+        (issuing, Some(1), two, "nothing"),
+    ] {
+        let never_failed = Case {
+            failed: None,
+            ..case
+        };
+        let name = gone_of(alloc, &never_failed, limit, &rows)?;
+        assert_eq!(rt; name.as_str(), gone);
+    }
+    Ok(())
+}

@@ -1,5 +1,0 @@
-use Rattle.std.proofs.Common.{refl}
-use Rattle.cmc_tests.proofs.world.scenario_of.Goals as goal
-
-pub new-requires : goal.new-requires
-new-requires c = (c.if-is_setup.ensures c.args.approver c.args.material).0 refl
