@@ -7,7 +7,7 @@ use Rattle.cmc_model.specs.Verdicts.{IsAnswered, AreFinal}
 use Rattle.cmc_model.proofs.Verdicts.{verdicts_final}
 use Rattle.cmc_rules.specs.Legality.{IsLegal}
 
-answered : (s : Setting) (h : List Entry) → IsLegal s h → IsAnswered s h
+pub answered : (s : Setting) (h : List Entry) → IsLegal s h → IsAnswered s h
 unfolding IsLegal
 answered s [] legal = tt
 answered s (Called who call reply ∷ h) legal = (legal.0.0, answered s h legal.1)

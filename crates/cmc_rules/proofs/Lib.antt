@@ -8,3 +8,5 @@ pub mod Conditions
 pub mod Carrying
 pub mod Sighted
 pub mod Answered
+pub mod Admitted
+pub mod OwnSecrets

@@ -29,7 +29,7 @@ use Rattle.cmc_model.specs.Stored.{revised, restated}
 use Rattle.cmc_objects.specs.declared.call.Reply.{Reply}
 use Rattle.cmc_objects.specs.declared.call.Reply.TheVariants.{Ok, Unchanged, Found, Conflict, NotFound, AlreadyExists, Invalid, Unavailable}
 use Rattle.cmc_model.specs.Generated.{named}
-use Rattle.cmc_model.specs.Replies.{is_accepted, key_of_call, under_reply, settled, stored}
+use Rattle.cmc_model.specs.Replies.{is_accepted, under_reply, settled}
 use Rattle.cmc_model.proofs.Writing.{IsCallOf}
 use Rattle.cmc_model.specs.Accepting.{IsFounded}
 use Rattle.cmc_model.specs.Histories.{Setting, moment, state, objects, accepted}

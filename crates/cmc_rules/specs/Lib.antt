@@ -22,3 +22,4 @@ pub mod Acts
 pub mod Rights
 pub mod Sighting
 pub mod Sound
+pub mod Admitted

@@ -1,5 +1,5 @@
 -- Whether a Certificate is ready, and how long its certificate is valid (cert-manager.io/v1 `CertificateStatus`).
-use Rattle.std.specs.Prelude.{ℕ, ℤ, ◌++◌, ◌&&◌, Bool, true, false, codes, Option, Some, None, List, option_map, if◌then◌else◌}
+use Rattle.std.specs.Prelude.{ℤ, ◌++◌, ◌&&◌, Bool, true, false, codes, Option, Some, None, List, option_map, if◌then◌else◌}
 use Rattle.std.specs.Ordering.{int_eq}
 use Rattle.std.specs.Str.{bytes_eq}
 use Rattle.cmc_meta.specs.declared.conditions.Condition.{Condition}

@@ -1,5 +1,5 @@
 -- When a controller asks for the issuance of a Certificate: the condition Issuing.
-use Rattle.std.specs.Prelude.{ℕ, ℤ, Bool, false, not, ◌&&◌, ◌++◌, codes, List, Option, Some, None, if◌then◌else◌, int_lt}
+use Rattle.std.specs.Prelude.{ℤ, Bool, false, not, ◌&&◌, ◌++◌, codes, List, Option, Some, None, if◌then◌else◌, int_lt}
 use Rattle.cmc_meta.specs.declared.conditions.Condition.{Condition}
 use Rattle.cmc_meta.specs.declared.conditions.ConditionKind.TheVariants.{Issuing}
 use Rattle.cmc_meta.specs.declared.conditions.Tri.TheVariants.{True}

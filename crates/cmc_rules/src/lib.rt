@@ -7,5 +7,5 @@ mod laws;
 mod progress;
 
 pub use effect::Effect;
-pub use laws::verdicts_stay;
+pub use laws::{certificates_have_own_secrets, verdicts_stay, versions_meet_rules};
 pub use progress::{Ending, LastPass, Obstacle, OpenPass, Origin, Past, Stage};
