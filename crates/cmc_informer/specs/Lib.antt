@@ -1,0 +1,5 @@
+pub mod Indexes
+pub mod Caches
+pub mod Indexed
+pub mod Watching
+pub mod Informing

@@ -1,0 +1,111 @@
+//! An index from uids to keys.
+ghost use Rattle.std.specs.Option.{option_copied};
+ghost use Rattle.std.specs.Prelude.{◌≡◌, ◌&&◌, ◌==◌, ℕ, IfOk, OnOk, if◌then◌else◌, true, false};
+ghost use Rattle.cmc_meta.specs.declared.key.Key.{Key as KeyValue};
+ghost use Rattle.cmc_meta.specs.Keys.{key_eq};
+ghost use Rattle.cmc_informer.specs.Indexes.{AreKeys, Finds, KeepsRooms, has_room, stands};
+
+use crate::keys::Keys;
+use crate::marks::Marks;
+use cmc_meta::Key;
+use std::alloc::{AllocError, Global};
+use std::collections::BTreeMap;
+use std::marker::Model;
+
+/// Keys under uids.
+#[derive(Drop)]
+pub(crate) struct Index {
+    map: BTreeMap<u64, Marks>,
+}
+
+impl Model for Index {
+    ghost use Rattle.cmc_informer.specs.Indexes.{Index};
+
+    ghost Value = { Index };
+
+    ghost view = { λ i. i.map.entries };
+}
+
+impl Index {
+    /// No key stands. It takes no memory.
+    #[tactic(auto, unfolding(crate::specs::Indexes::stands))]
+    pub(crate) fn new(alloc: Global) -> Index
+        ensures { (u : ℕ) → (k : KeyValue) → stands result u k ≡ false }
+    {
+        Index {
+            map: BTreeMap::new(alloc),
+        }
+    }
+
+    /// The keys that stand under the uid, in order. An error is one of memory.
+    #[tactic(auto, unfolding(crate::specs::Indexes::stands))]
+    pub(crate) fn keys(&self, alloc: Global, uid: u64) -> Result<Keys, AllocError>
+        ensures { IfOk result (λ keys. AreKeys keys (λ k. stands self.now uid k)) }
+    {
+        match self.map.get(&uid) {
+            Some(marks) => marks.keys(alloc),
+            None => Ok(Keys::new(alloc)),
+        }
+    }
+
+    /// Makes a row for the uid, and changes nothing else. An error is one of memory.
+    #[tactic(auto, unfolding(crate::specs::Indexes::stands, crate::specs::Indexes::has_room, crate::specs::Indexes::mark_in, crate::specs::Indexes::has_place))]
+    fn row(&mut self, alloc: Global, uid: u64) -> Result<(), AllocError>
+        ensures same { (u : ℕ) → (k : KeyValue) → stands self.new u k ≡ stands self.old u k }
+        ensures keeps { KeepsRooms self.old self.new }
+    {
+        if self.map.contains_key(&uid) {
+            return Ok(());
+        }
+        self.map.insert(uid, Marks::new(alloc))?;
+        Ok(())
+    }
+
+    /// Makes room for the key under the uid, and changes nothing else. An error is one of memory.
+    #[tactic(auto, unfolding(crate::specs::Indexes::stands, crate::specs::Indexes::has_room))]
+    pub(crate) fn room(&mut self, alloc: Global, uid: u64, key: &Key) -> Result<(), AllocError>
+        ensures room { OnOk result (has_room self.new uid key.now ≡ true) }
+        ensures same { (u : ℕ) → (k : KeyValue) → stands self.new u k ≡ stands self.old u k }
+        ensures keeps { KeepsRooms self.old self.new }
+    {
+        self.row(alloc, uid)?;
+        match self.map.get_mut(&uid) {
+            Some(marks) => marks.room(key),
+            None => Err(AllocError),
+        }
+    }
+
+    /// The key stands under the uid. It takes no memory.
+    #[tactic(auto, unfolding(crate::specs::Indexes::stands, crate::specs::Indexes::has_room))]
+    pub(crate) fn put(&mut self, uid: u64, key: &Key)
+        requires { has_room self.old uid key.now ≡ true }
+        ensures stands { (u : ℕ) → (k : KeyValue) → stands self.new u k ≡ (if u == uid && key_eq key.now k then true else stands self.old u k) }
+        ensures keeps { KeepsRooms self.old self.new }
+    {
+        if let Some(marks) = self.map.get_mut(&uid) {
+            marks.put(key);
+        }
+    }
+
+    /// The key no longer stands under the uid, and its room is kept. It takes no memory.
+    #[tactic(auto, unfolding(crate::specs::Indexes::stands, crate::specs::Indexes::has_room))]
+    pub(crate) fn clear(&mut self, uid: u64, key: &Key)
+        ensures stands { (u : ℕ) → (k : KeyValue) → stands self.new u k ≡ (if u == uid && key_eq key.now k then false else stands self.old u k) }
+        ensures keeps { KeepsRooms self.old self.new }
+    {
+        if let Some(marks) = self.map.get_mut(&uid) {
+            marks.clear(key);
+        }
+    }
+
+    /// The first key that stands under the uid; `None` exactly where none does.
+    #[tactic(auto, unfolding(crate::specs::Indexes::stands))]
+    pub(crate) fn first(&self, uid: u64) -> Option<&Key>
+        ensures { Finds (λ k. stands self.now uid k) (option_copied result) }
+    {
+        match self.map.get(&uid) {
+            Some(marks) => marks.first(),
+            None => None,
+        }
+    }
+}

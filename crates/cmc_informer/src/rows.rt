@@ -1,0 +1,145 @@
+//! Objects with the indexes that lead to them, and how both change together.
+ghost use Rattle.std.specs.Prelude.{◌≡◌, ◌≤◌, ◌++◌, ◌∷◌, [], IfOk, OnOk, OnErr, length, reverse, if◌then◌else◌};
+ghost use Rattle.cmc_model.specs.Replies.{put_at};
+ghost use Rattle.cmc_model.specs.Objects.{no_objects};
+ghost use Rattle.cmc_model.specs.Writes as spec;
+ghost use Rattle.cmc_informer.specs.Caches.{objects_in, written};
+ghost use Rattle.cmc_informer.specs.Indexed.{HasRoom, HasRoomFor, IsIndexed, KeepsRoom};
+
+use crate::index::Index;
+use crate::owners::{move_owners, room_for_owners};
+use crate::slots::Slots;
+use crate::uids::{move_uid, room_for_uid};
+use cmc_meta::{Key, Kind};
+use cmc_model::Write;
+use cmc_objects::Object;
+use std::alloc::{AllocError, Global};
+
+/// The slots of objects, under each uid the keys of what it owns, and the key of the object that has it.
+#[derive(Drop)]
+pub(crate) struct Rows {
+    pub(crate) slots: Slots,
+    pub(crate) owners: Index,
+    pub(crate) uids: Index,
+}
+
+/// No objects. It takes no memory.
+#[tactic(auto, unfolding(crate::specs::Caches::slot_at, crate::specs::Caches::objects_in))]
+pub(crate) fn no_rows(alloc: Global) -> Rows
+    ensures objects { objects_in result.slots ≡ no_objects }
+    ensures indexed { IsIndexed result }
+{
+    Rows {
+        slots: Slots::new(alloc),
+        owners: Index::new(alloc),
+        uids: Index::new(alloc),
+    }
+}
+
+/// Makes room for the object under the key, or for taking one away, and changes nothing else. An error is
+/// one of memory.
+pub(crate) fn make_room(
+    alloc: Global,
+    rows: &mut Rows,
+    key: &Key,
+    object: &Option<Object>,
+) -> Result<(), AllocError>
+    ensures room { OnOk result (HasRoom rows.new key.now object.now) }
+    ensures same { objects_in rows.new.slots ≡ objects_in rows.old.slots }
+    ensures indexed { IsIndexed rows.old → IsIndexed rows.new }
+    ensures keeps { KeepsRoom rows.old rows.new }
+{
+    rows.slots.room(key)?;
+    room_for_owners(alloc, &mut rows.owners, object, key)?;
+    room_for_uid(alloc, &mut rows.uids, object, key)?;
+    Ok(())
+}
+
+/// Puts the object under the key, or takes away the one that stands there. It takes no memory.
+pub(crate) fn change(rows: &mut Rows, key: &Key, object: Option<Object>)
+    requires room { HasRoom rows.old key.now object }
+    requires indexed { IsIndexed rows.old }
+    ensures objects { objects_in rows.new.slots ≡ put_at (objects_in rows.old.slots) key.now object }
+    ensures indexed { IsIndexed rows.new }
+    ensures keeps { KeepsRoom rows.old rows.new }
+{
+    move_owners(&mut rows.owners, &rows.slots, &object, key);
+    move_uid(&mut rows.uids, &rows.slots, &object, key);
+    rows.slots.set(key, object);
+}
+
+fn copy_object(object: &Option<Object>) -> Result<Option<Object>, AllocError>
+    ensures { IfOk result (λ o. o ≡ object.now) }
+{
+    match object {
+        Some(object) => Ok(Some(object.copy()?)),
+        None => Ok(None),
+    }
+}
+
+fn copy_write(write: &Write) -> Result<Write, AllocError>
+    ensures { IfOk result (λ w. w ≡ write.now) }
+{
+    Ok(Write {
+        key: write.key.copy()?,
+        object: copy_object(&write.object)?,
+    })
+}
+
+/// Makes room for the write where it is one of the kind, and adds a copy of it to the changes.
+fn prepare_one(
+    alloc: Global,
+    rows: &mut Rows,
+    changes: &mut Vec<Write>,
+    write: &Write,
+    kind: Kind,
+) -> Result<(), AllocError>
+    requires { HasRoomFor rows.old changes.old.items }
+    ensures changes { OnOk result (changes.new.items ≡ (if spec.kind_eq write.now.key.kind kind then changes.old.items ++ write.now ∷ [] else changes.old.items)) }
+    ensures room { OnOk result (HasRoomFor rows.new changes.new.items) }
+    ensures same { objects_in rows.new.slots ≡ objects_in rows.old.slots }
+    ensures indexed { IsIndexed rows.old → IsIndexed rows.new }
+{
+    if write.key.kind == kind {
+        make_room(alloc, rows, &write.key, &write.object)?;
+        changes.push(copy_write(write)?)?;
+    }
+    Ok(())
+}
+
+/// Makes room for the writes of the kind above the one version and up to the other, and answers copies
+/// of them, the oldest first. An error is one of memory.
+pub(crate) fn prepare(
+    alloc: Global,
+    rows: &mut Rows,
+    writes: &[Write],
+    kind: Kind,
+    from: u64,
+    to: u64,
+) -> Result<Vec<Write>, AllocError>
+    requires above { from ≤ to }
+    requires within { to ≤ length writes.now }
+    ensures changes { IfOk result (λ ws. reverse ws.items ++ spec.of_kind kind (spec.oldest from (reverse writes.now)) ≡ spec.of_kind kind (spec.oldest to (reverse writes.now))) }
+    ensures room { IfOk result (λ ws. HasRoomFor rows.new ws.items) }
+    ensures same { objects_in rows.new.slots ≡ objects_in rows.old.slots }
+    ensures indexed { IsIndexed rows.old → IsIndexed rows.new }
+{
+    let mut changes = Vec::new(alloc);
+    for place in from..to {
+        prepare_one(alloc, rows, &mut changes, &writes[place as usize], kind)?;
+    }
+    Ok(changes)
+}
+
+/// Makes the changes in their order. It takes no memory.
+pub(crate) fn make(rows: &mut Rows, changes: Vec<Write>)
+    requires room { HasRoomFor rows.old changes.items }
+    requires indexed { IsIndexed rows.old }
+    ensures objects { objects_in rows.new.slots ≡ written (objects_in rows.old.slots) changes.items }
+    ensures indexed { IsIndexed rows.new }
+{
+    for write in changes {
+        let Write { key, object } = write;
+        change(rows, &key, object);
+    }
+}

@@ -1,0 +1,60 @@
+//! The index of which object has each uid, where an object changes.
+ghost use Rattle.std.specs.Prelude.{◌≡◌, ◌&&◌, ℕ, OnOk, if◌then◌else◌, true, false};
+ghost use Rattle.cmc_meta.specs.declared.key.Key.{Key as KeyValue};
+ghost use Rattle.cmc_meta.specs.Keys.{key_eq};
+ghost use Rattle.cmc_informer.specs.Caches.{HasRooms, has_uid, slot_at};
+ghost use Rattle.cmc_informer.specs.Indexes.{KeepsRooms, stands};
+
+use crate::index::Index;
+use crate::slots::Slots;
+use cmc_meta::Key;
+use cmc_objects::Object;
+use std::alloc::{AllocError, Global};
+
+/// Makes room for the key under the uid of the object. An error is one of memory.
+pub(crate) fn room_for_uid(
+    alloc: Global,
+    index: &mut Index,
+    object: &Option<Object>,
+    key: &Key,
+) -> Result<(), AllocError>
+    ensures room { OnOk result (HasRooms has_uid index.new object.now key.now) }
+    ensures same { (u : ℕ) → (k : KeyValue) → stands index.new u k ≡ stands index.old u k }
+    ensures keeps { KeepsRooms index.old index.new }
+{
+    if let Some(object) = object {
+        index.room(alloc, object.meta().uid, key)?;
+    }
+    Ok(())
+}
+
+fn enter(index: &mut Index, object: &Option<Object>, key: &Key)
+    requires { HasRooms has_uid index.old object.now key.now }
+    ensures stands { (u : ℕ) → (k : KeyValue) → stands index.new u k ≡ (if has_uid u object.now && key_eq key.now k then true else stands index.old u k) }
+    ensures keeps { KeepsRooms index.old index.new }
+{
+    if let Some(object) = object {
+        index.put(object.meta().uid, key);
+    }
+}
+
+fn leave(index: &mut Index, slots: &Slots, key: &Key)
+    ensures stands { (u : ℕ) → (k : KeyValue) → stands index.new u k ≡ (if has_uid u (slot_at slots.now key.now) && key_eq key.now k then false else stands index.old u k) }
+    ensures keeps { KeepsRooms index.old index.new }
+{
+    if let Some(object) = slots.get(key) {
+        index.clear(object.meta().uid, key);
+    }
+}
+
+/// The key comes to stand under the uid of the new object, and no longer under that of the one that is in
+/// its slot. It takes no memory.
+pub(crate) fn move_uid(index: &mut Index, slots: &Slots, new: &Option<Object>, key: &Key)
+    requires rooms { HasRooms has_uid index.old new.now key.now }
+    requires stood { (u : ℕ) → stands index.old u key.now ≡ has_uid u (slot_at slots.now key.now) }
+    ensures stands { (u : ℕ) → (k : KeyValue) → stands index.new u k ≡ (if key_eq key.now k then has_uid u new.now else stands index.old u k) }
+    ensures keeps { KeepsRooms index.old index.new }
+{
+    leave(index, slots, key);
+    enter(index, new, key);
+}

@@ -1,0 +1,9 @@
+pub mod Keys
+pub mod OneRow
+pub mod Due
+pub mod Reached
+pub mod Ticking
+pub mod Moving
+pub mod Found
+pub mod Firsts
+pub mod Counts

@@ -1,0 +1,93 @@
+-- What the rows are while keys are made ready that wait for a version.
+use Rattle.std.proofs.Common.{◌≡◌, ◌⊎◌, inl, inr, ℕ, Bool, true, false, List, Option, Some, None, refl, sym, ap, ◌∙◌, subst}
+use Rattle.std.specs.Prelude.{if◌then◌else◌, nat_le, ◌==◌, ◌&&◌}
+use Rattle.cmc_meta.specs.declared.key.Key.{Key}
+use Rattle.cmc_meta.specs.declared.key.Kind.{Kind}
+use Rattle.cmc_meta.specs.Keys.{key_eq, kind_rank}
+use Rattle.cmc_queue.specs.declared.row.Parked.{Parked}
+use Rattle.cmc_queue.specs.declared.row.Row.{Row}
+use Rattle.cmc_queue.specs.Rows.{row_in, moved, is_reached}
+use Rattle.cmc_queue.specs.Queues.{is_listed, IsParked}
+use Rattle.cmc_queue.proofs.Ticking.{equal_keys}
+
+same_twice : (b : Bool) (kind : Kind) (to : ℕ) (row : Row) → is_reached kind to row.parked ≡ b
+    → moved kind to (if b then record row { ready = true; parked = None } else row) ≡ (if b then record row { ready = true; parked = None } else row)
+unfolding moved
+same_twice true kind to row e = refl
+same_twice false kind to row e = rw e refl
+
+twice : (kind : Kind) (to : ℕ) (row : Row) → moved kind to (moved kind to row) ≡ moved kind to row
+unfolding moved
+twice kind to row = same_twice (is_reached kind to row.parked) kind to row refl
+
+parked_before : (b : Bool) (kind : Kind) (to : ℕ) (row : Row) (p : Parked) → is_reached kind to row.parked ≡ b → (if b then record row { ready = true; parked = None } else row).parked ≡ Some p
+    → (row.parked ≡ Some p) × (((kind_rank p.kind == kind_rank kind) && nat_le p.version to) ≡ false)
+parked_before true kind to row p e is = absurd (cc is)
+parked_before false kind to row p e is = (is, subst (λ (o : Option Parked). is_reached kind to o ≡ false) is e)
+
+pub still_parked : (kind : Kind) (to : ℕ) (row : Row) (p : Parked) → (moved kind to row).parked ≡ Some p → (row.parked ≡ Some p) × (((kind_rank p.kind == kind_rank kind) && nat_le p.version to) ≡ false)
+unfolding moved
+still_parked kind to row p is = parked_before (is_reached kind to row.parked) kind to row p refl is
+
+pub untouched : (kind : Kind) (to : ℕ) (row : Row) → is_reached kind to row.parked ≡ false → moved kind to row ≡ row
+unfolding moved
+untouched kind to row e = rw e refl
+
+-- some rows are moved, and each key that still waits for a version of the kind is still listed
+pub record IsMoving (kind : Kind) (to : ℕ) (old rows : List (Key × Row)) (versions : List (ℕ × Key)) : Type 0 where
+  pub each : (k : Key) → (row_in rows k ≡ row_in old k) ⊎ (row_in rows k ≡ moved kind to (row_in old k))
+  pub parked : IsParked kind rows versions
+
+one_row : (b : Bool) (kind : Kind) (to : ℕ) (before was is : Row) → is ≡ (if b then moved kind to was else was) → (was ≡ before) ⊎ (was ≡ moved kind to before) → (is ≡ before) ⊎ (is ≡ moved kind to before)
+one_row true kind to before was is e (inl same) = inr (e ∙ ap (moved kind to) same)
+one_row true kind to before was is e (inr done) = inr (e ∙ ap (moved kind to) done ∙ twice kind to before)
+one_row false kind to before was is e (inl same) = inl (e ∙ same)
+one_row false kind to before was is e (inr done) = inr (e ∙ done)
+
+above : (b : Bool) (n to : ℕ) → b ≡ true → (b && nat_le n to) ≡ false → nat_le n to ≡ false
+above true n to e off = off
+above false n to e off = absurd (cc e)
+
+still_listed : (b : Bool) (kind : Kind) (to : ℕ) (key k : Key) (was is : Row) (p : Parked) (popped : ℕ) (versions left : List (ℕ × Key)) → key_eq key k ≡ b → is ≡ (if b then moved kind to was else was) → is.parked ≡ Some p
+    → (kind_rank p.kind == kind_rank kind) ≡ true → nat_le popped to ≡ true → (was.parked ≡ Some p → is_listed versions p.version k ≡ true)
+    → (is_listed versions p.version k ≡ true → (is_listed left p.version k ≡ true) ⊎ ((p.version ≡ popped) × (k ≡ key))) → is_listed left p.version k ≡ true
+still_listed true kind to key k was is p popped versions left e row parked of_kind low listed others =
+    let before = still_parked kind to was p (subst (λ (r : Row). r.parked ≡ Some p) row parked) in
+    elim (others (listed before.0)) [
+      | inl stays ↦ stays
+      | inr same ↦
+          let here : nat_le p.version to ≡ true = subst (λ (n : ℕ). nat_le n to ≡ true) (sym same.0) low in
+          let off : nat_le p.version to ≡ false = above (kind_rank p.kind == kind_rank kind) p.version to of_kind before.1 in
+          absurd (cc (here, off))
+    ]
+still_listed false kind to key k was is p popped versions left e row parked of_kind low listed others =
+    elim (others (listed (subst (λ (r : Row). r.parked ≡ Some p) row parked))) [
+      | inl stays ↦ stays
+      | inr same ↦ let here : key_eq key k ≡ true = subst (λ (q : Key). key_eq q k ≡ true) same.1 (equal_keys k) in absurd (cc (here, e))
+    ]
+
+-- one more key is taken out, and its row is moved
+pub moving_on : (kind : Kind) (to : ℕ) (old rows new : List (Key × Row)) (versions left : List (ℕ × Key)) (q : ℕ × Key) → IsMoving kind to old rows versions → nat_le q.0 to ≡ true
+    → ((n : ℕ) (k : Key) → is_listed versions n k ≡ true → (is_listed left n k ≡ true) ⊎ ((n ≡ q.0) × (k ≡ q.1)))
+    → ((k : Key) → row_in new k ≡ (if key_eq q.1 k then moved kind to (row_in rows k) else row_in rows k)) → IsMoving kind to old new left
+moving_on kind to old rows new versions left q so low others each = record {
+  each = λ k. one_row (key_eq q.1 k) kind to (row_in old k) (row_in rows k) (row_in new k) (each k) (so.each k);
+  parked = λ k p is of_kind.
+      still_listed (key_eq q.1 k) kind to q.1 k (row_in rows k) (row_in new k) p q.0 versions left refl (each k) is of_kind low (λ was. so.parked k p was of_kind) (others p.version k);
+}
+
+not_reached : (o : Option Parked) (kind : Kind) (to : ℕ) → ((p : Parked) → o ≡ Some p → (kind_rank p.kind == kind_rank kind) ≡ true → nat_le p.version to ≡ false) → is_reached kind to o ≡ false
+not_reached None kind to none = refl
+not_reached (Some p) kind to none = by_kind (kind_rank p.kind == kind_rank kind) refl where
+  by_kind : (b : Bool) → (kind_rank p.kind == kind_rank kind) ≡ b → (b && nat_le p.version to) ≡ false
+  by_kind true e = none p refl e
+  by_kind false e = refl
+
+come : (kind : Kind) (to : ℕ) (before is : Row) → is_reached kind to is.parked ≡ false → (is ≡ before) ⊎ (is ≡ moved kind to before) → is ≡ moved kind to before
+come kind to before is none (inl same) = same ∙ sym (untouched kind to before (subst (λ (r : Row). is_reached kind to r.parked ≡ false) same none))
+come kind to before is none (inr done) = done
+
+-- where no version that is reached is left, all rows are moved
+pub moved_all : (kind : Kind) (to : ℕ) (old rows : List (Key × Row)) (versions : List (ℕ × Key)) → IsMoving kind to old rows versions → ((n : ℕ) (k : Key) → is_listed versions n k ≡ true → nat_le n to ≡ false)
+    → (k : Key) → row_in rows k ≡ moved kind to (row_in old k)
+moved_all kind to old rows versions so none k = come kind to (row_in old k) (row_in rows k) (not_reached _ kind to (λ p is of_kind. none p.version k (so.parked k p is of_kind))) (so.each k)

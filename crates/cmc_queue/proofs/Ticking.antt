@@ -1,0 +1,86 @@
+-- What the rows are while keys are made ready whose moments have come.
+use Rattle.std.proofs.Common.{◌≡◌, ◌⊎◌, inl, inr, ℤ, Bool, true, false, List, Option, Some, None, refl, sym, ap, ◌∙◌, subst, int_le}
+use Rattle.std.specs.Cmp.{tied_itself}
+use Rattle.std.specs.Ordering.{is_eq}
+use Rattle.std.specs.Prelude.{if◌then◌else◌}
+use Rattle.cmc_meta.specs.declared.key.Key.{Key}
+use Rattle.cmc_meta.specs.Keys.{key_eq}
+use Rattle.cmc_queue.specs.declared.row.Row.{Row}
+use Rattle.cmc_queue.specs.Rows.{row_in, ticked, is_due}
+use Rattle.cmc_queue.specs.Queues.{is_noted, IsTimed}
+use Rattle.cmc_queue.proofs.Keys.{key_cmp-total}
+use Rattle.cmc_queue.proofs.OneRow.{key_tie}
+
+same_twice : (b : Bool) (now : ℤ) (row : Row) → is_due now row.timed ≡ b → ticked now (if b then record row { ready = true; timed = None } else row) ≡ (if b then record row { ready = true; timed = None } else row)
+unfolding ticked
+same_twice true now row e = refl
+same_twice false now row e = rw e refl
+
+twice : (now : ℤ) (row : Row) → ticked now (ticked now row) ≡ ticked now row
+unfolding ticked
+twice now row = same_twice (is_due now row.timed) now row refl
+
+timed_before : (b : Bool) (now : ℤ) (row : Row) (at : ℤ) → is_due now row.timed ≡ b → (if b then record row { ready = true; timed = None } else row).timed ≡ Some at → (row.timed ≡ Some at) × (int_le at now ≡ false)
+timed_before true now row at e is = absurd (cc is)
+timed_before false now row at e is = (is, subst (λ (t : Option ℤ). is_due now t ≡ false) is e)
+
+still_timed : (now : ℤ) (row : Row) (at : ℤ) → (ticked now row).timed ≡ Some at → (row.timed ≡ Some at) × (int_le at now ≡ false)
+unfolding ticked
+still_timed now row at is = timed_before (is_due now row.timed) now row at refl is
+
+pub untouched : (now : ℤ) (row : Row) → is_due now row.timed ≡ false → ticked now row ≡ row
+unfolding ticked
+untouched now row e = rw e refl
+
+-- some rows have come to the moment, and each that has not is still noted
+pub record IsTicking (now : ℤ) (old rows : List (Key × Row)) (due : List (ℤ × Key)) : Type 0 where
+  pub each : (k : Key) → (row_in rows k ≡ row_in old k) ⊎ (row_in rows k ≡ ticked now (row_in old k))
+  pub timed : IsTimed rows due
+
+pub ticking_from : (now : ℤ) (rows : List (Key × Row)) (due : List (ℤ × Key)) → IsTimed rows due → IsTicking now rows rows due
+ticking_from now rows due timed = record { each = λ k. inl refl; timed = timed }
+
+one_row : (b : Bool) (now : ℤ) (before was is : Row) → is ≡ (if b then ticked now was else was) → (was ≡ before) ⊎ (was ≡ ticked now before) → (is ≡ before) ⊎ (is ≡ ticked now before)
+one_row true now before was is e (inl same) = inr (e ∙ ap (ticked now) same)
+one_row true now before was is e (inr done) = inr (e ∙ ap (ticked now) done ∙ twice now before)
+one_row false now before was is e (inl same) = inl (e ∙ same)
+one_row false now before was is e (inr done) = inr (e ∙ done)
+
+pub equal_keys : (k : Key) → key_eq k k ≡ true
+equal_keys k = sym (key_tie k k) ∙ ap is_eq (tied_itself key_cmp-total k)
+
+still_noted : (b : Bool) (now : ℤ) (key k : Key) (was is : Row) (at popped : ℤ) (due left : List (ℤ × Key)) → key_eq key k ≡ b → is ≡ (if b then ticked now was else was) → is.timed ≡ Some at
+    → int_le popped now ≡ true → (was.timed ≡ Some at → is_noted due at k ≡ true) → (is_noted due at k ≡ true → (is_noted left at k ≡ true) ⊎ ((at ≡ popped) × (k ≡ key))) → is_noted left at k ≡ true
+still_noted true now key k was is at popped due left e row timed low noted others =
+    let before = still_timed now was at (subst (λ (r : Row). r.timed ≡ Some at) row timed) in
+    elim (others (noted before.0)) [
+      | inl stays ↦ stays
+      | inr same ↦ let here : int_le at now ≡ true = subst (λ (t : ℤ). int_le t now ≡ true) (sym same.0) low in absurd (cc (here, before.1))
+    ]
+still_noted false now key k was is at popped due left e row timed low noted others =
+    elim (others (noted (subst (λ (r : Row). r.timed ≡ Some at) row timed))) [
+      | inl stays ↦ stays
+      | inr same ↦ let here : key_eq key k ≡ true = subst (λ (q : Key). key_eq q k ≡ true) same.1 (equal_keys k) in absurd (cc (here, e))
+    ]
+
+-- one more key is taken out, and its row comes to the moment
+pub ticking_on : (now : ℤ) (old rows new : List (Key × Row)) (due left : List (ℤ × Key)) (p : ℤ × Key) → IsTicking now old rows due → int_le p.0 now ≡ true
+    → ((at : ℤ) (k : Key) → is_noted due at k ≡ true → (is_noted left at k ≡ true) ⊎ ((at ≡ p.0) × (k ≡ p.1)))
+    → ((k : Key) → row_in new k ≡ (if key_eq p.1 k then ticked now (row_in rows k) else row_in rows k)) → IsTicking now old new left
+ticking_on now old rows new due left p so low others each = record {
+  each = λ k. one_row (key_eq p.1 k) now (row_in old k) (row_in rows k) (row_in new k) (each k) (so.each k);
+  timed = λ k at is. still_noted (key_eq p.1 k) now p.1 k (row_in rows k) (row_in new k) at p.0 due left refl (each k) is low (so.timed k at) (others at k);
+}
+
+not_due : (o : Option ℤ) (now : ℤ) → ((at : ℤ) → o ≡ Some at → int_le at now ≡ false) → is_due now o ≡ false
+not_due None now none = refl
+not_due (Some at) now none = none at refl
+
+come : (now : ℤ) (before is : Row) → is_due now is.timed ≡ false → (is ≡ before) ⊎ (is ≡ ticked now before) → is ≡ ticked now before
+come now before is none (inl same) = same ∙ sym (untouched now before (subst (λ (r : Row). is_due now r.timed ≡ false) same none))
+come now before is none (inr done) = done
+
+-- where no moment that has come is left, all rows have come to it
+pub ticked_all : (now : ℤ) (old rows : List (Key × Row)) (due : List (ℤ × Key)) → IsTicking now old rows due → ((at : ℤ) (k : Key) → is_noted due at k ≡ true → int_le at now ≡ false)
+    → (k : Key) → row_in rows k ≡ ticked now (row_in old k)
+ticked_all now old rows due so none k = come now (row_in old k) (row_in rows k) (not_due _ now (λ at is. none at k (so.timed k at is))) (so.each k)

@@ -1,0 +1,113 @@
+-- What contracts see of a work queue.
+use Rattle.std.specs.Prelude.{◌≡◌, ℕ, ℤ, ◌==◌, Bool, true, false, List, [], ◌∷◌, ◌+◌, Option, Some, None, if◌then◌else◌}
+use Rattle.std.specs.List.{list_any}
+use Rattle.std.specs.Ordering.{int_cmp, nat_cmp, is_eq, ordering_then}
+use Rattle.std.specs.declared.cmp.Ordering.TheVariants.{Less}
+use Rattle.cmc_meta.specs.declared.key.Key.{Key}
+use Rattle.cmc_meta.specs.declared.key.Kind.{Kind}
+use Rattle.cmc_meta.specs.declared.key.Kind.TheVariants.{Certificate, CertificateRequest, Secret}
+use Rattle.cmc_meta.specs.Keys.{key_cmp, key_eq, kind_rank}
+use Rattle.cmc_queue.specs.declared.row.Parked.{Parked}
+use Rattle.cmc_queue.specs.declared.row.Row.{Row}
+use Rattle.cmc_queue.specs.Rows.{is_free, row_in, has_row}
+
+-- a work queue: the rows of the keys, and the places where keys can wait for moments and for versions of each kind
+pub record Work : Type 0 where
+  pub rows : List (Key × Row)
+  pub moments : List (ℤ × Key)
+  pub certificates : List (ℕ × Key)
+  pub requests : List (ℕ × Key)
+  pub secrets : List (ℕ × Key)
+
+-- the row of the key
+abbrev pub row_of : Work → Key → Row
+row_of q key = row_in q.rows key
+
+-- the key's row becomes f of what it was, and no other row changes
+abbrev pub ChangesRow : (Row → Row) → Key → Work → Work → Type 0
+ChangesRow f key old new = (k : Key) → row_of new k ≡ (if key_eq key k then f (row_of old k) else row_of old k)
+
+-- each row becomes f of what it was
+abbrev pub ChangesRows : (Row → Row) → Work → Work → Type 0
+ChangesRows f old new = (k : Key) → row_of new k ≡ f (row_of old k)
+
+-- the first key, in the order of keys, that the test holds of; none where there is none
+abbrev pub FindsFirst : (Key → Bool) → Option Key → Type 0
+FindsFirst test None = (k : Key) → test k ≡ false
+FindsFirst test (Some key) = (test key ≡ true) × ((k : Key) → key_cmp k key ≡ Less → test k ≡ false)
+
+-- the key can be given
+abbrev pub is_offered : Work → Key → Bool
+is_offered q key = is_free (row_of q key)
+
+-- ---- room
+
+-- whether the moment stands with the key
+unfoldable pub is_noted : List (ℤ × Key) → ℤ → Key → Bool
+is_noted due at key = list_any (λ q. is_eq (ordering_then (int_cmp at q.0) (key_cmp key q.1))) due
+
+-- whether the version stands with the key
+unfoldable pub is_listed : List (ℕ × Key) → ℕ → Key → Bool
+is_listed versions version key = list_any (λ q. is_eq (ordering_then (nat_cmp version q.0) (key_cmp key q.1))) versions
+
+-- the places for versions of the kind
+abbrev pub versions_of : Work → Kind → List (ℕ × Key)
+versions_of q Certificate = q.certificates
+versions_of q CertificateRequest = q.requests
+versions_of q Secret = q.secrets
+
+-- the key has a row: it can be added
+abbrev pub has_room : Work → Key → Bool
+has_room q key = has_row q.rows key
+
+-- the key has a place at the moment: with a row it can be timed at it
+abbrev pub has_room_at : Work → ℤ → Key → Bool
+has_room_at q at key = is_noted q.moments at key
+
+-- the key has a place at the version: with a row it can wait for that version of the kind
+abbrev pub has_room_for : Work → Kind → ℕ → Key → Bool
+has_room_for q kind version key = is_listed (versions_of q kind) version key
+
+-- no row is lost
+abbrev pub KeepsRows : Work → Work → Type 0
+KeepsRows old new = (k : Key) → has_room old k ≡ true → has_room new k ≡ true
+
+-- no place at a moment is lost
+abbrev pub KeepsMoments : Work → Work → Type 0
+KeepsMoments old new = (at : ℤ) (k : Key) → has_room_at old at k ≡ true → has_room_at new at k ≡ true
+
+-- no place at a version is lost
+abbrev pub KeepsVersions : Work → Work → Type 0
+KeepsVersions old new = (kind : Kind) (version : ℕ) (k : Key) → has_room_for old kind version k ≡ true → has_room_for new kind version k ≡ true
+
+-- all room stays
+pub record KeepsRoom (old new : Work) : Type 0 where
+  pub rows : KeepsRows old new
+  pub moments : KeepsMoments old new
+  pub versions : KeepsVersions old new
+
+-- ---- what a queue keeps of itself
+
+abbrev pub one_if : Bool → ℕ
+one_if true = 1
+one_if false = 0
+
+-- how many keys can be given
+abbrev pub free_count : List (Key × Row) → ℕ
+free_count [] = 0
+free_count ((key, row) ∷ rows) = one_if (is_free row) + free_count rows
+
+-- each key that is timed stands among the moments
+abbrev pub IsTimed : List (Key × Row) → List (ℤ × Key) → Type 0
+IsTimed rows due = (key : Key) (at : ℤ) → (row_in rows key).timed ≡ Some at → is_noted due at key ≡ true
+
+-- each key that waits for a version of the kind stands among the versions
+abbrev pub IsParked : Kind → List (Key × Row) → List (ℕ × Key) → Type 0
+IsParked kind rows versions = (key : Key) (p : Parked) → (row_in rows key).parked ≡ Some p → (kind_rank p.kind == kind_rank kind) ≡ true → is_listed versions p.version key ≡ true
+
+-- whatever waits has its place
+pub record IsFound (q : Work) : Type 0 where
+  pub timed : IsTimed q.rows q.moments
+  pub certificates : IsParked Certificate q.rows q.certificates
+  pub requests : IsParked CertificateRequest q.rows q.requests
+  pub secrets : IsParked Secret q.rows q.secrets

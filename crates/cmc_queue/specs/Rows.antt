@@ -1,0 +1,78 @@
+-- What a work queue keeps of one key, and what each call makes of it.
+use Rattle.std.specs.Prelude.{ℕ, ℤ, ◌==◌, ◌&&◌, not, Bool, true, false, List, Option, Some, None, if◌then◌else◌, int_le, nat_le, is_some}
+use Rattle.std.specs.BTreeMap.{is_at}
+use Rattle.std.specs.Map.{lookup}
+use Rattle.cmc_meta.specs.declared.key.Key.{Key}
+use Rattle.cmc_meta.specs.declared.key.Kind.{Kind}
+use Rattle.cmc_meta.specs.Keys.{key_cmp, kind_rank}
+use Rattle.cmc_queue.specs.declared.row.Parked.{Parked}
+use Rattle.cmc_queue.specs.declared.row.Row.{Row}
+
+-- nothing is to be done
+abbrev pub no_row : Row
+no_row = record { ready = false; working = false; parked = None; timed = None }
+
+-- the key can be given: it is ready, and not in process
+abbrev pub is_free : Row → Bool
+is_free row = row.ready && not row.working
+
+-- the key is ready
+abbrev pub added : Row → Row
+added row = record row { ready = true }
+
+-- a key that can be given is in process, and ready no more
+abbrev pub taken : Row → Row
+taken row = if is_free row then record row { ready = false; working = true } else row
+
+-- the key is in process no more
+abbrev pub ended : Row → Row
+ended row = record row { working = false }
+
+-- ---- what waits for a version of a kind
+
+-- the key waits for this version of the kind, in place of what it waited for
+abbrev pub parked_for : Kind → ℕ → Row → Row
+parked_for kind version row = record row { parked = Some (record { kind = kind; version = version }) }
+
+-- what the key waits for is of the kind, and at this version or before
+abbrev pub is_reached : Kind → ℕ → Option Parked → Bool
+is_reached kind to None = false
+is_reached kind to (Some p) = (kind_rank p.kind == kind_rank kind) && nat_le p.version to
+
+-- the kind was told of up to a version: a key that waited for it is ready, and waits no more
+unfoldable pub moved : Kind → ℕ → Row → Row
+moved kind to row = if is_reached kind to row.parked then record row { ready = true; parked = None } else row
+
+-- ---- what waits for a moment
+
+-- the earlier of a moment and the one that stands
+abbrev pub earlier : ℤ → Option ℤ → ℤ
+earlier at None = at
+earlier at (Some old) = if int_le old at then old else at
+
+-- the key is timed at this moment, or at the earlier one that stands
+abbrev pub timed_at : ℤ → Row → Row
+timed_at at row = record row { timed = Some (earlier at row.timed) }
+
+-- a moment stands, and has come
+abbrev pub is_due : ℤ → Option ℤ → Bool
+is_due now None = false
+is_due now (Some at) = int_le at now
+
+-- it is now: a key whose moment has come is ready, and timed no more
+unfoldable pub ticked : ℤ → Row → Row
+ticked now row = if is_due now row.timed then record row { ready = true; timed = None } else row
+
+-- ---- the rows of all keys
+
+abbrev pub row_or_new : Option Row → Row
+row_or_new None = no_row
+row_or_new (Some row) = row
+
+-- the row of the key
+unfoldable pub row_in : List (Key × Row) → Key → Row
+row_in rows key = row_or_new (lookup (is_at (key_cmp key)) rows)
+
+-- whether a change of the key's row takes no memory
+unfoldable pub has_row : List (Key × Row) → Key → Bool
+has_row rows key = is_some (lookup (is_at (key_cmp key)) rows)

@@ -1,0 +1,214 @@
+//! A work queue.
+ghost use Rattle.std.specs.Option.{option_copied};
+ghost use Rattle.std.specs.Ordering.{is_lt};
+ghost use Rattle.std.specs.Prelude.{◌≡◌, OnOk, ◌&&◌, true};
+ghost use Rattle.cmc_meta.specs.declared.key.Key.{Key as KeyValue};
+ghost use Rattle.cmc_meta.specs.Keys.{key_cmp};
+ghost use Rattle.cmc_queue.specs.Queues.{has_room, has_room_at, has_room_for, is_offered, row_of, ChangesRow, ChangesRows, FindsFirst, KeepsMoments, KeepsRoom, KeepsRows, KeepsVersions};
+ghost use Rattle.cmc_queue.specs.Rows.{added, ended, is_free, moved, no_row, parked_for, taken, ticked, timed_at};
+
+use crate::moments::Moments;
+use crate::row::Row;
+use crate::rows::Rows;
+use crate::searching::{move_rows, tick_rows};
+use crate::versions::Versions;
+use cmc_meta::{Key, Kind};
+use std::alloc::{AllocError, Global};
+use std::marker::Model;
+
+/// The work queue of one controller: a row for each key, and where it looks for the keys that wait.
+///
+/// Room is made for a key, or for a key at a moment or a version, before it is needed, and changes no row: so a caller
+/// makes all the room that a step takes, and then changes several queues without fail.
+///
+/// A place at a moment is given up by the `tick` that passes it, and one at a version by the `moved` that reaches it,
+/// whether the key still waits there or not. So there are no more places than moments to come and versions still to be
+/// told of that room was made for. A key keeps its row: there are as many as keys were ever named.
+pub struct Queue {
+    rows: Rows,
+    // the places: each key that waits has its own, and a place may be out of use
+    moments: Moments,
+    certificates: Versions,
+    requests: Versions,
+    secrets: Versions,
+}
+
+impl Drop for Queue {
+    fn drop(self) {
+        let Queue {
+            rows: _rows,
+            moments: _moments,
+            certificates: _certificates,
+            requests: _requests,
+            secrets: _secrets,
+        } = self;
+    }
+}
+
+impl Model for Queue {
+    ghost use Rattle.cmc_queue.specs.Queues.{Work, IsFound};
+
+    ghost Value = { Work };
+
+    ghost view = { λ q. record { rows = q.rows; moments = q.moments; certificates = q.certificates; requests = q.requests; secrets = q.secrets } };
+
+    ghost invariant = { λ q. IsFound (record { rows = q.rows; moments = q.moments; certificates = q.certificates; requests = q.requests; secrets = q.secrets }) };
+}
+
+impl Queue {
+    /// Nothing is to be done on any key. It takes no memory.
+    pub fn new(alloc: Global) -> Queue
+        ensures { (k : KeyValue) → row_of result k ≡ no_row }
+    {
+        Queue {
+            rows: Rows::new(alloc),
+            moments: Moments::new(alloc),
+            certificates: Versions::new(alloc),
+            requests: Versions::new(alloc),
+            secrets: Versions::new(alloc),
+        }
+    }
+
+    /// What is kept of the key.
+    pub fn row(&self, key: &Key) -> Row
+        ensures { result ≡ row_of self.now key.now }
+    {
+        self.rows.get(key)
+    }
+
+    /// Makes room to add the key; no row changes, and room that stands is kept. An error is one of memory.
+    pub fn room(&mut self, key: &Key) -> Result<(), AllocError>
+        ensures made { OnOk result (has_room self.new key.now ≡ true) }
+        ensures rows { (k : KeyValue) → row_of self.new k ≡ row_of self.old k }
+        ensures room { KeepsRoom self.old self.new }
+    {
+        self.rows.room(key)
+    }
+
+    /// The key is ready. It takes no memory.
+    pub fn add(&mut self, key: &Key)
+        requires { has_room self.old key.now ≡ true }
+        ensures rows { ChangesRow added key.now self.old self.new }
+        ensures room { KeepsRoom self.old self.new }
+    {
+        let row = self.rows.get(key);
+        self.rows.put(key, row.added());
+    }
+
+    /// Gives the key to be worked on, where it can be given: it is then in process, and ready no more. It takes no memory.
+    pub fn take(&mut self, key: &Key) -> bool
+        ensures taken { result ≡ is_free (row_of self.old key.now) }
+        ensures rows { ChangesRow taken key.now self.old self.new }
+        ensures room { KeepsRoom self.old self.new }
+    {
+        let row = self.rows.get(key);
+        if row.is_free() {
+            self.rows.put(key, row.taken());
+            return true;
+        }
+        false
+    }
+
+    /// The work on the key is done. It takes no memory.
+    pub fn done(&mut self, key: &Key)
+        ensures rows { ChangesRow ended key.now self.old self.new }
+        ensures room { KeepsRoom self.old self.new }
+    {
+        let row = self.rows.get(key);
+        if row.working {
+            self.rows.put(key, row.ended());
+        }
+    }
+
+    /// Makes room to time the key at the moment; no row changes, and room that stands is kept. An error is one of memory.
+    pub fn room_at(&mut self, key: &Key, at: i64) -> Result<(), AllocError>
+        ensures made { OnOk result (has_room self.new key.now ≡ true) }
+        ensures place { OnOk result (has_room_at self.new at key.now ≡ true) }
+        ensures rows { (k : KeyValue) → row_of self.new k ≡ row_of self.old k }
+        ensures room { KeepsRoom self.old self.new }
+    {
+        self.rows.room(key)?;
+        self.moments.room(key, at)?;
+        Ok(())
+    }
+
+    /// The key will be ready at the moment, in seconds since 1970, or at the earlier one at which it is timed. It takes no memory.
+    pub fn after(&mut self, key: &Key, at: i64)
+        requires row { has_room self.old key.now ≡ true }
+        requires place { has_room_at self.old at key.now ≡ true }
+        ensures rows { ChangesRow (timed_at at) key.now self.old self.new }
+        ensures room { KeepsRoom self.old self.new }
+    {
+        let row = self.rows.get(key);
+        self.rows.put(key, row.timed_at(at));
+    }
+
+    /// It is now this moment: each key whose moment is no later is ready, and timed no more. It takes no memory.
+    pub fn tick(&mut self, now: i64)
+        ensures rows { ChangesRows (ticked now) self.old self.new }
+        ensures room { KeepsRows self.old self.new }
+        ensures versions { KeepsVersions self.old self.new }
+    {
+        tick_rows(&mut self.rows, &mut self.moments, now);
+    }
+
+    /// Makes room for the key to wait for the version of the kind; no row changes, and room that stands is kept. An error is one of memory.
+    pub fn room_for(&mut self, key: &Key, kind: Kind, version: u64) -> Result<(), AllocError>
+        ensures made { OnOk result (has_room self.new key.now ≡ true) }
+        ensures place { OnOk result (has_room_for self.new kind version key.now ≡ true) }
+        ensures rows { (k : KeyValue) → row_of self.new k ≡ row_of self.old k }
+        ensures room { KeepsRoom self.old self.new }
+    {
+        self.rows.room(key)?;
+        match kind {
+            Kind::Certificate => self.certificates.room(key, version)?,
+            Kind::CertificateRequest => self.requests.room(key, version)?,
+            Kind::Secret => self.secrets.room(key, version)?,
+        }
+        Ok(())
+    }
+
+    /// The key waits until its controller is told of this version of the kind, in place of what it waited for. It takes no memory.
+    pub fn park(&mut self, key: &Key, kind: Kind, version: u64)
+        requires row { has_room self.old key.now ≡ true }
+        requires place { has_room_for self.old kind version key.now ≡ true }
+        ensures rows { ChangesRow (parked_for kind version) key.now self.old self.new }
+        ensures room { KeepsRoom self.old self.new }
+    {
+        let row = self.rows.get(key);
+        self.rows.put(key, row.parked_for(kind, version));
+    }
+
+    /// The controller was told of the kind up to this version: each key that waits for the kind and a version no later
+    /// is ready, and waits no more. It takes no memory.
+    pub fn moved(&mut self, kind: Kind, version: u64)
+        ensures rows { ChangesRows (moved kind version) self.old self.new }
+        ensures room { KeepsRows self.old self.new }
+        ensures moments { KeepsMoments self.old self.new }
+    {
+        match kind {
+            Kind::Certificate => move_rows(&mut self.rows, &mut self.certificates, kind, version),
+            Kind::CertificateRequest => move_rows(
+                &mut self.rows,
+                &mut self.requests,
+                kind,
+                version,
+            ),
+            Kind::Secret => move_rows(&mut self.rows, &mut self.secrets, kind, version),
+        }
+    }
+
+    /// The first key, in the order of keys, that can be given; `None` exactly where no key can.
+    pub fn first(&self) -> Option<&Key>
+        ensures { FindsFirst (is_offered self.now) (option_copied result) }
+    {
+        self.rows.first()
+    }
+
+    /// The first key above the given one that can be given; `None` exactly where no such key can.
+    pub fn following<'a>(&'a self, key: &Key) -> Option<&'a Key>
+        ensures { FindsFirst (λ k. is_lt (key_cmp key.now k) && is_offered self.now k) (option_copied result) }
+    {
+        self.rows.following(key)
+    }
+}

@@ -1,0 +1,173 @@
+//! What is kept of one key.
+ghost use Rattle.std.specs.Prelude.{◌≡◌, if◌then◌else◌};
+ghost use Rattle.cmc_queue.specs.Rows.{added, earlier, ended, is_due, is_free, is_reached, moved, no_row, parked_for, taken, ticked, timed_at};
+
+use cmc_meta::Kind;
+
+/// What a key waits for: that its controller is told of this version of the kind.
+#[derive(Clone, Copy)]
+pub struct Parked {
+    /// The kind of the object.
+    pub kind: Kind,
+    /// The version, which counts all accepted writes.
+    pub version: u64,
+}
+
+/// What is kept of one key.
+#[derive(Clone, Copy)]
+pub struct Row {
+    /// There is something to do on the key.
+    pub ready: bool,
+    /// The key was given, and its work is not done.
+    pub working: bool,
+    /// Until when the key waits for a version, if it does.
+    pub parked: Option<Parked>,
+    /// The moment at which the key will be ready, in seconds since 1970, if there is one.
+    pub timed: Option<i64>,
+}
+
+impl Row {
+    /// Nothing is to be done.
+    pub fn new() -> Row
+        ensures { result ≡ no_row }
+    {
+        Row {
+            ready: false,
+            working: false,
+            parked: None,
+            timed: None,
+        }
+    }
+
+    /// Whether the key can be given: it is ready, and not in process.
+    pub fn is_free(self) -> bool
+        ensures { result ≡ is_free self }
+    {
+        self.ready && !self.working
+    }
+
+    /// The row of the key once it is ready.
+    pub fn added(self) -> Row
+        ensures { result ≡ added self }
+    {
+        Row {
+            ready: true,
+            working: self.working,
+            parked: self.parked,
+            timed: self.timed,
+        }
+    }
+
+    /// The row of the key once it is given, where it can be given.
+    pub fn taken(self) -> Row
+        ensures { result ≡ taken self }
+    {
+        if self.is_free() {
+            return Row {
+                ready: false,
+                working: true,
+                parked: self.parked,
+                timed: self.timed,
+            };
+        }
+        self
+    }
+
+    /// The row of the key once its work is done.
+    pub fn ended(self) -> Row
+        ensures { result ≡ ended self }
+    {
+        Row {
+            ready: self.ready,
+            working: false,
+            parked: self.parked,
+            timed: self.timed,
+        }
+    }
+
+    /// The row of the key once it waits for this version of the kind.
+    pub fn parked_for(self, kind: Kind, version: u64) -> Row
+        ensures { result ≡ parked_for kind version self }
+    {
+        Row {
+            ready: self.ready,
+            working: self.working,
+            parked: Some(Parked { kind, version }),
+            timed: self.timed,
+        }
+    }
+
+    /// The moment, or the earlier one at which the key is timed.
+    fn earlier(self, at: i64) -> i64
+        ensures { result ≡ earlier at self.timed }
+    {
+        match self.timed {
+            Some(old) => { if old <= at { old } else { at } }
+            None => at,
+        }
+    }
+
+    /// The row of the key once it is timed at the moment, where it is not timed earlier.
+    pub fn timed_at(self, at: i64) -> Row
+        ensures { result ≡ timed_at at self }
+    {
+        Row {
+            ready: self.ready,
+            working: self.working,
+            parked: self.parked,
+            timed: Some(self.earlier(at)),
+        }
+    }
+
+    /// Whether the key's moment has come.
+    pub fn is_due(self, now: i64) -> bool
+        ensures { result ≡ is_due now self.timed }
+    {
+        match self.timed {
+            Some(at) => at <= now,
+            None => false,
+        }
+    }
+
+    /// The row of the key at the moment `now`.
+    #[tactic(auto, unfolding(crate::specs::Rows::ticked))]
+    pub fn ticked(self, now: i64) -> Row
+        ensures { result ≡ ticked now self }
+    {
+        if self.is_due(now) {
+            return Row {
+                ready: true,
+                working: self.working,
+                parked: self.parked,
+                timed: None,
+            };
+        }
+        self
+    }
+
+    /// Whether the key waits for this version of the kind or an earlier one.
+    pub fn is_reached(self, kind: Kind, to: u64) -> bool
+        ensures { result ≡ is_reached kind to self.parked }
+    {
+        match self.parked {
+            Some(parked) => parked.kind == kind && parked.version <= to,
+            None => false,
+        }
+    }
+
+    /// The row of the key once its controller is told of the kind up to this version.
+    #[tactic(auto, unfolding(crate::specs::Rows::moved))]
+    pub fn moved(self, kind: Kind, to: u64) -> Row
+        ensures { result ≡ moved kind to self }
+    {
+        if self.is_reached(kind, to) {
+            return Row {
+                ready: true,
+                working: self.working,
+                parked: None,
+                timed: self.timed,
+            };
+        }
+        self
+    }
+}

@@ -1,0 +1,70 @@
+//! Going through the keys that wait, up to a moment or a version.
+ghost use Rattle.std.specs.Option.{option_copied};
+ghost use Rattle.std.specs.Ordering.{is_lt};
+ghost use Rattle.std.specs.Prelude.{◌≡◌, ◌&&◌};
+ghost use Rattle.cmc_meta.specs.declared.key.Key.{Key as KeyValue};
+ghost use Rattle.cmc_meta.specs.Keys.{key_cmp};
+ghost use Rattle.cmc_queue.specs.Queues.{FindsFirst, IsParked, IsTimed};
+ghost use Rattle.cmc_queue.specs.Rows.{has_row, is_free, moved, row_in, ticked};
+
+use crate::moments::Moments;
+use crate::row::Row;
+use crate::rows::Rows;
+use crate::versions::Versions;
+use cmc_meta::{Key, Kind};
+use std::collections::BTreeMap;
+
+/// Each key whose moment has come is ready. It takes no memory.
+pub fn tick_rows(rows: &mut Rows, moments: &mut Moments, now: i64)
+    requires { IsTimed rows.old moments.old }
+    ensures rows { (k : KeyValue) → row_in rows.new k ≡ ticked now (row_in rows.old k) }
+    ensures room { (k : KeyValue) → has_row rows.new k ≡ has_row rows.old k }
+    ensures timed { IsTimed rows.new moments.new }
+{
+    while let Some((_at, key)) = moments.pop_until(now) {
+        rows.tick(&key, now);
+    }
+}
+
+/// Each key that waits for a version of the kind up to this one is ready. It takes no memory.
+pub fn move_rows(rows: &mut Rows, versions: &mut Versions, kind: Kind, to: u64)
+    requires { IsParked kind rows.old versions.old }
+    ensures rows { (k : KeyValue) → row_in rows.new k ≡ moved kind to (row_in rows.old k) }
+    ensures room { (k : KeyValue) → has_row rows.new k ≡ has_row rows.old k }
+    ensures parked { IsParked kind rows.new versions.new }
+{
+    while let Some((_version, key)) = versions.pop_until(to) {
+        rows.moved(&key, kind, to);
+    }
+}
+
+/// The first key that can be given.
+pub fn first_free(rows: &BTreeMap<Key, Row>) -> Option<&Key>
+    ensures { FindsFirst (λ k. is_free (row_in rows.now.entries k)) (option_copied result) }
+{
+    for (key, row) in rows.iter() {
+        if row.is_free() {
+            return Some(key);
+        }
+    }
+    None
+}
+
+/// Whether the key is above the given one, and can be given.
+fn is_next(below: &Key, key: &Key, row: &Row) -> bool
+    ensures { result ≡ (is_lt (key_cmp below.now key.now) && is_free row.now) }
+{
+    *below < *key && row.is_free()
+}
+
+/// The first key above the given one that can be given.
+pub fn free_above<'a>(rows: &'a BTreeMap<Key, Row>, below: &Key) -> Option<&'a Key>
+    ensures { FindsFirst (λ k. is_lt (key_cmp below.now k) && is_free (row_in rows.now.entries k)) (option_copied result) }
+{
+    for (key, row) in rows.iter() {
+        if is_next(below, key, row) {
+            return Some(key);
+        }
+    }
+    None
+}

@@ -1,0 +1,112 @@
+//! What no clause says: that a work queue makes its room where memory is ample, and one run of each call.
+use cmc_meta::{Key, Kind};
+use cmc_queue::Queue;
+use cmc_tests::values::key;
+use std::test::Fail;
+
+/// A call of the queue.
+enum Step {
+    Add,
+    Take,
+    Done,
+    After(i64),
+    Tick(i64),
+    Park(Kind, u64),
+    Moved(Kind, u64),
+}
+
+/// Makes the room of the call and then the call, and gives what it answers.
+fn made(queue: &mut Queue, key: &Key, step: &Step) -> Result<bool, Fail> {
+    match step {
+        Step::Add => {
+            queue.room(key)?;
+            queue.add(key);
+        }
+        Step::Take => return Ok(queue.take(key)),
+        Step::Done => queue.done(key),
+        Step::After(at) => {
+            queue.room_at(key, *at)?;
+            queue.after(key, *at);
+        }
+        Step::Tick(now) => queue.tick(*now),
+        Step::Park(kind, version) => {
+            queue.room_for(key, *kind, *version)?;
+            queue.park(key, *kind, *version);
+        }
+        Step::Moved(kind, version) => queue.moved(*kind, *version),
+    }
+    Ok(true)
+}
+
+/// Calls, what each answers, and then whether the key is ready, in process and parked, and its moment (0 for none).
+const STEPS: [(Step, bool, bool, bool, bool, i64); 19] = [
+    (Step::Take, false, false, false, false, 0),
+    (Step::Add, true, true, false, false, 0),
+    (Step::Take, true, false, true, false, 0),
+    (Step::Add, true, true, true, false, 0),
+    (Step::Take, false, true, true, false, 0),
+    (Step::Done, true, true, false, false, 0),
+    (Step::Take, true, false, true, false, 0),
+    (Step::Park(Kind::Secret, 7), true, false, true, true, 0),
+    (Step::Done, true, false, false, true, 0),
+    (Step::Take, false, false, false, true, 0),
+    (
+        Step::Moved(Kind::Certificate, 9),
+        true,
+        false,
+        false,
+        true,
+        0,
+    ),
+    (Step::Moved(Kind::Secret, 6), true, false, false, true, 0),
+    (Step::Moved(Kind::Secret, 7), true, true, false, false, 0),
+    (Step::Take, true, false, true, false, 0),
+    (Step::After(50), true, false, true, false, 50),
+    (Step::After(60), true, false, true, false, 50),
+    (Step::After(40), true, false, true, false, 40),
+    (Step::Tick(39), true, false, true, false, 40),
+    (Step::Tick(40), true, true, true, false, 0),
+];
+
+#[test]
+fn keys_come_and_go(rt: HostRuntime) -> Result<(), Fail> {
+    let alloc = rt.alloc();
+    let mut queue = Queue::new(alloc);
+    let web = key(alloc, Kind::Certificate, "web")?;
+    for (step, answer, ready, working, parked, timed) in STEPS.iter() {
+        assert_eq!(rt; made(&mut queue, &web, step)?, *answer);
+        let row = queue.row(&web);
+        assert_eq!(rt; row.ready, *ready);
+        assert_eq!(rt; row.working, *working);
+        assert_eq!(rt; row.parked.is_some(), *parked);
+        assert_eq!(rt; row.timed.unwrap_or(0), *timed);
+    }
+    Ok(())
+}
+
+/// The name of the key, or an empty text.
+fn named(key: Option<&Key>) -> &str {
+    match key {
+        Some(key) => key.name.as_str(),
+        None => "",
+    }
+}
+
+#[test]
+fn keys_are_given_in_order(rt: HostRuntime) -> Result<(), Fail> {
+    let alloc = rt.alloc();
+    let mut queue = Queue::new(alloc);
+    let web = key(alloc, Kind::Certificate, "web")?;
+    let api = key(alloc, Kind::Certificate, "api")?;
+    assert_eq!(rt; named(queue.first()), "");
+    queue.room(&web)?;
+    queue.add(&web);
+    queue.room(&api)?;
+    queue.add(&api);
+    assert_eq!(rt; named(queue.first()), "api");
+    assert_eq!(rt; named(queue.following(&api)), "web");
+    assert_eq!(rt; named(queue.following(&web)), "");
+    assert!(rt; queue.take(&api));
+    assert_eq!(rt; named(queue.first()), "web");
+    Ok(())
+}
