@@ -83,8 +83,8 @@ fn whole(alloc: Global, value: &Value) -> Result<Scenario, BadField>
 /// - `events` and `window`, 1 to 250,000 (100,000 and 1,000 where left out);
 /// - `now`, a moment of RFC 3339 from 1951-01-01T00:00:00Z to 9900-01-01T00:00:00Z
 ///   (2030-01-01T00:00:00Z where left out);
-/// - `roles`, the names of the roles that run from the beginning on; the one that can run today is
-///   `trigger`, and named again it counts once;
+/// - `roles`, the names of the roles that run from the beginning on; those that can run today are
+///   `trigger`, `readiness` and `revision`, and one that is named again counts once;
 /// - `faults`, the numbers of the store calls that fail, from 1, each above the one before;
 /// - `approver`, `issuers` (all where left out), `policies` and `refuse`;
 /// - `material`, the key rows and reply rows of Certificates, by `namespace/name`;
