@@ -169,21 +169,24 @@ fn ready_request(
     Ok(request)
 }
 
-/// The name of the request that goes, where this is the limit and these are the requests by name, revision and Ready.
+/// The name, the revision and the Ready of a request.
+type Row = (&'static str, &'static str, Tri);
+
+/// The name of the request that goes, where this is the limit and these are the requests.
 fn gone_of(
     alloc: Global,
     case: &Case,
     limit: Option<u32>,
-    rows: &[(&str, &str, Tri)],
+    first: Row,
+    second: Row,
 ) -> Result<String, Fail>
     requires { case.now.failed ≡ None }
 {
     let mut views: Views = views(alloc, case)?;
-    for (name, number, status) in rows {
-        views
-            .requests
-            .push(ready_request(alloc, name, number, *status)?)?;
-    }
+    let first = ready_request(alloc, first.0, first.1, first.2)?;
+    views.requests.push(first)?;
+    let second = ready_request(alloc, second.0, second.1, second.2)?;
+    views.requests.push(second)?;
     if let Some(certificate) = &mut views.certificate {
         certificate.spec.history_limit = limit;
     }
@@ -207,11 +210,11 @@ fn keeps_as_many_requests_as_the_limit(rt: HostRuntime) -> Result<(), Fail> {
         issuing: Some(Tri::True),
         ..NONE
     };
-    let two = [("b", "1", Tri::True), ("c", "2", Tri::True)];
-    let later = [("b", "2", Tri::True), ("c", "1", Tri::True)];
-    let same = [("b", "1", Tri::True), ("c", "1", Tri::True)];
-    let failed = [("b", "1", Tri::False), ("c", "2", Tri::True)];
-    let unnumbered = [("b", "x", Tri::True), ("c", "2", Tri::True)];
+    let two = (("b", "1", Tri::True), ("c", "2", Tri::True));
+    let later = (("b", "2", Tri::True), ("c", "1", Tri::True));
+    let same = (("b", "1", Tri::True), ("c", "1", Tri::True));
+    let failed = (("b", "1", Tri::False), ("c", "2", Tri::True));
+    let unnumbered = (("b", "x", Tri::True), ("c", "2", Tri::True));
     for (case, limit, rows, gone) in [
         (NONE, Some(1), two, "b"),
         (NONE, Some(1), later, "c"),
@@ -226,7 +229,8 @@ fn keeps_as_many_requests_as_the_limit(rt: HostRuntime) -> Result<(), Fail> {
             failed: None,
             ..case
         };
-        let name = gone_of(alloc, &never_failed, limit, &rows)?;
+        let (first, second) = rows;
+        let name = gone_of(alloc, &never_failed, limit, first, second)?;
         assert_eq!(rt; name.as_str(), gone);
     }
     Ok(())
