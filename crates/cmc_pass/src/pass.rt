@@ -324,6 +324,29 @@ impl IssuePlan {
     }
 }
 
+/// The write that gives a Certificate a stand-in certificate while its request waits.
+pub struct TemporaryPlan {
+    /// The Certificate, which is read first.
+    pub get: Key,
+    /// The version that it must still have.
+    pub version: u64,
+    pub secret: Call,
+}
+
+impl TemporaryPlan {
+    /// An equal plan.
+    pub fn copy(&self) -> Result<TemporaryPlan, AllocError>
+        ensures { IfOk result (λ p. p ≡ self.now) }
+    {
+        let secret = self.secret.copy()?;
+        Ok(TemporaryPlan {
+            get: self.get.copy()?,
+            version: self.version,
+            secret,
+        })
+    }
+}
+
 /// What a pass does.
 #[derive(Drop)]
 pub enum Act {
@@ -335,6 +358,8 @@ pub enum Act {
     Ask(Order),
     /// The Secret and the status of an issuance.
     Issue(IssuePlan),
+    /// The Secret with a stand-in certificate.
+    Temporary(TemporaryPlan),
 }
 
 impl Act {
@@ -347,6 +372,7 @@ impl Act {
             Act::Call(call) => Ok(Act::Call(call.copy()?)),
             Act::Ask(order) => Ok(Act::Ask(order.copy()?)),
             Act::Issue(plan) => Ok(Act::Issue(plan.copy()?)),
+            Act::Temporary(plan) => Ok(Act::Temporary(plan.copy()?)),
         }
     }
 }
@@ -380,6 +406,16 @@ impl Drop for IssuePlan {
             version: _version,
             secret: _secret,
             status: _status,
+        } = self;
+    }
+}
+
+impl Drop for TemporaryPlan {
+    fn drop(self) {
+        let TemporaryPlan {
+            get: _get,
+            version: _version,
+            secret: _secret,
         } = self;
     }
 }
