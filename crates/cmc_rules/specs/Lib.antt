@@ -23,3 +23,7 @@ pub mod Rights
 pub mod Sighting
 pub mod Sound
 pub mod Admitted
+pub mod Owning
+pub mod NextKeys
+pub mod KeyManaging
+pub mod NextRequests
