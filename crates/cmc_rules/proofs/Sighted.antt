@@ -114,7 +114,7 @@ picked_by None rest y is = inr is
 picked_by (Some x) rest y (inl is) = inl (ap Some is)
 picked_by (Some x) rest y (inr is) = inr is
 
-abbrev IsPicked : {A B : Type 0} → (A → Option B) → List A → B → Type 0
+abbrev pub IsPicked : {A B : Type 0} → (A → Option B) → List A → B → Type 0
 IsPicked {A} f xs y = (x : A) × IsAmong x xs × (f x ≡ Some y)
 
 picked_more : {A B : Type 0} (f : A → Option B) (x : A) (xs : List A) (y : B) → IsPicked f xs y → IsPicked f (x ∷ xs) y
@@ -125,7 +125,7 @@ picked_from : {A B : Type 0} (f : A → Option B) (x : A) (xs : List A) (y : B) 
 picked_from f x xs y below (inl here) = (x, inl refl, here)
 picked_from f x xs y below (inr there) = picked_more f x xs y (below there)
 
-picked : {A B : Type 0} (f : A → Option B) (xs : List A) (y : B) → IsAmong y (filter_map f xs) → IsPicked f xs y
+pub picked : {A B : Type 0} (f : A → Option B) (xs : List A) (y : B) → IsAmong y (filter_map f xs) → IsPicked f xs y
 picked f [] y is = absurd is
 picked f (x ∷ xs) y is = picked_from f x xs y (picked f xs y) (picked_by (f x) (filter_map f xs) y is)
 
