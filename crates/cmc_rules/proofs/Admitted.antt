@@ -11,7 +11,7 @@ use Rattle.cmc_objects.specs.declared.object.Object.{Object}
 use Rattle.cmc_objects.specs.declared.object.Object.TheVariants.{Cert, Request, Secret}
 use Rattle.cmc_objects.specs.Objects.{meta_of}
 use Rattle.cmc_model.specs.Accepting.{IsFounded}
-use Rattle.cmc_model.specs.Admission.{certificate_rules, least_failing, is_secret_refused, changes_type, is_tls_incomplete, is_name_long, has_many_names, are_usages_wrong, is_outside_limits, refusing_rule, is_taken}
+use Rattle.cmc_model.specs.Admission.{certificate_rules, least_failing, is_secret_refused, changes_type, is_tls_incomplete, verdict_rules, is_name_long, has_many_names, are_usages_wrong, is_outside_limits, refusing_rule, is_taken}
 use Rattle.cmc_model.specs.Histories.{Setting, moment, state, objects, accepted}
 use Rattle.cmc_model.specs.Objects.{Objects, object_at}
 use Rattle.cmc_model.specs.Replies.{key_of_call, settled, stored}
@@ -51,7 +51,7 @@ not_false false is = absurd (cc is)
 meets_created : (n : ℕ) (now : ℤ) (o : Object) (taken : Bool) → refusing_rule None o false taken ≡ None → MeetsRules (created n now o)
 unfolding created refusing_rule
 meets_created n now (Cert c) taken is = admitted c taken is
-meets_created n now (Request r) taken is = tt
+meets_created n now (Request r) taken is = (refl, refl)
 meets_created n now (Secret s) taken is = (all_pass ((14, is_secret_refused None s false) ∷ []) is).0
 
 -- an update keeps the name of a Certificate and the type of a Secret
@@ -71,9 +71,9 @@ unfolding updated refusing_rule
 meets_updated (Cert a) (Cert b) taken old is = with_name a b old taken is
 meets_updated (Cert a) (Request b) taken old is = old
 meets_updated (Cert a) (Secret b) taken old is = old
-meets_updated (Request a) (Cert b) taken old is = tt
-meets_updated (Request a) (Request b) taken old is = tt
-meets_updated (Request a) (Secret b) taken old is = tt
+meets_updated (Request a) (Cert b) taken old is = old
+meets_updated (Request a) (Request b) taken old is = old
+meets_updated (Request a) (Secret b) taken old is = old
 meets_updated (Secret a) (Cert b) taken old is = old
 meets_updated (Secret a) (Request b) taken old is = old
 meets_updated (Secret a) (Secret b) taken old is =
@@ -81,22 +81,24 @@ meets_updated (Secret a) (Secret b) taken old is =
     let same : a.kind_text ≡ b.kind_text = (bytes_eq-Decides a.kind_text b.kind_text).0 (not_false (bytes_eq a.kind_text b.kind_text) parts.0) in
     subst (λ (kind : List ℕ). is_tls_incomplete (record b { kind_text = kind }) ≡ false) (sym same) parts.1
 
-meets_restated : (o new : Object) → MeetsRules o → MeetsRules (with_status o new)
-unfolding with_status
-meets_restated (Cert a) (Cert b) old = old
-meets_restated (Cert a) (Request b) old = old
-meets_restated (Cert a) (Secret b) old = old
-meets_restated (Request a) (Cert b) old = tt
-meets_restated (Request a) (Request b) old = tt
-meets_restated (Request a) (Secret b) old = tt
-meets_restated (Secret a) (Cert b) old = old
-meets_restated (Secret a) (Request b) old = old
-meets_restated (Secret a) (Secret b) old = old
+meets_restated : (o new : Object) → MeetsRules o → refusing_rule (Some o) new true false ≡ None → MeetsRules (with_status o new)
+unfolding with_status refusing_rule
+meets_restated (Cert a) (Cert b) old is = old
+meets_restated (Cert a) (Request b) old is = old
+meets_restated (Cert a) (Secret b) old is = old
+meets_restated (Request a) (Cert b) old is = old
+meets_restated (Request a) (Request b) old is =
+    let pass = all_pass (verdict_rules a.status.conditions b.status.conditions) is in
+    (pass.0, pass.1.0)
+meets_restated (Request a) (Secret b) old is = old
+meets_restated (Secret a) (Cert b) old is = old
+meets_restated (Secret a) (Request b) old is = old
+meets_restated (Secret a) (Secret b) old is = old
 
 meets_numbered : (v g : ℕ) (o : Object) → MeetsRules o → MeetsRules (numbered v g o)
 unfolding numbered
 meets_numbered v g (Cert c) is = is
-meets_numbered v g (Request r) is = tt
+meets_numbered v g (Request r) is = is
 meets_numbered v g (Secret s) is = is
 
 abbrev IsMet : Option Object → Type 0
@@ -114,7 +116,7 @@ met_call n now m (Update object named) is met =
     rw is.1 (meets_numbered n (generation_after old (updated old object)) (updated old object) (meets_updated old object (is_taken m object) (subst IsMet is.1 met) is.2.passed))
 met_call n now m (UpdateStatus object named) is met =
     let old = is.0 in
-    rw is.1 (meets_numbered n (meta_of old).generation (with_status old object) (meets_restated old object (subst IsMet is.1 met)))
+    rw is.1 (meets_numbered n (meta_of old).generation (with_status old object) (meets_restated old object (subst IsMet is.1 met) is.2.passed))
 met_call n now m (Delete key named) is met = tt
 met_call n now m (Get key) is met = absurd is
 

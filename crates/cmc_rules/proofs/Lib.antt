@@ -10,3 +10,4 @@ pub mod Sighted
 pub mod Answered
 pub mod Admitted
 pub mod OwnSecrets
+pub mod WellSeen

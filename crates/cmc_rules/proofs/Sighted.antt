@@ -19,9 +19,10 @@ use Rattle.cmc_objects.specs.declared.call.Call.{Call}
 use Rattle.cmc_objects.specs.declared.call.Call.TheVariants.{Create, Update, UpdateStatus, Delete, Get}
 use Rattle.cmc_objects.specs.declared.role.Role.{Role}
 use Rattle.cmc_objects.specs.declared.entry.Entry.{Entry}
-use Rattle.cmc_objects.specs.declared.entry.Entry.TheVariants.{Call as Called, Begin, End, Stop}
+use Rattle.cmc_objects.specs.declared.entry.Entry.TheVariants.{Call as Called, Begin, Ask, Made, Signed, Answered, Judged, End, Stop}
 use Rattle.cmc_objects.specs.Objects.{key_of, version_of}
 use Rattle.cmc_pass.specs.declared.pass.Views.{Views}
+use Rattle.cmc_pass.specs.declared.value.Value.TheVariants as values
 use Rattle.cmc_model.specs.declared.write.Write.{Write}
 use Rattle.cmc_rules.specs.declared.progress.OpenPass.{OpenPass}
 use Rattle.cmc_model.specs.Objects.{Objects, object_at}
@@ -44,7 +45,7 @@ use Rattle.cmc_model.proofs.Keys.{key_cmp-total}
 use Rattle.cmc_model.proofs.Versions.{IsLawful, lawful_object, versions_low}
 use Rattle.cmc_rules.proofs.Versions.{lawful, stands_is_version}
 use Rattle.cmc_rules.proofs.Seen.{seen_is_version}
-use Rattle.cmc_rules.proofs.Carrying.{over_call, over_begin, over_end, over_stop}
+use Rattle.cmc_rules.proofs.Carrying.{over_call, over_ask, over_given, over_begin, over_end, over_stop}
 
 -- ---- one object for a version
 
@@ -113,7 +114,7 @@ picked_by None rest y is = inr is
 picked_by (Some x) rest y (inl is) = inl (ap Some is)
 picked_by (Some x) rest y (inr is) = inr is
 
-abbrev IsPicked : {A B : Type 0} → (A → Option B) → List A → B → Type 0
+abbrev pub IsPicked : {A B : Type 0} → (A → Option B) → List A → B → Type 0
 IsPicked {A} f xs y = (x : A) × IsAmong x xs × (f x ≡ Some y)
 
 picked_more : {A B : Type 0} (f : A → Option B) (x : A) (xs : List A) (y : B) → IsPicked f xs y → IsPicked f (x ∷ xs) y
@@ -124,7 +125,7 @@ picked_from : {A B : Type 0} (f : A → Option B) (x : A) (xs : List A) (y : B) 
 picked_from f x xs y below (inl here) = (x, inl refl, here)
 picked_from f x xs y below (inr there) = picked_more f x xs y (below there)
 
-picked : {A B : Type 0} (f : A → Option B) (xs : List A) (y : B) → IsAmong y (filter_map f xs) → IsPicked f xs y
+pub picked : {A B : Type 0} (f : A → Option B) (xs : List A) (y : B) → IsAmong y (filter_map f xs) → IsPicked f xs y
 picked f [] y is = absurd is
 picked f (x ∷ xs) y is = picked_from f x xs y (picked f xs y) (picked_by (f x) (filter_map f xs) y is)
 
@@ -251,6 +252,11 @@ saw_known s (Called who call reply ∷ h) n =
     (over_call (SawKnown (writes s h)) n who (stage_after s h call reply) (open_pass s h n) (λ p known. known) (saw_known s h n))
 saw_known s (Begin pass role key at now ∷ h) n =
     over_begin (SawKnown (writes s h)) (n == pass) (new_pass role key (views s h role key) now) (open_pass s h n) (views_known s h role key) (saw_known s h n)
+saw_known s (Ask pass order ∷ h) n = over_ask (SawKnown (writes s h)) n pass order (open_pass s h n) (λ p known. known) (saw_known s h n)
+saw_known s (Made pass key ∷ h) n = over_given (SawKnown (writes s h)) n pass (values.Made key) (open_pass s h n) (λ p known. known) (saw_known s h n)
+saw_known s (Signed pass signature ∷ h) n = over_given (SawKnown (writes s h)) n pass (values.Signed signature) (open_pass s h n) (λ p known. known) (saw_known s h n)
+saw_known s (Answered pass answer ∷ h) n = over_given (SawKnown (writes s h)) n pass (values.Answered answer) (open_pass s h n) (λ p known. known) (saw_known s h n)
+saw_known s (Judged pass approved ∷ h) n = over_given (SawKnown (writes s h)) n pass (values.Judged approved) (open_pass s h n) (λ p known. known) (saw_known s h n)
 saw_known s (End pass cause ∷ h) n = over_end (SawKnown (writes s h)) (n == pass) (open_pass s h n) (saw_known s h n)
 saw_known s (Stop role ∷ h) n = over_stop (SawKnown (writes s h)) role (open_pass s h n) (saw_known s h n)
 saw_known s (other ∷ h) n = saw_known s h n

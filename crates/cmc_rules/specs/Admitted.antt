@@ -4,13 +4,14 @@ use Rattle.cmc_meta.specs.declared.key.Key.{Key}
 use Rattle.cmc_objects.specs.declared.certificate.Certificate.{Certificate}
 use Rattle.cmc_objects.specs.declared.object.Object.{Object}
 use Rattle.cmc_objects.specs.declared.object.Object.TheVariants.{Cert, Request, Secret}
-use Rattle.cmc_model.specs.Admission.{certificate_rules, least_failing, is_tls_incomplete}
+use Rattle.cmc_model.specs.Admission.{certificate_rules, least_failing, is_verdict_unsettled, has_both_verdicts, is_tls_incomplete}
 use Rattle.cmc_model.specs.Objects.{Objects, object_at}
 
--- no rule that looks at this object alone refuses it: of a Certificate all but the one on the Secrets of others
+-- No rule that looks at this object alone refuses it: of a Certificate all but the one on the Secrets of others, and of a request
+-- those on its verdicts, which are True and never both.
 abbrev pub MeetsRules : Object → Type 0
 MeetsRules (Cert c) = least_failing (certificate_rules c false) ≡ None
-MeetsRules (Request r) = Unit {0}
+MeetsRules (Request r) = (is_verdict_unsettled r.status.conditions ≡ false) × (has_both_verdicts r.status.conditions ≡ false)
 MeetsRules (Secret s) = is_tls_incomplete s ≡ false
 
 -- no two Certificates of a namespace that stand name one Secret

@@ -18,9 +18,12 @@ pub mod Dates
 pub mod Triggering
 pub mod Readying
 pub mod Revising
+pub mod Orders
 pub mod Acts
+pub mod Raising
 pub mod Rights
 pub mod Sighting
+pub mod Safety
 pub mod Sound
 pub mod Admitted
 pub mod Owning

@@ -12,7 +12,7 @@ use Rattle.cmc_objects.specs.declared.entry.Entry.{Entry}
 use Rattle.cmc_objects.specs.declared.entry.Entry.TheVariants.{Call as Called, Begin, End, Start}
 use Rattle.cmc_pass.specs.declared.pass.Views.{Views}
 use Rattle.cmc_rules.specs.declared.progress.Stage.{Stage}
-use Rattle.cmc_rules.specs.declared.progress.Stage.TheVariants.{Fresh, Wrote, Refused, Barred}
+use Rattle.cmc_rules.specs.declared.progress.Stage.TheVariants.{Fresh, Asked, Given, Read, Saved, Wrote, Refused, Barred}
 use Rattle.cmc_rules.specs.declared.progress.OpenPass.{OpenPass}
 use Rattle.cmc_rules.specs.declared.progress.Ending.{Ending}
 use Rattle.cmc_rules.specs.declared.progress.Ending.TheVariants as endings
@@ -41,7 +41,7 @@ abbrev pub ending_at : Stage → Ending
 ending_at Fresh = endings.Nothing
 ending_at Wrote = endings.Wrote
 ending_at (Refused entry obstacle) = endings.Refused obstacle
-ending_at Barred = endings.Open
+ending_at other = endings.Open
 
 abbrev pub ending_of : Option OpenPass → Ending
 ending_of None = endings.Open

@@ -1,6 +1,9 @@
 -- What a call is made for: nothing, or an object that was seen, at its version.
 use Rattle.std.specs.Prelude.{◌≡◌, ◌⊎◌, ℕ, ℤ, Bool, true, false, List, [], ◌∷◌, Option, Some, None}
 use Rattle.cmc_meta.specs.declared.key.Key.{Key}
+use Rattle.cmc_objects.specs.declared.certificate.Certificate.{Certificate}
+use Rattle.cmc_objects.specs.declared.request.CertificateRequest.{CertificateRequest}
+use Rattle.cmc_objects.specs.declared.secret.Secret.{Secret as SecretObject}
 use Rattle.cmc_objects.specs.declared.object.Object.{Object}
 use Rattle.cmc_objects.specs.declared.object.Object.TheVariants.{Cert, Request, Secret}
 use Rattle.cmc_objects.specs.declared.call.Call.{Call}
@@ -10,6 +13,8 @@ use Rattle.cmc_pass.specs.declared.pass.Views.{Views}
 use Rattle.cmc_model.specs.Stored.{created, revised, restated}
 use Rattle.cmc_model.specs.Admission.{refusing_rule}
 use Rattle.cmc_model.specs.Generated.{named}
+use Rattle.cmc_rules.specs.Admitted.{MeetsRules}
+use Rattle.cmc_rules.specs.Viewing.{is_owned, has_next_label}
 
 -- the item stands in the list
 abbrev pub IsAmong : {A : Type 0} → A → List A → Type 0
@@ -57,3 +62,15 @@ OnSeen P seen (UpdateStatus object named) = ForSeen P seen (key_of object) named
 OnSeen P seen (Delete key None) = ⊥
 OnSeen P seen (Delete key (Some named)) = ForSeen P seen key named (λ next old. None) (λ old taken. None)
 OnSeen P seen (Get key) = ⊥
+
+-- ---- what holds of all that a role sees of a key
+
+-- The target stands under the name that the Certificate gives it; the next keys are labelled and owned, and the requests are owned;
+-- and each object is as the store admits objects.
+pub record IsWellSeen (seen : Views) : Type 0 where
+  pub target_namespace : (c : Certificate) (k : SecretObject) → seen.certificate ≡ Some c → seen.secret ≡ Some k → k.meta.namespace ≡ c.meta.namespace
+  pub target_name : (c : Certificate) (k : SecretObject) → seen.certificate ≡ Some c → seen.secret ≡ Some k → k.meta.name ≡ c.spec.secret_name
+  pub labelled : (k : SecretObject) → IsAmong k seen.next → has_next_label k.meta ≡ true
+  pub key_owned : (c : Certificate) (k : SecretObject) → seen.certificate ≡ Some c → IsAmong k seen.next → is_owned c k.meta ≡ true
+  pub request_owned : (c : Certificate) (r : CertificateRequest) → seen.certificate ≡ Some c → IsAmong r seen.requests → is_owned c r.meta ≡ true
+  pub admitted : (o : Object) → IsSeen seen o → MeetsRules o

@@ -1,7 +1,7 @@
 //! How far passes have come, and what stays known of them.
 use cmc_meta::{Key, Kind};
-use cmc_objects::{Positions, Role};
-use cmc_pass::Views;
+use cmc_objects::{Order, Positions, Role};
+use cmc_pass::{Value, Views};
 
 /// What kept a call of a pass from being served.
 #[derive(Clone, Copy)]
@@ -14,10 +14,18 @@ pub enum Obstacle {
 }
 
 /// How far an open pass has come.
-#[derive(Clone, Copy)]
+#[derive(Drop)]
 pub enum Stage {
     /// It has begun.
     Fresh,
+    /// It has asked this question.
+    Asked { order: Order },
+    /// Its question was answered with this value.
+    Given { order: Order, value: Value },
+    /// It has read its Certificate, which still is as it saw it.
+    Read,
+    /// The Secret of its issuance was answered Ok or Unchanged.
+    Saved,
     /// Its last call was answered Ok or Unchanged.
     Wrote,
     /// The call in the entry of this number was refused.

@@ -13,7 +13,7 @@ use Rattle.cmc_pass.specs.declared.pass.Desk.{Desk}
 use Rattle.cmc_pass.specs.declared.pass.Act.{Act}
 use Rattle.cmc_pass.specs.declared.pass.Act.TheVariants.{Nothing}
 use Rattle.cmc_rules.specs.Revising.{counts, revision, older_of, oldest_from, oldest_of, delete_call, delete_of, above_limit, by_limit, revise_of, revise}
-use Rattle.cmc_rules.specs.Acts.{act}
+use Rattle.cmc_rules.specs.Acts.{act, call_after}
 use Rattle.cmc_rules.specs.Sighting.{IsPartOf, OnSeen}
 use Rattle.cmc_rules.specs.Sound.{IsWithin, shown, IsSound}
 use Rattle.cmc_rules.proofs.Lines.{by_test}
@@ -79,36 +79,36 @@ oldest_in requests = all_older requests (filter counts requests) None (kept_in r
 
 -- ---- the call
 
-abbrev Is : Views → Act → Type 0
-Is seen a = IsWithin Revision seen a
+abbrev Is : Views → ℤ → Act → Type 0
+Is seen now a = IsWithin Revision (call_after Revision seen now) seen now a
 
-call_is : (seen : Views) (r : CertificateRequest) → IsPartOf Request seen.requests (Request r) → Is seen (delete_call r)
+call_is : (seen : Views) (now : ℤ) (r : CertificateRequest) → IsPartOf Request seen.requests (Request r) → Is seen now (delete_call r)
 unfolding delete_call OnSeen
-call_is seen r there = record {
+call_is seen now r there = record {
   old = Request r;
   sees = inr (inr (inr (inr there)));
   key = refl;
   version = refl;
-  changes = λ next. record { rights = tt; dated = λ dated. tt };
+  changes = λ next. record { rights = tt; dated = λ timed dated. tt; revision = tt; no_secret = λ written issuing is. absurd (cc issuing); no_approval = λ o n approver b a x y. absurd (cc approver) };
   passes = λ taken. refl;
 }
 
-delete_is : (seen : Views) (oldest : Option CertificateRequest) → IsIn seen.requests oldest → Is seen (delete_of oldest)
-delete_is seen None there = tt
-delete_is seen (Some r) there = call_is seen r there
+delete_is : (seen : Views) (now : ℤ) (oldest : Option CertificateRequest) → IsIn seen.requests oldest → Is seen now (delete_of oldest)
+delete_is seen now None there = tt
+delete_is seen now (Some r) there = call_is seen now r there
 
-limit_is : (seen : Views) (limit : Option ℕ) → Is seen (by_limit limit seen.requests)
-limit_is seen None = tt
-limit_is seen (Some limit) =
-    by_test (Is seen) (nat_lt limit (length (filter counts seen.requests))) _ _ (λ on. delete_is seen (oldest_of (filter counts seen.requests)) (oldest_in seen.requests)) (λ off. tt)
+limit_is : (seen : Views) (now : ℤ) (limit : Option ℕ) → Is seen now (by_limit limit seen.requests)
+limit_is seen now None = tt
+limit_is seen now (Some limit) =
+    by_test (Is seen now) (nat_lt limit (length (filter counts seen.requests))) _ _ (λ on. delete_is seen now (oldest_of (filter counts seen.requests)) (oldest_in seen.requests)) (λ off. tt)
 
-of_is : (seen : Views) (o : Option Certificate) → Is seen (revise_of seen.requests o)
-of_is seen None = tt
-of_is seen (Some c) = by_test (Is seen) (is_stated Issuing c.status.conditions) _ _ (λ on. tt) (λ off. limit_is seen c.spec.history_limit)
+of_is : (seen : Views) (now : ℤ) (o : Option Certificate) → Is seen now (revise_of seen.requests o)
+of_is seen now None = tt
+of_is seen now (Some c) = by_test (Is seen now) (is_stated Issuing c.status.conditions) _ _ (λ on. tt) (λ off. limit_is seen now c.spec.history_limit)
 
-within : (seen : Views) → Is seen (revise seen)
+within : (seen : Views) (now : ℤ) → Is seen now (revise seen)
 unfolding revise
-within seen = of_is seen seen.certificate
+within seen now = of_is seen now seen.certificate
 
 -- ---- the record
 
@@ -123,7 +123,7 @@ none seen is = ap (λ (o : Option Certificate). revise_of seen.requests o) is
 pub revision_sound : IsSound Revision
 unfolding act
 revision_sound = record {
-  within = λ seen now desk. within seen;
+  within = λ seen now desk well. within seen now;
   told = told;
   absent = λ seen now desk is. none seen is.certificate;
   idle = λ seen t u d e rules quiet le is. is;

@@ -29,7 +29,7 @@ use Rattle.cmc_rules.specs.Dates.{IsDatedOption}
 use Rattle.cmc_rules.specs.Chains.{readiness_chain, readiness_reason}
 use Rattle.cmc_rules.specs.Triggering.{frame_of}
 use Rattle.cmc_rules.specs.Readying.{ready_condition, ready_status, begins_at, ends_at, renews_at, is_moment, says, is_settled, ready_call, ready_by, ready_of, readiness}
-use Rattle.cmc_rules.specs.Acts.{act}
+use Rattle.cmc_rules.specs.Acts.{act, call_after}
 use Rattle.cmc_rules.specs.Sighting.{OnSeen}
 use Rattle.cmc_rules.specs.Sound.{IsWithin, IsExpiry, shown, IsSound}
 use Rattle.cmc_rules.proofs.Sights.{seen_certificate}
@@ -38,8 +38,8 @@ use Rattle.cmc_rules.proofs.Lines.{by_test}
 
 -- ---- the call
 
-abbrev Is : Views → Act → Type 0
-Is seen a = IsWithin Readiness seen a
+abbrev Is : Views → ℤ → Act → Type 0
+Is seen now a = IsWithin Readiness (call_after Readiness seen now) seen now a
 
 ready_kind : (moment : ℤ) (reason : Option Reason) → (ready_condition moment reason).kind ≡ Ready
 unfolding ready_condition
@@ -66,27 +66,31 @@ kept : (condition : Condition) (renew : Renew) (pair : Option CertificateFields)
 unfolding ready_status
 kept condition renew pair status dated = dated
 
-call_is : (seen : Views) (condition : Condition) (renew : Renew) (pair : Option CertificateFields) (c : Certificate) → condition.kind ≡ Ready → seen.certificate ≡ Some c
-    → Is seen (ready_call condition renew pair c)
+same : (condition : Condition) (renew : Renew) (pair : Option CertificateFields) (status : CertStatus) → (ready_status condition renew pair status).revision ≡ status.revision
+unfolding ready_status
+same condition renew pair status = refl
+
+call_is : (seen : Views) (now : ℤ) (condition : Condition) (renew : Renew) (pair : Option CertificateFields) (c : Certificate) → condition.kind ≡ Ready → seen.certificate ≡ Some c
+    → Is seen now (ready_call condition renew pair c)
 unfolding ready_call OnSeen numbered with_status
-call_is seen condition renew pair c is sees = record {
+call_is seen now condition renew pair c is sees = record {
   old = Cert c;
   sees = seen_certificate seen c sees;
   key = refl;
   version = refl;
-  changes = λ next. record { rights = (refl, refl, record { rest = rest condition renew pair c.status; others = others condition renew pair c.status is }); dated = λ dated. kept condition renew pair c.status dated };
+  changes = λ next. record { rights = (refl, refl, record { rest = rest condition renew pair c.status; others = others condition renew pair c.status is }); dated = λ timed dated. kept condition renew pair c.status dated; revision = same condition renew pair c.status; no_secret = λ written issuing is. absurd (cc issuing); no_approval = λ o n approver b a x y. absurd (cc approver) };
   passes = λ taken. certificate_status_passes (Some (Cert c)) _ taken;
 }
 
-by_is : (seen : Views) (condition : Condition) (renew : Renew) (pair : Option CertificateFields) (c : Certificate) → condition.kind ≡ Ready → seen.certificate ≡ Some c
-    → Is seen (ready_by condition renew pair c)
-by_is seen condition renew pair c is sees = by_test (Is seen) (is_settled condition renew pair c.status) _ _ (λ on. tt) (λ off. call_is seen condition renew pair c is sees)
+by_is : (seen : Views) (now : ℤ) (condition : Condition) (renew : Renew) (pair : Option CertificateFields) (c : Certificate) → condition.kind ≡ Ready → seen.certificate ≡ Some c
+    → Is seen now (ready_by condition renew pair c)
+by_is seen now condition renew pair c is sees = by_test (Is seen now) (is_settled condition renew pair c.status) _ _ (λ on. tt) (λ off. call_is seen now condition renew pair c is sees)
 
-of_is : (seen : Views) (now : ℤ) (o : Option Certificate) → seen.certificate ≡ o → Is seen (ready_of now seen.secret seen.requests o)
+of_is : (seen : Views) (now : ℤ) (o : Option Certificate) → seen.certificate ≡ o → Is seen now (ready_of now seen.secret seen.requests o)
 of_is seen now None sees = tt
-of_is seen now (Some c) sees = by_is seen _ _ _ c (ready_kind now (readiness_reason (frame_of now c) c seen.secret seen.requests)) sees
+of_is seen now (Some c) sees = by_is seen now _ _ _ c (ready_kind now (readiness_reason (frame_of now c) c seen.secret seen.requests)) sees
 
-within : (seen : Views) (now : ℤ) (desk : Desk) → Is seen (readiness seen now)
+within : (seen : Views) (now : ℤ) (desk : Desk) → Is seen now (readiness seen now)
 unfolding readiness
 within seen now desk = of_is seen now seen.certificate refl
 
@@ -178,7 +182,7 @@ idle seen t u quiet later is = stays seen.certificate t u seen.secret seen.reque
 pub readiness_sound : IsSound Readiness
 unfolding act
 readiness_sound = record {
-  within = within;
+  within = λ seen now desk well. within seen now desk;
   told = told;
   absent = λ seen now desk is. none seen now is.certificate;
   idle = λ seen t u d e rules quiet le is. idle seen t u quiet le is;

@@ -27,7 +27,7 @@ use Rattle.cmc_rules.specs.Rights.{other_conditions}
 use Rattle.cmc_model.specs.Stored.{with_status, numbered}
 use Rattle.cmc_rules.specs.Chains.{trigger_chain, trigger_reason}
 use Rattle.cmc_rules.specs.Triggering.{trigger, for_option, for_certificate, for_reason, frame_of, is_issuing, is_backing_off, is_held_back, is_waiting_since, issuing_condition, issuing_status, with_issuing, issue_call}
-use Rattle.cmc_rules.specs.Acts.{act}
+use Rattle.cmc_rules.specs.Acts.{act, call_after}
 use Rattle.cmc_rules.specs.Sighting.{OnSeen}
 use Rattle.cmc_rules.specs.Sound.{IsWithin, IsEndOfBackoff, IsRenewal, IsTriggerMoment, shown, IsSound}
 use Rattle.cmc_rules.proofs.Sights.{seen_certificate}
@@ -36,34 +36,38 @@ use Rattle.cmc_rules.proofs.Lines.{by_test}
 
 -- ---- the call
 
-abbrev Is : Views → Act → Type 0
-Is seen a = IsWithin Trigger seen a
+abbrev Is : Views → ℤ → Act → Type 0
+Is seen now a = IsWithin Trigger (call_after Trigger seen now) seen now a
 
 others : (moment : ℤ) (reason : Reason) (status : CertStatus) → other_conditions (issuing_condition moment reason).kind (issuing_status moment reason status).conditions ≡ other_conditions (issuing_condition moment reason).kind status.conditions
 unfolding issuing_status
 others moment reason status = others-transitioned status.conditions (issuing_condition moment reason)
 
-issue_is : (seen : Views) (now : ℤ) (reason : Reason) (c : Certificate) → seen.certificate ≡ Some c → Is seen (issue_call now reason c)
+kept : (moment : ℤ) (reason : Reason) (status : CertStatus) → (issuing_status moment reason status).revision ≡ status.revision
+unfolding issuing_status
+kept moment reason status = refl
+
+issue_is : (seen : Views) (now : ℤ) (reason : Reason) (c : Certificate) → seen.certificate ≡ Some c → Is seen now (issue_call now reason c)
 unfolding issue_call with_issuing issuing_status issuing_condition OnSeen numbered with_status
 issue_is seen now reason c sees = record {
   old = Cert c;
   sees = seen_certificate seen c sees;
   key = refl;
   version = refl;
-  changes = λ next. record { rights = (refl, refl, record { rest = refl; others = others now reason c.status }); dated = λ dated. dated };
+  changes = λ next. record { rights = (refl, refl, record { rest = refl; others = others now reason c.status }); dated = λ timed dated. dated; revision = kept now reason c.status; no_secret = λ written issuing is. absurd (cc issuing); no_approval = λ o n approver b a x y. absurd (cc approver) };
   passes = λ taken. certificate_status_passes (Some (Cert c)) _ taken;
 }
 
-reason_is : (seen : Views) (now : ℤ) (c : Certificate) (reason : Option Reason) → seen.certificate ≡ Some c → Is seen (for_reason now seen.requests c reason)
+reason_is : (seen : Views) (now : ℤ) (c : Certificate) (reason : Option Reason) → seen.certificate ≡ Some c → Is seen now (for_reason now seen.requests c reason)
 reason_is seen now c None sees = tt
-reason_is seen now c (Some reason) sees = by_test (Is seen) (is_held_back now seen.requests c) _ _ (λ on. tt) (λ off. issue_is seen now reason c sees)
+reason_is seen now c (Some reason) sees = by_test (Is seen now) (is_held_back now seen.requests c) _ _ (λ on. tt) (λ off. issue_is seen now reason c sees)
 
-option_is : (seen : Views) (now : ℤ) (o : Option Certificate) → seen.certificate ≡ o → Is seen (for_option now seen.secret seen.requests o)
+option_is : (seen : Views) (now : ℤ) (o : Option Certificate) → seen.certificate ≡ o → Is seen now (for_option now seen.secret seen.requests o)
 unfolding for_certificate
 option_is seen now None sees = tt
-option_is seen now (Some c) sees = by_test (Is seen) (is_issuing c) _ _ (λ on. tt) (λ off. reason_is seen now c (trigger_reason (frame_of now c) c seen.secret seen.requests) sees)
+option_is seen now (Some c) sees = by_test (Is seen now) (is_issuing c) _ _ (λ on. tt) (λ off. reason_is seen now c (trigger_reason (frame_of now c) c seen.secret seen.requests) sees)
 
-within : (seen : Views) (now : ℤ) (desk : Desk) → Is seen (trigger seen now)
+within : (seen : Views) (now : ℤ) (desk : Desk) → Is seen now (trigger seen now)
 unfolding trigger
 within seen now desk = option_is seen now seen.certificate refl
 
@@ -173,7 +177,7 @@ idle seen t u quiet is = stays seen.certificate t u seen.secret seen.requests qu
 pub trigger_sound : IsSound Trigger
 unfolding act
 trigger_sound = record {
-  within = within;
+  within = λ seen now desk well. within seen now desk;
   told = told;
   absent = λ seen now desk is. none seen now is.certificate;
   idle = λ seen t u d e rules quiet le is. idle seen t u quiet is;
