@@ -4,7 +4,9 @@
 mod acts;
 mod calls;
 mod following;
+mod laws;
 mod questions;
 
 pub use acts::act;
 pub use following::{follow, then};
+pub use laws::is_sound;

@@ -30,3 +30,4 @@ pub mod Owning
 pub mod NextKeys
 pub mod KeyManaging
 pub mod NextRequests
+pub mod RequestManaging
