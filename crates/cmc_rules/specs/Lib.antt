@@ -31,3 +31,4 @@ pub mod NextKeys
 pub mod KeyManaging
 pub mod NextRequests
 pub mod RequestManaging
+pub mod Approving
