@@ -3,9 +3,15 @@
 #![tactic(auto)]
 
 #[cfg(test)]
+mod approver;
+#[cfg(test)]
 mod informer;
 #[cfg(test)]
+mod keymanager;
+#[cfg(test)]
 mod queue;
+#[cfg(test)]
+mod requestmanager;
 #[cfg(test)]
 mod status;
 #[cfg(test)]
