@@ -140,7 +140,7 @@ known_told s h role all kinds.Secret = bound_by (has_informer role kinds.Secret)
 
 own_told : (s : Setting) (h : List Entry) (role : Role) (key : Key) → IsRun s h → IsToldOfAll s h role → (kind : Kind) → position_of kind (past s h role key).own ≤ position_of kind (positions h role)
 own_told s h role key run all kind =
-    let low = own_low s h role key kind run.caused in
+    let low = own_low s h role key kind run.legal run.caused in
     let known = known_told s h role all kind in
     omega (arith, low, known)
 

@@ -49,6 +49,7 @@ unfolding IsLegal IsCaused Follows
 kept_delivered s h w role kind to t k may free room put = record {
   held = record {
     faults = k.held.faults;
+    years = k.held.years;
     state = k.held.state;
     log = k.held.log;
     moment = k.held.moment;
@@ -75,6 +76,7 @@ unfolding IsLegal IsCaused Follows
 kept_listed s h w role kind to t k may free room put = record {
   held = record {
     faults = k.held.faults;
+    years = k.held.years;
     state = k.held.state;
     log = k.held.log;
     moment = k.held.moment;
@@ -110,6 +112,7 @@ unfolding IsLegal IsCaused Follows
 kept_begun s h w role key os opened pasts k may due room came put noted = record {
   held = record {
     faults = k.held.faults;
+    years = k.held.years;
     state = k.held.state;
     log = k.held.log;
     moment = k.held.moment;
@@ -138,13 +141,14 @@ pub kept_called : (s : Setting) (h : List Entry) (w : Holdings) (n : ℕ) (p : O
     → st ≡ state_after (moment s h) (state s h) call reply
     → log ≡ (if is_accepted reply then write_of (moment s h) (state s h) (settled call reply) ∷ w.log else w.log)
     → ((r : Role) → t r ≡ (if is_accepted reply && role_eq p.role r then writing (key_of_call call).kind (w.standing p.role) else w.standing r))
-    → ((m : ℕ) → opened m ≡ (if m == n then option_map (with_stage (stage_after s h call reply)) (w.opened m) else w.opened m))
+    → ((m : ℕ) → opened m ≡ (if m == n then option_map (λ (q : OpenPass). with_stage (stage_after s h call reply q) q) (w.opened m) else w.opened m))
     → ((r : Role) (k : Key) → pasts r k ≡ (if is_accepted reply && (role_eq p.role r && key_eq p.key k) then with_own (key_of_call call).kind (accepted s h + 1) (w.past r k) else w.past r k))
     → IsKept s (Called (Pass n) call reply ∷ h) (record w { state = st; log = log; standing = t; opened = opened; past = pasts })
 unfolding IsLegal IsCaused Follows
 kept_called s h w n p call reply st log t opened pasts k is right may room after logged counted staged noted = record {
   held = record {
     faults = k.held.faults;
+    years = k.held.years;
     state = after;
     log = logged ∙ ap (λ (l : List Write). if is_accepted reply then write_of (moment s h) (state s h) (settled call reply) ∷ l else l) k.held.log;
     moment = k.held.moment;
@@ -155,7 +159,7 @@ kept_called s h w n p call reply st log t opened pasts k is right may room after
         ∙ ap (λ (x : Standing). if is_accepted reply && role_eq p.role r then writing (key_of_call call).kind (standing s h p.role) else x) (k.held.standing r)
         ∙ standing_called s h n p call reply r is;
     origins = k.held.origins;
-    opened = λ m. staged m ∙ ap (λ (o : Option OpenPass). if m == n then option_map (with_stage (stage_after s h call reply)) o else o) (k.held.opened m);
+    opened = λ m. staged m ∙ ap (λ (o : Option OpenPass). if m == n then option_map (λ (q : OpenPass). with_stage (stage_after s h call reply q) q) o else o) (k.held.opened m);
     past = λ r q.
         noted r q
         ∙ one_past s h w (is_accepted reply && (role_eq p.role r && key_eq p.key q)) (with_own (key_of_call call).kind (accepted s h + 1)) r q k.held
@@ -184,6 +188,7 @@ unfolding IsLegal IsCaused Follows
 kept_ended s h w n p cause opened pasts k is may room closed noted = record {
   held = record {
     faults = k.held.faults;
+    years = k.held.years;
     state = k.held.state;
     log = k.held.log;
     moment = k.held.moment;
@@ -212,6 +217,7 @@ pub held_scripted : (s : Setting) (h : List Entry) (w : Holdings) (step : Step) 
 unfolding IsLegal IsCaused Follows
 held_scripted s h w step made t k next is room counted put = record {
   faults = k.held.faults;
+  years = k.held.years;
   state = k.held.state;
   log = k.held.log;
   moment = k.held.moment;
@@ -238,6 +244,7 @@ unfolding IsLegal IsCaused Follows
 kept_users s h w call reply st log k due right room after logged = record {
   held = record {
     faults = k.faults;
+    years = k.years;
     state = after;
     log = logged ∙ ap (λ (l : List Write). if is_accepted reply then write_of (moment s h) (state s h) (settled call reply) ∷ l else l) k.log;
     moment = k.moment;
@@ -274,6 +281,7 @@ unfolding IsLegal IsCaused Follows
 kept_ticked s h w now k due room = record {
   held = record {
     faults = k.faults;
+    years = k.years;
     state = k.state;
     log = k.log;
     moment = refl;
@@ -297,6 +305,7 @@ unfolding IsLegal IsCaused Follows
 kept_stopped s h w role t opened k due room put closed = record {
   held = record {
     faults = k.faults;
+    years = k.years;
     state = k.state;
     log = k.log;
     moment = k.moment;
@@ -320,6 +329,7 @@ unfolding IsLegal IsCaused Follows
 kept_started s h w role at t pasts k due low room put forgot = record {
   held = record {
     faults = k.faults;
+    years = k.years;
     state = k.state;
     log = k.log;
     moment = k.moment;

@@ -45,7 +45,7 @@ seen_present s h role key w seen k is =
 -- and its last failure is dated
 pub present_is_dated : (s : Setting) (h : List Entry) (role : Role) (key : Key) (w : Holdings) (seen : Views) → IsKept s h w
     → seen ≡ views_in role (record { certificates = w.state.objects; requests = w.state.objects; secrets = w.state.objects }) key → HasDatedFailure seen
-present_is_dated s h role key w seen k is = subst HasDatedFailure (sym (seen_present s h role key w seen k is)) (dated_present s h k.held.run role key)
+present_is_dated s h role key w seen k is = subst HasDatedFailure (sym (seen_present s h role key w seen k is)) (dated_present s h k.held.years k.held.run role key)
 
 -- the positions that are kept, shown to the role, are its own
 pub shown_at : (s : Setting) (h : List Entry) (role : Role) (w : Holdings) (at : Positions) → IsKept s h w
@@ -62,7 +62,7 @@ seen_told s h role key w at seen k shown is =
 -- and its last failure is dated
 pub told_is_dated : (s : Setting) (h : List Entry) (role : Role) (key : Key) (w : Holdings) (at : Positions) (seen : Views) → IsKept s h w
     → at ≡ shown_positions role (w.standing role).told → seen ≡ views_in role (caches_at w.log at) key → HasDatedFailure seen
-told_is_dated s h role key w at seen k shown is = subst HasDatedFailure (sym (seen_told s h role key w at seen k shown is)) (dated_views s h k.held.run role key)
+told_is_dated s h role key w at seen k shown is = subst HasDatedFailure (sym (seen_told s h role key w at seen k shown is)) (dated_views s h k.held.years k.held.run role key)
 
 -- ---- nothing to do
 

@@ -3,6 +3,7 @@ pub mod Standings
 pub mod Stages
 pub mod Origins
 pub mod Dated
+pub mod OrdinaryCalls
 pub mod Rights
 pub mod Moments
 pub mod Found

@@ -1,5 +1,5 @@
 -- What a world holds beside its history, and that it is what its history says.
-use Rattle.std.specs.Prelude.{◌≡◌, ℕ, ℤ, List, None, Option}
+use Rattle.std.specs.Prelude.{◌≡◌, ◌≤ℤ◌, ◌+ℤ◌, ℕ, ℤ, pos, List, None, Option}
 use Rattle.cmc_meta.specs.declared.key.Key.{Key}
 use Rattle.cmc_meta.specs.declared.key.Kind.TheVariants.{Certificate, CertificateRequest, Secret}
 use Rattle.cmc_objects.specs.declared.role.Role.{Role}
@@ -18,7 +18,8 @@ use Rattle.cmc_rules.specs.Memory.{past}
 use Rattle.cmc_rules.specs.Scripting.{scripted, held}
 use Rattle.cmc_rules.specs.Following.{owed, written}
 use Rattle.cmc_rules.specs.Runs.{IsRun}
-use Rattle.cmc_setup.specs.Setups.{Setup}
+use Rattle.cmc_policies.specs.Renewal.{IsCertificateTime}
+use Rattle.cmc_setup.specs.Setups.{Setup, ticked}
 use Rattle.cmc_held.specs.declared.standings.Standing.{Standing}
 
 -- what contracts see of a world
@@ -63,6 +64,10 @@ pub record Holdings : Type 0 where
   pub opened : ℕ → Option OpenPass
   pub past : Role → Key → Past
 
+-- from the first moment on, all that ticks may come to lies in the years 1950 to 9999
+abbrev pub KeepsYears : Setting → Type 0
+KeepsYears s = (at : ℤ) → s.now ≤ℤ at → at ≤ℤ (s.now +ℤ pos (ticked s.script)) → IsCertificateTime at
+
 -- each is what the history says, and the history is one of a run
 pub record IsHeld (s : Setting) (h : List Entry) (w : Holdings) : Type 0 where
   pub faults : w.faults ≡ s.faults
@@ -75,6 +80,7 @@ pub record IsHeld (s : Setting) (h : List Entry) (w : Holdings) : Type 0 where
   pub opened : (n : ℕ) → w.opened n ≡ open_pass s h n
   pub past : (role : Role) (key : Key) → w.past role key ≡ past s h role key
   pub run : IsRun s h
+  pub years : KeepsYears s
 
 -- and nothing is owed to the script
 pub record IsKept (s : Setting) (h : List Entry) (w : Holdings) : Type 0 where

@@ -102,6 +102,7 @@ impl World {
         let standings = Standings::new(alloc, scenario.roles())?;
         let pasts = Pasts::new(alloc)?;
         let moment = scenario.now();
+        let _events = scenario.events();
         Ok(World {
             scenario,
             store: Store::new(alloc, faults),

@@ -33,4 +33,5 @@ invariant_of-result c =
     (λ r. c.in_ok-standings.ensures r ∙ ap (λ (l : List Role). first_standing (list_any (λ role. role_eq role r) l)) c.roles.ensures)
     c.new-6.ensures
     c.new-7.ensures
-    c.in_ok-pasts.ensures)
+    c.in_ok-pasts.ensures
+    c.events-events.ensures.setup)
