@@ -29,5 +29,6 @@ pub mod Admitted
 pub mod Owning
 pub mod NextKeys
 pub mod KeyManaging
+pub mod Issuing
 pub mod NextRequests
 pub mod RequestManaging
