@@ -26,3 +26,9 @@ pub mod Sighting
 pub mod Safety
 pub mod Sound
 pub mod Admitted
+pub mod Owning
+pub mod NextKeys
+pub mod KeyManaging
+pub mod Issuing
+pub mod NextRequests
+pub mod RequestManaging

@@ -1,0 +1,191 @@
+//! The act, by the first line of the table that fits.
+ghost use Rattle.std.specs.Option.{option_copied};
+ghost use Rattle.std.specs.Prelude.{◌≡◌, ◌<◌, ◌^◌, IfOk, find, is_some, not};
+ghost use Rattle.cmc_x509.specs.ReadKeys.{key_file_at};
+ghost use Rattle.cmc_rules.specs.KeyManaging as table;
+ghost use Rattle.cmc_rules.specs.NextKeys as words;
+
+use crate::calls::{drop_call, make_call, name_call};
+use crate::questions::ask_key;
+use cmc_match::key_fits;
+use cmc_meta::{Bytes, Name};
+use cmc_next::{has_fitting_key, is_issuing, is_named, key_in};
+use cmc_objects::{Certificate, Rotation, Secret};
+use cmc_pass::{Act, Desk, Views};
+use cmc_x509::read_key;
+use std::alloc::{AllocError, Global};
+
+fn is_readable(file: &Bytes) -> bool
+    ensures { result ≡ is_some (key_file_at file.now) }
+{
+    read_key(file.as_slice()).is_ok()
+}
+
+fn target_key(target: &Option<Secret>) -> Option<&Bytes>
+    ensures { option_copied result ≡ table.target_key target.now }
+{
+    match target {
+        None => None,
+        Some(secret) => key_in(secret),
+    }
+}
+
+fn reused(
+    alloc: Global,
+    certificate: &Certificate,
+    desk: &Desk,
+    file: Option<&Bytes>,
+) -> Result<Act, AllocError>
+    requires { desk.now.asked < 2 ^ 63 }
+    ensures { IfOk result (λ a. a ≡ table.reused certificate.now desk.now (option_copied file.entry)) }
+{
+    let Some(file) = file else {
+        return ask_key(certificate, desk);
+    };
+    if !is_readable(file) {
+        return ask_key(certificate, desk);
+    }
+    if key_fits(&certificate.spec.key, file.as_slice()) {
+        Ok(Act::Call(make_call(alloc, certificate, file.copy()?)?))
+    } else {
+        Ok(Act::Nothing)
+    }
+}
+
+fn rotated(
+    alloc: Global,
+    certificate: &Certificate,
+    desk: &Desk,
+    file: Option<&Bytes>,
+    rotation: Rotation,
+) -> Result<Act, AllocError>
+    requires { desk.now.asked < 2 ^ 63 }
+    ensures { IfOk result (λ a. a ≡ table.rotated certificate.now desk.now (option_copied file.entry) rotation) }
+{
+    match rotation {
+        Rotation::Always => ask_key(certificate, desk),
+        Rotation::Never => reused(alloc, certificate, desk, file),
+    }
+}
+
+fn only_key(certificate: &Certificate, secret: &Secret) -> Result<Act, AllocError>
+    ensures { IfOk result (λ a. a ≡ table.only_key certificate.now secret.now) }
+{
+    if !has_fitting_key(&certificate.spec.key, secret) {
+        return drop_call(secret);
+    }
+    if is_named(&certificate.status.next_key, secret) {
+        return Ok(Act::Nothing);
+    }
+    let name = secret.meta.name.copy()?;
+    name_call(Some(name), certificate)
+}
+
+fn other_key<'a>(name: &Option<Name>, secrets: &'a [Secret]) -> Option<&'a Secret>
+    ensures { option_copied result ≡ find (λ o. not (words.is_named name.now o)) secrets.now }
+{
+    secrets.iter().find(|secret| !is_named(name, secret))
+}
+
+fn dropped(secret: Option<&Secret>) -> Result<Act, AllocError>
+    ensures { IfOk result (λ a. a ≡ table.dropped (option_copied secret.entry)) }
+{
+    match secret {
+        None => Ok(Act::Nothing),
+        Some(secret) => drop_call(secret),
+    }
+}
+
+fn while_issuing(
+    alloc: Global,
+    certificate: &Certificate,
+    desk: &Desk,
+    target: &Option<Secret>,
+    next: &[Secret],
+) -> Result<Act, AllocError>
+    requires { desk.now.asked < 2 ^ 63 }
+    ensures { IfOk result (λ a. a ≡ table.while_issuing certificate.now desk.now target.now next.now) }
+{
+    match next {
+        [] => rotated(
+            alloc,
+            certificate,
+            desk,
+            target_key(target),
+            certificate.spec.key.rotation_at_use(),
+        ),
+        [secret] => only_key(certificate, secret),
+        _ => dropped(other_key(&certificate.status.next_key, next)),
+    }
+}
+
+fn unnamed(certificate: &Certificate) -> Result<Act, AllocError>
+    ensures { IfOk result (λ a. a ≡ table.unnamed certificate.now certificate.now.status.next_key) }
+{
+    match &certificate.status.next_key {
+        None => Ok(Act::Nothing),
+        Some(_) => name_call(None, certificate),
+    }
+}
+
+fn while_idle(certificate: &Certificate, next: &[Secret]) -> Result<Act, AllocError>
+    ensures { IfOk result (λ a. a ≡ table.while_idle certificate.now next.now) }
+{
+    match next {
+        [] => unnamed(certificate),
+        [secret, ..] => drop_call(secret),
+    }
+}
+
+fn keys_for(
+    alloc: Global,
+    certificate: &Certificate,
+    desk: &Desk,
+    target: &Option<Secret>,
+    next: &[Secret],
+) -> Result<Act, AllocError>
+    requires { desk.now.asked < 2 ^ 63 }
+    ensures { IfOk result (λ a. a ≡ table.keys_for certificate.now desk.now target.now next.now) }
+{
+    if is_issuing(certificate) {
+        while_issuing(alloc, certificate, desk, target, next)
+    } else {
+        while_idle(certificate, next)
+    }
+}
+
+/// What the controller does on these views; it does not look at the moment `now`.
+///
+/// It does nothing where there is no Certificate. Where the condition Issuing is not True it deletes the first of the
+/// Secrets with a next key, and once none is left takes the status's `nextPrivateKeySecretName` away.
+///
+/// While Issuing is True it keeps one such Secret. Of several it deletes the first that the status does not name. One
+/// whose key is not readable, or not of the algorithm and size of the specification, it deletes, and of one that fits
+/// it writes the name into the status, if that has not got it. Where there is none it asks for a key. With
+/// the `rotationPolicy` Never it takes the key of the target Secret (`secretName`) again in place of that, if that
+/// fits, and does nothing if that is readable and does not fit.
+///
+/// Deletions and status updates name the version that is seen.
+///
+/// Fewer than 2^63 questions were asked before (`desk.asked`): the next one has a number.
+///
+/// # Errors
+///
+/// Want of memory alone.
+#[tactic(auto, unfolding(cmc_rules::specs::KeyManaging::key_manager))]
+pub fn act(alloc: Global, views: &Views, now: i64, desk: &Desk) -> Result<Act, AllocError>
+    requires { desk.now.asked < 2 ^ 63 }
+    ensures { IfOk result (λ a. a ≡ table.key_manager views.now desk.now) }
+{
+    let _now = now;
+    match &views.certificate {
+        None => Ok(Act::Nothing),
+        Some(certificate) => keys_for(
+            alloc,
+            certificate,
+            desk,
+            &views.secret,
+            views.next.as_slice(),
+        ),
+    }
+}

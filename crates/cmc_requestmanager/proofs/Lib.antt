@@ -1,0 +1,4 @@
+pub mod Last
+pub mod Writes
+pub mod Table
+pub mod Sound
