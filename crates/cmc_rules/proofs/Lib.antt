@@ -5,6 +5,7 @@ pub mod Versions
 pub mod Sights
 pub mod Lines
 pub mod Conditions
+pub mod Verdicts
 pub mod Carrying
 pub mod Sighted
 pub mod Answered

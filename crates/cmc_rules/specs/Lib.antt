@@ -32,3 +32,4 @@ pub mod KeyManaging
 pub mod Issuing
 pub mod NextRequests
 pub mod RequestManaging
+pub mod Approving

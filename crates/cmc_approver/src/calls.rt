@@ -1,0 +1,46 @@
+//! The write of a verdict.
+ghost use Rattle.std.specs.Prelude.{◌≡◌, IfOk};
+ghost use Rattle.cmc_rules.specs.Approving as table;
+
+use cmc_meta::Condition;
+use cmc_objects::{Call, CertificateRequest, Object, RequestStatus};
+use std::alloc::AllocError;
+
+#[tactic(auto, unfolding(cmc_rules::specs::Approving::judged_status))]
+fn judged_status(verdict: Condition, status: &RequestStatus) -> Result<RequestStatus, AllocError>
+    ensures { IfOk result (λ s. s ≡ table.judged_status verdict status.now) }
+{
+    let mut changed = status.copy()?;
+    changed.conditions.set(verdict)?;
+    Ok(changed)
+}
+
+fn with_verdict(
+    verdict: Condition,
+    request: &CertificateRequest,
+) -> Result<CertificateRequest, AllocError>
+    ensures { IfOk result (λ r. r ≡ record request.now { status = table.judged_status verdict request.now.status }) }
+{
+    let status = judged_status(verdict, &request.status)?;
+    Ok(CertificateRequest {
+        meta: request.meta.copy()?,
+        spec: request.spec.copy()?,
+        status,
+    })
+}
+
+/// The status update, at the version of the request, with the verdict.
+///
+/// # Errors
+///
+/// Want of memory alone.
+#[tactic(auto, unfolding(cmc_rules::specs::Approving::judge_call))]
+pub fn judge_call(verdict: Condition, request: &CertificateRequest) -> Result<Call, AllocError>
+    ensures { IfOk result (λ c. c ≡ table.judge_call verdict request.now) }
+{
+    let object = Object::Request(with_verdict(verdict, request)?);
+    Ok(Call::UpdateStatus {
+        object,
+        version: request.meta.version,
+    })
+}
