@@ -78,20 +78,20 @@ fn stage_read(as_seen: bool, entry: u64, kind: Kind, version: u64) -> Stage
 }
 
 fn stage_by(
-    open: &OpenPass,
+    current: &OpenPass,
     stand_in: bool,
     entry: u64,
     kind: Kind,
     last: u64,
     reply: &Reply,
 ) -> Stage
-    ensures { result ≡ spec.stage_by open.now.seen.certificate stand_in open.now.stage entry kind last reply.now }
+    ensures { result ≡ spec.stage_by current.now.seen.certificate stand_in current.now.stage entry kind last reply.now }
 {
     match reply {
-        Reply::Ok { .. } => stage_written(stand_in, &open.stage),
-        Reply::Unchanged { .. } => stage_written(stand_in, &open.stage),
+        Reply::Ok { .. } => stage_written(stand_in, &current.stage),
+        Reply::Unchanged { .. } => stage_written(stand_in, &current.stage),
         Reply::Found { object } => stage_read(
-            is_as_seen(&open.seen.certificate, object),
+            is_as_seen(&current.seen.certificate, object),
             entry,
             kind,
             object.meta().version,

@@ -1,11 +1,11 @@
 //! What no clause says: that a history takes entries and answers objects at versions, with ample memory.
 use crate::store::made;
-use crate::values::key;
-use crate::whole::admitted_certificate;
 use cmc_history::History;
 use cmc_meta::{Key, Kind, Numbers};
 use cmc_objects::{Call, Entry, Object, Who};
 use cmc_store::Store;
+use cmc_tests::values::key;
+use cmc_tests::whole::admitted_certificate;
 use std::alloc::Global;
 use std::test::Fail;
 

@@ -1,13 +1,13 @@
 //! The admission rules at their bounds, and the store's refusals by them.
 use crate::store::made;
-use crate::values::{key, least_spec, name, new_meta, text, texts};
-use crate::whole::{request, secret};
 use cmc_admit::{Invalid, admit, is_spec_kept};
 use cmc_meta::{Condition, ConditionKind, Conditions, Kind, Numbers, Text, Texts, Tri};
 use cmc_objects::{
     Algorithm, Call, CertStatus, Certificate, CertificateRequest, Object, Parts, Reply, Secret,
 };
 use cmc_store::Store;
+use cmc_tests::values::{key, least_spec, name, new_meta, text, texts};
+use cmc_tests::whole::{request, secret};
 use std::alloc::Global;
 use std::test::Fail;
 

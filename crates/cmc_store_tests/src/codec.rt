@@ -1,7 +1,7 @@
 //! What no clause says: each member of the printed objects, as the cert-manager.io/v1 API reference has them.
-use crate::whole::{certificate, request, secret};
 use cmc_codec::value_of;
 use cmc_objects::Object;
+use cmc_tests::whole::{certificate, request, secret};
 use std::alloc::Global;
 use std::process::Abort;
 use std::test::Fail;

@@ -1,9 +1,9 @@
 //! What no clause says: that each reply comes, with ample memory.
-use crate::values::key;
-use crate::whole::admitted_certificate;
 use cmc_meta::{Kind, Numbers};
 use cmc_objects::{Call, Object, Reply};
 use cmc_store::Store;
+use cmc_tests::values::key;
+use cmc_tests::whole::admitted_certificate;
 use std::alloc::Global;
 use std::test::Fail;
 
