@@ -48,8 +48,8 @@ use Rattle.cmc_rules.specs.Passes.{IsWorking}
 use Rattle.cmc_world.proofs.Moments.{scripted_low}
 use Rattle.cmc_world.proofs.Rest.{same_kind}
 use Rattle.cmc_plain.specs.Plain.{IsBehind, Fits, HasNoScript, HasNoPass, HasNoDelivery}
-use Rattle.cmc_plain.proofs.OneKind.{object_at-of_kind}
-use Rattle.cmc_plain.proofs.Newest.{IsToldOfAll, views_newest}
+use Rattle.cmc_world.proofs.OneKind.{object_at-of_kind}
+use Rattle.cmc_world.proofs.Newest.{IsToldOfAll, views_newest}
 use Rattle.cmc_plain.proofs.Newer.{newest_known}
 use Rattle.cmc_plain.proofs.Remembering.{own_low, IsLowObstacle, IsFairEnding, IsFairLast, last_fair}
 

@@ -9,6 +9,7 @@ pub mod Moments
 pub mod Found
 pub mod Sounds
 pub mod Rest
+pub mod Caching
 pub mod Events
 pub mod Judging
 pub mod Starting
@@ -17,6 +18,8 @@ pub mod Calls
 pub mod Doing
 pub mod Begins
 pub mod Stepping
+pub mod OneKind
+pub mod Newest
 pub mod Idling
 pub mod Waiting
 pub mod Leading

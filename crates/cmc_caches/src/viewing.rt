@@ -1,21 +1,16 @@
 //! What a role sees of a key.
 ghost use Rattle.std.specs.List.{list_any};
-ghost use Rattle.std.specs.Prelude.{◌≡◌, ◌==◌, ◌&&◌, ◌++◌, Some, None, [], IfOk, OnOk, OnErr, codes, option_to_list, option_and_then, if◌then◌else◌};
-ghost use Rattle.cmc_model.specs.Objects.{Objects};
+ghost use Rattle.std.specs.Prelude.{◌≡◌, ◌==◌, ◌&&◌, ◌++◌, Some, None, [], IfOk, OnOk, OnErr, codes, option_to_list, option_and_then, filter_map, if◌then◌else◌};
+ghost use Rattle.cmc_model.specs.Objects.{Objects, object_at};
 ghost use Rattle.cmc_rules.specs.Positions as tables;
 ghost use Rattle.cmc_rules.specs.Viewing as seen;
-ghost use Rattle.cmc_held.specs.Sight as sight;
 
-use crate::log::Log;
-use crate::tables::{looks_at_next, looks_at_requests, looks_at_secret, works_on_requests};
+use cmc_held::{looks_at_next, looks_at_requests, looks_at_secret, works_on_requests};
+use cmc_informer::Cache;
 use cmc_meta::{Key, Kind, ObjectMeta, OwnerRef, Text};
-use cmc_objects::{Certificate, CertificateRequest, Object, Positions, Role, Secret};
+use cmc_objects::{Certificate, CertificateRequest, Object, Role, Secret};
 use cmc_pass::{Requests, Secrets, Views};
-use cmc_store::Shelf;
 use std::alloc::{AllocError, Global};
-use std::collections::BTreeMap;
-
-type ObjectMap = BTreeMap<Key, Object>;
 
 fn certificate_in(object: &Object) -> Result<Option<Certificate>, AllocError>
     ensures { IfOk result (λ c. c ≡ seen.certificate_in object.now) }
@@ -47,7 +42,7 @@ fn secret_in(object: &Object) -> Result<Option<Secret>, AllocError>
     }
 }
 
-fn certificate_at(objects: &Shelf, key: &Key) -> Result<Option<Certificate>, AllocError>
+fn certificate_at(objects: &Cache, key: &Key) -> Result<Option<Certificate>, AllocError>
     ensures { IfOk result (λ c. c ≡ seen.certificate_at objects.now key.now) }
 {
     match objects.get(key) {
@@ -56,7 +51,7 @@ fn certificate_at(objects: &Shelf, key: &Key) -> Result<Option<Certificate>, All
     }
 }
 
-fn request_at(objects: &Shelf, key: &Key) -> Result<Option<CertificateRequest>, AllocError>
+fn request_at(objects: &Cache, key: &Key) -> Result<Option<CertificateRequest>, AllocError>
     ensures { IfOk result (λ r. r ≡ seen.request_at objects.now key.now) }
 {
     match objects.get(key) {
@@ -75,7 +70,7 @@ fn target_key(certificate: &Certificate) -> Result<Key, AllocError>
     })
 }
 
-fn target_at(objects: &Shelf, certificate: &Certificate) -> Result<Option<Secret>, AllocError>
+fn target_at(objects: &Cache, certificate: &Certificate) -> Result<Option<Secret>, AllocError>
     ensures { IfOk result (λ s. s ≡ seen.target_at objects.now certificate.now) }
 {
     let key = target_key(certificate)?;
@@ -185,56 +180,92 @@ fn push_request(
     }
 }
 
-fn next_among(
+/// The Secret under the key, where it has a next private key of the Certificate.
+fn next_at(
+    label: &Text,
+    certificate: &Certificate,
+    objects: &Cache,
+    key: &Key,
+) -> Result<Option<Secret>, AllocError>
+    requires { label.now ≡ codes "cert-manager.io/next-private-key" }
+    ensures { IfOk result (λ s. s ≡ option_and_then (seen.next_in certificate.now) (object_at objects.now key.now)) }
+{
+    match objects.get(key) {
+        Some(object) => next_in(label, certificate, object),
+        None => Ok(None),
+    }
+}
+
+/// The CertificateRequest under the key, where the Certificate owns it.
+fn owned_at(
+    certificate: &Certificate,
+    objects: &Cache,
+    key: &Key,
+) -> Result<Option<CertificateRequest>, AllocError>
+    ensures { IfOk result (λ r. r ≡ option_and_then (seen.owned_in certificate.now) (object_at objects.now key.now)) }
+{
+    match objects.get(key) {
+        Some(object) => owned_in(certificate, object),
+        None => Ok(None),
+    }
+}
+
+fn next_under(
     alloc: Global,
     label: &Text,
     certificate: &Certificate,
-    objects: &ObjectMap,
+    objects: &Cache,
+    keys: &[Key],
 ) -> Result<Secrets, AllocError>
     requires { label.now ≡ codes "cert-manager.io/next-private-key" }
-    ensures { IfOk result (λ s. s ≡ sight.next_among certificate.now objects.now.entries) }
+    ensures { IfOk result (λ s. s ≡ filter_map (λ k. option_and_then (seen.next_in certificate.now) (object_at objects.now k)) keys.now) }
 {
     let mut next = Secrets::new(alloc);
-    for (_, object) in objects.iter() {
-        push_secret(&mut next, next_in(label, certificate, object)?)?;
+    for key in keys {
+        push_secret(&mut next, next_at(label, certificate, objects, key)?)?;
     }
     Ok(next)
 }
 
-fn owned_among(
+fn owned_under(
     alloc: Global,
     certificate: &Certificate,
-    objects: &ObjectMap,
+    objects: &Cache,
+    keys: &[Key],
 ) -> Result<Requests, AllocError>
-    ensures { IfOk result (λ r. r ≡ sight.owned_among certificate.now objects.now.entries) }
+    ensures { IfOk result (λ r. r ≡ filter_map (λ k. option_and_then (seen.owned_in certificate.now) (object_at objects.now k)) keys.now) }
 {
     let mut owned = Requests::new(alloc);
-    for (_, object) in objects.iter() {
-        push_request(&mut owned, owned_in(certificate, object)?)?;
+    for key in keys {
+        push_request(&mut owned, owned_at(certificate, objects, key)?)?;
     }
     Ok(owned)
 }
 
-fn next_of(alloc: Global, objects: &Shelf, certificate: &Certificate) -> Result<Secrets, AllocError>
+/// The Secrets with a next private key of the Certificate: of what names its uid as an owner, those.
+fn next_of(alloc: Global, objects: &Cache, certificate: &Certificate) -> Result<Secrets, AllocError>
     ensures { IfOk result (λ s. s ≡ seen.next_of objects.now certificate.now) }
 {
     let label = Text::from_str(alloc, "cert-manager.io/next-private-key")?;
-    next_among(alloc, &label, certificate, objects.objects())
+    let keys = objects.owned_by(alloc, certificate.meta.uid)?;
+    next_under(alloc, &label, certificate, objects, keys.as_slice())
 }
 
+/// The CertificateRequests that the Certificate owns: of what names its uid as an owner, those.
 fn requests_of(
     alloc: Global,
-    objects: &Shelf,
+    objects: &Cache,
     certificate: &Certificate,
 ) -> Result<Requests, AllocError>
     ensures { IfOk result (λ r. r ≡ seen.requests_of objects.now certificate.now) }
 {
-    owned_among(alloc, certificate, objects.objects())
+    let keys = objects.owned_by(alloc, certificate.meta.uid)?;
+    owned_under(alloc, certificate, objects, keys.as_slice())
 }
 
 fn secret_seen(
     role: Role,
-    secrets: &Shelf,
+    secrets: &Cache,
     certificate: &Option<Certificate>,
 ) -> Result<Option<Secret>, AllocError>
     ensures { IfOk result (λ s. s ≡ (if tables.looks_at_secret role then option_and_then (seen.target_at secrets.now) certificate.now else None)) }
@@ -251,7 +282,7 @@ fn secret_seen(
 fn next_seen(
     alloc: Global,
     role: Role,
-    secrets: &Shelf,
+    secrets: &Cache,
     certificate: &Option<Certificate>,
 ) -> Result<Secrets, AllocError>
     ensures { IfOk result (λ s. s ≡ (if tables.looks_at_next role then seen.of_certificate (seen.next_of secrets.now) certificate.now else [])) }
@@ -268,7 +299,7 @@ fn next_seen(
 fn requests_seen(
     alloc: Global,
     role: Role,
-    requests: &Shelf,
+    requests: &Cache,
     certificate: &Option<Certificate>,
 ) -> Result<Requests, AllocError>
     ensures { IfOk result (λ r. r ≡ (if tables.looks_at_requests role then seen.of_certificate (seen.requests_of requests.now) certificate.now else [])) }
@@ -284,7 +315,7 @@ fn requests_seen(
 
 fn certificate_seen(
     role: Role,
-    certificates: &Shelf,
+    certificates: &Cache,
     key: &Key,
 ) -> Result<Option<Certificate>, AllocError>
     ensures { IfOk result (λ c. c ≡ (if tables.works_on_requests role then None else seen.certificate_at certificates.now key.now)) }
@@ -297,7 +328,7 @@ fn certificate_seen(
 
 fn request_seen(
     role: Role,
-    requests: &Shelf,
+    requests: &Cache,
     key: &Key,
 ) -> Result<Option<CertificateRequest>, AllocError>
     ensures { IfOk result (λ r. r ≡ (if tables.works_on_requests role then seen.request_at requests.now key.now else None)) }
@@ -312,8 +343,8 @@ fn request_seen(
 fn views_of(
     alloc: Global,
     role: Role,
-    requests: &Shelf,
-    secrets: &Shelf,
+    requests: &Cache,
+    secrets: &Cache,
     certificate: Option<Certificate>,
     request: Option<CertificateRequest>,
 ) -> Result<Views, AllocError>
@@ -333,12 +364,12 @@ fn views_of(
 
 /// What a role sees of the key among these objects of each kind. An `Err` is want of memory.
 #[tactic(auto, unfolding(cmc_rules::specs::Viewing::views_in))]
-pub fn views_on(
+pub(crate) fn views_on(
     alloc: Global,
     role: Role,
-    certificates: &Shelf,
-    requests: &Shelf,
-    secrets: &Shelf,
+    certificates: &Cache,
+    requests: &Cache,
+    secrets: &Cache,
     key: &Key,
 ) -> Result<Views, AllocError>
     ensures { IfOk result (λ v. v ≡ seen.views_in role (record { certificates = certificates.now; requests = requests.now; secrets = secrets.now }) key.now) }
@@ -346,28 +377,4 @@ pub fn views_on(
     let certificate = certificate_seen(role, certificates, key)?;
     let request = request_seen(role, requests, key)?;
     views_of(alloc, role, requests, secrets, certificate, request)
-}
-
-/// What the role sees of the key where it was told of each kind so far. An `Err` is want of memory.
-pub fn views_at(
-    alloc: Global,
-    log: &Log,
-    role: Role,
-    at: Positions,
-    key: &Key,
-) -> Result<Views, AllocError>
-    ensures { IfOk result (λ v. v ≡ seen.views_in role (sight.caches_at log.now.writes at) key.now) }
-{
-    let certificates = log.replay(alloc, Kind::Certificate, at.certificates)?;
-    let requests = log.replay(alloc, Kind::CertificateRequest, at.requests)?;
-    let secrets = log.replay(alloc, Kind::Secret, at.secrets)?;
-    views_on(alloc, role, &certificates, &requests, &secrets, key)
-}
-
-/// What there is to see of the key for the role, where these are the objects that stand. An `Err` is
-/// want of memory.
-pub fn present(alloc: Global, shelf: &Shelf, role: Role, key: &Key) -> Result<Views, AllocError>
-    ensures { IfOk result (λ v. v ≡ seen.views_in role (record { certificates = shelf.now; requests = shelf.now; secrets = shelf.now }) key.now) }
-{
-    views_on(alloc, role, shelf, shelf, shelf, key)
 }

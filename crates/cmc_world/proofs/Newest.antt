@@ -23,7 +23,7 @@ use Rattle.cmc_rules.specs.Legality.{IsLegal}
 use Rattle.cmc_model.proofs.Versions.{standing}
 use Rattle.cmc_rules.proofs.Versions.{version_keyed}
 use Rattle.cmc_model.proofs.Writes.{writes_leave}
-use Rattle.cmc_plain.proofs.OneKind.{of_kind-oldest, object_at-of_kind, entries-of_kind, filter_map-where}
+use Rattle.cmc_world.proofs.OneKind.{of_kind-oldest, object_at-of_kind, entries-of_kind, filter_map-where}
 
 -- ---- what only objects of one kind have
 
