@@ -13,7 +13,7 @@ use Rattle.std.proofs.lemmas.Str.Parse.{IsNumeralModel, numerals_by_value, tells
 use Rattle.cmc_cursor.specs.Reading.{Read}
 use Rattle.cmc_cursor.specs.Readers.{is_decimal, decimal_in}
 use Rattle.cmc_codec.specs.MetadataForm.{uid_in}
-use Rattle.cmc_codec.specs.Words.{uid_text}
+use Rattle.cmc_print.specs.Words.{uid_text}
 
 both_true : (a b : Bool) → (a && b) ≡ true → (a ≡ true) × (b ≡ true)
 both_true true b h = (refl, h)

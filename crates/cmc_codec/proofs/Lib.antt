@@ -1,13 +1,11 @@
-mod FloatFree
-mod Bare
-mod Slots
-mod Entries
-mod ValuesAgain
+pub mod Slots
+pub mod Entries
+pub mod ValuesAgain
 mod DecimalsAgain
-mod PrintedSpecs
+pub mod PrintedSpecs
 mod SpecsAgain
 mod MetadataAgain
-mod ObjectsAgain
+pub mod ObjectsAgain
 mod LongDurations
 mod Only
 mod OnlySpecs

@@ -11,9 +11,9 @@ use Rattle.cmc_meta.specs.declared.owners.OwnerRef.{OwnerRef}
 use Rattle.cmc_meta.specs.declared.object_meta.ObjectMeta.{ObjectMeta}
 use Rattle.cmc_cursor.specs.Reading.{Read, ◌>>=◌, under, Field, fields_at, fields_of}
 use Rattle.cmc_cursor.specs.Readers.{text_at, bytes_at, name_at, flag_at, decimal_at, pairs_with, pairs_at, parts_with, parts_at, dropped_at, text_member}
-use Rattle.cmc_codec.specs.Puts.{base64_text, map_tree, put_all}
-use Rattle.cmc_codec.specs.Printed.{owner_tree, owners_tree, meta_tree}
-use Rattle.cmc_codec.specs.Words.{uid_text}
+use Rattle.cmc_print.specs.Puts.{base64_text, map_tree, put_all}
+use Rattle.cmc_print.specs.Printed.{owner_tree, owners_tree, meta_members, meta_tree}
+use Rattle.cmc_print.specs.Words.{uid_text}
 use Rattle.cmc_codec.specs.Given.{given_or}
 use Rattle.cmc_codec.specs.MetadataForm.{sought_member, sought_or, sought_needed, uid_in, owner_kind, owner_uid, kept_owner, owner_in, owner_at, with_owner, owners_from, owners_at, new_meta, labelled_in, placed_in, head_at}
 use Rattle.cmc_codec.specs.declared.metadata_in.Head.{Head}
@@ -22,9 +22,9 @@ use Rattle.cmc_codec.specs.declared.metadata_in.Placed.{Placed}
 use Rattle.cmc_codec.specs.Laws.{IsOrdered}
 use Rattle.cmc_codec.proofs.Slots.{slots, start, bind, is_next, put_is, some_list, put_list_is, list_given, sought_is}
 use Rattle.cmc_codec.proofs.Entries.{ordered_with, AreAgain, entries_with, all_read}
-use Rattle.cmc_codec.proofs.ValuesAgain.{Always, so, failed, next, after, name_again, sought_or_so, sought_needed_so}
+use Rattle.cmc_cursor.proofs.Always.{Always, so, failed, next, after, below}
+use Rattle.cmc_codec.proofs.ValuesAgain.{name_again, sought_or_so, sought_needed_so}
 use Rattle.cmc_codec.proofs.DecimalsAgain.{uid_again}
-use Rattle.cmc_codec.proofs.ValuesAgain as values
 
 abbrev pub Entries : Type 0
 Entries = List (List ℕ × List ℕ)
@@ -126,7 +126,7 @@ with_one (Some o) os is are = λ n. rw (is, are (n + 1)) refl
 owners_from_so : (n : ℕ) (ds : Items) → Always AreOwners (owners_from n ds)
 owners_from_so n no_items = so (λ _. refl)
 owners_from_so n (item d ds) =
-    after IsOwner AreOwners (under (decimal n) (owner_at d)) (λ found. owners_from (n + 1) ds >>= (λ os. Ok (with_owner found os))) (values.below IsOwner (decimal n) (owner_at d) (owner_so d))
+    after IsOwner AreOwners (under (decimal n) (owner_at d)) (λ found. owners_from (n + 1) ds >>= (λ os. Ok (with_owner found os))) (below IsOwner (decimal n) (owner_at d) (owner_so d))
     (λ found is. after AreOwners AreOwners (owners_from (n + 1) ds) (λ os. Ok (with_owner found os)) (owners_from_so (n + 1) ds) (λ os are. so (with_one found os is are)))
 
 abbrev pub AreListed : List OwnerRef → Type 0
@@ -158,7 +158,7 @@ abbrev pub places_of : ObjectMeta → List (List ℕ × Option Data)
 places_of m = meta_places (some_list (map_tree string) m.annotations) (some_list (map_tree string) m.labels) (Some (string m.name)) (Some (string m.namespace)) (some_list owners_tree m.owners)
 
 pub meta_printed : (m : ObjectMeta) → meta_tree m ≡ object (slots (places_of m))
-unfolding meta_tree
+unfolding meta_tree meta_members
 meta_printed m =
     let name = put_is (codes "name") (string m.name) (start {ss = meta_places None None None None None} refl) refl in
     let namespace = put_is (codes "namespace") (string m.namespace) name refl in

@@ -14,8 +14,8 @@ use Rattle.cmc_objects.specs.declared.object.Object.{Object}
 use Rattle.cmc_objects.specs.declared.object.Object.TheVariants.{Cert, Request, Secret}
 use Rattle.cmc_cursor.specs.Reading.{Read, Field, fields_at, fields_of, optional_at, required_at, at_end}
 use Rattle.cmc_cursor.specs.Readers.{text_at, word_at, bytes_at, parts_at, passes, text_member}
-use Rattle.cmc_codec.specs.Puts.{base64_text, map_tree}
-use Rattle.cmc_codec.specs.Printed.{meta_tree, spec_tree, request_tree, status_members, put_moments, request_status_members, head_members, object_tree}
+use Rattle.cmc_print.specs.Puts.{base64_text, map_tree}
+use Rattle.cmc_print.specs.Printed.{meta_tree, spec_tree, request_tree, status_members, put_moments, request_status_members, head_members, object_tree}
 use Rattle.cmc_codec.specs.Given.{member_or, needed_at}
 use Rattle.cmc_codec.specs.MetadataForm.{head_at}
 use Rattle.cmc_codec.specs.CertificateForm.{api_at, spec_at, api_request_spec_at}
@@ -27,7 +27,8 @@ use Rattle.cmc_codec.specs.declared.metadata_in.Head.{Head}
 use Rattle.cmc_codec.specs.Laws.{IsOrdered}
 use Rattle.cmc_codec.proofs.Slots.{slots, bind, required_is, needed_is, member_or_is, some_list, list_given}
 use Rattle.cmc_codec.proofs.Entries.{AreAgain}
-use Rattle.cmc_codec.proofs.ValuesAgain.{Always, so, failed, next, after, member_or_so, needed_so}
+use Rattle.cmc_cursor.proofs.Always.{Always, so, failed, next, after}
+use Rattle.cmc_codec.proofs.ValuesAgain.{member_or_so, needed_so}
 use Rattle.cmc_codec.proofs.PrintedSpecs.{IsSpec, IsRequestSpec, spec_again, request_again}
 use Rattle.cmc_codec.proofs.SpecsAgain.{IsRequest, spec_so, api_request_so}
 use Rattle.cmc_codec.proofs.MetadataAgain.{IsMeta, head_again, head_so, parts_again, parts_in_order}

@@ -7,16 +7,16 @@ use Rattle.cmc_time.specs.Durations.{longest, go_duration}
 use Rattle.cmc_time.proofs.DurationLaws.{duration_again, go_duration_is}
 use Rattle.cmc_cursor.specs.Reading.{Read, ◌>>=◌, under, fields_of}
 use Rattle.cmc_cursor.specs.Readers.{found, name_at, short_text_at, small_count_at, flag_at}
-use Rattle.cmc_codec.specs.Trees.{natural}
-use Rattle.cmc_codec.specs.Puts.{strings}
-use Rattle.cmc_codec.specs.Printed.{duration_tree}
+use Rattle.cmc_print.specs.Trees.{natural}
+use Rattle.cmc_print.specs.Puts.{strings}
+use Rattle.cmc_print.specs.Printed.{duration_tree}
 use Rattle.cmc_codec.specs.Given.{worded_at, list_from, list_at, plain_text_at, duration_at, given_at, given_or, member_at, member_or, needed_at}
 use Rattle.cmc_codec.specs.MetadataForm.{sought_or, sought_needed}
 use Rattle.cmc_codec.specs.declared.given.Wording.{Wording}
 use Rattle.cmc_codec.specs.declared.given.Wording.TheVariants.{Any, Printable, Address}
 use Rattle.cmc_codec.proofs.Slots.{slots, is_next, next_is, sought_is, required_is, some_option, some_list, some_true}
 use Rattle.cmc_codec.proofs.LongDurations.{unread}
-use Rattle.cmc_codec.proofs.ValuesAgain.{Always, so, failed, after, below}
+use Rattle.cmc_cursor.proofs.Always.{Always, so, failed, after, below}
 
 -- the reading gives x, if it gives anything
 abbrev pub Only : {A : Type 0} → A → Read A → Type 0

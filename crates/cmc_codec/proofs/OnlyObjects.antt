@@ -19,9 +19,9 @@ use Rattle.cmc_objects.specs.declared.object.Object.{Object}
 use Rattle.cmc_objects.specs.declared.object.Object.TheVariants as objects
 use Rattle.cmc_cursor.specs.Reading.{Read, under, fields_of}
 use Rattle.cmc_cursor.specs.Readers.{word_at, name_at, pairs_at, parts_at}
-use Rattle.cmc_codec.specs.Puts.{base64_text, map_tree, put_object}
-use Rattle.cmc_codec.specs.Printed.{owner_tree, owners_tree, meta_tree, spec_tree, request_tree, status_members, request_status_members, head_members, object_tree}
-use Rattle.cmc_codec.specs.Words.{uid_text}
+use Rattle.cmc_print.specs.Puts.{base64_text, map_tree, put_object}
+use Rattle.cmc_print.specs.Printed.{owner_tree, owners_tree, meta_tree, spec_tree, request_tree, status_members, request_status_members, head_members, object_tree}
+use Rattle.cmc_print.specs.Words.{uid_text}
 use Rattle.cmc_codec.specs.MetadataForm.{uid_in, kept_owner, owner_at, owners_from, owners_at, labelled_in, placed_in, head_at}
 use Rattle.cmc_codec.specs.CertificateForm.{api_at, spec_at, api_request_spec_at}
 use Rattle.cmc_codec.specs.ObjectForm.{status_last, certificate_in, request_in, secret_in, applied_at}
@@ -30,7 +30,7 @@ use Rattle.cmc_codec.specs.declared.object_in.Applied.{Applied}
 use Rattle.cmc_codec.specs.declared.metadata_in.Head.{Head}
 use Rattle.cmc_codec.specs.Laws.{FitsSeconds, HasDurations, HaveUids, IsMetadata, HasBytes, HasOrder, bare_meta, bare, GivesBack}
 use Rattle.cmc_codec.proofs.Slots.{slots, required_is, some_list, some_object}
-use Rattle.cmc_codec.proofs.ValuesAgain.{so, failed}
+use Rattle.cmc_cursor.proofs.Always.{so, failed}
 use Rattle.cmc_codec.proofs.DecimalsAgain.{uid_written}
 use Rattle.cmc_codec.proofs.MetadataAgain.{pairs_again, parts_again, owner_printed, meta_printed, places_of}
 use Rattle.cmc_codec.proofs.ObjectsAgain as whole

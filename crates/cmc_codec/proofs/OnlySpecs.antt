@@ -11,10 +11,10 @@ use Rattle.cmc_objects.specs.declared.certificate.CertSpec.{CertSpec}
 use Rattle.cmc_objects.specs.declared.request.RequestSpec.{RequestSpec}
 use Rattle.cmc_cursor.specs.Reading.{fields_of}
 use Rattle.cmc_cursor.specs.Readers.{name_at, short_text_at, small_count_at, bytes_at}
-use Rattle.cmc_codec.specs.Trees.{natural}
-use Rattle.cmc_codec.specs.Words.{algorithm_name, encoding_name, rotation_name}
-use Rattle.cmc_codec.specs.Puts.{strings, base64_text}
-use Rattle.cmc_codec.specs.Printed.{duration_tree, issuer_tree, key_members, spec_tree, request_tree}
+use Rattle.cmc_print.specs.Trees.{natural}
+use Rattle.cmc_print.specs.Words.{algorithm_name, encoding_name, rotation_name}
+use Rattle.cmc_print.specs.Puts.{strings, base64_text}
+use Rattle.cmc_print.specs.Printed.{duration_tree, issuer_tree, key_members, spec_tree, request_tree}
 use Rattle.cmc_codec.specs.Given.{list_at, plain_text_at, duration_at, choice_at, given_or}
 use Rattle.cmc_codec.specs.declared.given.Wording.TheVariants.{Any, Printable, Address}
 use Rattle.cmc_codec.specs.CertificateForm.{issuer_at, no_key, key_at, subject_in, signing_in, terms_in, target_in, spec_at, request_spec_at}
@@ -22,7 +22,7 @@ use Rattle.cmc_codec.specs.declared.certificate_in.Api.TheVariants.{V1}
 use Rattle.cmc_codec.specs.Laws.{FitsSeconds}
 use Rattle.cmc_codec.proofs.Slots.{slots, some_option, some_object}
 use Rattle.cmc_codec.proofs.PrintedSpecs.{issuer_places, issuer_printed, algorithm_again, encoding_again, rotation_again, always_some, places_of_key, key_printed, empty_key, spec_places, places_of, subject_of, signing_of, terms_of, target_of, behind, spec_printed, places_of_request, request_printed}
-use Rattle.cmc_codec.proofs.ValuesAgain.{so}
+use Rattle.cmc_cursor.proofs.Always.{so}
 use Rattle.cmc_codec.proofs.Only.{Only, given, only_below, only_then, short_text_only, name_only, plain_text_only, list_only, small_count_only, duration_only, option_is, member_or_is, list_is, true_is, needed_is}
 
 lasting : (o : Option ℕ) → FitsSeconds o → IfSome o (λ n. Only n (duration_at (duration_tree n)))

@@ -14,10 +14,10 @@ use Rattle.cmc_objects.specs.declared.certificate.CertSpec.{CertSpec}
 use Rattle.cmc_objects.specs.declared.request.RequestSpec.{RequestSpec}
 use Rattle.cmc_cursor.specs.Reading.{Field, fields_of}
 use Rattle.cmc_cursor.specs.Readers.{name_at, short_text_at, small_count_at, bytes_at}
-use Rattle.cmc_codec.specs.Trees.{natural}
-use Rattle.cmc_codec.specs.Words.{algorithm_name, encoding_name, rotation_name}
-use Rattle.cmc_codec.specs.Puts.{strings, base64_text}
-use Rattle.cmc_codec.specs.Printed.{duration_tree, issuer_tree, key_members, put_references, put_names, put_terms, spec_tree, request_tree}
+use Rattle.cmc_print.specs.Trees.{natural}
+use Rattle.cmc_print.specs.Words.{algorithm_name, encoding_name, rotation_name}
+use Rattle.cmc_print.specs.Puts.{strings, base64_text}
+use Rattle.cmc_print.specs.Printed.{duration_tree, issuer_tree, key_members, put_references, put_names, put_terms, spec_tree, request_tree}
 use Rattle.cmc_codec.specs.Given.{list_at, plain_text_at, duration_at, choice_at, given_or}
 use Rattle.cmc_codec.specs.declared.given.Wording.TheVariants.{Any, Printable, Address}
 use Rattle.cmc_codec.specs.CertificateForm.{issuer_at, no_key, key_at, subject_in, signing_in, terms_in, target_in, spec_at, request_spec_at}

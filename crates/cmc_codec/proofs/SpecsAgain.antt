@@ -10,9 +10,9 @@ use Rattle.cmc_objects.specs.declared.key_spec.KeySpec.{KeySpec}
 use Rattle.cmc_objects.specs.declared.request.RequestSpec.{RequestSpec}
 use Rattle.cmc_cursor.specs.Reading.{Field, fields_at, at_end}
 use Rattle.cmc_cursor.specs.Readers.{name_at, short_text_at, small_count_at, flag_at, bytes_at}
-use Rattle.cmc_codec.specs.Trees.{natural}
-use Rattle.cmc_codec.specs.Puts.{strings, base64_text}
-use Rattle.cmc_codec.specs.Printed.{duration_tree}
+use Rattle.cmc_print.specs.Trees.{natural}
+use Rattle.cmc_print.specs.Puts.{strings, base64_text}
+use Rattle.cmc_print.specs.Printed.{duration_tree}
 use Rattle.cmc_codec.specs.Given.{list_at, plain_text_at, duration_at, choice_at, member_at, member_or, needed_at}
 use Rattle.cmc_codec.specs.declared.given.Wording.{Wording}
 use Rattle.cmc_codec.specs.declared.given.Wording.TheVariants.{Any, Printable, Address}
@@ -24,7 +24,9 @@ use Rattle.cmc_codec.specs.declared.certificate_in.Terms.{Terms}
 use Rattle.cmc_codec.specs.declared.certificate_in.Target.{Target}
 use Rattle.cmc_codec.specs.CertificateForm.{issuer_at, no_key, key_at, subject_in, signing_in, terms_in, old_terms_in, api_terms_in, target_in, spec_at, emails_name, uris_name, request_spec_at, old_request_spec_at, api_request_spec_at}
 use Rattle.cmc_codec.proofs.ValuesAgain as values
-use Rattle.cmc_codec.proofs.ValuesAgain.{so, failed, next, after, member_or_so, member_so, needed_so}
+use Rattle.cmc_cursor.proofs.Always as readings
+use Rattle.cmc_cursor.proofs.Always.{so, failed, next, after}
+use Rattle.cmc_codec.proofs.ValuesAgain.{member_or_so, member_so, needed_so}
 use Rattle.cmc_codec.proofs.PrintedSpecs.{IsIssuer, IsSize, IsSpec, IsRequestSpec}
 
 abbrev IsShort : List ℕ → Type 0
@@ -39,7 +41,7 @@ IsSeconds n = duration_at (duration_tree n) ≡ Ok n
 abbrev IsListOf : Wording → List (List ℕ) → Type 0
 IsListOf wording ts = list_at wording (strings ts) ≡ Ok ts
 
-issuer_so : (d : Data) → values.Always IsIssuer (issuer_at d)
+issuer_so : (d : Data) → readings.Always IsIssuer (issuer_at d)
 unfolding issuer_at
 issuer_so d =
     next IsIssuer (fields_at d) _ (λ fs. after _ IsIssuer (member_at (short_text_at 253) (codes "group") fs) _ (member_so IsShort (short_text_at 253) (codes "group") fs (values.short_text_again 253))
@@ -50,7 +52,7 @@ issuer_so d =
 abbrev HasSize : KeySpec → Type 0
 HasSize k = IsSize k.size
 
-key_so : (d : Data) → values.Always HasSize (key_at d)
+key_so : (d : Data) → readings.Always HasSize (key_at d)
 unfolding key_at
 key_so d =
     next HasSize (fields_at d) _ (λ fs. next HasSize (member_at (choice_at (codes "RSA") Rsa (codes "ECDSA") Ecdsa) (codes "algorithm") fs) _
@@ -69,7 +71,7 @@ record IsSubject (p : Subject × List Field) : Type 0 where
   emails : IsListOf Printable p.0.emails
   addresses : IsListOf Address p.0.ip_addresses
 
-subject_so : (n : List ℕ) (fs : List Field) → values.Always IsSubject (subject_in n fs)
+subject_so : (n : List ℕ) (fs : List Field) → readings.Always IsSubject (subject_in n fs)
 unfolding subject_in
 subject_so n fs =
     after _ IsSubject (member_or [] plain_text_at (codes "commonName") fs) _ (member_or_so (λ t. plain_text_at (string t) ≡ Ok t) [] plain_text_at (codes "commonName") fs empty_again values.plain_text_again)
@@ -82,7 +84,7 @@ subject_so n fs =
 abbrev IsSigning : Signing × List Field → Type 0
 IsSigning p = IsIssuer p.0.issuer
 
-pub signing_so : (fs : List Field) → values.Always IsSigning (signing_in fs)
+pub signing_so : (fs : List Field) → readings.Always IsSigning (signing_in fs)
 unfolding signing_in
 signing_so fs = next IsSigning (member_or false flag_at (codes "isCA") fs) _
     (λ is_ca. after _ IsSigning (needed_at issuer_at (codes "issuerRef") is_ca.1) _ (needed_so IsIssuer issuer_at (codes "issuerRef") is_ca.1 issuer_so) (λ issuer is_issuer. so is_issuer))
@@ -93,7 +95,7 @@ record IsTerms (p : Terms × List Field) : Type 0 where
   percent : IfSome p.0.renew_percent IsNumber
   limit : IfSome p.0.history_limit IsNumber
 
-terms_so : (fs : List Field) → values.Always IsTerms (terms_in fs)
+terms_so : (fs : List Field) → readings.Always IsTerms (terms_in fs)
 unfolding terms_in
 terms_so fs =
     after _ IsTerms (member_or no_key key_at (codes "privateKey") fs) _ (member_or_so HasSize no_key key_at (codes "privateKey") fs tt key_so)
@@ -102,7 +104,7 @@ terms_so fs =
     (λ percent is_percent. after _ IsTerms (member_at small_count_at (codes "revisionHistoryLimit") percent.1) _ (member_so IsNumber small_count_at (codes "revisionHistoryLimit") percent.1 values.small_count_again)
     (λ limit is_limit. so (record { size = is_key; before = is_before; percent = is_percent; limit = is_limit })))))
 
-old_terms_so : (fs : List Field) → values.Always IsTerms (old_terms_in fs)
+old_terms_so : (fs : List Field) → readings.Always IsTerms (old_terms_in fs)
 unfolding old_terms_in
 old_terms_so fs =
     next IsTerms (member_at (choice_at (codes "rsa") Rsa (codes "ecdsa") Ecdsa) (codes "keyAlgorithm") fs) _
@@ -111,7 +113,7 @@ old_terms_so fs =
     (λ size is_size. after _ IsTerms (member_at duration_at (codes "renewBefore") size.1) _ (member_so IsSeconds duration_at (codes "renewBefore") size.1 values.duration_is_again)
     (λ before is_before. so (record { size = is_size; before = is_before; percent = tt; limit = tt })))))
 
-api_terms_so : (api : Api) (fs : List Field) → values.Always IsTerms (api_terms_in api fs)
+api_terms_so : (api : Api) (fs : List Field) → readings.Always IsTerms (api_terms_in api fs)
 api_terms_so V1 fs = terms_so fs
 api_terms_so V1Alpha2 fs = old_terms_so fs
 
@@ -120,7 +122,7 @@ record IsTarget (p : Target × List Field) : Type 0 where
   uris : IsListOf Printable p.0.uris
   usages : IsListOf Any p.0.usages
 
-target_so : (n : List ℕ) (fs : List Field) → values.Always IsTarget (target_in n fs)
+target_so : (n : List ℕ) (fs : List Field) → readings.Always IsTarget (target_in n fs)
 unfolding target_in
 target_so n fs =
     after _ IsTarget (needed_at name_at (codes "secretName") fs) _ (needed_so (λ t. name_at (string t) ≡ Ok t) name_at (codes "secretName") fs values.name_again)
@@ -128,7 +130,7 @@ target_so n fs =
     (λ uris is_uris. after _ IsTarget (member_or [] (list_at Any) (codes "usages") uris.1) _ (member_or_so (IsListOf Any) [] (list_at Any) (codes "usages") uris.1 refl (values.list_again Any))
     (λ usages is_usages. so (record { secret = is_secret; uris = is_uris; usages = is_usages }))))
 
-pub spec_so : (api : Api) (d : Data) → values.Always IsSpec (spec_at api d)
+pub spec_so : (api : Api) (d : Data) → readings.Always IsSpec (spec_at api d)
 unfolding spec_at
 spec_so api d =
     next IsSpec (fields_at d) _ (λ fs. after _ IsSpec (subject_in (emails_name api) fs) _ (subject_so (emails_name api) fs)
@@ -157,7 +159,7 @@ HasBytes s = bytes_at (base64_text s.request) ≡ Ok s.request
 abbrev pub IsRequest : RequestSpec → Type 0
 IsRequest s = HasBytes s → IsRequestSpec s
 
-request_so : (d : Data) → values.Always IsRequest (request_spec_at d)
+request_so : (d : Data) → readings.Always IsRequest (request_spec_at d)
 unfolding request_spec_at
 request_so d =
     next IsRequest (fields_at d) _ (λ fs. after _ IsRequest (member_at duration_at (codes "duration") fs) _ (member_so IsSeconds duration_at (codes "duration") fs values.duration_is_again)
@@ -166,7 +168,7 @@ request_so d =
     (λ request. after _ IsRequest (member_or [] (list_at Any) (codes "usages") request.1) _ (member_or_so (IsListOf Any) [] (list_at Any) (codes "usages") request.1 refl (values.list_again Any))
     (λ usages is_usages. next IsRequest (at_end usages.1) _ (λ end. so (λ bytes. record { duration = is_duration; issuer = is_signing; request = bytes; usages = is_usages })))))))
 
-old_request_so : (d : Data) → values.Always IsRequest (old_request_spec_at d)
+old_request_so : (d : Data) → readings.Always IsRequest (old_request_spec_at d)
 unfolding old_request_spec_at
 old_request_so d =
     next IsRequest (fields_at d) _ (λ fs. next IsRequest (needed_at bytes_at (codes "csr") fs) _
@@ -175,6 +177,6 @@ old_request_so d =
     (λ signing is_signing. after _ IsRequest (member_or [] (list_at Any) (codes "usages") signing.1) _ (member_or_so (IsListOf Any) [] (list_at Any) (codes "usages") signing.1 refl (values.list_again Any))
     (λ usages is_usages. next IsRequest (at_end usages.1) _ (λ end. so (λ bytes. record { duration = is_duration; issuer = is_signing; request = bytes; usages = is_usages })))))))
 
-pub api_request_so : (api : Api) (d : Data) → values.Always IsRequest (api_request_spec_at api d)
+pub api_request_so : (api : Api) (d : Data) → readings.Always IsRequest (api_request_spec_at api d)
 api_request_so V1 d = request_so d
 api_request_so V1Alpha2 d = old_request_so d

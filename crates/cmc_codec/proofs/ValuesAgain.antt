@@ -8,45 +8,14 @@ use Rattle.cmc_time.specs.DurationReading.{duration_seconds}
 use Rattle.cmc_time.proofs.DurationLaws.{duration_again, duration_found, go_duration_is}
 use Rattle.cmc_cursor.specs.Reading.{Read, ◌>>=◌, under, Field, optional_at, required_at, must_stand}
 use Rattle.cmc_cursor.specs.Readers.{found, text_at, name_at, short_text_at, printable_at, count_at, small_count_at, sought_at}
-use Rattle.cmc_codec.specs.Trees.{natural}
-use Rattle.cmc_codec.specs.Puts.{strings}
-use Rattle.cmc_codec.specs.Printed.{duration_tree}
+use Rattle.cmc_cursor.proofs.Always.{Always, so, failed, next, after, below}
+use Rattle.cmc_print.specs.Trees.{natural}
+use Rattle.cmc_print.specs.Puts.{strings}
+use Rattle.cmc_print.specs.Printed.{duration_tree}
 use Rattle.cmc_codec.specs.Given.{address_text_at, worded_at, list_from, list_at, plain_text_at, duration_at, given_at, given_or, member_at, member_or, needed_at}
 use Rattle.cmc_codec.specs.MetadataForm.{sought_or, sought_needed}
 use Rattle.cmc_codec.specs.declared.given.Wording.{Wording}
 use Rattle.cmc_codec.specs.declared.given.Wording.TheVariants.{Any, Printable, Address}
-
--- what a reading gives, if it gives anything, is so
-pub record Always {A : Type 0} (P : A → Type 0) (r : Read A) : Type 0 where
-  pub each : (x : A) → r ≡ Ok x → P x
-
-got : {A : Type 0} → A → Read A → A
-got d (Ok x) = x
-got d (Err path) = d
-
-is_ok : {A : Type 0} → Read A → Bool
-is_ok (Ok x) = true
-is_ok (Err path) = false
-
-pub so : {A : Type 0} {P : A → Type 0} {x : A} → P x → Always P (Ok x)
-unfolding got
-so {P = P} {x = x} is = record { each = λ y e. subst P (ap (got x) e) is }
-
-pub failed : {A : Type 0} {P : A → Type 0} (path : List ℕ) → Always P (Err path)
-unfolding is_ok
-failed path = record { each = λ y e. absurd (let k = ap is_ok e in cc) }
-
-pub next : {A B : Type 0} (P : B → Type 0) (r : Read A) (f : A → Read B) → ((x : A) → Always P (f x)) → Always P (r >>= f)
-next P (Ok x) f each = each x
-next P (Err path) f each = failed path
-
-pub after : {A B : Type 0} (Q : A → Type 0) (P : B → Type 0) (r : Read A) (f : A → Read B) → Always Q r → ((x : A) → Q x → Always P (f x)) → Always P (r >>= f)
-after Q P (Ok x) f first each = each x (first.each x refl)
-after Q P (Err path) f first each = failed path
-
-pub below : {A : Type 0} (P : A → Type 0) (name : List ℕ) (r : Read A) → Always P r → Always P (under name r)
-below P name (Ok x) is = is
-below P name (Err path) is = failed _
 
 -- a text that passes a test passes it again
 kept : (P : List ℕ → Type 0) (b : Bool) (t : List ℕ) → (b ≡ true → P t) → Always P (if b then Ok t else Err [])

@@ -10,7 +10,7 @@ use Rattle.cmc_meta.specs.declared.object_meta.ObjectMeta.{ObjectMeta}
 use Rattle.cmc_objects.specs.Objects.{no_cert_status, no_request_status}
 use Rattle.cmc_objects.specs.declared.object.Object.{Object}
 use Rattle.cmc_objects.specs.declared.object.Object.TheVariants.{Cert, Request, Secret}
-use Rattle.cmc_codec.specs.Printed.{object_tree}
+use Rattle.cmc_print.specs.Printed.{object_tree}
 use Rattle.cmc_codec.specs.MetadataForm.{new_meta}
 use Rattle.cmc_codec.specs.ObjectForm.{object_at}
 

@@ -1,9 +1,5 @@
-pub mod Trees
 pub mod Given
 pub mod MetadataForm
 pub mod CertificateForm
 pub mod ObjectForm
 pub mod Laws
-pub mod Words
-pub mod Puts
-pub mod Printed

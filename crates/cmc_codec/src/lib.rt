@@ -1,5 +1,4 @@
-//! Kubernetes objects as JSON: trees without floats, the tree of each object, and the object of a
-//! value.
+//! Kubernetes objects read from JSON, and what printing and reading make of each other.
 //!
 //! Objects are read over the cursor of `cmc_cursor`, so that a value that is none fails at its
 //! first failing path.
@@ -8,21 +7,11 @@
 mod certificate_in;
 mod given;
 mod laws;
-mod metadata;
 mod metadata_in;
 mod object_in;
 mod owners_in;
-mod printing;
-mod puts;
 mod request_in;
-mod spec_trees;
-mod statuses;
-mod tree;
-mod words;
 
+pub use cmc_print::value_of;
 pub use laws::{print_gives_back, printed_is_read};
 pub use object_in::{Applied, applied_of, object_of};
-pub use printing::{tree_of, value_of};
-pub use puts::{put_bytes, put_count, put_flag, put_some_bytes, put_text, put_time};
-pub use tree::{Members, Tree, Trees};
-pub use words::{kind_word, role_word};

@@ -1,2 +1,3 @@
 mod FloatFree
 mod Digits
+pub mod Always

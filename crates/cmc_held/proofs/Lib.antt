@@ -1,5 +1,4 @@
 pub mod Numbered
-pub mod Told
 pub mod Rows
 pub mod ByNumber
 pub mod Behind

@@ -1,5 +1,4 @@
 pub mod Logs
-pub mod Sight
 pub mod Standing
 pub mod Came
 pub mod Dues

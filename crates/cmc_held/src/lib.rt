@@ -9,7 +9,6 @@ mod passes;
 mod pasts;
 mod standings;
 mod tables;
-mod viewing;
 
 pub use due::{is_same, own_above, shown_positions};
 pub use log::Log;
@@ -24,4 +23,3 @@ pub use tables::{
     has_informer, kind_of_work, looks_at_next, looks_at_requests, looks_at_secret,
     works_on_requests,
 };
-pub use viewing::{present, views_at, views_on};

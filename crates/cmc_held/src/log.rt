@@ -1,13 +1,11 @@
-//! The log of accepted writes, and what its first writes leave.
+//! The log of accepted writes.
 ghost use Rattle.std.specs.Option.{option_copied};
 ghost use Rattle.std.specs.Prelude.{◌≡◌, ◌↔◌, ◌+◌, ◌<◌, ◌≤◌, [], ◌∷◌, IsTrue, IfOk, OnOk, OnErr, length, reverse, slice_get, if◌then◌else◌};
 ghost use Rattle.cmc_rules.specs.Legality.{IsOfKind};
-ghost use Rattle.cmc_model.specs.Replies.{put_at};
 ghost use Rattle.cmc_model.specs.Writes as spec;
 
 use cmc_meta::{Key, Kind};
 use cmc_model::Write;
-use cmc_store::Shelf;
 use std::alloc::{AllocError, Global};
 use std::marker::Model;
 
@@ -97,14 +95,6 @@ impl Log {
     {
         is_known(self.as_slice(), key)
     }
-
-    /// The objects of the kind that the first `to` writes leave; all writes count where there are fewer.
-    /// An `Err` is want of memory.
-    pub fn replay(&self, alloc: Global, kind: Kind, to: u64) -> Result<Shelf, AllocError>
-        ensures { IfOk result (λ m. m ≡ spec.contents (spec.of_kind kind (spec.oldest to self.now.writes))) }
-    {
-        replay(alloc, self.as_slice(), kind, to)
-    }
 }
 
 fn write_in_place(writes: &[Write], place: u64) -> Option<&Write>
@@ -159,40 +149,4 @@ fn is_known(writes: &[Write], key: &Key) -> bool
     ensures { result ≡ spec.is_known key.now writes.now }
 {
     writes.iter().any(|write| write.key == *key)
-}
-
-fn replay(alloc: Global, writes: &[Write], kind: Kind, to: u64) -> Result<Shelf, AllocError>
-    ensures { IfOk result (λ m. m ≡ spec.contents (spec.of_kind kind (spec.oldest to (reverse writes.now)))) }
-{
-    let mut shelf = Shelf::new(alloc);
-    for (i, write) in writes.iter().enumerate() {
-        if i as u64 >= to {
-            return Ok(shelf);
-        }
-        apply_of_kind(&mut shelf, write, kind)?;
-    }
-    Ok(shelf)
-}
-
-fn apply_of_kind(shelf: &mut Shelf, write: &Write, kind: Kind) -> Result<(), AllocError>
-    ensures ok { OnOk result (shelf.new ≡ (if spec.kind_eq write.now.key.kind kind then put_at shelf.old write.now.key write.now.object else shelf.old)) }
-    ensures err { OnErr result (shelf.new ≡ shelf.old) }
-{
-    if write.key.kind == kind {
-        return apply(shelf, write);
-    }
-    Ok(())
-}
-
-fn apply(shelf: &mut Shelf, write: &Write) -> Result<(), AllocError>
-    ensures ok { OnOk result (shelf.new ≡ put_at shelf.old write.now.key write.now.object) }
-    ensures err { OnErr result (shelf.new ≡ shelf.old) }
-{
-    match &write.object {
-        Some(object) => shelf.put(write.key.copy()?, object.copy()?),
-        None => {
-            shelf.remove(&write.key);
-            Ok(())
-        }
-    }
 }

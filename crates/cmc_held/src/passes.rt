@@ -73,7 +73,7 @@ impl Passes {
         ensures { (n : ℕ) → pass_at self.new n ≡ (if n == number then option_map (with_stage stage) (pass_at self.old n) else pass_at self.old n) }
     {
         if let Some(pass) = self.map.get_mut(&number) {
-            pass.stage = stage;
+            put_stage(pass, stage);
         }
     }
 
@@ -110,6 +110,13 @@ impl Passes {
     {
         has_pass_of(&self.map, role, key)
     }
+}
+
+/// A stage may own a question and its value, so it is exchanged in a function of its own.
+fn put_stage(pass: &mut OpenPass, stage: Stage)
+    ensures { pass.new ≡ with_stage stage pass.old }
+{
+    pass.stage = stage;
 }
 
 fn has_pass_of(map: &BTreeMap<u64, OpenPass>, role: Role, key: &Key) -> bool

@@ -100,7 +100,7 @@ impl Cache {
     /// Applies the writes of the kind above the one version and up to the other: the objects that the first
     /// `from` writes leave become those that the first `to` writes leave. An `Err` is want of memory, and
     /// leaves all as it was.
-    pub(crate) fn apply(
+    pub fn apply(
         &mut self,
         alloc: Global,
         writes: &[Write],

@@ -48,8 +48,8 @@ use Rattle.cmc_rules.specs.Passes.{IsWorking}
 use Rattle.cmc_world.proofs.Moments.{scripted_low}
 use Rattle.cmc_world.proofs.Rest.{same_kind}
 use Rattle.cmc_plain.specs.Plain.{IsBehind, Fits, HasNoScript, HasNoPass, HasNoDelivery}
-use Rattle.cmc_plain.proofs.OneKind.{object_at-of_kind}
-use Rattle.cmc_plain.proofs.Newest.{IsToldOfAll, views_newest}
+use Rattle.cmc_world.proofs.OneKind.{object_at-of_kind}
+use Rattle.cmc_world.proofs.Newest.{IsToldOfAll, views_newest}
 use Rattle.cmc_plain.proofs.Newer.{newest_known}
 use Rattle.cmc_plain.proofs.Remembering.{own_low, IsLowObstacle, IsFairEnding, IsFairLast, last_fair}
 
@@ -140,7 +140,7 @@ known_told s h role all kinds.Secret = bound_by (has_informer role kinds.Secret)
 
 own_told : (s : Setting) (h : List Entry) (role : Role) (key : Key) → IsRun s h → IsToldOfAll s h role → (kind : Kind) → position_of kind (past s h role key).own ≤ position_of kind (positions h role)
 own_told s h role key run all kind =
-    let low = own_low s h role key kind run.caused in
+    let low = own_low s h role key kind run.legal run.caused in
     let known = known_told s h role all kind in
     omega (arith, low, known)
 

@@ -2,8 +2,6 @@ pub mod OneReply
 pub mod OneGrowth
 pub mod OneMove
 pub mod Determined
-pub mod OneKind
-pub mod Newest
 pub mod Newer
 pub mod ToldKinds
 pub mod Remembering
@@ -16,6 +14,5 @@ pub mod Beginning
 pub mod Ordering
 pub mod Passing
 pub mod Keys
-pub mod Sights
 pub mod Ending
 pub mod Turns

@@ -24,7 +24,7 @@ use Rattle.cmc_world.proofs.Rest.{same_kind}
 use Rattle.cmc_plain.specs.Plain.{IsStepReady, IsBehind, IsOfPresent, MayBegin, IsChosen}
 use Rattle.cmc_plain.specs.Histories.{entries_for}
 use Rattle.cmc_plain.specs.Searches.{IsAccepted}
-use Rattle.cmc_plain.proofs.OneKind.{last_low}
+use Rattle.cmc_world.proofs.OneKind.{last_low}
 
 -- ---- tables
 

@@ -29,7 +29,7 @@ use Rattle.cmc_model.specs.Versions.{IsVersion}
 use Rattle.cmc_model.proofs.Settling.{kind_of-named}
 use Rattle.cmc_model.proofs.Versions.{IsLawful, lawful_object}
 use Rattle.cmc_rules.proofs.Versions.{lawful, stands_is_version}
-use Rattle.cmc_plain.proofs.OneKind.{last_low}
+use Rattle.cmc_world.proofs.OneKind.{last_low}
 
 -- ---- the last write of a kind
 

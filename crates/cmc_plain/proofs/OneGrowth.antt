@@ -2,6 +2,8 @@
 use Rattle.std.proofs.Common.{◌≡◌, ◌∙◌, ℕ, ◌+◌, List, ◌∷◌, Option, Some, None, inl, inr, sym, ap, subst}
 use Rattle.cmc_objects.specs.declared.call.Call.{Call}
 use Rattle.cmc_objects.specs.declared.call.Reply.{Reply}
+use Rattle.cmc_objects.specs.declared.orders.Order.{Order}
+use Rattle.cmc_pass.specs.declared.value.Value.{Value}
 use Rattle.cmc_objects.specs.declared.entry.Who.{Who}
 use Rattle.cmc_objects.specs.declared.entry.Who.TheVariants.{User, Pass}
 use Rattle.cmc_objects.specs.declared.entry.Cause.{Cause}
@@ -10,13 +12,13 @@ use Rattle.cmc_objects.specs.declared.entry.Entry.TheVariants.{Script, Call as C
 use Rattle.cmc_rules.specs.declared.effect.Effect.{Effect}
 use Rattle.cmc_rules.specs.declared.effect.Effect.TheVariants as effects
 use Rattle.cmc_pass.specs.declared.pass.Act.{Act}
-use Rattle.cmc_pass.specs.declared.pass.Act.TheVariants.{Nothing, Call as Calls, Ask as Asks, Issue}
+use Rattle.cmc_pass.specs.declared.pass.Act.TheVariants.{Nothing, Call as Calls, Ask as Asks, Issue, Temporary}
 use Rattle.cmc_rules.specs.declared.progress.Stage.{Stage}
-use Rattle.cmc_rules.specs.declared.progress.Stage.TheVariants.{Fresh, Wrote, Refused, Barred}
+use Rattle.cmc_rules.specs.declared.progress.Stage.TheVariants.{Fresh, Asked, Given, Read, Saved, Wrote, Refused, Barred}
 use Rattle.cmc_rules.specs.declared.progress.OpenPass.{OpenPass}
 use Rattle.cmc_model.specs.Histories.{Setting, state}
 use Rattle.cmc_rules.specs.Passes.{open_pass}
-use Rattle.cmc_rules.specs.Causes.{act_of, IsFirstCall, IsNextCall, MayCall, EndsBy, MayEnd}
+use Rattle.cmc_rules.specs.Causes.{act_of, after_of, IsFirstCall, IsSecretCall, IsStatusCall, IsNextCall, MayCall, EndsBy, MayEnd}
 use Rattle.cmc_rules.specs.Scripting.{scripted}
 use Rattle.cmc_world.specs.declared.moves.Move.{Move}
 use Rattle.cmc_world.specs.declared.moves.Move.TheVariants as moves
@@ -44,23 +46,42 @@ one_first_call : (does : Act) (call other : Call) → IsFirstCall does call → 
 one_first_call Nothing call other x y = absurd x
 one_first_call (Calls first) call other x y = x ∙ sym y
 one_first_call (Asks order) call other x y = absurd x
-one_first_call (Issue plan) call other x y = absurd x
+one_first_call (Issue plan) call other x y = x ∙ sym y
+one_first_call (Temporary plan) call other x y = x ∙ sym y
 
-one_next_call : (stage : Stage) (does : Act) (call other : Call) → IsNextCall stage does call → IsNextCall stage does other → call ≡ other
-one_next_call Fresh does call other x y = one_first_call does call other x y
-one_next_call Wrote does call other x y = absurd x
-one_next_call (Refused entry obstacle) does call other x y = absurd x
-one_next_call Barred does call other x y = absurd x
+one_secret_call : (does : Act) (call other : Call) → IsSecretCall does call → IsSecretCall does other → call ≡ other
+one_secret_call Nothing call other x y = absurd x
+one_secret_call (Calls first) call other x y = absurd x
+one_secret_call (Asks order) call other x y = absurd x
+one_secret_call (Issue plan) call other x y = x ∙ sym y
+one_secret_call (Temporary plan) call other x y = x ∙ sym y
+
+one_status_call : (does : Act) (call other : Call) → IsStatusCall does call → IsStatusCall does other → call ≡ other
+one_status_call Nothing call other x y = absurd x
+one_status_call (Calls first) call other x y = absurd x
+one_status_call (Asks order) call other x y = absurd x
+one_status_call (Issue plan) call other x y = x ∙ sym y
+one_status_call (Temporary plan) call other x y = absurd x
+
+one_next_call : (stage : Stage) (does : Act) (after : Order → Value → Option Call) (call other : Call) → IsNextCall stage does after call → IsNextCall stage does after other → call ≡ other
+one_next_call Fresh does after call other x y = one_first_call does call other x y
+one_next_call (Asked order) does after call other x y = absurd x
+one_next_call (Given order value) does after call other x y = let same : Some call ≡ Some other = sym x ∙ y in cc same
+one_next_call Read does after call other x y = one_secret_call does call other x y
+one_next_call Saved does after call other x y = one_status_call does call other x y
+one_next_call Wrote does after call other x y = absurd x
+one_next_call (Refused entry obstacle) does after call other x y = absurd x
+one_next_call Barred does after call other x y = absurd x
 
 one_call : (s : Setting) (h : List Entry) (o : Option OpenPass) (call other : Call) → MayCall s h o call → MayCall s h o other → call ≡ other
 one_call s h None call other x y = absurd x
-one_call s h (Some p) call other x y = one_next_call p.stage (act_of s h p) call other x y
+one_call s h (Some p) call other x y = one_next_call p.stage (act_of s h p) (after_of p) call other x y
 
 one_ending : (stage : Stage) (does : Act) (cause other : Cause) → EndsBy stage does cause → EndsBy stage does other → cause ≡ other
 one_ending Fresh does cause other x y = x.1 ∙ sym y.1
 one_ending Wrote does cause other x y = x ∙ sym y
 one_ending (Refused entry obstacle) does cause other x y = x ∙ sym y
-one_ending Barred does cause other x y = absurd x
+one_ending other_stage does cause other x y = absurd x
 
 one_end : (s : Setting) (h : List Entry) (o : Option OpenPass) (cause other : Cause) → MayEnd s h o cause → MayEnd s h o other → cause ≡ other
 one_end s h None cause other x y = absurd x
@@ -71,17 +92,22 @@ calls_first : (does : Act) (call : Call) → IsFirstCall does call → does ≡ 
 calls_first Nothing call x e = absurd x
 calls_first (Calls first) call x e = absurd (cc e)
 calls_first (Asks order) call x e = absurd x
-calls_first (Issue plan) call x e = absurd x
+calls_first (Issue plan) call x e = absurd (cc e)
+calls_first (Temporary plan) call x e = absurd (cc e)
 
-calls_on : (stage : Stage) (does : Act) (call : Call) (cause : Cause) → IsNextCall stage does call → EndsBy stage does cause → ⊥
-calls_on Fresh does call cause x y = calls_first does call x y.0
-calls_on Wrote does call cause x y = absurd x
-calls_on (Refused entry obstacle) does call cause x y = absurd x
-calls_on Barred does call cause x y = absurd x
+calls_on : (stage : Stage) (does : Act) (after : Order → Value → Option Call) (call : Call) (cause : Cause) → IsNextCall stage does after call → EndsBy stage does cause → ⊥
+calls_on Fresh does after call cause x y = calls_first does call x y.0
+calls_on (Asked order) does after call cause x y = y
+calls_on (Given order value) does after call cause x y = y
+calls_on Read does after call cause x y = y
+calls_on Saved does after call cause x y = y
+calls_on Wrote does after call cause x y = x
+calls_on (Refused entry obstacle) does after call cause x y = x
+calls_on Barred does after call cause x y = x
 
 call_or_end : (s : Setting) (h : List Entry) (o : Option OpenPass) (call : Call) (cause : Cause) → MayCall s h o call → MayEnd s h o cause → ⊥
 call_or_end s h None call cause x y = absurd x
-call_or_end s h (Some p) call cause x y = calls_on p.stage (act_of s h p) call cause x y
+call_or_end s h (Some p) call cause x y = calls_on p.stage (act_of s h p) (after_of p) call cause x y
 
 calls_alike : (s : Setting) (h : List Entry) (n : ℕ) (call other : Call) (e d : Entry) → call ≡ other → IsCalled s h (Pass n) call e → IsCalled s h (Pass n) other d → e ≡ d
 calls_alike s h n call other e d same x y = one_called s h (Pass n) other e d (subst (λ (c : Call). IsCalled s h (Pass n) c e) same x) y

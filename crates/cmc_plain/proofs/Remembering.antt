@@ -7,9 +7,10 @@ use Rattle.cmc_meta.specs.declared.key.Key.{Key}
 use Rattle.cmc_meta.specs.declared.key.Kind.{Kind}
 use Rattle.cmc_meta.specs.declared.key.Kind.TheVariants as kinds
 use Rattle.cmc_meta.specs.Keys.{key_eq}
+use Rattle.cmc_objects.specs.declared.certificate.Certificate.{Certificate}
 use Rattle.cmc_objects.specs.declared.call.Call.{Call}
 use Rattle.cmc_objects.specs.declared.call.Reply.{Reply}
-use Rattle.cmc_objects.specs.declared.call.Reply.TheVariants.{Found, Conflict, NotFound, AlreadyExists}
+use Rattle.cmc_objects.specs.declared.call.Reply.TheVariants.{Ok, Unchanged, Found, Conflict, NotFound, AlreadyExists}
 use Rattle.cmc_objects.specs.declared.orders.Rules.{Rules}
 use Rattle.cmc_objects.specs.declared.role.Role.{Role}
 use Rattle.cmc_objects.specs.declared.entry.Cause.{Cause}
@@ -17,9 +18,12 @@ use Rattle.cmc_objects.specs.declared.entry.Positions.{Positions}
 use Rattle.cmc_objects.specs.declared.entry.Who.{Who}
 use Rattle.cmc_objects.specs.declared.entry.Who.TheVariants.{User, Pass}
 use Rattle.cmc_objects.specs.declared.entry.Entry.{Entry}
-use Rattle.cmc_objects.specs.declared.entry.Entry.TheVariants.{Call as Called, Begin, End, Stop, Start}
+use Rattle.cmc_objects.specs.declared.entry.Entry.TheVariants.{Call as Called, Begin, Ask, Made, Signed, Answered, Judged, End, Stop, Start}
+use Rattle.cmc_objects.specs.Objects.{version_of}
 use Rattle.cmc_objects.specs.Roles.{role_rank}
 use Rattle.cmc_model.specs.declared.write.Write.{Write}
+use Rattle.cmc_pass.specs.declared.value.Value.{Value}
+use Rattle.cmc_pass.specs.declared.value.Value.TheVariants as values
 use Rattle.cmc_pass.specs.declared.pass.Views.{Views}
 use Rattle.cmc_pass.specs.declared.pass.Desk.{Desk}
 use Rattle.cmc_pass.specs.declared.pass.Act.TheVariants.{Nothing}
@@ -27,7 +31,7 @@ use Rattle.cmc_rules.specs.declared.progress.Obstacle.{Obstacle}
 use Rattle.cmc_rules.specs.declared.progress.Obstacle.TheVariants.{Failure, Newer}
 use Rattle.cmc_rules.specs.declared.progress.OpenPass.{OpenPass}
 use Rattle.cmc_rules.specs.declared.progress.Stage.{Stage}
-use Rattle.cmc_rules.specs.declared.progress.Stage.TheVariants.{Fresh, Wrote, Refused, Barred}
+use Rattle.cmc_rules.specs.declared.progress.Stage.TheVariants.{Fresh, Asked, Read, Wrote, Refused}
 use Rattle.cmc_rules.specs.declared.progress.Ending.{Ending}
 use Rattle.cmc_rules.specs.declared.progress.Ending.TheVariants as endings
 use Rattle.cmc_rules.specs.declared.progress.LastPass.{LastPass}
@@ -40,14 +44,18 @@ use Rattle.cmc_rules.specs.Positions.{has_informer, position_of}
 use Rattle.cmc_rules.specs.Viewing.{views}
 use Rattle.cmc_rules.specs.Desks.{desk}
 use Rattle.cmc_rules.specs.Acts.{act}
-use Rattle.cmc_rules.specs.Passes.{open_pass, called, new_pass, stage_by, stage_after, with_stage, is_pass_of, IsWorking}
+use Rattle.cmc_rules.specs.Passes.{open_pass, called, new_pass, stage_by, stage_after, stage_given, stage_read, stage_written, is_as_seen, writes_stand_in, with_stage, is_pass_of, IsWorking}
 use Rattle.cmc_rules.specs.Memory.{past, past_called, no_past, with_begin, with_own, with_position, with_ending, ending_at, ending_of}
 use Rattle.cmc_rules.specs.Legality.{IsLegal}
-use Rattle.cmc_rules.specs.Causes.{act_of, IsCaused, IsNextCall, MayCall, EndsBy, MayEnd}
+use Rattle.cmc_rules.specs.Causes.{act_of, after_of, IsCaused, IsNextCall, MayCall, EndsBy, MayEnd}
 use Rattle.cmc_model.proofs.Writes.{writes_count}
-use Rattle.cmc_rules.proofs.Carrying.{over_call, over_begin, over_end, over_stop}
-use Rattle.cmc_world.proofs.Sounds.{any_desk}
-use Rattle.cmc_world.proofs.Rights.{is_next}
+use Rattle.cmc_rules.proofs.Carrying.{over_call, over_ask, over_given, over_begin, over_end, over_stop}
+use Rattle.cmc_rules.specs.Sighting.{IsWellSeen}
+use Rattle.cmc_rules.proofs.WellSeen.{SawWell, saw_well}
+use Rattle.cmc_world.specs.Acting.{IsServed}
+use Rattle.cmc_world.proofs.Sounds.{any_desk, plain_act}
+use Rattle.cmc_world.proofs.OrdinaryCalls.{is_next}
+use Rattle.cmc_world.proofs.Stages.{IsServedPass, served_pass}
 use Rattle.cmc_plain.proofs.ToldKinds.{writes_known}
 use Rattle.cmc_world.proofs.Rest.{same_key, key_eq-refl}
 use Rattle.cmc_world.proofs.Standings.{same_role}
@@ -55,15 +63,17 @@ use Rattle.cmc_plain.proofs.Newer.{last_here, under_low, newest_known, known_mor
 
 -- ---- which kinds roles write
 
-pass_known : (s : Setting) (h : List Entry) (p : OpenPass) (call : Call) → IsNextCall p.stage (act_of s h p) call → has_informer p.role (key_of_call call).kind ≡ true
-pass_known s h p call next = writes_known p.role p.seen p.since (desk s h p.role p.seen) call (is_next p.stage (act_of s h p) call next)
+pass_known : (s : Setting) (h : List Entry) (p : OpenPass) (call : Call) → IsWellSeen p.seen → IsServed p.stage → IsNextCall p.stage (act_of s h p) (after_of p) call → has_informer p.role (key_of_call call).kind ≡ true
+pass_known s h p call well served next =
+    writes_known p.role p.seen p.since (desk s h p.role p.seen) call well
+    (is_next p.stage (act_of s h p) (after_of p) call served (plain_act p.role p.seen p.since (desk s h p.role p.seen)) next)
 
 -- a call of a pass of the role is on a kind that it looks at
-call_known : (s : Setting) (h : List Entry) (role : Role) (key : Key) (call : Call) (p : Option OpenPass) → is_pass_of role key p ≡ true → MayCall s h p call
+call_known : (s : Setting) (h : List Entry) (role : Role) (key : Key) (call : Call) (p : Option OpenPass) → is_pass_of role key p ≡ true → IfSome p SawWell → IfSome p IsServedPass → MayCall s h p call
     → has_informer role (key_of_call call).kind ≡ true
-call_known s h role key call None is may = absurd may
-call_known s h role key call (Some p) is may =
-    ap (λ (r : Role). has_informer r (key_of_call call).kind) (sym (same_role p.role role (and_parts _ _ is).0)) ∙ pass_known s h p call may
+call_known s h role key call None is well served may = absurd may
+call_known s h role key call (Some p) is well served may =
+    ap (λ (r : Role). has_informer r (key_of_call call).kind) (sym (same_role p.role role (and_parts _ _ is).0)) ∙ pass_known s h p call well served may
 
 -- ---- own writes
 
@@ -109,27 +119,27 @@ own_ended true kind bound ending p low = low
 own_ended false kind bound ending p low = low
 
 -- each own write is at most the last write of its kind, which the role looks at
-pub own_low : (s : Setting) (h : List Entry) (role : Role) (key : Key) (kind : Kind) → IsCaused s h
+pub own_low : (s : Setting) (h : List Entry) (role : Role) (key : Key) (kind : Kind) → IsLegal s h → IsCaused s h
     → position_of kind (past s h role key).own ≤ newest_known role kind (writes s h)
-unfolding IsCaused
-own_low s [] role key kind caused = no_own kind (newest_known role kind [])
-own_low s (Called User call reply ∷ h) role key kind caused =
-    let low = own_low s h role key kind caused.1 in
+unfolding IsLegal IsCaused
+own_low s [] role key kind legal caused = no_own kind (newest_known role kind [])
+own_low s (Called User call reply ∷ h) role key kind legal caused =
+    let low = own_low s h role key kind legal.1 caused.1 in
     let more = known_grown (is_accepted reply) role kind (write_of (moment s h) (state s h) (settled call reply)) (writes s h) in
     omega (arith, low, more)
-own_low s (Called (Pass pass) call reply ∷ h) role key kind caused =
+own_low s (Called (Pass pass) call reply ∷ h) role key kind legal caused =
     let own : Bool = is_accepted reply && is_pass_of role key (open_pass s h pass) in
     let same : (key_of_call (settled call reply)).kind ≡ (key_of_call call).kind = kind_of-settled call reply in
     subst (λ (k : Kind). position_of kind (if own then with_own k (accepted s h + 1) (past s h role key) else past s h role key).own ≤ newest_known role kind (writes s (Called (Pass pass) call reply ∷ h))) same
     (own_written (is_accepted reply) (is_pass_of role key (open_pass s h pass)) role kind (write_of (moment s h) (state s h) (settled call reply)) (writes s h) (accepted s h) (past s h role key) (writes_count s h)
-    (λ mine. ap (has_informer role) same ∙ call_known s h role key call (open_pass s h pass) mine caused.0) (own_low s h role key kind caused.1))
-own_low s (Begin pass who at told now ∷ h) role key kind caused =
-    own_begun (role_eq who role && key_eq at key) kind (newest_known role kind (writes s h)) (views s h who at) now (past s h role key) (own_low s h role key kind caused.1)
-own_low s (End pass cause ∷ h) role key kind caused =
-    own_ended (is_pass_of role key (open_pass s h pass)) kind (newest_known role kind (writes s h)) (ending_of (open_pass s h pass)) (past s h role key) (own_low s h role key kind caused.1)
-own_low s (Start who at ∷ h) role key kind caused =
-    own_started (role_eq who role) kind (newest_known role kind (writes s h)) (past s h role key) (own_low s h role key kind caused.1)
-own_low s (other ∷ h) role key kind caused = own_low s h role key kind caused.1
+    (λ mine. ap (has_informer role) same ∙ call_known s h role key call (open_pass s h pass) mine (saw_well s h pass legal.1) (served_pass s h pass legal.1 caused.1) caused.0) (own_low s h role key kind legal.1 caused.1))
+own_low s (Begin pass who at told now ∷ h) role key kind legal caused =
+    own_begun (role_eq who role && key_eq at key) kind (newest_known role kind (writes s h)) (views s h who at) now (past s h role key) (own_low s h role key kind legal.1 caused.1)
+own_low s (End pass cause ∷ h) role key kind legal caused =
+    own_ended (is_pass_of role key (open_pass s h pass)) kind (newest_known role kind (writes s h)) (ending_of (open_pass s h pass)) (past s h role key) (own_low s h role key kind legal.1 caused.1)
+own_low s (Start who at ∷ h) role key kind legal caused =
+    own_started (role_eq who role) kind (newest_known role kind (writes s h)) (past s h role key) (own_low s h role key kind legal.1 caused.1)
+own_low s (other ∷ h) role key kind legal caused = own_low s h role key kind legal.1 caused.1
 
 -- ---- what refuses calls
 
@@ -142,7 +152,7 @@ abbrev pub IsLowStage : Role → List Write → Stage → Type 0
 IsLowStage role ws Fresh = Unit {0}
 IsLowStage role ws Wrote = Unit {0}
 IsLowStage role ws (Refused entry obstacle) = IsLowObstacle role ws obstacle
-IsLowStage role ws Barred = Unit {0}
+IsLowStage role ws other = Unit {0}
 
 abbrev pub HasLowStage : List Write → OpenPass → Type 0
 HasLowStage ws p = IsLowStage p.role ws p.stage
@@ -155,34 +165,50 @@ grown_stage : (b : Bool) (role : Role) (w : Write) (ws : List Write) (stage : St
 grown_stage b role w ws Fresh low = tt
 grown_stage b role w ws Wrote low = tt
 grown_stage b role w ws (Refused entry obstacle) low = grown_obstacle b role w ws obstacle low
-grown_stage b role w ws Barred low = tt
+grown_stage b role w ws other low = tt
 
 grown_pass : (b : Bool) (w : Write) (ws : List Write) (p : Option OpenPass) → IfSome p (HasLowStage ws) → IfSome p (HasLowStage (if b then w ∷ ws else ws))
 grown_pass b w ws None low = tt
 grown_pass b w ws (Some p) low = grown_stage b p.role w ws p.stage low
 
-stage_low : (entry last : ℕ) (role : Role) (kind : Kind) (ws : List Write) (reply : Reply) → has_informer role kind ≡ true → last ≤ last_of_kind kind ws → IsLowReply (last_of_kind kind ws) reply
-    → IsLowStage role ws (stage_by entry kind last reply)
-stage_low entry last role kind ws (Found object) known below low = let is = known_is role kind ws known in omega (arith, is, low)
-stage_low entry last role kind ws (Conflict named have) known below low = let is = known_is role kind ws known in omega (arith, is, low)
-stage_low entry last role kind ws (NotFound at) known below low = let is = known_is role kind ws known in omega (arith, is, below)
-stage_low entry last role kind ws (AlreadyExists have) known below low = let is = known_is role kind ws known in omega (arith, is, low)
-stage_low entry last role kind ws other known below low = tt
+written_low : (stand_in : Bool) (role : Role) (ws : List Write) (stage : Stage) → IsLowStage role ws (stage_written stand_in stage)
+written_low true role ws Read = tt
+written_low false role ws Read = tt
+written_low stand_in role ws other = tt
 
-stage_called : (s : Setting) (h : List Entry) (call : Call) (reply : Reply) (p : Option OpenPass) → IsLowReply (last_of_kind (key_of_call call).kind (writes s h)) reply → MayCall s h p call
-    → IfSome (option_map (with_stage (stage_after s h call reply)) p) (HasLowStage (writes s h))
-stage_called s h call reply None low may = tt
-stage_called s h call reply (Some p) low may =
-    stage_low (length h + 1) (last_under (key_of_call call) (writes s h)) p.role (key_of_call call).kind (writes s h) reply (pass_known s h p call may)
+read_low : (as_seen : Bool) (entry version : ℕ) (role : Role) (kind : Kind) (ws : List Write) → version ≤ newest_known role kind ws → IsLowStage role ws (stage_read as_seen entry kind version)
+read_low true entry version role kind ws low = tt
+read_low false entry version role kind ws low = low
+
+stage_low : (c : Option Certificate) (stand_in : Bool) (stage : Stage) (entry last : ℕ) (role : Role) (kind : Kind) (ws : List Write) (reply : Reply) → has_informer role kind ≡ true
+    → last ≤ last_of_kind kind ws → IsLowReply (last_of_kind kind ws) reply → IsLowStage role ws (stage_by c stand_in stage entry kind last reply)
+stage_low c stand_in stage entry last role kind ws (Ok version name) known below low = written_low stand_in role ws stage
+stage_low c stand_in stage entry last role kind ws (Unchanged version) known below low = written_low stand_in role ws stage
+stage_low c stand_in stage entry last role kind ws (Found object) known below low =
+    read_low (is_as_seen c object) entry (version_of object) role kind ws (let is = known_is role kind ws known in omega (arith, is, low))
+stage_low c stand_in stage entry last role kind ws (Conflict named have) known below low = let is = known_is role kind ws known in omega (arith, is, low)
+stage_low c stand_in stage entry last role kind ws (NotFound at) known below low = let is = known_is role kind ws known in omega (arith, is, below)
+stage_low c stand_in stage entry last role kind ws (AlreadyExists have) known below low = let is = known_is role kind ws known in omega (arith, is, low)
+stage_low c stand_in stage entry last role kind ws other known below low = tt
+
+stage_called : (s : Setting) (h : List Entry) (call : Call) (reply : Reply) (p : Option OpenPass) → IsLowReply (last_of_kind (key_of_call call).kind (writes s h)) reply → IfSome p SawWell → IfSome p IsServedPass
+    → MayCall s h p call → IfSome (option_map (λ (q : OpenPass). with_stage (stage_after s h call reply q) q) p) (HasLowStage (writes s h))
+stage_called s h call reply None low well served may = tt
+stage_called s h call reply (Some p) low well served may =
+    stage_low p.seen.certificate (writes_stand_in call) p.stage (length h + 1) (last_under (key_of_call call) (writes s h)) p.role (key_of_call call).kind (writes s h) reply (pass_known s h p call well served may)
     (under_low (key_of_call call) (writes s h)) low
 
 pass_called : (own : Bool) (s : Setting) (h : List Entry) (n pass : ℕ) (call : Call) (reply : Reply) → (n == pass) ≡ own → IsLowReply (last_of_kind (key_of_call call).kind (writes s h)) reply
-    → MayCall s h (open_pass s h pass) call → IfSome (open_pass s h n) (HasLowStage (writes s h))
-    → IfSome (if own then option_map (with_stage (stage_after s h call reply)) (open_pass s h n) else open_pass s h n) (HasLowStage (writes s h))
-pass_called true s h n pass call reply is low may old =
+    → IfSome (open_pass s h n) SawWell → IfSome (open_pass s h n) IsServedPass → MayCall s h (open_pass s h pass) call → IfSome (open_pass s h n) (HasLowStage (writes s h))
+    → IfSome (if own then option_map (λ (q : OpenPass). with_stage (stage_after s h call reply q) q) (open_pass s h n) else open_pass s h n) (HasLowStage (writes s h))
+pass_called true s h n pass call reply is low well served may old =
     let same : pass ≡ n = sym ((Decides-eqb n pass).0 is) in
-    stage_called s h call reply (open_pass s h n) low (subst (λ (m : ℕ). MayCall s h (open_pass s h m) call) same may)
-pass_called false s h n pass call reply is low may old = old
+    stage_called s h call reply (open_pass s h n) low well served (subst (λ (m : ℕ). MayCall s h (open_pass s h m) call) same may)
+pass_called false s h n pass call reply is low well served may old = old
+
+asked_low : (value : Value) (role : Role) (ws : List Write) (stage : Stage) → IsLowStage role ws stage → IsLowStage role ws (stage_given value stage)
+asked_low value role ws (Asked order) low = tt
+asked_low value role ws other low = low
 
 -- what refused the call of an open pass
 pub refused_low : (s : Setting) (h : List Entry) (n : ℕ) → IsLegal s h → IsCaused s h → IfSome (open_pass s h n) (HasLowStage (writes s h))
@@ -192,9 +218,18 @@ refused_low s (Called User call reply ∷ h) n legal caused =
     grown_pass (is_accepted reply) (write_of (moment s h) (state s h) (settled call reply)) (writes s h) (open_pass s h n) (refused_low s h n legal.1 caused.1)
 refused_low s (Called (Pass pass) call reply ∷ h) n legal caused =
     grown_pass (is_accepted reply) (write_of (moment s h) (state s h) (settled call reply)) (writes s h) (called n (Pass pass) (stage_after s h call reply) (open_pass s h n))
-    (pass_called (n == pass) s h n pass call reply refl (low_reply s h call reply legal.1 legal.0.0) caused.0 (refused_low s h n legal.1 caused.1))
+    (pass_called (n == pass) s h n pass call reply refl (low_reply s h call reply legal.1 legal.0.0) (saw_well s h n legal.1) (served_pass s h n legal.1 caused.1) caused.0 (refused_low s h n legal.1 caused.1))
 refused_low s (Begin pass role key at now ∷ h) n legal caused =
     over_begin (HasLowStage (writes s h)) (n == pass) (new_pass role key (views s h role key) now) (open_pass s h n) tt (refused_low s h n legal.1 caused.1)
+refused_low s (Ask pass order ∷ h) n legal caused = over_ask (HasLowStage (writes s h)) n pass order (open_pass s h n) (λ p low. tt) (refused_low s h n legal.1 caused.1)
+refused_low s (Made pass key ∷ h) n legal caused =
+    over_given (HasLowStage (writes s h)) n pass (values.Made key) (open_pass s h n) (λ p low. asked_low (values.Made key) p.role (writes s h) p.stage low) (refused_low s h n legal.1 caused.1)
+refused_low s (Signed pass signature ∷ h) n legal caused =
+    over_given (HasLowStage (writes s h)) n pass (values.Signed signature) (open_pass s h n) (λ p low. asked_low (values.Signed signature) p.role (writes s h) p.stage low) (refused_low s h n legal.1 caused.1)
+refused_low s (Answered pass answer ∷ h) n legal caused =
+    over_given (HasLowStage (writes s h)) n pass (values.Answered answer) (open_pass s h n) (λ p low. asked_low (values.Answered answer) p.role (writes s h) p.stage low) (refused_low s h n legal.1 caused.1)
+refused_low s (Judged pass approved ∷ h) n legal caused =
+    over_given (HasLowStage (writes s h)) n pass (values.Judged approved) (open_pass s h n) (λ p low. asked_low (values.Judged approved) p.role (writes s h) p.stage low) (refused_low s h n legal.1 caused.1)
 refused_low s (End pass cause ∷ h) n legal caused = over_end (HasLowStage (writes s h)) (n == pass) (open_pass s h n) (refused_low s h n legal.1 caused.1)
 refused_low s (Stop role ∷ h) n legal caused = over_stop (HasLowStage (writes s h)) role (open_pass s h n) (refused_low s h n legal.1 caused.1)
 refused_low s (other ∷ h) n legal caused = refused_low s h n legal.1 caused.1
@@ -286,6 +321,11 @@ remembered s (Called who call reply ∷ h) n legal =
     remembered_called s h who call reply (called n who (stage_after s h call reply) (open_pass s h n))
     (over_call (RemembersPass s h) n who (stage_after s h call reply) (open_pass s h n) (λ p same. same) (remembered s h n legal.1))
 remembered s (Begin pass role key at now ∷ h) n legal = remembered_begun s h n pass role key at now (no_pass_of s h role key legal.0.free n) (remembered s h n legal.1)
+remembered s (Ask pass order ∷ h) n legal = over_ask (RemembersPass s h) n pass order (open_pass s h n) (λ p same. same) (remembered s h n legal.1)
+remembered s (Made pass key ∷ h) n legal = over_given (RemembersPass s h) n pass (values.Made key) (open_pass s h n) (λ p same. same) (remembered s h n legal.1)
+remembered s (Signed pass signature ∷ h) n legal = over_given (RemembersPass s h) n pass (values.Signed signature) (open_pass s h n) (λ p same. same) (remembered s h n legal.1)
+remembered s (Answered pass answer ∷ h) n legal = over_given (RemembersPass s h) n pass (values.Answered answer) (open_pass s h n) (λ p same. same) (remembered s h n legal.1)
+remembered s (Judged pass approved ∷ h) n legal = over_given (RemembersPass s h) n pass (values.Judged approved) (open_pass s h n) (λ p same. same) (remembered s h n legal.1)
 remembered s (End pass cause ∷ h) n legal =
     over_end (RemembersPass s (End pass cause ∷ h)) (n == pass) (open_pass s h n)
     (carried (RemembersPass s h) (RemembersPass s (End pass cause ∷ h)) (open_pass s h n)
@@ -337,7 +377,7 @@ fair_stage : (role : Role) (rules : Rules) (ws : List Write) (seen : Views) (sin
 fair_stage role rules ws seen since by told Fresh cause low ends = λ d same. any_desk role seen since by d (told ∙ sym same) ends.0
 fair_stage role rules ws seen since by told Wrote cause low ends = tt
 fair_stage role rules ws seen since by told (Refused entry obstacle) cause low ends = low
-fair_stage role rules ws seen since by told Barred cause low ends = tt
+fair_stage role rules ws seen since by told other cause low ends = absurd ends
 
 fair_same : (role : Role) (rules : Rules) (ws : List Write) (l : LastPass) (seen : Views) (since : ℤ) (ending : Ending) → (l.seen ≡ seen) × (l.since ≡ since) → IsFairEnding role rules ws seen since ending
     → IsFairPass role rules ws (record l { ending = ending })

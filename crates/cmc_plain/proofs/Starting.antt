@@ -4,7 +4,8 @@ use Rattle.std.proofs.lemmas.Bool.Decides.{nat_tests}
 use Rattle.std.specs.Prelude.{if◌then◌else◌, IfSome}
 use Rattle.cmc_objects.specs.declared.role.Role.{Role}
 use Rattle.cmc_objects.specs.declared.entry.Entry.{Entry}
-use Rattle.cmc_objects.specs.declared.entry.Entry.TheVariants.{Call as Called, Begin, End, Stop, Start}
+use Rattle.cmc_objects.specs.declared.entry.Entry.TheVariants.{Call as Called, Begin, Ask, Made, Signed, Answered, Judged, End, Stop, Start}
+use Rattle.cmc_pass.specs.declared.value.Value.TheVariants as values
 use Rattle.cmc_rules.specs.declared.progress.OpenPass.{OpenPass}
 use Rattle.cmc_rules.specs.declared.progress.Origin.{Origin}
 use Rattle.cmc_model.specs.Histories.{Setting, runs, incarnation, role_eq}
@@ -12,7 +13,7 @@ use Rattle.cmc_rules.specs.Viewing.{views}
 use Rattle.cmc_rules.specs.Passes.{open_pass, new_pass, unless_of, stage_after}
 use Rattle.cmc_rules.specs.Origins.{origins, origin_at}
 use Rattle.cmc_rules.specs.Legality.{IsLegal}
-use Rattle.cmc_rules.proofs.Carrying.{over_call, over_begin, over_end, over_stop}
+use Rattle.cmc_rules.proofs.Carrying.{over_call, over_ask, over_given, over_begin, over_end, over_stop}
 use Rattle.cmc_world.proofs.Origins.{origins_count}
 use Rattle.cmc_world.proofs.Standings.{same_role}
 
@@ -55,6 +56,11 @@ running_pass s [] n legal = tt
 running_pass s (Called who call reply ∷ h) n legal = over_call (IsOfRunning s h) n who (stage_after s h call reply) (open_pass s h n) (λ p runs. runs) (running_pass s h n legal.1)
 running_pass s (Begin pass role key at now ∷ h) n legal =
     over_begin (IsOfRunning s h) (n == pass) (new_pass role key (views s h role key) now) (open_pass s h n) legal.0.running (running_pass s h n legal.1)
+running_pass s (Ask pass order ∷ h) n legal = over_ask (IsOfRunning s h) n pass order (open_pass s h n) (λ p runs. runs) (running_pass s h n legal.1)
+running_pass s (Made pass key ∷ h) n legal = over_given (IsOfRunning s h) n pass (values.Made key) (open_pass s h n) (λ p runs. runs) (running_pass s h n legal.1)
+running_pass s (Signed pass signature ∷ h) n legal = over_given (IsOfRunning s h) n pass (values.Signed signature) (open_pass s h n) (λ p runs. runs) (running_pass s h n legal.1)
+running_pass s (Answered pass answer ∷ h) n legal = over_given (IsOfRunning s h) n pass (values.Answered answer) (open_pass s h n) (λ p runs. runs) (running_pass s h n legal.1)
+running_pass s (Judged pass approved ∷ h) n legal = over_given (IsOfRunning s h) n pass (values.Judged approved) (open_pass s h n) (λ p runs. runs) (running_pass s h n legal.1)
 running_pass s (End pass cause ∷ h) n legal = over_end (IsOfRunning s h) (n == pass) (open_pass s h n) (running_pass s h n legal.1)
 running_pass s (Stop role ∷ h) n legal = over_stopped s h role (open_pass s h n) (running_pass s h n legal.1)
 running_pass s (Start role at ∷ h) n legal = over_start s h role at (open_pass s h n) (running_pass s h n legal.1)
@@ -120,6 +126,11 @@ present_pass s (Called who call reply ∷ h) n stopped legal =
 present_pass s (Begin pass role key at now ∷ h) n stopped legal =
     over_origin s h n pass (present_origin s h role) (n == pass) (new_pass role key (views s h role key) now) (open_pass s h n) refl
     (omega (arith, origins_count s h, legal.0.numbered)) refl (present_pass s h n stopped.1 legal.1)
+present_pass s (Ask pass order ∷ h) n stopped legal = over_ask (IsFromPresent s h n) n pass order (open_pass s h n) (λ p present. present) (present_pass s h n stopped.1 legal.1)
+present_pass s (Made pass key ∷ h) n stopped legal = over_given (IsFromPresent s h n) n pass (values.Made key) (open_pass s h n) (λ p present. present) (present_pass s h n stopped.1 legal.1)
+present_pass s (Signed pass signature ∷ h) n stopped legal = over_given (IsFromPresent s h n) n pass (values.Signed signature) (open_pass s h n) (λ p present. present) (present_pass s h n stopped.1 legal.1)
+present_pass s (Answered pass answer ∷ h) n stopped legal = over_given (IsFromPresent s h n) n pass (values.Answered answer) (open_pass s h n) (λ p present. present) (present_pass s h n stopped.1 legal.1)
+present_pass s (Judged pass approved ∷ h) n stopped legal = over_given (IsFromPresent s h n) n pass (values.Judged approved) (open_pass s h n) (λ p present. present) (present_pass s h n stopped.1 legal.1)
 present_pass s (End pass cause ∷ h) n stopped legal = over_end (IsFromPresent s h n) (n == pass) (open_pass s h n) (present_pass s h n stopped.1 legal.1)
 present_pass s (Stop role ∷ h) n stopped legal = over_stop (IsFromPresent s h n) role (open_pass s h n) (present_pass s h n stopped.1 legal.1)
 present_pass s (Start role at ∷ h) n stopped legal =

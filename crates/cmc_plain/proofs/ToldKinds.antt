@@ -17,9 +17,9 @@ use Rattle.cmc_model.specs.Stored.{created}
 use Rattle.cmc_model.specs.Generated.{named}
 use Rattle.cmc_model.specs.Replies.{key_of_call}
 use Rattle.cmc_rules.specs.Positions.{has_informer, works_on_requests, looks_at_secret, looks_at_next, looks_at_requests}
-use Rattle.cmc_rules.specs.Acts.{act}
+use Rattle.cmc_rules.specs.Acts.{act, call_after}
 use Rattle.cmc_rules.specs.Rights.{MayChange}
-use Rattle.cmc_rules.specs.Sighting.{IsPart, IsPartOf, IsSeen, ForNone, ForSeen, OnSeen}
+use Rattle.cmc_rules.specs.Sighting.{IsAmong, IsPart, IsPartOf, IsSeen, IsWellSeen, ForNone, ForSeen, OnSeen}
 use Rattle.cmc_rules.specs.Sound.{IsOrdinary, IsWithin, shown}
 use Rattle.cmc_model.proofs.Settling.{kind_of-named}
 use Rattle.cmc_model.proofs.Stored.{key_of-created}
@@ -104,27 +104,71 @@ told_made other new may = absurd may
 
 -- ---- what it writes
 
-told_under : (role : Role) (seen : Views) (under : Key) (named : ℕ) (leaves : ℕ → Object → Option Object) (rule : Object → Bool → Option ℕ)
-    → ForSeen (IsOrdinary role) (shown role seen) under named leaves rule → has_informer role under.kind ≡ true
-told_under role seen under named leaves rule on = ap (λ (k : Key). has_informer role k.kind) (sym on.key) ∙ told_seen role seen on.old on.sees
+told_under : (role : Role) (seen : Views) (now : ℤ) (under : Key) (named : ℕ) (leaves : ℕ → Object → Option Object) (rule : Object → Bool → Option ℕ)
+    → ForSeen (IsOrdinary role now) (shown role seen) under named leaves rule → has_informer role under.kind ≡ true
+told_under role seen now under named leaves rule on = ap (λ (k : Key). has_informer role k.kind) (sym on.key) ∙ told_seen role seen on.old on.sees
 
-told_create : (role : Role) (object : Object) → ForNone (IsOrdinary role) object → has_informer role (kind_of object) ≡ true
-told_create role object on =
+told_create : (role : Role) (now : ℤ) (object : Object) → ForNone (IsOrdinary role now) object → has_informer role (kind_of object) ≡ true
+told_create role now object on =
     let made = told_made role (created 0 (pos 0) object) (on.makes 0 (pos 0)).rights in
     ap (λ (k : Key). has_informer role k.kind) (sym (key_of-created 0 (pos 0) object)) ∙ made
 
-told_call : (role : Role) (seen : Views) (call : Call) → OnSeen (IsOrdinary role) (shown role seen) call → has_informer role (key_of_call call).kind ≡ true
+told_call : (role : Role) (seen : Views) (now : ℤ) (call : Call) → OnSeen (IsOrdinary role now) (shown role seen) call → has_informer role (key_of_call call).kind ≡ true
 unfolding OnSeen
-told_call role seen (Create object false) on = told_create role object on
-told_call role seen (Create object true) on = ap (has_informer role) (sym (kind_of-named [] object)) ∙ told_create role (named [] object) (on [])
-told_call role seen (Update object named) on = told_under role seen (key_of object) named _ _ on
-told_call role seen (UpdateStatus object named) on = told_under role seen (key_of object) named _ _ on
-told_call role seen (Delete key None) on = absurd on
-told_call role seen (Delete key (Some named)) on = told_under role seen key named _ _ on
-told_call role seen (Get key) on = absurd on
+told_call role seen now (Create object false) on = told_create role now object on
+told_call role seen now (Create object true) on = ap (has_informer role) (sym (kind_of-named [] object)) ∙ told_create role now (named [] object) (on [])
+told_call role seen now (Update object named) on = told_under role seen now (key_of object) named _ _ on
+told_call role seen now (UpdateStatus object named) on = told_under role seen now (key_of object) named _ _ on
+told_call role seen now (Delete key None) on = absurd on
+told_call role seen now (Delete key (Some named)) on = told_under role seen now key named _ _ on
+told_call role seen now (Get key) on = absurd on
+
+-- ---- what is shown is well seen
+
+unless_some : {A : Type 0} (b : Bool) (x : Option A) (y : A) → (if b then None else x) ≡ Some y → x ≡ Some y
+unless_some true x y is = absurd (cc is)
+unless_some false x y is = is
+
+where_some : {A : Type 0} (b : Bool) (x : Option A) (y : A) → (if b then x else None) ≡ Some y → x ≡ Some y
+where_some true x y is = is
+where_some false x y is = absurd (cc is)
+
+where_among : {A : Type 0} (b : Bool) (xs : List A) (y : A) → IsAmong y (if b then xs else []) → IsAmong y xs
+where_among true xs y is = is
+where_among false xs y is = absurd is
+
+unless_part : {A : Type 0} (kind : A → Object) (b : Bool) (x : Option A) (o : Object) → IsPart kind (if b then None else x) o → IsPart kind x o
+unless_part kind true x o is = absurd is
+unless_part kind false x o is = is
+
+where_part : {A : Type 0} (kind : A → Object) (b : Bool) (x : Option A) (o : Object) → IsPart kind (if b then x else None) o → IsPart kind x o
+where_part kind true x o is = is
+where_part kind false x o is = absurd is
+
+where_part_of : {A : Type 0} (kind : A → Object) (b : Bool) (xs : List A) (o : Object) → IsPartOf kind (if b then xs else []) o → IsPartOf kind xs o
+where_part_of kind true xs o is = is
+where_part_of kind false xs o is = absurd is
+
+shown_seen : (role : Role) (seen : Views) (o : Object) → IsSeen (shown role seen) o → IsSeen seen o
+shown_seen role seen o (inl is) = inl (unless_part Cert (works_on_requests role) seen.certificate o is)
+shown_seen role seen o (inr (inl is)) = inr (inl (where_part Secret (looks_at_secret role) seen.secret o is))
+shown_seen role seen o (inr (inr (inl is))) = inr (inr (inl (where_part Request (works_on_requests role) seen.request o is)))
+shown_seen role seen o (inr (inr (inr (inl is)))) = inr (inr (inr (inl (where_part_of Secret (looks_at_next role) seen.next o is))))
+shown_seen role seen o (inr (inr (inr (inr is)))) = inr (inr (inr (inr (where_part_of Request (looks_at_requests role) seen.requests o is))))
+
+shown_well : (role : Role) (seen : Views) → IsWellSeen seen → IsWellSeen (shown role seen)
+shown_well role seen well = record {
+  target_namespace = λ c k is sees. well.target_namespace c k (unless_some (works_on_requests role) seen.certificate c is) (where_some (looks_at_secret role) seen.secret k sees);
+  target_name = λ c k is sees. well.target_name c k (unless_some (works_on_requests role) seen.certificate c is) (where_some (looks_at_secret role) seen.secret k sees);
+  labelled = λ k among. well.labelled k (where_among (looks_at_next role) seen.next k among);
+  key_owned = λ c k is among. well.key_owned c k (unless_some (works_on_requests role) seen.certificate c is) (where_among (looks_at_next role) seen.next k among);
+  request_owned = λ c r is among. well.request_owned c r (unless_some (works_on_requests role) seen.certificate c is) (where_among (looks_at_requests role) seen.requests r among);
+  admitted = λ o is. well.admitted o (shown_seen role seen o is);
+}
 
 -- each call of a role is on a kind that it is told of
-pub writes_known : (role : Role) (seen : Views) (now : ℤ) (desk : Desk) (call : Call) → act role seen now desk ≡ Calls call → has_informer role (key_of_call call).kind ≡ true
-writes_known role seen now desk call is =
-    told_call role seen call
-    (subst (IsWithin role (shown role seen)) (sym ((each_sound role).told seen now desk) ∙ is) ((each_sound role).within (shown role seen) now desk))
+pub writes_known : (role : Role) (seen : Views) (now : ℤ) (desk : Desk) (call : Call) → IsWellSeen seen → act role seen now desk ≡ Calls call → has_informer role (key_of_call call).kind ≡ true
+writes_known role seen now desk call well is =
+    told_call role seen now call
+    (subst (IsWithin role (call_after role (shown role seen) now) (shown role seen) now) (sym ((each_sound role).told seen now desk) ∙ is)
+    ((each_sound role).within (shown role seen) now desk (shown_well role seen well)))

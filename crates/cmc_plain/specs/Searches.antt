@@ -9,7 +9,6 @@ use Rattle.cmc_objects.specs.declared.role.Role.{Role}
 use Rattle.cmc_objects.specs.declared.entry.Entry.{Entry}
 use Rattle.cmc_model.specs.Histories.{Setting}
 use Rattle.cmc_rules.specs.Positions.{kind_of_work}
-use Rattle.cmc_rules.specs.Viewing.{views_in, views}
 use Rattle.cmc_world.specs.declared.moves.Move.{Move}
 use Rattle.cmc_world.specs.declared.moves.Stepped.{Stepped}
 use Rattle.cmc_world.specs.declared.moves.Stepped.TheVariants.{Done, Spent}
@@ -17,7 +16,6 @@ use Rattle.cmc_rules.specs.Passes.{open_pass, IsWorking}
 use Rattle.cmc_plain.specs.declared.passes.Going.{Going}
 use Rattle.cmc_plain.specs.declared.deliveries.Delivery.{Delivery}
 use Rattle.cmc_plain.specs.declared.begins.Beginning.{Beginning}
-use Rattle.cmc_plain.specs.declared.begins.Caches.{Caches}
 use Rattle.cmc_plain.specs.Plain.{IsBehind, Fits, HasNoScript, HasNoPass, HasNoDelivery, IsFirstPass, IsOfPresent, IsFirstDelivery, IsFirstBegin, IsChosen}
 
 -- want of room does not make a move impossible
@@ -53,10 +51,6 @@ FindsDelivery s h None = HasNoDelivery s h
 FindsDelivery s h (Some d) = IsFirstDelivery s h d.role d.kind
 
 -- ---- begins
-
--- the role sees in these shelves what it was told of
-abbrev pub AreCaches : Setting → List Entry → Role → Caches → Type 0
-AreCaches s h role c = (key : Key) → views_in role (record { certificates = c.certificates; requests = c.requests; secrets = c.secrets }) key ≡ views s h role key
 
 -- the key is one of the role's kind of work, and no pass of it on the key is open
 pub record IsFree (s : Setting) (h : List Entry) (role : Role) (key : Key) : Type 0 where

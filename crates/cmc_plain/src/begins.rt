@@ -11,16 +11,15 @@ ghost use Rattle.cmc_model.specs.Writes.{is_known, writes};
 ghost use Rattle.cmc_held.specs.Remembered.{past_or_new};
 ghost use Rattle.cmc_world.specs.Kept.{setting_of};
 ghost use Rattle.cmc_plain.specs.Plain as spec;
-ghost use Rattle.cmc_plain.specs.Searches.{AreCaches, FindsBegin, FindsKey, IsFree};
+ghost use Rattle.cmc_plain.specs.Searches.{FindsBegin, FindsKey, IsFree};
 
 use crate::roles::role_in;
-use cmc_held::{kind_of_work, views_on};
-use cmc_meta::{Key, Kind};
+use cmc_held::kind_of_work;
+use cmc_meta::Key;
 use cmc_model::Write;
 use cmc_objects::Role;
 use cmc_pass::Views;
 use cmc_rules::{LastPass, Past};
-use cmc_store::Shelf;
 use cmc_world::World;
 use std::alloc::{AllocError, Global};
 use std::collections::BTreeSet;
@@ -30,14 +29,6 @@ use std::collections::BTreeSet;
 pub(crate) struct Beginning {
     pub role: Role,
     pub key: Key,
-}
-
-/// The objects of each kind that a role was told of.
-#[derive(Drop)]
-pub(crate) struct Caches {
-    pub certificates: Shelf,
-    pub requests: Shelf,
-    pub secrets: Shelf,
 }
 
 /// The keys of these writes, in order.
@@ -56,19 +47,6 @@ fn known_keys(alloc: Global, world: &World) -> Result<BTreeSet<Key>, AllocError>
     ensures { IfOk result (λ keys. (k : KeyValue) → contains key_cmp keys k ≡ is_known k (writes (setting_of world.now.scenario) world.now.history)) }
 {
     keys_of(alloc, world.log().as_slice())
-}
-
-/// What the role was told of.
-fn caches_of(alloc: Global, world: &World, role: Role) -> Result<Caches, AllocError>
-    ensures { IfOk result (λ c. AreCaches (setting_of world.now.scenario) world.now.history role c) }
-{
-    let at = world.told(role);
-    let log = world.log();
-    Ok(Caches {
-        certificates: log.replay(alloc, Kind::Certificate, at.certificates)?,
-        requests: log.replay(alloc, Kind::CertificateRequest, at.requests)?,
-        secrets: log.replay(alloc, Kind::Secret, at.secrets)?,
-    })
 }
 
 /// Whether the key is one of the role's kind of work, and no pass of it on the key is open.
@@ -118,6 +96,7 @@ fn is_worth(
     ensures { IfOk result (λ b. IsTrue b ↔ spec.IsWorth (setting_of world.now.scenario) world.now.history role key.now) }
 {
     world.is_run();
+    let _events = world.scenario().events();
     if !saw_last(alloc, world.past(role, key), seen) {
         return Ok(true);
     }
@@ -144,15 +123,8 @@ fn fits_seen(
     is_worth(alloc, world, role, key, seen)
 }
 
-/// Whether the key, which an accepted write named, fits the role, which runs and was told of this.
-fn fits(
-    alloc: Global,
-    world: &World,
-    role: Role,
-    caches: &Caches,
-    key: &Key,
-) -> Result<bool, AllocError>
-    requires caches { AreCaches (setting_of world.now.scenario) world.now.history role caches.now }
+/// Whether the key, which an accepted write named, fits the role, which runs.
+fn fits(alloc: Global, world: &World, role: Role, key: &Key) -> Result<bool, AllocError>
     requires running { histories.runs (setting_of world.now.scenario) world.now.history role ≡ true }
     requires known { is_known key.now (writes (setting_of world.now.scenario) world.now.history) ≡ true }
     ensures { IfOk result (λ b. IsTrue b ↔ spec.Fits (setting_of world.now.scenario) world.now.history role key.now) }
@@ -160,32 +132,23 @@ fn fits(
     if !is_free(world, role, key) {
         return Ok(false);
     }
-    let seen = views_on(
-        alloc,
-        role,
-        &caches.certificates,
-        &caches.requests,
-        &caches.secrets,
-        key,
-    )?;
+    let seen = world.views(alloc, role, key)?;
     fits_seen(alloc, world, role, key, &seen)
 }
 
-/// The first of the keys that fits the role, which runs and was told of this.
+/// The first of the keys that fits the role, which runs.
 fn first_among(
     alloc: Global,
     world: &World,
     role: Role,
-    caches: &Caches,
     keys: &BTreeSet<Key>,
 ) -> Result<Option<Key>, AllocError>
-    requires caches { AreCaches (setting_of world.now.scenario) world.now.history role caches.now }
     requires running { histories.runs (setting_of world.now.scenario) world.now.history role ≡ true }
     requires known { (k : KeyValue) → contains key_cmp keys.now k ≡ is_known k (writes (setting_of world.now.scenario) world.now.history) }
     ensures { IfOk result (λ k. FindsKey (setting_of world.now.scenario) world.now.history role k) }
 {
     for key in keys.iter() {
-        if fits(alloc, world, role, caches, key)? {
+        if fits(alloc, world, role, key)? {
             return Ok(Some(key.copy()?));
         }
     }
@@ -205,8 +168,7 @@ fn first_key(
     if !world.runs(role) {
         return Ok(None);
     }
-    let caches = caches_of(alloc, world, role)?;
-    first_among(alloc, world, role, &caches, keys)
+    first_among(alloc, world, role, keys)
 }
 
 /// The first role that a key fits, with the first such key; `None` exactly where there is none.

@@ -4,7 +4,7 @@ use Rattle.std.specs.List.{flat_map}
 use Rattle.serde_json.specs.Data.{Data}
 use Rattle.cmc_objects.specs.declared.entry.Entry.{Entry}
 use Rattle.cmc_model.specs.declared.summary.Summary.{Summary}
-use Rattle.cmc_codec.specs.Trees.{line_of}
+use Rattle.cmc_print.specs.Trees.{line_of}
 use Rattle.cmc_report.specs.Trees.{scenario_tree, entry_tree, summary_tree}
 
 -- Texts one after another.

@@ -30,18 +30,10 @@ use Rattle.cmc_model.specs.declared.summary.Summary.{Summary}
 use Rattle.cmc_model.specs.declared.summary.Waiting.{Waiting}
 use Rattle.cmc_model.specs.declared.summary.WaitName.{WaitName}
 use Rattle.cmc_model.specs.declared.summary.WaitName.TheVariants.{Stopped}
-use Rattle.cmc_codec.specs.Trees.{natural}
-use Rattle.cmc_codec.specs.Puts.{put_list, base64_text}
-use Rattle.cmc_codec.specs.Words.{kind_name, role_name}
-use Rattle.cmc_codec.specs.Printed.{object_tree, moment_tree}
-
--- `namespace/name`
-abbrev pub name_text : Key → List ℕ
-name_text key = key.namespace ++ (codes "/" ++ key.name)
-
--- `Kind/namespace/name`
-abbrev pub key_text : Key → List ℕ
-key_text key = kind_name key.kind ++ (codes "/" ++ name_text key)
+use Rattle.cmc_print.specs.Trees.{natural}
+use Rattle.cmc_print.specs.Puts.{put_list, base64_text}
+use Rattle.cmc_print.specs.Words.{kind_name, role_name, name_text, key_text}
+use Rattle.cmc_print.specs.Printed.{object_tree, moment_tree}
 
 -- An object with one number.
 abbrev pub lone : List ℕ → ℕ → Data

@@ -2,33 +2,16 @@
 ghost use Rattle.std.specs.Prelude.{◌≡◌, ◌++◌, codes, IfOk, OnOk, string_bytes};
 ghost use Rattle.serde_json.specs.Data.{object, put};
 ghost use Rattle.cmc_objects.specs.Objects.{key_of, name_of};
-ghost use Rattle.cmc_codec.specs.Printed.{object_tree};
-ghost use Rattle.cmc_codec.specs.Trees.{data_of, members_of};
+ghost use Rattle.cmc_print.specs.Printed.{object_tree};
+ghost use Rattle.cmc_print.specs.Trees.{data_of, members_of};
+ghost use Rattle.cmc_print.specs.Words.{key_text};
 ghost use Rattle.cmc_report.specs.Trees as spec;
-ghost use Rattle.cmc_report.specs.Trees.{name_text, key_text, lone, ok_members, conflict_tree, reply_tree, who_tree, call_name, put_written, put_version, put_call};
+ghost use Rattle.cmc_report.specs.Trees.{lone, ok_members, conflict_tree, reply_tree, who_tree, call_name, put_written, put_version, put_call};
 
-use cmc_codec::{Members, Tree, kind_word, put_count, put_text, tree_of};
 use cmc_meta::{Key, Name};
 use cmc_objects::{Call, Object, Reply, Who};
+use cmc_print::{Members, Tree, key_word, put_count, put_text, tree_of};
 use std::alloc::{AllocError, Global};
-
-/// `namespace/name`.
-pub fn name_word(alloc: Global, key: &Key) -> Result<String, AllocError>
-    ensures { IfOk result (λ s. string_bytes s ≡ name_text key.now) }
-{
-    let namespace = key.namespace.as_str();
-    let name = key.name.as_str();
-    format!(in alloc; "{namespace}/{name}")
-}
-
-fn key_word(alloc: Global, key: &Key) -> Result<String, AllocError>
-    ensures { IfOk result (λ s. string_bytes s ≡ key_text key.now) }
-{
-    let kind = kind_word(key.kind);
-    let namespace = key.namespace.as_str();
-    let name = key.name.as_str();
-    format!(in alloc; "{kind}/{namespace}/{name}")
-}
 
 fn lone_number(alloc: Global, name: &str, number: u64) -> Result<Tree, AllocError>
     ensures { IfOk result (λ t. data_of t ≡ lone name.now number) }

@@ -1,16 +1,17 @@
 // The entries of a history as lines.
 ghost use Rattle.std.specs.Prelude.{◌≡◌, codes, IfOk, OnOk, string_bytes};
 ghost use Rattle.serde_json.specs.Data.{string, put};
-ghost use Rattle.cmc_codec.specs.Trees.{natural, data_of, members_of, line_of};
+ghost use Rattle.cmc_print.specs.Trees.{natural, data_of, members_of, line_of};
 ghost use Rattle.cmc_report.specs.Trees.{put_told, put_begin, positions_tree, cause_tree, put_pass, put_entry, entry_tree};
 
-use crate::calls::{add_call, name_word};
+use crate::calls::add_call;
 use crate::orders::{add_answer, add_order};
-use cmc_codec::{
-    Members, Tree, kind_word, put_bytes, put_count, put_flag, put_text, put_time, role_word,
-};
 use cmc_meta::{Key, Kind};
 use cmc_objects::{Cause, Entry, Positions, Role};
+use cmc_print::{
+    Members, Tree, kind_word, name_word, put_bytes, put_count, put_flag, put_text, put_time,
+    role_word,
+};
 use std::alloc::{AllocError, Global};
 
 #[tactic(auto, unfolding(crate::specs::Trees::put_told))]

@@ -1,13 +1,12 @@
 // Handed-out work and its answers as JSON.
 ghost use Rattle.std.specs.Prelude.{◌≡◌, codes, IfOk, OnOk, OnErr};
 ghost use Rattle.serde_json.specs.Data.{put};
-ghost use Rattle.cmc_codec.specs.Trees.{data_of, members_of};
+ghost use Rattle.cmc_print.specs.Trees.{data_of, members_of};
 ghost use Rattle.cmc_report.specs.Trees.{put_request, key_order_tree, csr_order_tree, sign_order_tree, judge_order_tree, order_tree, issued_tree, answer_tree};
 
-use crate::calls::name_word;
-use cmc_codec::{Members, Tree, put_bytes, put_count, put_some_bytes, put_text};
 use cmc_meta::ObjectMeta;
 use cmc_objects::{CsrOrder, JudgeOrder, KeyOrder, Order, SignOrder, Signing};
+use cmc_print::{Members, Tree, name_word, put_bytes, put_count, put_some_bytes, put_text};
 use std::alloc::{AllocError, Global};
 
 fn add_request(members: &mut Members, alloc: Global, meta: &ObjectMeta) -> Result<(), AllocError>

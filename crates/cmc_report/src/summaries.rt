@@ -3,12 +3,11 @@ ghost use Rattle.std.specs.Prelude.{◌≡◌, false, map, IfOk, string_bytes};
 ghost use Rattle.serde_json.specs.Data.{array};
 ghost use Rattle.serde_json.specs.View.{view, items_of};
 ghost use Rattle.serde_json.specs.Written.{has_float};
-ghost use Rattle.cmc_codec.specs.Trees.{data_of, line_of};
+ghost use Rattle.cmc_print.specs.Trees.{data_of, line_of};
 ghost use Rattle.cmc_report.specs.Trees.{scenario_tree, wait_name, waiting_tree, counts_tree, summary_tree};
 
-use crate::calls::name_word;
-use cmc_codec::{Members, Tree, Trees, put_count, put_text};
 use cmc_model::{Summary, WaitName, Waiting};
+use cmc_print::{Members, Tree, Trees, name_word, put_count, put_text};
 use serde_json::Value;
 use std::alloc::{AllocError, Global};
 

@@ -15,6 +15,7 @@ use Rattle.cmc_objects.specs.declared.entry.Entry.TheVariants.{Call as Called, B
 use Rattle.cmc_objects.specs.Objects.{key_of}
 use Rattle.cmc_pass.specs.declared.pass.Views.{Views}
 use Rattle.cmc_pass.specs.declared.value.Value.TheVariants as values
+use Rattle.cmc_model.specs.declared.write.Write.{Write}
 use Rattle.cmc_model.specs.Objects.{Objects, object_at}
 use Rattle.cmc_model.specs.Histories.{Setting, objects}
 use Rattle.cmc_model.specs.Writes.{writes}
@@ -28,7 +29,7 @@ use Rattle.cmc_rules.specs.Sighting.{IsAmong, IsSeen, IsWellSeen}
 use Rattle.cmc_rules.proofs.Admitted.{versions_meet}
 use Rattle.cmc_rules.proofs.Carrying.{over_call, over_ask, over_given, over_begin, over_end, over_stop}
 use Rattle.cmc_rules.proofs.Seen.{seen_is_version}
-use Rattle.cmc_rules.proofs.Sighted.{AreKnown, picked, views_known, present_known}
+use Rattle.cmc_rules.proofs.Sighted.{AreKnown, SawKnown, picked, saw_known, views_known, present_known}
 use Rattle.cmc_rules.proofs.Versions.{stands_is_version, version_keyed}
 
 -- a part of a Certificate is one of the Certificate that there is
@@ -141,3 +142,15 @@ saw_well s (Judged pass approved ∷ h) n legal = over_given SawWell n pass (val
 saw_well s (End pass cause ∷ h) n legal = over_end SawWell (n == pass) (open_pass s h n) (saw_well s h n legal.1)
 saw_well s (Stop role ∷ h) n legal = over_stop SawWell role (open_pass s h n) (saw_well s h n legal.1)
 saw_well s (other ∷ h) n legal = saw_well s h n legal.1
+
+-- all that is known of what an open pass saw
+pub record SawAll (ws : List Write) (p : OpenPass) : Type 0 where
+  pub known : SawKnown ws p
+  pub well : SawWell p
+
+saw_both : (ws : List Write) (p : Option OpenPass) → IfSome p (SawKnown ws) → IfSome p SawWell → IfSome p (SawAll ws)
+saw_both ws None known well = tt
+saw_both ws (Some p) known well = record { known = known; well = well }
+
+pub saw_all : (s : Setting) (h : List Entry) (n : ℕ) → IsLegal s h → IfSome (open_pass s h n) (SawAll (writes s h))
+saw_all s h n legal = saw_both (writes s h) (open_pass s h n) (saw_known s h n) (saw_well s h n legal)

@@ -29,6 +29,7 @@ pub mod Admitted
 pub mod Owning
 pub mod NextKeys
 pub mod KeyManaging
+pub mod Issuing
 pub mod NextRequests
 pub mod RequestManaging
 pub mod Approving

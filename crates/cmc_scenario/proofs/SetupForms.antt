@@ -15,17 +15,18 @@ use Rattle.cmc_setup.proofs.Turns.{orderly, held, ends}
 use Rattle.cmc_setup.proofs.Orders.{in_order_put}
 use Rattle.cmc_cursor.specs.Reading.{◌>>=◌, under, Field, optional_at, at_end}
 use Rattle.cmc_cursor.specs.Readers.{found, text_at, count_at}
-use Rattle.cmc_scenario.specs.Approvers.{approver_at, plain_approver}
-use Rattle.cmc_scenario.specs.Lists.{member_or}
-use Rattle.cmc_scenario.specs.MaterialRows.{material_at}
+use Rattle.cmc_material.specs.Approvers.{approver_at, plain_approver}
+use Rattle.cmc_material.specs.Lists.{member_or}
+use Rattle.cmc_material.specs.MaterialRows.{material_at}
 use Rattle.cmc_scenario.specs.Roles.{running_role_at, roles_with, named_roles_at, roles_at, all_roles}
 use Rattle.cmc_scenario.specs.Scripts.{in_turn, step_at, numbered_step_at, steps_from, steps_at, script_at}
 use Rattle.cmc_scenario.specs.Scenarios.{size_at, rising_at, rising_from, faults_at, in_run, moment_in, moment_at, world_in, usual_moment, beginning_in, setup_of, setup_in}
 use Rattle.cmc_scenario.specs.declared.members.World.{World}
 use Rattle.cmc_scenario.specs.declared.members.Beginning.{Beginning}
-use Rattle.cmc_scenario.proofs.Always.{Always, so, failed, next, after, below, where_true, both, of_member_or, of_bounded}
-use Rattle.cmc_scenario.proofs.RowForms.{IsMaterial, of_material}
-use Rattle.cmc_scenario.proofs.PolicyForms.{IsApprover, of_approver}
+use Rattle.cmc_cursor.proofs.Always.{Always, so, failed, next, after, below, where_true}
+use Rattle.cmc_material.proofs.ListForms.{both, of_member_or, of_bounded}
+use Rattle.cmc_material.proofs.RowForms.{IsMaterial, of_material}
+use Rattle.cmc_material.proofs.PolicyForms.{IsApprover, of_approver}
 use Rattle.cmc_scenario.proofs.StepForms.{IsStep, of_value}
 
 abbrev pub IsSize : ℕ → Type 0

@@ -14,13 +14,14 @@ use Rattle.cmc_cursor.specs.Reading.{under, Field, fields_at, optional_at, requi
 use Rattle.cmc_cursor.specs.Readers.{count_at, word_at}
 use Rattle.cmc_codec.specs.ObjectForm.{applied_at as object_form_at}
 use Rattle.cmc_scenario.specs.Applied.{passes, applied_at, text_member}
-use Rattle.cmc_scenario.specs.Keys.{key_at}
-use Rattle.cmc_scenario.specs.Lists.{member_option, bounded_at}
+use Rattle.cmc_material.specs.Keys.{key_at}
+use Rattle.cmc_material.specs.Lists.{member_option, bounded_at}
 use Rattle.cmc_scenario.specs.Roles.{role_at, running_role_at}
-use Rattle.cmc_scenario.specs.MaterialRows.{certificate_at, reply_row_at}
+use Rattle.cmc_material.specs.MaterialRows.{certificate_at, reply_row_at}
 use Rattle.cmc_scenario.specs.Scripts.{apply_in, delete_in, certificate_in, revision_in, approve_in, deny_in, answer_in, renew_in, tick_in, stop_in, start_in, informer_in, hold_in, release_in, until_in, settle_in, stray_in, waiting_in, running_in, step_in, step_at}
-use Rattle.cmc_scenario.proofs.Always.{Always, so, failed, next, after, below, either, both, of_bounded}
-use Rattle.cmc_scenario.proofs.RowForms.{IsCertificate, IsSaid, of_certificate_text, of_reply_row}
+use Rattle.cmc_cursor.proofs.Always.{Always, so, failed, next, after, below, either}
+use Rattle.cmc_material.proofs.ListForms.{both, of_bounded}
+use Rattle.cmc_material.proofs.RowForms.{IsCertificate, IsSaid, of_certificate_text, of_reply_row}
 
 -- the step names a Certificate and an answer where it has to, and a tick has 1 to 1,000,000,000 seconds
 pub record IsStep (step : Step) : Type 0 where

@@ -1,9 +1,5 @@
 pub mod Applied
-pub mod Keys
-pub mod Lists
 pub mod Roles
-pub mod MaterialRows
-pub mod Approvers
 pub mod Scripts
 pub mod Scenarios
 pub mod Loads

@@ -6,11 +6,11 @@ use Rattle.serde_json.specs.Data.{Data, null, boolean, number, string, array, ob
 use Rattle.cmc_meta.specs.declared.key.Kind.{Kind}
 use Rattle.cmc_objects.specs.declared.role.Role.{Role}
 use Rattle.cmc_objects.specs.declared.role.Role.TheVariants.{Trigger, KeyManager, RequestManager, Approver, Issuer, Issuing, Readiness, Revision}
-use Rattle.cmc_codec.specs.Words.{role_name}
+use Rattle.cmc_print.specs.Words.{role_name}
 use Rattle.cmc_cursor.specs.Reading.{Read, Check, ◌>>=◌, under}
 use Rattle.cmc_cursor.specs.Readers.{text_at}
 use Rattle.cmc_setup.specs.Setups.{with_role}
-use Rattle.cmc_scenario.specs.Keys.{kind_in}
+use Rattle.cmc_material.specs.Keys.{kind_in}
 
 -- The role of that name.
 abbrev pub role_in : List ℕ → Read Role

@@ -10,9 +10,9 @@ use Rattle.cmc_cursor.specs.Readers.{found, text_at, count_at, floats_at}
 use Rattle.cmc_setup.specs.Setups.{Setup, first_moment, last_moment}
 use Rattle.cmc_setup.specs.Stages.{first_stage}
 use Rattle.cmc_setup.specs.declared.scenario.Scenario.{Scenario}
-use Rattle.cmc_scenario.specs.Approvers.{approver_at, plain_approver}
-use Rattle.cmc_scenario.specs.Lists.{member_or, bounded_at}
-use Rattle.cmc_scenario.specs.MaterialRows.{material_at}
+use Rattle.cmc_material.specs.Approvers.{approver_at, plain_approver}
+use Rattle.cmc_material.specs.Lists.{member_or, bounded_at}
+use Rattle.cmc_material.specs.MaterialRows.{material_at}
 use Rattle.cmc_scenario.specs.Roles.{roles_at, with_roles}
 use Rattle.cmc_scenario.specs.Scripts.{script_at}
 use Rattle.cmc_scenario.specs.declared.members.World.{World}

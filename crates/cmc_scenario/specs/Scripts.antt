@@ -16,9 +16,9 @@ use Rattle.cmc_cursor.specs.Readers.{count_at}
 use Rattle.cmc_setup.specs.Stages.{Stage, IsStage, is_in_turn, stage_after}
 use Rattle.cmc_setup.specs.declared.stage.Stage.{Stage as Code}
 use Rattle.cmc_scenario.specs.Applied.{passes, text_member, applied_at}
-use Rattle.cmc_scenario.specs.Keys.{key_at}
-use Rattle.cmc_scenario.specs.Lists.{member_option, bounded_at}
-use Rattle.cmc_scenario.specs.MaterialRows.{certificate_at, reply_row_at}
+use Rattle.cmc_material.specs.Keys.{key_at}
+use Rattle.cmc_material.specs.Lists.{member_option, bounded_at}
+use Rattle.cmc_material.specs.MaterialRows.{certificate_at, reply_row_at}
 use Rattle.cmc_scenario.specs.Roles.{role_at, kind_at, running_role_at}
 
 -- `apply` has an object.

@@ -5,9 +5,8 @@ ghost use Rattle.cmc_cursor.specs.Reading.{Gives};
 ghost use Rattle.cmc_cursor.specs.Seen.{shown};
 ghost use Rattle.cmc_scenario.specs.Scripts.{answer_in, approve_in, certificate_in, deny_in, renew_in, revision_in};
 
-use crate::material::certificate;
-use crate::rows::reply_row;
 use cmc_cursor::{BadField, Fields, at, check_end, count, required};
+use cmc_material::{certificate, reply_row};
 use cmc_meta::Key;
 use cmc_objects::Step;
 use std::alloc::Global;

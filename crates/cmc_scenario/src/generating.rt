@@ -5,9 +5,9 @@ ghost use Rattle.cmc_meta.specs.Names.{is_subdomain};
 ghost use Rattle.cmc_objects.specs.Objects.{no_cert_status};
 ghost use Rattle.cmc_scenario.specs.Loads.{load_host, load_meta, load_name, load_secret, load_setup, load_spec, load_step, loads, rests};
 
-use crate::approver::usual_approver;
 use crate::members::USUAL_MOMENT;
 use crate::roles::every_role;
+use cmc_material::usual_approver;
 use cmc_meta::{BadName, Conditions, Name, Numbers, ObjectMeta, Owners, Pairs, Text, Texts};
 use cmc_objects::{
     Algorithm, CertSpec, CertStatus, Certificate, IssuerRef, KeySpec, Material, Object, Step,

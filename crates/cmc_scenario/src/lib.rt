@@ -5,18 +5,12 @@
 #![tactic(auto)]
 
 mod applied;
-mod approver;
 mod certificate_steps;
 mod generating;
-mod key;
-mod material;
 mod members;
-mod optional;
-mod policy;
 mod reading;
 mod role_steps;
 mod roles;
-mod rows;
 mod step;
 mod steps;
 

@@ -5,14 +5,12 @@ ghost use Rattle.cmc_time.specs.Reading.{rfc3339_seconds};
 ghost use Rattle.cmc_cursor.specs.Reading.{Gives, under};
 ghost use Rattle.cmc_cursor.specs.Readers.{found};
 ghost use Rattle.cmc_cursor.specs.Seen.{shown, shown_option};
-ghost use Rattle.cmc_scenario.specs.Lists.{member_or};
+ghost use Rattle.cmc_material.specs.Lists.{member_or};
 ghost use Rattle.cmc_scenario.specs.Scenarios.{beginning_in, faults_at, in_run, moment_at, moment_in, rising_at, rising_from, usual_moment, world_in};
 
-use crate::approver::approver;
-use crate::material::material;
-use crate::optional::bounded_or;
 use crate::roles::given_roles;
 use cmc_cursor::{BadField, Fields, at, count, optional};
+use cmc_material::{approver, bounded_or, material};
 use cmc_meta::{Numbers, Text};
 use cmc_objects::{Material, Rules};
 use cmc_setup::Roles;

@@ -8,10 +8,10 @@ ghost use Rattle.cmc_cursor.specs.Seen.{shown};
 ghost use Rattle.cmc_scenario.specs.Scenarios.{setup_of, setup_in, members_at, scenario_at, IsReading};
 
 use crate::members::{Beginning, LARGEST_SIZE, World, beginning_members, world_members};
-use crate::optional::bounded_or;
 use crate::roles::check_given;
 use crate::steps::script;
 use cmc_cursor::{BadField, Fields, check_end, check_floats, fields, optional};
+use cmc_material::bounded_or;
 use cmc_meta::Text;
 use cmc_setup::{Scenario, Steps};
 use serde_json::Value;

@@ -5,9 +5,9 @@ ghost use Rattle.cmc_cursor.specs.Reading.{Gives};
 ghost use Rattle.cmc_cursor.specs.Seen.{shown};
 ghost use Rattle.cmc_scenario.specs.Scripts.{hold_in, informer_in, release_in, settle_in, start_in, stop_in, tick_in, until_in};
 
-use crate::optional::bounded;
 use crate::roles::{kind, role, running_role};
 use cmc_cursor::{BadField, Fields, at, check_end, count, required};
+use cmc_material::bounded;
 use cmc_meta::Kind;
 use cmc_objects::{Role, Step};
 use std::alloc::Global;

@@ -5,8 +5,8 @@ ghost use Rattle.cmc_cursor.specs.Reading.{Gives, under};
 ghost use Rattle.cmc_cursor.specs.Seen.{shown_option};
 ghost use Rattle.cmc_scenario.specs.Roles.{all_roles, can_run, kind_at, named_roles_at, role_at, role_in, roles_at, roles_with, running_role_at, with_roles};
 
-use crate::key::kind_of;
 use cmc_cursor::{BadField, at};
+use cmc_material::kind_of;
 use cmc_meta::{Kind, Text};
 use cmc_objects::Role;
 use cmc_setup::Roles;

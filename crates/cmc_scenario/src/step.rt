@@ -7,10 +7,9 @@ ghost use Rattle.cmc_scenario.specs.Scripts.{apply_in, delete_in, stray_in, step
 
 use crate::applied::{applied, member, pass};
 use crate::certificate_steps::{answer, approve, deny, renew};
-use crate::key::key;
-use crate::optional::count_option;
 use crate::role_steps::{hold, release, settle, start, stop, tick, until};
 use cmc_cursor::{BadField, Fields, at, check_end, fields, optional, required};
+use cmc_material::{count_option, key};
 use cmc_meta::Text;
 use cmc_objects::Step;
 use serde_json::Value;

@@ -1,21 +1,13 @@
-//! Tests of the libraries, a module for each crate: what no clause says, and that each call has an answer where
-//! memory is ample.
+//! Tests of values, certificates, keys, policies, matching and objects, a module for each crate: what no clause says,
+//! and that each call has an answer where memory is ample. `values` and `whole` build the objects that all tests use.
 #![tactic(auto)]
 
 #[cfg(test)]
-mod admission;
-#[cfg(test)]
 mod answers;
-#[cfg(test)]
-mod codec;
-#[cfg(test)]
-mod cursor;
 #[cfg(test)]
 mod der;
 #[cfg(test)]
 mod facts;
-#[cfg(test)]
-mod history;
 #[cfg(test)]
 mod keys;
 #[cfg(test)]
@@ -35,8 +27,6 @@ mod model;
 #[cfg(test)]
 mod objects;
 #[cfg(test)]
-mod objects_read;
-#[cfg(test)]
 mod orders;
 #[cfg(test)]
 mod pass;
@@ -45,16 +35,9 @@ mod policies;
 #[cfg(test)]
 mod policy_rules;
 #[cfg(test)]
-mod report;
-#[cfg(test)]
-mod scenario;
-#[cfg(test)]
-mod store;
-#[cfg(test)]
 mod time;
 pub mod values;
-#[cfg(test)]
-mod whole;
+pub mod whole;
 #[cfg(test)]
 mod x509;
 #[cfg(test)]

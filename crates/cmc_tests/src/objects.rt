@@ -7,7 +7,7 @@ use cmc_objects::{
     Order, Role, Rotation, Rows, Rules, SignRow, SignRows, Signing, Step,
 };
 use cmc_policy_rules::Policies;
-use cmc_scenario::Steps;
+use cmc_setup::Steps;
 use std::alloc::Global;
 use std::process::Abort;
 use std::test::Fail;

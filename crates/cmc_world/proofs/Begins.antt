@@ -13,7 +13,7 @@ use Rattle.cmc_rules.specs.declared.progress.Origin.{Origin}
 use Rattle.cmc_rules.specs.declared.progress.Past.{Past}
 use Rattle.cmc_model.specs.Histories.{Setting, moment, role_eq}
 use Rattle.cmc_rules.specs.Positions.{positions}
-use Rattle.cmc_rules.specs.Viewing.{views, views_in}
+use Rattle.cmc_rules.specs.Viewing.{views}
 use Rattle.cmc_rules.specs.Sameness.{IsDue}
 use Rattle.cmc_rules.specs.Passes.{begun, new_pass}
 use Rattle.cmc_rules.specs.Memory.{past, with_begin}
@@ -21,14 +21,13 @@ use Rattle.cmc_rules.specs.Legality.{IsBegin}
 use Rattle.cmc_rules.proofs.Positions.{begun_short}
 use Rattle.cmc_held.specs.declared.standings.Standing.{Standing}
 use Rattle.cmc_held.specs.Dues.{shown_positions}
-use Rattle.cmc_held.specs.Sight.{caches_at}
 use Rattle.cmc_world.specs.declared.beginning.Prepared.{Prepared}
 use Rattle.cmc_world.specs.declared.moves.Stepped.TheVariants.{Done}
 use Rattle.cmc_world.specs.Answers.{AnswersBegin}
 use Rattle.cmc_world.specs.Kept.{Holdings, IsKept}
 use Rattle.cmc_world.specs.Prepared.{IsPrepared}
 use Rattle.cmc_world.proofs.Events.{kept_begun}
-use Rattle.cmc_world.proofs.Judging.{saw, shown_is}
+use Rattle.cmc_world.proofs.Judging.{shown_is}
 use Rattle.cmc_world.proofs.Origins.{origins_count}
 use Rattle.cmc_world.proofs.Tables.{may_begin}
 
@@ -42,11 +41,10 @@ number_fits s h w n k short e =
     omega (arith, same, low, short)
 
 pub prepared : (s : Setting) (h : List Entry) (w : Holdings) (role : Role) (key copied : Key) (t : Standing) (at : Positions) (seen twice : Views) (pass : OpenPass) (since : ℤ) (count : ℕ)
-    → IsKept s h w → t ≡ w.standing role → at ≡ shown_positions role t.told → seen ≡ views_in role (caches_at w.log at) key → copied ≡ key → twice ≡ seen
+    → IsKept s h w → t ≡ w.standing role → at ≡ shown_positions role t.told → seen ≡ views s h role key → copied ≡ key → twice ≡ seen
     → since ≡ w.moment → pass ≡ new_pass role copied twice since → count ≡ length w.origins
     → IsPrepared s h role key (record { number = count + 1; origin = record { role = role; incarnation = t.incarnation }; pass = pass; seen = seen; key = key; at = at })
-prepared s h w role key copied t at seen twice pass since count k stood shown e c2 s2 m p o =
-    let seen_is : seen ≡ views s h role key = saw s h w role key t at seen k stood shown e in
+prepared s h w role key copied t at seen twice pass since count k stood shown seen_is c2 s2 m p o =
     record {
       number = ap (λ (x : ℕ). x + 1) (counted s h w count k o);
       origin = ap (λ (x : Standing). let y : Origin = record { role = role; incarnation = x.incarnation } in y) (stood ∙ k.held.standing role);

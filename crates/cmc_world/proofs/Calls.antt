@@ -1,5 +1,6 @@
 -- What a world holds after a pass has made its call, or has ended.
-use Rattle.std.proofs.Common.{◌≡◌, ℕ, ℤ, ◌+◌, ◌-◌, ◌<◌, ◌≤◌, ◌^◌, List, ◌∷◌, length, Option, None, refl, sym, ap, subst, ◌∙◌, arith}
+use Rattle.std.proofs.Common.{◌≡◌, Bool, true, false, ℕ, ℤ, ◌+◌, ◌-◌, ◌<◌, ◌≤◌, ◌^◌, List, ◌∷◌, length, Option, Some, None, refl, sym, ap, subst, ◌∙◌, arith}
+use Rattle.std.proofs.lemmas.Bool.Decides.{nat_tests}
 use Rattle.std.specs.Prelude.{◌==◌, ◌&&◌, if◌then◌else◌, option_map}
 use Rattle.cmc_meta.specs.declared.key.Key.{Key}
 use Rattle.cmc_meta.specs.declared.key.Kind.{Kind}
@@ -19,7 +20,7 @@ use Rattle.cmc_rules.specs.declared.progress.OpenPass.{OpenPass}
 use Rattle.cmc_rules.specs.declared.progress.Past.{Past}
 use Rattle.cmc_model.specs.Replies.{State, IsReply, is_accepted, key_of_call, key_written, object_written, settled, state_after}
 use Rattle.cmc_model.specs.Histories.{Setting, moment, state, accepted, role_eq}
-use Rattle.cmc_model.specs.Writes.{write_of}
+use Rattle.cmc_model.specs.Writes.{write_of, writes, last_under}
 use Rattle.cmc_rules.specs.Positions.{position_of}
 use Rattle.cmc_rules.specs.Passes.{open_pass, stage_by, stage_after, with_stage}
 use Rattle.cmc_rules.specs.Memory.{with_ending}
@@ -66,11 +67,17 @@ pub right_reply : (s : Setting) (h : List Entry) (w : Holdings) (call : Call) (r
 right_reply s h w call reply k right =
     subst (λ (x : State). IsReply s.faults x call reply) k.held.state (subst (λ (x : List ℕ). IsReply x w.state call reply) k.held.faults right)
 
+-- the stage of this pass is that of the one under the number
+own_stage : (own : Bool) (m n : ℕ) (p : OpenPass) (stage : OpenPass → Stage) (o : Option OpenPass) → (m == n) ≡ own → (m ≡ n → o ≡ Some p)
+    → (if own then option_map (with_stage (stage p)) o else o) ≡ (if own then option_map (λ (q : OpenPass). with_stage (stage q) q) o else o)
+own_stage true m n p stage o is there = let same : m ≡ n = grind (arith, nat_tests) in rw (there same) refl
+own_stage false m n p stage o is there = refl
+
 pub kept_call : (s : Setting) (h : List Entry) (w : Holdings) (n : ℕ) (call : Call) (c : Calling) (reply : Reply) (key : Option Key) (object : Option Object) (stage : Stage) (now : ℤ) (version entry : ℕ)
     (fs : List ℕ) (st : State) (log : List Write) (t : Role → Standing) (opened : ℕ → Option OpenPass) (pasts : Role → Key → Past)
     → IsKept s h w → IsCalling s h n call c → MayCall s h (open_pass s h n) call → length h < s.events → now ≡ w.moment
     → IsReply w.faults w.state call reply → fs ≡ w.faults → st ≡ state_after now w.state call reply → key ≡ key_written call reply → object ≡ object_written now w.state call reply
-    → entry ≡ length h + 1 → stage ≡ stage_by entry c.kind c.last reply → version ≡ length w.log + 1 → log ≡ logged key object w.log
+    → entry ≡ length h + 1 → ((p : OpenPass) → w.opened n ≡ Some p → stage ≡ stage_by p.seen.certificate c.stand_in p.stage entry c.kind c.last reply) → version ≡ length w.log + 1 → log ≡ logged key object w.log
     → ((r : Role) → t r ≡ counted (option_map (λ (k : Key). k.kind) key) (role_eq c.role r) (w.standing c.role) (w.standing r))
     → ((m : ℕ) → opened m ≡ (if m == n then option_map (with_stage stage) (w.opened m) else w.opened m))
     → ((r : Role) (k : Key) → pasts r k ≡ noted (option_map (λ (q : Key). q.kind) key) version (role_eq c.role r && key_eq c.key k) (w.past r k))
@@ -78,8 +85,11 @@ pub kept_call : (s : Setting) (h : List Entry) (w : Holdings) (n : ℕ) (call : 
 kept_call s h w n call c reply key object stage now version entry fs st log t opened pasts k is may room at right f after named stored e staged v logged_is counted_is opened_is noted_is =
     let now_is : now ≡ moment s h = at ∙ k.held.moment in
     let version_is : version ≡ accepted s h + 1 = v ∙ ap (λ (ws : List Write). length ws + 1) k.held.log ∙ ap (λ (m : ℕ). m + 1) (writes_count s h) in
-    let stage_is : stage ≡ stage_after s h call reply =
-    staged ∙ ap (λ (m : ℕ). stage_by m c.kind c.last reply) e ∙ ap (λ (kind : Kind). stage_by (length h + 1) kind c.last reply) is.kind ∙ ap (λ (m : ℕ). stage_by (length h + 1) (key_of_call call).kind m reply) is.last in
+    let stage_is : stage ≡ stage_after s h call reply is.pass =
+    staged is.pass (k.held.opened n ∙ is.opened) ∙ ap (λ (m : ℕ). stage_by is.pass.seen.certificate c.stand_in is.pass.stage m c.kind c.last reply) e
+    ∙ ap (λ (kind : Kind). stage_by is.pass.seen.certificate c.stand_in is.pass.stage (length h + 1) kind c.last reply) is.kind
+    ∙ ap (λ (m : ℕ). stage_by is.pass.seen.certificate c.stand_in is.pass.stage (length h + 1) (key_of_call call).kind m reply) is.last
+    ∙ ap (λ (b : Bool). stage_by is.pass.seen.certificate b is.pass.stage (length h + 1) (key_of_call call).kind (last_under (key_of_call call) (writes s h)) reply) is.stand_in in
     let right_is = right_reply s h w call reply k right in
     let after_is : st ≡ state_after (moment s h) (state s h) call reply = after ∙ ap (λ (x : ℤ). state_after x w.state call reply) now_is ∙ ap (λ (x : State). state_after (moment s h) x call reply) k.held.state in
     let log_is : log ≡ (if is_accepted reply then write_of (moment s h) (state s h) (settled call reply) ∷ w.log else w.log) =
@@ -94,7 +104,9 @@ kept_call s h w n call c reply key object stage now version entry fs st log t op
     ∙ ap (λ (x : Option Key). counted (option_map (λ (q : Key). q.kind) x) (role_eq c.role r) (w.standing c.role) (w.standing r)) named
     ∙ ap (λ (x : Role). counted (option_map (λ (q : Key). q.kind) (key_written call reply)) (role_eq x r) (w.standing x) (w.standing r)) is.role
     ∙ counted_called call reply (role_eq is.pass.role r) (w.standing is.pass.role) (w.standing r))
-    (λ m. opened_is m ∙ ap (λ (x : Stage). if m == n then option_map (with_stage x) (w.opened m) else w.opened m) stage_is)
+    (λ m.
+    opened_is m ∙ ap (λ (x : Stage). if m == n then option_map (with_stage x) (w.opened m) else w.opened m) stage_is
+    ∙ own_stage (m == n) m n is.pass (stage_after s h call reply) (w.opened m) refl (λ same. ap w.opened same ∙ k.held.opened n ∙ is.opened))
     (λ r q.
     noted_is r q
     ∙ ap (λ (x : Option Key). noted (option_map (λ (y : Key). y.kind) x) version (role_eq c.role r && key_eq c.key q) (w.past r q)) named

@@ -1,5 +1,5 @@
 -- In a run the moment of a last failure, wherever one stands, lies in the years 1950 to 9999.
-use Rattle.std.proofs.Common.{◌≡◌, ℕ, ℤ, ◌+◌, List, [], ◌∷◌, Option, Some, None, Bool, true, false, refl, subst, inl, inr}
+use Rattle.std.proofs.Common.{◌≡◌, ◌==◌, ℕ, ℤ, ◌+◌, List, [], ◌∷◌, Option, Some, None, Bool, true, false, refl, sym, subst, inl, inr}
 use Rattle.std.specs.Prelude.{if◌then◌else◌, IfSome, codes, option_map, option_and_then}
 use Rattle.cmc_meta.specs.declared.key.Key.{Key}
 use Rattle.cmc_meta.specs.declared.conditions.Condition.{Condition}
@@ -17,9 +17,11 @@ use Rattle.cmc_objects.specs.declared.entry.Who.TheVariants.{User, Pass}
 use Rattle.cmc_objects.specs.declared.entry.Step.{Step}
 use Rattle.cmc_objects.specs.declared.entry.Step.TheVariants as steps
 use Rattle.cmc_objects.specs.declared.entry.Entry.{Entry}
-use Rattle.cmc_objects.specs.declared.entry.Entry.TheVariants.{Script, Call as Called}
+use Rattle.cmc_objects.specs.declared.entry.Entry.TheVariants.{Script, Call as Called, Begin, Ask, Made, Signed, Answered, Judged, End, Stop}
 use Rattle.cmc_objects.specs.Objects.{meta_of, key_of}
 use Rattle.cmc_pass.specs.declared.pass.Views.{Views}
+use Rattle.cmc_pass.specs.declared.value.Value.TheVariants as values
+use Rattle.cmc_policies.specs.Renewal.{IsCertificateTime}
 use Rattle.cmc_model.specs.declared.write.Write.{Write}
 use Rattle.cmc_model.specs.Objects.{Objects, object_at}
 use Rattle.cmc_model.specs.Stored.{created, updated, with_status, generation_after, numbered, revised, restated}
@@ -32,7 +34,7 @@ use Rattle.cmc_rules.specs.declared.effect.Effect.TheVariants as effects
 use Rattle.cmc_rules.specs.declared.progress.OpenPass.{OpenPass}
 use Rattle.cmc_rules.specs.Viewing.{views, present_views}
 use Rattle.cmc_rules.specs.Dates.{IsDatedCertificate, HasDatedFailure, IsDated}
-use Rattle.cmc_rules.specs.Passes.{open_pass}
+use Rattle.cmc_rules.specs.Passes.{open_pass, new_pass, stage_after}
 use Rattle.cmc_rules.specs.Legality.{IsLegal}
 use Rattle.cmc_rules.specs.Causes.{IsCaused, MayCall}
 use Rattle.cmc_rules.specs.Scripting.{step_at}
@@ -43,7 +45,12 @@ use Rattle.cmc_model.proofs.Versions.{standing}
 use Rattle.cmc_model.proofs.Writes.{writes_leave}
 use Rattle.cmc_rules.proofs.Sights.{seen_certificate}
 use Rattle.cmc_rules.proofs.Sighted.{AreKnown, SawKnown, saw_known, views_known, present_known}
-use Rattle.cmc_world.proofs.Rights.{ordinary_write}
+use Rattle.cmc_rules.proofs.Carrying.{over_call, over_ask, over_given, over_begin, over_end, over_stop}
+use Rattle.cmc_rules.proofs.WellSeen.{SawAll, saw_all}
+use Rattle.cmc_world.specs.Kept.{KeepsYears}
+use Rattle.cmc_world.proofs.Moments.{moments_within}
+use Rattle.cmc_world.proofs.OrdinaryCalls.{ordinary_write}
+use Rattle.cmc_world.proofs.Stages.{IsServedPass, served_pass}
 
 -- ---- writes
 
@@ -200,27 +207,52 @@ after_call : (s : Setting) (h : List Entry) (call : Call) (b : Bool)
 after_call s h call true leaves dated = (leaves refl (dated_standing (writes s h) (objects s h) (key_of_call call) dated (writes_leave s h)), dated)
 after_call s h call false leaves dated = dated
 
-by_pass : (s : Setting) (h : List Entry) (p : Option OpenPass) (call : Call) (reply : Reply) → IsLegal s h → IfSome p (SawKnown (writes s h)) → MayCall s h p call
+-- the pass began in the years 1950 to 9999
+abbrev BeganInYears : OpenPass → Type 0
+BeganInYears p = IsCertificateTime p.since
+
+moment_in_years : (s : Setting) (h : List Entry) → KeepsYears s → Follows s h → IsCertificateTime (moment s h)
+moment_in_years s h years follows = let within = moments_within s h follows in years (moment s h) within.0 within.1
+
+began_in_years : (s : Setting) (h : List Entry) (n : ℕ) → KeepsYears s → IsLegal s h → Follows s h → IfSome (open_pass s h n) BeganInYears
+unfolding IsLegal Follows
+began_in_years s [] n years legal follows = tt
+began_in_years s (Called User call reply ∷ h) n years legal follows = began_in_years s h n years legal.1 follows.1
+began_in_years s (Called (Pass pass) call reply ∷ h) n years legal follows =
+    over_call BeganInYears n (Pass pass) (stage_after s h call reply) (open_pass s h n) (λ p began. began) (began_in_years s h n years legal.1 follows.1)
+began_in_years s (Begin pass role key at now ∷ h) n years legal follows =
+    over_begin BeganInYears (n == pass) (new_pass role key (views s h role key) now) (open_pass s h n)
+    (subst IsCertificateTime (sym legal.0.present) (moment_in_years s h years follows.1)) (began_in_years s h n years legal.1 follows.1)
+began_in_years s (Ask pass order ∷ h) n years legal follows = over_ask BeganInYears n pass order (open_pass s h n) (λ p began. began) (began_in_years s h n years legal.1 follows.1)
+began_in_years s (Made pass key ∷ h) n years legal follows = over_given BeganInYears n pass (values.Made key) (open_pass s h n) (λ p began. began) (began_in_years s h n years legal.1 follows.1)
+began_in_years s (Signed pass signature ∷ h) n years legal follows = over_given BeganInYears n pass (values.Signed signature) (open_pass s h n) (λ p began. began) (began_in_years s h n years legal.1 follows.1)
+began_in_years s (Answered pass answer ∷ h) n years legal follows = over_given BeganInYears n pass (values.Answered answer) (open_pass s h n) (λ p began. began) (began_in_years s h n years legal.1 follows.1)
+began_in_years s (Judged pass approved ∷ h) n years legal follows = over_given BeganInYears n pass (values.Judged approved) (open_pass s h n) (λ p began. began) (began_in_years s h n years legal.1 follows.1)
+began_in_years s (End pass cause ∷ h) n years legal follows = over_end BeganInYears (n == pass) (open_pass s h n) (began_in_years s h n years legal.1 follows.1)
+began_in_years s (Stop role ∷ h) n years legal follows = over_stop BeganInYears role (open_pass s h n) (began_in_years s h n years legal.1 follows.1)
+began_in_years s (other ∷ h) n years legal follows = began_in_years s h n years legal.1 follows.1
+
+by_pass : (s : Setting) (h : List Entry) (p : Option OpenPass) (call : Call) (reply : Reply) → IsLegal s h → IfSome p BeganInYears → IfSome p (SawAll (writes s h)) → IfSome p IsServedPass → MayCall s h p call
     → IsReply s.faults (state s h) call reply → is_accepted reply ≡ true → IsDated (object_at (objects s h) (key_of_call (settled call reply)))
     → IsDated (stored (accepted s h + 1) (moment s h) (objects s h) (settled call reply))
-by_pass s h None call reply legal known may right ok dated = absurd may
-by_pass s h (Some p) call reply legal known may right ok dated = (ordinary_write s h p call reply legal known may right ok).dated dated
+by_pass s h None call reply legal began saw served may right ok dated = absurd may
+by_pass s h (Some p) call reply legal began saw served may right ok dated = (ordinary_write s h p call reply legal saw served may right ok).dated began dated
 
 -- each accepted write leaves a dated object
-pub dated_writes : (s : Setting) (h : List Entry) → IsLegal s h → IsCaused s h → Follows s h → AreDated (writes s h)
+pub dated_writes : (s : Setting) (h : List Entry) → KeepsYears s → IsLegal s h → IsCaused s h → Follows s h → AreDated (writes s h)
 unfolding IsLegal IsCaused Follows
-dated_writes s [] legal caused follows = tt
-dated_writes s (Called User call reply ∷ h) legal caused follows =
-    let before = dated_writes s h legal.1 caused.1 follows.1 in
+dated_writes s [] years legal caused follows = tt
+dated_writes s (Called User call reply ∷ h) years legal caused follows =
+    let before = dated_writes s h years legal.1 caused.1 follows.1 in
     after_call s h (settled call reply) (is_accepted reply)
     (λ ok dated. dated_stored (accepted s h + 1) (moment s h) (objects s h) (settled call reply) dated (dated_settled call reply (dated_user s h call before follows.0))) before
-dated_writes s (Called (Pass pass) call reply ∷ h) legal caused follows =
-    after_call s h (settled call reply) (is_accepted reply) (λ ok dated. by_pass s h (open_pass s h pass) call reply legal.1 (saw_known s h pass) caused.0 legal.0.0 ok dated)
-    (dated_writes s h legal.1 caused.1 follows.1)
-dated_writes s (other ∷ h) legal caused follows = dated_writes s h legal.1 caused.1 follows.1
+dated_writes s (Called (Pass pass) call reply ∷ h) years legal caused follows =
+    after_call s h (settled call reply) (is_accepted reply) (λ ok dated. by_pass s h (open_pass s h pass) call reply legal.1 (began_in_years s h pass years legal.1 follows.1) (saw_all s h pass legal.1) (served_pass s h pass legal.1 caused.1) caused.0 legal.0.0 ok dated)
+    (dated_writes s h years legal.1 caused.1 follows.1)
+dated_writes s (other ∷ h) years legal caused follows = dated_writes s h years legal.1 caused.1 follows.1
 
-dated_run : (s : Setting) (h : List Entry) → IsRun s h → AreDated (writes s h)
-dated_run s h run = dated_writes s h run.legal run.caused run.follows
+dated_run : (s : Setting) (h : List Entry) → KeepsYears s → IsRun s h → AreDated (writes s h)
+dated_run s h years run = dated_writes s h years run.legal run.caused run.follows
 
 -- ---- what is seen
 
@@ -234,14 +266,14 @@ dated_seen ws seen dated known =
     dated_part seen.certificate (λ c is. let there = known (Cert c) (seen_certificate seen c is) in dated_version ws there.0 (Cert c) dated there.1)
 
 -- what an open pass saw is dated
-pub dated_passes : (s : Setting) (h : List Entry) (n : ℕ) (p : OpenPass) → IsRun s h → open_pass s h n ≡ Some p → HasDatedFailure p.seen
-dated_passes s h n p run open_here =
-    dated_seen (writes s h) p.seen (dated_run s h run) (subst (λ (q : Option OpenPass). IfSome q (SawKnown (writes s h))) open_here (saw_known s h n))
+pub dated_passes : (s : Setting) (h : List Entry) (n : ℕ) (p : OpenPass) → KeepsYears s → IsRun s h → open_pass s h n ≡ Some p → HasDatedFailure p.seen
+dated_passes s h n p years run open_here =
+    dated_seen (writes s h) p.seen (dated_run s h years run) (subst (λ (q : Option OpenPass). IfSome q (SawKnown (writes s h))) open_here (saw_known s h n))
 
 -- what a role sees is dated
-pub dated_views : (s : Setting) (h : List Entry) → IsRun s h → (role : Role) (key : Key) → HasDatedFailure (views s h role key)
-dated_views s h run role key = dated_seen (writes s h) (views s h role key) (dated_run s h run) (views_known s h role key)
+pub dated_views : (s : Setting) (h : List Entry) → KeepsYears s → IsRun s h → (role : Role) (key : Key) → HasDatedFailure (views s h role key)
+dated_views s h years run role key = dated_seen (writes s h) (views s h role key) (dated_run s h years run) (views_known s h role key)
 
 -- and what there is to see
-pub dated_present : (s : Setting) (h : List Entry) → IsRun s h → (role : Role) (key : Key) → HasDatedFailure (present_views s h role key)
-dated_present s h run role key = dated_seen (writes s h) (present_views s h role key) (dated_run s h run) (present_known s h role key)
+pub dated_present : (s : Setting) (h : List Entry) → KeepsYears s → IsRun s h → (role : Role) (key : Key) → HasDatedFailure (present_views s h role key)
+dated_present s h years run role key = dated_seen (writes s h) (present_views s h role key) (dated_run s h years run) (present_known s h role key)

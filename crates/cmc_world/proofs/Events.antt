@@ -32,6 +32,11 @@ use Rattle.cmc_rules.specs.Following.{owed, IsNextStep, Follows}
 use Rattle.cmc_held.specs.declared.standings.Standing.{Standing}
 use Rattle.cmc_world.specs.Kept.{standing, Holdings, IsHeld, IsKept}
 use Rattle.cmc_world.specs.Changes.{telling, stopping, starting, writing, scripted_standing}
+use Rattle.cmc_held.specs.Dues.{shown_positions}
+use Rattle.cmc_rules.specs.Viewing.{Caches}
+use Rattle.cmc_caches.specs.Told.{caches_at}
+use Rattle.cmc_world.specs.Changes.{each_at}
+use Rattle.cmc_world.proofs.Caching.{IsTelling, caches_called, caches_delivered, caches_listed, caches_started}
 use Rattle.cmc_world.proofs.Standings.{standing_delivered, standing_listed, standing_stopped, standing_started, standing_scripted, standing_called}
 
 -- ---- roles are told
@@ -41,19 +46,22 @@ one_other : (s : Setting) (h : List Entry) (w : Holdings) (f : Standing → Stan
 one_other s h w f role r k =
     ap (λ (t : Standing). if role_eq role r then f t else w.standing r) (k.standing role) ∙ ap (λ (t : Standing). if role_eq role r then f (standing s h role) else t) (k.standing r)
 
-pub kept_delivered : (s : Setting) (h : List Entry) (w : Holdings) (role : Role) (kind : Kind) (to : ℕ) (t : Role → Standing)
+pub kept_delivered : (s : Setting) (h : List Entry) (w : Holdings) (role : Role) (kind : Kind) (to : ℕ) (t : Role → Standing) (c : Role → Caches)
     → IsKept s h w → IsDelivery s h role kind to → held s h role kind ≡ false → length h < s.events
     → ((r : Role) → t r ≡ (if role_eq role r then telling kind to (w.standing role) else w.standing r))
-    → IsKept s (Deliver role kind to ∷ h) (record w { standing = t })
+    → IsTelling w role kind to c
+    → IsKept s (Deliver role kind to ∷ h) (record w { standing = t; caches = c })
 unfolding IsLegal IsCaused Follows
-kept_delivered s h w role kind to t k may free room put = record {
+kept_delivered s h w role kind to t c k may free room put told = record {
   held = record {
     faults = k.held.faults;
+    years = k.held.years;
     state = k.held.state;
     log = k.held.log;
     moment = k.held.moment;
     made = k.held.made;
     standing = λ r. put r ∙ one_other s h w (telling kind to) role r k.held ∙ standing_delivered s h role kind to r;
+    caches = caches_delivered s h w role kind to c k.held may.informed told;
     origins = k.held.origins;
     opened = k.held.opened;
     past = k.held.past;
@@ -67,19 +75,22 @@ kept_delivered s h w role kind to t k may free room put = record {
   settled = refl;
 }
 
-pub kept_listed : (s : Setting) (h : List Entry) (w : Holdings) (role : Role) (kind : Kind) (to : ℕ) (t : Role → Standing)
+pub kept_listed : (s : Setting) (h : List Entry) (w : Holdings) (role : Role) (kind : Kind) (to : ℕ) (t : Role → Standing) (c : Role → Caches)
     → IsKept s h w → IsListing s h role kind to → held s h role kind ≡ false → length h < s.events
     → ((r : Role) → t r ≡ (if role_eq role r then telling kind to (w.standing role) else w.standing r))
-    → IsKept s (Listed role kind to ∷ h) (record w { standing = t })
+    → IsTelling w role kind to c
+    → IsKept s (Listed role kind to ∷ h) (record w { standing = t; caches = c })
 unfolding IsLegal IsCaused Follows
-kept_listed s h w role kind to t k may free room put = record {
+kept_listed s h w role kind to t c k may free room put told = record {
   held = record {
     faults = k.held.faults;
+    years = k.held.years;
     state = k.held.state;
     log = k.held.log;
     moment = k.held.moment;
     made = k.held.made;
     standing = λ r. put r ∙ one_other s h w (telling kind to) role r k.held ∙ standing_listed s h role kind to r;
+    caches = caches_listed s h w role kind to c k.held may.informed told;
     origins = k.held.origins;
     opened = k.held.opened;
     past = k.held.past;
@@ -110,11 +121,13 @@ unfolding IsLegal IsCaused Follows
 kept_begun s h w role key os opened pasts k may due room came put noted = record {
   held = record {
     faults = k.held.faults;
+    years = k.held.years;
     state = k.held.state;
     log = k.held.log;
     moment = k.held.moment;
     made = k.held.made;
     standing = k.held.standing;
+    caches = k.held.caches;
     origins = came ∙ ap (λ (l : List Origin). let o : Origin = record { role = role; incarnation = incarnation s h role } in o ∷ l) k.held.origins;
     opened = λ n. put n ∙ ap (λ (p : Option OpenPass). if n == begun h + 1 then Some (new_pass role key (views s h role key) (moment s h)) else p) (k.held.opened n);
     past = λ r q. noted r q ∙ one_past s h w (role_eq role r && key_eq key q) (with_begin (views s h role key) (moment s h)) r q k.held;
@@ -138,13 +151,14 @@ pub kept_called : (s : Setting) (h : List Entry) (w : Holdings) (n : ℕ) (p : O
     → st ≡ state_after (moment s h) (state s h) call reply
     → log ≡ (if is_accepted reply then write_of (moment s h) (state s h) (settled call reply) ∷ w.log else w.log)
     → ((r : Role) → t r ≡ (if is_accepted reply && role_eq p.role r then writing (key_of_call call).kind (w.standing p.role) else w.standing r))
-    → ((m : ℕ) → opened m ≡ (if m == n then option_map (with_stage (stage_after s h call reply)) (w.opened m) else w.opened m))
+    → ((m : ℕ) → opened m ≡ (if m == n then option_map (λ (q : OpenPass). with_stage (stage_after s h call reply q) q) (w.opened m) else w.opened m))
     → ((r : Role) (k : Key) → pasts r k ≡ (if is_accepted reply && (role_eq p.role r && key_eq p.key k) then with_own (key_of_call call).kind (accepted s h + 1) (w.past r k) else w.past r k))
     → IsKept s (Called (Pass n) call reply ∷ h) (record w { state = st; log = log; standing = t; opened = opened; past = pasts })
 unfolding IsLegal IsCaused Follows
 kept_called s h w n p call reply st log t opened pasts k is right may room after logged counted staged noted = record {
   held = record {
     faults = k.held.faults;
+    years = k.held.years;
     state = after;
     log = logged ∙ ap (λ (l : List Write). if is_accepted reply then write_of (moment s h) (state s h) (settled call reply) ∷ l else l) k.held.log;
     moment = k.held.moment;
@@ -154,8 +168,9 @@ kept_called s h w n p call reply st log t opened pasts k is right may room after
         ∙ ap (λ (x : Standing). if is_accepted reply && role_eq p.role r then writing (key_of_call call).kind x else w.standing r) (k.held.standing p.role)
         ∙ ap (λ (x : Standing). if is_accepted reply && role_eq p.role r then writing (key_of_call call).kind (standing s h p.role) else x) (k.held.standing r)
         ∙ standing_called s h n p call reply r is;
+    caches = λ r. k.held.caches r ∙ caches_called s h (Pass n) call reply r k.held.run.legal;
     origins = k.held.origins;
-    opened = λ m. staged m ∙ ap (λ (o : Option OpenPass). if m == n then option_map (with_stage (stage_after s h call reply)) o else o) (k.held.opened m);
+    opened = λ m. staged m ∙ ap (λ (o : Option OpenPass). if m == n then option_map (λ (q : OpenPass). with_stage (stage_after s h call reply q) q) o else o) (k.held.opened m);
     past = λ r q.
         noted r q
         ∙ one_past s h w (is_accepted reply && (role_eq p.role r && key_eq p.key q)) (with_own (key_of_call call).kind (accepted s h + 1)) r q k.held
@@ -184,11 +199,13 @@ unfolding IsLegal IsCaused Follows
 kept_ended s h w n p cause opened pasts k is may room closed noted = record {
   held = record {
     faults = k.held.faults;
+    years = k.held.years;
     state = k.held.state;
     log = k.held.log;
     moment = k.held.moment;
     made = k.held.made;
     standing = k.held.standing;
+    caches = k.held.caches;
     origins = k.held.origins;
     opened = λ m. closed m ∙ ap (λ (o : Option OpenPass). if m == n then None else o) (k.held.opened m);
     past = λ r q. noted r q ∙ one_past s h w (role_eq p.role r && key_eq p.key q) (with_ending (ending_at p.stage)) r q k.held ∙ past_of_end s h n p r q is;
@@ -212,11 +229,13 @@ pub held_scripted : (s : Setting) (h : List Entry) (w : Holdings) (step : Step) 
 unfolding IsLegal IsCaused Follows
 held_scripted s h w step made t k next is room counted put = record {
   faults = k.held.faults;
+  years = k.held.years;
   state = k.held.state;
   log = k.held.log;
   moment = k.held.moment;
   made = counted ∙ ap (λ n. n + 1) k.held.made;
   standing = λ r. put r ∙ ap (scripted_standing step r) (k.held.standing r) ∙ standing_scripted s h (scripted h + 1) step r is;
+  caches = k.held.caches;
   origins = k.held.origins;
   opened = k.held.opened;
   past = k.held.past;
@@ -238,11 +257,13 @@ unfolding IsLegal IsCaused Follows
 kept_users s h w call reply st log k due right room after logged = record {
   held = record {
     faults = k.faults;
+    years = k.years;
     state = after;
     log = logged ∙ ap (λ (l : List Write). if is_accepted reply then write_of (moment s h) (state s h) (settled call reply) ∷ l else l) k.log;
     moment = k.moment;
     made = k.made;
     standing = λ r. k.standing r ∙ uncounted (is_accepted reply) s h r;
+    caches = λ r. k.caches r ∙ caches_called s h User call reply r k.run.legal;
     origins = k.origins;
     opened = k.opened;
     past = k.past;
@@ -274,11 +295,13 @@ unfolding IsLegal IsCaused Follows
 kept_ticked s h w now k due room = record {
   held = record {
     faults = k.faults;
+    years = k.years;
     state = k.state;
     log = k.log;
     moment = refl;
     made = k.made;
     standing = k.standing;
+    caches = k.caches;
     origins = k.origins;
     opened = k.opened;
     past = k.past;
@@ -297,11 +320,13 @@ unfolding IsLegal IsCaused Follows
 kept_stopped s h w role t opened k due room put closed = record {
   held = record {
     faults = k.faults;
+    years = k.years;
     state = k.state;
     log = k.log;
     moment = k.moment;
     made = k.made;
     standing = λ r. put r ∙ one_other s h w stopping role r k ∙ standing_stopped s h role r;
+    caches = k.caches;
     origins = k.origins;
     opened = λ n. closed n ∙ ap (unless_of role) (k.opened n);
     past = k.past;
@@ -311,20 +336,23 @@ kept_stopped s h w role t opened k due room put closed = record {
 }
 
 -- a start that is owed
-pub kept_started : (s : Setting) (h : List Entry) (w : Holdings) (role : Role) (at : ℕ) (t : Role → Standing) (pasts : Role → Key → Past)
+pub kept_started : (s : Setting) (h : List Entry) (w : Holdings) (role : Role) (at : ℕ) (t : Role → Standing) (c : Role → Caches) (pasts : Role → Key → Past)
     → IsHeld s h w → owed s h ≡ Some (effects.Start role at) → at ≤ accepted s h → length h < s.events
     → ((r : Role) → t r ≡ (if role_eq role r then starting at (w.standing role) else w.standing r))
+    → ((r : Role) → c r ≡ (if role_eq role r then caches_at w.log (shown_positions role (each_at at)) else w.caches r))
     → ((r : Role) (k : Key) → pasts r k ≡ (if role_eq role r then no_past else w.past r k))
-    → IsKept s (Start role at ∷ h) (record w { standing = t; past = pasts })
+    → IsKept s (Start role at ∷ h) (record w { standing = t; caches = c; past = pasts })
 unfolding IsLegal IsCaused Follows
-kept_started s h w role at t pasts k due low room put forgot = record {
+kept_started s h w role at t c pasts k due low room put told forgot = record {
   held = record {
     faults = k.faults;
+    years = k.years;
     state = k.state;
     log = k.log;
     moment = k.moment;
     made = k.made;
     standing = λ r. put r ∙ one_other s h w (starting at) role r k ∙ standing_started s h role at r;
+    caches = caches_started s h w role at c k told;
     origins = k.origins;
     opened = k.opened;
     past = λ r q. forgot r q ∙ ap (λ (p : Past). if role_eq role r then no_past else p) (k.past r q);

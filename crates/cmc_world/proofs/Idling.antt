@@ -3,9 +3,10 @@ use Rattle.std.proofs.Common.{◌≡◌, ℕ, ℤ, List, Option, Some, None, Boo
 use Rattle.std.proofs.lemmas.Result.{IfOk-weaker}
 use Rattle.std.proofs.Common.{arith}
 use Rattle.std.proofs.lemmas.Bool.Decides.{nat_tests}
-use Rattle.std.specs.Prelude.{◌↔◌, ◌⊎◌, not, nat_lt, if◌then◌else◌, IsTrue, IfOk, MatchBool, Result, is_some}
+use Rattle.std.specs.Prelude.{◌↔◌, ◌⊎◌, ◌||◌, not, nat_lt, if◌then◌else◌, IsTrue, IfOk, MatchBool, Result, is_some}
 use Rattle.std.specs.declared.alloc.AllocError.{AllocError}
 use Rattle.cmc_meta.specs.declared.key.Key.{Key}
+use Rattle.cmc_meta.specs.declared.key.Kind.TheVariants as kinds
 use Rattle.cmc_objects.specs.declared.role.Role.{Role}
 use Rattle.cmc_objects.specs.declared.entry.Entry.{Entry}
 use Rattle.cmc_objects.specs.declared.entry.Positions.{Positions}
@@ -13,56 +14,35 @@ use Rattle.cmc_pass.specs.declared.pass.Act.TheVariants.{Nothing}
 use Rattle.cmc_pass.specs.declared.pass.Desk.{Desk}
 use Rattle.cmc_pass.specs.declared.pass.Views.{Views}
 use Rattle.cmc_rules.specs.declared.progress.Past.{Past}
-use Rattle.cmc_model.specs.declared.write.Write.{Write}
 use Rattle.cmc_rules.specs.Acts.{act}
 use Rattle.cmc_rules.specs.Desks.{desk}
 use Rattle.cmc_model.specs.Histories.{Setting, moment}
 use Rattle.cmc_rules.specs.Memory.{past, no_past}
 use Rattle.cmc_rules.specs.Sameness.{IsDue, IsSame}
 use Rattle.cmc_rules.specs.Positions.{positions}
-use Rattle.cmc_model.specs.Replies.{State}
 use Rattle.cmc_rules.specs.Resting.{IsIdle, IsPaused, RestsOn}
-use Rattle.cmc_rules.specs.Scripting.{has_held}
+use Rattle.cmc_rules.specs.Scripting.{has_held, held}
 use Rattle.cmc_rules.specs.Dates.{HasDatedFailure}
-use Rattle.cmc_rules.specs.Viewing.{views_in, views, present_views}
-use Rattle.cmc_model.specs.Writes.{writes}
-use Rattle.cmc_held.proofs.Told.{views-told}
+use Rattle.cmc_rules.specs.Viewing.{views, present_views}
 use Rattle.cmc_held.specs.declared.standings.Standing.{Standing}
 use Rattle.cmc_held.specs.Dues.{shown_positions}
 use Rattle.cmc_rules.specs.Sameness.{own_above}
-use Rattle.cmc_held.specs.Sight.{caches_at}
 use Rattle.cmc_world.specs.Kept.{Holdings, IsKept}
-use Rattle.cmc_world.proofs.Dated.{dated_views, dated_present}
+use Rattle.cmc_rules.specs.Legality.{IsLegal}
+use Rattle.cmc_world.specs.Rest.{EachKind, IsToldAll}
+use Rattle.cmc_world.proofs.Newest.{IsToldOfAll, views_newest}
+use Rattle.cmc_world.proofs.Dated.{dated_views}
 
 -- ---- what is seen
 
--- what the store keeps is what there is to see
-pub seen_present : (s : Setting) (h : List Entry) (role : Role) (key : Key) (w : Holdings) (seen : Views) → IsKept s h w
-    → seen ≡ views_in role (record { certificates = w.state.objects; requests = w.state.objects; secrets = w.state.objects }) key → seen ≡ present_views s h role key
-seen_present s h role key w seen k is =
-    is ∙ ap (λ (st : State). views_in role (record { certificates = st.objects; requests = st.objects; secrets = st.objects }) key) k.held.state
-
--- and its last failure is dated
-pub present_is_dated : (s : Setting) (h : List Entry) (role : Role) (key : Key) (w : Holdings) (seen : Views) → IsKept s h w
-    → seen ≡ views_in role (record { certificates = w.state.objects; requests = w.state.objects; secrets = w.state.objects }) key → HasDatedFailure seen
-present_is_dated s h role key w seen k is = subst HasDatedFailure (sym (seen_present s h role key w seen k is)) (dated_present s h k.held.run role key)
+-- the last failure of what a role sees is dated
+pub told_is_dated : (s : Setting) (h : List Entry) (role : Role) (key : Key) (w : Holdings) (seen : Views) → IsKept s h w → seen ≡ views s h role key → HasDatedFailure seen
+told_is_dated s h role key w seen k is = subst HasDatedFailure (sym is) (dated_views s h k.held.years k.held.run role key)
 
 -- the positions that are kept, shown to the role, are its own
 pub shown_at : (s : Setting) (h : List Entry) (role : Role) (w : Holdings) (at : Positions) → IsKept s h w
     → at ≡ shown_positions role (w.standing role).told → at ≡ positions h role
 shown_at s h role w at k is = is ∙ ap (λ (t : Standing). shown_positions role t.told) (k.held.standing role)
-
--- what the log leaves at these positions is what the role sees
-pub seen_told : (s : Setting) (h : List Entry) (role : Role) (key : Key) (w : Holdings) (at : Positions) (seen : Views) → IsKept s h w
-    → at ≡ shown_positions role (w.standing role).told → seen ≡ views_in role (caches_at w.log at) key → seen ≡ views s h role key
-seen_told s h role key w at seen k shown is =
-    is ∙ ap (λ (ws : List Write). views_in role (caches_at ws at) key) k.held.log
-    ∙ ap (λ (p : Positions). views_in role (caches_at (writes s h) p) key) (shown_at s h role w at k shown) ∙ views-told s h role key
-
--- and its last failure is dated
-pub told_is_dated : (s : Setting) (h : List Entry) (role : Role) (key : Key) (w : Holdings) (at : Positions) (seen : Views) → IsKept s h w
-    → at ≡ shown_positions role (w.standing role).told → seen ≡ views_in role (caches_at w.log at) key → HasDatedFailure seen
-told_is_dated s h role key w at seen k shown is = subst HasDatedFailure (sym (seen_told s h role key w at seen k shown is)) (dated_views s h k.held.run role key)
 
 -- ---- nothing to do
 
@@ -71,14 +51,6 @@ pub idle_by : (s : Setting) (h : List Entry) (role : Role) (seen : Views) (now :
     → IfOk r (λ b. (d : Desk) → (IsTrue b ↔ (act role seen now d ≡ Nothing))) → IfOk r (λ b. IsTrue b ↔ IsIdle s h role seen)
 idle_by s h role seen now r is found =
     IfOk-weaker r _ _ (λ b each. subst (λ (m : ℤ). IsTrue b ↔ (act role seen m (desk s h role seen) ≡ Nothing)) is (each (desk s h role seen))) found
-
--- the same where what there is to see is looked at
-pub served_by : (s : Setting) (h : List Entry) (role : Role) (key : Key) (w : Holdings) (seen : Views) (now : ℤ) (r : Result Bool AllocError) → IsKept s h w
-    → now ≡ w.moment → seen ≡ views_in role (record { certificates = w.state.objects; requests = w.state.objects; secrets = w.state.objects }) key
-    → IfOk r (λ b. (d : Desk) → (IsTrue b ↔ (act role seen now d ≡ Nothing))) → IfOk r (λ b. IsTrue b ↔ IsIdle s h role (present_views s h role key))
-served_by s h role key w seen now r k at is found =
-    subst (λ (v : Views). IfOk r (λ b. IsTrue b ↔ IsIdle s h role v)) (seen_present s h role key w seen k is)
-    (idle_by s h role seen now r (at ∙ k.held.moment) found)
 
 -- ---- or no pass may begin
 
@@ -113,10 +85,9 @@ none_told (Some v) off = absurd (cc)
 
 -- and what these say of a role on a key
 pub paused_by : (s : Setting) (h : List Entry) (role : Role) (key : Key) (w : Holdings) (p : Past) (seen : Views) (now : ℤ) (at : Positions) (r : Result Bool AllocError) → IsKept s h w
-    → p ≡ w.past role key → now ≡ w.moment → at ≡ shown_positions role (w.standing role).told → seen ≡ views_in role (caches_at w.log at) key
+    → p ≡ w.past role key → now ≡ w.moment → at ≡ shown_positions role (w.standing role).told → seen ≡ views s h role key
     → IfOk r (λ b. (d : Desk) → (IsTrue b ↔ ((act role seen now d ≡ Nothing) ⊎ (IsDue p seen now at → ⊥)))) → IfOk r (λ b. IsTrue b ↔ IsPaused s h role key)
-paused_by s h role key w p seen now at r k own time shown is found =
-    let sees : seen ≡ views s h role key = seen_told s h role key w at seen k shown is in
+paused_by s h role key w p seen now at r k own time shown sees found =
     let when : now ≡ moment s h = time ∙ k.held.moment in
     let told : at ≡ positions h role = shown_at s h role w at k shown in
     let did : p ≡ past s h role key = own ∙ k.held.past role key in
@@ -133,3 +104,21 @@ pub rests_on_by : (s : Setting) (h : List Entry) (role : Role) (key : Key) (back
     → IfOk r (λ b. IsTrue b ↔ MatchBool back (IsPaused s h role key) (IsIdle s h role (present_views s h role key))) → IfOk r (λ b. IsTrue b ↔ RestsOn s h role key)
 rests_on_by s h role key back r is found =
     subst (λ (q : Bool). IfOk r (λ b. IsTrue b ↔ MatchBool q (IsPaused s h role key) (IsIdle s h role (present_views s h role key)))) (sym is) found
+
+unheld : (a b c : Bool) → (a || (b || c)) ≡ false → (a ≡ false) × (b ≡ false) × (c ≡ false)
+unheld true b c none = absurd (cc none)
+unheld false true c none = absurd (cc none)
+unheld false false c none = (refl, refl, none)
+
+-- a role of which no informer is held, and that was told of all else, was told of all
+told_of_all : (s : Setting) (h : List Entry) (role : Role) → has_held s h role ≡ false → EachKind (IsToldAll s h role) → IsToldOfAll s h role
+told_of_all s h role none told kinds.Certificate is = told.0 is (unheld (held s h role kinds.Certificate) (held s h role kinds.CertificateRequest) (held s h role kinds.Secret) none).0
+told_of_all s h role none told kinds.CertificateRequest is = told.1 is (unheld (held s h role kinds.Certificate) (held s h role kinds.CertificateRequest) (held s h role kinds.Secret) none).1
+told_of_all s h role none told kinds.Secret is = told.2 is (unheld (held s h role kinds.Certificate) (held s h role kinds.CertificateRequest) (held s h role kinds.Secret) none).2
+
+-- so it rests where it has nothing to do by what it sees, since that is what there is to see
+pub rests_when_told : (s : Setting) (h : List Entry) (role : Role) (key : Key) (seen : Views) (r : Result Bool AllocError) → IsLegal s h → has_held s h role ≡ false → EachKind (IsToldAll s h role)
+    → seen ≡ views s h role key → IfOk r (λ b. IsTrue b ↔ IsIdle s h role seen) → IfOk r (λ b. IsTrue b ↔ RestsOn s h role key)
+rests_when_told s h role key seen r legal none told sees found =
+    let present : seen ≡ present_views s h role key = sees ∙ views_newest s h role key legal (told_of_all s h role none told) in
+    rests_on_by s h role key false r none (subst (λ (v : Views). IfOk r (λ b. IsTrue b ↔ IsIdle s h role v)) present found)

@@ -16,7 +16,7 @@ use Rattle.cmc_rules.specs.declared.progress.Past.{Past}
 use Rattle.cmc_model.specs.Histories.{Setting, moment, accepted}
 use Rattle.cmc_model.specs.Writes.{writes, write_at, last_of_kind, is_known}
 use Rattle.cmc_rules.specs.Positions.{has_informer, kind_of_work, position, positions, position_of}
-use Rattle.cmc_rules.specs.Viewing.{views, views_in}
+use Rattle.cmc_rules.specs.Viewing.{Caches, views, views_in}
 use Rattle.cmc_rules.specs.Passes.{open_pass, is_pass_of}
 use Rattle.cmc_rules.specs.Memory.{past}
 use Rattle.cmc_rules.specs.Sameness.{IsSame}
@@ -26,8 +26,7 @@ use Rattle.cmc_held.specs.declared.standings.Standing.{Standing}
 use Rattle.cmc_held.specs.Standing.{flag_of}
 use Rattle.cmc_held.specs.Dues.{shown_positions}
 use Rattle.cmc_rules.specs.Sameness.{own_above}
-use Rattle.cmc_held.specs.Sight.{caches_at}
-use Rattle.cmc_held.proofs.Told.{views-told}
+use Rattle.cmc_caches.proofs.Shown.{views-told}
 use Rattle.cmc_model.proofs.Writes.{writes_count}
 use Rattle.cmc_world.specs.declared.moves.Stepped.{Stepped}
 use Rattle.cmc_world.specs.declared.moves.Stepped.TheVariants.{Done}
@@ -133,12 +132,9 @@ delivered_list s h role kind to newest b r off n =
 pub newest_is : (s : Setting) (h : List Entry) (w : Holdings) (n : ℕ) → IsKept s h w → n ≡ length w.log → n ≡ accepted s h
 newest_is s h w n k e = e ∙ ap length k.held.log ∙ writes_count s h
 
--- what a role sees by what a world holds
-pub saw : (s : Setting) (h : List Entry) (w : Holdings) (role : Role) (key : Key) (t : Standing) (at : Positions) (seen : Views) → IsKept s h w → t ≡ w.standing role → at ≡ shown_positions role t.told
-    → seen ≡ views_in role (caches_at w.log at) key → seen ≡ views s h role key
-saw s h w role key t at seen k stood shown e =
-    let at_is : at ≡ positions h role = shown ∙ ap (λ (x : Standing). shown_positions role x.told) (stood ∙ k.held.standing role) in
-    e ∙ ap (λ (ws : List Write). views_in role (caches_at ws at) key) k.held.log ∙ ap (λ (p : Positions). views_in role (caches_at (writes s h) p) key) at_is ∙ views-told s h role key
+-- what a role sees in what a world says that it was told of
+pub saw : (s : Setting) (h : List Entry) (w : Holdings) (role : Role) (key : Key) (seen : Views) → IsKept s h w → seen ≡ views_in role (w.caches role) key → seen ≡ views s h role key
+saw s h w role key seen k is = is ∙ ap (λ (c : Caches). views_in role c key) (k.held.caches role) ∙ views-told s h role key
 
 pub shown_is : (s : Setting) (h : List Entry) (w : Holdings) (role : Role) (t : Standing) (at : Positions) → IsKept s h w → t ≡ w.standing role → at ≡ shown_positions role t.told → at ≡ positions h role
 shown_is s h w role t at k stood shown = shown ∙ ap (λ (x : Standing). shown_positions role x.told) (stood ∙ k.held.standing role)

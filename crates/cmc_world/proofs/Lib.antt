@@ -3,11 +3,13 @@ pub mod Standings
 pub mod Stages
 pub mod Origins
 pub mod Dated
+pub mod OrdinaryCalls
 pub mod Rights
 pub mod Moments
 pub mod Found
 pub mod Sounds
 pub mod Rest
+pub mod Caching
 pub mod Events
 pub mod Judging
 pub mod Starting
@@ -16,6 +18,8 @@ pub mod Calls
 pub mod Doing
 pub mod Begins
 pub mod Stepping
+pub mod OneKind
+pub mod Newest
 pub mod Idling
 pub mod Waiting
 pub mod Leading

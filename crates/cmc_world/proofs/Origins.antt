@@ -4,7 +4,8 @@ use Rattle.std.proofs.lemmas.Bool.Decides.{nat_tests}
 use Rattle.std.specs.Prelude.{if◌then◌else◌, IfSome}
 use Rattle.cmc_objects.specs.declared.role.Role.{Role}
 use Rattle.cmc_objects.specs.declared.entry.Entry.{Entry}
-use Rattle.cmc_objects.specs.declared.entry.Entry.TheVariants.{Call as Called, Begin, End, Stop}
+use Rattle.cmc_objects.specs.declared.entry.Entry.TheVariants.{Call as Called, Begin, Ask, Made, Signed, Answered, Judged, End, Stop}
+use Rattle.cmc_pass.specs.declared.value.Value.TheVariants as values
 use Rattle.cmc_rules.specs.declared.progress.OpenPass.{OpenPass}
 use Rattle.cmc_rules.specs.declared.progress.Origin.{Origin}
 use Rattle.cmc_model.specs.Histories.{Setting, incarnation}
@@ -12,7 +13,7 @@ use Rattle.cmc_rules.specs.Viewing.{views}
 use Rattle.cmc_rules.specs.Passes.{open_pass, begun, new_pass, stage_after}
 use Rattle.cmc_rules.specs.Origins.{origins, origin_at}
 use Rattle.cmc_rules.specs.Legality.{IsLegal}
-use Rattle.cmc_rules.proofs.Carrying.{over_call, over_end, over_stop}
+use Rattle.cmc_rules.proofs.Carrying.{over_call, over_ask, over_given, over_end, over_stop}
 
 -- ---- one origin for each pass
 
@@ -84,6 +85,11 @@ has_origin s (Called who call reply ∷ h) n legal = over_call (HasOrigin n (ori
 has_origin s (Begin pass role key at now ∷ h) n legal =
     origin_begun n pass (record { role = role; incarnation = incarnation s h role }) (origins s h) (n == pass) (new_pass role key (views s h role key) now) (open_pass s h n) refl
     (omega (arith, origins_count s h, legal.0.numbered)) refl (has_origin s h n legal.1)
+has_origin s (Ask pass order ∷ h) n legal = over_ask (HasOrigin n (origins s h)) n pass order (open_pass s h n) (λ p has. has) (has_origin s h n legal.1)
+has_origin s (Made pass key ∷ h) n legal = over_given (HasOrigin n (origins s h)) n pass (values.Made key) (open_pass s h n) (λ p has. has) (has_origin s h n legal.1)
+has_origin s (Signed pass signature ∷ h) n legal = over_given (HasOrigin n (origins s h)) n pass (values.Signed signature) (open_pass s h n) (λ p has. has) (has_origin s h n legal.1)
+has_origin s (Answered pass answer ∷ h) n legal = over_given (HasOrigin n (origins s h)) n pass (values.Answered answer) (open_pass s h n) (λ p has. has) (has_origin s h n legal.1)
+has_origin s (Judged pass approved ∷ h) n legal = over_given (HasOrigin n (origins s h)) n pass (values.Judged approved) (open_pass s h n) (λ p has. has) (has_origin s h n legal.1)
 has_origin s (End pass cause ∷ h) n legal = over_end (HasOrigin n (origins s h)) (n == pass) (open_pass s h n) (has_origin s h n legal.1)
 has_origin s (Stop role ∷ h) n legal = over_stop (HasOrigin n (origins s h)) role (open_pass s h n) (has_origin s h n legal.1)
 has_origin s (other ∷ h) n legal = has_origin s h n legal.1

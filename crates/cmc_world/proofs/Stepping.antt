@@ -26,13 +26,17 @@ use Rattle.cmc_rules.specs.Passes.{unless_of}
 use Rattle.cmc_rules.specs.Memory.{no_past}
 use Rattle.cmc_rules.specs.Scripting.{scripted, step_at}
 use Rattle.cmc_rules.specs.Following.{call_of, call_or, effect_of, owed, IsNextStep, Follows}
+use Rattle.cmc_model.proofs.Writes.{writes_count}
 use Rattle.cmc_rules.proofs.Positions.{calls_short}
 use Rattle.cmc_setup.specs.Setups.{Setup, IsSetup}
 use Rattle.cmc_store.specs.Kept.{Kept}
 use Rattle.cmc_held.specs.declared.standings.Standing.{Standing}
 use Rattle.cmc_world.specs.declared.moves.Stepped.TheVariants.{Done}
 use Rattle.cmc_world.specs.Answers.{AnswersScript, entries_of, next_effect}
-use Rattle.cmc_world.specs.Changes.{stopping, starting, scripted_standing}
+use Rattle.cmc_held.specs.Dues.{shown_positions}
+use Rattle.cmc_rules.specs.Viewing.{Caches}
+use Rattle.cmc_caches.specs.Told.{caches_at}
+use Rattle.cmc_world.specs.Changes.{each_at, stopping, starting, scripted_standing}
 use Rattle.cmc_world.specs.Kept.{setting_of, Holdings, IsHeld, IsKept}
 use Rattle.cmc_world.specs.Noting.{logged}
 use Rattle.cmc_world.specs.Scripted.{effect_in, standing_after}
@@ -173,17 +177,26 @@ low_start s h (steps.Until other kind writes) role at has = absurd (cc has)
 low_start s h steps.Settle role at has = absurd (cc has)
 low_start s h other role at has = absurd (no_start (call_of (moment s h) (objects s h) other) role at has)
 
+-- what a start tells of was written
+pub start_low : (s : Setting) (h : List Entry) (w : Holdings) (role : Role) (at : ℕ) → IsKept s h w → AnswersScript s h Done → next_effect s h ≡ Some (effects.Start role at) → at ≤ length w.log
+start_low s h w role at kept may due =
+    let next = next_is s h (step_at s.script (scripted h + 1)) (Some (effects.Start role at)) refl (may_step s h may).left due in
+    let low : at ≤ accepted s h = low_start s h next.0 role at next.1.has in
+    let count : length w.log ≡ accepted s h = ap length kept.held.log ∙ writes_count s h in
+    omega (arith, low, count)
+
 -- a start
-pub start_kept : (s : Setting) (h k : List Entry) (w : Holdings) (made : ℕ) (role : Role) (at : ℕ) (t : Role → Standing) (pasts : Role → Key → Past)
+pub start_kept : (s : Setting) (h k : List Entry) (w : Holdings) (made : ℕ) (role : Role) (at : ℕ) (t : Role → Standing) (c : Role → Caches) (pasts : Role → Key → Past)
     → IsKept s h w → AnswersScript s h Done → next_effect s h ≡ Some (effects.Start role at) → made ≡ w.made + 1
     → ((r : Role) → t r ≡ (if role_eq role r then starting at (w.standing role) else w.standing r))
+    → ((r : Role) → c r ≡ (if role_eq role r then caches_at w.log (shown_positions role (each_at at)) else w.caches r))
     → ((r : Role) (key : Key) → pasts r key ≡ (if role_eq role r then no_past else w.past r key))
-    → k ≡ Start role at ∷ Script made ∷ h → IsKept s k (record w { made = made; standing = t; past = pasts })
-start_kept s h k w made role at t pasts kept may due counted put forgot grown =
+    → k ≡ Start role at ∷ Script made ∷ h → IsKept s k (record w { made = made; standing = t; caches = c; past = pasts })
+start_kept s h k w made role at t c pasts kept may due counted put told forgot grown =
     let stepped = step_made s h w made (effects.Start role at) kept may due counted in
     let next = next_is s h (step_at s.script (scripted h + 1)) (Some (effects.Start role at)) refl (may_step s h may).left due in
-    subst (λ l. IsKept s l (record w { made = made; standing = t; past = pasts })) (sym (numbered s h k w made (Start role at) kept.held counted grown))
-    (kept_started s (Script (scripted h + 1) ∷ h) (record w { made = made }) role at t pasts stepped.0 due (low_start s h next.0 role at next.1.has) (omega (arith, stepped.1)) put forgot)
+    subst (λ l. IsKept s l (record w { made = made; standing = t; caches = c; past = pasts })) (sym (numbered s h k w made (Start role at) kept.held counted grown))
+    (kept_started s (Script (scripted h + 1) ∷ h) (record w { made = made }) role at t c pasts stepped.0 due (low_start s h next.0 role at next.1.has) (omega (arith, stepped.1)) put told forgot)
 
 logged_kept : (s : Setting) (h : List Entry) (w : Holdings) (call : Call) (reply : Reply) (now : ℤ) (log grown : List Write) (key : Option Key) (object : Option Object)
     → IsHeld s h w → now ≡ w.moment → log ≡ w.log → key ≡ key_written call reply → object ≡ object_written now w.state call reply → grown ≡ logged key object log

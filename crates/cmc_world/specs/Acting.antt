@@ -1,16 +1,18 @@
 -- What a pass does next.
 use Rattle.std.specs.Prelude.{◌≡◌, ℕ, List, ◌∷◌, Option, Some, None}
 use Rattle.cmc_objects.specs.declared.call.Call.{Call}
+use Rattle.cmc_objects.specs.declared.orders.Order.{Order}
+use Rattle.cmc_pass.specs.declared.value.Value.{Value}
 use Rattle.cmc_objects.specs.declared.entry.Entry.{Entry}
 use Rattle.cmc_pass.specs.declared.pass.Act.{Act}
 use Rattle.cmc_pass.specs.declared.pass.Act.TheVariants.{Nothing, Call as Calls}
 use Rattle.cmc_rules.specs.declared.progress.Stage.{Stage}
-use Rattle.cmc_rules.specs.declared.progress.Stage.TheVariants.{Fresh, Wrote, Refused, Barred}
+use Rattle.cmc_rules.specs.declared.progress.Stage.TheVariants.{Fresh, Wrote, Refused}
 use Rattle.cmc_rules.specs.declared.progress.OpenPass.{OpenPass}
 use Rattle.cmc_model.specs.Replies.{key_of_call}
 use Rattle.cmc_model.specs.Histories.{Setting}
 use Rattle.cmc_model.specs.Writes.{writes, last_under}
-use Rattle.cmc_rules.specs.Passes.{open_pass}
+use Rattle.cmc_rules.specs.Passes.{open_pass, writes_stand_in}
 use Rattle.cmc_rules.specs.Memory.{ending_at}
 use Rattle.cmc_rules.specs.Causes.{IsNextCall, EndsBy, MayCall, MayEnd}
 use Rattle.cmc_world.specs.Answers.{IsCalled, IsOfPass}
@@ -26,17 +28,17 @@ abbrev pub act_by : Option Call → Act
 act_by None = Nothing
 act_by (Some call) = Calls call
 
--- no rule has barred the pass
+-- a pass of a role that neither asks nor issues, and that no rule has barred
 abbrev pub IsServed : Stage → Type 0
 IsServed Fresh = Unit {0}
 IsServed Wrote = Unit {0}
 IsServed (Refused entry obstacle) = Unit {0}
-IsServed Barred = ⊥
+IsServed other = ⊥
 
--- what comes next of a pass that has come so far, with this act
-abbrev pub IsDoingBy : Stage → Act → Doing → Type 0
-IsDoingBy stage does (Makes call) = IsNextCall stage does call
-IsDoingBy stage does (Ends cause) = EndsBy stage does cause
+-- what comes next of a pass that has come so far, with this act, and with the calls that follow its questions
+abbrev pub IsDoingBy : Stage → Act → (Order → Value → Option Call) → Doing → Type 0
+IsDoingBy stage does after (Makes call) = IsNextCall stage does after call
+IsDoingBy stage does after (Ends cause) = EndsBy stage does cause
 
 -- what comes next of the pass of this number
 abbrev pub IsDoing : Setting → List Entry → ℕ → Doing → Type 0
@@ -53,6 +55,7 @@ pub record IsCalling (s : Setting) (h : List Entry) (n : ℕ) (call : Call) (c :
   pub key : c.key ≡ pass.key
   pub kind : c.kind ≡ (key_of_call call).kind
   pub last : c.last ≡ last_under (key_of_call call) (writes s h)
+  pub stand_in : c.stand_in ≡ writes_stand_in call
 
 -- the pass, with how it ends
 pub record IsClosing (s : Setting) (h : List Entry) (n : ℕ) (c : Closing) : Type 0 where

@@ -2,6 +2,7 @@
 use Rattle.std.specs.Prelude.{ℕ, ◌+◌, Bool, true, false, if◌then◌else◌}
 use Rattle.cmc_meta.specs.declared.key.Kind.{Kind}
 use Rattle.cmc_objects.specs.declared.role.Role.{Role}
+use Rattle.cmc_objects.specs.declared.entry.Positions.{Positions}
 use Rattle.cmc_objects.specs.declared.entry.Step.{Step}
 use Rattle.cmc_objects.specs.declared.entry.Step.TheVariants as steps
 use Rattle.cmc_model.specs.Histories.{role_eq}
@@ -18,9 +19,13 @@ telling kind to t = record t { told = with_position kind to t.told }
 abbrev pub stopping : Standing → Standing
 stopping t = record t { running = false }
 
+-- the same position for each kind
+abbrev pub each_at : ℕ → Positions
+each_at at = record { certificates = at; requests = at; secrets = at }
+
 -- a role starts, told of the first so many writes
 abbrev pub starting : ℕ → Standing → Standing
-starting at t = record t { running = true; incarnation = t.incarnation + 1; told = record { certificates = at; requests = at; secrets = at } }
+starting at t = record t { running = true; incarnation = t.incarnation + 1; told = each_at at }
 
 -- deliveries of a kind are held back from a role, or no longer
 abbrev pub keeping : Kind → Bool → Standing → Standing

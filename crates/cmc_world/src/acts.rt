@@ -35,6 +35,7 @@ fn plain_call(does: Act) -> Option<Call>
         Act::Call(call) => Some(call),
         Act::Ask(_) => unreachable!(),
         Act::Issue(_) => unreachable!(),
+        Act::Temporary(_) => unreachable!(),
     }
 }
 

@@ -15,7 +15,7 @@ ghost use Rattle.cmc_world.specs.declared.moves.Stepped.TheVariants as answers;
 
 use crate::moves::{Stepped, answer_begin};
 use crate::world::{World, has_room};
-use cmc_held::{Log, is_same, kind_of_work, own_above, shown_positions, views_at};
+use cmc_held::{Log, is_same, kind_of_work, own_above, shown_positions};
 use cmc_meta::Key;
 use cmc_objects::{Entry, Positions, Role};
 use cmc_pass::Views;
@@ -88,7 +88,7 @@ impl World {
     {
         let standing = self.standings.get(role);
         let at = shown_positions(role, standing.told);
-        let seen = views_at(alloc, &self.log, role, at, key)?;
+        let seen = self.views(alloc, role, key)?;
         let working = self.passes.is_on(role, key);
         let past = self.pasts.get(role, key);
         let own = own_write(past, at);
@@ -105,7 +105,7 @@ impl World {
         self.is_short();
         let standing = self.standings.get(role);
         let at = shown_positions(role, standing.told);
-        let seen = views_at(alloc, &self.log, role, at, &key)?;
+        let seen = self.views(alloc, role, &key)?;
         let pass = opened(role, key.copy()?, seen.copy()?, self.moment);
         Ok(Prepared {
             number: self.origins.len() + 1,

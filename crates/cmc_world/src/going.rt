@@ -1,7 +1,7 @@
 //! Passes go on: they make their call, and end.
 ghost use Rattle.std.specs.Prelude.{◌≡◌, ◌↔◌, ◌+◌, ◌<◌, ◌≤◌, ◌∷◌, IsTrue, IfOk, OnOk, OnErr, None, Some, true, length};
 ghost use Rattle.cmc_pass.specs.declared.pass.Desk.{Desk};
-ghost use Rattle.cmc_rules.specs.Acts.{act};
+ghost use Rattle.cmc_rules.specs.Acts.{act, call_after};
 ghost use Rattle.cmc_rules.specs.Causes.{MayCall, MayEnd};
 ghost use Rattle.cmc_rules.specs.Legality.{IsOpen};
 ghost use Rattle.cmc_rules.specs.Passes as spec;
@@ -16,7 +16,7 @@ ghost use Rattle.cmc_world.specs.declared.moves.Stepped.TheVariants as answers;
 
 use crate::acts::act_of;
 use crate::moves::{Stepped, answer_next};
-use crate::noting::{kind_written, log_write, note_write, stage_by};
+use crate::noting::{kind_written, log_write, note_write, stage_of, writes_stand_in};
 use crate::world::{World, has_room};
 use cmc_meta::{Key, Kind};
 use cmc_objects::{Call, Cause, Entry, Role, Who};
@@ -38,6 +38,7 @@ pub(crate) struct Calling {
     pub key: Key,
     pub kind: Kind,
     pub last: u64,
+    pub stand_in: bool,
 }
 
 impl Drop for Calling {
@@ -47,6 +48,7 @@ impl Drop for Calling {
             key: _key,
             kind: _kind,
             last: _last,
+            stand_in: _stand_in,
         } = self;
     }
 }
@@ -71,7 +73,7 @@ impl Drop for Closing {
 /// What a pass that has just begun does.
 fn first_doing(alloc: Global, role: Role, seen: &Views, since: i64) -> Result<Doing, AllocError>
     requires { HasDatedFailure seen.now }
-    ensures { IfOk result (λ d. (desk : Desk) → IsDoingBy Stage.Fresh (act role seen.now since desk) d) }
+    ensures { IfOk result (λ d. (desk : Desk) → IsDoingBy Stage.Fresh (act role seen.now since desk) (call_after role seen.now since) d) }
 {
     match act_of(alloc, role, seen, since)? {
         None => Ok(Doing::End(Cause::Nothing)),
@@ -82,24 +84,26 @@ fn first_doing(alloc: Global, role: Role, seen: &Views, since: i64) -> Result<Do
 fn doing_of(alloc: Global, pass: &OpenPass) -> Result<Doing, AllocError>
     requires dated { HasDatedFailure pass.now.seen }
     requires served { IsServed pass.now.stage }
-    ensures { IfOk result (λ d. (desk : Desk) → IsDoingBy pass.now.stage (act pass.now.role pass.now.seen pass.now.since desk) d) }
+    ensures { IfOk result (λ d. (desk : Desk) → IsDoingBy pass.now.stage (act pass.now.role pass.now.seen pass.now.since desk) (call_after pass.now.role pass.now.seen pass.now.since) d) }
 {
-    match pass.stage {
+    match &pass.stage {
         Stage::Fresh => first_doing(alloc, pass.role, &pass.seen, pass.since),
         Stage::Wrote => Ok(Doing::End(Cause::Wrote)),
-        Stage::Refused { entry, .. } => Ok(Doing::End(Cause::Stopper(entry))),
-        Stage::Barred => unreachable!(),
+        Stage::Refused { entry, .. } => Ok(Doing::End(Cause::Stopper(*entry))),
+        _ => unreachable!(),
     }
 }
 
-fn ending_at(stage: Stage) -> Ending
-    ensures { result ≡ memory.ending_at stage }
+fn ending_at(stage: &Stage) -> Ending
+    ensures { result ≡ memory.ending_at stage.now }
 {
     match stage {
         Stage::Fresh => Ending::Nothing,
         Stage::Wrote => Ending::Wrote,
-        Stage::Refused { obstacle, .. } => Ending::Refused { obstacle },
-        Stage::Barred => Ending::Open,
+        Stage::Refused { obstacle, .. } => Ending::Refused {
+            obstacle: *obstacle,
+        },
+        _ => Ending::Open,
     }
 }
 
@@ -173,6 +177,7 @@ impl World {
                 key: open.key.copy()?,
                 kind: written.kind,
                 last,
+                stand_in: writes_stand_in(call),
             }),
             None => unreachable!(),
         }
@@ -192,7 +197,15 @@ impl World {
         self.pasts.ready(calling.role, &calling.key)?;
         let replied = self.store.call(alloc, self.moment, &call)?;
         let entry = self.history.len() + 1;
-        let stage = stage_by(entry, calling.kind, calling.last, &replied.reply);
+        let stage = stage_of(
+            &self.passes,
+            pass,
+            calling.stand_in,
+            entry,
+            calling.kind,
+            calling.last,
+            &replied.reply,
+        );
         let version = self.log.accepted() + 1;
         let written = kind_written(&replied.key);
         note_write(
@@ -222,7 +235,7 @@ impl World {
             Some(open) => Ok(Closing {
                 role: open.role,
                 key: open.key.copy()?,
-                ending: ending_at(open.stage),
+                ending: ending_at(&open.stage),
             }),
             None => unreachable!(),
         }

@@ -1,32 +1,101 @@
 //! What a call leaves in the log, in how roles stand and in what they remember.
-ghost use Rattle.std.specs.Prelude.{◌≡◌, ◌&&◌, ◌<◌, option_map, true};
+ghost use Rattle.std.specs.Prelude.{◌≡◌, ◌&&◌, ◌<◌, Some, option_map, true};
 ghost use Rattle.cmc_meta.specs.declared.key.Key.{Key as KeyValue};
 ghost use Rattle.cmc_meta.specs.Keys.{key_eq};
 ghost use Rattle.cmc_objects.specs.declared.role.Role.{Role as RoleValue};
 ghost use Rattle.cmc_model.specs.Histories.{role_eq};
 ghost use Rattle.cmc_rules.specs.declared.progress.Obstacle.TheVariants as obstacles;
 ghost use Rattle.cmc_rules.specs.declared.progress.Stage.TheVariants as stages;
+ghost use Rattle.cmc_rules.specs.declared.progress.OpenPass.{OpenPass as OpenPassValue};
 ghost use Rattle.cmc_rules.specs.Passes as spec;
+ghost use Rattle.cmc_held.specs.Open.{pass_at};
 ghost use Rattle.cmc_held.specs.Remembered.{is_ready, past_at};
 ghost use Rattle.cmc_held.specs.Standing.{standing_of};
 ghost use Rattle.cmc_world.specs.Changes.{writing};
 ghost use Rattle.cmc_world.specs.Noting.{CanCount, counted, logged, noted};
 
-use cmc_held::{Log, Pasts, Standing, Standings, with_written, written_of};
+use cmc_held::{Log, Passes, Pasts, Standing, Standings, with_written, written_of};
+use cmc_match::is_temporary;
 use cmc_meta::{Key, Kind};
 use cmc_model::Write;
-use cmc_objects::{Object, Reply, Role};
-use cmc_rules::{Obstacle, Stage};
+use cmc_objects::{Call, Certificate, Object, Reply, Role};
+use cmc_rules::{Obstacle, OpenPass, Stage};
 
-/// How far a pass has come whose call of an object of the kind was answered so in the entry of this
-/// number. `last` is the version of the last write under the key of the call.
-pub(crate) fn stage_by(entry: u64, kind: Kind, last: u64, reply: &Reply) -> Stage
-    ensures { result ≡ spec.stage_by entry kind last reply.now }
+fn is_stand_in(object: &Object) -> bool
+    ensures { result ≡ spec.is_stand_in object.now }
+{
+    match object {
+        Object::Secret(secret) => is_temporary(secret),
+        _ => false,
+    }
+}
+
+/// Whether the call writes a Secret that is marked as temporary.
+pub(crate) fn writes_stand_in(call: &Call) -> bool
+    ensures { result ≡ spec.writes_stand_in call.now }
+{
+    match call {
+        Call::Create {
+            object,
+            generate: _,
+        } => is_stand_in(object),
+        Call::Update { object, .. } => is_stand_in(object),
+        _ => false,
+    }
+}
+
+fn is_as_seen(certificate: &Option<Certificate>, object: &Object) -> bool
+    ensures { result ≡ spec.is_as_seen certificate.now object.now }
+{
+    match certificate {
+        Some(certificate) => object.meta().version == certificate.meta.version,
+        None => false,
+    }
+}
+
+fn stage_written(stand_in: bool, stage: &Stage) -> Stage
+    ensures { result ≡ spec.stage_written stand_in stage.now }
+{
+    match stage {
+        Stage::Read => {
+            if stand_in {
+                Stage::Wrote
+            } else {
+                Stage::Saved
+            }
+        }
+        _ => Stage::Wrote,
+    }
+}
+
+fn stage_read(as_seen: bool, entry: u64, kind: Kind, version: u64) -> Stage
+    ensures { result ≡ spec.stage_read as_seen entry kind version }
+{
+    if as_seen {
+        return Stage::Read;
+    }
+    newer(entry, kind, version)
+}
+
+fn stage_by(
+    current: &OpenPass,
+    stand_in: bool,
+    entry: u64,
+    kind: Kind,
+    last: u64,
+    reply: &Reply,
+) -> Stage
+    ensures { result ≡ spec.stage_by current.now.seen.certificate stand_in current.now.stage entry kind last reply.now }
 {
     match reply {
-        Reply::Ok { .. } => Stage::Wrote,
-        Reply::Unchanged { .. } => Stage::Wrote,
-        Reply::Found { object } => newer(entry, kind, object.meta().version),
+        Reply::Ok { .. } => stage_written(stand_in, &current.stage),
+        Reply::Unchanged { .. } => stage_written(stand_in, &current.stage),
+        Reply::Found { object } => stage_read(
+            is_as_seen(&current.seen.certificate, object),
+            entry,
+            kind,
+            object.meta().version,
+        ),
         Reply::Conflict { have, .. } => newer(entry, kind, *have),
         Reply::NotFound { .. } => newer(entry, kind, last),
         Reply::AlreadyExists { have } => newer(entry, kind, *have),
@@ -35,6 +104,25 @@ pub(crate) fn stage_by(entry: u64, kind: Kind, last: u64, reply: &Reply) -> Stag
             entry,
             obstacle: Obstacle::Failure,
         },
+    }
+}
+
+/// How far the open pass of this number has come whose call of an object of the kind was answered so in the entry of
+/// this number. `last` is the version of the last write under the key of the call.
+pub(crate) fn stage_of(
+    passes: &Passes,
+    pass: u64,
+    stand_in: bool,
+    entry: u64,
+    kind: Kind,
+    last: u64,
+    reply: &Reply,
+) -> Stage
+    ensures { (p : OpenPassValue) → pass_at passes.now pass ≡ Some p → result ≡ spec.stage_by p.seen.certificate stand_in p.stage entry kind last reply.now }
+{
+    match passes.get(pass) {
+        Some(open) => stage_by(open, stand_in, entry, kind, last, reply),
+        None => Stage::Barred,
     }
 }
 

@@ -7,6 +7,7 @@ ghost use Rattle.cmc_rules.specs.Passes.{open_pass};
 ghost use Rattle.cmc_rules.specs.Memory.{past};
 ghost use Rattle.cmc_rules.specs.Sameness.{IsDue};
 ghost use Rattle.cmc_rules.specs.Positions.{positions};
+ghost use Rattle.cmc_rules.specs.Viewing.{views};
 ghost use Rattle.cmc_model.specs.Writes.{writes};
 ghost use Rattle.cmc_held.specs.Open.{pass_at};
 ghost use Rattle.cmc_held.specs.Remembered.{past_or_new};
@@ -73,6 +74,17 @@ impl World {
         ensures { result ≡ positions self.now.history role }
     {
         shown_positions(role, self.standings.get(role).told)
+    }
+
+    /// What the role sees of the key, by what it was told of.
+    ///
+    /// # Errors
+    ///
+    /// Want of memory alone.
+    pub fn views(&self, alloc: Global, role: Role, key: &Key) -> Result<Views, AllocError>
+        ensures { IfOk result (λ seen. seen ≡ views (setting_of self.now.scenario) self.now.history role key.now) }
+    {
+        self.caches.views(alloc, role, key)
     }
 
     /// Whether the role runs.

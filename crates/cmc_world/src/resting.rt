@@ -15,7 +15,7 @@ ghost use Rattle.cmc_rules.specs.Resting as spec;
 ghost use Rattle.cmc_rules.specs.Runs.{IsFinished};
 ghost use Rattle.cmc_rules.specs.Scripting as scripting;
 ghost use Rattle.cmc_rules.specs.Dates.{HasDatedFailure};
-ghost use Rattle.cmc_rules.specs.Viewing.{present_views};
+ghost use Rattle.cmc_rules.specs.Viewing.{views};
 ghost use Rattle.cmc_model.specs.Writes.{writes};
 ghost use Rattle.cmc_held.specs.Remembered.{past_or_new};
 ghost use Rattle.cmc_world.specs.Answers.{AnswersScript, entries_of};
@@ -27,8 +27,7 @@ use crate::moves::{Lack, Stepped, answer_script};
 use crate::user_writes::request_for;
 use crate::world::{World, has_room};
 use cmc_held::{
-    Standing, has_informer, is_held, is_same, own_above, present, shown_positions, told_of,
-    views_at, written_of,
+    Standing, has_informer, is_held, is_same, own_above, shown_positions, told_of, written_of,
 };
 use cmc_meta::{Key, Kind};
 use cmc_model::Write;
@@ -133,13 +132,14 @@ fn entries_needed(store: &Store, step: &Step) -> u64
     }
 }
 
-/// Whether the role rests on the key of each of these writes.
+/// Whether the role, which was told of all that is not held from it, rests on the key of each of these writes.
 fn rests_on_each(
     world: &World,
     alloc: Global,
     role: Role,
     writes: &[Write],
 ) -> Result<bool, AllocError>
+    requires { EachKind (IsToldAll (setting_of world.now.scenario) world.now.history role) }
     ensures { IfOk result (λ b. IsTrue b ↔ All (λ (w : WriteValue). spec.RestsOn (setting_of world.now.scenario) world.now.history role w.key) writes.now) }
 {
     for write in writes {
@@ -175,25 +175,23 @@ impl World {
         has_nothing(alloc, role, seen, self.moment)
     }
 
-    /// Whether the role would have nothing to do on the key if it were told of all.
-    fn is_idle_on(&self, alloc: Global, role: Role, key: &Key) -> Result<bool, AllocError>
-        ensures { IfOk result (λ b. IsTrue b ↔ spec.IsIdle (setting_of self.now.scenario) self.now.history role (present_views (setting_of self.now.scenario) self.now.history role key.now)) }
-    {
-        let seen = present(alloc, self.store.shelf(), role, key)?;
-        has_nothing(alloc, role, &seen, self.moment)
-    }
-
-    /// Whether the role has nothing to do on the key by what it was told, or may not begin.
-    fn is_paused_on(&self, alloc: Global, role: Role, key: &Key) -> Result<bool, AllocError>
+    /// Whether the role, which sees this of the key, has nothing to do there, or may not begin.
+    fn is_paused_on(
+        &self,
+        alloc: Global,
+        role: Role,
+        key: &Key,
+        seen: &Views,
+    ) -> Result<bool, AllocError>
+        requires { seen.now ≡ views (setting_of self.now.scenario) self.now.history role key.now }
         ensures { IfOk result (λ b. IsTrue b ↔ spec.IsPaused (setting_of self.now.scenario) self.now.history role key.now) }
     {
         let at = shown_positions(role, self.standings.get(role).told);
-        let seen = views_at(alloc, &self.log, role, at, key)?;
         is_paused(
             alloc,
             role,
             self.pasts.get(role, key),
-            &seen,
+            seen,
             self.moment,
             at,
         )
@@ -206,18 +204,21 @@ impl World {
         has_held(self.standings.get(role))
     }
 
-    /// Whether the role has nothing to do on the key.
+    /// Whether the role, which was told of all that is not held from it, has nothing to do on the key.
     ///
     /// # Errors
     ///
     /// Want of memory alone.
     pub(crate) fn rests_on(&self, alloc: Global, role: Role, key: &Key) -> Result<bool, AllocError>
+        requires { EachKind (IsToldAll (setting_of self.now.scenario) self.now.history role) }
         ensures { IfOk result (λ b. IsTrue b ↔ spec.RestsOn (setting_of self.now.scenario) self.now.history role key.now) }
     {
+        let seen = self.views(alloc, role, key)?;
         if self.has_held_informer(role) {
-            return self.is_paused_on(alloc, role, key);
+            return self.is_paused_on(alloc, role, key, &seen);
         }
-        self.is_idle_on(alloc, role, key)
+        self.is_run();
+        self.is_idle(alloc, role, &seen)
     }
 
     /// Whether the role was told of the last write of the kind, if it looks at the kind and its
@@ -246,8 +247,10 @@ impl World {
         self.standings.get(role).running
     }
 
-    /// Whether the role has nothing to do on any key that an accepted write named.
+    /// Whether the role, which was told of all that is not held from it, has nothing to do on any key that an
+    /// accepted write named.
     fn rests_on_known(&self, alloc: Global, role: Role) -> Result<bool, AllocError>
+        requires { EachKind (IsToldAll (setting_of self.now.scenario) self.now.history role) }
         ensures { IfOk result (λ b. IsTrue b ↔ All (λ (w : WriteValue). spec.RestsOn (setting_of self.now.scenario) self.now.history role w.key) (writes (setting_of self.now.scenario) self.now.history)) }
     {
         rests_on_each(self, alloc, role, self.log.as_slice())

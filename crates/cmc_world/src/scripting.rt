@@ -1,7 +1,7 @@
 //! The next step of the script is made, with what it has happen.
 ghost use Rattle.std.specs.List.{All, list_all};
 ghost use Rattle.std.specs.Option.{option_copied};
-ghost use Rattle.std.specs.Prelude.{◌≡◌, ◌+◌, ◌-◌, ◌<◌, ◌≤◌, ◌^◌, ◌∷◌, ◌+ℤ◌, pos, IfOk, OnOk, OnErr, None, Some, slice_get, true, if◌then◌else◌};
+ghost use Rattle.std.specs.Prelude.{◌≡◌, ◌+◌, ◌-◌, ◌<◌, ◌≤◌, ◌^◌, ◌∷◌, ◌+ℤ◌, pos, IfOk, OnOk, OnErr, None, Some, length, slice_get, true, if◌then◌else◌};
 ghost use Rattle.cmc_objects.specs.declared.call.Reply.{Reply as ReplyValue};
 ghost use Rattle.cmc_objects.specs.declared.entry.Who.TheVariants as who;
 ghost use Rattle.cmc_objects.specs.declared.role.Role.{Role as RoleValue};
@@ -12,12 +12,14 @@ ghost use Rattle.cmc_rules.specs.Following.{apply_call, call_of};
 ghost use Rattle.cmc_model.specs.Histories.{role_eq};
 ghost use Rattle.cmc_model.specs.Objects.{object_at};
 ghost use Rattle.cmc_rules.specs.Scripting.{scripted};
+ghost use Rattle.cmc_caches.specs.Told.{caches_at};
+ghost use Rattle.cmc_held.specs.Dues.{shown_positions};
 ghost use Rattle.cmc_held.specs.Standing.{standing_of};
 ghost use Rattle.cmc_setup.specs.Forms.{is_step_form};
 ghost use Rattle.cmc_setup.specs.Setups.{IsSetup, IsTickForm, seconds_of};
 ghost use Rattle.cmc_world.specs.Acting.{MadeCall};
 ghost use Rattle.cmc_world.specs.Answers as spec;
-ghost use Rattle.cmc_world.specs.Changes.{keeping, scripted_standing, starting, stopping};
+ghost use Rattle.cmc_world.specs.Changes.{each_at, keeping, scripted_standing, starting, stopping};
 ghost use Rattle.cmc_world.specs.Kept.{setting_of};
 ghost use Rattle.cmc_world.specs.Scripted.{effect_in, standing_after};
 ghost use Rattle.cmc_rules.specs.Following.{effect_besides, effect_on};
@@ -28,7 +30,8 @@ use crate::moves::Stepped;
 use crate::noting::log_write;
 use crate::user_writes::{answer, approve, deny, renew, request_for};
 use crate::world::World;
-use cmc_held::{Standing, Standings, with_held};
+use cmc_caches::RoleCaches;
+use cmc_held::{Log, Standing, Standings, shown_positions, with_held};
 use cmc_meta::Kind;
 use cmc_objects::{Call, Entry, Object, Positions, Role, Step, Who};
 use cmc_rules::Effect;
@@ -222,6 +225,27 @@ fn note_stop(standings: &mut Standings, role: Role)
     );
 }
 
+/// The same position for each kind.
+fn all_at(at: u64) -> Positions
+    ensures { result ≡ each_at at }
+{
+    Positions {
+        certificates: at,
+        requests: at,
+        secrets: at,
+    }
+}
+
+/// What a role that starts is told of: what stood after the first `at` writes, of each kind that it looks at.
+/// An `Err` is want of memory.
+fn list_at(alloc: Global, log: &Log, role: Role, at: u64) -> Result<RoleCaches, AllocError>
+    requires { at ≤ length log.now.writes }
+    ensures { IfOk result (λ caches. caches ≡ caches_at log.now.writes (shown_positions role (each_at at))) }
+{
+    let told = shown_positions(role, all_at(at));
+    RoleCaches::list(alloc, log.as_slice(), told)
+}
+
 fn started(standing: Standing, at: u64) -> Standing
     requires { standing.incarnation < 2 ^ 64 - 1 }
     ensures { result ≡ starting at standing }
@@ -229,11 +253,7 @@ fn started(standing: Standing, at: u64) -> Standing
     Standing {
         running: true,
         incarnation: standing.incarnation + 1,
-        told: Positions {
-            certificates: at,
-            requests: at,
-            secrets: at,
-        },
+        told: all_at(at),
         ..standing
     }
 }
@@ -338,7 +358,7 @@ impl World {
     }
 
     /// Makes a step that starts the role, told of the first `at` accepted writes: it remembers nothing.
-    fn make_start(&mut self, role: Role, at: u64) -> Result<(), AllocError>
+    fn make_start(&mut self, alloc: Global, role: Role, at: u64) -> Result<(), AllocError>
         requires may { spec.AnswersScript (setting_of self.old.scenario) self.old.history answers.Done }
         requires setup { IsSetup self.old.scenario }
         requires effect { spec.next_effect (setting_of self.old.scenario) self.old.history ≡ Some (effects.Start role at) }
@@ -346,6 +366,8 @@ impl World {
         ensures err { OnErr result (self.new ≡ self.old) }
     {
         self.history.reserve(2)?;
+        let caches = list_at(alloc, &self.log, role, at)?;
+        self.caches.set(role, caches);
         self.pasts.start(role);
         note_start(&mut self.standings, role, at);
         self.made += 1;
@@ -370,7 +392,7 @@ impl World {
             Some(Effect::Call(call)) => self.make_call(alloc, call),
             Some(Effect::Tick { now }) => self.make_tick(now),
             Some(Effect::Stop { role }) => self.make_stop(role),
-            Some(Effect::Start { role, at }) => self.make_start(role, at),
+            Some(Effect::Start { role, at }) => self.make_start(alloc, role, at),
         }
     }
 

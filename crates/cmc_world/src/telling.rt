@@ -15,7 +15,7 @@ use crate::world::{World, has_room};
 use cmc_held::{Log, has_informer, is_held, told_of, with_told};
 use cmc_meta::Kind;
 use cmc_objects::{Entry, Role};
-use std::alloc::AllocError;
+use std::alloc::{AllocError, Global};
 
 fn is_news(log: &Log, position: u64, to: u64, kind: Kind) -> bool
     ensures { IsTrue result ↔ ((position < to) × IsOfKind kind (write_at to log.now.writes)) }
@@ -64,7 +64,7 @@ impl World {
         reaches(self.log.accepted(), position, self.scenario.window())
     }
 
-    fn deliver(&mut self, role: Role, kind: Kind, to: u64) -> Result<(), AllocError>
+    fn deliver(&mut self, alloc: Global, role: Role, kind: Kind, to: u64) -> Result<(), AllocError>
         requires may { IsDelivery (setting_of self.old.scenario) self.old.history role kind to }
         requires free { spec.held (setting_of self.old.scenario) self.old.history role kind ≡ false }
         requires room { length self.old.history < self.old.scenario.events }
@@ -73,12 +73,15 @@ impl World {
     {
         self.history.reserve(1)?;
         let standing = self.standings.get(role);
+        let from = told_of(standing, kind);
+        self.caches
+            .tell(alloc, role, self.log.as_slice(), kind, from, to)?;
         self.standings.set(role, with_told(standing, kind, to));
         self.history.push(Entry::Deliver { role, kind, to });
         Ok(())
     }
 
-    fn list(&mut self, role: Role, kind: Kind, to: u64) -> Result<(), AllocError>
+    fn list(&mut self, alloc: Global, role: Role, kind: Kind, to: u64) -> Result<(), AllocError>
         requires may { IsListing (setting_of self.old.scenario) self.old.history role kind to }
         requires free { spec.held (setting_of self.old.scenario) self.old.history role kind ≡ false }
         requires room { length self.old.history < self.old.scenario.events }
@@ -87,26 +90,30 @@ impl World {
     {
         self.history.reserve(1)?;
         let standing = self.standings.get(role);
+        let from = told_of(standing, kind);
+        self.caches
+            .tell(alloc, role, self.log.as_slice(), kind, from, to)?;
         self.standings.set(role, with_told(standing, kind, to));
         self.history.push(Entry::List { role, kind, to });
         Ok(())
     }
 
     /// Tells the role so far, or lists what stands where the watch no longer reaches back.
-    fn tell(&mut self, role: Role, kind: Kind, to: u64) -> Result<(), AllocError>
+    fn tell(&mut self, alloc: Global, role: Role, kind: Kind, to: u64) -> Result<(), AllocError>
         requires { AnswersDelivery (setting_of self.old.scenario) self.old.history role kind to answers.Done }
         ensures ok { OnOk result (self.new ≡ record { scenario = self.old.scenario; history = delivered (setting_of self.old.scenario) self.old.history role kind to ∷ self.old.history }) }
         ensures err { OnErr result (self.new ≡ self.old) }
     {
         if self.reaches_back(role, kind) {
-            return self.deliver(role, kind, to);
+            return self.deliver(alloc, role, kind, to);
         }
         let newest = self.log.accepted();
-        self.list(role, kind, newest)
+        self.list(alloc, role, kind, newest)
     }
 
     pub(crate) fn step_deliver(
         &mut self,
+        alloc: Global,
         role: Role,
         kind: Kind,
         to: u64,
@@ -120,7 +127,7 @@ impl World {
         if !answer.is_done() {
             return Ok(answer);
         }
-        self.tell(role, kind, to)?;
+        self.tell(alloc, role, kind, to)?;
         Ok(Stepped::Done)
     }
 }

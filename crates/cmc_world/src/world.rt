@@ -12,6 +12,7 @@ ghost use Rattle.cmc_world.specs.Leading.{Lead, Extends};
 ghost use Rattle.cmc_world.specs.declared.moves.Move.{Move as MoveValue};
 
 use crate::moves::{Move, Stepped};
+use cmc_caches::Caches;
 use cmc_held::{Log, Origins, Passes, Pasts, Standings};
 use cmc_history::History;
 use cmc_meta::{Key, Numbers};
@@ -33,12 +34,14 @@ pub struct World {
     pub(crate) moment: i64,
     pub(crate) made: u64,
     pub(crate) standings: Standings,
+    pub(crate) caches: Caches,
     pub(crate) origins: Origins,
     pub(crate) passes: Passes,
     pub(crate) pasts: Pasts,
 }
 
 impl Model for World {
+    ghost use Rattle.cmc_caches.specs.Told.{caches_of};
     ghost use Rattle.cmc_held.specs.Open.{pass_at};
     ghost use Rattle.cmc_held.specs.Remembered.{past_at};
     ghost use Rattle.cmc_held.specs.Standing.{standing_of};
@@ -48,7 +51,7 @@ impl Model for World {
 
     ghost view = { λ w. record { scenario = w.scenario; history = w.history.entries } };
 
-    ghost invariant = { λ w. IsKept (setting_of w.scenario) w.history.entries (record { faults = w.store.faults; state = w.store.state; log = w.log.writes; moment = w.moment; made = w.made; standing = λ role. standing_of w.standings role; origins = w.origins.origins; opened = λ n. pass_at w.passes n; past = λ role key. past_at w.pasts role key }) };
+    ghost invariant = { λ w. IsKept (setting_of w.scenario) w.history.entries (record { faults = w.store.faults; state = w.store.state; log = w.log.writes; moment = w.moment; made = w.made; standing = λ role. standing_of w.standings role; caches = λ role. caches_of w.caches role; origins = w.origins.origins; opened = λ n. pass_at w.passes n; past = λ role key. past_at w.pasts role key }) };
 }
 
 impl Drop for World {
@@ -61,6 +64,7 @@ impl Drop for World {
             moment: _moment,
             made: _made,
             standings: _standings,
+            caches: _caches,
             origins: _origins,
             passes: _passes,
             pasts: _pasts,
@@ -101,7 +105,9 @@ impl World {
         let faults = numbers_of(alloc, scenario.faults())?;
         let standings = Standings::new(alloc, scenario.roles())?;
         let pasts = Pasts::new(alloc)?;
+        let caches = Caches::new(alloc)?;
         let moment = scenario.now();
+        let _events = scenario.events();
         Ok(World {
             scenario,
             store: Store::new(alloc, faults),
@@ -110,6 +116,7 @@ impl World {
             moment,
             made: 0,
             standings,
+            caches,
             origins: Origins::new(alloc),
             passes: Passes::new(alloc),
             pasts,
@@ -171,7 +178,7 @@ impl World {
     {
         match step {
             Move::Script => self.step_script(alloc),
-            Move::Deliver { role, kind, to } => self.step_deliver(role, kind, to),
+            Move::Deliver { role, kind, to } => self.step_deliver(alloc, role, kind, to),
             Move::Begin { role, key } => self.step_begin(alloc, role, key),
             Move::Next { pass, incarnation } => self.step_next(alloc, pass, incarnation),
         }

@@ -1,6 +1,6 @@
 use Rattle.std.proofs.Common.{◌≡◌, map, take}
 use Rattle.cmc_report.specs.Trees.{waiting_tree}
-use Rattle.cmc_codec.specs.Trees.{items_in}
+use Rattle.cmc_print.specs.Trees.{items_in}
 use Rattle.cmc_report.proofs.summaries.waiting_list.Given as goal
 
 abbrev pub invariant-loop-item : goal.invariant-loop-item

@@ -39,7 +39,7 @@ note_write-requires-clause-room c = counts_fit _ _ _ c.in_ok-calling.calling.rol
 pub invariant_of-self-2 : goal.invariant_of-self-2
 invariant_of-self-2 c =
     rw (c.push.ensures.entries, c.in_ok-reserve.ensures.same)
-    (kept_call _ _ _ c.args.pass c.args.call c.in_ok-calling.calling c.in_ok-replied.replied.reply c.in_ok-replied.replied.key c.in_ok-replied.replied.object c.stage_by-stage.result (to_z w64 (of_z w64 c.self.inside.moment)) (c.accepted-version.result + 1) (c.len-entry.result + 1)
+    (kept_call _ _ _ c.args.pass c.args.call c.in_ok-calling.calling c.in_ok-replied.replied.reply c.in_ok-replied.replied.key c.in_ok-replied.replied.object c.stage_of-stage.result (to_z w64 (of_z w64 c.self.inside.moment)) (c.accepted-version.result + 1) (c.len-entry.result + 1)
     c.call.new.self.faults c.call.new.self.state c.log_write.new.log.writes (λ r. standing_of c.note_write.new.standings r) (λ n. pass_at c.advance.new.self n) (λ r k. past_at c.note_write.new.pasts r k)
     c.self.invariant
     (subst (λ (v : Seen). IsCalling (setting_of v.scenario) v.history c.args.pass c.args.call c.in_ok-calling.calling) (sym c.self.view_is) c.in_ok-calling.ensures)
@@ -52,7 +52,7 @@ invariant_of-self-2 c =
     c.in_ok-replied.ensures.key
     c.in_ok-replied.ensures.object
     (ap (λ (n : ℕ). n + 1) (c.len-entry.ensures ∙ ap (λ (l : List Entry). length l) c.in_ok-reserve.ensures.same))
-    c.stage_by-stage.ensures
+    c.stage_of-stage.ensures
     (ap (λ (n : ℕ). n + 1) (c.accepted-version.ensures ∙ ap (λ (l : List Write). length l) c.in_ok-reserve-2.ensures.same))
     (c.log_write.ensures ∙ ap (λ (l : List Write). logged c.in_ok-replied.replied.key c.in_ok-replied.replied.object l) c.in_ok-reserve-2.ensures.same)
     (λ r. c.note_write.ensures.counted r ∙ ap (λ (x : Option Kind). counted x (role_eq c.in_ok-calling.calling.role r) (standing_of c.self.inside.standings c.in_ok-calling.calling.role) (standing_of c.self.inside.standings r)) c.kind_written-written.ensures)

@@ -1,10 +1,11 @@
-use Rattle.std.proofs.Common.{subst, rules, w64, to_z, of_z}
+use Rattle.std.proofs.Common.{◌≡◌, sym, subst, rules, w64, to_z, of_z}
 use Rattle.std.proofs.lemmas.Int.{to_z-of_z}
 use Rattle.std.specs.Option.{option_copied}
+use Rattle.cmc_rules.specs.Viewing.{views}
 use Rattle.cmc_held.specs.Remembered.{past_or_new}
 use Rattle.cmc_world.specs.Kept.{Seen, setting_of}
 use Rattle.cmc_world.specs.Answers.{AnswersBegin}
-use Rattle.cmc_world.proofs.Judging.{judged_begin, saw}
+use Rattle.cmc_world.proofs.Judging.{judged_begin}
 use Rattle.cmc_world.proofs.world.World.judge_begin.Goals as goal
 
 pub returns : goal.returns
@@ -12,5 +13,5 @@ returns c =
     subst (λ (v : Seen). AnswersBegin (setting_of v.scenario) v.history c.args.role c.args.key.now c.answer_begin.result) c.self.view_is
     (judged_begin _ _ _ c.args.role c.args.key.now c.get-standing.result c.shown_positions-at.result c.in_ok-seen.seen (past_or_new (option_copied c.get-past.result)) (to_z w64 (of_z w64 c.self.inside.moment)) c.own_write-own.result c.len-entries.result c.events.result c.is_on-working.result c.is_again-same.result c.is_queued-queued.result c.has_room-room.result c.answer_begin.result
     c.self.invariant c.get-standing.ensures c.shown_positions-at.ensures
-    (saw _ _ _ c.args.role c.args.key.now c.get-standing.result c.shown_positions-at.result c.in_ok-seen.seen c.self.invariant c.get-standing.ensures c.shown_positions-at.ensures c.in_ok-seen.ensures)
+    (subst (λ (v : Seen). c.in_ok-seen.seen ≡ views (setting_of v.scenario) v.history c.args.role c.args.key.now) (sym c.self.view_is) c.in_ok-seen.ensures)
     c.get-past.ensures (to_z-of_z w64 c.self.inside.moment (search rules)) c.is_on-working.ensures.some c.own_write-own.ensures c.is_again-same.ensures c.is_queued-queued.ensures c.len-entries.ensures c.events.ensures.value c.has_room-room.ensures c.answer_begin.ensures)

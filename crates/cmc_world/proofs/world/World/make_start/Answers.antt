@@ -8,13 +8,23 @@ use Rattle.cmc_held.specs.Standing.{standing_of}
 use Rattle.cmc_world.specs.declared.moves.Stepped.TheVariants as answers
 use Rattle.cmc_world.specs.Answers as spec
 use Rattle.cmc_world.specs.Kept.{Seen, setting_of}
-use Rattle.cmc_world.proofs.Stepping.{incarnation_fits, start_kept}
+use Rattle.std.specs.Prelude.{if◌then◌else◌}
+use Rattle.cmc_model.specs.Histories.{role_eq}
+use Rattle.cmc_rules.specs.Viewing.{Caches}
+use Rattle.cmc_caches.specs.Told.{caches_of}
+use Rattle.cmc_world.proofs.Stepping.{incarnation_fits, start_kept, start_low}
 use Rattle.cmc_world.proofs.world.World.make_start.Goals as goal
 
 pub note_start-requires : goal.note_start-requires
 note_start-requires c =
     let setup = subst (λ (v : Seen). IsSetup v.scenario) (sym c.self.view_is) c.requires.setup in
     incarnation_fits c.self.inside.scenario c.self.inside.history.entries _ c.args.role setup c.self.invariant
+
+pub list_at-requires : goal.list_at-requires
+list_at-requires c =
+    let may = subst (λ (v : Seen). spec.AnswersScript (setting_of v.scenario) v.history answers.Done) (sym c.self.view_is) c.requires.may in
+    let due = subst (λ (v : Seen). spec.next_effect (setting_of v.scenario) v.history ≡ Some (effects.Start c.args.role c.args.at)) (sym c.self.view_is) c.requires.effect in
+    start_low _ _ _ c.args.role c.args.at c.self.invariant may due
 
 pub invariant_of-self-2 : goal.invariant_of-self-2
 invariant_of-self-2 c =
@@ -23,6 +33,8 @@ invariant_of-self-2 c =
     let made = c.self.inside.made + 1 in
     let may = subst (λ (v : Seen). spec.AnswersScript (setting_of v.scenario) v.history answers.Done) (sym c.self.view_is) c.requires.may in
     let due = subst (λ (v : Seen). spec.next_effect (setting_of v.scenario) v.history ≡ Some (effects.Start c.args.role c.args.at)) (sym c.self.view_is) c.requires.effect in
-    start_kept (setting_of u) h c.push-2.new.self.entries _ made c.args.role c.args.at (λ r. standing_of c.note_start.new.standings r) (λ r key. past_at c.start.new.self r key) c.self.invariant may due refl
-    c.note_start.ensures c.start.ensures
+    start_kept (setting_of u) h c.push-2.new.self.entries _ made c.args.role c.args.at (λ r. standing_of c.note_start.new.standings r) (λ r. caches_of c.set.new.self r) (λ r key. past_at c.start.new.self r key) c.self.invariant may due refl
+    c.note_start.ensures
+    (λ r. c.set.ensures r ∙ ap (λ (x : Caches). if role_eq c.args.role r then x else caches_of c.self.inside.caches r) c.in_ok-caches.ensures)
+    c.start.ensures
     (c.push-2.ensures.entries ∙ ap (λ (l : List Entry). entries.Start c.args.role c.args.at ∷ l) (c.push.ensures.entries ∙ ap (λ (l : List Entry). entries.Script made ∷ l) c.reserve.ensures.same))

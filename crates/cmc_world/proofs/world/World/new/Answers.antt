@@ -4,6 +4,7 @@ use Rattle.std.specs.List.{list_any}
 use Rattle.cmc_objects.specs.declared.role.Role.{Role}
 use Rattle.cmc_store.specs.Kept.{Kept}
 use Rattle.cmc_model.specs.Histories.{role_eq}
+use Rattle.cmc_caches.specs.Told.{caches_of}
 use Rattle.cmc_held.specs.Open.{pass_at}
 use Rattle.cmc_held.specs.Remembered.{past_at}
 use Rattle.cmc_held.specs.Standing.{standing_of, first_standing}
@@ -12,25 +13,28 @@ use Rattle.cmc_world.proofs.world.World.new.Goals as goal
 
 pub invariant_of-result : goal.invariant_of-result
 invariant_of-result c =
-    rw c.new-5.ensures
+    rw c.new-6.ensures
     (kept_new c.args.scenario
     (record {
-      faults = c.new-3.result.faults;
-      state = c.new-3.result.state;
-      log = c.new-4.result.writes;
+      faults = c.new-4.result.faults;
+      state = c.new-4.result.state;
+      log = c.new-5.result.writes;
       moment = to_z w64 (of_z w64 c.now-moment.result);
       made = 0;
       standing = λ r. standing_of c.in_ok-standings.standings r;
-      origins = c.new-6.result.origins;
-      opened = λ n. pass_at c.new-7.result n;
+      caches = λ r. caches_of c.in_ok-caches.caches r;
+      origins = c.new-7.result.origins;
+      opened = λ n. pass_at c.new-8.result n;
       past = λ r k. past_at c.in_ok-pasts.pasts r k;
     })
-    (ap (λ (k : Kept). k.faults) c.new-3.ensures ∙ c.in_ok-faults.ensures ∙ c.faults.ensures)
-    (ap (λ (k : Kept). k.state) c.new-3.ensures)
-    c.new-4.ensures
+    (ap (λ (k : Kept). k.faults) c.new-4.ensures ∙ c.in_ok-faults.ensures ∙ c.faults.ensures)
+    (ap (λ (k : Kept). k.state) c.new-4.ensures)
+    c.new-5.ensures
     (to_z-of_z w64 c.now-moment.result (search rules) ∙ c.now-moment.ensures)
     refl
     (λ r. c.in_ok-standings.ensures r ∙ ap (λ (l : List Role). first_standing (list_any (λ role. role_eq role r) l)) c.roles.ensures)
-    c.new-6.ensures
+    c.in_ok-caches.ensures
     c.new-7.ensures
-    c.in_ok-pasts.ensures)
+    c.new-8.ensures
+    c.in_ok-pasts.ensures
+    c.events-events.ensures.setup)

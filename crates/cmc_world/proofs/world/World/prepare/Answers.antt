@@ -1,5 +1,6 @@
-use Rattle.std.proofs.Common.{◌≤◌, ◌+◌, sym, subst, length, arith, rules, w64, to_z, of_z}
+use Rattle.std.proofs.Common.{◌≡◌, ◌≤◌, ◌+◌, sym, subst, length, arith, rules, w64, to_z, of_z}
 use Rattle.std.proofs.lemmas.Int.{to_z-of_z}
+use Rattle.cmc_rules.specs.Viewing.{views}
 use Rattle.cmc_world.specs.Kept.{Seen, setting_of}
 use Rattle.cmc_world.specs.Prepared.{IsPrepared}
 use Rattle.cmc_world.proofs.Begins.{prepared, number_fits}
@@ -16,5 +17,7 @@ returns c =
     (λ (v : Seen). IsPrepared (setting_of v.scenario) v.history c.args.role c.args.key (record { number = c.len.result + 1; origin = record { role = c.args.role; incarnation = c.get-standing.result.incarnation }; pass = c.opened-pass.result; seen = c.in_ok-seen.seen; key = c.args.key; at = c.shown_positions-at.result }))
     c.self.view_is
     (prepared _ _ _ c.args.role c.args.key c.in_ok-copy.field-0 c.get-standing.result c.shown_positions-at.result c.in_ok-seen.seen c.in_ok-copy-2.field-0 c.opened-pass.result (to_z w64 (of_z w64 c.self.inside.moment)) c.len.result
-    c.self.invariant c.get-standing.ensures c.shown_positions-at.ensures c.in_ok-seen.ensures c.in_ok-copy.ensures c.in_ok-copy-2.ensures
+    c.self.invariant c.get-standing.ensures c.shown_positions-at.ensures
+    (subst (λ (v : Seen). c.in_ok-seen.seen ≡ views (setting_of v.scenario) v.history c.args.role c.args.key) (sym c.self.view_is) c.in_ok-seen.ensures)
+    c.in_ok-copy.ensures c.in_ok-copy-2.ensures
     (to_z-of_z w64 c.self.inside.moment (search rules)) c.opened-pass.ensures c.len.ensures)

@@ -1,0 +1,4 @@
+pub mod Shown
+pub mod Picking
+pub mod Owners
+pub mod Listing

@@ -1,0 +1,38 @@
+-- What contracts see of what the roles were told of.
+use Rattle.std.specs.Prelude.{List, slice_index_or}
+use Rattle.cmc_meta.specs.declared.key.Kind.{Kind}
+use Rattle.cmc_meta.specs.declared.key.Kind.TheVariants.{Certificate, CertificateRequest, Secret}
+use Rattle.cmc_objects.specs.declared.role.Role.{Role}
+use Rattle.cmc_objects.specs.declared.entry.Positions.{Positions}
+use Rattle.cmc_objects.specs.Roles.{role_rank}
+use Rattle.cmc_model.specs.declared.write.Write.{Write}
+use Rattle.cmc_model.specs.Objects.{Objects, no_objects}
+use Rattle.cmc_model.specs.Writes.{contents, oldest, of_kind}
+use Rattle.cmc_rules.specs.Viewing.{Caches}
+
+abbrev pub nothing_told : Caches
+nothing_told = record { certificates = no_objects; requests = no_objects; secrets = no_objects }
+
+-- the rows stand in the order of roles
+unfoldable pub caches_of : List Caches → Role → Caches
+caches_of rows role = slice_index_or rows (role_rank role) nothing_told
+
+-- the objects of the kind
+abbrev pub cached : Kind → Caches → Objects
+cached Certificate c = c.certificates
+cached CertificateRequest c = c.requests
+cached Secret c = c.secrets
+
+-- the same, with these objects of the kind
+abbrev pub with_cached : Kind → Objects → Caches → Caches
+with_cached Certificate objects c = record c { certificates = objects }
+with_cached CertificateRequest objects c = record c { requests = objects }
+with_cached Secret objects c = record c { secrets = objects }
+
+-- of each kind, what the first accepted writes up to its position leave
+abbrev pub caches_at : List Write → Positions → Caches
+caches_at ws at = record {
+  certificates = contents (of_kind Certificate (oldest at.certificates ws));
+  requests = contents (of_kind CertificateRequest (oldest at.requests ws));
+  secrets = contents (of_kind Secret (oldest at.secrets ws));
+}

@@ -1,0 +1,94 @@
+//! What all roles were told of.
+ghost use Rattle.std.specs.Prelude.{◌≡◌, ◌≤◌, IfOk, OnOk, OnErr, length, reverse, if◌then◌else◌};
+ghost use Rattle.cmc_objects.specs.declared.role.Role.{Role as RoleValue};
+ghost use Rattle.cmc_model.specs.Histories.{role_eq};
+ghost use Rattle.cmc_model.specs.Writes as spec;
+ghost use Rattle.cmc_rules.specs.Viewing.{views_in};
+ghost use Rattle.cmc_caches.specs.Told.{cached, caches_of, nothing_told, with_cached};
+
+use crate::one_role::RoleCaches;
+use cmc_meta::{Key, Kind};
+use cmc_model::Write;
+use cmc_objects::Role;
+use cmc_pass::Views;
+use std::alloc::{AllocError, Global};
+use std::marker::Model;
+
+/// What each of the eight roles was told of. Contracts see it in the order of roles.
+#[derive(Drop)]
+pub struct Caches {
+    rows: Vec<RoleCaches>,
+}
+
+impl Model for Caches {
+    ghost use Rattle.std.specs.Coded.{codes};
+    ghost use Rattle.std.specs.Prelude.{◌≡◌, List, length};
+    ghost use Rattle.cmc_rules.specs.Viewing.{Caches};
+    ghost use Rattle.cmc_caches.specs.contracts.one_role.RoleCaches as role_row;
+
+    ghost Value = { List Caches };
+
+    ghost coded = { Prim.hlevel (codes, role_row.the_row.coded) };
+
+    ghost view = { λ c. c.rows.items };
+
+    ghost invariant = { λ c. length c.rows.items ≡ 8 };
+}
+
+impl Caches {
+    /// No role was told of anything. An `Err` is want of memory.
+    #[tactic(auto, unfolding(crate::specs::Told::caches_of))]
+    pub fn new(alloc: Global) -> Result<Caches, AllocError>
+        ensures { IfOk result (λ c. (r : RoleValue) → caches_of c r ≡ nothing_told) }
+    {
+        let rows = vec![in alloc;
+            RoleCaches::new(alloc),
+            RoleCaches::new(alloc),
+            RoleCaches::new(alloc),
+            RoleCaches::new(alloc),
+            RoleCaches::new(alloc),
+            RoleCaches::new(alloc),
+            RoleCaches::new(alloc),
+            RoleCaches::new(alloc),
+        ]?;
+        Ok(Caches { rows })
+    }
+
+    /// Tells the role of the writes of the kind above the one version and up to the other, and no other role
+    /// of anything. An `Err` is want of memory, and leaves all as it was.
+    #[tactic(auto, unfolding(crate::specs::Told::caches_of))]
+    pub fn tell(
+        &mut self,
+        alloc: Global,
+        role: Role,
+        writes: &[Write],
+        kind: Kind,
+        from: u64,
+        to: u64,
+    ) -> Result<(), AllocError>
+        requires above { from ≤ to }
+        requires within { to ≤ length writes.now }
+        requires holds { cached kind (caches_of self.old role) ≡ spec.contents (spec.of_kind kind (spec.oldest from (reverse writes.now))) }
+        ensures ok { OnOk result ((r : RoleValue) → caches_of self.new r ≡ (if role_eq role r then with_cached kind (spec.contents (spec.of_kind kind (spec.oldest to (reverse writes.now)))) (caches_of self.old role) else caches_of self.old r)) }
+        ensures err { OnErr result (self.new ≡ self.old) }
+    {
+        let row = &mut self.rows[role.rank() as usize];
+        row.tell(alloc, writes, kind, from, to)
+    }
+
+    /// The role was told of just this, and no other role of anything else. It takes no memory.
+    #[tactic(auto, unfolding(crate::specs::Told::caches_of))]
+    pub fn set(&mut self, role: Role, caches: RoleCaches)
+        ensures { (r : RoleValue) → caches_of self.new r ≡ (if role_eq role r then caches else caches_of self.old r) }
+    {
+        self.rows[role.rank() as usize] = caches;
+    }
+
+    /// What the role sees of the key. An `Err` is want of memory.
+    #[tactic(auto, unfolding(crate::specs::Told::caches_of))]
+    pub fn views(&self, alloc: Global, role: Role, key: &Key) -> Result<Views, AllocError>
+        ensures { IfOk result (λ seen. seen ≡ views_in role (caches_of self.now role) key.now) }
+    {
+        self.rows[role.rank() as usize].views(alloc, role, key)
+    }
+}

@@ -1,0 +1,9 @@
+//! What the roles were told of: a cache for each role and kind, and what a role sees of a key in it.
+#![tactic(auto)]
+
+mod caches;
+mod one_role;
+mod viewing;
+
+pub use caches::Caches;
+pub use one_role::RoleCaches;

@@ -1,0 +1,110 @@
+//! What one role was told of.
+ghost use Rattle.std.specs.Prelude.{◌≡◌, ◌≤◌, IfOk, OnOk, OnErr, length, reverse};
+ghost use Rattle.cmc_model.specs.Writes as spec;
+ghost use Rattle.cmc_rules.specs.Viewing.{views_in};
+ghost use Rattle.cmc_caches.specs.Told.{cached, caches_at, nothing_told, with_cached};
+
+use crate::viewing::views_on;
+use cmc_informer::Cache;
+use cmc_meta::{Key, Kind};
+use cmc_model::Write;
+use cmc_objects::{Positions, Role};
+use cmc_pass::Views;
+use std::alloc::{AllocError, Global};
+use std::marker::Model;
+
+/// The objects of each kind that a role was told of. Contracts see the three maps of objects.
+#[derive(Drop)]
+pub struct RoleCaches {
+    certificates: Cache,
+    requests: Cache,
+    secrets: Cache,
+}
+
+impl Model for RoleCaches {
+    ghost use Rattle.std.specs.Coded.{codes};
+    ghost use Rattle.cmc_informer.specs.contracts.cache.Cache as cache_row;
+    ghost use Rattle.cmc_rules.specs.Viewing.{Caches};
+
+    ghost Value = { Caches };
+
+    ghost coded = { Prim.hlevel (codes, cache_row.the_row.coded) };
+
+    ghost view = { λ c. record { certificates = c.certificates; requests = c.requests; secrets = c.secrets } };
+}
+
+/// The objects of the kind that the first `at` writes leave. An error is one of memory.
+fn listed(alloc: Global, writes: &[Write], kind: Kind, at: u64) -> Result<Cache, AllocError>
+    requires { at ≤ length writes.now }
+    ensures { IfOk result (λ objects. objects ≡ spec.contents (spec.of_kind kind (spec.oldest at (reverse writes.now)))) }
+{
+    let mut objects = Cache::new(alloc);
+    objects.apply(alloc, writes, kind, 0, at)?;
+    Ok(objects)
+}
+
+impl RoleCaches {
+    /// Nothing was told of any kind. It takes no memory.
+    pub fn new(alloc: Global) -> RoleCaches
+        ensures { result ≡ nothing_told }
+    {
+        RoleCaches {
+            certificates: Cache::new(alloc),
+            requests: Cache::new(alloc),
+            secrets: Cache::new(alloc),
+        }
+    }
+
+    /// What stands of each kind after the first so many of the writes, the oldest of which comes first: what
+    /// a list of each kind gives. An `Err` is want of memory.
+    pub fn list(alloc: Global, writes: &[Write], at: Positions) -> Result<RoleCaches, AllocError>
+        requires certificates { at.certificates ≤ length writes.now }
+        requires requests { at.requests ≤ length writes.now }
+        requires secrets { at.secrets ≤ length writes.now }
+        ensures { IfOk result (λ caches. caches ≡ caches_at (reverse writes.now) at) }
+    {
+        Ok(RoleCaches {
+            certificates: listed(alloc, writes, Kind::Certificate, at.certificates)?,
+            requests: listed(alloc, writes, Kind::CertificateRequest, at.requests)?,
+            secrets: listed(alloc, writes, Kind::Secret, at.secrets)?,
+        })
+    }
+
+    /// Takes over the writes of the kind above the one version and up to the other: where it has what the
+    /// first `from` writes leave of the kind, it has then what the first `to` writes leave. An `Err` is want
+    /// of memory, and leaves all as it was.
+    pub fn tell(
+        &mut self,
+        alloc: Global,
+        writes: &[Write],
+        kind: Kind,
+        from: u64,
+        to: u64,
+    ) -> Result<(), AllocError>
+        requires above { from ≤ to }
+        requires within { to ≤ length writes.now }
+        requires holds { cached kind self.old ≡ spec.contents (spec.of_kind kind (spec.oldest from (reverse writes.now))) }
+        ensures ok { OnOk result (self.new ≡ with_cached kind (spec.contents (spec.of_kind kind (spec.oldest to (reverse writes.now)))) self.old) }
+        ensures err { OnErr result (self.new ≡ self.old) }
+    {
+        match kind {
+            Kind::Certificate => self.certificates.apply(alloc, writes, kind, from, to),
+            Kind::CertificateRequest => self.requests.apply(alloc, writes, kind, from, to),
+            Kind::Secret => self.secrets.apply(alloc, writes, kind, from, to),
+        }
+    }
+
+    /// What a role that was told of this sees of the key. An `Err` is want of memory.
+    pub fn views(&self, alloc: Global, role: Role, key: &Key) -> Result<Views, AllocError>
+        ensures { IfOk result (λ seen. seen ≡ views_in role self.now key.now) }
+    {
+        views_on(
+            alloc,
+            role,
+            &self.certificates,
+            &self.requests,
+            &self.secrets,
+            key,
+        )
+    }
+}

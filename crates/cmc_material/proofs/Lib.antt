@@ -1,0 +1,3 @@
+pub mod ListForms
+pub mod RowForms
+pub mod PolicyForms

@@ -1,0 +1,2 @@
+mod FloatFree
+mod Bare

@@ -1,0 +1,4 @@
+pub mod Trees
+pub mod Words
+pub mod Puts
+pub mod Printed

@@ -1,0 +1,20 @@
+//! Kubernetes objects as JSON: trees without floats, and the tree of each object.
+//!
+//! Absent fields, empty lists and what the store owns are left out, and members stand in byte order.
+#![tactic(auto)]
+
+mod metadata;
+mod printing;
+mod puts;
+mod spec_trees;
+mod statuses;
+mod tree;
+mod words;
+
+pub use printing::{applied_tree, tree_of, value_of};
+pub use puts::{
+    put_bytes, put_count, put_count_option, put_duration, put_flag, put_if_true, put_members,
+    put_small_count_option, put_some_bytes, put_text, put_texts, put_time, texts_tree,
+};
+pub use tree::{Members, Tree, Trees};
+pub use words::{key_word, kind_word, name_word, role_word};

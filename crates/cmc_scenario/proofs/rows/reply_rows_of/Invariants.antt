@@ -1,9 +1,0 @@
-use Rattle.std.proofs.Common.{◌≡◌, drop}
-use Rattle.serde_json.specs.View.{items_view}
-use Rattle.cmc_cursor.specs.Readers.{with_front}
-use Rattle.cmc_scenario.specs.Lists.{items_from, numbered_at}
-use Rattle.cmc_scenario.specs.MaterialRows.{reply_row_at}
-use Rattle.cmc_scenario.proofs.rows.reply_rows_of.Given as goal
-
-abbrev pub invariant-loop-place : goal.invariant-loop-place
-invariant-loop-place l = with_front l.rows (items_from (numbered_at reply_row_at) l.place (items_view (drop l.place l.items))) ≡ items_from (numbered_at reply_row_at) 0 (items_view l.items)
