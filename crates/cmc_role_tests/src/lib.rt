@@ -1,20 +1,14 @@
-//! Tests of the controllers, of informers and work queues, and of worlds: what no clause says, and that each call has an answer where memory is ample.
-//! They stand apart from `cmc_tests`, so that a change of what roles do proves no test of readers and objects again.
+//! Tests of the controllers: what no clause says, and that each call has an answer where memory is ample. They stand
+//! apart from `cmc_tests`, so that a change of what roles do proves no test of readers and objects again.
 #![tactic(auto)]
 
 #[cfg(test)]
 mod approver;
 #[cfg(test)]
-mod informer;
-#[cfg(test)]
 mod keymanager;
-#[cfg(test)]
-mod queue;
 #[cfg(test)]
 mod requestmanager;
 #[cfg(test)]
 mod status;
 #[cfg(test)]
 mod trigger;
-#[cfg(test)]
-mod world;

@@ -1,0 +1,10 @@
+//! Tests of informers, work queues and worlds: what no clause says, and that each call has an answer where memory is
+//! ample.
+#![tactic(auto)]
+
+#[cfg(test)]
+mod informer;
+#[cfg(test)]
+mod queue;
+#[cfg(test)]
+mod world;
