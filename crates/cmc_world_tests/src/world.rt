@@ -6,7 +6,7 @@ use cmc_objects::{
     Cause, CertStatus, Certificate, Entry, Material, Object, Parts, Role, Rules, Secret, Step,
 };
 use cmc_policy_rules::Policies;
-use cmc_scenario::{Roles, Scenario, Steps, is_setup};
+use cmc_setup::{Roles, Scenario, Steps, is_setup};
 use cmc_tests::values::{key, least_spec, new_meta, text};
 use cmc_world::{Lack, Move, Stepped, World};
 use std::alloc::Global;

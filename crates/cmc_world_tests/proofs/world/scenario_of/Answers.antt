@@ -1,5 +1,5 @@
 use Rattle.std.proofs.Common.{refl}
-use Rattle.cmc_role_tests.proofs.world.scenario_of.Goals as goal
+use Rattle.cmc_world_tests.proofs.world.scenario_of.Goals as goal
 
 pub new-requires : goal.new-requires
 new-requires c = c.if-is_setup.ensures.0 refl
