@@ -1,4 +1,4 @@
-//! Scenarios, read from JSON.
+//! Scenarios, read from JSON and printed.
 //!
 //! A value that is no scenario fails at the first failing path of a walk in depth: an object's
 //! members in byte order of their names, a missing member at its place, a list's items in order.
@@ -14,6 +14,7 @@ mod roles;
 mod step;
 mod steps;
 
+pub use cmc_scenario_print::value_of_scenario;
 pub use cmc_setup::{Roles, Scenario, Steps, is_setup};
 pub use generating::generate;
 pub use reading::{BadScenario, read};
