@@ -1,7 +1,7 @@
 //! What no clause says: that a scenario is read, with its defaults, where memory is ample, and which texts are
 //! scenarios and where others fail.
 use cmc_objects::{KeyRow, Role, SignRow, Step};
-use cmc_scenario::{BadScenario, Roles, Scenario, read};
+use cmc_scenario::{BadScenario, Roles, Scenario, generate, read, value_of_scenario};
 use serde_json::Value;
 use std::alloc::Global;
 use std::test::Fail;
@@ -400,6 +400,64 @@ fn tells_where_policies_fail(rt: HostRuntime) -> Result<(), Fail> {
     ] {
         let text = format!(in alloc; "{{\"approver\":{{\"policies\":[{policy}]}},\"roles\":[]}}")?;
         assert_eq!(rt; told(alloc, text.as_str())?.as_str(), answer);
+    }
+    Ok(())
+}
+
+/// What is printed of the scenario that the text gives.
+fn printed(alloc: Global, text: &str) -> Result<String, Fail> {
+    let scenario = scenario(alloc, text)?;
+    Ok(value_of_scenario(alloc, &scenario)?.to_string(alloc)?)
+}
+
+#[test]
+fn prints_a_generated_load(rt: HostRuntime) -> Result<(), Fail> {
+    let alloc = rt.alloc();
+    let load = generate(alloc, 1)?;
+    let text = value_of_scenario(alloc, &load)?.to_string(alloc)?;
+    let expected =
+        r#"{"events":2000,"script":[{"do":"apply","object":{"apiVersion":"cert-manager.io/v1","kind":"Certificate","metadata":{"name":"c0001","namespace":"load"},"spec":{"dnsNames":["c0001.example"],"issuerRef":{"name":"ca"},"privateKey":{"algorithm":"ECDSA"},"revisionHistoryLimit":1,"secretName":"c0001-tls"}}},{"do":"settle"},{"do":"tick","seconds":5184000},{"do":"settle"}]}"#;
+    assert_eq!(rt; text.as_str(), expected);
+    Ok(())
+}
+
+/// Scenarios in which each member stands that may stand, as they are printed.
+#[test]
+fn prints_what_it_reads(rt: HostRuntime) -> Result<(), Fail> {
+    let alloc = rt.alloc();
+    for text in [
+        r#"{"roles":[]}"#,
+        r#"{"approver":{"issuers":["ca","other"],"policies":[{"algorithm":"RSA","commonName":["a.example"],"dnsNames":["*.example"],"emailAddresses":["a@example"],"ipAddresses":["10.0.0.1","2001:db8::1","::ffff:102:304","*"],"isCA":true,"issuers":["ca"],"maxDuration":"2160h0m0s","maxSize":4096,"minDuration":"1h0m0s","minSize":2048,"name":"web","uris":["https://*"],"usages":["server auth"]},{"algorithm":"ECDSA","name":"\u00e9"}],"refuse":["bad.example"]},"roles":["trigger"]}"#,
+        r#"{"approver":{"issuers":[],"policies":[{"dnsNames":[],"issuers":[],"name":""}]},"roles":["readiness"]}"#,
+        r#"{"events":500,"faults":[2,9],"material":{"a-b/web":{},"a/web":{"keys":[{"synthetic":7},{"der":"AQI="}],"replies":[{"before":60,"ca":"AQ==","key":3,"reply":"issue","seconds":3600,"serial":9},{"reply":"pending"},{"message":"","reply":"fail"},{"der":"AQID","reply":"raw"}]}},"now":"2031-01-01T00:00:00Z","roles":["trigger","readiness","revision"],"window":50}"#,
+        r#"{"roles":["trigger"],"script":[{"do":"apply","object":{"apiVersion":"v1","data":{"a":"AQ=="},"kind":"Secret","metadata":{"name":"s","namespace":"default","resourceVersion":"7"},"type":"Opaque"}},{"do":"delete","key":"Secret/default/s"},{"do":"delete","key":"CertificateRequest/default/s","version":3},{"certificate":"default/web","do":"approve","revision":1},{"certificate":"default/web","do":"deny","revision":2},{"certificate":"default/web","do":"answer","revision":2,"row":{"reply":"issue","serial":1}},{"certificate":"default/web","do":"renew"},{"do":"tick","seconds":60}]}"#,
+        r#"{"roles":["trigger"],"script":[{"do":"stop","role":"trigger"},{"behind":2,"do":"start","role":"trigger"},{"do":"hold","kind":"Certificate","role":"trigger"},{"do":"release","kind":"Certificate","role":"trigger"},{"do":"until","kind":"Certificate","role":"trigger","writes":1},{"do":"settle"}]}"#,
+    ] {
+        let expected = Value::from_str(alloc, text).map_err(|_| Fail::from("no JSON"))?;
+        let expected = expected.to_string(alloc)?;
+        assert_eq!(rt; printed(alloc, text)?.as_str(), expected.as_str());
+    }
+    Ok(())
+}
+
+#[test]
+fn leaves_out_what_is_the_default(rt: HostRuntime) -> Result<(), Fail> {
+    let alloc = rt.alloc();
+    for (text, expected) in [
+        (
+            r#"{"approver":{"issuers":["*"],"policies":[],"refuse":[]},"events":100000,"faults":[],"material":{},"now":"2030-01-01T00:00:00Z","roles":["trigger","trigger"],"script":[],"window":1000}"#,
+            r#"{"roles":["trigger"]}"#,
+        ),
+        (
+            r#"{"approver":{"policies":[{"isCA":false,"issuers":["*"],"name":"web","usages":[]}]},"roles":[]}"#,
+            r#"{"approver":{"policies":[{"name":"web"}]},"roles":[]}"#,
+        ),
+        (
+            r#"{"material":{"a/b":{"keys":[],"replies":[{"before":0,"ca":"","reply":"issue"},{"message":"The issuer refused","reply":"fail"}]}},"roles":[]}"#,
+            r#"{"material":{"a/b":{"replies":[{"reply":"issue"},{"reply":"fail"}]}},"roles":[]}"#,
+        ),
+    ] {
+        assert_eq!(rt; printed(alloc, text)?.as_str(), expected);
     }
     Ok(())
 }
