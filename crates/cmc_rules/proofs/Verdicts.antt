@@ -192,3 +192,25 @@ other_passes cs new a d settled =
     passes_by _ _ _ (or_both _ _ (other_unsettled cs new Approved a ∙ settled.approved) (other_unsettled cs new Denied d ∙ settled.denied))
     (rw (other_stands cs new Approved a, other_stands cs new Denied d) settled.one)
     (or_both _ _ (ap (is_lost (condition_at cs Approved)) (other_found cs new Approved a) ∙ unchanged (condition_at cs Approved)) (ap (is_lost (condition_at cs Denied)) (other_found cs new Denied d) ∙ unchanged (condition_at cs Denied)))
+
+-- ---- conditions that differ in one kind alone
+
+any_kept : (kind : ConditionKind) (p : Condition → Bool) (cs later : List Condition) → other_conditions kind later ≡ other_conditions kind cs → ((c : Condition) → is_of kind c ≡ true → p c ≡ false) → list_any p later ≡ list_any p cs
+any_kept kind p cs later same off = sym (any_others kind p later off) ∙ ap (list_any p) same ∙ any_others kind p cs off
+
+kept_unsettled : (kind k : ConditionKind) (cs later : List Condition) → other_conditions kind later ≡ other_conditions kind cs → (condition_rank kind == condition_rank k) ≡ false → is_unsettled k later ≡ is_unsettled k cs
+kept_unsettled kind k cs later same off = any_kept kind (λ c. is_of k c && not (tri_eq c.status True)) cs later same (λ c is. and_first (is_of k c) _ (apart kind k off c is))
+
+kept_stands : (kind k : ConditionKind) (cs later : List Condition) → other_conditions kind later ≡ other_conditions kind cs → (condition_rank kind == condition_rank k) ≡ false → stands k later ≡ stands k cs
+kept_stands kind k cs later same off = any_kept kind (is_of k) cs later same (apart kind k off)
+
+kept_found : (kind k : ConditionKind) (cs later : List Condition) → other_conditions kind later ≡ other_conditions kind cs → (condition_rank kind == condition_rank k) ≡ false → condition_at later k ≡ condition_at cs k
+kept_found kind k cs later same off = sym (find_others kind (is_of k) later (apart kind k off)) ∙ ap (find (is_of k)) same ∙ find_others kind (is_of k) cs (apart kind k off)
+
+-- where that kind is no verdict, the rules on verdicts are met
+pub others_pass : (kind : ConditionKind) (cs later : List Condition) → other_conditions kind later ≡ other_conditions kind cs → (condition_rank kind == condition_rank Approved) ≡ false → (condition_rank kind == condition_rank Denied) ≡ false → AreSettled cs
+    → least_failing (verdict_rules cs later) ≡ None
+others_pass kind cs later same a d settled =
+    passes_by _ _ _ (or_both _ _ (kept_unsettled kind Approved cs later same a ∙ settled.approved) (kept_unsettled kind Denied cs later same d ∙ settled.denied))
+    (rw (kept_stands kind Approved cs later same a, kept_stands kind Denied cs later same d) settled.one)
+    (or_both _ _ (ap (is_lost (condition_at cs Approved)) (kept_found kind Approved cs later same a) ∙ unchanged (condition_at cs Approved)) (ap (is_lost (condition_at cs Denied)) (kept_found kind Denied cs later same d) ∙ unchanged (condition_at cs Denied)))

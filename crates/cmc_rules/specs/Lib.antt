@@ -33,3 +33,4 @@ pub mod Issuing
 pub mod NextRequests
 pub mod RequestManaging
 pub mod Approving
+pub mod Granting

@@ -1,0 +1,4 @@
+pub mod Rows
+pub mod Writes
+pub mod Table
+pub mod Sound

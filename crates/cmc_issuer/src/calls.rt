@@ -1,0 +1,72 @@
+//! The write of a status.
+ghost use Rattle.std.specs.Prelude.{◌≡◌, IfOk};
+ghost use Rattle.cmc_rules.specs.Granting as table;
+
+use cmc_meta::{Condition, ConditionKind, Text, Tri};
+use cmc_objects::{Call, CertificateRequest, Object, RequestStatus};
+use std::alloc::{AllocError, Global};
+
+/// The status update, at the version of the request, with this status.
+///
+/// # Errors
+///
+/// Want of memory alone.
+#[tactic(auto, unfolding(cmc_rules::specs::Granting::status_call))]
+pub fn status_call(status: RequestStatus, request: &CertificateRequest) -> Result<Call, AllocError>
+    ensures { IfOk result (λ c. c ≡ table.status_call status request.now) }
+{
+    let object = Object::Request(CertificateRequest {
+        meta: request.meta.copy()?,
+        spec: request.spec.copy()?,
+        status,
+    });
+    Ok(Call::UpdateStatus {
+        object,
+        version: request.meta.version,
+    })
+}
+
+#[tactic(auto, unfolding(cmc_rules::specs::Granting::denied_condition))]
+fn denied_condition(alloc: Global, moment: i64) -> Result<Condition, AllocError>
+    ensures { IfOk result (λ c. c ≡ table.denied_condition moment) }
+{
+    Ok(Condition {
+        kind: ConditionKind::Ready,
+        status: Tri::False,
+        reason: Text::from_str(alloc, "Denied")?,
+        message: Text::from_str(
+            alloc,
+            "The CertificateRequest was denied by an approval controller",
+        )?,
+        since: moment,
+    })
+}
+
+#[tactic(auto, unfolding(cmc_rules::specs::Granting::denied_status))]
+fn denied_status(
+    alloc: Global,
+    status: &RequestStatus,
+    moment: i64,
+) -> Result<RequestStatus, AllocError>
+    ensures { IfOk result (λ s. s ≡ table.denied_status status.now moment) }
+{
+    let mut changed = status.copy()?;
+    changed.conditions.set(denied_condition(alloc, moment)?)?;
+    changed.failure = Some(moment);
+    Ok(changed)
+}
+
+/// The status update, at the version of the request, that marks it as denied at this moment.
+///
+/// # Errors
+///
+/// Want of memory alone.
+pub fn deny_call(
+    alloc: Global,
+    request: &CertificateRequest,
+    moment: i64,
+) -> Result<Call, AllocError>
+    ensures { IfOk result (λ c. c ≡ table.status_call (table.denied_status request.now.status moment) request.now) }
+{
+    status_call(denied_status(alloc, &request.status, moment)?, request)
+}
