@@ -1,11 +1,11 @@
 -- How an issuance ends: with the Secret and a new revision, with a failure, or for a while with a stand-in certificate.
-use Rattle.std.specs.Prelude.{ℕ, ℤ, pos, ◌+◌, ◌-◌, ◌^◌, min, nat_le, Bool, true, false, not, ◌&&◌, List, [], ◌∷◌, length, codes, Option, Some, None, unwrap_or, if◌then◌else◌}
+use Rattle.std.specs.Prelude.{ℕ, ℤ, pos, ◌+◌, ◌-◌, ◌^◌, min, nat_le, Bool, true, false, not, ◌&&◌, List, [], ◌∷◌, length, filter, codes, Option, Some, None, unwrap_or, if◌then◌else◌}
 use Rattle.std.specs.Str.{bytes_eq}
 use Rattle.cmc_meta.specs.declared.conditions.Condition.{Condition}
 use Rattle.cmc_meta.specs.declared.conditions.ConditionKind.TheVariants as kinds
 use Rattle.cmc_meta.specs.declared.conditions.Tri.TheVariants.{True, False}
 use Rattle.cmc_meta.specs.ConditionLists.{condition_at, transitioned, tri_eq}
-use Rattle.cmc_meta.specs.PairLists.{with_text, without_text}
+use Rattle.cmc_meta.specs.PairLists.{with_text}
 use Rattle.cmc_der.specs.Keys.{PublicKey, CertificateFields}
 use Rattle.cmc_x509.specs.ReadKeys.{key_file_at}
 use Rattle.cmc_x509.specs.ReadCertificates.{certificate_at}
@@ -76,14 +76,18 @@ signed_marks c pairs =
     (codes "cert-manager.io/issuer-group")
     (issuer_group c.spec.issuer)
 
+-- all pairs but those of this name
+abbrev pub without : List ℕ → List (List ℕ × List ℕ) → List (List ℕ × List ℕ)
+without name pairs = filter (λ e. not (bytes_eq e.0 name)) pairs
+
 -- and whether the certificate stands in
 unfoldable pub marks : Bool → Certificate → List (List ℕ × List ℕ) → List (List ℕ × List ℕ)
 marks true c pairs = with_text (signed_marks c pairs) (codes "cert-manager.io/temporary-certificate") (codes "true")
-marks false c pairs = without_text (signed_marks c pairs) (codes "cert-manager.io/temporary-certificate")
+marks false c pairs = without (codes "cert-manager.io/temporary-certificate") (signed_marks c pairs)
 
 -- the key, the certificate, and the CA's where there is one; all other parts stay
 abbrev pub with_ca : List ℕ → List (List ℕ × List ℕ) → List (List ℕ × List ℕ)
-with_ca [] parts = without_text parts (codes "ca.crt")
+with_ca [] parts = without (codes "ca.crt") parts
 with_ca (b ∷ ca) parts = with_text parts (codes "ca.crt") (b ∷ ca)
 
 unfoldable pub filled : List ℕ → List ℕ → List ℕ → List (List ℕ × List ℕ) → List (List ℕ × List ℕ)
