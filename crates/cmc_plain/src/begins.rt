@@ -96,7 +96,7 @@ fn is_worth(
     ensures { IfOk result (λ b. IsTrue b ↔ spec.IsWorth (setting_of world.now.scenario) world.now.history role key.now) }
 {
     world.is_run();
-    let _events = world.scenario().events();
+    world.keeps_years();
     if !saw_last(alloc, world.past(role, key), seen) {
         return Ok(true);
     }

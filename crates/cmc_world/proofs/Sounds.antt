@@ -64,6 +64,7 @@ plain_within role after seen now (Calls call) quiet within = tt
 plain_within role after seen now (Asks order) quiet within = plain_question role seen order quiet within.0
 plain_within role after seen now (Issue plan) quiet within = absurd (let on : IsAsking role ≡ true = ap IsAsking within.issuing in cc (quiet, on))
 plain_within role after seen now (Temporary plan) quiet within = absurd (let on : IsAsking role ≡ true = ap IsAsking within.issuing in cc (quiet, on))
+
 -- each role does nothing or makes one call
 pub plain_act : (role : Role) (seen : Views) (now : ℤ) (desk : Desk) → IsPlain (act role seen now desk)
 unfolding act

@@ -57,13 +57,7 @@ fn stage_written(stand_in: bool, stage: &Stage) -> Stage
     ensures { result ≡ spec.stage_written stand_in stage.now }
 {
     match stage {
-        Stage::Read => {
-            if stand_in {
-                Stage::Wrote
-            } else {
-                Stage::Saved
-            }
-        }
+        Stage::Read => { if stand_in { Stage::Wrote } else { Stage::Saved } }
         _ => Stage::Wrote,
     }
 }

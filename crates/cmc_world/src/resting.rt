@@ -218,6 +218,7 @@ impl World {
             return self.is_paused_on(alloc, role, key, &seen);
         }
         self.is_run();
+        self.keeps_years();
         self.is_idle(alloc, role, &seen)
     }
 

@@ -7,7 +7,7 @@ ghost use Rattle.cmc_rules.specs.Rights.{KeepsRights};
 ghost use Rattle.cmc_rules.specs.Runs.{IsRun};
 ghost use Rattle.cmc_model.specs.Histories.{Setting};
 ghost use Rattle.cmc_world.specs.Answers.{Answers, Leaves};
-ghost use Rattle.cmc_world.specs.Kept.{setting_of};
+ghost use Rattle.cmc_world.specs.Kept.{KeepsYears, setting_of};
 ghost use Rattle.cmc_world.specs.Leading.{Lead, Extends};
 ghost use Rattle.cmc_world.specs.declared.moves.Move.{Move as MoveValue};
 
@@ -166,6 +166,13 @@ impl World {
     pub fn is_run(&self)
         ensures run { IsRun (setting_of self.now.scenario) self.now.history }
         ensures rights { KeepsRights (setting_of self.now.scenario) self.now.history }
+    {
+        let _entries = self.history.len();
+    }
+
+    /// A law: from the scenario's beginning on, every moment that its ticks can come to lies in the years 1950 to 9999.
+    pub fn keeps_years(&self)
+        ensures { KeepsYears (setting_of self.now.scenario) }
     {
         let _entries = self.history.len();
     }

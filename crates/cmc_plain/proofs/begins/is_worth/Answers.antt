@@ -1,11 +1,9 @@
 use Rattle.std.proofs.Common.{sym, subst}
 use Rattle.cmc_rules.specs.Dates.{HasDatedFailure}
 use Rattle.cmc_world.specs.Kept.{setting_of}
-use Rattle.cmc_setup.specs.Setups.{IsSetup}
 use Rattle.cmc_world.proofs.Dated.{dated_views}
-use Rattle.cmc_world.proofs.Starting.{keeps_years}
 use Rattle.cmc_plain.proofs.begins.is_worth.Goals as goal
 
 pub is_idle-requires : goal.is_idle-requires
 is_idle-requires c =
-    subst HasDatedFailure (sym c.requires) (dated_views (setting_of c.args.world.now.scenario) c.args.world.now.history (keeps_years c.args.world.now.scenario (subst IsSetup c.scenario.ensures c.events-_events.ensures.setup)) c.is_run.ensures.run c.args.role c.args.key.now)
+    subst HasDatedFailure (sym c.requires) (dated_views (setting_of c.args.world.now.scenario) c.args.world.now.history c.keeps_years.ensures c.is_run.ensures.run c.args.role c.args.key.now)

@@ -7,7 +7,7 @@ use Rattle.cmc_world.proofs.world.World.rests_on.Goals as goal
 
 pub is_idle-requires : goal.is_idle-requires
 is_idle-requires c =
-    subst HasDatedFailure (sym c.in_ok-seen.ensures) (dated_views (setting_of c.args.self.now.scenario) c.args.self.now.history c.is_run.ensures.run c.args.role c.args.key.now)
+    subst HasDatedFailure (sym c.in_ok-seen.ensures) (dated_views (setting_of c.args.self.now.scenario) c.args.self.now.history c.keeps_years.ensures c.is_run.ensures.run c.args.role c.args.key.now)
 
 pub returns-then-has_held_informer : goal.returns-then-has_held_informer
 returns-then-has_held_informer c =
