@@ -1,0 +1,5 @@
+mod Names
+mod Members
+mod RowsAgain
+mod OneMoreOf
+mod RowLaws

@@ -1,0 +1,38 @@
+-- What printing rows and reading them make of each other.
+use Rattle.std.specs.Prelude.{◌≡◌, Ok}
+use Rattle.std.specs.List.{AllByRecursion}
+use Rattle.base64.specs.GeneralPurpose.{IsBytes}
+use Rattle.serde_json.specs.Data.{Data}
+use Rattle.cmc_objects.specs.declared.rows.Rows.{Rows}
+use Rattle.cmc_objects.specs.declared.rows.KeyRow.{KeyRow}
+use Rattle.cmc_objects.specs.declared.rows.KeyRow.TheVariants as keys
+use Rattle.cmc_objects.specs.declared.rows.SignRow.{SignRow}
+use Rattle.cmc_objects.specs.declared.rows.SignRow.TheVariants as signs
+use Rattle.cmc_material.specs.MaterialRows.{reply_row_at, rows_at}
+use Rattle.cmc_scenario_print.specs.RowTrees.{sign_row_tree, rows_tree}
+
+-- Where the row was read of some value, what is printed of it is read as the same row.
+abbrev pub IsReplyReadAgain : SignRow → Type 0
+IsReplyReadAgain row = (d : Data) → reply_row_at d ≡ Ok row → reply_row_at (sign_row_tree row) ≡ Ok row
+
+-- The same of the rows of one Certificate.
+abbrev pub AreReadAgain : Rows → Type 0
+AreReadAgain rows = (d : Data) → rows_at d ≡ Ok rows → rows_at (rows_tree rows) ≡ Ok rows
+
+-- ---- what is so of each row: octets are bytes
+
+abbrev pub HasKeyBytes : KeyRow → Type 0
+HasKeyBytes (keys.Der bytes) = IsBytes bytes
+HasKeyBytes (keys.Synthetic number) = Unit {0}
+HasKeyBytes keys.Default = Unit {0}
+HasKeyBytes keys.Free = Unit {0}
+
+abbrev pub HasReplyBytes : SignRow → Type 0
+HasReplyBytes (signs.Issue seconds before serial key ca) = IsBytes ca
+HasReplyBytes (signs.Raw der) = IsBytes der
+HasReplyBytes signs.Pending = Unit {0}
+HasReplyBytes (signs.Fail message) = Unit {0}
+HasReplyBytes signs.Free = Unit {0}
+
+abbrev pub HaveRowBytes : Rows → Type 0
+HaveRowBytes rows = AllByRecursion HasKeyBytes rows.keys × AllByRecursion HasReplyBytes rows.replies

@@ -1,0 +1,73 @@
+// The laws, and what they rest on: the octets of rows are bytes.
+ghost use Rattle.std.specs.List.{AllByRecursion};
+ghost use Rattle.base64.specs.GeneralPurpose.{IsBytes};
+ghost use Rattle.cmc_scenario_laws.specs.Rows.{AreReadAgain, HasKeyBytes, HasReplyBytes, HaveRowBytes, IsReplyReadAgain};
+
+use cmc_objects::{KeyRow, Rows, SignRow};
+
+fn are_bytes(bytes: &[u8])
+    ensures { IsBytes bytes.now }
+{
+    let _bytes = bytes;
+}
+
+fn key_row_has_bytes(row: &KeyRow)
+    ensures { HasKeyBytes row.now }
+{
+    if let KeyRow::Der(bytes) = row {
+        are_bytes(bytes.as_slice());
+    }
+}
+
+fn key_rows_have_bytes(rows: &[KeyRow])
+    ensures { AllByRecursion HasKeyBytes rows.now }
+{
+    if let [first, rest @ ..] = rows {
+        key_row_has_bytes(first);
+        key_rows_have_bytes(rest);
+    }
+}
+
+fn reply_has_bytes(row: &SignRow)
+    ensures { HasReplyBytes row.now }
+{
+    match row {
+        SignRow::Issue { ca, .. } => are_bytes(ca.as_slice()),
+        SignRow::Raw { der } => are_bytes(der.as_slice()),
+        SignRow::Pending | SignRow::Fail { .. } | SignRow::Free => {}
+    }
+}
+
+fn replies_have_bytes(rows: &[SignRow])
+    ensures { AllByRecursion HasReplyBytes rows.now }
+{
+    if let [first, rest @ ..] = rows {
+        reply_has_bytes(first);
+        replies_have_bytes(rest);
+    }
+}
+
+fn rows_have_bytes(rows: &Rows)
+    ensures { HaveRowBytes rows.now }
+{
+    key_rows_have_bytes(rows.keys.as_slice());
+    replies_have_bytes(rows.replies.as_slice());
+}
+
+/// A law: what is printed of a reply row that was read is read again, as the same row. The call
+/// changes nothing.
+#[tactic(auto, using(crate::proofs::RowLaws::reply_again))]
+pub fn printed_reply_is_read(row: &SignRow)
+    ensures { IsReplyReadAgain row.now }
+{
+    reply_has_bytes(row);
+}
+
+/// A law: what is printed of the rows of a Certificate that were read is read again, as the same
+/// rows. The call changes nothing.
+#[tactic(auto, using(crate::proofs::RowLaws::rows_again))]
+pub fn printed_rows_are_read(rows: &Rows)
+    ensures { AreReadAgain rows.now }
+{
+    rows_have_bytes(rows);
+}

@@ -1,0 +1,6 @@
+//! What printing parts of a scenario and reading them make of each other.
+#![tactic(auto)]
+
+mod laws;
+
+pub use laws::{printed_reply_is_read, printed_rows_are_read};
