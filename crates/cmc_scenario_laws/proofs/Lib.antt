@@ -3,3 +3,5 @@ mod Members
 mod RowsAgain
 mod OneMoreOf
 mod RowLaws
+mod KeysAgain
+mod KeyLaws

@@ -1,8 +1,10 @@
 // The laws, and what they rest on: the octets of rows are bytes.
 ghost use Rattle.std.specs.List.{AllByRecursion};
 ghost use Rattle.base64.specs.GeneralPurpose.{IsBytes};
+ghost use Rattle.cmc_scenario_laws.specs.Keys.{IsCertificateReadAgain, IsKeyReadAgain};
 ghost use Rattle.cmc_scenario_laws.specs.Rows.{AreReadAgain, HasKeyBytes, HasReplyBytes, HaveRowBytes, IsReplyReadAgain};
 
+use cmc_meta::Key;
 use cmc_objects::{KeyRow, Rows, SignRow};
 
 fn are_bytes(bytes: &[u8])
@@ -70,4 +72,21 @@ pub fn printed_rows_are_read(rows: &Rows)
     ensures { AreReadAgain rows.now }
 {
     rows_have_bytes(rows);
+}
+
+/// A law: what is printed of a key that was read, `Kind/namespace/name`, is read again, as the same
+/// key. The call changes nothing.
+#[tactic(auto, using(crate::proofs::KeyLaws::key_again))]
+pub fn printed_key_is_read(key: &Key)
+    ensures { IsKeyReadAgain key.now }
+{
+    let _key = key;
+}
+
+/// The same of the key of a Certificate, `namespace/name`.
+#[tactic(auto, using(crate::proofs::KeyLaws::certificate_again))]
+pub fn printed_certificate_is_read(key: &Key)
+    ensures { IsCertificateReadAgain key.now }
+{
+    let _key = key;
 }

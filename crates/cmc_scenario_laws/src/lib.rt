@@ -3,4 +3,6 @@
 
 mod laws;
 
-pub use laws::{printed_reply_is_read, printed_rows_are_read};
+pub use laws::{
+    printed_certificate_is_read, printed_key_is_read, printed_reply_is_read, printed_rows_are_read,
+};
