@@ -5,3 +5,6 @@ mod OneMoreOf
 mod RowLaws
 mod KeysAgain
 mod KeyLaws
+mod MaterialAgain
+mod RowOrder
+mod MaterialLaws

@@ -2,10 +2,11 @@
 ghost use Rattle.std.specs.List.{AllByRecursion};
 ghost use Rattle.base64.specs.GeneralPurpose.{IsBytes};
 ghost use Rattle.cmc_scenario_laws.specs.Keys.{IsCertificateReadAgain, IsKeyReadAgain};
-ghost use Rattle.cmc_scenario_laws.specs.Rows.{AreReadAgain, HasKeyBytes, HasReplyBytes, HaveRowBytes, IsReplyReadAgain};
+ghost use Rattle.cmc_scenario_laws.specs.Rows.{AreInOrder, AreReadAgain, HasEntryBytes, HasKeyBytes, HasReplyBytes, HaveRowBytes, IsMaterialReadAgain, IsReplyReadAgain};
 
 use cmc_meta::Key;
-use cmc_objects::{KeyRow, Rows, SignRow};
+use cmc_objects::{KeyRow, Material, Rows, SignRow};
+use std::collections::BTreeMap;
 
 fn are_bytes(bytes: &[u8])
     ensures { IsBytes bytes.now }
@@ -89,4 +90,29 @@ pub fn printed_certificate_is_read(key: &Key)
     ensures { IsCertificateReadAgain key.now }
 {
     let _key = key;
+}
+
+fn entries_have_bytes(material: &BTreeMap<Key, Rows>)
+    ensures { AllByRecursion HasEntryBytes material.now.entries }
+{
+    for (_, rows) in material.iter() {
+        rows_have_bytes(rows);
+    }
+}
+
+#[tactic(auto, using(crate::proofs::RowOrder::in_order))]
+fn rows_in_order(material: &Material)
+    ensures { AreInOrder material.now }
+{
+    let _len = material.as_map().len();
+}
+
+/// A law: what is printed of the rows of all Certificates that were read is read again, as the same
+/// rows. The call changes nothing.
+#[tactic(auto, using(crate::proofs::MaterialLaws::whole_again))]
+pub fn printed_material_is_read(material: &Material)
+    ensures { IsMaterialReadAgain material.now }
+{
+    entries_have_bytes(material.as_map());
+    rows_in_order(material);
 }
