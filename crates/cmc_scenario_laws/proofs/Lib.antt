@@ -1,0 +1,10 @@
+mod Names
+mod Members
+mod RowsAgain
+mod OneMoreOf
+mod RowLaws
+mod KeysAgain
+mod KeyLaws
+mod MaterialAgain
+mod RowOrder
+mod MaterialLaws
