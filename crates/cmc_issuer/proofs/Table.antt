@@ -1,5 +1,5 @@
 -- The table of the issuer, line by line.
-use Rattle.std.proofs.Common.{◌≡◌, ◌&&◌, ◌∙◌, ℤ, Option, Some, None, Bool, true, false, refl, sym, ap, int_le, arith}
+use Rattle.std.proofs.Common.{◌≡◌, ◌&&◌, ℤ, Option, Some, None, Bool, true, false, refl, ap, int_le, arith}
 use Rattle.std.proofs.lemmas.Int.{ints}
 use Rattle.std.specs.Prelude.{◌+ℤ◌, pos, codes, int_lt, if◌then◌else◌}
 use Rattle.std.specs.Str.{bytes_eq}

@@ -1,5 +1,5 @@
 -- The write of a status keeps to the issuer's rights, and no rule refuses it.
-use Rattle.std.proofs.Common.{◌≡◌, ℤ, Bool, true, Option, Some, None, refl}
+use Rattle.std.proofs.Common.{◌≡◌, ℤ, Bool, true, Some, None, refl}
 use Rattle.cmc_meta.specs.declared.conditions.ConditionKind.TheVariants as kinds
 use Rattle.cmc_objects.specs.declared.orders.Signing.{Signing}
 use Rattle.cmc_objects.specs.declared.orders.Signing.TheVariants.{Issued, Pending, Failed}

@@ -12,3 +12,4 @@ pub mod Answered
 pub mod Admitted
 pub mod OwnSecrets
 pub mod WellSeen
+pub mod Replies
