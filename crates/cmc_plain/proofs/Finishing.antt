@@ -21,7 +21,7 @@ use Rattle.cmc_model.specs.declared.write.Write.{Write}
 use Rattle.cmc_pass.specs.declared.pass.Views.{Views}
 use Rattle.cmc_pass.specs.declared.pass.Desk.{Desk}
 use Rattle.cmc_pass.specs.declared.pass.Act.{Act}
-use Rattle.cmc_pass.specs.declared.pass.Act.TheVariants.{Nothing, Call as Calls, Ask as Asks, Issue}
+use Rattle.cmc_pass.specs.declared.pass.Act.TheVariants.{Nothing, Call as Calls, Ask as Asks, Issue, Temporary}
 use Rattle.cmc_rules.specs.declared.progress.Obstacle.{Obstacle}
 use Rattle.cmc_rules.specs.declared.progress.Obstacle.TheVariants.{Failure, Newer}
 use Rattle.cmc_rules.specs.declared.progress.OpenPass.{OpenPass}
@@ -189,6 +189,7 @@ is_nothing Nothing = inl refl
 is_nothing (Calls call) = inr (λ is. absurd (cc is))
 is_nothing (Asks order) = inr (λ is. absurd (cc is))
 is_nothing (Issue plan) = inr (λ is. absurd (cc is))
+is_nothing (Temporary plan) = inr (λ is. absurd (cc is))
 
 is_idle : (s : Setting) (h : List Entry) (role : Role) (key : Key) → IsIdle s h role (views s h role key) ⊎ IsBusy s h role key
 is_idle s h role key = is_nothing (act role (views s h role key) (moment s h) (desk s h role (views s h role key)))

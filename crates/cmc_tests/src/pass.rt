@@ -2,8 +2,8 @@
 use crate::values::{key, new_meta};
 use crate::whole::{request, secret};
 use cmc_meta::{Bytes, Kind};
-use cmc_objects::{Call, CsrOrder, Order, Secret};
-use cmc_pass::{Act, IssuePlan, Views};
+use cmc_objects::{Call, CsrOrder, Order, Secret, Signing};
+use cmc_pass::{Act, IssuePlan, TemporaryPlan, Value, Views};
 use std::alloc::Global;
 use std::test::Fail;
 
@@ -45,6 +45,7 @@ fn told(act: &Act) -> &'static str {
         Act::Call(_) => "call",
         Act::Ask(_) => "ask",
         Act::Issue(_) => "issue",
+        Act::Temporary(_) => "temporary",
     }
 }
 
@@ -68,5 +69,43 @@ fn acts_are_copied(rt: HostRuntime) -> Result<(), Fail> {
     assert_eq!(rt; told(&Act::Call(get).copy()?), "call");
     assert_eq!(rt; told(&Act::Ask(order).copy()?), "ask");
     assert_eq!(rt; told(&Act::Issue(plan).copy()?), "issue");
+    Ok(())
+}
+
+#[test]
+fn temporary_plans_are_copied(rt: HostRuntime) -> Result<(), Fail> {
+    let alloc = rt.alloc();
+    let secret = Call::Get {
+        key: key(alloc, Kind::Secret, "web")?,
+    };
+    let plan = TemporaryPlan {
+        get: key(alloc, Kind::Certificate, "web")?,
+        version: 1,
+        secret,
+    };
+    assert_eq!(rt; told(&Act::Temporary(plan).copy()?), "temporary");
+    Ok(())
+}
+
+/// The value, in a word.
+fn said(value: &Value) -> &'static str {
+    match value {
+        Value::Made(_) => "made",
+        Value::Signed(_) => "signed",
+        Value::Answered(_) => "answered",
+        Value::Judged(_) => "judged",
+    }
+}
+
+#[test]
+fn values_are_copied(rt: HostRuntime) -> Result<(), Fail> {
+    let alloc = rt.alloc();
+    assert_eq!(rt; said(&Value::Made(Bytes::new(alloc)).copy()?), "made");
+    assert_eq!(rt; said(&Value::Signed(Bytes::new(alloc)).copy()?), "signed");
+    assert_eq!(rt;
+        said(&Value::Answered(Signing::Pending).copy()?),
+        "answered"
+    );
+    assert_eq!(rt; said(&Value::Judged(true).copy()?), "judged");
     Ok(())
 }
