@@ -1,6 +1,6 @@
 //! The Secret that the controller writes.
 ghost use Rattle.std.specs.Prelude.{◌≡◌, [], IfOk, OnOk, codes, pos};
-ghost use Rattle.cmc_meta.specs.PairLists.{with_text, without_text};
+ghost use Rattle.cmc_meta.specs.PairLists.{with_text};
 ghost use Rattle.cmc_rules.specs.Issuing as table;
 
 use cmc_meta::{Bytes, ObjectMeta, Owners, Pairs, Text};
@@ -69,11 +69,19 @@ fn put_stand_in(alloc: Global, marks: &mut Pairs) -> Result<(), AllocError>
     )
 }
 
+#[tactic(auto, using(crate::proofs::PairLists::taken_out))]
+fn drop_mark(marks: &mut Pairs, name: &Text)
+    ensures { marks.new ≡ table.without name.now marks.old }
+{
+    let _count = marks.as_map().len();
+    marks.remove(name);
+}
+
 fn drop_stand_in(alloc: Global, marks: &mut Pairs) -> Result<(), AllocError>
-    ensures { OnOk result (marks.new ≡ without_text marks.old (codes "cert-manager.io/temporary-certificate")) }
+    ensures { OnOk result (marks.new ≡ table.without (codes "cert-manager.io/temporary-certificate") marks.old) }
 {
     let name = Text::from_str(alloc, "cert-manager.io/temporary-certificate")?;
-    marks.remove(&name);
+    drop_mark(marks, &name);
     Ok(())
 }
 
@@ -102,12 +110,20 @@ fn put_part(alloc: Global, parts: &mut Parts, name: &str, bytes: &Bytes) -> Resu
     parts.set(name, bytes.copy()?)
 }
 
+#[tactic(auto, using(crate::proofs::PairLists::taken_out))]
+fn drop_part(parts: &mut Parts, name: &Text)
+    ensures { parts.new ≡ table.without name.now parts.old }
+{
+    let _count = parts.as_map().len();
+    parts.remove(name);
+}
+
 fn put_ca(alloc: Global, parts: &mut Parts, ca: &Bytes) -> Result<(), AllocError>
     ensures { OnOk result (parts.new ≡ table.with_ca ca.now parts.old) }
 {
     let name = Text::from_str(alloc, "ca.crt")?;
     match ca.as_slice() {
-        [] => parts.remove(&name),
+        [] => drop_part(parts, &name),
         _ => parts.set(name, ca.copy()?)?,
     }
     Ok(())
