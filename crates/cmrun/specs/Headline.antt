@@ -6,6 +6,7 @@ use Rattle.serde_json.specs.Read.{read}
 use Rattle.cmc_objects.specs.declared.entry.Entry.{Entry}
 use Rattle.cmc_model.specs.Histories.{objects}
 use Rattle.cmc_rules.specs.Rights.{KeepsRights}
+use Rattle.cmc_rules.specs.Safety.{IsSafe}
 use Rattle.cmc_rules.specs.Runs.{IsRun, IsFinished}
 use Rattle.cmc_model.specs.Summaries.{summary_of}
 use Rattle.cmc_report.specs.Text.{joined, history_lines}
@@ -24,6 +25,7 @@ pub record RunsOn (value : Data) (scenario : Scenario) (text : List ℕ) : Type 
   pub history : List Entry
   pub run : IsRun (setting_of scenario) history
   pub rights : KeepsRights (setting_of scenario) history
+  pub safe : IsSafe (setting_of scenario) history
   pub plain : IsPlain (setting_of scenario) history
   pub finished : IsFinished (setting_of scenario) history
   pub is : text ≡ joined (history_lines value history (summary_of (objects (setting_of scenario) history)))

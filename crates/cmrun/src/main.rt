@@ -5,6 +5,7 @@
 #![tactic(auto)]
 
 mod memory;
+mod safety;
 mod sink;
 mod source;
 mod top;

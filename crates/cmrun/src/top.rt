@@ -9,6 +9,7 @@ ghost use Rattle.cmc_rules.specs.Runs.{IsFinished};
 ghost use Rattle.cmrun.specs.Headline.{Answers, IsRunOf, RunsOn};
 ghost use Rattle.cmrun.specs.Statuses.{Explains, Leaves, Refuses, RefusesValue, SpendsOn, exit_code, is_run_words, message_of, path_of, reads_failed, reads_nothing, writes_failed, writes_nothing};
 
+use crate::safety::is_safe;
 use crate::sink::{Sink, write_lines};
 use crate::source::{ReadError, Source, read_all};
 use cmc_meta::Text;
@@ -60,6 +61,7 @@ fn lines_of(alloc: Global, value: &Value, world: &World) -> Result<Lines, AllocE
     ensures { IfOk result (λ lines. RunsOn (view value.now) world.now.scenario (joined lines)) }
 {
     world.is_run();
+    is_safe(world);
     let counts = summary(alloc, world)?;
     history_text(alloc, value, world.history(), &counts)
 }
