@@ -2,7 +2,6 @@
 use Rattle.std.proofs.Common.{◌≡◌, ◌==◌, ℕ, ℤ, ◌+◌, List, [], ◌∷◌, length, Option, Some, None, Bool, true, false, refl, sym, ap, subst, ◌∙◌, inl, inr}
 use Rattle.std.proofs.lemmas.Bool.Decides.{Decides-eqb}
 use Rattle.std.specs.Prelude.{if◌then◌else◌, option_map, IfSome}
-use Rattle.cmc_meta.specs.declared.key.Key.{Key}
 use Rattle.cmc_meta.specs.declared.key.Kind.{Kind}
 use Rattle.cmc_objects.specs.declared.certificate.Certificate.{Certificate}
 use Rattle.cmc_objects.specs.declared.object.Object.{Object}
@@ -23,7 +22,6 @@ use Rattle.cmc_pass.specs.declared.value.Value.TheVariants as values
 use Rattle.cmc_pass.specs.declared.pass.Views.{Views}
 use Rattle.cmc_pass.specs.declared.pass.Act.{Act}
 use Rattle.cmc_pass.specs.declared.pass.Act.TheVariants.{Nothing, Call as Calls, Ask as Asks, Issue, Temporary}
-use Rattle.cmc_model.specs.Objects.{object_at}
 use Rattle.cmc_model.specs.Replies.{IsReply, key_of_call}
 use Rattle.cmc_model.specs.Histories.{Setting, state, objects}
 use Rattle.cmc_model.specs.Writes.{writes, last_under}
@@ -37,13 +35,12 @@ use Rattle.cmc_rules.specs.Passes.{open_pass, asking, given, gone_on, is_as_seen
 use Rattle.cmc_rules.specs.Legality.{IsLegal}
 use Rattle.cmc_rules.specs.Causes.{act_of, MayCall, IsCaused, IsAsked, AsksBy, MayAsk, IsGivenBy, MayGive}
 use Rattle.cmc_rules.specs.Safety.{Stands, IsLiveRead, IsSecretWrite, IsServed, IsSecretSaved}
-use Rattle.cmc_rules.specs.Sighting.{OnSeen}
 use Rattle.cmc_rules.specs.Sound.{IsOrdinary, IsAnswer, WritesTarget, IsSigned, IsMarked, IsRaiseOf, IsQuestion, IsFollowed, IsWithin, IsSound}
 use Rattle.cmc_rules.proofs.Carrying.{over_begin, over_end, over_stop}
 use Rattle.cmc_rules.proofs.Sights.{seen_certificate}
 use Rattle.cmc_rules.proofs.Sighted.{AreKnown, stands_as_seen}
 use Rattle.cmc_rules.proofs.WellSeen.{SawAll, saw_all}
-use Rattle.cmc_safety.proofs.NextCalls.{IsLiveCall, IsIssuingCall, IsStandInCall, IsCallAt, IsFollowedAt, IsReadOf, call_at, found_is_read, no_read}
+use Rattle.cmc_safety.proofs.NextCalls.{IsLiveCall, IsCallAt, IsFollowedAt, IsReadOf, call_at, found_is_read, no_read}
 
 -- the tables of all roles are sound
 abbrev pub AreSound : Type 0

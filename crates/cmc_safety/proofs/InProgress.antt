@@ -9,7 +9,6 @@ use Rattle.cmc_objects.specs.declared.certificate.Certificate.{Certificate}
 use Rattle.cmc_objects.specs.declared.object.Object.{Object}
 use Rattle.cmc_objects.specs.declared.object.Object.TheVariants.{Cert, Request, Secret}
 use Rattle.cmc_objects.specs.declared.call.Call.{Call}
-use Rattle.cmc_objects.specs.declared.call.Call.TheVariants.{Create, Update, UpdateStatus, Delete, Get}
 use Rattle.cmc_objects.specs.declared.call.Reply.{Reply}
 use Rattle.cmc_objects.specs.declared.call.Reply.TheVariants.{Ok, Unchanged, Found, Conflict, NotFound, AlreadyExists, Invalid, Unavailable}
 use Rattle.cmc_objects.specs.declared.role.Role.{Role}
@@ -54,7 +53,7 @@ use Rattle.cmc_safety.proofs.Alone.{one_pass}
 use Rattle.cmc_safety.proofs.LastVersions.{standing_is_last, revision_kept, revision_of_other}
 use Rattle.cmc_safety.proofs.Users.{users_keep}
 use Rattle.cmc_safety.proofs.NextCalls.{IsLiveCall, IsCallAt, IsReadOf, found_is_read, on_weaker}
-use Rattle.cmc_safety.proofs.Course.{AreSound, at_open, attached, over_entry, same_number, HasDoneSo, has_done, next_call, live_object, live_at}
+use Rattle.cmc_safety.proofs.Course.{AreSound, attached, over_entry, same_number, HasDoneSo, has_done, next_call, live_object, live_at}
 
 -- ---- the Certificate that a pass saw stood under the pass's key
 

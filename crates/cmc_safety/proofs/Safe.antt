@@ -1,5 +1,5 @@
 -- Every history that is legal, caused and follows its script is safe.
-use Rattle.std.proofs.Common.{◌≡◌, ◌==◌, ◌⊎◌, ℕ, ℤ, ◌+◌, ◌≤◌, List, [], ◌∷◌, length, Option, Some, None, Bool, true, false, refl, sym, ap, subst, ◌∙◌, inl, inr, arith}
+use Rattle.std.proofs.Common.{◌≡◌, ◌==◌, ℕ, ◌+◌, ◌≤◌, List, [], ◌∷◌, length, Option, Some, None, Bool, true, false, refl, sym, ap, subst, ◌∙◌, inl, inr, arith}
 use Rattle.std.proofs.lemmas.Bool.Decides.{nat_tests}
 use Rattle.std.specs.Prelude.{if◌then◌else◌, MatchBool, IfSome, filter, find, nat_le}
 use Rattle.cmc_meta.specs.declared.key.Key.{Key}
@@ -9,7 +9,7 @@ use Rattle.cmc_objects.specs.declared.secret.Secret.{Secret as SecretObject}
 use Rattle.cmc_objects.specs.declared.object.Object.{Object}
 use Rattle.cmc_objects.specs.declared.object.Object.TheVariants.{Cert, Request, Secret}
 use Rattle.cmc_objects.specs.declared.call.Call.{Call}
-use Rattle.cmc_objects.specs.declared.call.Call.TheVariants.{Create, Update, UpdateStatus, Delete, Get}
+use Rattle.cmc_objects.specs.declared.call.Call.TheVariants.{UpdateStatus}
 use Rattle.cmc_objects.specs.declared.call.Reply.{Reply}
 use Rattle.cmc_objects.specs.declared.orders.Order.{Order}
 use Rattle.cmc_objects.specs.declared.orders.Order.TheVariants as orders
@@ -21,7 +21,6 @@ use Rattle.cmc_objects.specs.declared.entry.Who.TheVariants.{User, Pass}
 use Rattle.cmc_objects.specs.declared.entry.Entry.{Entry}
 use Rattle.cmc_objects.specs.declared.entry.Entry.TheVariants.{Call as Called, Ask, Judged}
 use Rattle.cmc_objects.specs.Requests.{is_approved, is_denied}
-use Rattle.cmc_objects.specs.Objects.{version_of}
 use Rattle.cmc_match.specs.Marks.{is_temporary}
 use Rattle.cmc_match.specs.Revisions.{is_of, only_of}
 use Rattle.cmc_pass.specs.Values.{IsValue}
@@ -32,7 +31,7 @@ use Rattle.cmc_model.specs.Objects.{object_at}
 use Rattle.cmc_model.specs.Replies.{IsReply, is_accepted, key_of_call, settled, stored}
 use Rattle.cmc_model.specs.Accepting.{IsFounded}
 use Rattle.cmc_model.specs.Histories.{Setting, moment, state, objects, accepted}
-use Rattle.cmc_model.specs.Verdicts.{HasOneVerdict, KeepsVerdicts, AreFinal}
+use Rattle.cmc_model.specs.Verdicts.{AreFinal}
 use Rattle.cmc_model.specs.Versions.{HasVersion, IsVersion}
 use Rattle.cmc_model.specs.Writes.{writes, write_of}
 use Rattle.cmc_model.proofs.Accepting.{accepted_found}
@@ -54,7 +53,7 @@ use Rattle.cmc_rules.proofs.Sighted.{AreKnown, IsStored, as_seen}
 use Rattle.cmc_rules.proofs.WellSeen.{SawAll, saw_all}
 use Rattle.cmc_safety.proofs.Users.{users_keep}
 use Rattle.cmc_safety.proofs.NextCalls.{IsCallAt}
-use Rattle.cmc_safety.proofs.Course.{AreSound, at_open, IsValueOf, HasAsked, HasValue, HasRead, HasDone, HasDoneSo, question_of}
+use Rattle.cmc_safety.proofs.Course.{AreSound, at_open, IsValueOf, HasValue, HasRead, HasDone, question_of}
 use Rattle.cmc_safety.proofs.InProgress.{IsCaller, caller_of, not_accepted, IsInProgress, WhileIssuing, IsSteady, IsOrdered, ordered_below, in_progress}
 
 -- ---- words

@@ -1,5 +1,5 @@
 -- A user leaves what each object says of its revision.
-use Rattle.std.proofs.Common.{◌≡◌, ℕ, ℤ, ◌+◌, List, [], ◌∷◌, Option, Some, None, refl, sym, ap, subst, ◌∙◌, true, option_and_then}
+use Rattle.std.proofs.Common.{◌≡◌, ℕ, ℤ, ◌+◌, List, [], ◌∷◌, Option, Some, None, refl, ap, subst, ◌∙◌, true, option_and_then}
 use Rattle.std.specs.Prelude.{codes, option_map}
 use Rattle.cmc_meta.specs.declared.key.Key.{Key}
 use Rattle.cmc_meta.specs.declared.conditions.Condition.{Condition}
