@@ -40,7 +40,7 @@ use Rattle.cmc_rules.proofs.Carrying.{over_begin, over_end, over_stop}
 use Rattle.cmc_rules.proofs.Sights.{seen_certificate}
 use Rattle.cmc_rules.proofs.Sighted.{AreKnown, stands_as_seen}
 use Rattle.cmc_rules.proofs.WellSeen.{SawAll, saw_all}
-use Rattle.cmc_safety.proofs.NextCalls.{IsLiveCall, IsCallAt, IsFollowedAt, IsReadOf, call_at, found_is_read, no_read}
+use Rattle.cmc_safety.proofs.NextCalls.{IsLiveCall, IsCallAt, IsFollowedAt, ReadsObject, call_at, found_is_read, no_read}
 
 -- the tables of all roles are sound
 abbrev pub AreSound : Type 0
@@ -48,13 +48,13 @@ AreSound = (role : Role) → IsSound role
 
 -- ---- an open pass
 
-pub at_open : (P : OpenPass → Type 0) (x : Option OpenPass) (p : OpenPass) → x ≡ Some p → IfSome x P → P p
-at_open P x p is holds = subst (λ (y : Option OpenPass). IfSome y P) is holds
+pub of_open : (P : OpenPass → Type 0) (x : Option OpenPass) (p : OpenPass) → x ≡ Some p → IfSome x P → P p
+of_open P x p is holds = subst (λ (y : Option OpenPass). IfSome y P) is holds
 
 -- with what holds of it
-pub attached : (P : OpenPass → Type 0) (x : Option OpenPass) → IfSome x P → IfSome x (λ q. (x ≡ Some q) × P q)
-attached P None holds = tt
-attached P (Some p) holds = (refl, holds)
+pub with_equation : (P : OpenPass → Type 0) (x : Option OpenPass) → IfSome x P → IfSome x (λ q. (x ≡ Some q) × P q)
+with_equation P None holds = tt
+with_equation P (Some p) holds = (refl, holds)
 
 entry_by : (P Q : OpenPass → Type 0) (own : Bool) (stage : OpenPass → Stage) (x : Option OpenPass) → (own ≡ true → (q : OpenPass) → P q → Q (with_stage (stage q) q))
     → (own ≡ false → (q : OpenPass) → P q → Q q) → IfSome x P → IfSome (if own then option_map (λ (q : OpenPass). with_stage (stage q) q) x else x) Q
@@ -64,9 +64,9 @@ entry_by P Q false stage None here there holds = tt
 entry_by P Q false stage (Some p) here there holds = there refl p holds
 
 -- an entry of the pass of number m, for the pass of number n
-pub over_entry : (P Q : OpenPass → Type 0) (n m : ℕ) (stage : OpenPass → Stage) (x : Option OpenPass) → ((n == m) ≡ true → (q : OpenPass) → P q → Q (with_stage (stage q) q))
+pub over_own_entry : (P Q : OpenPass → Type 0) (n m : ℕ) (stage : OpenPass → Stage) (x : Option OpenPass) → ((n == m) ≡ true → (q : OpenPass) → P q → Q (with_stage (stage q) q))
     → ((n == m) ≡ false → (q : OpenPass) → P q → Q q) → IfSome x P → IfSome (gone_on n m stage x) Q
-over_entry P Q n m stage x here there holds = entry_by P Q (n == m) stage x here there holds
+over_own_entry P Q n m stage x here there holds = entry_by P Q (n == m) stage x here there holds
 
 pub same_number : (n m : ℕ) → (n == m) ≡ true → n ≡ m
 same_number n m is = (Decides-eqb n m).0 is
@@ -74,11 +74,11 @@ same_number n m is = (Decides-eqb n m).0 is
 -- ---- what has happened
 
 -- the entry that gives the value
-abbrev pub IsValueOf : ℕ → Value → Entry → Type 0
-IsValueOf pass (values.Made key) e = e ≡ Made pass key
-IsValueOf pass (values.Signed signature) e = e ≡ Signed pass signature
-IsValueOf pass (values.Answered answer) e = e ≡ Answered pass answer
-IsValueOf pass (values.Judged approved) e = e ≡ Judged pass approved
+abbrev pub GivesValue : ℕ → Value → Entry → Type 0
+GivesValue pass (values.Made key) e = e ≡ Made pass key
+GivesValue pass (values.Signed signature) e = e ≡ Signed pass signature
+GivesValue pass (values.Answered answer) e = e ≡ Answered pass answer
+GivesValue pass (values.Judged approved) e = e ≡ Judged pass approved
 
 -- the question is the role's, and a call follows each right value of it
 pub record HasAsked (h : List Entry) (pass : ℕ) (role : Role) (seen : Views) (since : ℤ) (order : Order) : Type 0 where
@@ -88,57 +88,57 @@ pub record HasAsked (h : List Entry) (pass : ℕ) (role : Role) (seen : Views) (
 
 pub record HasValue (h : List Entry) (pass : ℕ) (role : Role) (seen : Views) (since : ℤ) (order : Order) (value : Value) : Type 0 where
   pub asked : HasAsked h pass role seen since order
-  pub given : Stands (IsValueOf pass value) h
+  pub given : Stands (GivesValue pass value) h
   pub right : IsValue order value
 
-pub record HasRead (h : List Entry) (pass : ℕ) (seen : Views) : Type 0 where
+pub record HasReadLive (h : List Entry) (pass : ℕ) (seen : Views) : Type 0 where
   pub certificate : Certificate
   pub sees : seen.certificate ≡ Some certificate
   pub read : Stands (IsLiveRead pass certificate) h
 
-abbrev pub HasDone : List Entry → ℕ → Role → Views → ℤ → Stage → Type 0
-HasDone h pass role seen since Fresh = Unit {0}
-HasDone h pass role seen since (Asked order) = HasAsked h pass role seen since order
-HasDone h pass role seen since (Given order value) = HasValue h pass role seen since order value
-HasDone h pass role seen since Read = HasRead h pass seen
-HasDone h pass role seen since Saved = Stands (IsSecretSaved pass) h
-HasDone h pass role seen since Wrote = Unit {0}
-HasDone h pass role seen since (Refused entry obstacle) = Unit {0}
-HasDone h pass role seen since Barred = Unit {0}
+abbrev pub HasCome : List Entry → ℕ → Role → Views → ℤ → Stage → Type 0
+HasCome h pass role seen since Fresh = Unit {0}
+HasCome h pass role seen since (Asked order) = HasAsked h pass role seen since order
+HasCome h pass role seen since (Given order value) = HasValue h pass role seen since order value
+HasCome h pass role seen since Read = HasReadLive h pass seen
+HasCome h pass role seen since Saved = Stands (IsSecretSaved pass) h
+HasCome h pass role seen since Wrote = Unit {0}
+HasCome h pass role seen since (Refused entry obstacle) = Unit {0}
+HasCome h pass role seen since Barred = Unit {0}
 
-abbrev pub HasDoneSo : List Entry → ℕ → OpenPass → Type 0
-HasDoneSo h pass p = HasDone h pass p.role p.seen p.since p.stage
+abbrev pub HasComeTo : List Entry → ℕ → OpenPass → Type 0
+HasComeTo h pass p = HasCome h pass p.role p.seen p.since p.stage
 
 asked_more : (e : Entry) (h : List Entry) (pass : ℕ) (role : Role) (seen : Views) (since : ℤ) (order : Order) → HasAsked h pass role seen since order → HasAsked (e ∷ h) pass role seen since order
 asked_more e h pass role seen since order has = record { asked = inr has.asked; question = has.question; followed = has.followed }
 
-done_more : (e : Entry) (h : List Entry) (pass : ℕ) (role : Role) (seen : Views) (since : ℤ) (stage : Stage) → HasDone h pass role seen since stage → HasDone (e ∷ h) pass role seen since stage
-done_more e h pass role seen since Fresh has = has
-done_more e h pass role seen since (Asked order) has = asked_more e h pass role seen since order has
-done_more e h pass role seen since (Given order value) has = record { asked = asked_more e h pass role seen since order has.asked; given = inr has.given; right = has.right }
-done_more e h pass role seen since Read has = record { certificate = has.certificate; sees = has.sees; read = inr has.read }
-done_more e h pass role seen since Saved has = inr has
-done_more e h pass role seen since Wrote has = has
-done_more e h pass role seen since (Refused entry obstacle) has = has
-done_more e h pass role seen since Barred has = has
+come_more : (e : Entry) (h : List Entry) (pass : ℕ) (role : Role) (seen : Views) (since : ℤ) (stage : Stage) → HasCome h pass role seen since stage → HasCome (e ∷ h) pass role seen since stage
+come_more e h pass role seen since Fresh has = has
+come_more e h pass role seen since (Asked order) has = asked_more e h pass role seen since order has
+come_more e h pass role seen since (Given order value) has = record { asked = asked_more e h pass role seen since order has.asked; given = inr has.given; right = has.right }
+come_more e h pass role seen since Read has = record { certificate = has.certificate; sees = has.sees; read = inr has.read }
+come_more e h pass role seen since Saved has = inr has
+come_more e h pass role seen since Wrote has = has
+come_more e h pass role seen since (Refused entry obstacle) has = has
+come_more e h pass role seen since Barred has = has
 
-so_more : (e : Entry) (h : List Entry) (n : ℕ) (q : OpenPass) → HasDoneSo h n q → HasDoneSo (e ∷ h) n q
-so_more e h n q has = done_more e h n q.role q.seen q.since q.stage has
+so_more : (e : Entry) (h : List Entry) (n : ℕ) (q : OpenPass) → HasComeTo h n q → HasComeTo (e ∷ h) n q
+so_more e h n q has = come_more e h n q.role q.seen q.since q.stage has
 
-older : (e : Entry) (h : List Entry) (n : ℕ) (x : Option OpenPass) → IfSome x (HasDoneSo h n) → IfSome x (HasDoneSo (e ∷ h) n)
-older e h n None has = tt
-older e h n (Some p) has = so_more e h n p has
+come_longer : (e : Entry) (h : List Entry) (n : ℕ) (x : Option OpenPass) → IfSome x (HasComeTo h n) → IfSome x (HasComeTo (e ∷ h) n)
+come_longer e h n None has = tt
+come_longer e h n (Some p) has = so_more e h n p has
 
 -- ---- the act of a pass, and its next call
 
 pub within_act : AreSound → (s : Setting) (h : List Entry) (p : OpenPass) → SawAll (writes s h) p → IsWithin p.role (call_after p.role p.seen p.since) p.seen p.since (act_of s h p)
 within_act sound s h p saw = (sound p.role).within p.seen p.since (desk s h p.role p.seen) saw.well
 
-followed_at : (h : List Entry) (pass : ℕ) (role : Role) (seen : Views) (since : ℤ) (stage : Stage) → HasDone h pass role seen since stage → IsFollowedAt stage role (call_after role seen since) seen since
+followed_at : (h : List Entry) (pass : ℕ) (role : Role) (seen : Views) (since : ℤ) (stage : Stage) → HasCome h pass role seen since stage → IsFollowedAt stage role (call_after role seen since) seen since
 followed_at h pass role seen since (Given order value) has = has.asked.followed value has.right
 followed_at h pass role seen since other has = tt
 
-pub next_call : AreSound → (s : Setting) (h : List Entry) (n : ℕ) (p : OpenPass) (call : Call) → SawAll (writes s h) p → HasDoneSo h n p → MayCall s h (Some p) call → IsCallAt p.stage p.role p.seen p.since call
+pub next_call : AreSound → (s : Setting) (h : List Entry) (n : ℕ) (p : OpenPass) (call : Call) → SawAll (writes s h) p → HasComeTo h n p → MayCall s h (Some p) call → IsCallAt p.stage p.role p.seen p.since call
 next_call sound s h n p call saw has may =
     call_at p.stage p.role (call_after p.role p.seen p.since) p.seen p.since (act_of s h p) call (within_act sound s h p saw) (followed_at h n p.role p.seen p.since p.stage has) may
 
@@ -171,20 +171,20 @@ asked_at h pass role seen since Barred does order stands within is = absurd is
 pub question_of : AreSound → (s : Setting) (h : List Entry) (n : ℕ) (q : OpenPass) (order : Order) → SawAll (writes s h) q → MayAsk s h (Some q) order → HasAsked (Ask n order ∷ h) n q.role q.seen q.since order
 question_of sound s h n q order saw may = asked_at (Ask n order ∷ h) n q.role q.seen q.since q.stage (act_of s h q) order (inl refl) (within_act sound s h q saw) may
 
-done_asking : AreSound → (s : Setting) (h : List Entry) (n pass : ℕ) (order : Order) → IsLegal s h → MayAsk s h (open_pass s h pass) order → IfSome (open_pass s h n) (HasDoneSo h n)
-    → IfSome (asking n pass order (open_pass s h n)) (HasDoneSo (Ask pass order ∷ h) n)
-done_asking sound s h n pass order legal may has =
-    over_entry (λ q. (open_pass s h n ≡ Some q) × HasDoneSo h n q) (HasDoneSo (Ask pass order ∷ h) n) n pass (λ (q : OpenPass). Asked order) (open_pass s h n)
+come_asking : AreSound → (s : Setting) (h : List Entry) (n pass : ℕ) (order : Order) → IsLegal s h → MayAsk s h (open_pass s h pass) order → IfSome (open_pass s h n) (HasComeTo h n)
+    → IfSome (asking n pass order (open_pass s h n)) (HasComeTo (Ask pass order ∷ h) n)
+come_asking sound s h n pass order legal may has =
+    over_own_entry (λ q. (open_pass s h n ≡ Some q) × HasComeTo h n q) (HasComeTo (Ask pass order ∷ h) n) n pass (λ (q : OpenPass). Asked order) (open_pass s h n)
     (λ here q holds.
     let one : n ≡ pass = same_number n pass here in
     let its : open_pass s h pass ≡ Some q = ap (open_pass s h) (sym one) ∙ holds.0 in
-    let saw : SawAll (writes s h) q = at_open (SawAll (writes s h)) (open_pass s h n) q holds.0 (saw_all s h n legal) in
+    let saw : SawAll (writes s h) q = of_open (SawAll (writes s h)) (open_pass s h n) q holds.0 (saw_all s h n legal) in
     subst (λ (m : ℕ). HasAsked (Ask m order ∷ h) n q.role q.seen q.since order) one (question_of sound s h n q order saw (subst (λ (x : Option OpenPass). MayAsk s h x order) its may)))
     (λ there q holds. so_more (Ask pass order) h n q holds.1)
-    (attached (HasDoneSo h n) (open_pass s h n) has)
+    (with_equation (HasComeTo h n) (open_pass s h n) has)
 
-given_at : (e : Entry) (h : List Entry) (n : ℕ) (value : Value) (role : Role) (seen : Views) (since : ℤ) (stage : Stage) → IsValueOf n value e → IsGivenBy stage value → HasDone h n role seen since stage
-    → HasDone (e ∷ h) n role seen since (stage_given value stage)
+given_at : (e : Entry) (h : List Entry) (n : ℕ) (value : Value) (role : Role) (seen : Views) (since : ℤ) (stage : Stage) → GivesValue n value e → IsGivenBy stage value → HasCome h n role seen since stage
+    → HasCome (e ∷ h) n role seen since (stage_given value stage)
 given_at e h n value role seen since Fresh is may has = absurd may
 given_at e h n value role seen since (Asked order) is may has = record { asked = asked_more e h n role seen since order has; given = inl is; right = may }
 given_at e h n value role seen since (Given order old) is may has = absurd may
@@ -194,16 +194,16 @@ given_at e h n value role seen since Wrote is may has = absurd may
 given_at e h n value role seen since (Refused entry obstacle) is may has = absurd may
 given_at e h n value role seen since Barred is may has = absurd may
 
-done_giving : (s : Setting) (e : Entry) (h : List Entry) (n pass : ℕ) (value : Value) → IsValueOf pass value e → MayGive (open_pass s h pass) value → IfSome (open_pass s h n) (HasDoneSo h n)
-    → IfSome (given n pass value (open_pass s h n)) (HasDoneSo (e ∷ h) n)
-done_giving s e h n pass value is may has =
-    over_entry (λ q. (open_pass s h n ≡ Some q) × HasDoneSo h n q) (HasDoneSo (e ∷ h) n) n pass (λ (q : OpenPass). stage_given value q.stage) (open_pass s h n)
+come_giving : (s : Setting) (e : Entry) (h : List Entry) (n pass : ℕ) (value : Value) → GivesValue pass value e → MayGive (open_pass s h pass) value → IfSome (open_pass s h n) (HasComeTo h n)
+    → IfSome (given n pass value (open_pass s h n)) (HasComeTo (e ∷ h) n)
+come_giving s e h n pass value is may has =
+    over_own_entry (λ q. (open_pass s h n ≡ Some q) × HasComeTo h n q) (HasComeTo (e ∷ h) n) n pass (λ (q : OpenPass). stage_given value q.stage) (open_pass s h n)
     (λ here q holds.
     let one : n ≡ pass = same_number n pass here in
     let its : open_pass s h pass ≡ Some q = ap (open_pass s h) (sym one) ∙ holds.0 in
-    given_at e h n value q.role q.seen q.since q.stage (subst (λ (m : ℕ). IsValueOf m value e) (sym one) is) (subst (λ (x : Option OpenPass). MayGive x value) its may) holds.1)
+    given_at e h n value q.role q.seen q.since q.stage (subst (λ (m : ℕ). GivesValue m value e) (sym one) is) (subst (λ (x : Option OpenPass). MayGive x value) its may) holds.1)
     (λ there q holds. so_more e h n q holds.1)
-    (attached (HasDoneSo h n) (open_pass s h n) has)
+    (with_equation (HasComeTo h n) (open_pass s h n) has)
 
 -- ---- calls
 
@@ -214,27 +214,27 @@ as_seen_version (Some d) c o sees same =
     (Decides-eqb (version_of o) d.meta.version).0 same ∙ ap (λ (x : Certificate). x.meta.version) one
 
 -- what a live read found at the version that was seen is what was seen
-pub live_object : (s : Setting) (h : List Entry) (role : Role) (seen : Views) (call : Call) (o : Object) → IsLegal s h → AreKnown (writes s h) seen → (live : IsLiveCall role seen call) → IsReadOf (objects s h) call o
+pub live_object : (s : Setting) (h : List Entry) (role : Role) (seen : Views) (call : Call) (o : Object) → IsLegal s h → AreKnown (writes s h) seen → (live : IsLiveCall role seen call) → ReadsObject (objects s h) call o
     → is_as_seen seen.certificate o ≡ true → Cert live.certificate ≡ o
 live_object s h role seen call o legal known live is same =
     let c = live.certificate in
     stands_as_seen s h seen (key_of (Cert c)) c.meta.version (Cert c) o legal known (seen_certificate seen c live.sees) refl
-    (subst (λ (k : Call). IsReadOf (objects s h) k o) live.get is) (as_seen_version seen.certificate c o live.sees same)
+    (subst (λ (k : Call). ReadsObject (objects s h) k o) live.get is) (as_seen_version seen.certificate c o live.sees same)
 
 -- the call that read an object is the live read
-pub live_at : (s : Setting) (h : List Entry) (role : Role) (seen : Views) (since : ℤ) (stage : Stage) (call : Call) (o : Object) → IsReadOf (objects s h) call o → IsCallAt stage role seen since call → IsLiveCall role seen call
+pub live_at : (s : Setting) (h : List Entry) (role : Role) (seen : Views) (since : ℤ) (stage : Stage) (call : Call) (o : Object) → ReadsObject (objects s h) call o → IsCallAt stage role seen since call → IsLiveCall role seen call
 live_at s h role seen since Fresh call o is (inl on) = absurd (no_read (IsOrdinary role since) (objects s h) seen call o is on)
 live_at s h role seen since Fresh call o is (inr live) = live
 live_at s h role seen since (Asked order) call o is at = absurd at
 live_at s h role seen since (Given order value) call o is at = absurd (no_read (IsAnswer role seen since value) (objects s h) seen call o is at)
 live_at s h role seen since Read call o is (inl at) =
     absurd (no_read (WritesTarget role since (IsSigned at.issues.certificate at.issues.request at.issues.file)) (objects s h) seen at.plan.secret o
-    (subst (λ (k : Call). IsReadOf (objects s h) k o) at.planned is) at.issues.secret)
+    (subst (λ (k : Call). ReadsObject (objects s h) k o) at.planned is) at.issues.secret)
 live_at s h role seen since Read call o is (inr at) =
     absurd (no_read (WritesTarget role since (IsMarked at.stands_in.certificate at.stands_in.request at.stands_in.file since)) (objects s h) seen at.plan.secret o
-    (subst (λ (k : Call). IsReadOf (objects s h) k o) at.planned is) at.stands_in.secret)
+    (subst (λ (k : Call). ReadsObject (objects s h) k o) at.planned is) at.stands_in.secret)
 live_at s h role seen since Saved call o is at =
-    absurd (no_read (IsRaiseOf at.issues.certificate since) (objects s h) seen at.plan.status o (subst (λ (k : Call). IsReadOf (objects s h) k o) at.planned is) at.issues.status)
+    absurd (no_read (IsRaiseOf at.issues.certificate since) (objects s h) seen at.plan.status o (subst (λ (k : Call). ReadsObject (objects s h) k o) at.planned is) at.issues.status)
 live_at s h role seen since Wrote call o is at = absurd at
 live_at s h role seen since (Refused entry obstacle) call o is at = absurd at
 live_at s h role seen since Barred call o is at = absurd at
@@ -245,35 +245,35 @@ saves_secret role seen since call (inl at) off = subst IsSecretWrite (sym at.pla
 saves_secret role seen since call (inr at) off =
     absurd (let on : writes_stand_in call ≡ true = ap writes_stand_in at.planned ∙ at.stands_in.is_marked in cc (off, on))
 
-written_done : (e : Entry) (h : List Entry) (n : ℕ) (role : Role) (seen : Views) (since : ℤ) (stand_in : Bool) (stage : Stage) → (stage ≡ Read → stand_in ≡ false → IsSecretSaved n e)
-    → HasDone (e ∷ h) n role seen since (stage_written stand_in stage)
-written_done e h n role seen since true Read saves = tt
-written_done e h n role seen since false Read saves = inl (saves refl refl)
-written_done e h n role seen since stand_in Fresh saves = tt
-written_done e h n role seen since stand_in (Asked order) saves = tt
-written_done e h n role seen since stand_in (Given order value) saves = tt
-written_done e h n role seen since stand_in Saved saves = tt
-written_done e h n role seen since stand_in Wrote saves = tt
-written_done e h n role seen since stand_in (Refused entry obstacle) saves = tt
-written_done e h n role seen since stand_in Barred saves = tt
+come_written : (e : Entry) (h : List Entry) (n : ℕ) (role : Role) (seen : Views) (since : ℤ) (stand_in : Bool) (stage : Stage) → (stage ≡ Read → stand_in ≡ false → IsSecretSaved n e)
+    → HasCome (e ∷ h) n role seen since (stage_written stand_in stage)
+come_written e h n role seen since true Read saves = tt
+come_written e h n role seen since false Read saves = inl (saves refl refl)
+come_written e h n role seen since stand_in Fresh saves = tt
+come_written e h n role seen since stand_in (Asked order) saves = tt
+come_written e h n role seen since stand_in (Given order value) saves = tt
+come_written e h n role seen since stand_in Saved saves = tt
+come_written e h n role seen since stand_in Wrote saves = tt
+come_written e h n role seen since stand_in (Refused entry obstacle) saves = tt
+come_written e h n role seen since stand_in Barred saves = tt
 
-found_done : (b : Bool) (entry : ℕ) (kind : Kind) (version : ℕ) (h : List Entry) (n : ℕ) (role : Role) (seen : Views) (since : ℤ) → (b ≡ true → HasRead h n seen) → HasDone h n role seen since (stage_read b entry kind version)
-found_done true entry kind version h n role seen since reads = reads refl
-found_done false entry kind version h n role seen since reads = tt
+come_found : (b : Bool) (entry : ℕ) (kind : Kind) (version : ℕ) (h : List Entry) (n : ℕ) (role : Role) (seen : Views) (since : ℤ) → (b ≡ true → HasReadLive h n seen) → HasCome h n role seen since (stage_read b entry kind version)
+come_found true entry kind version h n role seen since reads = reads refl
+come_found false entry kind version h n role seen since reads = tt
 
 saved_by : (n : ℕ) (e : Entry) (call : Call) (reply : Reply) (stage : Stage) (role : Role) (seen : Views) (since : ℤ) → e ≡ Called (Pass n) call reply → IsServed reply → IsCallAt stage role seen since call
     → stage ≡ Read → writes_stand_in call ≡ false → IsSecretSaved n e
 saved_by n e call reply stage role seen since is served at read off = (call, reply, is, saves_secret role seen since call (subst (λ (t : Stage). IsCallAt t role seen since call) read at) off, served)
 
 -- by the reply
-replied_done : (s : Setting) (h : List Entry) (n : ℕ) (role : Role) (seen : Views) (since : ℤ) (stage : Stage) (entry : ℕ) (kind : Kind) (last : ℕ) (call : Call) (reply : Reply) (e : Entry) → IsLegal s h → AreKnown (writes s h) seen
-    → IsReply s.faults (state s h) call reply → e ≡ Called (Pass n) call reply → IsCallAt stage role seen since call → HasDone (e ∷ h) n role seen since (stage_by seen.certificate (writes_stand_in call) stage entry kind last reply)
-replied_done s h n role seen since stage entry kind last call (Ok version name) e legal known right is at =
-    written_done e h n role seen since (writes_stand_in call) stage (saved_by n e call (Ok version name) stage role seen since is tt at)
-replied_done s h n role seen since stage entry kind last call (Unchanged version) e legal known right is at =
-    written_done e h n role seen since (writes_stand_in call) stage (saved_by n e call (Unchanged version) stage role seen since is tt at)
-replied_done s h n role seen since stage entry kind last call (Found o) e legal known right is at =
-    found_done (is_as_seen seen.certificate o) entry kind (version_of o) (e ∷ h) n role seen since
+come_replied : (s : Setting) (h : List Entry) (n : ℕ) (role : Role) (seen : Views) (since : ℤ) (stage : Stage) (entry : ℕ) (kind : Kind) (last : ℕ) (call : Call) (reply : Reply) (e : Entry) → IsLegal s h → AreKnown (writes s h) seen
+    → IsReply s.faults (state s h) call reply → e ≡ Called (Pass n) call reply → IsCallAt stage role seen since call → HasCome (e ∷ h) n role seen since (stage_by seen.certificate (writes_stand_in call) stage entry kind last reply)
+come_replied s h n role seen since stage entry kind last call (Ok version name) e legal known right is at =
+    come_written e h n role seen since (writes_stand_in call) stage (saved_by n e call (Ok version name) stage role seen since is tt at)
+come_replied s h n role seen since stage entry kind last call (Unchanged version) e legal known right is at =
+    come_written e h n role seen since (writes_stand_in call) stage (saved_by n e call (Unchanged version) stage role seen since is tt at)
+come_replied s h n role seen since stage entry kind last call (Found o) e legal known right is at =
+    come_found (is_as_seen seen.certificate o) entry kind (version_of o) (e ∷ h) n role seen since
     (λ same.
     let read = found_is_read s.faults (state s h) call o right in
     let live = live_at s h role seen since stage call o read at in
@@ -283,48 +283,48 @@ replied_done s h n role seen since stage entry kind last call (Found o) e legal 
       sees = live.sees;
       read = inl (key_of (Cert live.certificate), is ∙ ap (λ (k : Call). Called (Pass n) k (Found o)) live.get ∙ ap (λ (x : Object). Called (Pass n) (Get (key_of (Cert live.certificate))) (Found x)) (sym found));
     })
-replied_done s h n role seen since stage entry kind last call (Conflict named have) e legal known right is at = tt
-replied_done s h n role seen since stage entry kind last call (NotFound seen_at) e legal known right is at = tt
-replied_done s h n role seen since stage entry kind last call (AlreadyExists have) e legal known right is at = tt
-replied_done s h n role seen since stage entry kind last call (Invalid rule) e legal known right is at = tt
-replied_done s h n role seen since stage entry kind last call (Unavailable number) e legal known right is at = tt
+come_replied s h n role seen since stage entry kind last call (Conflict named have) e legal known right is at = tt
+come_replied s h n role seen since stage entry kind last call (NotFound seen_at) e legal known right is at = tt
+come_replied s h n role seen since stage entry kind last call (AlreadyExists have) e legal known right is at = tt
+come_replied s h n role seen since stage entry kind last call (Invalid rule) e legal known right is at = tt
+come_replied s h n role seen since stage entry kind last call (Unavailable number) e legal known right is at = tt
 
-done_calling : AreSound → (s : Setting) (h : List Entry) (n m : ℕ) (call : Call) (reply : Reply) → IsLegal s h → IsReply s.faults (state s h) call reply → MayCall s h (open_pass s h m) call → IfSome (open_pass s h n) (HasDoneSo h n)
-    → IfSome (gone_on n m (stage_after s h call reply) (open_pass s h n)) (HasDoneSo (Called (Pass m) call reply ∷ h) n)
-done_calling sound s h n m call reply legal right may has =
-    over_entry (λ q. (open_pass s h n ≡ Some q) × HasDoneSo h n q) (HasDoneSo (Called (Pass m) call reply ∷ h) n) n m (stage_after s h call reply) (open_pass s h n)
+come_calling : AreSound → (s : Setting) (h : List Entry) (n m : ℕ) (call : Call) (reply : Reply) → IsLegal s h → IsReply s.faults (state s h) call reply → MayCall s h (open_pass s h m) call → IfSome (open_pass s h n) (HasComeTo h n)
+    → IfSome (gone_on n m (stage_after s h call reply) (open_pass s h n)) (HasComeTo (Called (Pass m) call reply ∷ h) n)
+come_calling sound s h n m call reply legal right may has =
+    over_own_entry (λ q. (open_pass s h n ≡ Some q) × HasComeTo h n q) (HasComeTo (Called (Pass m) call reply ∷ h) n) n m (stage_after s h call reply) (open_pass s h n)
     (λ here q holds.
     let one : n ≡ m = same_number n m here in
     let its : open_pass s h m ≡ Some q = ap (open_pass s h) (sym one) ∙ holds.0 in
-    let saw : SawAll (writes s h) q = at_open (SawAll (writes s h)) (open_pass s h n) q holds.0 (saw_all s h n legal) in
-    replied_done s h n q.role q.seen q.since q.stage (length h + 1) (key_of_call call).kind (last_under (key_of_call call) (writes s h)) call reply (Called (Pass m) call reply) legal saw.known right
+    let saw : SawAll (writes s h) q = of_open (SawAll (writes s h)) (open_pass s h n) q holds.0 (saw_all s h n legal) in
+    come_replied s h n q.role q.seen q.since q.stage (length h + 1) (key_of_call call).kind (last_under (key_of_call call) (writes s h)) call reply (Called (Pass m) call reply) legal saw.known right
     (ap (λ (i : ℕ). Called (Pass i) call reply) (sym one))
     (next_call sound s h n q call saw holds.1 (subst (λ (x : Option OpenPass). MayCall s h x call) its may)))
     (λ there q holds. so_more (Called (Pass m) call reply) h n q holds.1)
-    (attached (HasDoneSo h n) (open_pass s h n) has)
+    (with_equation (HasComeTo h n) (open_pass s h n) has)
 
 -- ---- histories
 
 -- each open pass has done what brought it where it is
-pub has_done : AreSound → (s : Setting) (h : List Entry) (n : ℕ) → IsLegal s h → IsCaused s h → IfSome (open_pass s h n) (HasDoneSo h n)
+pub has_come : AreSound → (s : Setting) (h : List Entry) (n : ℕ) → IsLegal s h → IsCaused s h → IfSome (open_pass s h n) (HasComeTo h n)
 unfolding IsLegal IsCaused
-has_done sound s [] n legal caused = tt
-has_done sound s (Called User call reply ∷ h) n legal caused = older (Called User call reply) h n (open_pass s h n) (has_done sound s h n legal.1 caused.1)
-has_done sound s (Called (Pass m) call reply ∷ h) n legal caused = done_calling sound s h n m call reply legal.1 legal.0.0 caused.0 (has_done sound s h n legal.1 caused.1)
-has_done sound s (Begin pass role key at now ∷ h) n legal caused =
-    over_begin (HasDoneSo (Begin pass role key at now ∷ h) n) (n == pass) (new_pass role key (views s h role key) now) (open_pass s h n) tt
-    (older (Begin pass role key at now) h n (open_pass s h n) (has_done sound s h n legal.1 caused.1))
-has_done sound s (Ask pass order ∷ h) n legal caused = done_asking sound s h n pass order legal.1 caused.0 (has_done sound s h n legal.1 caused.1)
-has_done sound s (Made pass key ∷ h) n legal caused = done_giving s (Made pass key) h n pass (values.Made key) refl caused.0 (has_done sound s h n legal.1 caused.1)
-has_done sound s (Signed pass signature ∷ h) n legal caused = done_giving s (Signed pass signature) h n pass (values.Signed signature) refl caused.0 (has_done sound s h n legal.1 caused.1)
-has_done sound s (Answered pass answer ∷ h) n legal caused = done_giving s (Answered pass answer) h n pass (values.Answered answer) refl caused.0 (has_done sound s h n legal.1 caused.1)
-has_done sound s (Judged pass approved ∷ h) n legal caused = done_giving s (Judged pass approved) h n pass (values.Judged approved) refl caused.0 (has_done sound s h n legal.1 caused.1)
-has_done sound s (End pass cause ∷ h) n legal caused =
-    over_end (HasDoneSo (End pass cause ∷ h) n) (n == pass) (open_pass s h n) (older (End pass cause) h n (open_pass s h n) (has_done sound s h n legal.1 caused.1))
-has_done sound s (Stop role ∷ h) n legal caused =
-    over_stop (HasDoneSo (Stop role ∷ h) n) role (open_pass s h n) (older (Stop role) h n (open_pass s h n) (has_done sound s h n legal.1 caused.1))
-has_done sound s (Script step ∷ h) n legal caused = older (Script step) h n (open_pass s h n) (has_done sound s h n legal.1 caused.1)
-has_done sound s (Deliver role kind to ∷ h) n legal caused = older (Deliver role kind to) h n (open_pass s h n) (has_done sound s h n legal.1 caused.1)
-has_done sound s (Listed role kind to ∷ h) n legal caused = older (Listed role kind to) h n (open_pass s h n) (has_done sound s h n legal.1 caused.1)
-has_done sound s (Start role at ∷ h) n legal caused = older (Start role at) h n (open_pass s h n) (has_done sound s h n legal.1 caused.1)
-has_done sound s (Tick now ∷ h) n legal caused = older (Tick now) h n (open_pass s h n) (has_done sound s h n legal.1 caused.1)
+has_come sound s [] n legal caused = tt
+has_come sound s (Called User call reply ∷ h) n legal caused = come_longer (Called User call reply) h n (open_pass s h n) (has_come sound s h n legal.1 caused.1)
+has_come sound s (Called (Pass m) call reply ∷ h) n legal caused = come_calling sound s h n m call reply legal.1 legal.0.0 caused.0 (has_come sound s h n legal.1 caused.1)
+has_come sound s (Begin pass role key at now ∷ h) n legal caused =
+    over_begin (HasComeTo (Begin pass role key at now ∷ h) n) (n == pass) (new_pass role key (views s h role key) now) (open_pass s h n) tt
+    (come_longer (Begin pass role key at now) h n (open_pass s h n) (has_come sound s h n legal.1 caused.1))
+has_come sound s (Ask pass order ∷ h) n legal caused = come_asking sound s h n pass order legal.1 caused.0 (has_come sound s h n legal.1 caused.1)
+has_come sound s (Made pass key ∷ h) n legal caused = come_giving s (Made pass key) h n pass (values.Made key) refl caused.0 (has_come sound s h n legal.1 caused.1)
+has_come sound s (Signed pass signature ∷ h) n legal caused = come_giving s (Signed pass signature) h n pass (values.Signed signature) refl caused.0 (has_come sound s h n legal.1 caused.1)
+has_come sound s (Answered pass answer ∷ h) n legal caused = come_giving s (Answered pass answer) h n pass (values.Answered answer) refl caused.0 (has_come sound s h n legal.1 caused.1)
+has_come sound s (Judged pass approved ∷ h) n legal caused = come_giving s (Judged pass approved) h n pass (values.Judged approved) refl caused.0 (has_come sound s h n legal.1 caused.1)
+has_come sound s (End pass cause ∷ h) n legal caused =
+    over_end (HasComeTo (End pass cause ∷ h) n) (n == pass) (open_pass s h n) (come_longer (End pass cause) h n (open_pass s h n) (has_come sound s h n legal.1 caused.1))
+has_come sound s (Stop role ∷ h) n legal caused =
+    over_stop (HasComeTo (Stop role ∷ h) n) role (open_pass s h n) (come_longer (Stop role) h n (open_pass s h n) (has_come sound s h n legal.1 caused.1))
+has_come sound s (Script step ∷ h) n legal caused = come_longer (Script step) h n (open_pass s h n) (has_come sound s h n legal.1 caused.1)
+has_come sound s (Deliver role kind to ∷ h) n legal caused = come_longer (Deliver role kind to) h n (open_pass s h n) (has_come sound s h n legal.1 caused.1)
+has_come sound s (Listed role kind to ∷ h) n legal caused = come_longer (Listed role kind to) h n (open_pass s h n) (has_come sound s h n legal.1 caused.1)
+has_come sound s (Start role at ∷ h) n legal caused = come_longer (Start role at) h n (open_pass s h n) (has_come sound s h n legal.1 caused.1)
+has_come sound s (Tick now ∷ h) n legal caused = come_longer (Tick now) h n (open_pass s h n) (has_come sound s h n legal.1 caused.1)

@@ -49,11 +49,11 @@ use Rattle.cmc_rules.proofs.Seen.{seen_is_version}
 use Rattle.cmc_rules.proofs.Sighted.{AreKnown, as_seen}
 use Rattle.cmc_rules.proofs.Versions.{lawful}
 use Rattle.cmc_rules.proofs.WellSeen.{SawAll, saw_all}
-use Rattle.cmc_safety.proofs.Alone.{one_pass}
-use Rattle.cmc_safety.proofs.LastVersions.{standing_is_last, revision_kept, revision_of_other}
+use Rattle.cmc_safety.proofs.Alone.{same_pass}
+use Rattle.cmc_safety.proofs.LastVersions.{stands_as_last, revision_kept, revision_passed_over}
 use Rattle.cmc_safety.proofs.Users.{users_keep}
-use Rattle.cmc_safety.proofs.NextCalls.{IsLiveCall, IsCallAt, IsReadOf, found_is_read, on_weaker}
-use Rattle.cmc_safety.proofs.Course.{AreSound, attached, over_entry, same_number, HasDoneSo, has_done, next_call, live_object, live_at}
+use Rattle.cmc_safety.proofs.NextCalls.{IsLiveCall, IsCallAt, ReadsObject, found_is_read, on_less}
+use Rattle.cmc_safety.proofs.Course.{AreSound, with_equation, over_own_entry, same_number, HasComeTo, has_come, next_call, live_object, live_at}
 
 -- ---- the Certificate that a pass saw stood under the pass's key
 
@@ -117,17 +117,17 @@ pub secret_keeps : (role : Role) (seen : Views) (since : ℤ) (call : Call) → 
 secret_keeps role seen since call (inl at) =
     let i = at.issues in
     subst (OnSeen KeepsRevision seen) (sym at.planned)
-    (on_weaker (WritesTarget role since (IsSigned i.certificate i.request i.file)) KeepsRevision seen at.plan.secret (λ old new is. is.revision) i.secret)
+    (on_less (WritesTarget role since (IsSigned i.certificate i.request i.file)) KeepsRevision seen at.plan.secret (λ old new is. is.revision) i.secret)
 secret_keeps role seen since call (inr at) =
     let i = at.stands_in in
     subst (OnSeen KeepsRevision seen) (sym at.planned)
-    (on_weaker (WritesTarget role since (IsMarked i.certificate i.request i.file since)) KeepsRevision seen at.plan.secret (λ old new is. is.revision) i.secret)
+    (on_less (WritesTarget role since (IsMarked i.certificate i.request i.file since)) KeepsRevision seen at.plan.secret (λ old new is. is.revision) i.secret)
 
 sort_at : (stage : Stage) (role : Role) (seen : Views) (since : ℤ) (call : Call) → IsCallAt stage role seen since call → IsSortOfCall role seen since call
-sort_at Fresh role seen since call (inl on) = inl (on_weaker (IsOrdinary role since) KeepsRevision seen call (λ old new is. is.revision) on)
+sort_at Fresh role seen since call (inl on) = inl (on_less (IsOrdinary role since) KeepsRevision seen call (λ old new is. is.revision) on)
 sort_at Fresh role seen since call (inr live) = inr (inr live)
 sort_at (Asked order) role seen since call at = absurd at
-sort_at (Given order value) role seen since call at = inl (on_weaker (IsAnswer role seen since value) KeepsRevision seen call (λ old new is. is.revision) at)
+sort_at (Given order value) role seen since call at = inl (on_less (IsAnswer role seen since value) KeepsRevision seen call (λ old new is. is.revision) at)
 sort_at Read role seen since call at = inl (secret_keeps role seen since call at)
 sort_at Saved role seen since call at =
     let i = at.issues in
@@ -143,10 +143,10 @@ pub record IsCaller (s : Setting) (h : List Entry) (m : ℕ) (call : Call) : Typ
   pub opened : open_pass s h m ≡ Some pass
   pub saw : SawAll (writes s h) pass
   pub version : SawVersion (writes s h) pass
-  pub done : HasDoneSo h m pass
+  pub done : HasComeTo h m pass
   pub at : IsCallAt pass.stage pass.role pass.seen pass.since call
 
-caller_by : AreSound → (s : Setting) (h : List Entry) (m : ℕ) (x : Option OpenPass) (call : Call) → open_pass s h m ≡ x → IfSome x (SawAll (writes s h)) → IfSome x (SawVersion (writes s h)) → IfSome x (HasDoneSo h m)
+caller_by : AreSound → (s : Setting) (h : List Entry) (m : ℕ) (x : Option OpenPass) (call : Call) → open_pass s h m ≡ x → IfSome x (SawAll (writes s h)) → IfSome x (SawVersion (writes s h)) → IfSome x (HasComeTo h m)
     → MayCall s h x call → IsCaller s h m call
 caller_by sound s h m None call opened saw version done may = absurd may
 caller_by sound s h m (Some p) call opened saw version done may =
@@ -154,7 +154,7 @@ caller_by sound s h m (Some p) call opened saw version done may =
 
 pub caller_of : AreSound → (s : Setting) (h : List Entry) (m : ℕ) (call : Call) → IsLegal s h → IsCaused s h → MayCall s h (open_pass s h m) call → IsCaller s h m call
 caller_of sound s h m call legal caused may =
-    caller_by sound s h m (open_pass s h m) call refl (saw_all s h m legal) (saw_version s h m) (has_done sound s h m legal caused) may
+    caller_by sound s h m (open_pass s h m) call refl (saw_all s h m legal) (saw_version s h m) (has_come sound s h m legal caused) may
 
 -- ---- an issuance in progress
 
@@ -167,31 +167,31 @@ pub record IsInProgress (ws : List Write) (role : Role) (key : Key) (seen : View
   pub present : revision_of_uid certificate.meta.uid ws ≡ revision certificate
 
 -- behind the live read, and behind the Secret
-abbrev pub WhileIssuing : Stage → Type 0 → Type 0
-WhileIssuing Read P = P
-WhileIssuing Saved P = P
-WhileIssuing other P = Unit {0}
+abbrev pub HoldsWhileIssuing : Stage → Type 0 → Type 0
+HoldsWhileIssuing Read P = P
+HoldsWhileIssuing Saved P = P
+HoldsWhileIssuing other P = Unit {0}
 
-abbrev pub IsSteady : List Write → OpenPass → Type 0
-IsSteady ws p = WhileIssuing p.stage (IsInProgress ws p.role p.key p.seen)
+abbrev pub IsUnmoved : List Write → OpenPass → Type 0
+IsUnmoved ws p = HoldsWhileIssuing p.stage (IsInProgress ws p.role p.key p.seen)
 
-while_more : (stage : Stage) (P Q : Type 0) → (P → Q) → WhileIssuing stage P → WhileIssuing stage Q
-while_more Read P Q gives is = gives is
-while_more Saved P Q gives is = gives is
-while_more other P Q gives is = tt
+held_more : (stage : Stage) (P Q : Type 0) → (P → Q) → HoldsWhileIssuing stage P → HoldsWhileIssuing stage Q
+held_more Read P Q gives is = gives is
+held_more Saved P Q gives is = gives is
+held_more other P Q gives is = tt
 
 -- a write that leaves the revision of the uid
-later : (b : Bool) (w : Write) (ws : List Write) (role : Role) (key : Key) (seen : Views)
+write_more : (b : Bool) (w : Write) (ws : List Write) (role : Role) (key : Key) (seen : Views)
     → ((c : Certificate) → b ≡ true → IsVersion key (Cert c) ws → revision_of_uid c.meta.uid (w ∷ ws) ≡ revision_of_uid c.meta.uid ws)
     → IsInProgress ws role key seen → IsInProgress (if b then w ∷ ws else ws) role key seen
-later true w ws role key seen leaves is = record {
+write_more true w ws role key seen leaves is = record {
   issuing = is.issuing;
   certificate = is.certificate;
   sees = is.sees;
   stored = inr is.stored;
   present = leaves is.certificate refl is.stored ∙ is.present;
 }
-later false w ws role key seen leaves is = is
+write_more false w ws role key seen leaves is = is
 
 -- ---- a call and the revision of a uid
 
@@ -199,12 +199,12 @@ later false w ws role key seen leaves is = is
 abbrev newest : Setting → List Entry → Call → Reply → Write
 newest s h call reply = write_of (moment s h) (state s h) (settled call reply)
 
-lawful_now : (s : Setting) (h : List Entry) (who : Who) (call : Call) (reply : Reply) → IsLegal s (Called who call reply ∷ h) → is_accepted reply ≡ true → IsLawful (newest s h call reply ∷ writes s h)
-lawful_now s h who call reply legal ok =
+lawful_newest : (s : Setting) (h : List Entry) (who : Who) (call : Call) (reply : Reply) → IsLegal s (Called who call reply ∷ h) → is_accepted reply ≡ true → IsLawful (newest s h call reply ∷ writes s h)
+lawful_newest s h who call reply legal ok =
     subst (λ (b : Bool). IsLawful (if b then newest s h call reply ∷ writes s h else writes s h)) ok (lawful s (Called who call reply ∷ h) legal)
 
-uid_low : (s : Setting) (h : List Entry) (key : Key) (c : Certificate) → IsLegal s h → IsVersion key (Cert c) (writes s h) → c.meta.uid ≤ length (writes s h)
-uid_low s h key c legal has = uids_low (writes s h) key (Cert c) (lawful s h legal) has
+uid_given : (s : Setting) (h : List Entry) (key : Key) (c : Certificate) → IsLegal s h → IsVersion key (Cert c) (writes s h) → c.meta.uid ≤ length (writes s h)
+uid_given s h key c legal has = uids_low (writes s h) key (Cert c) (lawful s h legal) has
 
 leaves_kept : (s : Setting) (h : List Entry) (call : Call) (reply : Reply) (uid : ℕ) → IsLawful (newest s h call reply ∷ writes s h) → IsCallOf KeepsRevision s h (settled call reply) → uid ≤ length (writes s h)
     → revision_of_uid uid (newest s h call reply ∷ writes s h) ≡ revision_of_uid uid (writes s h)
@@ -215,7 +215,7 @@ leaves_kept s h call reply uid law keeps low =
 leaves_other : (s : Setting) (h : List Entry) (call : Call) (reply : Reply) (uid : ℕ) (since : ℤ) (c : Certificate) → IsLawful (newest s h call reply ∷ writes s h) → IsCallOf (IsRaiseOf c since) s h (settled call reply)
     → (c.meta.uid ≡ uid → ⊥) → uid ≤ length (writes s h) → revision_of_uid uid (newest s h call reply ∷ writes s h) ≡ revision_of_uid uid (writes s h)
 leaves_other s h call reply uid since c law raise other low =
-    revision_of_other (newest s h call reply) (writes s h) uid (Cert c) law (ap (λ (m : Objects). object_at m (key_of_call (settled call reply))) (writes_leave s h) ∙ raise.of_it) other low
+    revision_passed_over (newest s h call reply) (writes s h) uid (Cert c) law (ap (λ (m : Objects). object_at m (key_of_call (settled call reply))) (writes_leave s h) ∙ raise.of_it) other low
 
 -- a live read is not accepted
 pub not_accepted : (objects : Objects) (role : Role) (seen : Views) (call : Call) (reply : Reply) → IsLiveCall role seen call → IsFounded objects (settled call reply) → ⊥
@@ -224,54 +224,54 @@ not_accepted objects role seen call reply live founded =
     subst (λ (k : Call). IsFounded objects (settled k reply)) live.get founded
 
 -- an accepted call of another pass leaves the revision of an issuance in progress
-foreign_by : (s : Setting) (h : List Entry) (m n : ℕ) (p : OpenPass) (call : Call) (reply : Reply) (c : Certificate) → IsLegal s h → IsLawful (newest s h call reply ∷ writes s h) → is_accepted reply ≡ true
+by_sort : (s : Setting) (h : List Entry) (m n : ℕ) (p : OpenPass) (call : Call) (reply : Reply) (c : Certificate) → IsLegal s h → IsLawful (newest s h call reply ∷ writes s h) → is_accepted reply ≡ true
     → IsFounded (objects s h) (settled call reply) → (k : IsCaller s h m call) → open_pass s h n ≡ Some p → (n == m) ≡ false → p.role ≡ roles.Issuing → IsVersion p.key (Cert c) (writes s h)
     → IsSortOfCall k.pass.role k.pass.seen k.pass.since call → revision_of_uid c.meta.uid (newest s h call reply ∷ writes s h) ≡ revision_of_uid c.meta.uid (writes s h)
-foreign_by s h m n p call reply c legal law ok founded k opened other issuing stored (inl on) =
-    leaves_kept s h call reply c.meta.uid law (as_seen KeepsRevision s h k.pass.seen call reply legal k.saw.known ok founded on) (uid_low s h p.key c legal stored)
-foreign_by s h m n p call reply c legal law ok founded k opened other issuing stored (inr (inl raise)) =
+by_sort s h m n p call reply c legal law ok founded k opened other issuing stored (inl on) =
+    leaves_kept s h call reply c.meta.uid law (as_seen KeepsRevision s h k.pass.seen call reply legal k.saw.known ok founded on) (uid_given s h p.key c legal stored)
+by_sort s h m n p call reply c legal law ok founded k opened other issuing stored (inr (inl raise)) =
     let d : Certificate = raise.certificate in
     let its : IsVersion k.pass.key (Cert d) (writes s h) = k.version d raise.sees in
     let apart : d.meta.uid ≡ c.meta.uid → ⊥ = λ same.
     let key : p.key ≡ k.pass.key = one_key (writes s h) p.key k.pass.key (Cert c) (Cert d) (lawful s h legal) stored its (sym same) in
-    let one : n ≡ m = one_pass s h n m p k.pass legal opened k.opened (issuing ∙ sym raise.issuing) key in
+    let one : n ≡ m = same_pass s h n m p k.pass legal opened k.opened (issuing ∙ sym raise.issuing) key in
     absurd (let e : (n == m) ≡ true = (Decides-eqb n m).1 one in cc (e, other))
     in
-    leaves_other s h call reply c.meta.uid k.pass.since d law (as_seen (IsRaiseOf d k.pass.since) s h k.pass.seen call reply legal k.saw.known ok founded raise.on) apart (uid_low s h p.key c legal stored)
-foreign_by s h m n p call reply c legal law ok founded k opened other issuing stored (inr (inr live)) =
+    leaves_other s h call reply c.meta.uid k.pass.since d law (as_seen (IsRaiseOf d k.pass.since) s h k.pass.seen call reply legal k.saw.known ok founded raise.on) apart (uid_given s h p.key c legal stored)
+by_sort s h m n p call reply c legal law ok founded k opened other issuing stored (inr (inr live)) =
     absurd (not_accepted (objects s h) k.pass.role k.pass.seen call reply live founded)
 
-foreign : (s : Setting) (h : List Entry) (m n : ℕ) (p : OpenPass) (call : Call) (reply : Reply) → IsLegal s (Called (Pass m) call reply ∷ h) → IsLegal s h → IsReply s.faults (state s h) call reply → IsCaller s h m call
+by_other : (s : Setting) (h : List Entry) (m n : ℕ) (p : OpenPass) (call : Call) (reply : Reply) → IsLegal s (Called (Pass m) call reply ∷ h) → IsLegal s h → IsReply s.faults (state s h) call reply → IsCaller s h m call
     → open_pass s h n ≡ Some p → (n == m) ≡ false → IsInProgress (writes s h) p.role p.key p.seen → IsInProgress (writes s (Called (Pass m) call reply ∷ h)) p.role p.key p.seen
-foreign s h m n p call reply new legal right k opened other is =
-    later (is_accepted reply) (newest s h call reply) (writes s h) p.role p.key p.seen
-    (λ c ok stored. foreign_by s h m n p call reply c legal (lawful_now s h (Pass m) call reply new ok) ok (accepted_found s.faults (state s h) call reply right ok) k opened other is.issuing stored
+by_other s h m n p call reply new legal right k opened other is =
+    write_more (is_accepted reply) (newest s h call reply) (writes s h) p.role p.key p.seen
+    (λ c ok stored. by_sort s h m n p call reply c legal (lawful_newest s h (Pass m) call reply new ok) ok (accepted_found s.faults (state s h) call reply right ok) k opened other is.issuing stored
     (sort_at k.pass.stage k.pass.role k.pass.seen k.pass.since call k.at)) is
 
 -- ---- the pass's own calls
 
 -- the Secret
-own_secret : (s : Setting) (h : List Entry) (m : ℕ) (q : OpenPass) (call : Call) (reply : Reply) → IsLegal s (Called (Pass m) call reply ∷ h) → IsLegal s h → IsReply s.faults (state s h) call reply → AreKnown (writes s h) q.seen
+by_secret : (s : Setting) (h : List Entry) (m : ℕ) (q : OpenPass) (call : Call) (reply : Reply) → IsLegal s (Called (Pass m) call reply ∷ h) → IsLegal s h → IsReply s.faults (state s h) call reply → AreKnown (writes s h) q.seen
     → OnSeen KeepsRevision q.seen call → IsInProgress (writes s h) q.role q.key q.seen → IsInProgress (writes s (Called (Pass m) call reply ∷ h)) q.role q.key q.seen
-own_secret s h m q call reply new legal right known on is =
-    later (is_accepted reply) (newest s h call reply) (writes s h) q.role q.key q.seen
-    (λ c ok stored. leaves_kept s h call reply c.meta.uid (lawful_now s h (Pass m) call reply new ok)
-    (as_seen KeepsRevision s h q.seen call reply legal known ok (accepted_found s.faults (state s h) call reply right ok) on) (uid_low s h q.key c legal stored)) is
+by_secret s h m q call reply new legal right known on is =
+    write_more (is_accepted reply) (newest s h call reply) (writes s h) q.role q.key q.seen
+    (λ c ok stored. leaves_kept s h call reply c.meta.uid (lawful_newest s h (Pass m) call reply new ok)
+    (as_seen KeepsRevision s h q.seen call reply legal known ok (accepted_found s.faults (state s h) call reply right ok) on) (uid_given s h q.key c legal stored)) is
 
 -- the live read found what was seen, and so the revision that was seen
-read_found : (s : Setting) (h : List Entry) (q : OpenPass) (call : Call) (o : Object) → IsLegal s h → AreKnown (writes s h) q.seen → SawVersion (writes s h) q → IsReadOf (objects s h) call o
+read_found : (s : Setting) (h : List Entry) (q : OpenPass) (call : Call) (o : Object) → IsLegal s h → AreKnown (writes s h) q.seen → SawVersion (writes s h) q → ReadsObject (objects s h) call o
     → (live : IsLiveCall q.role q.seen call) → is_as_seen q.seen.certificate o ≡ true → IsInProgress (writes s h) q.role q.key q.seen
 read_found s h q call o legal known version is live same =
     let c = live.certificate in
     let one : Cert c ≡ o = live_object s h q.role q.seen call o legal known live is same in
-    let stands : object_at (objects s h) (key_of (Cert c)) ≡ Some o = subst (λ (k : Call). IsReadOf (objects s h) k o) live.get is in
+    let stands : object_at (objects s h) (key_of (Cert c)) ≡ Some o = subst (λ (k : Call). ReadsObject (objects s h) k o) live.get is in
     let there : object_at (contents (writes s h)) (key_of (Cert c)) ≡ Some (Cert c) = ap (λ (m : Objects). object_at m (key_of (Cert c))) (writes_leave s h) ∙ stands ∙ ap Some (sym one) in
     record {
       issuing = live.issuing;
       certificate = c;
       sees = live.sees;
       stored = version c live.sees;
-      present = ap (λ (x : Option Object). unwrap_or (stated_in x) 0) (standing_is_last (writes s h) (key_of (Cert c)) (Cert c) (lawful s h legal) there);
+      present = ap (λ (x : Option Object). unwrap_or (stated_in x) 0) (stands_as_last (writes s h) (key_of (Cert c)) (Cert c) (lawful s h legal) there);
     }
 
 -- the writes are as they were
@@ -279,109 +279,109 @@ still : (b : Bool) (w : Write) (ws : List Write) (role : Role) (key : Key) (seen
 still true w ws role key seen off is = absurd (cc off)
 still false w ws role key seen off is = is
 
-written_stage : (stand_in : Bool) (stage : Stage) (P Q : Type 0) → (stage ≡ Read → P → Q) → WhileIssuing stage P → WhileIssuing (stage_written stand_in stage) Q
-written_stage true Read P Q gives is = tt
-written_stage false Read P Q gives is = gives refl is
-written_stage stand_in Fresh P Q gives is = tt
-written_stage stand_in (Asked order) P Q gives is = tt
-written_stage stand_in (Given order value) P Q gives is = tt
-written_stage stand_in Saved P Q gives is = tt
-written_stage stand_in Wrote P Q gives is = tt
-written_stage stand_in (Refused entry obstacle) P Q gives is = tt
-written_stage stand_in Barred P Q gives is = tt
+held_written : (stand_in : Bool) (stage : Stage) (P Q : Type 0) → (stage ≡ Read → P → Q) → HoldsWhileIssuing stage P → HoldsWhileIssuing (stage_written stand_in stage) Q
+held_written true Read P Q gives is = tt
+held_written false Read P Q gives is = gives refl is
+held_written stand_in Fresh P Q gives is = tt
+held_written stand_in (Asked order) P Q gives is = tt
+held_written stand_in (Given order value) P Q gives is = tt
+held_written stand_in Saved P Q gives is = tt
+held_written stand_in Wrote P Q gives is = tt
+held_written stand_in (Refused entry obstacle) P Q gives is = tt
+held_written stand_in Barred P Q gives is = tt
 
-read_stage : (b : Bool) (entry : ℕ) (kind : Kind) (version : ℕ) (Q : Type 0) → (b ≡ true → Q) → WhileIssuing (stage_read b entry kind version) Q
-read_stage true entry kind version Q gives = gives refl
-read_stage false entry kind version Q gives = tt
+held_read : (b : Bool) (entry : ℕ) (kind : Kind) (version : ℕ) (Q : Type 0) → (b ≡ true → Q) → HoldsWhileIssuing (stage_read b entry kind version) Q
+held_read true entry kind version Q gives = gives refl
+held_read false entry kind version Q gives = tt
 
-own_reply : (c : Option Certificate) (stand_in : Bool) (stage : Stage) (entry : ℕ) (kind : Kind) (last : ℕ) (reply : Reply) (P Q : Type 0)
-    → (stage ≡ Read → P → Q) → ((o : Object) → reply ≡ Found o → is_as_seen c o ≡ true → Q) → WhileIssuing stage P → WhileIssuing (stage_by c stand_in stage entry kind last reply) Q
-own_reply c stand_in stage entry kind last (Ok version name) P Q saves reads is = written_stage stand_in stage P Q saves is
-own_reply c stand_in stage entry kind last (Unchanged version) P Q saves reads is = written_stage stand_in stage P Q saves is
-own_reply c stand_in stage entry kind last (Found o) P Q saves reads is = read_stage (is_as_seen c o) entry kind (version_of o) Q (λ same. reads o refl same)
-own_reply c stand_in stage entry kind last (Conflict named have) P Q saves reads is = tt
-own_reply c stand_in stage entry kind last (NotFound at) P Q saves reads is = tt
-own_reply c stand_in stage entry kind last (AlreadyExists have) P Q saves reads is = tt
-own_reply c stand_in stage entry kind last (Invalid rule) P Q saves reads is = tt
-own_reply c stand_in stage entry kind last (Unavailable number) P Q saves reads is = tt
+by_reply : (c : Option Certificate) (stand_in : Bool) (stage : Stage) (entry : ℕ) (kind : Kind) (last : ℕ) (reply : Reply) (P Q : Type 0)
+    → (stage ≡ Read → P → Q) → ((o : Object) → reply ≡ Found o → is_as_seen c o ≡ true → Q) → HoldsWhileIssuing stage P → HoldsWhileIssuing (stage_by c stand_in stage entry kind last reply) Q
+by_reply c stand_in stage entry kind last (Ok version name) P Q saves reads is = held_written stand_in stage P Q saves is
+by_reply c stand_in stage entry kind last (Unchanged version) P Q saves reads is = held_written stand_in stage P Q saves is
+by_reply c stand_in stage entry kind last (Found o) P Q saves reads is = held_read (is_as_seen c o) entry kind (version_of o) Q (λ same. reads o refl same)
+by_reply c stand_in stage entry kind last (Conflict named have) P Q saves reads is = tt
+by_reply c stand_in stage entry kind last (NotFound at) P Q saves reads is = tt
+by_reply c stand_in stage entry kind last (AlreadyExists have) P Q saves reads is = tt
+by_reply c stand_in stage entry kind last (Invalid rule) P Q saves reads is = tt
+by_reply c stand_in stage entry kind last (Unavailable number) P Q saves reads is = tt
 
-own : (s : Setting) (h : List Entry) (m : ℕ) (q : OpenPass) (call : Call) (reply : Reply) → IsLegal s (Called (Pass m) call reply ∷ h) → IsLegal s h → IsReply s.faults (state s h) call reply → AreKnown (writes s h) q.seen
-    → SawVersion (writes s h) q → IsCallAt q.stage q.role q.seen q.since call → IsSteady (writes s h) q
-    → WhileIssuing (stage_after s h call reply q) (IsInProgress (writes s (Called (Pass m) call reply ∷ h)) q.role q.key q.seen)
-own s h m q call reply new legal right known version at is =
-    own_reply q.seen.certificate (writes_stand_in call) q.stage (length h + 1) (key_of_call call).kind (last_under (key_of_call call) (writes s h)) reply
+by_itself : (s : Setting) (h : List Entry) (m : ℕ) (q : OpenPass) (call : Call) (reply : Reply) → IsLegal s (Called (Pass m) call reply ∷ h) → IsLegal s h → IsReply s.faults (state s h) call reply → AreKnown (writes s h) q.seen
+    → SawVersion (writes s h) q → IsCallAt q.stage q.role q.seen q.since call → IsUnmoved (writes s h) q
+    → HoldsWhileIssuing (stage_after s h call reply q) (IsInProgress (writes s (Called (Pass m) call reply ∷ h)) q.role q.key q.seen)
+by_itself s h m q call reply new legal right known version at is =
+    by_reply q.seen.certificate (writes_stand_in call) q.stage (length h + 1) (key_of_call call).kind (last_under (key_of_call call) (writes s h)) reply
     (IsInProgress (writes s h) q.role q.key q.seen) (IsInProgress (writes s (Called (Pass m) call reply ∷ h)) q.role q.key q.seen)
-    (λ read was. own_secret s h m q call reply new legal right known
+    (λ read was. by_secret s h m q call reply new legal right known
     (secret_keeps q.role q.seen q.since call (subst (λ (t : Stage). IsCallAt t q.role q.seen q.since call) read at)) was)
     (λ o found same.
-    let is_read : IsReadOf (objects s h) call o = found_is_read s.faults (state s h) call o (subst (IsReply s.faults (state s h) call) found right) in
+    let is_read : ReadsObject (objects s h) call o = found_is_read s.faults (state s h) call o (subst (IsReply s.faults (state s h) call) found right) in
     still (is_accepted reply) (newest s h call reply) (writes s h) q.role q.key q.seen (ap is_accepted found)
     (read_found s h q call o legal known version is_read (live_at s h q.role q.seen q.since q.stage call o is_read at) same))
     is
 
 -- ---- histories
 
-pub record IsOrdered (s : Setting) (h : List Entry) : Type 0 where
+pub record IsPlayed (s : Setting) (h : List Entry) : Type 0 where
   pub legal : IsLegal s h
   pub caused : IsCaused s h
   pub follows : Follows s h
 
-pub ordered_below : (s : Setting) (e : Entry) (h : List Entry) → IsOrdered s (e ∷ h) → IsOrdered s h
+pub played_below : (s : Setting) (e : Entry) (h : List Entry) → IsPlayed s (e ∷ h) → IsPlayed s h
 unfolding IsLegal IsCaused Follows
-ordered_below s e h o = record { legal = o.legal.1; caused = o.caused.1; follows = o.follows.1 }
+played_below s e h o = record { legal = o.legal.1; caused = o.caused.1; follows = o.follows.1 }
 
-by_user : (s : Setting) (h : List Entry) (call : Call) (reply : Reply) (x : Option OpenPass) → IsOrdered s (Called User call reply ∷ h) → IfSome x (IsSteady (writes s h))
-    → IfSome x (IsSteady (writes s (Called User call reply ∷ h)))
+by_user : (s : Setting) (h : List Entry) (call : Call) (reply : Reply) (x : Option OpenPass) → IsPlayed s (Called User call reply ∷ h) → IfSome x (IsUnmoved (writes s h))
+    → IfSome x (IsUnmoved (writes s (Called User call reply ∷ h)))
 unfolding IsLegal Follows
 by_user s h call reply None o is = tt
 by_user s h call reply (Some p) o is =
-    while_more p.stage (IsInProgress (writes s h) p.role p.key p.seen) (IsInProgress (writes s (Called User call reply ∷ h)) p.role p.key p.seen)
-    (λ was. later (is_accepted reply) (newest s h call reply) (writes s h) p.role p.key p.seen
-    (λ c ok stored. leaves_kept s h call reply c.meta.uid (lawful_now s h User call reply o.legal ok) (users_keep s h call reply o.legal.1 o.follows.0 o.legal.0.0 ok) (uid_low s h p.key c o.legal.1 stored)) was) is
+    held_more p.stage (IsInProgress (writes s h) p.role p.key p.seen) (IsInProgress (writes s (Called User call reply ∷ h)) p.role p.key p.seen)
+    (λ was. write_more (is_accepted reply) (newest s h call reply) (writes s h) p.role p.key p.seen
+    (λ c ok stored. leaves_kept s h call reply c.meta.uid (lawful_newest s h User call reply o.legal ok) (users_keep s h call reply o.legal.1 o.follows.0 o.legal.0.0 ok) (uid_given s h p.key c o.legal.1 stored)) was) is
 
-by_pass : AreSound → (s : Setting) (h : List Entry) (m : ℕ) (call : Call) (reply : Reply) (n : ℕ) → IsOrdered s (Called (Pass m) call reply ∷ h) → IfSome (open_pass s h n) (IsSteady (writes s h))
-    → IfSome (gone_on n m (stage_after s h call reply) (open_pass s h n)) (IsSteady (writes s (Called (Pass m) call reply ∷ h)))
+by_pass : AreSound → (s : Setting) (h : List Entry) (m : ℕ) (call : Call) (reply : Reply) (n : ℕ) → IsPlayed s (Called (Pass m) call reply ∷ h) → IfSome (open_pass s h n) (IsUnmoved (writes s h))
+    → IfSome (gone_on n m (stage_after s h call reply) (open_pass s h n)) (IsUnmoved (writes s (Called (Pass m) call reply ∷ h)))
 unfolding IsLegal IsCaused
 by_pass sound s h m call reply n o is =
     let k = caller_of sound s h m call o.legal.1 o.caused.1 o.caused.0 in
-    over_entry (λ q. (open_pass s h n ≡ Some q) × IsSteady (writes s h) q) (IsSteady (writes s (Called (Pass m) call reply ∷ h))) n m (stage_after s h call reply) (open_pass s h n)
+    over_own_entry (λ q. (open_pass s h n ≡ Some q) × IsUnmoved (writes s h) q) (IsUnmoved (writes s (Called (Pass m) call reply ∷ h))) n m (stage_after s h call reply) (open_pass s h n)
     (λ here q holds.
     let one : n ≡ m = same_number n m here in
     let some : Some k.pass ≡ Some q = sym k.opened ∙ ap (open_pass s h) (sym one) ∙ holds.0 in
     let same : k.pass ≡ q = cc some in
-    own s h m q call reply o.legal o.legal.1 o.legal.0.0 (subst (λ (p : OpenPass). AreKnown (writes s h) p.seen) same k.saw.known) (subst (SawVersion (writes s h)) same k.version)
+    by_itself s h m q call reply o.legal o.legal.1 o.legal.0.0 (subst (λ (p : OpenPass). AreKnown (writes s h) p.seen) same k.saw.known) (subst (SawVersion (writes s h)) same k.version)
     (subst (λ (p : OpenPass). IsCallAt p.stage p.role p.seen p.since call) same k.at) holds.1)
-    (λ there q holds. while_more q.stage (IsInProgress (writes s h) q.role q.key q.seen) (IsInProgress (writes s (Called (Pass m) call reply ∷ h)) q.role q.key q.seen)
-    (λ was. foreign s h m n q call reply o.legal o.legal.1 o.legal.0.0 k holds.0 there was) holds.1)
-    (attached (IsSteady (writes s h)) (open_pass s h n) is)
+    (λ there q holds. held_more q.stage (IsInProgress (writes s h) q.role q.key q.seen) (IsInProgress (writes s (Called (Pass m) call reply ∷ h)) q.role q.key q.seen)
+    (λ was. by_other s h m n q call reply o.legal o.legal.1 o.legal.0.0 k holds.0 there was) holds.1)
+    (with_equation (IsUnmoved (writes s h)) (open_pass s h n) is)
 
-given_stage : (value : Value) (stage : Stage) (P : Type 0) → WhileIssuing stage P → WhileIssuing (stage_given value stage) P
-given_stage value Fresh P is = tt
-given_stage value (Asked order) P is = tt
-given_stage value (Given order old) P is = tt
-given_stage value Read P is = is
-given_stage value Saved P is = is
-given_stage value Wrote P is = tt
-given_stage value (Refused entry obstacle) P is = tt
-given_stage value Barred P is = tt
+held_given : (value : Value) (stage : Stage) (P : Type 0) → HoldsWhileIssuing stage P → HoldsWhileIssuing (stage_given value stage) P
+held_given value Fresh P is = tt
+held_given value (Asked order) P is = tt
+held_given value (Given order old) P is = tt
+held_given value Read P is = is
+held_given value Saved P is = is
+held_given value Wrote P is = tt
+held_given value (Refused entry obstacle) P is = tt
+held_given value Barred P is = tt
 
-by_value : (s : Setting) (h : List Entry) (n pass : ℕ) (value : Value) → IfSome (open_pass s h n) (IsSteady (writes s h))
-    → IfSome (gone_on n pass (λ (q : OpenPass). stage_given value q.stage) (open_pass s h n)) (IsSteady (writes s h))
-by_value s h n pass value is =
-    over_given (IsSteady (writes s h)) n pass value (open_pass s h n) (λ q was. given_stage value q.stage (IsInProgress (writes s h) q.role q.key q.seen) was) is
+with_value : (s : Setting) (h : List Entry) (n pass : ℕ) (value : Value) → IfSome (open_pass s h n) (IsUnmoved (writes s h))
+    → IfSome (gone_on n pass (λ (q : OpenPass). stage_given value q.stage) (open_pass s h n)) (IsUnmoved (writes s h))
+with_value s h n pass value is =
+    over_given (IsUnmoved (writes s h)) n pass value (open_pass s h n) (λ q was. held_given value q.stage (IsInProgress (writes s h) q.role q.key q.seen) was) is
 
 -- the revision of each issuance in progress is the one that its pass saw
-pub in_progress : AreSound → (s : Setting) (h : List Entry) (n : ℕ) → IsOrdered s h → IfSome (open_pass s h n) (IsSteady (writes s h))
+pub in_progress : AreSound → (s : Setting) (h : List Entry) (n : ℕ) → IsPlayed s h → IfSome (open_pass s h n) (IsUnmoved (writes s h))
 in_progress sound s [] n o = tt
-in_progress sound s (Called User call reply ∷ h) n o = by_user s h call reply (open_pass s h n) o (in_progress sound s h n (ordered_below s (Called User call reply) h o))
-in_progress sound s (Called (Pass m) call reply ∷ h) n o = by_pass sound s h m call reply n o (in_progress sound s h n (ordered_below s (Called (Pass m) call reply) h o))
+in_progress sound s (Called User call reply ∷ h) n o = by_user s h call reply (open_pass s h n) o (in_progress sound s h n (played_below s (Called User call reply) h o))
+in_progress sound s (Called (Pass m) call reply ∷ h) n o = by_pass sound s h m call reply n o (in_progress sound s h n (played_below s (Called (Pass m) call reply) h o))
 in_progress sound s (Begin pass role key at now ∷ h) n o =
-    over_begin (IsSteady (writes s h)) (n == pass) (new_pass role key (views s h role key) now) (open_pass s h n) tt (in_progress sound s h n (ordered_below s (Begin pass role key at now) h o))
-in_progress sound s (Ask pass order ∷ h) n o = over_ask (IsSteady (writes s h)) n pass order (open_pass s h n) (λ q was. tt) (in_progress sound s h n (ordered_below s (Ask pass order) h o))
-in_progress sound s (Made pass key ∷ h) n o = by_value s h n pass (values.Made key) (in_progress sound s h n (ordered_below s (Made pass key) h o))
-in_progress sound s (Signed pass signature ∷ h) n o = by_value s h n pass (values.Signed signature) (in_progress sound s h n (ordered_below s (Signed pass signature) h o))
-in_progress sound s (Answered pass answer ∷ h) n o = by_value s h n pass (values.Answered answer) (in_progress sound s h n (ordered_below s (Answered pass answer) h o))
-in_progress sound s (Judged pass approved ∷ h) n o = by_value s h n pass (values.Judged approved) (in_progress sound s h n (ordered_below s (Judged pass approved) h o))
-in_progress sound s (End pass cause ∷ h) n o = over_end (IsSteady (writes s h)) (n == pass) (open_pass s h n) (in_progress sound s h n (ordered_below s (End pass cause) h o))
-in_progress sound s (Stop role ∷ h) n o = over_stop (IsSteady (writes s h)) role (open_pass s h n) (in_progress sound s h n (ordered_below s (Stop role) h o))
-in_progress sound s (other ∷ h) n o = in_progress sound s h n (ordered_below s other h o)
+    over_begin (IsUnmoved (writes s h)) (n == pass) (new_pass role key (views s h role key) now) (open_pass s h n) tt (in_progress sound s h n (played_below s (Begin pass role key at now) h o))
+in_progress sound s (Ask pass order ∷ h) n o = over_ask (IsUnmoved (writes s h)) n pass order (open_pass s h n) (λ q was. tt) (in_progress sound s h n (played_below s (Ask pass order) h o))
+in_progress sound s (Made pass key ∷ h) n o = with_value s h n pass (values.Made key) (in_progress sound s h n (played_below s (Made pass key) h o))
+in_progress sound s (Signed pass signature ∷ h) n o = with_value s h n pass (values.Signed signature) (in_progress sound s h n (played_below s (Signed pass signature) h o))
+in_progress sound s (Answered pass answer ∷ h) n o = with_value s h n pass (values.Answered answer) (in_progress sound s h n (played_below s (Answered pass answer) h o))
+in_progress sound s (Judged pass approved ∷ h) n o = with_value s h n pass (values.Judged approved) (in_progress sound s h n (played_below s (Judged pass approved) h o))
+in_progress sound s (End pass cause ∷ h) n o = over_end (IsUnmoved (writes s h)) (n == pass) (open_pass s h n) (in_progress sound s h n (played_below s (End pass cause) h o))
+in_progress sound s (Stop role ∷ h) n o = over_stop (IsUnmoved (writes s h)) role (open_pass s h n) (in_progress sound s h n (played_below s (Stop role) h o))
+in_progress sound s (other ∷ h) n o = in_progress sound s h n (played_below s other h o)

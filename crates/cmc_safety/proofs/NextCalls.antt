@@ -111,11 +111,11 @@ call_at Barred role after seen since does call within followed next = absurd nex
 weaker_none : (P Q : Option Object → Option Object → Type 0) (object : Object) → ((old new : Option Object) → P old new → Q old new) → ForNone P object → ForNone Q object
 weaker_none P Q object gives on = record { makes = λ next now. gives None (Some (created next now object)) (on.makes next now); passes = on.passes }
 
-pub on_weaker : (P Q : Option Object → Option Object → Type 0) (seen : Views) (call : Call) → ((old new : Option Object) → P old new → Q old new) → OnSeen P seen call → OnSeen Q seen call
+pub on_less : (P Q : Option Object → Option Object → Type 0) (seen : Views) (call : Call) → ((old new : Option Object) → P old new → Q old new) → OnSeen P seen call → OnSeen Q seen call
 unfolding OnSeen
-on_weaker P Q seen (Create object false) gives on = weaker_none P Q object gives on
-on_weaker P Q seen (Create object true) gives on = λ name. weaker_none P Q (named name object) gives (on name)
-on_weaker P Q seen (Update object at) gives on = record {
+on_less P Q seen (Create object false) gives on = weaker_none P Q object gives on
+on_less P Q seen (Create object true) gives on = λ name. weaker_none P Q (named name object) gives (on name)
+on_less P Q seen (Update object at) gives on = record {
   old = on.old;
   sees = on.sees;
   key = on.key;
@@ -123,7 +123,7 @@ on_weaker P Q seen (Update object at) gives on = record {
   changes = λ next. gives (Some on.old) (Some (revised next on.old object)) (on.changes next);
   passes = on.passes;
 }
-on_weaker P Q seen (UpdateStatus object at) gives on = record {
+on_less P Q seen (UpdateStatus object at) gives on = record {
   old = on.old;
   sees = on.sees;
   key = on.key;
@@ -131,8 +131,8 @@ on_weaker P Q seen (UpdateStatus object at) gives on = record {
   changes = λ next. gives (Some on.old) (Some (restated next on.old object)) (on.changes next);
   passes = on.passes;
 }
-on_weaker P Q seen (Delete key None) gives on = absurd on
-on_weaker P Q seen (Delete key (Some at)) gives on = record {
+on_less P Q seen (Delete key None) gives on = absurd on
+on_less P Q seen (Delete key (Some at)) gives on = record {
   old = on.old;
   sees = on.sees;
   key = on.key;
@@ -140,14 +140,14 @@ on_weaker P Q seen (Delete key (Some at)) gives on = record {
   changes = λ next. gives (Some on.old) None (on.changes next);
   passes = on.passes;
 }
-on_weaker P Q seen (Get key) gives on = absurd on
+on_less P Q seen (Get key) gives on = absurd on
 
 -- ---- only a read is answered Found
 
 -- the call reads this object
-abbrev pub IsReadOf : Objects → Call → Object → Type 0
-IsReadOf objects (Get key) found = object_at objects key ≡ Some found
-IsReadOf objects other found = ⊥
+abbrev pub ReadsObject : Objects → Call → Object → Type 0
+ReadsObject objects (Get key) found = object_at objects key ≡ Some found
+ReadsObject objects other found = ⊥
 
 not_admitted : (rule : Option ℕ) (served : Type 0) (o : Object) → (served → ⊥) → IsAdmitted rule served (Found o) → ⊥
 not_admitted None served o off right = off right
@@ -187,7 +187,7 @@ got : (n : ℕ) (old : Option Object) (o : Object) → IsGot n old (Found o) →
 got n None o right = absurd (cc right)
 got n (Some old) o right = ap Some (let same : o ≡ old = cc right in sym same)
 
-served_read : (n : ℕ) (objects : Objects) (call : Call) (o : Object) → IsServed n objects call (Found o) → IsReadOf objects call o
+served_read : (n : ℕ) (objects : Objects) (call : Call) (o : Object) → IsServed n objects call (Found o) → ReadsObject objects call o
 served_read n objects (Create object false) o right = not_created n (is_taken objects object) object (object_at objects (key_of object)) o right
 served_read n objects (Create object true) o right =
     let made = free_named (n + 1) objects object in not_created n (is_taken objects made) made (object_at objects (key_of made)) o right
@@ -196,15 +196,15 @@ served_read n objects (UpdateStatus object named) o right = not_restated n objec
 served_read n objects (Delete key named) o right = not_deleted n named key.name (object_at objects key) o right
 served_read n objects (Get key) o right = got n (object_at objects key) o right
 
-read_by : (fails : Bool) (st : State) (call : Call) (o : Object) → MatchBool fails (Found o ≡ Unavailable (st.calls + 1)) (IsServed st.accepted st.objects call (Found o)) → IsReadOf st.objects call o
+read_by : (fails : Bool) (st : State) (call : Call) (o : Object) → MatchBool fails (Found o ≡ Unavailable (st.calls + 1)) (IsServed st.accepted st.objects call (Found o)) → ReadsObject st.objects call o
 read_by true st call o right = absurd (cc right)
 read_by false st call o right = served_read st.accepted st.objects call o right
 
-pub found_is_read : (faults : List ℕ) (st : State) (call : Call) (o : Object) → IsReply faults st call (Found o) → IsReadOf st.objects call o
+pub found_is_read : (faults : List ℕ) (st : State) (call : Call) (o : Object) → IsReply faults st call (Found o) → ReadsObject st.objects call o
 found_is_read faults st call o right = read_by (list_any (λ n. n == st.calls + 1) faults) st call o right
 
 -- and a read is no write
-pub no_read : (P : Option Object → Option Object → Type 0) (objects : Objects) (seen : Views) (call : Call) (o : Object) → IsReadOf objects call o → OnSeen P seen call → ⊥
+pub no_read : (P : Option Object → Option Object → Type 0) (objects : Objects) (seen : Views) (call : Call) (o : Object) → ReadsObject objects call o → OnSeen P seen call → ⊥
 unfolding OnSeen
 no_read P objects seen (Get key) o is on = on
 no_read P objects seen other o is on = is

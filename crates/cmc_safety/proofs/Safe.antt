@@ -53,8 +53,8 @@ use Rattle.cmc_rules.proofs.Sighted.{AreKnown, IsStored, as_seen}
 use Rattle.cmc_rules.proofs.WellSeen.{SawAll, saw_all}
 use Rattle.cmc_safety.proofs.Users.{users_keep}
 use Rattle.cmc_safety.proofs.NextCalls.{IsCallAt}
-use Rattle.cmc_safety.proofs.Course.{AreSound, at_open, IsValueOf, HasValue, HasRead, HasDone, question_of}
-use Rattle.cmc_safety.proofs.InProgress.{IsCaller, caller_of, not_accepted, IsInProgress, WhileIssuing, IsSteady, IsOrdered, ordered_below, in_progress}
+use Rattle.cmc_safety.proofs.Course.{AreSound, of_open, GivesValue, HasValue, HasReadLive, HasCome, question_of}
+use Rattle.cmc_safety.proofs.InProgress.{IsCaller, caller_of, not_accepted, IsInProgress, HoldsWhileIssuing, IsUnmoved, IsPlayed, played_below, in_progress}
 
 -- ---- words
 
@@ -63,12 +63,12 @@ stands_as P Q [] gives is = is
 stands_as P Q (e ∷ h) gives (inl is) = inl (gives e is)
 stands_as P Q (e ∷ h) gives (inr is) = inr (stands_as P Q h gives is)
 
-not_true : (b : Bool) → (b ≡ true → ⊥) → b ≡ false
-not_true true never = absurd (never refl)
-not_true false never = refl
+false_where : (b : Bool) → (b ≡ true → ⊥) → b ≡ false
+false_where true never = absurd (never refl)
+false_where false never = refl
 
-one_of : (A : Type 0) (x y : A) (o : Option A) → o ≡ Some x → o ≡ Some y → x ≡ y
-one_of A x y o a b = let some : Some x ≡ Some y = sym a ∙ b in cc some
+one_in : (A : Type 0) (x y : A) (o : Option A) → o ≡ Some x → o ≡ Some y → x ≡ y
+one_in A x y o a b = let some : Some x ≡ Some y = sym a ∙ b in cc some
 
 chosen_among : (b : Bool) (f : CertificateRequest → Bool) (rs : List CertificateRequest) (r : CertificateRequest) → (if b then find f rs else None) ≡ Some r → IsAmong r rs
 chosen_among true f rs r is = found_among f rs r is
@@ -81,8 +81,8 @@ only_among n rs r is = chosen_among (length (filter (λ request. is_of n request
 -- ---- never denied, in the whole history
 
 -- a version of the history below is one of the whole
-abbrev pub IsBelow : Setting → List Entry → List Entry → Type 0
-IsBelow s whole h = (key : Key) (o : Object) → HasVersion s h key o → HasVersion s whole key o
+abbrev pub IsEarlier : Setting → List Entry → List Entry → Type 0
+IsEarlier s whole h = (key : Key) (o : Object) → HasVersion s h key o → HasVersion s whole key o
 
 -- where one version is approved, none is denied, older or newer
 not_denied : (s : Setting) (h : List Entry) (j k : Key) (r o : CertificateRequest) (b : Bool) → AreFinal s h → HasVersion s h j (Request r) → HasVersion s h k (Request o) → r.meta.uid ≡ o.meta.uid
@@ -96,9 +96,9 @@ not_denied s h j k r o false final a c same approved denied first =
     let kept = final.kept k j (Request o) (Request r) c a (sym same) older in
     final.one j (Request r) a approved (kept.denied denied).0
 
-undenied : (s : Setting) (whole h : List Entry) (r : CertificateRequest) → IsLegal s whole → IsBelow s whole h → IsStored (writes s h) (Request r) → is_approved r ≡ true → IsNeverDenied s whole r
-undenied s whole h r legal below stored approved key o has same =
-    not_true (is_denied o)
+stays_undenied : (s : Setting) (whole h : List Entry) (r : CertificateRequest) → IsLegal s whole → IsEarlier s whole h → IsStored (writes s h) (Request r) → is_approved r ≡ true → IsNeverDenied s whole r
+stays_undenied s whole h r legal below stored approved key o has same =
+    false_where (is_denied o)
     (λ denied. not_denied s whole stored.0 key r o (nat_le r.meta.version o.meta.version) (verdicts_stay_in s whole legal) (below stored.0 (Request r) stored.1) has (sym same) approved denied refl)
 
 -- ---- revisions
@@ -135,7 +135,7 @@ judged_by h pass p (orders.Key order) r right question sees asked given = absurd
 judged_by h pass p (orders.Csr order) r right question sees asked given = absurd right
 judged_by h pass p (orders.Sign order) r right question sees asked given = absurd right
 judged_by h pass p (orders.Judge order) r right question sees asked given =
-    let same : order.request ≡ r = one_of CertificateRequest order.request r p.seen.request question.1 sees in
+    let same : order.request ≡ r = one_in CertificateRequest order.request r p.seen.request question.1 sees in
     record {
       asked = stands_as (λ e. e ≡ Ask pass (orders.Judge order)) (λ e. (rules : Rules) × (e ≡ Ask pass (orders.Judge (record { request = r; rules = rules })))) h
           (λ e is. (order.rules, is ∙ ap (λ (q : CertificateRequest). Ask pass (orders.Judge (record { request = q; rules = order.rules }))) same)) asked;
@@ -150,31 +150,31 @@ good_answer s whole h pass p call order value before after has is = record {
     raise = no_raise h pass p.role call before after is.revision;
     approval = λ old new role a b x y.
         let it = is.approval old new role a b x y in
-        judged_by h pass p order old (subst (IsValue order) it.0 has.right) has.asked.question it.1 has.asked.asked (subst (λ (v : Value). Stands (IsValueOf pass v) h) it.0 has.given);
+        judged_by h pass p order old (subst (IsValue order) it.0 has.right) has.asked.question it.1 has.asked.asked (subst (λ (v : Value). Stands (GivesValue pass v) h) it.0 has.given);
   };
   rights = is.rights;
 }
 
 -- ---- issuing
 
-no_approver : (role : Role) → role ≡ roles.Issuing → role ≡ roles.Approver → ⊥
-no_approver role a b = let e : roles.Issuing ≡ roles.Approver = sym a ∙ b in absurd (cc e)
+other_role : (role : Role) → role ≡ roles.Issuing → role ≡ roles.Approver → ⊥
+other_role role a b = let e : roles.Issuing ≡ roles.Approver = sym a ∙ b in absurd (cc e)
 
 -- what is known of an issuing pass that writes a Secret
-pub record IsIssuing (s : Setting) (whole h : List Entry) (pass : ℕ) (p : OpenPass) : Type 0 where
+pub record WritesForIssue (s : Setting) (whole h : List Entry) (pass : ℕ) (p : OpenPass) : Type 0 where
   pub legal : IsLegal s whole
-  pub below : IsBelow s whole h
+  pub below : IsEarlier s whole h
   pub known : AreKnown (writes s h) p.seen
   pub well : IsWellSeen p.seen
   pub issuing : p.role ≡ roles.Issuing
   pub steady : IsInProgress (writes s h) p.role p.key p.seen
-  pub read : HasRead h pass p.seen
+  pub read : HasReadLive h pass p.seen
 
-good_issue : (s : Setting) (whole h : List Entry) (pass : ℕ) (p : OpenPass) (c : Certificate) (r : CertificateRequest) (k : SecretObject) (file : List ℕ) (written : SecretObject) → IsIssuing s whole h pass p
+good_issue : (s : Setting) (whole h : List Entry) (pass : ℕ) (p : OpenPass) (c : Certificate) (r : CertificateRequest) (k : SecretObject) (file : List ℕ) (written : SecretObject) → WritesForIssue s whole h pass p
     → IsPrepared p.seen c r k file → IsTarget c r file written → MatchBool (is_temporary written) (IsStandIn c r file p.since written) (IsOfIssuer s whole r written) → IsGoodIssue s whole h pass p written
 good_issue s whole h pass p c r k file written its ready target signed =
-    let read : its.read.certificate ≡ c = one_of Certificate its.read.certificate c p.seen.certificate its.read.sees ready.sees in
-    let steady : its.steady.certificate ≡ c = one_of Certificate its.steady.certificate c p.seen.certificate its.steady.sees ready.sees in
+    let read : its.read.certificate ≡ c = one_in Certificate its.read.certificate c p.seen.certificate its.read.sees ready.sees in
+    let steady : its.steady.certificate ≡ c = one_in Certificate its.steady.certificate c p.seen.certificate its.steady.sees ready.sees in
     let present : revision_of_uid c.meta.uid (writes s h) ≡ revision c = subst (λ (d : Certificate). revision_of_uid d.meta.uid (writes s h) ≡ revision d) steady its.steady.present in
     record {
       certificate = c;
@@ -208,33 +208,33 @@ good_secret s whole h pass p call P before after issuing issues is = record {
   write = record {
     issue = λ written role there. issues written (is.target written there);
     raise = no_raise h pass p.role call before after is.revision;
-    approval = λ old new role a b x y. absurd (no_approver p.role issuing role);
+    approval = λ old new role a b x y. absurd (other_role p.role issuing role);
   };
   rights = is.rights;
 }
 
 -- the certificate of an issuer
-issued_well : (s : Setting) (whole h : List Entry) (pass : ℕ) (p : OpenPass) (its : IsIssuing s whole h pass p) (c : Certificate) (r : CertificateRequest) (k : SecretObject) (file : List ℕ) (written : SecretObject)
+issued_well : (s : Setting) (whole h : List Entry) (pass : ℕ) (p : OpenPass) (its : WritesForIssue s whole h pass p) (c : Certificate) (r : CertificateRequest) (k : SecretObject) (file : List ℕ) (written : SecretObject)
     → IsPrepared p.seen c r k file → is_approved r ≡ true → IsIssued r → IsSigned c r file written → IsGoodIssue s whole h pass p written
 issued_well s whole h pass p its c r k file written ready approved issued w =
     let stored : IsStored (writes s h) (Request r) = its.known (Request r) (seen_owned p.seen r (only_among (revision c + 1) p.seen.requests r ready.next)) in
     let of_issuer : IsOfIssuer s whole r written =
-    record { approved = approved; never_denied = undenied s whole h r its.legal its.below stored approved; issued = issued; certificate = w.certificate }
+    record { approved = approved; never_denied = stays_undenied s whole h r its.legal its.below stored approved; issued = issued; certificate = w.certificate }
     in
     good_issue s whole h pass p c r k file written its ready w.target
     (subst (λ (b : Bool). MatchBool b (IsStandIn c r file p.since written) (IsOfIssuer s whole r written)) (sym w.unmarked) of_issuer)
 
 -- the stand-in certificate
-marked_well : (s : Setting) (whole h : List Entry) (pass : ℕ) (p : OpenPass) (its : IsIssuing s whole h pass p) (c : Certificate) (r : CertificateRequest) (k : SecretObject) (file : List ℕ) (written : SecretObject)
+marked_well : (s : Setting) (whole h : List Entry) (pass : ℕ) (p : OpenPass) (its : WritesForIssue s whole h pass p) (c : Certificate) (r : CertificateRequest) (k : SecretObject) (file : List ℕ) (written : SecretObject)
     → IsPrepared p.seen c r k file → IsMarked c r file p.since written → IsGoodIssue s whole h pass p written
 marked_well s whole h pass p its c r k file written ready w =
     good_issue s whole h pass p c r k file written its ready w.target
     (subst (λ (b : Bool). MatchBool b (IsStandIn c r file p.since written) (IsOfIssuer s whole r written)) (sym w.marked) w.stand_in)
 
-no_secret_there : (c : Certificate) (written : SecretObject) → MayChange roles.Issuing (Some (Cert c)) (Some (Secret written)) → ⊥
-no_secret_there c written (inl made) = made
-no_secret_there c written (inr (inl changed)) = changed.0
-no_secret_there c written (inr (inr changed)) = changed
+secret_over_certificate : (c : Certificate) (written : SecretObject) → MayChange roles.Issuing (Some (Cert c)) (Some (Secret written)) → ⊥
+secret_over_certificate c written (inl made) = made
+secret_over_certificate c written (inr (inl changed)) = changed.0
+secret_over_certificate c written (inr (inr changed)) = changed
 
 status_settled : (call : Call) (reply : Reply) → IsStatusUpdate call → IsStatusUpdate (settled call reply)
 unfolding settled
@@ -245,9 +245,9 @@ good_status : (s : Setting) (whole h : List Entry) (pass : ℕ) (p : OpenPass) (
     → IsRaiseOf c p.since before after → IsGoodCall s whole h pass p call before after
 good_status s whole h pass p c call before after issuing status saved is = record {
   write = record {
-    issue = λ written role there. absurd (no_secret_there c written (subst (λ (x : Option Object). MayChange roles.Issuing x (Some (Secret written))) is.of_it (subst (λ (x : Option Object). MayChange roles.Issuing before x) there is.rights)));
+    issue = λ written role there. absurd (secret_over_certificate c written (subst (λ (x : Option Object). MayChange roles.Issuing x (Some (Secret written))) is.of_it (subst (λ (x : Option Object). MayChange roles.Issuing before x) there is.rights)));
     raise = λ old new a b other. record { issuing = issuing; status = status; by_one = raised before after is.raises old new a b; saved = saved };
-    approval = λ old new role a b x y. absurd (no_approver p.role issuing role);
+    approval = λ old new role a b x y. absurd (other_role p.role issuing role);
   };
   rights = subst (λ (r : Role). MayChange r before after) (sym issuing) is.rights;
 }
@@ -255,25 +255,25 @@ good_status s whole h pass p c call before after issuing status saved is = recor
 -- ---- by how far the pass has come
 
 -- what is known of an accepted call
-pub record IsKnownCall (s : Setting) (whole h : List Entry) (p : OpenPass) (call : Call) (reply : Reply) : Type 0 where
+pub record IsCallKnown (s : Setting) (whole h : List Entry) (p : OpenPass) (call : Call) (reply : Reply) : Type 0 where
   pub legal : IsLegal s whole
   pub legal_here : IsLegal s h
-  pub below : IsBelow s whole h
+  pub below : IsEarlier s whole h
   pub known : AreKnown (writes s h) p.seen
   pub well : IsWellSeen p.seen
   pub ok : is_accepted reply ≡ true
   pub founded : IsFounded (objects s h) (settled call reply)
 
-abbrev IsGoodHere : Setting → List Entry → List Entry → ℕ → OpenPass → Call → Type 0
-IsGoodHere s whole h pass p call = IsGoodCall s whole h pass p call (object_at (objects s h) (key_of_call call)) (stored (accepted s h + 1) (moment s h) (objects s h) call)
+abbrev IsGoodNow : Setting → List Entry → List Entry → ℕ → OpenPass → Call → Type 0
+IsGoodNow s whole h pass p call = IsGoodCall s whole h pass p call (object_at (objects s h) (key_of_call call)) (stored (accepted s h + 1) (moment s h) (objects s h) call)
 
 -- what the call was for stood there
-stood : (P : Option Object → Option Object → Type 0) (s : Setting) (whole h : List Entry) (p : OpenPass) (call : Call) (reply : Reply) → IsKnownCall s whole h p call reply → OnSeen P p.seen call
+stood : (P : Option Object → Option Object → Type 0) (s : Setting) (whole h : List Entry) (p : OpenPass) (call : Call) (reply : Reply) → IsCallKnown s whole h p call reply → OnSeen P p.seen call
     → P (object_at (objects s h) (key_of_call (settled call reply))) (stored (accepted s h + 1) (moment s h) (objects s h) (settled call reply))
 stood P s whole h p call reply k on = as_seen P s h p.seen call reply k.legal_here k.known k.ok k.founded on
 
-good_by : (s : Setting) (whole h : List Entry) (pass : ℕ) (p : OpenPass) (stage : Stage) (call : Call) (reply : Reply) → IsKnownCall s whole h p call reply
-    → WhileIssuing stage (IsInProgress (writes s h) p.role p.key p.seen) → HasDone h pass p.role p.seen p.since stage → IsCallAt stage p.role p.seen p.since call → IsGoodHere s whole h pass p (settled call reply)
+good_by : (s : Setting) (whole h : List Entry) (pass : ℕ) (p : OpenPass) (stage : Stage) (call : Call) (reply : Reply) → IsCallKnown s whole h p call reply
+    → HoldsWhileIssuing stage (IsInProgress (writes s h) p.role p.key p.seen) → HasCome h pass p.role p.seen p.since stage → IsCallAt stage p.role p.seen p.since call → IsGoodNow s whole h pass p (settled call reply)
 good_by s whole h pass p Fresh call reply k steady has (inl on) =
     good_ordinary s whole h pass p (settled call reply) (object_at (objects s h) (key_of_call (settled call reply))) (stored (accepted s h + 1) (moment s h) (objects s h) (settled call reply))
     (stood (IsOrdinary p.role p.since) s whole h p call reply k on)
@@ -284,14 +284,14 @@ good_by s whole h pass p (Given order value) call reply k steady has at =
     (stood (IsAnswer p.role p.seen p.since value) s whole h p call reply k at)
 good_by s whole h pass p Read call reply k steady has (inl at) =
     let i = at.issues in
-    let its : IsIssuing s whole h pass p = record { legal = k.legal; below = k.below; known = k.known; well = k.well; issuing = i.issuing; steady = steady; read = has } in
+    let its : WritesForIssue s whole h pass p = record { legal = k.legal; below = k.below; known = k.known; well = k.well; issuing = i.issuing; steady = steady; read = has } in
     good_secret s whole h pass p (settled call reply) (IsSigned i.certificate i.request i.file) (object_at (objects s h) (key_of_call (settled call reply))) (stored (accepted s h + 1) (moment s h) (objects s h) (settled call reply)) i.issuing
     (λ written w. issued_well s whole h pass p its i.certificate i.request i.key i.file written i.prepared i.approved i.issued w)
     (stood (WritesTarget p.role p.since (IsSigned i.certificate i.request i.file)) s whole h p call reply k
     (subst (OnSeen (WritesTarget p.role p.since (IsSigned i.certificate i.request i.file)) p.seen) (sym at.planned) i.secret))
 good_by s whole h pass p Read call reply k steady has (inr at) =
     let i = at.stands_in in
-    let its : IsIssuing s whole h pass p = record { legal = k.legal; below = k.below; known = k.known; well = k.well; issuing = i.issuing; steady = steady; read = has } in
+    let its : WritesForIssue s whole h pass p = record { legal = k.legal; below = k.below; known = k.known; well = k.well; issuing = i.issuing; steady = steady; read = has } in
     good_secret s whole h pass p (settled call reply) (IsMarked i.certificate i.request i.file p.since) (object_at (objects s h) (key_of_call (settled call reply))) (stored (accepted s h + 1) (moment s h) (objects s h) (settled call reply)) i.issuing
     (λ written w. marked_well s whole h pass p its i.certificate i.request i.key i.file written i.prepared w)
     (stood (WritesTarget p.role p.since (IsMarked i.certificate i.request i.file p.since)) s whole h p call reply k
@@ -305,72 +305,72 @@ good_by s whole h pass p Wrote call reply k steady has at = absurd at
 good_by s whole h pass p (Refused entry obstacle) call reply k steady has at = absurd at
 good_by s whole h pass p Barred call reply k steady has at = absurd at
 
-good_caller : AreSound → (s : Setting) (whole h : List Entry) (m : ℕ) (call : Call) (reply : Reply) → IsLegal s whole → IsBelow s whole h → IsOrdered s h → IsReply s.faults (state s h) call reply → is_accepted reply ≡ true
-    → (c : IsCaller s h m call) → IsGoodHere s whole h m c.pass (settled call reply)
+good_caller : AreSound → (s : Setting) (whole h : List Entry) (m : ℕ) (call : Call) (reply : Reply) → IsLegal s whole → IsEarlier s whole h → IsPlayed s h → IsReply s.faults (state s h) call reply → is_accepted reply ≡ true
+    → (c : IsCaller s h m call) → IsGoodNow s whole h m c.pass (settled call reply)
 good_caller sound s whole h m call reply legal below o right ok c =
     good_by s whole h m c.pass c.pass.stage call reply
     (record { legal = legal; legal_here = o.legal; below = below; known = c.saw.known; well = c.saw.well; ok = ok; founded = accepted_found s.faults (state s h) call reply right ok })
-    (at_open (IsSteady (writes s h)) (open_pass s h m) c.pass c.opened (in_progress sound s h m o)) c.done c.at
+    (of_open (IsUnmoved (writes s h)) (open_pass s h m) c.pass c.opened (in_progress sound s h m o)) c.done c.at
 
 -- the pass that is open there
-good_pass : (s : Setting) (whole h : List Entry) (m : ℕ) (call : Call) (reply : Reply) (c : IsCaller s h m call) → IsGoodHere s whole h m c.pass (settled call reply) → IsSafeWrite s whole h (Pass m) (settled call reply)
+good_pass : (s : Setting) (whole h : List Entry) (m : ℕ) (call : Call) (reply : Reply) (c : IsCaller s h m call) → IsGoodNow s whole h m c.pass (settled call reply) → IsSafeWrite s whole h (Pass m) (settled call reply)
 good_pass s whole h m call reply c good p opened =
-    let same : c.pass ≡ p = one_of OpenPass c.pass p (open_pass s h m) c.opened opened in
-    (subst (λ (q : OpenPass). IsGoodHere s whole h m q (settled call reply)) same good).write
+    let same : c.pass ≡ p = one_in OpenPass c.pass p (open_pass s h m) c.opened opened in
+    (subst (λ (q : OpenPass). IsGoodNow s whole h m q (settled call reply)) same good).write
 
-where_accepted : (b : Bool) (P : Type 0) → (b ≡ true → P) → MatchBool b P (Unit {0})
-where_accepted true P holds = holds refl
-where_accepted false P holds = tt
+if_accepted : (b : Bool) (P : Type 0) → (b ≡ true → P) → MatchBool b P (Unit {0})
+if_accepted true P holds = holds refl
+if_accepted false P holds = tt
 
 -- ---- questions
 
-good_order : (s : Setting) (whole h : List Entry) (p : OpenPass) (order : Order) → IsLegal s whole → IsBelow s whole h → AreKnown (writes s h) p.seen → IsQuestion p.role p.seen order → AsksWell s whole (Some p) order
+good_order : (s : Setting) (whole h : List Entry) (p : OpenPass) (order : Order) → IsLegal s whole → IsEarlier s whole h → AreKnown (writes s h) p.seen → IsQuestion p.role p.seen order → AsksWell s whole (Some p) order
 good_order s whole h p (orders.Key order) legal below known question = tt
 good_order s whole h p (orders.Csr order) legal below known question = tt
 good_order s whole h p (orders.Sign order) legal below known question = record {
   sees = question.1;
   approved = question.2;
-  never_denied = undenied s whole h order.request legal below (known (Request order.request) (seen_request p.seen order.request question.1)) question.2;
+  never_denied = stays_undenied s whole h order.request legal below (known (Request order.request) (seen_request p.seen order.request question.1)) question.2;
 }
 good_order s whole h p (orders.Judge order) legal below known question = tt
 
-good_question : AreSound → (s : Setting) (whole h : List Entry) (n : ℕ) (x : Option OpenPass) (order : Order) → IsLegal s whole → IsBelow s whole h → IfSome x (SawAll (writes s h)) → MayAsk s h x order → AsksWell s whole x order
+good_question : AreSound → (s : Setting) (whole h : List Entry) (n : ℕ) (x : Option OpenPass) (order : Order) → IsLegal s whole → IsEarlier s whole h → IfSome x (SawAll (writes s h)) → MayAsk s h x order → AsksWell s whole x order
 good_question sound s whole h n None order legal below saw may = absurd may
 good_question sound s whole h n (Some p) order legal below saw may = good_order s whole h p order legal below saw.known (question_of sound s h n p order saw may).question
 
 -- ---- entries
 
-older_version : (b : Bool) (w : Write) (ws : List Write) (key : Key) (o : Object) → IsVersion key o ws → IsVersion key o (if b then w ∷ ws else ws)
-older_version true w ws key o has = inr has
-older_version false w ws key o has = has
+version_kept : (b : Bool) (w : Write) (ws : List Write) (key : Key) (o : Object) → IsVersion key o ws → IsVersion key o (if b then w ∷ ws else ws)
+version_kept true w ws key o has = inr has
+version_kept false w ws key o has = has
 
-below_call : (s : Setting) (whole h : List Entry) (who : Who) (call : Call) (reply : Reply) → IsBelow s whole (Called who call reply ∷ h) → IsBelow s whole h
-below_call s whole h who call reply below key o has = below key o (older_version (is_accepted reply) (write_of (moment s h) (state s h) (settled call reply)) (writes s h) key o has)
+below_call : (s : Setting) (whole h : List Entry) (who : Who) (call : Call) (reply : Reply) → IsEarlier s whole (Called who call reply ∷ h) → IsEarlier s whole h
+below_call s whole h who call reply below key o has = below key o (version_kept (is_accepted reply) (write_of (moment s h) (state s h) (settled call reply)) (writes s h) key o has)
 
-are_safe : AreSound → (s : Setting) (whole h : List Entry) → IsLegal s whole → IsBelow s whole h → IsOrdered s h → AreSafe s whole h
+are_safe : AreSound → (s : Setting) (whole h : List Entry) → IsLegal s whole → IsEarlier s whole h → IsPlayed s h → AreSafe s whole h
 unfolding AreSafe IsLegal IsCaused Follows
 are_safe sound s whole [] legal below o = tt
 are_safe sound s whole (Called User call reply ∷ h) legal below o = (
   λ ok. leaves (object_at (objects s h) (key_of_call (settled call reply))) (stored (accepted s h + 1) (moment s h) (objects s h) (settled call reply))
       (users_keep s h call reply o.legal.1 o.follows.0 o.legal.0.0 ok),
-  (tt, are_safe sound s whole h legal (below_call s whole h User call reply below) (ordered_below s (Called User call reply) h o)),
+  (tt, are_safe sound s whole h legal (below_call s whole h User call reply below) (played_below s (Called User call reply) h o)),
 )
 are_safe sound s whole (Called (Pass m) call reply ∷ h) legal below o =
     let here = below_call s whole h (Pass m) call reply below in
-    let under = ordered_below s (Called (Pass m) call reply) h o in
+    let under = played_below s (Called (Pass m) call reply) h o in
     let c = caller_of sound s h m call o.legal.1 o.caused.1 o.caused.0 in (
       λ ok. good_pass s whole h m call reply c (good_caller sound s whole h m call reply legal here under o.legal.0.0 ok c),
       (
-        where_accepted (is_accepted reply) (IsRightful s h (settled call reply) (open_pass s h m))
+        if_accepted (is_accepted reply) (IsRightful s h (settled call reply) (open_pass s h m))
             (λ ok. subst (IsRightful s h (settled call reply)) (sym c.opened) (good_caller sound s whole h m call reply legal here under o.legal.0.0 ok c).rights),
         are_safe sound s whole h legal here under,
       ),
     )
 are_safe sound s whole (Ask pass order ∷ h) legal below o = (
   good_question sound s whole h pass (open_pass s h pass) order legal below (saw_all s h pass o.legal.1) o.caused.0,
-  (tt, are_safe sound s whole h legal below (ordered_below s (Ask pass order) h o)),
+  (tt, are_safe sound s whole h legal below (played_below s (Ask pass order) h o)),
 )
-are_safe sound s whole (other ∷ h) legal below o = (tt, (tt, are_safe sound s whole h legal below (ordered_below s other h o)))
+are_safe sound s whole (other ∷ h) legal below o = (tt, (tt, are_safe sound s whole h legal below (played_below s other h o)))
 
 -- a history that is legal, caused and follows its script is safe
 pub safe : AreSound → (s : Setting) (h : List Entry) → IsLegal s h → IsCaused s h → Follows s h → IsSafe s h
