@@ -3,12 +3,6 @@
 #![tactic(auto)]
 
 #[cfg(test)]
-mod approver;
-#[cfg(test)]
-mod keymanager;
-#[cfg(test)]
-mod requestmanager;
-#[cfg(test)]
 mod status;
 #[cfg(test)]
 mod trigger;
