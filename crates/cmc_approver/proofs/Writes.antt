@@ -96,6 +96,7 @@ judging seen now approved r verdict sees is = record {
     revision = refl;
     no_secret = λ written issuing of. absurd (cc issuing);
     approval = λ old new role was made before after. approves_where approved seen r _ old new verdict is sees refl was made before after;
+    made = λ made before after. absurd (cc before);
   };
   passes = λ taken. passes_of approved r verdict taken is;
 }

@@ -11,3 +11,4 @@ mod Only
 mod OnlySpecs
 mod OnlyObjects
 mod OwnersHaveUids
+pub mod ReadForms

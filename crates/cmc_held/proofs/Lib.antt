@@ -5,3 +5,4 @@ pub mod Behind
 pub mod OpenOnes
 pub mod Memories
 pub mod RowsOfPasts
+pub mod Counting

@@ -4,3 +4,4 @@ pub mod Came
 pub mod Dues
 pub mod Open
 pub mod Remembered
+pub mod Questioned

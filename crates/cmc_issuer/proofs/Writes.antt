@@ -53,6 +53,7 @@ marking seen now r status sees settled changes = record {
     revision = refl;
     no_secret = λ written issuing of. absurd (cc issuing);
     no_approval = λ old new role was made before after. absurd (cc role);
+    no_request = λ made before after. absurd (cc before);
   };
   passes = λ taken. passes_of r status taken settled changes;
 }
@@ -71,6 +72,7 @@ answering seen now value r status sees settled changes = record {
     revision = refl;
     no_secret = λ written issuing of. absurd (cc issuing);
     approval = λ old new role was made before after. absurd (cc role);
+    made = λ made before after. absurd (cc before);
   };
   passes = λ taken. passes_of r status taken settled changes;
 }

@@ -49,6 +49,7 @@ failing after seen now reason c sees = record {
     revision = failed_revision now reason c.status;
     no_secret = λ written issuing is. absurd (cc is);
     no_approval = λ o n approver b a x y. absurd (cc approver);
+    no_request = λ made before after. absurd (cc before);
   };
   passes = λ taken. certificate_status_passes (Some (Cert c)) _ taken;
 }

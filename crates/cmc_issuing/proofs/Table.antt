@@ -15,7 +15,7 @@ use Rattle.cmc_objects.specs.declared.secret.Secret.{Secret as SecretObject}
 use Rattle.cmc_objects.specs.declared.role.Role.TheVariants.{Issuing}
 use Rattle.cmc_objects.specs.declared.orders.Order.{Order}
 use Rattle.cmc_objects.specs.declared.call.Call.{Call}
-use Rattle.cmc_objects.specs.Requests.{is_run_time, is_approved, is_denied}
+use Rattle.cmc_objects.specs.Requests.{is_approved, is_denied}
 use Rattle.cmc_match.specs.Facts.{key_in, fits}
 use Rattle.cmc_match.specs.Marks.{asks_for_temporary}
 use Rattle.cmc_match.specs.Matching.{matches, has_key}
@@ -96,9 +96,8 @@ issued_by r (Some ready) e is =
 
 -- ---- the lines, as they are reached
 
-record IsReached (seen : Views) (now : ℤ) (c : Certificate) : Type 0 where
+record IsReached (seen : Views) (c : Certificate) : Type 0 where
   well : IsWellSeen seen
-  time : is_run_time now ≡ true
   sees : seen.certificate ≡ Some c
 
 -- with the key that the status names, which fits
@@ -113,8 +112,8 @@ record HasRequest (seen : Views) (c : Certificate) (file : List ℕ) (r : Certif
   matches : matches c.spec r ≡ true
   has : has_key r file ≡ true
 
-prepared : (seen : Views) (now : ℤ) (c : Certificate) (k : SecretObject) (file : List ℕ) (r : CertificateRequest) → IsReached seen now c → HasKeyFile seen c k file → HasRequest seen c file r → IsPrepared seen c r k file
-prepared seen now c k file r reached key request = record {
+prepared : (seen : Views) (c : Certificate) (k : SecretObject) (file : List ℕ) (r : CertificateRequest) → IsReached seen c → HasKeyFile seen c k file → HasRequest seen c file r → IsPrepared seen c r k file
+prepared seen c k file r reached key request = record {
   sees = reached.sees;
   next = request.next;
   matches = (matching c.spec r).0 request.matches;
@@ -125,7 +124,7 @@ prepared seen now c k file r reached key request = record {
 
 -- ---- the plans
 
-issuance : (seen : Views) (now : ℤ) (c : Certificate) (k : SecretObject) (file : List ℕ) (r : CertificateRequest) → IsReached seen now c → HasKeyFile seen c k file → HasRequest seen c file r
+issuance : (seen : Views) (now : ℤ) (c : Certificate) (k : SecretObject) (file : List ℕ) (r : CertificateRequest) → IsReached seen c → HasKeyFile seen c k file → HasRequest seen c file r
     → is_granted r ≡ true → is_certified file r.status.certificate ≡ true → is_kept_for_keys seen.secret ≡ false → IsIssuance Issuing seen now (issue_plan now c file r seen.secret)
 unfolding issue_plan
 issuance seen now c k file r reached key request granted read free =
@@ -135,7 +134,7 @@ issuance seen now c k file r reached key request granted read free =
       request = r;
       key = k;
       file = file;
-      prepared = prepared seen now c k file r reached key request;
+      prepared = prepared seen c k file r reached key request;
       approved = (both (is_approved r) (not (is_denied r)) parts.1).0;
       issued = issued_by r (condition_at r.status.conditions kinds.Ready) refl parts.0;
       get = refl;
@@ -146,7 +145,7 @@ issuance seen now c k file r reached key request granted read free =
       status = raising seen now c reached.sees;
     }
 
-standing : (seen : Views) (now : ℤ) (c : Certificate) (k : SecretObject) (file certificate : List ℕ) (r : CertificateRequest) → IsReached seen now c → HasKeyFile seen c k file → HasRequest seen c file r
+standing : (seen : Views) (now : ℤ) (c : Certificate) (k : SecretObject) (file certificate : List ℕ) (r : CertificateRequest) → IsReached seen c → HasKeyFile seen c k file → HasRequest seen c file r
     → asks_for_temporary c ≡ true → is_denied r ≡ false → is_kept_for_keys seen.secret ≡ false → temporary r.spec.request file now ≡ Some certificate → nat_le (length certificate) 16777216 ≡ true
     → IsStandingIn Issuing seen now (temporary_plan c file certificate seen.secret)
 unfolding temporary_plan
@@ -156,25 +155,25 @@ standing seen now c k file certificate r reached key request asks granted free i
   request = r;
   key = k;
   file = file;
-  prepared = prepared seen now c k file r reached key request;
+  prepared = prepared seen c k file r reached key request;
   get = refl;
   version = refl;
   is_marked = secret_marked c file certificate [] seen.secret;
   secret =
       secret_written (IsMarked c r file now) seen now true c file certificate [] seen.secret reached.well reached.sees refl free
-      (marked_of c r file certificate now (stands_in r.spec.request file certificate now is reached.time small) is asks granted key.fit request.has);
+      (marked_of c r file certificate now (stands_in r.spec.request file certificate now is small) is asks granted key.fit request.has);
 }
 
 -- ---- each act is within
 
-stand_in_is : (after : After) (seen : Views) (now : ℤ) (c : Certificate) (k : SecretObject) (file : List ℕ) (r : CertificateRequest) (made : Option (List ℕ)) → IsReached seen now c → HasKeyFile seen c k file → HasRequest seen c file r
+stand_in_is : (after : After) (seen : Views) (now : ℤ) (c : Certificate) (k : SecretObject) (file : List ℕ) (r : CertificateRequest) (made : Option (List ℕ)) → IsReached seen c → HasKeyFile seen c k file → HasRequest seen c file r
     → asks_for_temporary c ≡ true → is_denied r ≡ false → is_kept_for_keys seen.secret ≡ false → temporary r.spec.request file now ≡ made → Is after seen now (stand_in_with c file seen.secret made)
 stand_in_is after seen now c k file r None reached key request asks granted free is = tt
 stand_in_is after seen now c k file r (Some certificate) reached key request asks granted free is =
     by_test (Is after seen now) (nat_le (length certificate) 16777216) (Temporary (temporary_plan c file certificate seen.secret)) Nothing
     (λ small. standing seen now c k file certificate r reached key request asks granted free is small) (λ large. tt)
 
-waiting_is : (after : After) (seen : Views) (now : ℤ) (c : Certificate) (k : SecretObject) (file : List ℕ) (r : CertificateRequest) → IsReached seen now c → HasKeyFile seen c k file → HasRequest seen c file r
+waiting_is : (after : After) (seen : Views) (now : ℤ) (c : Certificate) (k : SecretObject) (file : List ℕ) (r : CertificateRequest) → IsReached seen c → HasKeyFile seen c k file → HasRequest seen c file r
     → Is after seen now (while_waiting now c file seen.secret r)
 waiting_is after seen now c k file r reached key request =
     by_test (Is after seen now) (asks_for_temporary c && (not (is_denied r) && (not (is_kept_for_keys seen.secret) && lacks_certificate file seen.secret))) _ _
@@ -184,46 +183,45 @@ waiting_is after seen now c k file r reached key request =
     let free = both (not (is_kept_for_keys seen.secret)) (lacks_certificate file seen.secret) granted.1 in
     stand_in_is after seen now c k file r (temporary r.spec.request file now) reached key request asks.0 (is_not (is_denied r) granted.0) (is_not (is_kept_for_keys seen.secret) free.0) refl) (λ off. tt)
 
-granted_is : (after : After) (seen : Views) (now : ℤ) (c : Certificate) (k : SecretObject) (file : List ℕ) (r : CertificateRequest) → IsReached seen now c → HasKeyFile seen c k file → HasRequest seen c file r
+granted_is : (after : After) (seen : Views) (now : ℤ) (c : Certificate) (k : SecretObject) (file : List ℕ) (r : CertificateRequest) → IsReached seen c → HasKeyFile seen c k file → HasRequest seen c file r
     → is_granted r ≡ true → Is after seen now (with_granted now c file seen.secret r)
 granted_is after seen now c k file r reached key request granted =
     by_test (Is after seen now) (is_certified file r.status.certificate) _ _
     (λ read. by_test (Is after seen now) (is_kept_for_keys seen.secret) Nothing (Issue (issue_plan now c file r seen.secret)) (λ kept. tt) (λ free. issuance seen now c k file r reached key request granted read free))
     (λ foreign. failing after seen now (codes "InvalidCertificate") c reached.sees)
 
-wanted_is : (after : After) (seen : Views) (now : ℤ) (c : Certificate) (k : SecretObject) (file : List ℕ) (r : CertificateRequest) → IsReached seen now c → HasKeyFile seen c k file → HasRequest seen c file r
+wanted_is : (after : After) (seen : Views) (now : ℤ) (c : Certificate) (k : SecretObject) (file : List ℕ) (r : CertificateRequest) → IsReached seen c → HasKeyFile seen c k file → HasRequest seen c file r
     → Is after seen now (with_wanted now c file seen.secret r)
 wanted_is after seen now c k file r reached key request =
     by_test (Is after seen now) (is_refused r) _ _
     (λ refused. by_test (Is after seen now) (fails_now c r r.status.failure) (failure now (refusal r) c) Nothing (λ now_. failing after seen now (refusal r) c reached.sees) (λ before. tt))
     (λ open_. by_test (Is after seen now) (is_granted r) _ _ (λ granted. granted_is after seen now c k file r reached key request granted) (λ waits. waiting_is after seen now c k file r reached key request))
 
-request_is : (after : After) (seen : Views) (now : ℤ) (c : Certificate) (k : SecretObject) (file : List ℕ) (next : Option CertificateRequest) → IsReached seen now c → HasKeyFile seen c k file
+request_is : (after : After) (seen : Views) (now : ℤ) (c : Certificate) (k : SecretObject) (file : List ℕ) (next : Option CertificateRequest) → IsReached seen c → HasKeyFile seen c k file
     → next_request c.status.revision seen.requests ≡ next → Is after seen now (with_request now c file seen.secret next)
 request_is after seen now c k file None reached key is = tt
 request_is after seen now c k file (Some r) reached key is =
     by_test (Is after seen now) (is_wanted c file r) _ _
     (λ on. let parts = both (matches c.spec r) (has_key r file) on in wanted_is after seen now c k file r reached key (record { next = is; matches = parts.0; has = parts.1 })) (λ off. tt)
 
-file_is : (after : After) (seen : Views) (now : ℤ) (c : Certificate) (k : SecretObject) (file : Option (List ℕ)) → IsReached seen now c → named_key c.status.next_key seen.next ≡ Some k → key_in k ≡ file
+file_is : (after : After) (seen : Views) (now : ℤ) (c : Certificate) (k : SecretObject) (file : Option (List ℕ)) → IsReached seen c → named_key c.status.next_key seen.next ≡ Some k → key_in k ≡ file
     → Is after seen now (with_file now c seen.secret seen.requests file)
 file_is after seen now c k None reached named is = tt
 file_is after seen now c k (Some file) reached named is =
     by_test (Is after seen now) (fits c.spec.key file) _ _
     (λ fit. request_is after seen now c k file (next_request c.status.revision seen.requests) reached (record { named = named; is_key = is; fit = fit }) refl) (λ off. tt)
 
-key_is : (after : After) (seen : Views) (now : ℤ) (c : Certificate) (key : Option SecretObject) → IsReached seen now c → named_key c.status.next_key seen.next ≡ key
+key_is : (after : After) (seen : Views) (now : ℤ) (c : Certificate) (key : Option SecretObject) → IsReached seen c → named_key c.status.next_key seen.next ≡ key
     → Is after seen now (with_key_of now c seen.secret seen.requests key)
 key_is after seen now c None reached named = tt
 key_is after seen now c (Some k) reached named = file_is after seen now c k (key_in k) reached named refl
 
-of_is : (after : After) (seen : Views) (now : ℤ) (o : Option Certificate) → IsWellSeen seen → is_run_time now ≡ true → seen.certificate ≡ o → Is after seen now (issuing_of now seen.next seen.secret seen.requests o)
-of_is after seen now None well time sees = tt
-of_is after seen now (Some c) well time sees =
+of_is : (after : After) (seen : Views) (now : ℤ) (o : Option Certificate) → IsWellSeen seen → seen.certificate ≡ o → Is after seen now (issuing_of now seen.next seen.secret seen.requests o)
+of_is after seen now None well sees = tt
+of_is after seen now (Some c) well sees =
     by_test (Is after seen now) (is_issuing c) _ _
-    (λ on. key_is after seen now c (named_key c.status.next_key seen.next) (record { well = well; time = time; sees = sees }) refl) (λ off. tt)
+    (λ on. key_is after seen now c (named_key c.status.next_key seen.next) (record { well = well; sees = sees }) refl) (λ off. tt)
 
--- within the time of a run, in which the times of a stand-in certificate can be written and read again
-pub within : (after : After) (seen : Views) (now : ℤ) → IsWellSeen seen → is_run_time now ≡ true → Is after seen now (issuing seen now)
+pub within : (after : After) (seen : Views) (now : ℤ) → IsWellSeen seen → Is after seen now (issuing seen now)
 unfolding issuing
-within after seen now well time = of_is after seen now seen.certificate well time refl
+within after seen now well = of_is after seen now seen.certificate well refl

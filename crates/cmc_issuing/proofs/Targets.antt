@@ -73,8 +73,8 @@ stands_by request file certificate now (Some csr) (Some key) e f is time small =
     let has : IsKeyFile file key = key_file_found file key f in
     subst (IsCertified file) same (with_fields file made _ (temporary_read request file csr key now (request_found request csr e) has time size) has)
 
-pub stands_in : (request file certificate : List ℕ) (now : ℤ) → temporary request file now ≡ Some certificate → is_run_time now ≡ true → nat_le (length certificate) 16777216 ≡ true → IsCertified file certificate
-stands_in request file certificate now is time small = stands_by request file certificate now (request_at request) (key_file_at file) refl refl is time small
+pub stands_in : (request file certificate : List ℕ) (now : ℤ) → temporary request file now ≡ Some certificate → nat_le (length certificate) 16777216 ≡ true → is_run_time now ≡ true → IsCertified file certificate
+stands_in request file certificate now is small time = stands_by request file certificate now (request_at request) (key_file_at file) refl refl is time small
 
 -- ---- the target
 
@@ -110,12 +110,12 @@ signed_of c r file read fit has k content = record {
   certificate = content.has_certificate;
 }
 
--- what stands in is written within the time of a run alone, in which its times can be written
-pub marked_of : (c : Certificate) (r : CertificateRequest) (file certificate : List ℕ) (now : ℤ) → IsCertified file certificate → temporary r.spec.request file now ≡ Some certificate
+-- what stands in is readable within the time of a run, in which its times can be written and read again
+pub marked_of : (c : Certificate) (r : CertificateRequest) (file certificate : List ℕ) (now : ℤ) → (is_run_time now ≡ true → IsCertified file certificate) → temporary r.spec.request file now ≡ Some certificate
     → asks_for_temporary c ≡ true → is_denied r ≡ false → fits c.spec.key file ≡ true → has_key r file ≡ true
     → (k : SecretObject) → HasContent true c file certificate [] k → IsMarked c r file now k
 marked_of c r file certificate now read is asks free fit has k content = record {
-  target = target_of true c r file certificate [] k read fit has content;
+  target = λ time. target_of true c r file certificate [] k (read time) fit has content;
   marked = content.marked;
   stand_in = record {
     asked_for = asks;

@@ -4,8 +4,10 @@
 
 mod acts;
 mod deciding;
+mod laws;
 mod plans;
 mod secrets;
 mod statuses;
 
 pub use acts::act;
+pub use laws::is_sound;

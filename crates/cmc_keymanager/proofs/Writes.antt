@@ -31,6 +31,7 @@ naming seen now name c sees = record {
     revision = refl;
     no_secret = λ written issuing is. absurd (cc issuing);
     no_approval = λ o n approver b a x y. absurd (cc approver);
+    no_request = λ made before after. absurd (cc before);
   };
   passes = λ taken. certificate_status_passes (Some (Cert c)) _ taken;
 }
@@ -49,6 +50,7 @@ dropping seen now k among label = record {
     revision = tt;
     no_secret = λ written issuing is. absurd (cc issuing);
     no_approval = λ o n approver b a x y. absurd (cc approver);
+    no_request = λ made before after. absurd (cc before);
   };
   passes = λ taken. refl;
 }
@@ -63,6 +65,7 @@ making seen now c file = λ name. record {
     revision = refl;
     no_secret = λ written issuing is. absurd (cc issuing);
     no_approval = λ o n approver b a x y. absurd (cc approver);
+    no_request = λ made before after. absurd (cc after);
   };
   passes = λ taken. refl;
 }
@@ -76,6 +79,7 @@ making_given seen now value c file = λ name. record {
     revision = refl;
     no_secret = λ written issuing is. absurd (cc issuing);
     approval = λ o n approver b a x y. absurd (cc approver);
+    made = λ made before after. absurd (cc after);
   };
   passes = λ taken. refl;
 }

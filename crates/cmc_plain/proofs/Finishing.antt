@@ -45,7 +45,7 @@ use Rattle.cmc_rules.specs.Runs.{IsRun, IsFinished}
 use Rattle.cmc_rules.specs.Sameness.{own_above}
 use Rattle.cmc_world.proofs.Sounds.{each_sound}
 use Rattle.cmc_rules.specs.Passes.{IsWorking}
-use Rattle.cmc_world.proofs.Moments.{scripted_low}
+use Rattle.cmc_safety.proofs.Moments.{scripted_low}
 use Rattle.cmc_world.proofs.Rest.{same_kind}
 use Rattle.cmc_plain.specs.Plain.{IsBehind, Fits, HasNoScript, HasNoPass, HasNoDelivery}
 use Rattle.cmc_world.proofs.OneKind.{object_at-of_kind}

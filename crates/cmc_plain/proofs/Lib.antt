@@ -1,4 +1,5 @@
 pub mod OneReply
+pub mod OneValue
 pub mod OneGrowth
 pub mod OneMove
 pub mod Determined
@@ -16,3 +17,5 @@ pub mod Passing
 pub mod Keys
 pub mod Ending
 pub mod Turns
+pub mod NothingHeld
+pub mod Asking

@@ -47,33 +47,25 @@ use Rattle.cmc_rules.specs.Acts.{act}
 use Rattle.cmc_rules.specs.Passes.{open_pass, called, new_pass, stage_by, stage_after, stage_given, stage_read, stage_written, is_as_seen, writes_stand_in, with_stage, is_pass_of, IsWorking}
 use Rattle.cmc_rules.specs.Memory.{past, past_called, no_past, with_begin, with_own, with_position, with_ending, ending_at, ending_of}
 use Rattle.cmc_rules.specs.Legality.{IsLegal}
-use Rattle.cmc_rules.specs.Causes.{act_of, after_of, IsCaused, IsNextCall, MayCall, EndsBy, MayEnd}
+use Rattle.cmc_rules.specs.Causes.{IsCaused, EndsBy, MayEnd}
 use Rattle.cmc_model.proofs.Writes.{writes_count}
 use Rattle.cmc_rules.proofs.Carrying.{over_call, over_ask, over_given, over_begin, over_end, over_stop}
-use Rattle.cmc_rules.specs.Sighting.{IsWellSeen}
-use Rattle.cmc_rules.proofs.WellSeen.{SawWell, saw_well}
-use Rattle.cmc_world.specs.Acting.{IsServed}
-use Rattle.cmc_world.proofs.Sounds.{any_desk, plain_act}
-use Rattle.cmc_world.proofs.OrdinaryCalls.{is_next}
-use Rattle.cmc_world.proofs.Stages.{IsServedPass, served_pass}
-use Rattle.cmc_plain.proofs.ToldKinds.{writes_known}
+use Rattle.cmc_world.proofs.Sounds.{any_desk}
+use Rattle.cmc_plain.proofs.ToldKinds.{calls_known}
 use Rattle.cmc_world.proofs.Rest.{same_key, key_eq-refl}
 use Rattle.cmc_world.proofs.Standings.{same_role}
 use Rattle.cmc_plain.proofs.Newer.{last_here, under_low, newest_known, known_more, known_grown, known_is, IsLowReply, low_reply}
 
--- ---- which kinds roles write
+-- ---- which kinds roles call on
 
-pass_known : (s : Setting) (h : List Entry) (p : OpenPass) (call : Call) → IsWellSeen p.seen → IsServed p.stage → IsNextCall p.stage (act_of s h p) (after_of p) call → has_informer p.role (key_of_call call).kind ≡ true
-pass_known s h p call well served next =
-    writes_known p.role p.seen p.since (desk s h p.role p.seen) call well
-    (is_next p.stage (act_of s h p) (after_of p) call served (plain_act p.role p.seen p.since (desk s h p.role p.seen)) next)
+-- what the call of a pass is known to be on
+abbrev CallsKnown : Call → OpenPass → Type 0
+CallsKnown call p = has_informer p.role (key_of_call call).kind ≡ true
 
 -- a call of a pass of the role is on a kind that it looks at
-call_known : (s : Setting) (h : List Entry) (role : Role) (key : Key) (call : Call) (p : Option OpenPass) → is_pass_of role key p ≡ true → IfSome p SawWell → IfSome p IsServedPass → MayCall s h p call
-    → has_informer role (key_of_call call).kind ≡ true
-call_known s h role key call None is well served may = absurd may
-call_known s h role key call (Some p) is well served may =
-    ap (λ (r : Role). has_informer r (key_of_call call).kind) (sym (same_role p.role role (and_parts _ _ is).0)) ∙ pass_known s h p call well served may
+call_known : (role : Role) (key : Key) (call : Call) (p : Option OpenPass) → is_pass_of role key p ≡ true → IfSome p (CallsKnown call) → has_informer role (key_of_call call).kind ≡ true
+call_known role key call None is known = absurd (cc is)
+call_known role key call (Some p) is known = ap (λ (r : Role). has_informer r (key_of_call call).kind) (sym (same_role p.role role (and_parts _ _ is).0)) ∙ known
 
 -- ---- own writes
 
@@ -132,7 +124,7 @@ own_low s (Called (Pass pass) call reply ∷ h) role key kind legal caused =
     let same : (key_of_call (settled call reply)).kind ≡ (key_of_call call).kind = kind_of-settled call reply in
     subst (λ (k : Kind). position_of kind (if own then with_own k (accepted s h + 1) (past s h role key) else past s h role key).own ≤ newest_known role kind (writes s (Called (Pass pass) call reply ∷ h))) same
     (own_written (is_accepted reply) (is_pass_of role key (open_pass s h pass)) role kind (write_of (moment s h) (state s h) (settled call reply)) (writes s h) (accepted s h) (past s h role key) (writes_count s h)
-    (λ mine. ap (has_informer role) same ∙ call_known s h role key call (open_pass s h pass) mine (saw_well s h pass legal.1) (served_pass s h pass legal.1 caused.1) caused.0) (own_low s h role key kind legal.1 caused.1))
+    (λ mine. ap (has_informer role) same ∙ call_known role key call (open_pass s h pass) mine (calls_known s h pass call legal.1 caused.1 caused.0)) (own_low s h role key kind legal.1 caused.1))
 own_low s (Begin pass who at told now ∷ h) role key kind legal caused =
     own_begun (role_eq who role && key_eq at key) kind (newest_known role kind (writes s h)) (views s h who at) now (past s h role key) (own_low s h role key kind legal.1 caused.1)
 own_low s (End pass cause ∷ h) role key kind legal caused =
@@ -191,20 +183,20 @@ stage_low c stand_in stage entry last role kind ws (NotFound at) known below low
 stage_low c stand_in stage entry last role kind ws (AlreadyExists have) known below low = let is = known_is role kind ws known in omega (arith, is, low)
 stage_low c stand_in stage entry last role kind ws other known below low = tt
 
-stage_called : (s : Setting) (h : List Entry) (call : Call) (reply : Reply) (p : Option OpenPass) → IsLowReply (last_of_kind (key_of_call call).kind (writes s h)) reply → IfSome p SawWell → IfSome p IsServedPass
-    → MayCall s h p call → IfSome (option_map (λ (q : OpenPass). with_stage (stage_after s h call reply q) q) p) (HasLowStage (writes s h))
-stage_called s h call reply None low well served may = tt
-stage_called s h call reply (Some p) low well served may =
-    stage_low p.seen.certificate (writes_stand_in call) p.stage (length h + 1) (last_under (key_of_call call) (writes s h)) p.role (key_of_call call).kind (writes s h) reply (pass_known s h p call well served may)
+stage_called : (s : Setting) (h : List Entry) (call : Call) (reply : Reply) (p : Option OpenPass) → IsLowReply (last_of_kind (key_of_call call).kind (writes s h)) reply → IfSome p (CallsKnown call)
+    → IfSome (option_map (λ (q : OpenPass). with_stage (stage_after s h call reply q) q) p) (HasLowStage (writes s h))
+stage_called s h call reply None low known = tt
+stage_called s h call reply (Some p) low known =
+    stage_low p.seen.certificate (writes_stand_in call) p.stage (length h + 1) (last_under (key_of_call call) (writes s h)) p.role (key_of_call call).kind (writes s h) reply known
     (under_low (key_of_call call) (writes s h)) low
 
 pass_called : (own : Bool) (s : Setting) (h : List Entry) (n pass : ℕ) (call : Call) (reply : Reply) → (n == pass) ≡ own → IsLowReply (last_of_kind (key_of_call call).kind (writes s h)) reply
-    → IfSome (open_pass s h n) SawWell → IfSome (open_pass s h n) IsServedPass → MayCall s h (open_pass s h pass) call → IfSome (open_pass s h n) (HasLowStage (writes s h))
+    → IfSome (open_pass s h pass) (CallsKnown call) → IfSome (open_pass s h n) (HasLowStage (writes s h))
     → IfSome (if own then option_map (λ (q : OpenPass). with_stage (stage_after s h call reply q) q) (open_pass s h n) else open_pass s h n) (HasLowStage (writes s h))
-pass_called true s h n pass call reply is low well served may old =
+pass_called true s h n pass call reply is low known old =
     let same : pass ≡ n = sym ((Decides-eqb n pass).0 is) in
-    stage_called s h call reply (open_pass s h n) low well served (subst (λ (m : ℕ). MayCall s h (open_pass s h m) call) same may)
-pass_called false s h n pass call reply is low well served may old = old
+    stage_called s h call reply (open_pass s h n) low (subst (λ (m : ℕ). IfSome (open_pass s h m) (CallsKnown call)) same known)
+pass_called false s h n pass call reply is low known old = old
 
 asked_low : (value : Value) (role : Role) (ws : List Write) (stage : Stage) → IsLowStage role ws stage → IsLowStage role ws (stage_given value stage)
 asked_low value role ws (Asked order) low = tt
@@ -218,7 +210,7 @@ refused_low s (Called User call reply ∷ h) n legal caused =
     grown_pass (is_accepted reply) (write_of (moment s h) (state s h) (settled call reply)) (writes s h) (open_pass s h n) (refused_low s h n legal.1 caused.1)
 refused_low s (Called (Pass pass) call reply ∷ h) n legal caused =
     grown_pass (is_accepted reply) (write_of (moment s h) (state s h) (settled call reply)) (writes s h) (called n (Pass pass) (stage_after s h call reply) (open_pass s h n))
-    (pass_called (n == pass) s h n pass call reply refl (low_reply s h call reply legal.1 legal.0.0) (saw_well s h n legal.1) (served_pass s h n legal.1 caused.1) caused.0 (refused_low s h n legal.1 caused.1))
+    (pass_called (n == pass) s h n pass call reply refl (low_reply s h call reply legal.1 legal.0.0) (calls_known s h pass call legal.1 caused.1 caused.0) (refused_low s h n legal.1 caused.1))
 refused_low s (Begin pass role key at now ∷ h) n legal caused =
     over_begin (HasLowStage (writes s h)) (n == pass) (new_pass role key (views s h role key) now) (open_pass s h n) tt (refused_low s h n legal.1 caused.1)
 refused_low s (Ask pass order ∷ h) n legal caused = over_ask (HasLowStage (writes s h)) n pass order (open_pass s h n) (λ p low. tt) (refused_low s h n legal.1 caused.1)

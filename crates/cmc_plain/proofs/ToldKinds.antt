@@ -1,6 +1,6 @@
--- Which kinds a role writes: only kinds that it is told of.
-use Rattle.std.proofs.Common.{◌≡◌, ℕ, ℤ, pos, List, [], ◌∷◌, Option, Some, None, Bool, true, false, refl, sym, ap, subst, ◌∙◌, inl, inr}
-use Rattle.std.specs.Prelude.{if◌then◌else◌}
+-- Which kinds a role calls on: only kinds that it is told of.
+use Rattle.std.proofs.Common.{◌≡◌, ◌⊎◌, ◌==◌, ℕ, ℤ, pos, List, [], ◌∷◌, Option, Some, None, Bool, true, false, refl, sym, ap, subst, ◌∙◌, inl, inr, option_and_then}
+use Rattle.std.specs.Prelude.{if◌then◌else◌, IfSome}
 use Rattle.cmc_meta.specs.declared.key.Key.{Key}
 use Rattle.cmc_meta.specs.declared.key.Kind.TheVariants as kinds
 use Rattle.cmc_objects.specs.declared.object.Object.{Object}
@@ -9,20 +9,31 @@ use Rattle.cmc_objects.specs.declared.call.Call.{Call}
 use Rattle.cmc_objects.specs.declared.call.Call.TheVariants.{Create, Update, UpdateStatus, Delete, Get}
 use Rattle.cmc_objects.specs.declared.role.Role.{Role}
 use Rattle.cmc_objects.specs.declared.role.Role.TheVariants.{Trigger, KeyManager, RequestManager, Approver, Issuer, Issuing, Readiness}
+use Rattle.cmc_objects.specs.declared.entry.Entry.{Entry}
+use Rattle.cmc_objects.specs.declared.entry.Entry.TheVariants.{Call as Called, Begin, Ask, Made, Signed, Answered, Judged, End, Stop}
 use Rattle.cmc_objects.specs.Objects.{key_of, kind_of}
 use Rattle.cmc_pass.specs.declared.pass.Views.{Views}
-use Rattle.cmc_pass.specs.declared.pass.Desk.{Desk}
-use Rattle.cmc_pass.specs.declared.pass.Act.TheVariants.{Call as Calls}
+use Rattle.cmc_pass.specs.declared.value.Value.TheVariants as values
 use Rattle.cmc_model.specs.Stored.{created}
 use Rattle.cmc_model.specs.Generated.{named}
+use Rattle.cmc_model.specs.Histories.{Setting}
 use Rattle.cmc_model.specs.Replies.{key_of_call}
+use Rattle.cmc_rules.specs.declared.progress.OpenPass.{OpenPass}
 use Rattle.cmc_rules.specs.Positions.{has_informer, works_on_requests, looks_at_secret, looks_at_next, looks_at_requests}
-use Rattle.cmc_rules.specs.Acts.{act, call_after}
+use Rattle.cmc_rules.specs.Viewing.{Caches, caches, certificate_at, request_at, target_at, next_of, requests_of, of_certificate, views_of, views_in, views}
+use Rattle.cmc_rules.specs.Passes.{open_pass, new_pass, stage_after}
+use Rattle.cmc_rules.specs.Legality.{IsLegal}
+use Rattle.cmc_rules.specs.Causes.{IsCaused, MayCall}
 use Rattle.cmc_rules.specs.Rights.{MayChange}
-use Rattle.cmc_rules.specs.Sighting.{IsAmong, IsPart, IsPartOf, IsSeen, IsWellSeen, ForNone, ForSeen, OnSeen}
-use Rattle.cmc_rules.specs.Sound.{IsOrdinary, IsWithin, shown}
+use Rattle.cmc_rules.specs.Sighting.{IsPart, IsPartOf, IsSeen, ForNone, ForSeen, OnSeen}
+use Rattle.cmc_rules.proofs.Carrying.{over_call, over_ask, over_given, over_begin, over_end, over_stop}
+use Rattle.cmc_rules.proofs.Sights.{seen_certificate}
 use Rattle.cmc_model.proofs.Settling.{kind_of-named}
 use Rattle.cmc_model.proofs.Stored.{key_of-created}
+use Rattle.cmc_safety.proofs.NextCalls.{IsLiveCall}
+use Rattle.cmc_safety.proofs.Course.{of_open}
+use Rattle.cmc_safety.proofs.InProgress.{caller_of}
+use Rattle.cmc_safety.proofs.PassWrites.{IsPassWrite, writes_at}
 use Rattle.cmc_world.proofs.Sounds.{each_sound}
 
 -- the role is told of the kind of the object
@@ -79,12 +90,33 @@ next_told RequestManager on = refl
 next_told Issuing on = refl
 next_told other on = absurd (cc on)
 
-told_seen : (role : Role) (seen : Views) (o : Object) → IsSeen (shown role seen) o → IsTold role o
-told_seen role seen o (inl is) = told_other role Cert (works_on_requests role) seen.certificate o (λ c. certificates_told role) is
-told_seen role seen o (inr (inl is)) = told_part role Secret (looks_at_secret role) seen.secret o (λ k. secret_told role) is
-told_seen role seen o (inr (inr (inl is))) = told_part role Request (works_on_requests role) seen.request o (λ r. requests_told role) is
-told_seen role seen o (inr (inr (inr (inl is)))) = told_list role Secret (looks_at_next role) seen.next o (λ k. next_told role) is
-told_seen role seen o (inr (inr (inr (inr is)))) = told_list role Request (looks_at_requests role) seen.requests o (λ r. owned_told role) is
+pub told_views : (role : Role) (c : Caches) (key : Key) (o : Object) → IsSeen (views_in role c key) o → IsTold role o
+unfolding views_in views_of
+told_views role c key o (inl is) = told_other role Cert (works_on_requests role) (certificate_at c.certificates key) o (λ a. certificates_told role) is
+told_views role c key o (inr (inl is)) =
+    told_part role Secret (looks_at_secret role) (option_and_then (target_at c.secrets) (if works_on_requests role then None else certificate_at c.certificates key)) o (λ k. secret_told role) is
+told_views role c key o (inr (inr (inl is))) = told_part role Request (works_on_requests role) (request_at c.requests key) o (λ r. requests_told role) is
+told_views role c key o (inr (inr (inr (inl is)))) =
+    told_list role Secret (looks_at_next role) (of_certificate (next_of c.secrets) (if works_on_requests role then None else certificate_at c.certificates key)) o (λ k. next_told role) is
+told_views role c key o (inr (inr (inr (inr is)))) =
+    told_list role Request (looks_at_requests role) (of_certificate (requests_of c.requests) (if works_on_requests role then None else certificate_at c.certificates key)) o (λ r. owned_told role) is
+
+-- all that the pass saw is of kinds that its role is told of
+abbrev pub SawTold : OpenPass → Type 0
+SawTold p = (o : Object) → IsSeen p.seen o → IsTold p.role o
+
+pub saw_told : (s : Setting) (h : List Entry) (n : ℕ) → IfSome (open_pass s h n) SawTold
+saw_told s [] n = tt
+saw_told s (Called who call reply ∷ h) n = over_call SawTold n who (stage_after s h call reply) (open_pass s h n) (λ p told. told) (saw_told s h n)
+saw_told s (Begin pass role key at now ∷ h) n = over_begin SawTold (n == pass) (new_pass role key (views s h role key) now) (open_pass s h n) (told_views role (caches s h role) key) (saw_told s h n)
+saw_told s (Ask pass order ∷ h) n = over_ask SawTold n pass order (open_pass s h n) (λ p told. told) (saw_told s h n)
+saw_told s (Made pass key ∷ h) n = over_given SawTold n pass (values.Made key) (open_pass s h n) (λ p told. told) (saw_told s h n)
+saw_told s (Signed pass signature ∷ h) n = over_given SawTold n pass (values.Signed signature) (open_pass s h n) (λ p told. told) (saw_told s h n)
+saw_told s (Answered pass answer ∷ h) n = over_given SawTold n pass (values.Answered answer) (open_pass s h n) (λ p told. told) (saw_told s h n)
+saw_told s (Judged pass approved ∷ h) n = over_given SawTold n pass (values.Judged approved) (open_pass s h n) (λ p told. told) (saw_told s h n)
+saw_told s (End pass cause ∷ h) n = over_end SawTold (n == pass) (open_pass s h n) (saw_told s h n)
+saw_told s (Stop role ∷ h) n = over_stop SawTold role (open_pass s h n) (saw_told s h n)
+saw_told s (other ∷ h) n = saw_told s h n
 
 -- ---- what it makes
 
@@ -102,73 +134,39 @@ told_made Issuing new (inr (inl may)) = absurd may
 told_made Issuing new (inr (inr may)) = absurd may
 told_made other new may = absurd may
 
--- ---- what it writes
+-- ---- what it calls
 
-told_under : (role : Role) (seen : Views) (now : ℤ) (under : Key) (named : ℕ) (leaves : ℕ → Object → Option Object) (rule : Object → Bool → Option ℕ)
-    → ForSeen (IsOrdinary role now) (shown role seen) under named leaves rule → has_informer role under.kind ≡ true
-told_under role seen now under named leaves rule on = ap (λ (k : Key). has_informer role k.kind) (sym on.key) ∙ told_seen role seen on.old on.sees
+-- what it saw is told, and so is what it makes by this
+told_under : (role : Role) (P : Option Object → Option Object → Type 0) (seen : Views) (under : Key) (named : ℕ) (leaves : ℕ → Object → Option Object) (rule : Object → Bool → Option ℕ)
+    → ((o : Object) → IsSeen seen o → IsTold role o) → ForSeen P seen under named leaves rule → has_informer role under.kind ≡ true
+told_under role P seen under named leaves rule told on = ap (λ (k : Key). has_informer role k.kind) (sym on.key) ∙ told on.old on.sees
 
-told_create : (role : Role) (now : ℤ) (object : Object) → ForNone (IsOrdinary role now) object → has_informer role (kind_of object) ≡ true
-told_create role now object on =
-    let made = told_made role (created 0 (pos 0) object) (on.makes 0 (pos 0)).rights in
+told_create : (role : Role) (P : Option Object → Option Object → Type 0) (object : Object) → ((old new : Option Object) → P old new → MayChange role old new) → ForNone P object → has_informer role (kind_of object) ≡ true
+told_create role P object rights on =
+    let made = told_made role (created 0 (pos 0) object) (rights None (Some (created 0 (pos 0) object)) (on.makes 0 (pos 0))) in
     ap (λ (k : Key). has_informer role k.kind) (sym (key_of-created 0 (pos 0) object)) ∙ made
 
-told_call : (role : Role) (seen : Views) (now : ℤ) (call : Call) → OnSeen (IsOrdinary role now) (shown role seen) call → has_informer role (key_of_call call).kind ≡ true
+told_call : (role : Role) (P : Option Object → Option Object → Type 0) (seen : Views) (call : Call) → ((old new : Option Object) → P old new → MayChange role old new)
+    → ((o : Object) → IsSeen seen o → IsTold role o) → OnSeen P seen call → has_informer role (key_of_call call).kind ≡ true
 unfolding OnSeen
-told_call role seen now (Create object false) on = told_create role now object on
-told_call role seen now (Create object true) on = ap (has_informer role) (sym (kind_of-named [] object)) ∙ told_create role now (named [] object) (on [])
-told_call role seen now (Update object named) on = told_under role seen now (key_of object) named _ _ on
-told_call role seen now (UpdateStatus object named) on = told_under role seen now (key_of object) named _ _ on
-told_call role seen now (Delete key None) on = absurd on
-told_call role seen now (Delete key (Some named)) on = told_under role seen now key named _ _ on
-told_call role seen now (Get key) on = absurd on
+told_call role P seen (Create object false) rights told on = told_create role P object rights on
+told_call role P seen (Create object true) rights told on = ap (has_informer role) (sym (kind_of-named [] object)) ∙ told_create role P (named [] object) rights (on [])
+told_call role P seen (Update object named) rights told on = told_under role P seen (key_of object) named _ _ told on
+told_call role P seen (UpdateStatus object named) rights told on = told_under role P seen (key_of object) named _ _ told on
+told_call role P seen (Delete key None) rights told on = absurd on
+told_call role P seen (Delete key (Some named)) rights told on = told_under role P seen key named _ _ told on
+told_call role P seen (Get key) rights told on = absurd on
 
--- ---- what is shown is well seen
+told_sort : (role : Role) (seen : Views) (since : ℤ) (call : Call) → ((o : Object) → IsSeen seen o → IsTold role o) → OnSeen (IsPassWrite role seen since) seen call ⊎ IsLiveCall role seen call
+    → has_informer role (key_of_call call).kind ≡ true
+told_sort role seen since call told (inl on) = told_call role (IsPassWrite role seen since) seen call (λ old new is. is.rights) told on
+told_sort role seen since call told (inr live) =
+    ap (λ (k : Call). has_informer role (key_of_call k).kind) live.get ∙ told (Cert live.certificate) (seen_certificate seen live.certificate live.sees)
 
-unless_some : {A : Type 0} (b : Bool) (x : Option A) (y : A) → (if b then None else x) ≡ Some y → x ≡ Some y
-unless_some true x y is = absurd (cc is)
-unless_some false x y is = is
-
-where_some : {A : Type 0} (b : Bool) (x : Option A) (y : A) → (if b then x else None) ≡ Some y → x ≡ Some y
-where_some true x y is = is
-where_some false x y is = absurd (cc is)
-
-where_among : {A : Type 0} (b : Bool) (xs : List A) (y : A) → IsAmong y (if b then xs else []) → IsAmong y xs
-where_among true xs y is = is
-where_among false xs y is = absurd is
-
-unless_part : {A : Type 0} (kind : A → Object) (b : Bool) (x : Option A) (o : Object) → IsPart kind (if b then None else x) o → IsPart kind x o
-unless_part kind true x o is = absurd is
-unless_part kind false x o is = is
-
-where_part : {A : Type 0} (kind : A → Object) (b : Bool) (x : Option A) (o : Object) → IsPart kind (if b then x else None) o → IsPart kind x o
-where_part kind true x o is = is
-where_part kind false x o is = absurd is
-
-where_part_of : {A : Type 0} (kind : A → Object) (b : Bool) (xs : List A) (o : Object) → IsPartOf kind (if b then xs else []) o → IsPartOf kind xs o
-where_part_of kind true xs o is = is
-where_part_of kind false xs o is = absurd is
-
-shown_seen : (role : Role) (seen : Views) (o : Object) → IsSeen (shown role seen) o → IsSeen seen o
-shown_seen role seen o (inl is) = inl (unless_part Cert (works_on_requests role) seen.certificate o is)
-shown_seen role seen o (inr (inl is)) = inr (inl (where_part Secret (looks_at_secret role) seen.secret o is))
-shown_seen role seen o (inr (inr (inl is))) = inr (inr (inl (where_part Request (works_on_requests role) seen.request o is)))
-shown_seen role seen o (inr (inr (inr (inl is)))) = inr (inr (inr (inl (where_part_of Secret (looks_at_next role) seen.next o is))))
-shown_seen role seen o (inr (inr (inr (inr is)))) = inr (inr (inr (inr (where_part_of Request (looks_at_requests role) seen.requests o is))))
-
-shown_well : (role : Role) (seen : Views) → IsWellSeen seen → IsWellSeen (shown role seen)
-shown_well role seen well = record {
-  target_namespace = λ c k is sees. well.target_namespace c k (unless_some (works_on_requests role) seen.certificate c is) (where_some (looks_at_secret role) seen.secret k sees);
-  target_name = λ c k is sees. well.target_name c k (unless_some (works_on_requests role) seen.certificate c is) (where_some (looks_at_secret role) seen.secret k sees);
-  labelled = λ k among. well.labelled k (where_among (looks_at_next role) seen.next k among);
-  key_owned = λ c k is among. well.key_owned c k (unless_some (works_on_requests role) seen.certificate c is) (where_among (looks_at_next role) seen.next k among);
-  request_owned = λ c r is among. well.request_owned c r (unless_some (works_on_requests role) seen.certificate c is) (where_among (looks_at_requests role) seen.requests r among);
-  admitted = λ o is. well.admitted o (shown_seen role seen o is);
-}
-
--- each call of a role is on a kind that it is told of
-pub writes_known : (role : Role) (seen : Views) (now : ℤ) (desk : Desk) (call : Call) → IsWellSeen seen → act role seen now desk ≡ Calls call → has_informer role (key_of_call call).kind ≡ true
-writes_known role seen now desk call well is =
-    told_call role seen now call
-    (subst (IsWithin role (call_after role (shown role seen) now) (shown role seen) now) (sym ((each_sound role).told seen now desk) ∙ is)
-    ((each_sound role).within (shown role seen) now desk (shown_well role seen well)))
+-- each call of an open pass is on a kind that its role is told of
+pub calls_known : (s : Setting) (h : List Entry) (n : ℕ) (call : Call) → IsLegal s h → IsCaused s h → MayCall s h (open_pass s h n) call
+    → IfSome (open_pass s h n) (λ p. has_informer p.role (key_of_call call).kind ≡ true)
+calls_known s h n call legal caused may =
+    let c = caller_of each_sound s h n call legal caused may in
+    subst (λ (x : Option OpenPass). IfSome x (λ p. has_informer p.role (key_of_call call).kind ≡ true)) (sym c.opened)
+    (told_sort c.pass.role c.pass.seen c.pass.since call (of_open SawTold (open_pass s h n) c.pass c.opened (saw_told s h n)) (writes_at c.pass.stage c.pass.role c.pass.seen c.pass.since call c.at))

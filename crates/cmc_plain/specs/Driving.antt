@@ -1,16 +1,54 @@
 -- How a run by the plain order goes on, and ends.
-use Rattle.std.specs.Prelude.{◌≡◌, ℕ, ◌+◌, ◌≤◌, List, length}
+use Rattle.std.specs.Prelude.{◌≡◌, ℕ, ◌+◌, ◌≤◌, Bool, true, false, List, length, Option, Some, None, IfSome}
 use Rattle.cmc_objects.specs.declared.entry.Entry.{Entry}
+use Rattle.cmc_objects.specs.declared.orders.Order.{Order}
+use Rattle.cmc_objects.specs.declared.orders.Order.TheVariants.{Key}
+use Rattle.cmc_keys.specs.Kinds.{allows_size}
+use Rattle.cmc_pass.specs.Giving.{order_of}
+use Rattle.cmc_pass.specs.declared.given.Given.{Given}
 use Rattle.cmc_model.specs.Histories.{Setting}
+use Rattle.cmc_rules.specs.Passes.{open_pass}
 use Rattle.cmc_rules.specs.Runs.{IsFinished}
 use Rattle.cmc_setup.specs.Setups.{Setup}
+use Rattle.cmc_world.specs.Answers.{kept_of}
 use Rattle.cmc_world.specs.declared.moves.Move.{Move}
+use Rattle.cmc_world.specs.declared.moves.Move.TheVariants.{Next, Give}
+use Rattle.cmc_world.specs.declared.moves.Stepped.{Stepped}
+use Rattle.cmc_world.specs.declared.moves.Stepped.TheVariants.{Done, Order as Tells}
 use Rattle.cmc_world.specs.Kept.{Seen, setting_of}
 use Rattle.cmc_plain.specs.declared.driving.Turn.{Turn}
 use Rattle.cmc_plain.specs.declared.driving.Turn.TheVariants as turns
 use Rattle.cmc_plain.specs.declared.driving.Driven.{Driven}
 use Rattle.cmc_plain.specs.declared.driving.Driven.TheVariants.{Finished, Spent}
 use Rattle.cmc_plain.specs.Histories.{IsPlainStep, IsPlain, IsFull}
+
+-- ---- values
+
+-- a key that is asked for is one that can be made
+abbrev pub CanBeMade : Order → Type 0
+CanBeMade (Key order) = allows_size order.algorithm order.size ≡ true
+CanBeMade other = Unit {0}
+
+abbrev pub CanBeKept : Option Order → Type 0
+CanBeKept kept = IfSome kept CanBeMade
+
+-- a pass that waits for the value of a question is given one
+abbrev pub IsNextWith : ℕ → ℕ → Option Order → Move → Type 0
+IsNextWith n named None move = move ≡ Next n named
+IsNextWith n named (Some order) move = (given : Given) × (order_of given ≡ order) × (move ≡ Give n named given)
+
+-- what is made for the plain move
+abbrev pub IsMadeFor : Setting → List Entry → Move → Move → Type 0
+IsMadeFor s h (Next n named) move = IsNextWith n named (kept_of (open_pass s h n)) move
+IsMadeFor s h other move = move ≡ other
+
+-- ---- turns
+
+-- the move was made: a question that is told is recorded by it
+abbrev pub goes_on : Stepped → Bool
+goes_on Done = true
+goes_on (Tells pass order) = true
+goes_on other = false
 
 -- the plain move was made, and the history grew
 pub record GoesOn (s : Setting) (h k : List Entry) : Type 0 where

@@ -2,3 +2,4 @@ pub mod Plain
 pub mod Searches
 pub mod Histories
 pub mod Driving
+pub mod Waits

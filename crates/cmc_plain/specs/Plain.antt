@@ -23,7 +23,7 @@ use Rattle.cmc_rules.specs.Resting.{IsIdle}
 use Rattle.cmc_rules.specs.Following.{IsReady}
 use Rattle.cmc_rules.specs.Runs.{IsFinished}
 use Rattle.cmc_world.specs.declared.moves.Move.{Move}
-use Rattle.cmc_world.specs.declared.moves.Move.TheVariants.{Script, Deliver, Begin, Next}
+use Rattle.cmc_world.specs.declared.moves.Move.TheVariants.{Script, Deliver, Begin, Next, Give}
 
 -- ---- the script
 
@@ -102,12 +102,14 @@ HasNoPass s h = (n : ℕ) → IsOpen (open_pass s h n) → ⊥
 abbrev pub HasNoDelivery : Setting → List Entry → Type 0
 HasNoDelivery s h = (role : Role) (kind : Kind) → IsBehind s h role kind → ⊥
 
--- first the next step of the script, then the least open pass, then a delivery of the newest write, then a begin
+-- First the next step of the script, then the least open pass, then a delivery of the newest write, then a begin. A pass that waits for a
+-- value is open too: that it is given one is its next phase, and no move of its own.
 abbrev pub IsChosen : Setting → List Entry → Move → Type 0
 IsChosen s h Script = IsStepReady s h
 IsChosen s h (Next n named) = HasNoScript s h × IsFirstPass s h n × IsOfPresent s h named (open_pass s h n)
 IsChosen s h (Deliver role kind to) = HasNoScript s h × HasNoPass s h × IsFirstDelivery s h role kind × (to ≡ last_of_kind kind (writes s h))
 IsChosen s h (Begin role key) = HasNoScript s h × HasNoPass s h × HasNoDelivery s h × IsFirstBegin s h role key
+IsChosen s h (Give n named given) = ⊥
 
 -- the move that a run by one hand makes next, none exactly where it is finished
 abbrev pub IsPlainMove : Setting → List Entry → Option Move → Type 0

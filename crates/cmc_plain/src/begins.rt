@@ -95,8 +95,7 @@ fn is_worth(
     requires { seen.now ≡ views (setting_of world.now.scenario) world.now.history role key.now }
     ensures { IfOk result (λ b. IsTrue b ↔ spec.IsWorth (setting_of world.now.scenario) world.now.history role key.now) }
 {
-    world.is_run();
-    world.keeps_years();
+    world.can_act();
     if !saw_last(alloc, world.past(role, key), seen) {
         return Ok(true);
     }

@@ -40,7 +40,7 @@ fn first_move(alloc: Global, world: &World) -> Result<Option<Move>, AllocError>
 /// The move that a run by one hand makes next; `None` exactly where the run is finished.
 ///
 /// It is the first of: the next step of the script, where it does not wait; the next phase of the first
-/// open pass; a delivery to the newest accepted write of a kind, by role, then by kind; and the begin of
+/// open pass, which of one that waits for a value is that it is given one; a delivery to the newest accepted write of a kind, by role, then by kind; and the begin of
 /// the first role with a key on which it has something to do or sees something new, the first such key.
 ///
 /// # Errors

@@ -1,16 +1,18 @@
 //! What stands at the end of a run.
 ghost use Rattle.std.specs.List.{list_any};
 ghost use Rattle.std.specs.Prelude.{◌≡◌, ◌&&◌, ◌==◌, IfOk, count_by};
-ghost use Rattle.cmc_model.specs.Histories.{objects};
 ghost use Rattle.cmc_meta.specs.ConditionLists.{condition_rank, tri_eq};
 ghost use Rattle.cmc_meta.specs.declared.conditions.ConditionKind.TheVariants.{Ready};
 ghost use Rattle.cmc_meta.specs.declared.conditions.Tri.TheVariants.{True};
-ghost use Rattle.cmc_model.specs.Summaries.{says_ready, is_certificate, is_secret, is_ready, is_waiting, waits, summary_of, summary_of_entries};
+ghost use Rattle.cmc_model.specs.Summaries.{says_ready, is_certificate, is_secret, is_ready, is_waiting};
+ghost use Rattle.cmc_rules.specs.Runs.{IsFinished};
 ghost use Rattle.cmc_world.specs.Kept.{setting_of};
+ghost use Rattle.cmc_plain.specs.Waits.{is_stopped, waits_among, summary_among, summary_at};
 
+use crate::waits::{is_stopped, wait_at};
 use cmc_meta::{Condition, ConditionKind, Key, Tri};
-use cmc_model::{Summary, WaitName, Waiting, Waits};
 use cmc_objects::Object;
+use cmc_summary::{Summary, Waiting, Waits};
 use cmc_world::World;
 use std::alloc::{AllocError, Global};
 use std::collections::BTreeMap;
@@ -88,41 +90,62 @@ fn secrets(objects: &Objects) -> u64
         .count() as u64
 }
 
-fn waiting(alloc: Global, objects: &Objects) -> Result<Waits, AllocError>
-    ensures { IfOk result (λ w. w ≡ waits objects.now.entries) }
+/// The Certificates that are not Ready, with what they wait for.
+fn waiting(
+    alloc: Global,
+    world: &World,
+    stopped: bool,
+    objects: &Objects,
+) -> Result<Waits, AllocError>
+    requires finished { IsFinished (setting_of world.now.scenario) world.now.history }
+    requires stopped { stopped ≡ is_stopped (setting_of world.now.scenario) world.now.history }
+    ensures { IfOk result (λ w. w ≡ waits_among (setting_of world.now.scenario) world.now.history objects.now.entries) }
 {
     let mut waiting = Waits::new(alloc);
     for (key, object) in objects.iter() {
         if counts_as_waiting(object) {
-            waiting.push(Waiting {
-                certificate: key.copy()?,
-                wait: WaitName::Stopped,
-            })?;
+            if let Some(wait) = wait_at(alloc, world, stopped, key)? {
+                let certificate = key.copy()?;
+                waiting.push(Waiting { certificate, wait })?;
+            }
         }
     }
     Ok(waiting)
 }
 
 /// The summary of these objects.
-fn summarize(alloc: Global, objects: &Objects) -> Result<Summary, AllocError>
-    ensures { IfOk result (λ s. s ≡ summary_of_entries objects.now.entries) }
+fn summarize(
+    alloc: Global,
+    world: &World,
+    stopped: bool,
+    objects: &Objects,
+) -> Result<Summary, AllocError>
+    requires finished { IsFinished (setting_of world.now.scenario) world.now.history }
+    requires stopped { stopped ≡ is_stopped (setting_of world.now.scenario) world.now.history }
+    ensures { IfOk result (λ s. s ≡ summary_among (setting_of world.now.scenario) world.now.history objects.now.entries) }
 {
     Ok(Summary {
         certificates: certificates(objects),
         ready: ready(objects),
         secrets: secrets(objects),
-        waiting: waiting(alloc, objects)?,
+        waiting: waiting(alloc, world, stopped, objects)?,
     })
 }
 
-/// The summary of a world: how many Certificates stand, how many of them are Ready, how many Secrets
-/// stand, and what each Certificate that is not Ready waits for, in order of key.
+/// The summary of a finished run: how many Certificates stand, how many of them are Ready, how many Secrets stand, and
+/// what each Certificate waits for that is not Ready, in order of key. Where some role does not run, or some informer
+/// is held, that is what each waits for. Else it is the first of these that is so: its last issuance failed and the
+/// moment lies in the back-off; it is being issued and there is no next key; its one next request is neither approved
+/// nor denied; that is issued, and the Secret of the Certificate's name for it holds a next key itself; that is
+/// approved, and its issuer has not answered or was not ready. A Certificate of which none is so is left out.
 ///
 /// # Errors
 ///
 /// Want of memory alone.
 pub fn summary(alloc: Global, world: &World) -> Result<Summary, AllocError>
-    ensures { IfOk result (λ s. s ≡ summary_of (objects (setting_of world.now.scenario) world.now.history)) }
+    requires { IsFinished (setting_of world.now.scenario) world.now.history }
+    ensures { IfOk result (λ s. s ≡ summary_at (setting_of world.now.scenario) world.now.history) }
 {
-    summarize(alloc, world.objects())
+    let stopped = is_stopped(alloc, world)?;
+    summarize(alloc, world, stopped, world.objects())
 }

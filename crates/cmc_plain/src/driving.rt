@@ -1,11 +1,16 @@
 //! A run by one hand.
-ghost use Rattle.std.specs.Prelude.{◌≡◌, [], IfOk};
+ghost use Rattle.std.specs.Prelude.{◌≡◌, [], IfOk, Some};
 ghost use Rattle.cmc_world.specs.Kept.{setting_of};
+ghost use Rattle.cmc_plain.specs.Plain.{IsPlainMove};
+ghost use Rattle.cmc_plain.specs.Driving as spec;
 ghost use Rattle.cmc_plain.specs.Driving.{IsTurn, IsDriven};
 
 use crate::choosing::plain;
+use crate::giving::made_for;
+use cmc_answers::Signer;
+use cmc_keys::KeyMaker;
 use cmc_setup::Scenario;
-use cmc_world::World;
+use cmc_world::{Move, Stepped, World};
 use std::alloc::{AllocError, Global};
 
 /// How a run by the plain order ended.
@@ -28,32 +33,63 @@ pub(crate) enum Turn {
     Spent,
 }
 
-fn take_turn(alloc: Global, world: &mut World) -> Result<Turn, AllocError>
+/// Whether a step answers so to a move that was made; of a pass that asks the question is told.
+fn goes_on(answer: Stepped) -> bool
+    ensures { result ≡ spec.goes_on answer }
+{
+    matches!(answer, Stepped::Done | Stepped::Order { .. })
+}
+
+/// Makes the plain move, which is this one, where it fits.
+fn make_move<M: KeyMaker, N: Signer>(
+    alloc: Global,
+    world: &mut World,
+    step: Move,
+    keys: &M,
+    signer: &N,
+) -> Result<Turn, AllocError>
+    requires { IsPlainMove (setting_of world.old.scenario) world.old.history (Some step) }
+    ensures turn { IfOk result (λ t. IsTurn (setting_of world.old.scenario) world.old.history world.new.history t) }
+    ensures scenario { world.new.scenario ≡ world.old.scenario }
+{
+    let made = made_for(alloc, world, step, keys, signer)?;
+    world.is_run();
+    let _events = world.scenario().events();
+    if goes_on(world.step(alloc, made)?) {
+        Ok(Turn::On)
+    } else {
+        Ok(Turn::Spent)
+    }
+}
+
+fn take_turn<M: KeyMaker, N: Signer>(
+    alloc: Global,
+    world: &mut World,
+    keys: &M,
+    signer: &N,
+) -> Result<Turn, AllocError>
     ensures turn { IfOk result (λ t. IsTurn (setting_of world.old.scenario) world.old.history world.new.history t) }
     ensures scenario { world.new.scenario ≡ world.old.scenario }
 {
     match plain(alloc, world)? {
         None => Ok(Turn::Finished),
-        Some(step) => {
-            world.is_run();
-            let _events = world.scenario().events();
-            if world.step(alloc, step)?.is_done() {
-                Ok(Turn::On)
-            } else {
-                Ok(Turn::Spent)
-            }
-        }
+        Some(step) => make_move(alloc, world, step, keys, signer),
     }
 }
 
 /// Makes the plain moves of the world, one after another, until it is finished or full.
-fn drive(alloc: Global, mut world: World) -> Result<Driven, AllocError>
+fn drive<M: KeyMaker, N: Signer>(
+    alloc: Global,
+    mut world: World,
+    keys: &M,
+    signer: &N,
+) -> Result<Driven, AllocError>
     requires { world.history ≡ [] }
     ensures { IfOk result (λ d. IsDriven world.scenario d) }
 {
     let events = world.scenario().events();
     for _turn in 0..=events {
-        match take_turn(alloc, &mut world)? {
+        match take_turn(alloc, &mut world, keys, signer)? {
             Turn::On => {}
             Turn::Finished => return Ok(Driven::Finished(world)),
             Turn::Spent => return Ok(Driven::Spent(world)),
@@ -65,14 +101,22 @@ fn drive(alloc: Global, mut world: World) -> Result<Driven, AllocError>
 
 /// Runs the scenario by the plain order: as long as the run is not finished, the first that is possible of
 /// the next step of the script, the next phase of the least open pass, a delivery to the newest accepted
-/// write of a kind, and a begin of a fitting key. So its history is a function of the scenario.
+/// write of a kind, and a begin of a fitting key. A pass that waits for a value is given one: a key or a
+/// signature by `keys`, an answer of its issuer by `signer`, and a judgement by `cmc_answers::judge`.
+///
+/// So its history is a function of the scenario, and of what is given where a row leaves the value free.
 ///
 /// # Errors
 ///
 /// Want of memory alone.
-pub fn drive_plain(alloc: Global, scenario: Scenario) -> Result<Driven, AllocError>
+pub fn drive_plain<M: KeyMaker, N: Signer>(
+    alloc: Global,
+    scenario: Scenario,
+    keys: &M,
+    signer: &N,
+) -> Result<Driven, AllocError>
     ensures { IfOk result (λ d. IsDriven scenario d) }
 {
     let world = World::new(alloc, scenario)?;
-    drive(alloc, world)
+    drive(alloc, world, keys, signer)
 }

@@ -6,10 +6,12 @@ mod choosing;
 mod counting;
 mod deliveries;
 mod driving;
+mod giving;
 mod laws;
 mod passes;
 mod roles;
 mod scripts;
+mod waits;
 
 pub use choosing::plain;
 pub use counting::summary;

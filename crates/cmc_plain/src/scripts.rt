@@ -11,12 +11,7 @@ use std::alloc::{AllocError, Global};
 pub(crate) fn is_accepted(answer: Stepped) -> bool
     ensures { IsTrue result ↔ IsAccepted answer }
 {
-    match answer {
-        Stepped::Done => true,
-        Stepped::NotNow(_) => false,
-        Stepped::Ended { .. } => false,
-        Stepped::Spent { .. } => true,
-    }
+    matches!(answer, Stepped::Done | Stepped::Spent { .. })
 }
 
 /// Whether a step of the script is left, and does not wait.

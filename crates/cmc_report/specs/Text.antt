@@ -3,7 +3,7 @@ use Rattle.std.specs.Prelude.{ℕ, List, [], ◌∷◌, ◌++◌, ◌+◌, lengt
 use Rattle.std.specs.List.{flat_map}
 use Rattle.serde_json.specs.Data.{Data}
 use Rattle.cmc_objects.specs.declared.entry.Entry.{Entry}
-use Rattle.cmc_model.specs.declared.summary.Summary.{Summary}
+use Rattle.cmc_summary.specs.declared.summary.Summary.{Summary}
 use Rattle.cmc_print.specs.Trees.{line_of}
 use Rattle.cmc_report.specs.Trees.{scenario_tree, entry_tree, summary_tree}
 

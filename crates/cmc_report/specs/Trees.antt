@@ -26,10 +26,10 @@ use Rattle.cmc_objects.specs.Requests.{Signs}
 use Rattle.cmc_meta.specs.declared.key.Kind.{Kind}
 use Rattle.cmc_meta.specs.declared.object_meta.ObjectMeta.{ObjectMeta}
 use Rattle.cmc_objects.specs.Objects.{key_of, name_of, version_of}
-use Rattle.cmc_model.specs.declared.summary.Summary.{Summary}
-use Rattle.cmc_model.specs.declared.summary.Waiting.{Waiting}
-use Rattle.cmc_model.specs.declared.summary.WaitName.{WaitName}
-use Rattle.cmc_model.specs.declared.summary.WaitName.TheVariants.{Stopped}
+use Rattle.cmc_summary.specs.declared.summary.Summary.{Summary}
+use Rattle.cmc_summary.specs.declared.summary.Waiting.{Waiting}
+use Rattle.cmc_summary.specs.declared.summary.WaitName.{WaitName}
+use Rattle.cmc_summary.specs.declared.summary.WaitName.TheVariants as waits
 use Rattle.cmc_print.specs.Trees.{natural}
 use Rattle.cmc_print.specs.Puts.{put_list, base64_text}
 use Rattle.cmc_print.specs.Words.{kind_name, role_name, name_text, key_text}
@@ -218,7 +218,12 @@ unfoldable pub scenario_tree : Data → Data
 scenario_tree value = object (put (codes "scenario") value no_members)
 
 abbrev pub wait_name : WaitName → List ℕ
-wait_name Stopped = codes "stopped"
+wait_name waits.Stopped = codes "stopped"
+wait_name waits.Backoff = codes "backoff"
+wait_name waits.Key = codes "key"
+wait_name waits.Unapproved = codes "unapproved"
+wait_name waits.Name = codes "name"
+wait_name waits.Pending = codes "pending"
 
 unfoldable pub waiting_tree : Waiting → Data
 waiting_tree w = object (put (codes "wait") (string (wait_name w.wait)) (put (codes "certificate") (string (name_text w.certificate)) no_members))

@@ -6,8 +6,8 @@ ghost use Rattle.serde_json.specs.Written.{has_float};
 ghost use Rattle.cmc_print.specs.Trees.{data_of, line_of};
 ghost use Rattle.cmc_report.specs.Trees.{scenario_tree, wait_name, waiting_tree, counts_tree, summary_tree};
 
-use cmc_model::{Summary, WaitName, Waiting};
 use cmc_print::{Members, Tree, Trees, name_word, put_count, put_text};
+use cmc_summary::{Summary, WaitName, Waiting};
 use serde_json::Value;
 use std::alloc::{AllocError, Global};
 
@@ -28,6 +28,11 @@ fn wait_word(wait: WaitName) -> &'static str
 {
     match wait {
         WaitName::Stopped => "stopped",
+        WaitName::Backoff => "backoff",
+        WaitName::Key => "key",
+        WaitName::Unapproved => "unapproved",
+        WaitName::Name => "name",
+        WaitName::Pending => "pending",
     }
 }
 

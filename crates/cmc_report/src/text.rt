@@ -8,8 +8,8 @@ use crate::entries::entry_line;
 use crate::lines::Lines;
 use crate::summaries::{scenario_line, summary_line};
 use cmc_history::History;
-use cmc_model::Summary;
 use cmc_objects::Entry;
+use cmc_summary::Summary;
 use serde_json::Value;
 use std::alloc::{AllocError, Global};
 

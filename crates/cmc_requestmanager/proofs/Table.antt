@@ -56,7 +56,7 @@ followed seen now c k file key order r is (Made bytes) right = absurd right
 followed seen now c k file key order r is (Signed signature) right = record {
   call = make_request c k (signed_octets (body_of c.spec key) signature);
   follows = follows seen c k file signature key r is;
-  on = making seen now (Signed signature) c k (signed_octets (body_of c.spec key) signature);
+  on = making seen now (Signed signature) c k (signed_octets (body_of c.spec key) signature) r.sees;
 }
 followed seen now c k file key order r is (Answered answer) right = absurd right
 followed seen now c k file key order r is (Judged approved) right = absurd right

@@ -1,5 +1,5 @@
 -- Each call of the request manager keeps to its rights, and no rule refuses it.
-use Rattle.std.proofs.Common.{◌≡◌, ℕ, ℤ, List, refl, inl, inr}
+use Rattle.std.proofs.Common.{◌≡◌, ℕ, ℤ, List, Some, refl, subst, inl, inr}
 use Rattle.cmc_objects.specs.declared.certificate.Certificate.{Certificate}
 use Rattle.cmc_objects.specs.declared.request.CertificateRequest.{CertificateRequest}
 use Rattle.cmc_objects.specs.declared.secret.Secret.{Secret as SecretObject}
@@ -11,9 +11,9 @@ use Rattle.cmc_model.specs.Admission.{refusing_rule}
 use Rattle.cmc_model.specs.Generated.{named}
 use Rattle.cmc_model.specs.Stored.{created}
 use Rattle.cmc_rules.specs.Revising.{delete_call}
-use Rattle.cmc_rules.specs.RequestManaging.{new_request, make_request, request_after}
+use Rattle.cmc_rules.specs.RequestManaging.{request_spec, new_request, make_request, request_after}
 use Rattle.cmc_rules.specs.Sighting.{IsAmong, OnSeen}
-use Rattle.cmc_rules.specs.Sound.{IsAnswer, IsWithin}
+use Rattle.cmc_rules.specs.Sound.{IsOfCertificate, IsAnswer, IsWithin}
 use Rattle.cmc_rules.proofs.Sights.{seen_owned}
 
 -- the deletion of a request
@@ -30,20 +30,31 @@ dropping seen now r among = record {
     revision = tt;
     no_secret = λ written issuing is. absurd (cc issuing);
     no_approval = λ o n approver b a x y. absurd (cc approver);
+    no_request = λ made before after. absurd (cc before);
   };
   passes = λ taken. refl;
 }
 
 -- the create of a request
-pub making : (seen : Views) (now : ℤ) (value : Value) (c : Certificate) (k : SecretObject) (request : List ℕ) → OnSeen (IsAnswer RequestManager seen now value) seen (make_request c k request)
-unfolding make_request new_request created named refusing_rule OnSeen
-making seen now value c k request = λ name. record {
+is_that : (a b : CertificateRequest) → Some (Request a) ≡ Some (Request b) → a ≡ b
+is_that a b is = cc is
+
+of_certificate : (seen : Views) (c : Certificate) (a made : CertificateRequest) → seen.certificate ≡ Some c → a.spec.issuer ≡ c.spec.issuer → a.spec.duration ≡ c.spec.duration
+    → Some (Request a) ≡ Some (Request made) → IsOfCertificate seen made
+of_certificate seen c a made sees issuer duration is =
+    subst (IsOfCertificate seen) (is_that a made is) (record { certificate = c; sees = sees; issuer = issuer; duration = duration })
+
+pub making : (seen : Views) (now : ℤ) (value : Value) (c : Certificate) (k : SecretObject) (request : List ℕ) → seen.certificate ≡ Some c
+    → OnSeen (IsAnswer RequestManager seen now value) seen (make_request c k request)
+unfolding make_request new_request request_spec created named refusing_rule OnSeen
+making seen now value c k request sees = λ name. record {
   makes = λ next at. record {
     rights = inl tt;
     dated = λ timed dated. tt;
     revision = refl;
     no_secret = λ written issuing is. absurd (cc issuing);
     approval = λ o n approver b a x y. absurd (cc approver);
+    made = λ made before after. of_certificate seen c _ made sees refl refl after;
   };
   passes = λ taken. refl;
 }

@@ -8,22 +8,30 @@ use Rattle.cmc_pass.specs.declared.pass.Views.{Views}
 use Rattle.cmc_pass.specs.declared.pass.Desk.{Desk}
 use Rattle.cmc_pass.specs.declared.value.Value.{Value}
 use Rattle.cmc_pass.specs.declared.pass.Act.{Act}
-use Rattle.cmc_pass.specs.declared.pass.Act.TheVariants.{Nothing}
 use Rattle.cmc_rules.specs.Triggering.{trigger}
+use Rattle.cmc_rules.specs.KeyManaging.{key_manager, key_after}
+use Rattle.cmc_rules.specs.RequestManaging.{request_manager, request_after}
+use Rattle.cmc_rules.specs.Approving.{approver, judged_after}
+use Rattle.cmc_rules.specs.Granting.{issuer, answered_after}
+use Rattle.cmc_rules.specs.Issuing.{issuing}
 use Rattle.cmc_rules.specs.Readying.{readiness}
 use Rattle.cmc_rules.specs.Revising.{revise}
 
--- the act of the role on these views at this moment; trigger, readiness and revision run, the others do nothing yet
+-- the act of the role on these views at this moment
 unfoldable pub act : Role → Views → ℤ → Desk → Act
 act Trigger views moment desk = trigger views moment
-act KeyManager views moment desk = Nothing
-act RequestManager views moment desk = Nothing
-act Approver views moment desk = Nothing
-act Issuer views moment desk = Nothing
-act Issuing views moment desk = Nothing
+act KeyManager views moment desk = key_manager views desk
+act RequestManager views moment desk = request_manager views
+act Approver views moment desk = approver views desk
+act Issuer views moment desk = issuer views moment desk
+act Issuing views moment desk = issuing views moment
 act Readiness views moment desk = readiness views moment
 act Revision views moment desk = revise views
 
 -- the call that follows the value of the role's question, which a pass asked that began at this moment; where there is none, none
 unfoldable pub call_after : Role → Views → ℤ → Order → Value → Option Call
-call_after role views moment order value = None
+call_after KeyManager views moment order value = key_after views moment order value
+call_after RequestManager views moment order value = request_after views moment order value
+call_after Approver views moment order value = judged_after views moment order value
+call_after Issuer views moment order value = answered_after views moment order value
+call_after other views moment order value = None

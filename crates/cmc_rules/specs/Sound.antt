@@ -15,7 +15,7 @@ use Rattle.cmc_objects.specs.declared.call.Call.{Call}
 use Rattle.cmc_objects.specs.declared.role.Role.{Role}
 use Rattle.cmc_objects.specs.declared.role.Role.TheVariants as roles
 use Rattle.cmc_objects.specs.Objects.{key_of}
-use Rattle.cmc_objects.specs.Requests.{is_approved, is_denied}
+use Rattle.cmc_objects.specs.Requests.{is_run_time, is_approved, is_denied}
 use Rattle.cmc_der.specs.Keys.{CertificateFields}
 use Rattle.cmc_policies.specs.declared.renewal.Renew.{Renew}
 use Rattle.cmc_policies.specs.Renewal.{IsCertificateTime, backoff, renewal}
@@ -55,22 +55,36 @@ abbrev pub WhereApproved : Role → Option Object → Option Object → (Certifi
 WhereApproved role before after P =
     (old new : CertificateRequest) → role ≡ roles.Approver → before ≡ Some (Request old) → after ≡ Some (Request new) → is_approved old ≡ false → is_approved new ≡ true → P old
 
+-- what is so of a request that is made
+abbrev pub WhereMade : Option Object → Option Object → (CertificateRequest → Type 0) → Type 0
+WhereMade before after P = (made : CertificateRequest) → before ≡ None → after ≡ Some (Request made) → P made
+
+-- it asks the issuer of the Certificate that is seen, for its duration
+pub record IsOfCertificate (seen : Views) (made : CertificateRequest) : Type 0 where
+  pub certificate : Certificate
+  pub sees : seen.certificate ≡ Some certificate
+  pub issuer : made.spec.issuer ≡ certificate.spec.issuer
+  pub duration : made.spec.duration ≡ certificate.spec.duration
+
 -- A write within the rights of the role that leaves revisions, after which the moment of a last failure still lies in its years. No
--- Secret is issued by it, and no request approved.
+-- Secret is issued by it, and no request approved or made.
 pub record IsOrdinary (role : Role) (now : ℤ) (old new : Option Object) : Type 0 where
   pub rights : MayChange role old new
   pub dated : IsCertificateTime now → IsDated old → IsDated new
   pub revision : KeepsRevision old new
   pub no_secret : IsNoSecret role new
   pub no_approval : WhereApproved role old new (λ r. ⊥)
+  pub no_request : WhereMade old new (λ r. ⊥)
 
--- the write that follows a value: what it approves is the request that is seen, and the value is a yes
+-- the write that follows a value: what it approves is the request that is seen, and the value is a yes; a request that it makes is for
+-- the Certificate that is seen
 pub record IsAnswer (role : Role) (seen : Views) (now : ℤ) (value : Value) (old new : Option Object) : Type 0 where
   pub rights : MayChange role old new
   pub dated : IsCertificateTime now → IsDated old → IsDated new
   pub revision : KeepsRevision old new
   pub no_secret : IsNoSecret role new
   pub approval : WhereApproved role old new (λ r. (value ≡ values.Judged true) × (seen.request ≡ Some r))
+  pub made : WhereMade old new (IsOfCertificate seen)
 
 -- ---- what issuing does
 
@@ -113,9 +127,10 @@ pub record IsSigned (c : Certificate) (r : CertificateRequest) (file : List ℕ)
   pub unmarked : is_temporary written ≡ false
   pub certificate : certificate_in written ≡ Some r.status.certificate
 
--- the Secret has a stand-in certificate and the mark
+-- The Secret has a stand-in certificate and the mark. Only within the time of a run can the times of the certificate be written and read
+-- again.
 pub record IsMarked (c : Certificate) (r : CertificateRequest) (file : List ℕ) (now : ℤ) (written : SecretObject) : Type 0 where
-  pub target : IsTarget c r file written
+  pub target : is_run_time now ≡ true → IsTarget c r file written
   pub marked : is_temporary written ≡ true
   pub stand_in : IsStandIn c r file now written
 

@@ -134,7 +134,7 @@ come_longer e h n (Some p) has = so_more e h n p has
 pub within_act : AreSound → (s : Setting) (h : List Entry) (p : OpenPass) → SawAll (writes s h) p → IsWithin p.role (call_after p.role p.seen p.since) p.seen p.since (act_of s h p)
 within_act sound s h p saw = (sound p.role).within p.seen p.since (desk s h p.role p.seen) saw.well
 
-followed_at : (h : List Entry) (pass : ℕ) (role : Role) (seen : Views) (since : ℤ) (stage : Stage) → HasCome h pass role seen since stage → IsFollowedAt stage role (call_after role seen since) seen since
+pub followed_at : (h : List Entry) (pass : ℕ) (role : Role) (seen : Views) (since : ℤ) (stage : Stage) → HasCome h pass role seen since stage → IsFollowedAt stage role (call_after role seen since) seen since
 followed_at h pass role seen since (Given order value) has = has.asked.followed value has.right
 followed_at h pass role seen since other has = tt
 

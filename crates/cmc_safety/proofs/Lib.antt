@@ -4,4 +4,17 @@ pub mod Users
 pub mod NextCalls
 pub mod Course
 pub mod InProgress
+pub mod Moments
 pub mod Safe
+pub mod PassWrites
+pub mod Carried
+pub mod Dated
+pub mod LowRevisions
+pub mod Forms
+pub mod MayAct
+pub mod Rights
+pub mod Barred
+pub mod Following
+pub mod Plans
+pub mod Completing
+pub mod Standing

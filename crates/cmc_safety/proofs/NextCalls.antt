@@ -83,7 +83,7 @@ status_call role after seen since (Issue plan) call within next = record { plan 
 status_call role after seen since (Temporary plan) call within next = absurd next
 
 -- the call that follows is the one that is for what was seen
-following_call : (role : Role) (after : Order → Value → Option Call) (seen : Views) (since : ℤ) (order : Order) (value : Value) (call : Call) → IsFollowed role after seen since order value → after order value ≡ Some call
+pub following_call : (role : Role) (after : Order → Value → Option Call) (seen : Views) (since : ℤ) (order : Order) (value : Value) (call : Call) → IsFollowed role after seen since order value → after order value ≡ Some call
     → OnSeen (IsAnswer role seen since value) seen call
 following_call role after seen since order value call followed next =
     let some : Some followed.call ≡ Some call = sym followed.follows ∙ next in

@@ -51,6 +51,8 @@ use Rattle.cmc_rules.proofs.Answered.{verdicts_stay_in}
 use Rattle.cmc_rules.proofs.Sights.{seen_request, seen_owned, found_among}
 use Rattle.cmc_rules.proofs.Sighted.{AreKnown, IsStored, as_seen}
 use Rattle.cmc_rules.proofs.WellSeen.{SawAll, saw_all}
+use Rattle.cmc_safety.specs.Formed.{IsFormed}
+use Rattle.cmc_safety.proofs.Moments.{BeganInRun, began_in_run}
 use Rattle.cmc_safety.proofs.Users.{users_keep}
 use Rattle.cmc_safety.proofs.NextCalls.{IsCallAt}
 use Rattle.cmc_safety.proofs.Course.{AreSound, of_open, GivesValue, HasValue, HasReadLive, HasCome, question_of}
@@ -166,6 +168,7 @@ pub record WritesForIssue (s : Setting) (whole h : List Entry) (pass : ℕ) (p :
   pub below : IsEarlier s whole h
   pub known : AreKnown (writes s h) p.seen
   pub well : IsWellSeen p.seen
+  pub began : BeganInRun p
   pub issuing : p.role ≡ roles.Issuing
   pub steady : IsInProgress (writes s h) p.role p.key p.seen
   pub read : HasReadLive h pass p.seen
@@ -224,11 +227,11 @@ issued_well s whole h pass p its c r k file written ready approved issued w =
     good_issue s whole h pass p c r k file written its ready w.target
     (subst (λ (b : Bool). MatchBool b (IsStandIn c r file p.since written) (IsOfIssuer s whole r written)) (sym w.unmarked) of_issuer)
 
--- the stand-in certificate
+-- the stand-in certificate, whose times can be read since the pass began in the time of a run
 marked_well : (s : Setting) (whole h : List Entry) (pass : ℕ) (p : OpenPass) (its : WritesForIssue s whole h pass p) (c : Certificate) (r : CertificateRequest) (k : SecretObject) (file : List ℕ) (written : SecretObject)
     → IsPrepared p.seen c r k file → IsMarked c r file p.since written → IsGoodIssue s whole h pass p written
 marked_well s whole h pass p its c r k file written ready w =
-    good_issue s whole h pass p c r k file written its ready w.target
+    good_issue s whole h pass p c r k file written its ready (w.target its.began)
     (subst (λ (b : Bool). MatchBool b (IsStandIn c r file p.since written) (IsOfIssuer s whole r written)) (sym w.marked) w.stand_in)
 
 secret_over_certificate : (c : Certificate) (written : SecretObject) → MayChange roles.Issuing (Some (Cert c)) (Some (Secret written)) → ⊥
@@ -261,6 +264,7 @@ pub record IsCallKnown (s : Setting) (whole h : List Entry) (p : OpenPass) (call
   pub below : IsEarlier s whole h
   pub known : AreKnown (writes s h) p.seen
   pub well : IsWellSeen p.seen
+  pub began : BeganInRun p
   pub ok : is_accepted reply ≡ true
   pub founded : IsFounded (objects s h) (settled call reply)
 
@@ -284,14 +288,14 @@ good_by s whole h pass p (Given order value) call reply k steady has at =
     (stood (IsAnswer p.role p.seen p.since value) s whole h p call reply k at)
 good_by s whole h pass p Read call reply k steady has (inl at) =
     let i = at.issues in
-    let its : WritesForIssue s whole h pass p = record { legal = k.legal; below = k.below; known = k.known; well = k.well; issuing = i.issuing; steady = steady; read = has } in
+    let its : WritesForIssue s whole h pass p = record { legal = k.legal; below = k.below; known = k.known; well = k.well; began = k.began; issuing = i.issuing; steady = steady; read = has } in
     good_secret s whole h pass p (settled call reply) (IsSigned i.certificate i.request i.file) (object_at (objects s h) (key_of_call (settled call reply))) (stored (accepted s h + 1) (moment s h) (objects s h) (settled call reply)) i.issuing
     (λ written w. issued_well s whole h pass p its i.certificate i.request i.key i.file written i.prepared i.approved i.issued w)
     (stood (WritesTarget p.role p.since (IsSigned i.certificate i.request i.file)) s whole h p call reply k
     (subst (OnSeen (WritesTarget p.role p.since (IsSigned i.certificate i.request i.file)) p.seen) (sym at.planned) i.secret))
 good_by s whole h pass p Read call reply k steady has (inr at) =
     let i = at.stands_in in
-    let its : WritesForIssue s whole h pass p = record { legal = k.legal; below = k.below; known = k.known; well = k.well; issuing = i.issuing; steady = steady; read = has } in
+    let its : WritesForIssue s whole h pass p = record { legal = k.legal; below = k.below; known = k.known; well = k.well; began = k.began; issuing = i.issuing; steady = steady; read = has } in
     good_secret s whole h pass p (settled call reply) (IsMarked i.certificate i.request i.file p.since) (object_at (objects s h) (key_of_call (settled call reply))) (stored (accepted s h + 1) (moment s h) (objects s h) (settled call reply)) i.issuing
     (λ written w. marked_well s whole h pass p its i.certificate i.request i.key i.file written i.prepared w)
     (stood (WritesTarget p.role p.since (IsMarked i.certificate i.request i.file p.since)) s whole h p call reply k
@@ -305,11 +309,20 @@ good_by s whole h pass p Wrote call reply k steady has at = absurd at
 good_by s whole h pass p (Refused entry obstacle) call reply k steady has at = absurd at
 good_by s whole h pass p Barred call reply k steady has at = absurd at
 
-good_caller : AreSound → (s : Setting) (whole h : List Entry) (m : ℕ) (call : Call) (reply : Reply) → IsLegal s whole → IsEarlier s whole h → IsPlayed s h → IsReply s.faults (state s h) call reply → is_accepted reply ≡ true
+good_caller : AreSound → (s : Setting) (whole h : List Entry) (m : ℕ) (call : Call) (reply : Reply) → IsFormed s → IsLegal s whole → IsEarlier s whole h → IsPlayed s h → IsReply s.faults (state s h) call reply → is_accepted reply ≡ true
     → (c : IsCaller s h m call) → IsGoodNow s whole h m c.pass (settled call reply)
-good_caller sound s whole h m call reply legal below o right ok c =
+good_caller sound s whole h m call reply formed legal below o right ok c =
     good_by s whole h m c.pass c.pass.stage call reply
-    (record { legal = legal; legal_here = o.legal; below = below; known = c.saw.known; well = c.saw.well; ok = ok; founded = accepted_found s.faults (state s h) call reply right ok })
+    (record {
+      legal = legal;
+      legal_here = o.legal;
+      below = below;
+      known = c.saw.known;
+      well = c.saw.well;
+      began = of_open BeganInRun (open_pass s h m) c.pass c.opened (began_in_run s h m formed o.legal o.follows);
+      ok = ok;
+      founded = accepted_found s.faults (state s h) call reply right ok;
+    })
     (of_open (IsUnmoved (writes s h)) (open_pass s h m) c.pass c.opened (in_progress sound s h m o)) c.done c.at
 
 -- the pass that is open there
@@ -347,31 +360,31 @@ version_kept false w ws key o has = has
 below_call : (s : Setting) (whole h : List Entry) (who : Who) (call : Call) (reply : Reply) → IsEarlier s whole (Called who call reply ∷ h) → IsEarlier s whole h
 below_call s whole h who call reply below key o has = below key o (version_kept (is_accepted reply) (write_of (moment s h) (state s h) (settled call reply)) (writes s h) key o has)
 
-are_safe : AreSound → (s : Setting) (whole h : List Entry) → IsLegal s whole → IsEarlier s whole h → IsPlayed s h → AreSafe s whole h
+are_safe : AreSound → (s : Setting) (whole h : List Entry) → IsFormed s → IsLegal s whole → IsEarlier s whole h → IsPlayed s h → AreSafe s whole h
 unfolding AreSafe IsLegal IsCaused Follows
-are_safe sound s whole [] legal below o = tt
-are_safe sound s whole (Called User call reply ∷ h) legal below o = (
+are_safe sound s whole [] formed legal below o = tt
+are_safe sound s whole (Called User call reply ∷ h) formed legal below o = (
   λ ok. leaves (object_at (objects s h) (key_of_call (settled call reply))) (stored (accepted s h + 1) (moment s h) (objects s h) (settled call reply))
       (users_keep s h call reply o.legal.1 o.follows.0 o.legal.0.0 ok),
-  (tt, are_safe sound s whole h legal (below_call s whole h User call reply below) (played_below s (Called User call reply) h o)),
+  (tt, are_safe sound s whole h formed legal (below_call s whole h User call reply below) (played_below s (Called User call reply) h o)),
 )
-are_safe sound s whole (Called (Pass m) call reply ∷ h) legal below o =
+are_safe sound s whole (Called (Pass m) call reply ∷ h) formed legal below o =
     let here = below_call s whole h (Pass m) call reply below in
     let under = played_below s (Called (Pass m) call reply) h o in
     let c = caller_of sound s h m call o.legal.1 o.caused.1 o.caused.0 in (
-      λ ok. good_pass s whole h m call reply c (good_caller sound s whole h m call reply legal here under o.legal.0.0 ok c),
+      λ ok. good_pass s whole h m call reply c (good_caller sound s whole h m call reply formed legal here under o.legal.0.0 ok c),
       (
         if_accepted (is_accepted reply) (IsRightful s h (settled call reply) (open_pass s h m))
-            (λ ok. subst (IsRightful s h (settled call reply)) (sym c.opened) (good_caller sound s whole h m call reply legal here under o.legal.0.0 ok c).rights),
-        are_safe sound s whole h legal here under,
+            (λ ok. subst (IsRightful s h (settled call reply)) (sym c.opened) (good_caller sound s whole h m call reply formed legal here under o.legal.0.0 ok c).rights),
+        are_safe sound s whole h formed legal here under,
       ),
     )
-are_safe sound s whole (Ask pass order ∷ h) legal below o = (
+are_safe sound s whole (Ask pass order ∷ h) formed legal below o = (
   good_question sound s whole h pass (open_pass s h pass) order legal below (saw_all s h pass o.legal.1) o.caused.0,
-  (tt, are_safe sound s whole h legal below (played_below s (Ask pass order) h o)),
+  (tt, are_safe sound s whole h formed legal below (played_below s (Ask pass order) h o)),
 )
-are_safe sound s whole (other ∷ h) legal below o = (tt, (tt, are_safe sound s whole h legal below (played_below s other h o)))
+are_safe sound s whole (other ∷ h) formed legal below o = (tt, (tt, are_safe sound s whole h formed legal below (played_below s other h o)))
 
--- a history that is legal, caused and follows its script is safe
-pub safe : AreSound → (s : Setting) (h : List Entry) → IsLegal s h → IsCaused s h → Follows s h → IsSafe s h
-safe sound s h legal caused follows = are_safe sound s h h legal (λ key o has. has) (record { legal = legal; caused = caused; follows = follows })
+-- a history of a scenario that is legal, caused and follows its script is safe
+pub safe : AreSound → (s : Setting) (h : List Entry) → IsFormed s → IsLegal s h → IsCaused s h → Follows s h → IsSafe s h
+safe sound s h formed legal caused follows = are_safe sound s h h formed legal (λ key o has. has) (record { legal = legal; caused = caused; follows = follows })

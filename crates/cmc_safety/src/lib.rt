@@ -3,4 +3,6 @@
 
 mod laws;
 
-pub use laws::runs_are_safe;
+pub use laws::{
+    no_call_is_invalid, runs_are_safe, undisturbed_issuing_completes, what_stands_is_in_order,
+};

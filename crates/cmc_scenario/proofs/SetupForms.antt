@@ -18,7 +18,7 @@ use Rattle.cmc_cursor.specs.Readers.{found, text_at, count_at}
 use Rattle.cmc_material.specs.Approvers.{approver_at, plain_approver}
 use Rattle.cmc_material.specs.Lists.{member_or}
 use Rattle.cmc_material.specs.MaterialRows.{material_at}
-use Rattle.cmc_scenario.specs.Roles.{running_role_at, roles_with, named_roles_at, roles_at, all_roles}
+use Rattle.cmc_scenario.specs.Roles.{role_at, roles_with, named_roles_at, roles_at, all_roles}
 use Rattle.cmc_scenario.specs.Scripts.{in_turn, step_at, numbered_step_at, steps_from, steps_at, script_at}
 use Rattle.cmc_scenario.specs.Scenarios.{size_at, rising_at, rising_from, faults_at, in_run, moment_in, moment_at, world_in, usual_moment, beginning_in, setup_of, setup_in}
 use Rattle.cmc_scenario.specs.declared.members.World.{World}
@@ -78,7 +78,7 @@ with_in_order roles role order = by_test (is_among roles role) refl
 of_role_items : (n : ℕ) (roles : List Role) (ds : Items) → AreInOrder roles → Always AreInOrder (roles_with n roles ds)
 of_role_items n roles no_items order = so order
 of_role_items n roles (item d ds) order =
-    next AreInOrder (under (decimal n) (running_role_at d)) (λ role. roles_with (n + 1) (with_role roles role) ds) (λ role. of_role_items (n + 1) (with_role roles role) ds (with_in_order roles role order))
+    next AreInOrder (under (decimal n) (role_at d)) (λ role. roles_with (n + 1) (with_role roles role) ds) (λ role. of_role_items (n + 1) (with_role roles role) ds (with_in_order roles role order))
 
 of_named_roles : (d : Data) → Always AreInOrder (named_roles_at d)
 of_named_roles (array ds) = of_role_items 0 [] ds tt

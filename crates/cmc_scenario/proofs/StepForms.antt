@@ -16,14 +16,15 @@ use Rattle.cmc_codec.specs.ObjectForm.{applied_at as object_form_at}
 use Rattle.cmc_scenario.specs.Applied.{passes, applied_at, text_member}
 use Rattle.cmc_material.specs.Keys.{key_at}
 use Rattle.cmc_material.specs.Lists.{member_option, bounded_at}
-use Rattle.cmc_scenario.specs.Roles.{role_at, running_role_at}
+use Rattle.cmc_scenario.specs.Roles.{role_at}
 use Rattle.cmc_material.specs.MaterialRows.{certificate_at, reply_row_at}
 use Rattle.cmc_scenario.specs.Scripts.{apply_in, delete_in, certificate_in, revision_in, approve_in, deny_in, answer_in, renew_in, tick_in, stop_in, start_in, informer_in, hold_in, release_in, until_in, settle_in, stray_in, waiting_in, running_in, step_in, step_at}
+use Rattle.cmc_codec.proofs.ReadForms.{IsApplied, of_applied as of_object}
 use Rattle.cmc_cursor.proofs.Always.{Always, so, failed, next, after, below, either}
 use Rattle.cmc_material.proofs.ListForms.{both, of_bounded}
 use Rattle.cmc_material.proofs.RowForms.{IsCertificate, IsSaid, of_certificate_text, of_reply_row}
 
--- the step names a Certificate and an answer where it has to, and a tick has 1 to 1,000,000,000 seconds
+-- the step applies an object of the form, names a Certificate and an answer where it has to, and a tick has 1 to 1,000,000,000 seconds
 pub record IsStep (step : Step) : Type 0 where
   pub form : is_step_form step ≡ true
   pub ticks : IsTickForm step
@@ -45,7 +46,7 @@ tick_form seconds is = record { least = λ t. grind (arith, nat_tests); most = g
 -- ---- objects
 
 of_applied : (d : Data) → Always IsStep (applied_at d)
-of_applied d = next IsStep (object_form_at d) _ (λ applied. so (record { form = refl; ticks = still_form refl }))
+of_applied d = after IsApplied IsStep (object_form_at d) _ (of_object d) (λ applied is. so (record { form = is; ticks = still_form refl }))
 
 of_apply : (fs : List Field) → Always IsStep (apply_in fs)
 unfolding apply_in
@@ -99,7 +100,7 @@ of_stop fs = next (IsStep) (required_at (codes "do") fs) _ (λ word. next (IsSte
 
 of_start : (fs : List Field) → Always IsStep (start_in fs)
 unfolding start_in
-of_start fs = next (IsStep) (required_at (codes "behind") fs) _ (λ lag. next (IsStep) (under (codes "behind") (count_at lag.0)) _ (λ behind. next (IsStep) (required_at (codes "do") lag.1) _ (λ word. next (IsStep) (required_at (codes "role") word.1) _ (λ given. next (IsStep) (under (codes "role") (running_role_at given.0)) _ (λ role. next (IsStep) (at_end given.1) _ (λ end. so (record { form = refl; ticks = still_form refl })))))))
+of_start fs = next (IsStep) (required_at (codes "behind") fs) _ (λ lag. next (IsStep) (under (codes "behind") (count_at lag.0)) _ (λ behind. next (IsStep) (required_at (codes "do") lag.1) _ (λ word. next (IsStep) (required_at (codes "role") word.1) _ (λ given. next (IsStep) (under (codes "role") (role_at given.0)) _ (λ role. next (IsStep) (at_end given.1) _ (λ end. so (record { form = refl; ticks = still_form refl })))))))
 
 of_hold : (fs : List Field) → Always IsStep (hold_in fs)
 unfolding hold_in

@@ -1,5 +1,5 @@
 -- The names of roles and kinds, as steps and the member `roles` have them.
-use Rattle.std.specs.Prelude.{ℕ, Bool, true, false, List, [], ◌∷◌, ◌+◌, decimal, codes, if◌then◌else◌, Ok, Err, Some, None}
+use Rattle.std.specs.Prelude.{ℕ, List, [], ◌∷◌, ◌+◌, decimal, codes, if◌then◌else◌, Ok, Err, Some, None}
 use Rattle.std.specs.declared.option.Option.{Option}
 use Rattle.std.specs.Str.{bytes_eq}
 use Rattle.serde_json.specs.Data.{Data, null, boolean, number, string, array, object, Items, no_items, item}
@@ -7,7 +7,7 @@ use Rattle.cmc_meta.specs.declared.key.Kind.{Kind}
 use Rattle.cmc_objects.specs.declared.role.Role.{Role}
 use Rattle.cmc_objects.specs.declared.role.Role.TheVariants.{Trigger, KeyManager, RequestManager, Approver, Issuer, Issuing, Readiness, Revision}
 use Rattle.cmc_print.specs.Words.{role_name}
-use Rattle.cmc_cursor.specs.Reading.{Read, Check, ◌>>=◌, under}
+use Rattle.cmc_cursor.specs.Reading.{Read, ◌>>=◌, under}
 use Rattle.cmc_cursor.specs.Readers.{text_at}
 use Rattle.cmc_setup.specs.Setups.{with_role}
 use Rattle.cmc_material.specs.Keys.{kind_in}
@@ -29,21 +29,10 @@ role_at d = text_at d >>= role_in
 abbrev pub kind_at : Data → Read Kind
 kind_at d = text_at d >>= kind_in
 
--- The roles that the program can run today.
-abbrev pub can_run : Role → Bool
-can_run Trigger = true
-can_run Readiness = true
-can_run Revision = true
-can_run other = false
-
--- A role that is to run: one that cannot run yet fails.
-abbrev pub running_role_at : Data → Read Role
-running_role_at d = role_at d >>= (λ role. if can_run role then Ok role else Err [])
-
 -- The roles, and those of a list whose places count from n. One that is named again counts once.
 abbrev pub roles_with : ℕ → List Role → Items → Read (List Role)
 roles_with n roles no_items = Ok roles
-roles_with n roles (item d ds) = under (decimal n) (running_role_at d) >>= (λ role. roles_with (n + 1) (with_role roles role) ds)
+roles_with n roles (item d ds) = under (decimal n) (role_at d) >>= (λ role. roles_with (n + 1) (with_role roles role) ds)
 
 abbrev pub named_roles_at : Data → Read (List Role)
 named_roles_at (array ds) = roles_with 0 [] ds
@@ -60,8 +49,3 @@ all_roles = Trigger ∷ KeyManager ∷ RequestManager ∷ Approver ∷ Issuer �
 abbrev pub roles_at : Option Data → Read (List Role)
 roles_at None = Ok all_roles
 roles_at (Some d) = under (codes "roles") (named_roles_at d)
-
--- The roles have to stand, as long as not all of them can run. Where they do not, they fail only after all else has passed.
-abbrev pub with_roles : Option Data → Check
-with_roles None = Err (codes "roles")
-with_roles (Some d) = Ok tt

@@ -2,7 +2,6 @@
 use Rattle.std.specs.Prelude.{◌≡◌, ℕ, ℤ, pos, List, [], ◌∷◌, ◌+◌, ◌&&◌, int_le, nat_lt, decimal, codes, if◌then◌else◌, Ok, Err}
 use Rattle.std.specs.declared.result.Result.{Result}
 use Rattle.serde_json.specs.Data.{Data, null, boolean, number, string, array, object, Items, no_items, item}
-use Rattle.serde_json.specs.Find.{get}
 use Rattle.cmc_time.specs.Reading.{rfc3339_seconds}
 use Rattle.cmc_objects.specs.declared.entry.Step.{Step}
 use Rattle.cmc_cursor.specs.Reading.{Read, ◌>>=◌, under, Field, fields_at, optional_at, at_end}
@@ -13,7 +12,7 @@ use Rattle.cmc_setup.specs.declared.scenario.Scenario.{Scenario}
 use Rattle.cmc_material.specs.Approvers.{approver_at, plain_approver}
 use Rattle.cmc_material.specs.Lists.{member_or, bounded_at}
 use Rattle.cmc_material.specs.MaterialRows.{material_at}
-use Rattle.cmc_scenario.specs.Roles.{roles_at, with_roles}
+use Rattle.cmc_scenario.specs.Roles.{roles_at}
 use Rattle.cmc_scenario.specs.Scripts.{script_at}
 use Rattle.cmc_scenario.specs.declared.members.World.{World}
 use Rattle.cmc_scenario.specs.declared.members.Beginning.{Beginning}
@@ -104,11 +103,7 @@ setup_in fs = do
 
 -- The scenario of a value.
 unfoldable pub members_at : Data → Read Scenario
-members_at d = do
-  fs ← fields_at d
-  setup ← setup_in fs
-  given ← with_roles (get (codes "roles") d)
-  Ok setup
+members_at d = fields_at d >>= setup_in
 
 -- The same, where no number in the whole value is kept as a float.
 unfoldable pub scenario_at : Data → Read Scenario

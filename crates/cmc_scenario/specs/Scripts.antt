@@ -19,7 +19,7 @@ use Rattle.cmc_scenario.specs.Applied.{passes, text_member, applied_at}
 use Rattle.cmc_material.specs.Keys.{key_at}
 use Rattle.cmc_material.specs.Lists.{member_option, bounded_at}
 use Rattle.cmc_material.specs.MaterialRows.{certificate_at, reply_row_at}
-use Rattle.cmc_scenario.specs.Roles.{role_at, kind_at, running_role_at}
+use Rattle.cmc_scenario.specs.Roles.{role_at, kind_at}
 
 -- `apply` has an object.
 unfoldable pub apply_in : List Field → Read Step
@@ -103,14 +103,14 @@ stop_in fs = do
   end ← at_end given.1
   Ok (Stop role)
 
--- `start` has a role that can run, and how far it is behind.
+-- `start` has a role, and how far it is behind.
 unfoldable pub start_in : List Field → Read Step
 start_in fs = do
   lag ← required_at (codes "behind") fs
   behind ← under (codes "behind") (count_at lag.0)
   word ← required_at (codes "do") lag.1
   given ← required_at (codes "role") word.1
-  role ← under (codes "role") (running_role_at given.0)
+  role ← under (codes "role") (role_at given.0)
   end ← at_end given.1
   Ok (Start role behind)
 

@@ -8,7 +8,6 @@ ghost use Rattle.cmc_cursor.specs.Seen.{shown};
 ghost use Rattle.cmc_scenario.specs.Scenarios.{setup_of, setup_in, members_at, scenario_at, IsReading};
 
 use crate::members::{Beginning, LARGEST_SIZE, World, beginning_members, world_members};
-use crate::roles::check_given;
 use crate::steps::script;
 use cmc_cursor::{BadField, Fields, check_end, check_floats, fields, optional};
 use cmc_material::bounded_or;
@@ -62,9 +61,7 @@ fn members(alloc: Global, value: &Value) -> Result<Scenario, BadField>
     ensures { Gives (λ t. t) result (members_at (view value.now)) }
 {
     let members = fields(alloc, value)?;
-    let scenario = setup(alloc, &members)?;
-    check_given(alloc, value.get("roles"))?;
-    Ok(scenario)
+    setup(alloc, &members)
 }
 
 #[tactic(auto, unfolding(crate::specs::Scenarios::scenario_at))]
@@ -79,12 +76,12 @@ fn whole(alloc: Global, value: &Value) -> Result<Scenario, BadField>
 
 /// The scenario that a value describes.
 ///
-/// It is an object with these members, none of which has to stand but `roles`:
+/// It is an object with these members, none of which has to stand:
 /// - `events` and `window`, 1 to 250,000 (100,000 and 1,000 where left out);
 /// - `now`, a moment of RFC 3339 from 1951-01-01T00:00:00Z to 9900-01-01T00:00:00Z
 ///   (2030-01-01T00:00:00Z where left out);
-/// - `roles`, the names of the roles that run from the beginning on; those that can run today are
-///   `trigger`, `readiness` and `revision`, and one that is named again counts once;
+/// - `roles`, the names of the roles that run from the beginning on (all eight where left out); one that
+///   is named again counts once;
 /// - `faults`, the numbers of the store calls that fail, from 1, each above the one before;
 /// - `approver`, `issuers` (all where left out), `policies` and `refuse`;
 /// - `material`, the key rows and reply rows of Certificates, by `namespace/name`;

@@ -5,7 +5,7 @@ ghost use Rattle.cmc_cursor.specs.Reading.{Gives};
 ghost use Rattle.cmc_cursor.specs.Seen.{shown};
 ghost use Rattle.cmc_scenario.specs.Scripts.{hold_in, informer_in, release_in, settle_in, start_in, stop_in, tick_in, until_in};
 
-use crate::roles::{kind, role, running_role};
+use crate::roles::{kind, role};
 use cmc_cursor::{BadField, Fields, at, check_end, count, required};
 use cmc_material::bounded;
 use cmc_meta::Kind;
@@ -47,7 +47,7 @@ pub fn start(alloc: Global, rest: Fields<'_, '_>) -> Result<Step, BadField>
     let behind = at(alloc, "behind", count(alloc, given))?;
     let (_, rest) = required(alloc, rest, "do")?;
     let (given, rest) = required(alloc, rest, "role")?;
-    let role = at(alloc, "role", running_role(alloc, given))?;
+    let role = at(alloc, "role", role(alloc, given))?;
     check_end(alloc, rest)?;
     Ok(Step::Start { role, behind })
 }

@@ -3,7 +3,7 @@ ghost use Rattle.std.specs.Prelude.{◌≡◌, [], decimal, IfOk};
 ghost use Rattle.serde_json.specs.View.{view, items_view};
 ghost use Rattle.cmc_cursor.specs.Reading.{Gives, under};
 ghost use Rattle.cmc_cursor.specs.Seen.{shown_option};
-ghost use Rattle.cmc_scenario.specs.Roles.{all_roles, can_run, kind_at, named_roles_at, role_at, role_in, roles_at, roles_with, running_role_at, with_roles};
+ghost use Rattle.cmc_scenario.specs.Roles.{all_roles, kind_at, named_roles_at, role_at, role_in, roles_at, roles_with};
 
 use cmc_cursor::{BadField, at};
 use cmc_material::kind_of;
@@ -49,31 +49,10 @@ pub fn kind(alloc: Global, value: &Value) -> Result<Kind, BadField>
     }
 }
 
-fn may_run(role: Role) -> bool
-    ensures { result ≡ can_run role }
-{
-    matches!(role, Role::Trigger | Role::Readiness | Role::Revision)
-}
-
-/// A role by its name, of those that the program can run.
-pub fn running_role(alloc: Global, value: &Value) -> Result<Role, BadField>
-    ensures { Gives (λ t. t) result (running_role_at (view value.now)) }
-{
-    let role = role(alloc, value)?;
-    if may_run(role) {
-        return Ok(role);
-    }
-    Err(BadField::Path(Text::new(alloc)))
-}
-
 fn numbered_role(alloc: Global, place: usize, value: &Value) -> Result<Role, BadField>
-    ensures { Gives (λ t. t) result (under (decimal place) (running_role_at (view value.now))) }
+    ensures { Gives (λ t. t) result (under (decimal place) (role_at (view value.now))) }
 {
-    at(
-        alloc,
-        place.to_string(alloc)?.as_str(),
-        running_role(alloc, value),
-    )
+    at(alloc, place.to_string(alloc)?.as_str(), role(alloc, value))
 }
 
 fn roles_of(alloc: Global, items: &[Value]) -> Result<Roles, BadField>
@@ -121,15 +100,5 @@ pub fn given_roles(alloc: Global, value: Option<&Value>) -> Result<Roles, BadFie
     match value {
         None => Ok(every_role(alloc)?),
         Some(value) => at(alloc, "roles", named_roles(alloc, value)),
-    }
-}
-
-/// Checks that the member `roles` stands, as long as not all roles can run.
-pub fn check_given(alloc: Global, roles: Option<&Value>) -> Result<(), BadField>
-    ensures { Gives (λ t. t) result (with_roles (shown_option roles.entry)) }
-{
-    match roles {
-        None => Err(BadField::Path(Text::from_str(alloc, "roles")?)),
-        Some(_) => Ok(()),
     }
 }

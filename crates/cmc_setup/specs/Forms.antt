@@ -14,7 +14,7 @@ use Rattle.cmc_objects.specs.declared.rows.KeyRow.{KeyRow}
 use Rattle.cmc_objects.specs.declared.rows.KeyRow.TheVariants as key_rows
 use Rattle.cmc_objects.specs.declared.rows.SignRow.{SignRow}
 use Rattle.cmc_objects.specs.declared.rows.SignRow.TheVariants as sign_rows
-use Rattle.cmc_objects.specs.Requests.{is_duration_form, is_row_form}
+use Rattle.cmc_objects.specs.Requests.{is_duration_form, is_object_form, is_row_form}
 
 -- ---- the approver
 
@@ -97,8 +97,10 @@ is_said (sign_rows.Fail message) = true
 is_said (sign_rows.Raw der) = true
 is_said sign_rows.Free = false
 
--- approvals, denials, answers and renewals are those of Certificates, and an answer is one that a row can say
+-- an applied object is one that reading gives; approvals, denials, answers and renewals are those of Certificates, and an answer
+-- is one that a row can say
 abbrev pub is_step_form : Step → Bool
+is_step_form (steps.Apply object version) = is_object_form object
 is_step_form (steps.Approve certificate revision) = is_certificate certificate
 is_step_form (steps.Deny certificate revision) = is_certificate certificate
 is_step_form (steps.Answer certificate revision row) = is_certificate certificate && (is_said row && is_row_form row)

@@ -89,7 +89,7 @@ call_is seen now r there = record {
   sees = inr (inr (inr (inr there)));
   key = refl;
   version = refl;
-  changes = λ next. record { rights = tt; dated = λ timed dated. tt; revision = tt; no_secret = λ written issuing is. absurd (cc issuing); no_approval = λ o n approver b a x y. absurd (cc approver) };
+  changes = λ next. record { rights = tt; dated = λ timed dated. tt; revision = tt; no_secret = λ written issuing is. absurd (cc issuing); no_approval = λ o n approver b a x y. absurd (cc approver); no_request = λ made before after. absurd (cc before) };
   passes = λ taken. refl;
 }
 

@@ -78,7 +78,7 @@ call_is seen now condition renew pair c is sees = record {
   sees = seen_certificate seen c sees;
   key = refl;
   version = refl;
-  changes = λ next. record { rights = (refl, refl, record { rest = rest condition renew pair c.status; others = others condition renew pair c.status is }); dated = λ timed dated. kept condition renew pair c.status dated; revision = same condition renew pair c.status; no_secret = λ written issuing is. absurd (cc issuing); no_approval = λ o n approver b a x y. absurd (cc approver) };
+  changes = λ next. record { rights = (refl, refl, record { rest = rest condition renew pair c.status; others = others condition renew pair c.status is }); dated = λ timed dated. kept condition renew pair c.status dated; revision = same condition renew pair c.status; no_secret = λ written issuing is. absurd (cc issuing); no_approval = λ o n approver b a x y. absurd (cc approver); no_request = λ made before after. absurd (cc before) };
   passes = λ taken. certificate_status_passes (Some (Cert c)) _ taken;
 }
 

@@ -66,6 +66,69 @@ fn reads_the_members_that_stand(rt: HostRuntime) -> Result<(), Fail> {
     Ok(())
 }
 
+/// All eight roles, in their order.
+fn is_each(roles: &[Role]) -> bool {
+    matches!(
+        roles,
+        [
+            Role::Trigger,
+            Role::KeyManager,
+            Role::RequestManager,
+            Role::Approver,
+            Role::Issuer,
+            Role::Issuing,
+            Role::Readiness,
+            Role::Revision
+        ]
+    )
+}
+
+#[test]
+fn all_eight_roles_run_where_none_are_named(rt: HostRuntime) -> Result<(), Fail> {
+    let alloc = rt.alloc();
+    for text in [
+        r#"{}"#,
+        r#"{"roles":["revision","readiness","issuing","issuer","approver","requestmanager","keymanager","trigger"]}"#,
+    ] {
+        let scenario = scenario(alloc, text)?;
+        assert!(rt; is_each(scenario.roles()));
+        assert_eq!(rt; printed(alloc, text)?.as_str(), "{}");
+    }
+    let one = scenario(alloc, r#"{"roles":["requestmanager"]}"#)?;
+    assert!(rt; matches!(one.roles(), [Role::RequestManager]));
+    Ok(())
+}
+
+/// A scenario that applies a Certificate with this duration, of an issuer with this name.
+fn applying(alloc: Global, duration: &str, issuer: &str) -> Result<String, Fail> {
+    Ok(format!(in alloc;
+        "{{\"script\":[{{\"do\":\"apply\",\"object\":{{\"apiVersion\":\"cert-manager.io/v1\",\"kind\":\"Certificate\",\"metadata\":{{\"name\":\"web\"}},\"spec\":{{\"dnsNames\":[\"a\"],\"duration\":\"{duration}\",\"issuerRef\":{{\"name\":\"{issuer}\"}},\"secretName\":\"web-tls\"}}}}}}]}}"
+    )?)
+}
+
+#[test]
+fn what_is_applied_is_within_its_bounds(rt: HostRuntime) -> Result<(), Fail> {
+    let alloc = rt.alloc();
+    let longest = "ca".repeat(alloc, 126)?;
+    let longest = format!(in alloc; "{longest}x")?;
+    let longer = format!(in alloc; "{longest}y")?;
+    for (duration, issuer, answer) in [
+        ("999999999h", longest.as_str(), "ok"),
+        ("1h", "", "ok"),
+        ("1000000000h", "ca", "at script.0.object.spec.duration"),
+        ("999999999h1s", "ca", "at script.0.object.spec.duration"),
+        (
+            "1h",
+            longer.as_str(),
+            "at script.0.object.spec.issuerRef.name",
+        ),
+    ] {
+        let text = applying(alloc, duration, issuer)?;
+        assert_eq!(rt; told(alloc, text.as_str())?.as_str(), answer);
+    }
+    Ok(())
+}
+
 #[test]
 fn reads_rows_and_policies(rt: HostRuntime) -> Result<(), Fail> {
     let alloc = rt.alloc();
@@ -123,7 +186,8 @@ fn tells_where_members_fail(rt: HostRuntime) -> Result<(), Fail> {
         ),
         (r#"{"events":1,"roles":[],"window":250000}"#, "ok"),
         (r#"{"events":250000,"roles":[],"window":0}"#, "at window"),
-        (r#"{}"#, "at roles"),
+        (r#"{}"#, "ok"),
+        (r#"{"roles":null}"#, "at roles"),
         (r#"{"x":1}"#, "at x"),
         (r#"{"script":5}"#, "at script"),
         (r#"[]"#, "at "),
@@ -138,7 +202,17 @@ fn tells_where_members_fail(rt: HostRuntime) -> Result<(), Fail> {
         (r#"{"faults":[2,2],"roles":[]}"#, "at faults.1"),
         (r#"{"faults":[3,2,1],"roles":[]}"#, "at faults.1"),
         (r#"{"roles":["trigger","trigger"]}"#, "ok"),
-        (r#"{"roles":["trigger","keymanager"]}"#, "at roles.1"),
+        (r#"{"roles":["trigger","key-manager"]}"#, "at roles.1"),
+        (r#"{"roles":["trigger","ISSUER"]}"#, "at roles.1"),
+        (
+            r#"{"script":[{"do":"stop","role":"issuing"},{"behind":0,"do":"start","role":"issuing"}]}"#,
+            "ok",
+        ),
+        (
+            r#"{"script":[{"behind":0,"do":"start","role":"issuing"}]}"#,
+            "at script.0",
+        ),
+        (r#"{"script":[{"do":"settle"}],"z":1}"#, "at z"),
         (r#"{"roles":["Trigger"]}"#, "at roles.0"),
         (r#"{"approver":{"a":1}}"#, "at approver.a"),
         (
@@ -176,8 +250,9 @@ fn tells_where_steps_fail(rt: HostRuntime) -> Result<(), Fail> {
             "at script.0",
         ),
         (r#"{"behind":0,"do":"start","role":"readiness"}"#, "ok"),
+        (r#"{"behind":0,"do":"start","role":"issuer"}"#, "ok"),
         (
-            r#"{"behind":0,"do":"start","role":"issuer"}"#,
+            r#"{"behind":0,"do":"start","role":"signer"}"#,
             "at script.0.role",
         ),
         (r#"{"do":"start","role":"issuer"}"#, "at script.0.behind"),

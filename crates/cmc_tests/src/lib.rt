@@ -23,8 +23,6 @@ mod matching;
 #[cfg(test)]
 mod meta;
 #[cfg(test)]
-mod model;
-#[cfg(test)]
 mod objects;
 #[cfg(test)]
 mod orders;
@@ -34,6 +32,8 @@ mod pass;
 mod policies;
 #[cfg(test)]
 mod policy_rules;
+#[cfg(test)]
+mod summary;
 #[cfg(test)]
 mod time;
 pub mod values;

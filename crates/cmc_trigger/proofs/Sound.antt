@@ -54,7 +54,7 @@ issue_is seen now reason c sees = record {
   sees = seen_certificate seen c sees;
   key = refl;
   version = refl;
-  changes = λ next. record { rights = (refl, refl, record { rest = refl; others = others now reason c.status }); dated = λ timed dated. dated; revision = kept now reason c.status; no_secret = λ written issuing is. absurd (cc issuing); no_approval = λ o n approver b a x y. absurd (cc approver) };
+  changes = λ next. record { rights = (refl, refl, record { rest = refl; others = others now reason c.status }); dated = λ timed dated. dated; revision = kept now reason c.status; no_secret = λ written issuing is. absurd (cc issuing); no_approval = λ o n approver b a x y. absurd (cc approver); no_request = λ made before after. absurd (cc before) };
   passes = λ taken. certificate_status_passes (Some (Cert c)) _ taken;
 }
 

@@ -1,8 +1,7 @@
 -- What each entry makes of what the roles were told of.
-use Rattle.std.proofs.Common.{◌≡◌, ℕ, ◌<◌, ◌≤◌, Bool, true, false, List, ◌∷◌, length, reverse, refl, sym, ap, subst, ◌∙◌, arith}
+use Rattle.std.proofs.Common.{◌≡◌, ℕ, ◌≤◌, Bool, true, false, List, ◌∷◌, length, reverse, refl, sym, ap, subst, ◌∙◌, arith}
 use Rattle.std.proofs.lemmas.List.{length-reverse}
 use Rattle.std.specs.Prelude.{◌&&◌, if◌then◌else◌}
-use Rattle.cmc_meta.specs.declared.key.Key.{Key}
 use Rattle.cmc_meta.specs.declared.key.Kind.{Kind}
 use Rattle.cmc_meta.specs.declared.key.Kind.TheVariants as kinds
 use Rattle.cmc_objects.specs.declared.role.Role.{Role}
@@ -25,7 +24,7 @@ use Rattle.cmc_held.specs.Dues.{shown_positions}
 use Rattle.cmc_held.specs.declared.standings.Standing.{Standing}
 use Rattle.cmc_caches.specs.Told.{cached, caches_at, with_cached}
 use Rattle.cmc_world.specs.Changes.{each_at}
-use Rattle.cmc_world.specs.Kept.{Holdings, IsHeld, IsKept, standing}
+use Rattle.cmc_world.specs.Kept.{Holdings, IsHeld, IsKept}
 use Rattle.cmc_world.proofs.Judging.{told_is}
 use Rattle.cmc_world.proofs.Standings.{same_role}
 

@@ -1,5 +1,5 @@
 -- Going over the objects finds the request that a step speaks of.
-use Rattle.std.proofs.Common.{◌≡◌, ℕ, true, false, List, ◌∷◌, Option, refl, sym, ap, ◌∙◌}
+use Rattle.std.proofs.Common.{◌≡◌, ℕ, true, false, List, ◌∷◌, refl, sym, ap, ◌∙◌}
 use Rattle.cmc_meta.specs.declared.key.Key.{Key}
 use Rattle.cmc_objects.specs.declared.object.Object.{Object}
 use Rattle.cmc_rules.specs.UserWrites.{is_object_for, as_request, first_for}

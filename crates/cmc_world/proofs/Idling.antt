@@ -1,5 +1,5 @@
 -- What the tests of a scan say of a role and a key: that the role has nothing to do there, or may not begin.
-use Rattle.std.proofs.Common.{◌≡◌, ℕ, ℤ, List, Option, Some, None, Bool, true, false, refl, sym, ap, subst, ◌∙◌}
+use Rattle.std.proofs.Common.{◌≡◌, ℕ, ℤ, List, [], Option, Some, None, Bool, true, false, refl, sym, subst, ◌∙◌, inl, inr}
 use Rattle.std.proofs.lemmas.Result.{IfOk-weaker}
 use Rattle.std.proofs.Common.{arith}
 use Rattle.std.proofs.lemmas.Bool.Decides.{nat_tests}
@@ -8,6 +8,7 @@ use Rattle.std.specs.declared.alloc.AllocError.{AllocError}
 use Rattle.cmc_meta.specs.declared.key.Key.{Key}
 use Rattle.cmc_meta.specs.declared.key.Kind.TheVariants as kinds
 use Rattle.cmc_objects.specs.declared.role.Role.{Role}
+use Rattle.cmc_objects.specs.declared.role.Role.TheVariants.{Trigger}
 use Rattle.cmc_objects.specs.declared.entry.Entry.{Entry}
 use Rattle.cmc_objects.specs.declared.entry.Positions.{Positions}
 use Rattle.cmc_pass.specs.declared.pass.Act.TheVariants.{Nothing}
@@ -22,35 +23,42 @@ use Rattle.cmc_rules.specs.Sameness.{IsDue, IsSame}
 use Rattle.cmc_rules.specs.Positions.{positions}
 use Rattle.cmc_rules.specs.Resting.{IsIdle, IsPaused, RestsOn}
 use Rattle.cmc_rules.specs.Scripting.{has_held, held}
-use Rattle.cmc_rules.specs.Dates.{HasDatedFailure}
+use Rattle.cmc_safety.specs.Acting.{MayAct}
+use Rattle.cmc_safety.specs.Formed.{IsFormed}
+use Rattle.cmc_safety.proofs.Forms.{reply_seen}
 use Rattle.cmc_rules.specs.Viewing.{views, present_views}
-use Rattle.cmc_held.specs.declared.standings.Standing.{Standing}
-use Rattle.cmc_held.specs.Dues.{shown_positions}
 use Rattle.cmc_rules.specs.Sameness.{own_above}
-use Rattle.cmc_world.specs.Kept.{Holdings, IsKept}
+use Rattle.cmc_world.specs.Kept.{first_desk}
 use Rattle.cmc_rules.specs.Legality.{IsLegal}
 use Rattle.cmc_world.specs.Rest.{EachKind, IsToldAll}
 use Rattle.cmc_world.proofs.Newest.{IsToldOfAll, views_newest}
-use Rattle.cmc_world.proofs.Dated.{dated_views}
+use Rattle.cmc_world.proofs.Sounds.{any_desk}
 
 -- ---- what is seen
 
--- the last failure of what a role sees is dated
-pub told_is_dated : (s : Setting) (h : List Entry) (role : Role) (key : Key) (w : Holdings) (seen : Views) → IsKept s h w → seen ≡ views s h role key → HasDatedFailure seen
-told_is_dated s h role key w seen k is = subst HasDatedFailure (sym is) (dated_views s h k.held.years k.held.run role key)
-
--- the positions that are kept, shown to the role, are its own
-pub shown_at : (s : Setting) (h : List Entry) (role : Role) (w : Holdings) (at : Positions) → IsKept s h w
-    → at ≡ shown_positions role (w.standing role).told → at ≡ positions h role
-shown_at s h role w at k is = is ∙ ap (λ (t : Standing). shown_positions role t.told) (k.held.standing role)
-
 -- ---- nothing to do
 
--- a test of the act at the present moment says whether the role is idle
-pub idle_by : (s : Setting) (h : List Entry) (role : Role) (seen : Views) (now : ℤ) (r : Result Bool AllocError) → now ≡ moment s h
-    → IfOk r (λ b. (d : Desk) → (IsTrue b ↔ (act role seen now d ≡ Nothing))) → IfOk r (λ b. IsTrue b ↔ IsIdle s h role seen)
-idle_by s h role seen now r is found =
-    IfOk-weaker r _ _ (λ b each. subst (λ (m : ℤ). IsTrue b ↔ (act role seen m (desk s h role seen) ≡ Nothing)) is (each (desk s h role seen))) found
+-- what a role may act on by its own desk it may act on before any question
+pub on_first_desk : (s : Setting) (seen : Views) (now : ℤ) (d : Desk) → IsFormed s → MayAct seen now d → MayAct seen now (first_desk s)
+on_first_desk s seen now d formed may = record {
+  dated = may.dated;
+  revision = may.revision;
+  time = may.time;
+  asked = omega arith;
+  form = may.form;
+  reply = reply_seen s [] Trigger seen formed;
+}
+
+-- a test of the act before any question says whether the role is idle, since the count of questions does not decide that
+pub idle_by : (s : Setting) (h : List Entry) (role : Role) (seen : Views) (now : ℤ) (d : Desk) (r : Result Bool AllocError) → now ≡ moment s h → d ≡ first_desk s
+    → IfOk r (λ b. IsTrue b ↔ (act role seen now d ≡ Nothing)) → IfOk r (λ b. IsTrue b ↔ IsIdle s h role seen)
+idle_by s h role seen now d r is first found =
+    IfOk-weaker r _ _
+    (λ b each.
+    let here : IsTrue b ↔ (act role seen (moment s h) (first_desk s) ≡ Nothing) =
+    subst (λ (m : ℤ). IsTrue b ↔ (act role seen m (first_desk s) ≡ Nothing)) is (subst (λ (x : Desk). IsTrue b ↔ (act role seen now x ≡ Nothing)) first each) in
+    (λ on. any_desk role seen (moment s h) (first_desk s) (desk s h role seen) refl (here.0 on), λ idle. here.1 (any_desk role seen (moment s h) (desk s h role seen) (first_desk s) refl idle)))
+    found
 
 -- ---- or no pass may begin
 
@@ -83,20 +91,27 @@ pub none_told : (own : Option ℕ) → is_some own ≡ false → own ≡ None
 none_told None off = refl
 none_told (Some v) off = absurd (cc)
 
--- and what these say of a role on a key
-pub paused_by : (s : Setting) (h : List Entry) (role : Role) (key : Key) (w : Holdings) (p : Past) (seen : Views) (now : ℤ) (at : Positions) (r : Result Bool AllocError) → IsKept s h w
-    → p ≡ w.past role key → now ≡ w.moment → at ≡ shown_positions role (w.standing role).told → seen ≡ views s h role key
-    → IfOk r (λ b. (d : Desk) → (IsTrue b ↔ ((act role seen now d ≡ Nothing) ⊎ (IsDue p seen now at → ⊥)))) → IfOk r (λ b. IsTrue b ↔ IsPaused s h role key)
-paused_by s h role key w p seen now at r k own time shown sees found =
-    let when : now ≡ moment s h = time ∙ k.held.moment in
-    let told : at ≡ positions h role = shown_at s h role w at k shown in
-    let did : p ≡ past s h role key = own ∙ k.held.past role key in
+-- a role that may not begin on a key is paused there
+pub paused_undue : (s : Setting) (h : List Entry) (role : Role) (key : Key) (seen : Views) (due : Bool) → seen ≡ views s h role key
+    → (IsTrue due ↔ IsDue (past s h role key) seen (moment s h) (positions h role)) → due ≡ false → IsTrue true ↔ IsPaused s h role key
+paused_undue s h role key seen due sees e off =
+    (λ on. inr (λ is. let on : due ≡ true = e.1 (subst (λ (v : Views). IsDue (past s h role key) v (moment s h) (positions h role)) (sym sees) is) in absurd (cc (on, off))), λ paused. refl)
+
+idle_or : (b : Bool) (Idle Due : Type 0) → (IsTrue b ↔ Idle) → Due → IsTrue b ↔ (Idle ⊎ (Due → ⊥))
+idle_or b Idle Due e due = (λ on. inl (e.0 on), λ x. by x) where
+  by : Idle ⊎ (Due → ⊥) → IsTrue b
+  by (inl idle) = e.1 idle
+  by (inr undue) = absurd (undue due)
+
+-- and any other where it is idle
+pub paused_due : (s : Setting) (h : List Entry) (role : Role) (key : Key) (seen : Views) (due : Bool) (r : Result Bool AllocError) → seen ≡ views s h role key
+    → (IsTrue due ↔ IsDue (past s h role key) seen (moment s h) (positions h role)) → due ≡ true → IfOk r (λ b. IsTrue b ↔ IsIdle s h role seen)
+    → IfOk r (λ b. IsTrue b ↔ IsPaused s h role key)
+paused_due s h role key seen due r sees e on found =
     IfOk-weaker r _ _
-    (λ b each.
-    subst (λ (v : Views). IsTrue b ↔ ((act role v (moment s h) (desk s h role v) ≡ Nothing) ⊎ (IsDue (past s h role key) v (moment s h) (positions h role) → ⊥))) sees
-    (subst (λ (m : ℤ). IsTrue b ↔ ((act role seen m (desk s h role seen) ≡ Nothing) ⊎ (IsDue (past s h role key) seen m (positions h role) → ⊥))) when
-    (subst (λ (a : Positions). IsTrue b ↔ ((act role seen now (desk s h role seen) ≡ Nothing) ⊎ (IsDue (past s h role key) seen now a → ⊥))) told
-    (subst (λ (q : Past). IsTrue b ↔ ((act role seen now (desk s h role seen) ≡ Nothing) ⊎ (IsDue q seen now at → ⊥))) did (each (desk s h role seen))))))
+    (λ b idle.
+    idle_or b (IsIdle s h role (views s h role key)) (IsDue (past s h role key) (views s h role key) (moment s h) (positions h role))
+    (subst (λ (v : Views). IsTrue b ↔ IsIdle s h role v) sees idle) (subst (λ (v : Views). IsDue (past s h role key) v (moment s h) (positions h role)) sees (e.0 on)))
     found
 
 -- which of the two a role on a key has to be

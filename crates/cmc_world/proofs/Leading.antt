@@ -5,11 +5,19 @@ use Rattle.std.specs.Prelude.{nat_le, if◌then◌else◌, option_and_then}
 use Rattle.cmc_meta.specs.declared.key.Kind.{Kind}
 use Rattle.cmc_objects.specs.declared.role.Role.{Role}
 use Rattle.cmc_objects.specs.declared.call.Call.{Call}
+use Rattle.cmc_objects.specs.declared.orders.Order.{Order}
+use Rattle.cmc_pass.specs.Giving.{order_of, value_of}
+use Rattle.cmc_pass.specs.Values.{IsValue}
+use Rattle.cmc_pass.specs.declared.pass.Act.{Act}
+use Rattle.cmc_pass.specs.declared.pass.Act.TheVariants.{Ask as Asks}
+use Rattle.cmc_pass.specs.declared.value.Value.{Value}
+use Rattle.cmc_rules.specs.declared.progress.Stage.{Stage}
+use Rattle.cmc_rules.specs.declared.progress.Stage.TheVariants.{Fresh, Asked}
 use Rattle.cmc_objects.specs.declared.entry.Cause.{Cause}
 use Rattle.cmc_objects.specs.declared.entry.Step.{Step}
 use Rattle.cmc_objects.specs.declared.entry.Who.TheVariants.{Pass}
 use Rattle.cmc_objects.specs.declared.entry.Entry.{Entry}
-use Rattle.cmc_objects.specs.declared.entry.Entry.TheVariants.{Script, Call as Called, Deliver, List as Listed, End}
+use Rattle.cmc_objects.specs.declared.entry.Entry.TheVariants.{Script, Call as Called, Deliver, List as Listed, Ask, End}
 use Rattle.cmc_model.specs.Histories.{Setting, accepted}
 use Rattle.cmc_rules.specs.declared.effect.Effect.{Effect}
 use Rattle.cmc_rules.specs.declared.effect.Effect.TheVariants as effects
@@ -17,7 +25,7 @@ use Rattle.cmc_rules.specs.declared.progress.OpenPass.{OpenPass}
 use Rattle.cmc_rules.specs.Positions.{position}
 use Rattle.cmc_rules.specs.Passes.{open_pass}
 use Rattle.cmc_rules.specs.Legality.{IsLegalEntry, IsLegal, IsOpen}
-use Rattle.cmc_rules.specs.Causes.{IsCausedEntry, IsCaused, MayCall, MayEnd}
+use Rattle.cmc_rules.specs.Causes.{IsCausedEntry, IsCaused, act_of, IsAsked, AsksBy, IsGivenBy, MayCall, MayAsk, MayGive, MayEnd}
 use Rattle.cmc_rules.specs.Scripting.{scripted, step_at}
 use Rattle.cmc_rules.specs.Following.{FollowsEntry, Follows, effect_of, owed}
 use Rattle.cmc_rules.specs.Rights.{KeepsRights}
@@ -25,12 +33,17 @@ use Rattle.cmc_rules.specs.Runs.{IsRun}
 use Rattle.cmc_world.specs.declared.moves.Move.{Move}
 use Rattle.cmc_world.specs.declared.moves.Move.TheVariants as moves
 use Rattle.cmc_world.specs.declared.moves.Stepped.{Stepped}
-use Rattle.cmc_world.specs.declared.moves.Stepped.TheVariants.{Done}
-use Rattle.cmc_world.specs.Answers.{IsEffect, IsOfPass, GrowsBy, next_effect, entries_of, delivered, beginning, Grows, Leaves, Answers, AnswersScript}
-use Rattle.cmc_world.specs.Leading.{Lead, Extends}
-use Rattle.cmc_world.proofs.Rights.{keeps_rights}
+use Rattle.cmc_world.specs.declared.moves.Stepped.TheVariants.{Done, Order as Tells}
+use Rattle.cmc_world.specs.Answers.{IsEffect, IsOfPass, GrowsBy, next_effect, entries_of, delivered, beginning, Grows, LeavesAsked, Leaves, Answers, AnswersScript, kept_at, kept_of, asked_by, new_at, new_of, asked_once, value_entry}
+use Rattle.cmc_world.specs.Leading.{IsRight, Lead, Extends}
+use Rattle.cmc_rules.specs.Safety.{IsSafe}
+use Rattle.cmc_safety.specs.Formed.{IsFormed}
+use Rattle.cmc_safety.proofs.Rights.{keeps_rights}
+use Rattle.cmc_safety.proofs.Safe.{safe}
+use Rattle.cmc_world.proofs.Asking.{silent}
+use Rattle.cmc_world.proofs.Sounds.{each_sound}
 use Rattle.cmc_world.proofs.Stepping.{low_start}
-use Rattle.cmc_world.proofs.Tables.{MayDeliver, may_deliver, may_begin, may_step, room_next}
+use Rattle.cmc_world.proofs.Tables.{MayDeliver, may_deliver, may_begin, may_step, room_next, MayTell, may_tell, may_give}
 
 -- ---- one entry more
 
@@ -136,15 +149,62 @@ by_pass s h n e so room (inr (cause, may, is)) =
     subst (λ (x : Entry). IsSettled s (x ∷ h)) (sym is)
     (record { run = one_more s h (End n cause) so.run (record { legal = open_ends s h (open_pass s h n) cause may; caused = may; follows = so.settled; short = omega (arith, room) }); settled = refl })
 
+-- a question that is new is one that the pass may ask
+asked_at : (does : Act) (order : Order) → asked_by does ≡ Some order → IsAsked does order
+asked_at (Asks asked) order is = let same : order ≡ asked = cc is in same
+asked_at other order is = absurd (cc is)
+
+new_asked : (stage : Stage) (does : Act) (order : Order) → new_at stage does ≡ Some order → AsksBy stage does order
+new_asked Fresh does order is = asked_at does order is
+new_asked other does order is = absurd (cc is)
+
+pub new_may : (s : Setting) (h : List Entry) (p : Option OpenPass) (order : Order) → new_of s h p ≡ Some order → MayAsk s h p order
+new_may s h None order is = absurd (cc is)
+new_may s h (Some p) order is = new_asked p.stage (act_of s h p) order is
+
+-- a question that is told stands once
+by_question : (s : Setting) (h : List Entry) (pass : ℕ) (order : Order) (k : List Entry) → IsSettled s h → IsOpen (open_pass s h pass)
+    → MayTell s h (kept_of (open_pass s h pass)) (new_of s h (open_pass s h pass)) order → k ≡ asked_once (kept_of (open_pass s h pass)) pass order h → IsSettled s k
+by_question s h pass order k so is (inl kept) left = subst (IsSettled s) (sym (left ∙ ap (λ (o : Option Order). asked_once o pass order h) kept)) so
+by_question s h pass order k so is (inr (none, new, room)) left =
+    subst (IsSettled s) (sym (left ∙ ap (λ (o : Option Order). asked_once o pass order h) none))
+    (record {
+      run = one_more s h (Ask pass order) so.run (record { legal = is; caused = new_may s h (open_pass s h pass) order new; follows = so.settled; short = omega (arith, room) });
+      settled = refl;
+    })
+
+by_told : (s : Setting) (h : List Entry) (move : Move) (number : ℕ) (order : Order) (k : List Entry) → IsSettled s h → Answers s h move (Tells number order) → LeavesAsked s h move order k → IsSettled s k
+by_told s h (moves.Next pass named) number order k so a left = let may = may_tell s h pass named number order a in by_question s h pass order k so may.0 may.1 left
+by_told s h other number order k so a same = subst (IsSettled s) (sym same) so
+
+-- a value that is right for the question that is kept is one that the pass may be given
+given_at : (stage : Stage) (order : Order) (value : Value) → kept_at stage ≡ Some order → IsValue order value → IsGivenBy stage value
+given_at (Asked asked) order value is right = let same : order ≡ asked = cc is in subst (λ (o : Order). IsValue o value) same right
+given_at other order value is right = absurd (cc is)
+
+pub given_may : (p : Option OpenPass) (order : Order) (value : Value) → kept_of p ≡ Some order → IsValue order value → IsOpen p × MayGive p value
+given_may None order value is right = absurd (cc is)
+given_may (Some p) order value is right = (tt, given_at p.stage order value is right)
+
+by_value : (s : Setting) (h : List Entry) (pass : ℕ) (order : Order) (value : Value) → IsSettled s h → length h + 1 ≤ s.events → kept_of (open_pass s h pass) ≡ Some order → IsValue order value
+    → IsSettled s (value_entry pass value ∷ h)
+by_value s h pass order value so room kept right =
+    let may = given_may (open_pass s h pass) order value kept right in
+    let quiet = silent s h pass value in
+    record {
+      run = one_more s h (value_entry pass value) so.run (record { legal = quiet.legal may.0; caused = quiet.caused may.1; follows = quiet.follows so.settled; short = omega (arith, room) });
+      settled = quiet.settled;
+    }
+
 -- ---- all moves
 
-by_move : (s : Setting) (h : List Entry) (move : Move) (k : List Entry) → IsSettled s h → Answers s h move Done → Grows s h move k → IsSettled s k
-by_move s h moves.Script k so a grown = by_script s h k so a grown
-by_move s h (moves.Deliver role kind to) k so a grown =
+by_move : (s : Setting) (h : List Entry) (move : Move) (k : List Entry) → IsRight move → IsSettled s h → Answers s h move Done → Grows s h move k → IsSettled s k
+by_move s h moves.Script k right so a grown = by_script s h k so a grown
+by_move s h (moves.Deliver role kind to) k right so a grown =
     let within = nat_le (accepted s h) (position h role kind + s.window) in
     subst (IsSettled s) (sym grown)
     (record { run = one_more s h (delivered s h role kind to) so.run (delivered_fair s h role kind to within refl so.settled (may_deliver s h role kind to a)); settled = delivered_owes s h role kind to within })
-by_move s h (moves.Begin role key) k so a grown =
+by_move s h (moves.Begin role key) k right so a grown =
     let may = may_begin s h role key a in
     let room = may.room in
     subst (IsSettled s) (sym grown)
@@ -158,22 +218,27 @@ by_move s h (moves.Begin role key) k so a grown =
           });
       settled = refl;
     })
-by_move s h (moves.Next pass named) k so a (e, is, grown) = subst (IsSettled s) (sym grown) (by_pass s h pass e so (room_next s h pass named a) is)
+by_move s h (moves.Next pass named) k right so a (e, is, grown) = subst (IsSettled s) (sym grown) (by_pass s h pass e so (room_next s h pass named a) is)
+by_move s h (moves.Give pass named given) k right so a grown =
+    let may = may_give s h pass named given a in subst (IsSettled s) (sym grown) (by_value s h pass (order_of given) (value_of given) so may.1 may.0 right)
 
-by_step : (s : Setting) (h : List Entry) (move : Move) (answer : Stepped) (k : List Entry) → IsSettled s h → Answers s h move answer → Leaves s h move answer k → IsSettled s k
-by_step s h move Done k so a grown = by_move s h move k so a grown
-by_step s h move other k so a same = subst (IsSettled s) (sym same) so
+by_step : (s : Setting) (h : List Entry) (move : Move) (answer : Stepped) (k : List Entry) → IsRight move → IsSettled s h → Answers s h move answer → Leaves s h move answer k → IsSettled s k
+by_step s h move Done k right so a grown = by_move s h move k right so a grown
+by_step s h move (Tells number order) k right so a left = by_told s h move number order k so a left
+by_step s h move other k right so a same = subst (IsSettled s) (sym same) so
 
 leads : (s : Setting) (ms : List Move) (h k : List Entry) → Lead s ms h k → IsSettled s h → IsSettled s k
 leads s [] h k same so = subst (IsSettled s) (sym same) so
-leads s (move ∷ ms) h k (g, step, rest) so = leads s ms g k rest (by_step s h move step.answer g so step.answers step.leaves)
+leads s (move ∷ ms) h k (g, step, rest) so = leads s ms g k rest (by_step s h move step.answer g step.right so step.answers step.leaves)
 
 begins_settled : (s : Setting) → IsSettled s []
 unfolding IsLegal IsCaused Follows
 begins_settled s = record { run = record { legal = tt; caused = tt; follows = tt; short = omega arith }; settled = refl }
 
-pub keeps : (s : Setting) (ms : List Move) (h : List Entry) → Lead s ms [] h → IsRun s h × KeepsRights s h
-keeps s ms h led = let so = leads s ms [] h led (begins_settled s) in (so.run, keeps_rights s h so.run)
+pub keeps : (s : Setting) (ms : List Move) (h : List Entry) → IsFormed s → Lead s ms [] h → IsRun s h × (KeepsRights s h × IsSafe s h)
+keeps s ms h formed led =
+    let so = leads s ms [] h led (begins_settled s) in
+    (so.run, (keeps_rights each_sound s h formed so.run, safe each_sound s h formed so.run.legal so.run.caused so.run.follows))
 
 -- ---- the old history stands below
 
@@ -186,9 +251,20 @@ extends_by s h moves.Script k grown = above s h (Script (scripted h + 1) ∷ h) 
 extends_by s h (moves.Deliver role kind to) k grown = (delivered s h role kind to ∷ [], grown)
 extends_by s h (moves.Begin role key) k grown = (beginning s h role key ∷ [], grown)
 extends_by s h (moves.Next pass named) k (e, right, is) = (e ∷ [], is)
+extends_by s h (moves.Give pass named given) k grown = (value_entry pass (value_of given) ∷ [], grown)
+
+-- a question that is told is at most one entry more
+asked_above : (kept : Option Order) (pass : ℕ) (order : Order) (h k : List Entry) → k ≡ asked_once kept pass order h → Extends h k
+asked_above None pass order h k is = (Ask pass order ∷ [], is)
+asked_above (Some other) pass order h k is = ([], is)
+
+extends_asked : (s : Setting) (h : List Entry) (move : Move) (order : Order) (k : List Entry) → LeavesAsked s h move order k → Extends h k
+extends_asked s h (moves.Next pass named) order k left = asked_above (kept_of (open_pass s h pass)) pass order h k left
+extends_asked s h other order k same = ([], same)
 
 left_by : (s : Setting) (h : List Entry) (move : Move) (answer : Stepped) (k : List Entry) → Leaves s h move answer k → Extends h k
 left_by s h move Done k grown = extends_by s h move k grown
+left_by s h move (Tells number order) k left = extends_asked s h move order k left
 left_by s h move other k same = ([], same)
 
 assoc : (xs ys zs : List Entry) → (xs ++ (ys ++ zs)) ≡ ((xs ++ ys) ++ zs)

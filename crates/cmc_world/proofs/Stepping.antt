@@ -1,10 +1,8 @@
 -- What the next step of the script has happen, and that a world stays what its history says as the step is made.
-use Rattle.std.proofs.Common.{◌≡◌, ℕ, ℤ, pos, ◌+◌, ◌-◌, ◌<◌, ◌≤◌, ◌^◌, List, ◌∷◌, length, Option, Some, None, refl, sym, ap, subst, ◌∙◌, arith}
-use Rattle.std.specs.Prelude.{◌≤ℤ◌, neg_ℤ, int_le, Bool, true, false, option_and_then, slice_get, if◌then◌else◌}
-use Rattle.std.proofs.lemmas.Int.{ints}
+use Rattle.std.proofs.Common.{◌≡◌, ℕ, ℤ, ◌+◌, ◌-◌, ◌<◌, ◌≤◌, ◌^◌, List, ◌∷◌, length, Option, Some, None, refl, sym, ap, subst, ◌∙◌, arith}
+use Rattle.std.specs.Prelude.{option_and_then, slice_get, if◌then◌else◌}
 use Rattle.std.proofs.lemmas.Option.{slice_get-get_or}
 use Rattle.cmc_meta.specs.declared.key.Key.{Key}
-use Rattle.cmc_objects.specs.Requests.{is_run_time}
 use Rattle.cmc_objects.specs.declared.role.Role.{Role}
 use Rattle.cmc_objects.specs.declared.call.Call.{Call}
 use Rattle.cmc_objects.specs.declared.object.Object.{Object}
@@ -25,7 +23,7 @@ use Rattle.cmc_model.specs.Writes.{write_of}
 use Rattle.cmc_rules.specs.Passes.{unless_of}
 use Rattle.cmc_rules.specs.Memory.{no_past}
 use Rattle.cmc_rules.specs.Scripting.{scripted, step_at}
-use Rattle.cmc_rules.specs.Following.{call_of, call_or, effect_of, owed, IsNextStep, Follows}
+use Rattle.cmc_rules.specs.Following.{call_of, call_or, effect_of, owed, IsNextStep}
 use Rattle.cmc_model.proofs.Writes.{writes_count}
 use Rattle.cmc_rules.proofs.Positions.{calls_short}
 use Rattle.cmc_setup.specs.Setups.{Setup, IsSetup}
@@ -42,25 +40,9 @@ use Rattle.cmc_world.specs.Noting.{logged}
 use Rattle.cmc_world.specs.Scripted.{effect_in, standing_after}
 use Rattle.cmc_world.proofs.Counts.{incarnation_short, logged_called}
 use Rattle.cmc_world.proofs.Events.{held_scripted, kept_users, kept_ticked, kept_stopped, kept_started}
-use Rattle.cmc_world.proofs.Moments.{moments_within}
 use Rattle.cmc_world.proofs.Tables.{MayStep, may_step}
-use borrow.Author.Differences.{le-false}
 
 -- ---- what a scenario's type keeps
-
-at_most : (a b : ℤ) (t : Bool) → int_le a b ≡ t → a ≤ℤ b → t ≡ true
-at_most a b true test h = refl
-at_most a b false test h = absurd (omega (arith, ints, le-false a b test, h))
-
--- the moments of a run lie where the type of its scenario has them
-pub run_moment : (u : Setup) (h : List Entry) → IsSetup u → Follows (setting_of u) h → is_run_time (moment (setting_of u) h) ≡ true
-run_moment u h setup follows =
-    let within = moments_within (setting_of u) h follows in
-    let first : neg_ℤ (pos 599616000) ≤ℤ moment (setting_of u) h = omega (arith, ints, within.0, setup.begins) in
-    let last : moment (setting_of u) h ≤ℤ pos 250246627200 = omega (arith, ints, within.1, setup.ends) in
-    let low : int_le (neg_ℤ (pos 599616000)) (moment (setting_of u) h) ≡ true = at_most _ _ _ refl first in
-    let high : int_le (moment (setting_of u) h) (pos 250246627200) ≡ true = at_most _ _ _ refl last in
-    rw (low, high) refl
 
 -- one more call can be counted
 pub calls_fit : (u : Setup) (h : List Entry) (w : Holdings) → IsSetup u → IsKept (setting_of u) h w → w.state.calls < 2 ^ 64 - 1

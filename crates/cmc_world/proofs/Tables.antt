@@ -1,10 +1,14 @@
 -- The tests of the tables of answers decide what the tables say.
-use Rattle.std.proofs.Common.{◌≡◌, ℕ, ◌+◌, ◌<◌, ◌≤◌, Bool, true, false, Option, Some, None, List, length, refl, inl, inr, arith}
+use Rattle.std.proofs.Common.{◌≡◌, ℕ, ◌+◌, ◌<◌, ◌≤◌, Bool, true, false, Option, Some, None, List, length, refl, sym, ap, subst, inl, inr, arith}
 use Rattle.std.proofs.lemmas.Bool.Decides.{nat_tests}
-use Rattle.std.specs.Prelude.{◌↔◌, IsTrue, nat_le, if◌then◌else◌}
+use Rattle.std.specs.Prelude.{◌↔◌, ◌⊎◌, IsTrue, nat_le, if◌then◌else◌}
 use Rattle.cmc_meta.specs.declared.key.Key.{Key}
 use Rattle.cmc_meta.specs.declared.key.Kind.{Kind}
 use Rattle.cmc_objects.specs.declared.role.Role.{Role}
+use Rattle.cmc_objects.specs.declared.orders.Order.{Order}
+use Rattle.cmc_pass.specs.Giving.{order_of}
+use Rattle.cmc_pass.specs.declared.given.Given.{Given}
+use Rattle.cmc_rules.specs.declared.progress.OpenPass.{OpenPass}
 use Rattle.cmc_objects.specs.declared.entry.Entry.{Entry}
 use Rattle.cmc_model.specs.Histories.{Setting, moment, runs}
 use Rattle.cmc_model.specs.Writes.{writes, last_of_kind}
@@ -21,10 +25,10 @@ use Rattle.cmc_rules.specs.Sameness.{own_above}
 use Rattle.cmc_world.specs.declared.moves.Lack.{Lack}
 use Rattle.cmc_world.specs.declared.moves.Lack.TheVariants.{ScriptOver, ScriptWaits, Stopped, NoInformer, Held, Current, NotAWrite, NotQueued, InProcess, SameViews, OwnWrite, NoPass}
 use Rattle.cmc_world.specs.declared.moves.Stepped.{Stepped}
-use Rattle.cmc_world.specs.declared.moves.Stepped.TheVariants.{Done, NotNow, Ended, Spent}
-use Rattle.cmc_world.specs.Answers.{is_done, Need, Bar, BarOf, Fits, IsNews, IsQueued, outdated, entries_of, next_effect, AnswersScript, AnswersDelivery, AnswersBegin, AnswersNext}
+use Rattle.cmc_world.specs.declared.moves.Stepped.TheVariants.{Done, Order as Asks, NotNow, Ended, NotMine, Spent}
+use Rattle.cmc_world.specs.Answers.{is_done, Need, Bar, BarOf, Fits, IsNews, IsQueued, outdated, entries_of, next_effect, AnswersScript, AnswersDelivery, AnswersBegin, AnswersOpen, AnswersGoing, AnswersNext, AnswersGiven, AnswersGive, kept_of, new_of, next_answer}
 use Rattle.cmc_rules.specs.Passes.{IsWorking}
-use Rattle.cmc_world.specs.Tables.{fitting, own_answer, outdated_answer, delivery_answer, begin_answer, next_answer, script_answer}
+use Rattle.cmc_world.specs.Tables.{fitting, own_answer, delivery_answer, begin_answer, script_answer}
 
 -- a test decides whether a fact holds
 pub record Decides (fact : Type 0) (test : Bool) : Type 0 where
@@ -96,24 +100,17 @@ begin_answers s h role key answer true true same is_queued room on busy is q d a
 begin_answers s h role key answer true false same is_queued room on busy is q d a =
     inr (on, inr (busy.no refl, owning s h role key answer (own_above (past s h role key).own (positions h role)) same is_queued room is q d a))
 
-going : (s : Setting) (h : List Entry) (pass : ℕ) (answer : Stepped) (is_open room : Bool)
-    → Decides (IsOpen (open_pass s h pass)) is_open → Decides (length h + 1 ≤ s.events) room → answer ≡ (if is_open then fitting (length h) room else NotNow (NoPass pass))
-    → Need (IsOpen (open_pass s h pass)) (NotNow (NoPass pass)) answer (Fits s h 1 answer)
-going s h pass answer true room stands d a = inr (stands.yes refl, fitted s h 1 answer room d a)
-going s h pass answer false room stands d a = inl (stands.no refl, a)
+-- ---- the pass of a number
 
-dated : (s : Setting) (h : List Entry) (pass : ℕ) (answer : Stepped) (old : Option ℕ) (is_open room : Bool)
-    → Decides (IsOpen (open_pass s h pass)) is_open → Decides (length h + 1 ≤ s.events) room
-    → answer ≡ outdated_answer old (if is_open then fitting (length h) room else NotNow (NoPass pass))
-    → BarOf old (λ present. Ended present) answer (Need (IsOpen (open_pass s h pass)) (NotNow (NoPass pass)) answer (Fits s h 1 answer))
-dated s h pass answer None is_open room stands d a = going s h pass answer is_open room stands d a
-dated s h pass answer (Some present) is_open room stands d a = a
+pub ended_first : (s : Setting) (h : List Entry) (pass named present : ℕ) (rest : Type 0) → outdated s h named (origin_at pass (origins s h)) ≡ Some present → AnswersOpen s h pass named (Ended present) rest
+ended_first s h pass named present rest is = rw is refl
 
-pub next_answers : (s : Setting) (h : List Entry) (pass named : ℕ) (answer : Stepped) (is_open room : Bool)
-    → Decides (IsOpen (open_pass s h pass)) is_open → Decides (length h + 1 ≤ s.events) room
-    → answer ≡ next_answer (outdated s h named (origin_at pass (origins s h))) is_open pass (length h) room
-    → AnswersNext s h pass named answer
-next_answers s h pass named answer is_open room stands d a = dated s h pass answer (outdated s h named (origin_at pass (origins s h))) is_open room stands d a
+pub no_pass : (s : Setting) (h : List Entry) (pass named : ℕ) (rest : Type 0) → outdated s h named (origin_at pass (origins s h)) ≡ None → open_pass s h pass ≡ None → AnswersOpen s h pass named (NotNow (NoPass pass)) rest
+no_pass s h pass named rest present none = rw present (inl (λ is. subst IsOpen none is, refl))
+
+pub of_open_pass : (s : Setting) (h : List Entry) (pass named : ℕ) (p : OpenPass) (answer : Stepped) (rest : Type 0) → outdated s h named (origin_at pass (origins s h)) ≡ None → open_pass s h pass ≡ Some p → rest
+    → AnswersOpen s h pass named answer rest
+of_open_pass s h pass named p answer rest present is holds = rw present (inr (subst IsOpen (sym is) tt, holds))
 
 pub script_answers : (s : Setting) (h : List Entry) (answer : Stepped) (left ready room : Bool)
     → Decides (scripted h < length s.script) left → Decides (IsReady s h (step_at s.script (scripted h + 1))) ready
@@ -191,17 +188,61 @@ may_step s h a =
     let three = met (Spent (length h)) (not_spent (length h)) two.1 in
     record { left = one.0; ready = two.0; room = three.0 }
 
-last_row : (s : Setting) (h : List Entry) (pass : ℕ) (out : Option ℕ)
-    → BarOf out (λ present. Ended present) Done (Need (IsOpen (open_pass s h pass)) (NotNow (NoPass pass)) Done (Fits s h 1 Done)) → length h + 1 ≤ s.events
-last_row s h pass None a = (met (Spent (length h)) (not_spent (length h)) (met (NotNow (NoPass pass)) (not_now (NoPass pass)) a).1).0
-last_row s h pass (Some present) a = absurd (cc a)
+-- an answer that is no refusal of the pass is one of an open pass
+in_present : (s : Setting) (h : List Entry) (pass : ℕ) (out : Option ℕ) (answer : Stepped) (rest : Type 0) → ((present : ℕ) → answer ≡ Ended present → ⊥) → (answer ≡ NotNow (NoPass pass) → ⊥)
+    → BarOf out (λ present. Ended present) answer (Need (IsOpen (open_pass s h pass)) (NotNow (NoPass pass)) answer rest) → IsOpen (open_pass s h pass) × rest
+in_present s h pass None answer rest ended closed (inl bad) = absurd (closed bad.1)
+in_present s h pass None answer rest ended closed (inr good) = good
+in_present s h pass (Some present) answer rest ended closed a = absurd (ended present a)
+
+pub open_of : (s : Setting) (h : List Entry) (pass named : ℕ) (answer : Stepped) (rest : Type 0) → ((present : ℕ) → answer ≡ Ended present → ⊥) → (answer ≡ NotNow (NoPass pass) → ⊥)
+    → AnswersOpen s h pass named answer rest → IsOpen (open_pass s h pass) × rest
+open_of s h pass named answer rest ended closed a = in_present s h pass (outdated s h named (origin_at pass (origins s h))) answer rest ended closed a
+
+not_ended : (present : ℕ) → Done ≡ Ended present → ⊥
+not_ended present e = absurd (cc e)
+
+going_done : (s : Setting) (h : List Entry) (pass : ℕ) (kept new : Option Order) → AnswersGoing s h pass kept new Done → length h + 1 ≤ s.events
+going_done s h pass (Some order) new a = absurd (cc a)
+going_done s h pass None new a = (met (Spent (length h)) (not_spent (length h)) a).0
 
 -- there is room for the entry of a pass that goes on
 pub room_next : (s : Setting) (h : List Entry) (pass named : ℕ) → AnswersNext s h pass named Done → length h + 1 ≤ s.events
-room_next s h pass named a = last_row s h pass (outdated s h named (origin_at pass (origins s h))) a
+room_next s h pass named a =
+    going_done s h pass (kept_of (open_pass s h pass)) (new_of s h (open_pass s h pass))
+    (open_of s h pass named Done (AnswersGoing s h pass (kept_of (open_pass s h pass)) (new_of s h (open_pass s h pass)) Done) not_ended (not_now (NoPass pass)) a).1
+
+-- the question that is told is kept already, or new, with room for its entry
+abbrev pub MayTell : Setting → List Entry → Option Order → Option Order → Order → Type 0
+MayTell s h kept new order = (kept ≡ Some order) ⊎ ((kept ≡ None) × (new ≡ Some order) × (length h + 1 ≤ s.events))
+
+told_new : (s : Setting) (h : List Entry) (pass number : ℕ) (new : Option Order) (order : Order) → Need (length h + 1 ≤ s.events) (Spent (length h)) (Asks number order) (Asks number order ≡ next_answer pass new)
+    → (new ≡ Some order) × (length h + 1 ≤ s.events)
+told_new s h pass number new order (inl bad) = absurd (cc (bad.1))
+told_new s h pass number None order (inr good) = absurd (cc (good.1))
+told_new s h pass number (Some other) order (inr good) = let same : other ≡ order = cc (good.1) in (ap (λ (o : Order). Some o) same, good.0)
+
+going_told : (s : Setting) (h : List Entry) (pass number : ℕ) (kept new : Option Order) (order : Order) → AnswersGoing s h pass kept new (Asks number order) → MayTell s h kept new order
+going_told s h pass number (Some other) new order a = let same : other ≡ order = cc a in inl (ap (λ (o : Order). Some o) same)
+going_told s h pass number None new order a = let found = told_new s h pass number new order a in inr (refl, found.0, found.1)
+
+pub may_tell : (s : Setting) (h : List Entry) (pass named number : ℕ) (order : Order) → AnswersNext s h pass named (Asks number order)
+    → IsOpen (open_pass s h pass) × MayTell s h (kept_of (open_pass s h pass)) (new_of s h (open_pass s h pass)) order
+may_tell s h pass named number order a =
+    let found = open_of s h pass named (Asks number order) (AnswersGoing s h pass (kept_of (open_pass s h pass)) (new_of s h (open_pass s h pass)) (Asks number order)) (λ present e. absurd (cc e)) (λ e. absurd (cc e)) a in
+    (found.0, going_told s h pass number (kept_of (open_pass s h pass)) (new_of s h (open_pass s h pass)) order found.1)
+
+given_done : (s : Setting) (h : List Entry) (kept : Option Order) (given : Order) → AnswersGiven s h kept given Done → (kept ≡ Some given) × (length h + 1 ≤ s.events)
+given_done s h None given a = absurd (cc a)
+given_done s h (Some order) given a =
+    let one = met (NotMine order given) (λ e. absurd (cc e)) a in
+    (ap (λ (o : Order). Some o) one.0, (met (Spent (length h)) (not_spent (length h)) one.1).0)
+
+-- what is given answers the question that is kept, and there is room for its entry
+pub may_give : (s : Setting) (h : List Entry) (pass named : ℕ) (given : Given) → AnswersGive s h pass named given Done → (kept_of (open_pass s h pass) ≡ Some (order_of given)) × (length h + 1 ≤ s.events)
+may_give s h pass named given a =
+    given_done s h (kept_of (open_pass s h pass)) (order_of given) (open_of s h pass named Done (AnswersGiven s h (kept_of (open_pass s h pass)) (order_of given) Done) not_ended (not_now (NoPass pass)) a).1
 
 pub the_done : (answer : Stepped) → is_done answer ≡ true → answer ≡ Done
 the_done Done e = refl
-the_done (NotNow lack) e = absurd (cc e)
-the_done (Ended incarnation) e = absurd (cc e)
-the_done (Spent entries) e = absurd (cc e)
+the_done other e = absurd (cc e)

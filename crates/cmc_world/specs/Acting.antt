@@ -1,49 +1,92 @@
 -- What a pass does next.
-use Rattle.std.specs.Prelude.{◌≡◌, ℕ, List, ◌∷◌, Option, Some, None}
+use Rattle.std.specs.Prelude.{◌≡◌, ◌<◌, ℕ, List, ◌∷◌, length, Option, Some, None, IsSome}
 use Rattle.cmc_objects.specs.declared.call.Call.{Call}
 use Rattle.cmc_objects.specs.declared.orders.Order.{Order}
 use Rattle.cmc_pass.specs.declared.value.Value.{Value}
 use Rattle.cmc_objects.specs.declared.entry.Entry.{Entry}
+use Rattle.cmc_objects.specs.declared.entry.Entry.TheVariants.{Ask, End}
+use Rattle.cmc_objects.specs.declared.entry.Who.{Who}
+use Rattle.cmc_objects.specs.declared.entry.Who.TheVariants.{Pass}
 use Rattle.cmc_pass.specs.declared.pass.Act.{Act}
-use Rattle.cmc_pass.specs.declared.pass.Act.TheVariants.{Nothing, Call as Calls}
+use Rattle.cmc_pass.specs.declared.pass.Act.TheVariants.{Issue, Temporary}
 use Rattle.cmc_rules.specs.declared.progress.Stage.{Stage}
-use Rattle.cmc_rules.specs.declared.progress.Stage.TheVariants.{Fresh, Wrote, Refused}
+use Rattle.cmc_rules.specs.declared.progress.Stage.TheVariants.{Asked, Given, Read, Saved, Barred}
 use Rattle.cmc_rules.specs.declared.progress.OpenPass.{OpenPass}
 use Rattle.cmc_model.specs.Replies.{key_of_call}
 use Rattle.cmc_model.specs.Histories.{Setting}
 use Rattle.cmc_model.specs.Writes.{writes, last_under}
 use Rattle.cmc_rules.specs.Passes.{open_pass, writes_stand_in}
 use Rattle.cmc_rules.specs.Memory.{ending_at}
-use Rattle.cmc_rules.specs.Causes.{IsNextCall, EndsBy, MayCall, MayEnd}
-use Rattle.cmc_world.specs.Answers.{IsCalled, IsOfPass}
+use Rattle.cmc_rules.specs.Causes.{IsNextCall, AsksBy, EndsBy, MayCall, MayAsk, MayEnd}
+use Rattle.cmc_rules.specs.Legality.{IsOpen}
+use Rattle.cmc_world.specs.Answers.{IsCalled, kept_of, new_of, next_answer, AnswersGoing, AnswersNext}
 use Rattle.cmc_world.specs.Kept.{Seen, setting_of}
-use Rattle.cmc_objects.specs.declared.entry.Who.{Who}
+use Rattle.cmc_world.specs.declared.moves.Stepped.{Stepped}
+use Rattle.cmc_world.specs.declared.moves.Stepped.TheVariants.{Done, Order as Tells}
 use Rattle.cmc_world.specs.declared.going.Calling.{Calling}
 use Rattle.cmc_world.specs.declared.going.Closing.{Closing}
+use Rattle.cmc_world.specs.declared.going.Judged.{Judged}
+use Rattle.cmc_world.specs.declared.going.Judged.TheVariants.{Answer, Does}
 use Rattle.cmc_world.specs.declared.going.Doing.{Doing}
-use Rattle.cmc_world.specs.declared.going.Doing.TheVariants.{Call as Makes, End as Ends}
+use Rattle.cmc_world.specs.declared.going.Doing.TheVariants.{Call as Makes, Ask as Asks, End as Ends}
 
--- the act of a role that neither asks nor issues: nothing, or one call
-abbrev pub act_by : Option Call → Act
-act_by None = Nothing
-act_by (Some call) = Calls call
+-- what a pass of this stage needs to go on: a value of its question that a call follows, or a plan of which a call is left
+abbrev pub HasSecret : Act → Type 0
+HasSecret (Issue plan) = Unit {0}
+HasSecret (Temporary plan) = Unit {0}
+HasSecret other = ⊥
 
--- a pass of a role that neither asks nor issues, and that no rule has barred
-abbrev pub IsServed : Stage → Type 0
-IsServed Fresh = Unit {0}
-IsServed Wrote = Unit {0}
-IsServed (Refused entry obstacle) = Unit {0}
-IsServed other = ⊥
+abbrev pub HasStatus : Act → Type 0
+HasStatus (Issue plan) = Unit {0}
+HasStatus other = ⊥
+
+abbrev pub HasNext : Stage → Act → (Order → Value → Option Call) → Type 0
+HasNext (Asked order) does after = ⊥
+HasNext (Given order value) does after = IsSome (after order value)
+HasNext Read does after = HasSecret does
+HasNext Saved does after = HasStatus does
+HasNext Barred does after = ⊥
+HasNext other does after = Unit {0}
 
 -- what comes next of a pass that has come so far, with this act, and with the calls that follow its questions
 abbrev pub IsDoingBy : Stage → Act → (Order → Value → Option Call) → Doing → Type 0
 IsDoingBy stage does after (Makes call) = IsNextCall stage does after call
+IsDoingBy stage does after (Asks order) = AsksBy stage does order
 IsDoingBy stage does after (Ends cause) = EndsBy stage does cause
 
 -- what comes next of the pass of this number
 abbrev pub IsDoing : Setting → List Entry → ℕ → Doing → Type 0
 IsDoing s h pass (Makes call) = MayCall s h (open_pass s h pass) call
+IsDoing s h pass (Asks order) = MayAsk s h (open_pass s h pass) order
 IsDoing s h pass (Ends cause) = MayEnd s h (open_pass s h pass) cause
+
+-- the question, where it is one
+abbrev pub asked_in : Doing → Option Order
+asked_in (Asks order) = Some order
+asked_in other = None
+
+-- the pass of this number waits for no value, this comes next of it, and its entry fits
+pub record IsGoing (s : Setting) (h : List Entry) (pass : ℕ) (d : Doing) : Type 0 where
+  pub free : kept_of (open_pass s h pass) ≡ None
+  pub new : new_of s h (open_pass s h pass) ≡ asked_in d
+  pub does : IsDoing s h pass d
+  pub room : length h < s.events
+
+-- the answer leaves the history as it was: a question is told again, or the move is not made
+abbrev pub IsQuiet : Option Order → Stepped → Type 0
+IsQuiet kept Done = ⊥
+IsQuiet kept (Tells pass order) = kept ≡ Some order
+IsQuiet kept other = Unit {0}
+
+-- an answer that leaves all as it was, or what the move has the open pass do
+abbrev pub IsGoingOn : Setting → List Entry → ℕ → Judged → Type 0
+IsGoingOn s h pass (Answer answer) = AnswersGoing s h pass (kept_of (open_pass s h pass)) (new_of s h (open_pass s h pass)) answer × IsQuiet (kept_of (open_pass s h pass)) answer
+IsGoingOn s h pass (Does d) = AnswersGoing s h pass (kept_of (open_pass s h pass)) (new_of s h (open_pass s h pass)) (next_answer pass (asked_in d)) × IsGoing s h pass d
+
+-- the same of the pass of this number, which need not be open
+abbrev pub IsJudged : Setting → List Entry → ℕ → ℕ → Judged → Type 0
+IsJudged s h pass named (Answer answer) = AnswersNext s h pass named answer × IsQuiet (kept_of (open_pass s h pass)) answer
+IsJudged s h pass named (Does d) = AnswersNext s h pass named (next_answer pass (asked_in d)) × (IsOpen (open_pass s h pass) × IsGoing s h pass d)
 
 -- ---- what is known as a pass goes on
 
@@ -69,6 +112,11 @@ pub record IsClosing (s : Setting) (h : List Entry) (n : ℕ) (c : Closing) : Ty
 abbrev pub MadeCall : Who → Call → Seen → Seen → Type 0
 MadeCall who call old new = (e : Entry) × IsCalled (setting_of old.scenario) old.history who call e × (new ≡ record { scenario = old.scenario; history = e ∷ old.history })
 
--- the history has one more entry of the pass
-abbrev pub GoesOn : ℕ → Seen → Seen → Type 0
-GoesOn n old new = (e : Entry) × IsOfPass (setting_of old.scenario) old.history n e × (new ≡ record { scenario = old.scenario; history = e ∷ old.history })
+-- the history has one more entry of the pass: its question, its call or its end
+abbrev pub IsDone : Setting → List Entry → ℕ → Doing → Entry → Type 0
+IsDone s h pass (Makes call) e = IsCalled s h (Pass pass) call e
+IsDone s h pass (Asks order) e = e ≡ Ask pass order
+IsDone s h pass (Ends cause) e = e ≡ End pass cause
+
+abbrev pub GoesOn : ℕ → Doing → Seen → Seen → Type 0
+GoesOn n d old new = (e : Entry) × IsDone (setting_of old.scenario) old.history n d e × (new ≡ record { scenario = old.scenario; history = e ∷ old.history })

@@ -10,13 +10,23 @@ use Rattle.cmc_objects.specs.declared.entry.Who.TheVariants.{User, Pass}
 use Rattle.cmc_objects.specs.declared.entry.Cause.{Cause}
 use Rattle.cmc_objects.specs.declared.entry.Entry.{Entry}
 use Rattle.cmc_objects.specs.declared.entry.Entry.TheVariants as entries
+use Rattle.cmc_objects.specs.declared.orders.Order.{Order}
+use Rattle.cmc_pass.specs.Giving.{order_of, value_of}
+use Rattle.cmc_pass.specs.declared.given.Given.{Given}
+use Rattle.cmc_pass.specs.declared.pass.Act.{Act}
+use Rattle.cmc_pass.specs.declared.pass.Act.TheVariants.{Ask}
+use Rattle.cmc_pass.specs.declared.value.Value.{Value}
+use Rattle.cmc_pass.specs.declared.value.Value.TheVariants as values
 use Rattle.cmc_model.specs.Replies.{IsReply}
 use Rattle.cmc_model.specs.Histories.{state}
-use Rattle.cmc_rules.specs.Causes.{MayCall, MayEnd}
+use Rattle.cmc_rules.specs.Causes.{act_of, MayCall, MayEnd}
 use Rattle.cmc_objects.specs.declared.entry.Who.{Who}
 use Rattle.cmc_rules.specs.declared.effect.Effect.{Effect}
 use Rattle.cmc_rules.specs.declared.effect.Effect.TheVariants as effects
+use Rattle.cmc_rules.specs.declared.progress.OpenPass.{OpenPass}
 use Rattle.cmc_rules.specs.declared.progress.Origin.{Origin}
+use Rattle.cmc_rules.specs.declared.progress.Stage.{Stage}
+use Rattle.cmc_rules.specs.declared.progress.Stage.TheVariants.{Fresh, Asked}
 use Rattle.cmc_model.specs.Histories.{Setting, moment, accepted, runs, incarnation}
 use Rattle.cmc_model.specs.Writes.{writes, write_at, last_of_kind, is_known}
 use Rattle.cmc_rules.specs.Positions.{has_informer, kind_of_work, position, positions}
@@ -30,16 +40,14 @@ use Rattle.cmc_rules.specs.Scripting.{scripted, step_at, held}
 use Rattle.cmc_rules.specs.Following.{effect_of, IsReady}
 use Rattle.cmc_rules.specs.Sameness.{own_above}
 use Rattle.cmc_world.specs.declared.moves.Move.{Move}
-use Rattle.cmc_world.specs.declared.moves.Move.TheVariants.{Script, Deliver, Begin, Next}
-use Rattle.cmc_world.specs.declared.moves.Lack.TheVariants.{ScriptOver, ScriptWaits, Stopped, NoInformer, Held, Current, NotAWrite, NotQueued, InProcess, SameViews, OwnWrite, NoPass}
+use Rattle.cmc_world.specs.declared.moves.Move.TheVariants.{Script, Deliver, Begin, Next, Give}
+use Rattle.cmc_world.specs.declared.moves.Lack.TheVariants.{ScriptOver, ScriptWaits, Stopped, NoInformer, Held, Current, NotAWrite, NotQueued, InProcess, SameViews, OwnWrite, NoPass, NotAsked}
 use Rattle.cmc_world.specs.declared.moves.Stepped.{Stepped}
-use Rattle.cmc_world.specs.declared.moves.Stepped.TheVariants.{Done, NotNow, Ended, Spent}
+use Rattle.cmc_world.specs.declared.moves.Stepped.TheVariants.{Done, Order as Asks, NotNow, Ended, NotMine, Spent}
 
 abbrev pub is_done : Stepped → Bool
 is_done Done = true
-is_done (NotNow lack) = false
-is_done (Ended incarnation) = false
-is_done (Spent entries) = false
+is_done other = false
 
 -- ---- tables of answers
 
@@ -142,15 +150,70 @@ abbrev pub outdated : Setting → List Entry → ℕ → Option Origin → Optio
 outdated s h named None = None
 outdated s h named (Some origin) = outdated_at (incarnation s h origin.role) origin.incarnation named
 
+-- the question whose value a pass of this stage waits for
+abbrev pub kept_at : Stage → Option Order
+kept_at (Asked order) = Some order
+kept_at other = None
+
+abbrev pub kept_of : Option OpenPass → Option Order
+kept_of None = None
+kept_of (Some p) = kept_at p.stage
+
+-- the question that a pass which has only begun asks
+abbrev pub asked_by : Act → Option Order
+asked_by (Ask order) = Some order
+asked_by other = None
+
+abbrev pub new_at : Stage → Act → Option Order
+new_at Fresh does = asked_by does
+new_at other does = None
+
+abbrev pub new_of : Setting → List Entry → Option OpenPass → Option Order
+new_of s h None = None
+new_of s h (Some p) = new_at p.stage (act_of s h p)
+
+-- a question is told, a call or an end is made
+abbrev pub next_answer : ℕ → Option Order → Stepped
+next_answer pass None = Done
+next_answer pass (Some order) = Asks pass order
+
+-- A question whose value is waited for is told again; else the next entry of the pass has to fit: a question, a call or the end.
+abbrev pub AnswersGoing : Setting → List Entry → ℕ → Option Order → Option Order → Stepped → Type 0
+AnswersGoing s h pass (Some kept) new answer = answer ≡ Asks pass kept
+AnswersGoing s h pass None new answer = Need (length h + 1 ≤ s.events) (Spent (length h)) answer (answer ≡ next_answer pass new)
+
+-- the pass of the number is open, and it and the move are of the role's present incarnation
+abbrev pub AnswersOpen : Setting → List Entry → ℕ → ℕ → Stepped → Type 0 → Type 0
+AnswersOpen s h pass named answer rest =
+    BarOf (outdated s h named (origin_at pass (origins s h))) (λ present. Ended present) answer (Need (IsOpen (open_pass s h pass)) (NotNow (NoPass pass)) answer rest)
+
 abbrev pub AnswersNext : Setting → List Entry → ℕ → ℕ → Stepped → Type 0
-AnswersNext s h pass named answer =
-    BarOf (outdated s h named (origin_at pass (origins s h))) (λ present. Ended present) answer
-    (Need (IsOpen (open_pass s h pass)) (NotNow (NoPass pass)) answer (Fits s h 1 answer))
+AnswersNext s h pass named answer = AnswersOpen s h pass named answer (AnswersGoing s h pass (kept_of (open_pass s h pass)) (new_of s h (open_pass s h pass)) answer)
+
+-- what is given has to answer the question whose value is waited for
+abbrev pub AnswersGiven : Setting → List Entry → Option Order → Order → Stepped → Type 0
+AnswersGiven s h None given answer = answer ≡ NotNow NotAsked
+AnswersGiven s h (Some kept) given answer = Need (kept ≡ given) (NotMine kept given) answer (Fits s h 1 answer)
+
+abbrev pub AnswersGive : Setting → List Entry → ℕ → ℕ → Given → Stepped → Type 0
+AnswersGive s h pass named given answer = AnswersOpen s h pass named answer (AnswersGiven s h (kept_of (open_pass s h pass)) (order_of given) answer)
 
 -- the call that the pass makes next, or its end
 abbrev pub IsOfPass : Setting → List Entry → ℕ → Entry → Type 0
 IsOfPass s h pass e =
     ((call : Call) × MayCall s h (open_pass s h pass) call × IsCalled s h (Pass pass) call e) ⊎ ((cause : Cause) × MayEnd s h (open_pass s h pass) cause × (e ≡ entries.End pass cause))
+
+-- the entry of a value that is given
+abbrev pub value_entry : ℕ → Value → Entry
+value_entry pass (values.Made key) = entries.Made pass key
+value_entry pass (values.Signed signature) = entries.Signed pass signature
+value_entry pass (values.Answered answer) = entries.Answered pass answer
+value_entry pass (values.Judged approved) = entries.Judged pass approved
+
+-- a question is recorded where it is told for the first time
+abbrev pub asked_once : Option Order → ℕ → Order → List Entry → List Entry
+asked_once None pass order h = entries.Ask pass order ∷ h
+asked_once (Some kept) pass order h = h
 
 -- ---- all moves
 
@@ -160,6 +223,7 @@ Answers s h Script answer = AnswersScript s h answer
 Answers s h (Deliver role kind to) answer = AnswersDelivery s h role kind to answer
 Answers s h (Begin role key) answer = AnswersBegin s h role key answer
 Answers s h (Next pass named) answer = AnswersNext s h pass named answer
+Answers s h (Give pass named given) answer = AnswersGive s h pass named given answer
 
 -- the entries that the move adds, below which the old history stands
 abbrev pub Grows : Setting → List Entry → Move → List Entry → Type 0
@@ -167,8 +231,15 @@ Grows s h Script k = GrowsByScript s h k
 Grows s h (Deliver role kind to) k = k ≡ delivered s h role kind to ∷ h
 Grows s h (Begin role key) k = k ≡ beginning s h role key ∷ h
 Grows s h (Next pass named) k = (e : Entry) × IsOfPass s h pass e × (k ≡ e ∷ h)
+Grows s h (Give pass named given) k = k ≡ value_entry pass (value_of given) ∷ h
 
--- a move that is made adds its entries, and any other leaves the history as it was
+-- a question that is told stands once
+abbrev pub LeavesAsked : Setting → List Entry → Move → Order → List Entry → Type 0
+LeavesAsked s h (Next pass named) order k = k ≡ asked_once (kept_of (open_pass s h pass)) pass order h
+LeavesAsked s h other order k = k ≡ h
+
+-- a move that is made adds its entries, and a question that is told its own, once; any other answer leaves the history as it was
 abbrev pub Leaves : Setting → List Entry → Move → Stepped → List Entry → Type 0
 Leaves s h move Done k = Grows s h move k
+Leaves s h move (Asks pass order) k = LeavesAsked s h move order k
 Leaves s h move other k = k ≡ h

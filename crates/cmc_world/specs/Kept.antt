@@ -1,9 +1,10 @@
 -- What a world holds beside its history, and that it is what its history says.
-use Rattle.std.specs.Prelude.{◌≡◌, ◌≤ℤ◌, ◌+ℤ◌, ℕ, ℤ, pos, List, None, Option}
+use Rattle.std.specs.Prelude.{◌≡◌, ℕ, ℤ, List, None, Option}
 use Rattle.cmc_meta.specs.declared.key.Key.{Key}
-use Rattle.cmc_meta.specs.declared.key.Kind.TheVariants.{Certificate, CertificateRequest, Secret}
+use Rattle.cmc_meta.specs.declared.key.Kind.TheVariants as kinds
 use Rattle.cmc_objects.specs.declared.role.Role.{Role}
 use Rattle.cmc_objects.specs.declared.entry.Entry.{Entry}
+use Rattle.cmc_pass.specs.declared.pass.Desk.{Desk}
 use Rattle.cmc_model.specs.declared.write.Write.{Write}
 use Rattle.cmc_rules.specs.declared.progress.OpenPass.{OpenPass}
 use Rattle.cmc_rules.specs.declared.progress.Origin.{Origin}
@@ -19,9 +20,12 @@ use Rattle.cmc_rules.specs.Memory.{past}
 use Rattle.cmc_rules.specs.Scripting.{scripted, held}
 use Rattle.cmc_rules.specs.Following.{owed, written}
 use Rattle.cmc_rules.specs.Runs.{IsRun}
-use Rattle.cmc_policies.specs.Renewal.{IsCertificateTime}
-use Rattle.cmc_setup.specs.Setups.{Setup, ticked}
+use Rattle.cmc_rules.specs.Desks.{asked}
+use Rattle.cmc_setup.specs.Setups.{Setup}
+use Rattle.cmc_safety.specs.Formed.{IsFormed}
 use Rattle.cmc_held.specs.declared.standings.Standing.{Standing}
+use Rattle.cmc_held.specs.declared.questions.Subject.{Subject}
+use Rattle.cmc_held.specs.Questioned.{asks_key_at, asks_issuer_at}
 use Rattle.cmc_caches.specs.Told.{caches_at}
 
 -- what contracts see of a world
@@ -48,13 +52,14 @@ abbrev pub standing : Setting → List Entry → Role → Standing
 standing s h role = record {
   running = runs s h role;
   incarnation = incarnation s h role;
-  told = record { certificates = position h role Certificate; requests = position h role CertificateRequest; secrets = position h role Secret };
-  held = record { certificates = held s h role Certificate; requests = held s h role CertificateRequest; secrets = held s h role Secret };
-  written = record { certificates = written s h role Certificate; requests = written s h role CertificateRequest; secrets = written s h role Secret };
+  told = record { certificates = position h role kinds.Certificate; requests = position h role kinds.CertificateRequest; secrets = position h role kinds.Secret };
+  held = record { certificates = held s h role kinds.Certificate; requests = held s h role kinds.CertificateRequest; secrets = held s h role kinds.Secret };
+  written = record { certificates = written s h role kinds.Certificate; requests = written s h role kinds.CertificateRequest; secrets = written s h role kinds.Secret };
 }
 
 -- what is held: the store, the log of accepted writes, the moment, the steps that were made, how each role stands,
--- what it was told of, where passes come from, which are open, and what each role remembers of each key
+-- what it was told of, where passes come from, which are open, what each role remembers of each key, how many questions
+-- were asked, and what roles decide by
 pub record Holdings : Type 0 where
   pub faults : List ℕ
   pub state : State
@@ -66,10 +71,13 @@ pub record Holdings : Type 0 where
   pub origins : List Origin
   pub opened : ℕ → Option OpenPass
   pub past : Role → Key → Past
+  pub keys_asked : Subject → ℕ
+  pub answers_asked : Subject → ℕ
+  pub desk : Desk
 
--- from the first moment on, all that ticks may come to lies in the years 1950 to 9999
-abbrev pub KeepsYears : Setting → Type 0
-KeepsYears s = (at : ℤ) → s.now ≤ℤ at → at ≤ℤ (s.now +ℤ pos (ticked s.script)) → IsCertificateTime at
+-- a desk before any question
+abbrev pub first_desk : Setting → Desk
+first_desk s = record { material = s.material; asked = 0; rules = s.rules }
 
 -- each is what the history says, and the history is one of a run
 pub record IsHeld (s : Setting) (h : List Entry) (w : Holdings) : Type 0 where
@@ -83,8 +91,11 @@ pub record IsHeld (s : Setting) (h : List Entry) (w : Holdings) : Type 0 where
   pub origins : w.origins ≡ origins s h
   pub opened : (n : ℕ) → w.opened n ≡ open_pass s h n
   pub past : (role : Role) (key : Key) → w.past role key ≡ past s h role key
+  pub keys_asked : (subject : Subject) → w.keys_asked subject ≡ asked (asks_key_at subject) h
+  pub answers_asked : (subject : Subject) → w.answers_asked subject ≡ asked (asks_issuer_at subject) h
+  pub desk : w.desk ≡ first_desk s
   pub run : IsRun s h
-  pub years : KeepsYears s
+  pub formed : IsFormed s
 
 -- and nothing is owed to the script
 pub record IsKept (s : Setting) (h : List Entry) (w : Holdings) : Type 0 where

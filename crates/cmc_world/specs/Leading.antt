@@ -2,12 +2,21 @@
 use Rattle.std.specs.Prelude.{◌≡◌, ◌++◌, List, [], ◌∷◌}
 use Rattle.cmc_objects.specs.declared.entry.Entry.{Entry}
 use Rattle.cmc_model.specs.Histories.{Setting}
+use Rattle.cmc_pass.specs.Giving.{order_of, value_of}
+use Rattle.cmc_pass.specs.Values.{IsValue}
 use Rattle.cmc_world.specs.declared.moves.Move.{Move}
+use Rattle.cmc_world.specs.declared.moves.Move.TheVariants.{Give}
 use Rattle.cmc_world.specs.declared.moves.Stepped.{Stepped}
 use Rattle.cmc_world.specs.Answers.{Answers, Leaves}
 
+-- what a pass is given is right for its question: the type of what is given keeps that
+abbrev pub IsRight : Move → Type 0
+IsRight (Give pass named given) = IsValue (order_of given) (value_of given)
+IsRight other = Unit {0}
+
 -- the move is answered so of the history, and leaves the other one
 pub record IsStep (s : Setting) (h : List Entry) (move : Move) (k : List Entry) : Type 0 where
+  pub right : IsRight move
   pub answer : Stepped
   pub answers : Answers s h move answer
   pub leaves : Leaves s h move answer k

@@ -1,4 +1,3 @@
-pub mod Plain
 pub mod Rest
 pub mod Answers
 pub mod Tables

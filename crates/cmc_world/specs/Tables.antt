@@ -1,8 +1,8 @@
 -- The rows of a step's answers, as tests: the first one that fits gives the answer.
 use Rattle.std.specs.Prelude.{ℕ, Bool, Option, Some, None, if◌then◌else◌, nat_le}
-use Rattle.cmc_world.specs.declared.moves.Lack.TheVariants.{ScriptOver, ScriptWaits, Stopped, NoInformer, Held, Current, NotAWrite, NotQueued, InProcess, SameViews, OwnWrite, NoPass}
+use Rattle.cmc_world.specs.declared.moves.Lack.TheVariants.{ScriptOver, ScriptWaits, Stopped, NoInformer, Held, Current, NotAWrite, NotQueued, InProcess, SameViews, OwnWrite}
 use Rattle.cmc_world.specs.declared.moves.Stepped.{Stepped}
-use Rattle.cmc_world.specs.declared.moves.Stepped.TheVariants.{Done, NotNow, Ended, Spent}
+use Rattle.cmc_world.specs.declared.moves.Stepped.TheVariants.{Done, NotNow, Spent}
 
 abbrev pub fitting : ℕ → Bool → Stepped
 fitting entries room = if room then Done else Spent entries
@@ -27,13 +27,6 @@ begin_answer running working own same queued entries room =
     (if working then NotNow InProcess
     else own_answer own (if same then NotNow SameViews else (if queued then fitting entries room else NotNow NotQueued)))
     else NotNow Stopped
-
-abbrev pub outdated_answer : Option ℕ → Stepped → Stepped
-outdated_answer None rest = rest
-outdated_answer (Some incarnation) rest = Ended incarnation
-
-abbrev pub next_answer : Option ℕ → Bool → ℕ → ℕ → Bool → Stepped
-next_answer outdated is_open pass entries room = outdated_answer outdated (if is_open then fitting entries room else NotNow (NoPass pass))
 
 abbrev pub script_answer : Bool → Bool → ℕ → Bool → Stepped
 script_answer left ready entries room = if left then (if ready then fitting entries room else NotNow ScriptWaits) else NotNow ScriptOver

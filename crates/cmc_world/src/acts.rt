@@ -1,86 +1,56 @@
-//! What the roles do.
-ghost use Rattle.std.specs.Prelude.{◌≡◌, IfOk};
-ghost use Rattle.cmc_pass.specs.declared.pass.Desk.{Desk as DeskValue};
+//! What the roles do, and what they call for the values of their questions.
+ghost use Rattle.std.specs.Prelude.{◌≡◌, IfOk, IsSome, Some};
 ghost use Rattle.cmc_rules.specs.Acts as acts;
-ghost use Rattle.cmc_rules.specs.Dates.{HasDatedFailure};
-ghost use Rattle.cmc_world.specs.Acting.{act_by};
-ghost use Rattle.cmc_world.specs.Plain.{IsPlain};
+ghost use Rattle.cmc_rules.specs.NextRequests.{HasNextRevision};
+ghost use Rattle.cmc_safety.specs.Acting.{MayAct};
 
-use cmc_meta::Texts;
-use cmc_objects::{Call, Material, Role, Rules};
-use cmc_pass::{Act, Desk, Views};
-use cmc_policy_rules::Policies;
+use cmc_objects::{Call, Order, Role};
+use cmc_pass::{Act, Desk, Value, Views};
 use std::alloc::{AllocError, Global};
 
-/// A desk with nothing on it: no role of today looks at its desk.
-fn empty_desk(alloc: Global) -> Desk {
-    Desk {
-        material: Material::new(alloc),
-        asked: 0,
-        rules: Rules {
-            issuers: Texts::new(alloc),
-            refuse: Texts::new(alloc),
-            policies: Policies::new(alloc),
-        },
-    }
-}
-
-/// The call of an act that asks and issues nothing; none where it is nothing.
-fn plain_call(does: Act) -> Option<Call>
-    requires { IsPlain does }
-    ensures { does ≡ act_by result }
-{
-    match does {
-        Act::Nothing => None,
-        Act::Call(call) => Some(call),
-        Act::Ask(_) => unreachable!(),
-        Act::Issue(_) => unreachable!(),
-        Act::Temporary(_) => unreachable!(),
-    }
-}
-
-fn trigger_call(alloc: Global, seen: &Views, now: i64) -> Result<Option<Call>, AllocError>
-    requires { HasDatedFailure seen.now }
-    ensures { IfOk result (λ call. (desk : DeskValue) → acts.act Role.Trigger seen.now now desk ≡ act_by call) }
-{
-    let does = cmc_trigger::act(alloc, seen, now, &empty_desk(alloc))?;
-    Ok(plain_call(does))
-}
-
-fn readiness_call(alloc: Global, seen: &Views, now: i64) -> Result<Option<Call>, AllocError>
-    ensures { IfOk result (λ call. (desk : DeskValue) → acts.act Role.Readiness seen.now now desk ≡ act_by call) }
-{
-    let does = cmc_status::act_readiness(alloc, seen, now, &empty_desk(alloc))?;
-    Ok(plain_call(does))
-}
-
-fn revision_call(alloc: Global, seen: &Views, now: i64) -> Result<Option<Call>, AllocError>
-    ensures { IfOk result (λ call. (desk : DeskValue) → acts.act Role.Revision seen.now now desk ≡ act_by call) }
-{
-    let does = cmc_status::act_revision(alloc, seen, now, &empty_desk(alloc))?;
-    Ok(plain_call(does))
-}
-
-/// The call that the role makes on these views at the moment `now`, in seconds since
-/// 1970-01-01T00:00:00Z; none where it does nothing.
+/// What the role does on these views at the moment `now`, in seconds since 1970-01-01T00:00:00Z.
 #[tactic(auto, unfolding(cmc_rules::specs::Acts::act))]
 pub(crate) fn act_of(
     alloc: Global,
     role: Role,
     seen: &Views,
     now: i64,
-) -> Result<Option<Call>, AllocError>
-    requires { HasDatedFailure seen.now }
-    ensures { IfOk result (λ call. (desk : DeskValue) → acts.act role seen.now now desk ≡ act_by call) }
+    desk: &Desk,
+) -> Result<Act, AllocError>
+    requires { MayAct seen.now now desk.now }
+    ensures { IfOk result (λ a. a ≡ acts.act role seen.now now desk.now) }
 {
     match role {
-        Role::Trigger => trigger_call(alloc, seen, now),
-        Role::KeyManager => Ok(None),
-        Role::RequestManager => Ok(None),
-        Role::Approver => Ok(None),
-        Role::Issuer => Ok(None),
-        Role::Issuing => Ok(None),
-        Role::Readiness => readiness_call(alloc, seen, now),
-        Role::Revision => revision_call(alloc, seen, now),
+        Role::Trigger => cmc_trigger::act(alloc, seen, now, desk),
+        Role::KeyManager => cmc_keymanager::act(alloc, seen, now, desk),
+        Role::RequestManager => cmc_requestmanager::act(alloc, seen, now, desk),
+        Role::Approver => cmc_approver::act(alloc, seen, now, desk),
+        Role::Issuer => cmc_issuer::act(alloc, seen, now, desk),
+        Role::Issuing => cmc_issuing::act(alloc, seen, now, desk),
+        Role::Readiness => cmc_status::act_readiness(alloc, seen, now, desk),
+        Role::Revision => cmc_status::act_revision(alloc, seen, now, desk),
+    }
+}
+
+/// The call that follows this value of the role's question on these views.
+#[tactic(auto, unfolding(cmc_rules::specs::Acts::call_after))]
+pub(crate) fn follow_of(
+    alloc: Global,
+    role: Role,
+    seen: &Views,
+    now: i64,
+    order: &Order,
+    value: &Value,
+) -> Result<Call, AllocError>
+    requires revision { HasNextRevision seen.now.certificate }
+    requires follows { IsSome (acts.call_after role seen.now now order.now value.now) }
+    ensures { IfOk result (λ c. acts.call_after role seen.now now order.now value.now ≡ Some c) }
+{
+    match role {
+        Role::KeyManager => cmc_keymanager::follow(alloc, seen, now, order, value),
+        Role::RequestManager => cmc_requestmanager::follow(alloc, seen, now, order, value),
+        Role::Approver => cmc_approver::follow(alloc, seen, now, order, value),
+        Role::Issuer => cmc_issuer::follow(alloc, seen, now, order, value),
+        _ => unreachable!(),
     }
 }

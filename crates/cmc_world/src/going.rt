@@ -1,26 +1,32 @@
-//! Passes go on: they make their call, and end.
-ghost use Rattle.std.specs.Prelude.{◌≡◌, ◌↔◌, ◌+◌, ◌<◌, ◌≤◌, ◌∷◌, IsTrue, IfOk, OnOk, OnErr, None, Some, true, length};
-ghost use Rattle.cmc_pass.specs.declared.pass.Desk.{Desk};
+//! Passes go on: they ask, make their calls, and end.
+ghost use Rattle.std.specs.Prelude.{◌≡◌, ◌↔◌, ◌+◌, ◌<◌, ◌≤◌, ◌∷◌, ℕ, IsTrue, IfOk, OnOk, OnErr, None, Some, true, length};
+ghost use Rattle.cmc_objects.specs.declared.orders.Order.{Order as OrderValue};
+ghost use Rattle.cmc_pass.specs.declared.value.Value.{Value as ValueGiven};
+ghost use Rattle.cmc_objects.specs.declared.call.Call.{Call as CallValue};
+ghost use Rattle.std.specs.declared.option.Option.{Option as OptionValue};
+ghost use Rattle.cmc_pass.specs.Giving.{order_of, value_of};
 ghost use Rattle.cmc_rules.specs.Acts.{act, call_after};
-ghost use Rattle.cmc_rules.specs.Causes.{MayCall, MayEnd};
+ghost use Rattle.cmc_rules.specs.Causes.{MayCall, MayAsk, MayEnd};
 ghost use Rattle.cmc_rules.specs.Legality.{IsOpen};
+ghost use Rattle.cmc_rules.specs.Desks.{desk as desk_at};
 ghost use Rattle.cmc_rules.specs.Passes as spec;
 ghost use Rattle.cmc_rules.specs.Memory as memory;
 ghost use Rattle.cmc_model.specs.Replies as replies;
-ghost use Rattle.cmc_rules.specs.Dates.{HasDatedFailure};
-ghost use Rattle.cmc_world.specs.Acting.{IsServed, IsDoingBy, IsDoing, IsCalling, IsClosing, MadeCall, GoesOn};
-ghost use Rattle.cmc_world.specs.Answers.{AnswersNext, Leaves, outdated, outdated_at};
+ghost use Rattle.cmc_safety.specs.Acting.{MayAct};
+ghost use Rattle.cmc_world.specs.Acting.{HasNext, HasSecret, HasStatus, IsDoingBy, IsDoing, IsGoing, IsGoingOn, IsJudged, IsCalling, IsClosing, MadeCall, GoesOn};
+ghost use Rattle.cmc_world.specs.Answers.{AnswersGive, AnswersGiven, AnswersNext, Leaves, is_done, kept_of, next_answer, outdated, outdated_at, value_entry};
+ghost use Rattle.cmc_world.specs.Acting.{asked_in};
 ghost use Rattle.cmc_world.specs.Kept.{setting_of};
 ghost use Rattle.cmc_world.specs.declared.moves.Move.TheVariants as moves;
 ghost use Rattle.cmc_world.specs.declared.moves.Stepped.TheVariants as answers;
 
-use crate::acts::act_of;
-use crate::moves::{Stepped, answer_next};
+use crate::acts::{act_of, follow_of};
+use crate::moves::{Lack, Stepped};
 use crate::noting::{kind_written, log_write, note_write, stage_of, writes_stand_in};
 use crate::world::{World, has_room};
 use cmc_meta::{Key, Kind};
-use cmc_objects::{Call, Cause, Entry, Role, Who};
-use cmc_pass::Views;
+use cmc_objects::{Call, Cause, Entry, Order, Role, Who};
+use cmc_pass::{Act, Desk, Given, Value};
 use cmc_rules::{Ending, OpenPass, Origin, Stage};
 use cmc_store::Replied;
 use std::alloc::{AllocError, Global};
@@ -29,7 +35,15 @@ use std::alloc::{AllocError, Global};
 #[derive(Drop)]
 pub(crate) enum Doing {
     Call(Call),
+    Ask(Order),
     End(Cause),
+}
+
+/// What a move of a pass is answered, or what it has the pass do.
+#[derive(Drop)]
+pub(crate) enum Judged {
+    Answer(Stepped),
+    Does(Doing),
 }
 
 /// What a call of a pass needs to know of the pass and of its key.
@@ -70,27 +84,104 @@ impl Drop for Closing {
     }
 }
 
-/// What a pass that has just begun does.
-fn first_doing(alloc: Global, role: Role, seen: &Views, since: i64) -> Result<Doing, AllocError>
-    requires { HasDatedFailure seen.now }
-    ensures { IfOk result (λ d. (desk : Desk) → IsDoingBy Stage.Fresh (act role seen.now since desk) (call_after role seen.now since) d) }
+/// What a pass does first whose act is this: what issues begins with the live read of its Certificate.
+fn first_doing(does: Act) -> Result<Doing, AllocError>
+    ensures { IfOk result (λ d. (after : OrderValue → ValueGiven → OptionValue CallValue) → IsDoingBy Stage.Fresh does after d) }
 {
-    match act_of(alloc, role, seen, since)? {
-        None => Ok(Doing::End(Cause::Nothing)),
-        Some(call) => Ok(Doing::Call(call)),
+    match does {
+        Act::Nothing => Ok(Doing::End(Cause::Nothing)),
+        Act::Call(call) => Ok(Doing::Call(call)),
+        Act::Ask(order) => Ok(Doing::Ask(order)),
+        Act::Issue(plan) => Ok(Doing::Call(Call::Get {
+            key: plan.get.copy()?,
+        })),
+        Act::Temporary(plan) => Ok(Doing::Call(Call::Get {
+            key: plan.get.copy()?,
+        })),
     }
 }
 
-fn doing_of(alloc: Global, pass: &OpenPass) -> Result<Doing, AllocError>
-    requires dated { HasDatedFailure pass.now.seen }
-    requires served { IsServed pass.now.stage }
-    ensures { IfOk result (λ d. (desk : Desk) → IsDoingBy pass.now.stage (act pass.now.role pass.now.seen pass.now.since desk) (call_after pass.now.role pass.now.seen pass.now.since) d) }
+/// The Secret of a plan, which is written behind the live read.
+fn secret_doing(does: Act) -> Result<Doing, AllocError>
+    requires { HasSecret does }
+    ensures { IfOk result (λ d. (after : OrderValue → ValueGiven → OptionValue CallValue) → IsDoingBy Stage.Read does after d) }
+{
+    match does {
+        Act::Issue(plan) => Ok(Doing::Call(plan.secret.copy()?)),
+        Act::Temporary(plan) => Ok(Doing::Call(plan.secret.copy()?)),
+        _ => unreachable!(),
+    }
+}
+
+/// The status of a plan, which is written behind its Secret.
+fn status_doing(does: Act) -> Result<Doing, AllocError>
+    requires { HasStatus does }
+    ensures { IfOk result (λ d. (after : OrderValue → ValueGiven → OptionValue CallValue) → IsDoingBy Stage.Saved does after d) }
+{
+    match does {
+        Act::Issue(plan) => Ok(Doing::Call(plan.status.copy()?)),
+        _ => unreachable!(),
+    }
+}
+
+/// What comes next of the pass, where its role decides by this desk.
+fn doing_of(alloc: Global, pass: &OpenPass, desk: &Desk) -> Result<Doing, AllocError>
+    requires acts { MayAct pass.now.seen pass.now.since desk.now }
+    requires goes { HasNext pass.now.stage (act pass.now.role pass.now.seen pass.now.since desk.now) (call_after pass.now.role pass.now.seen pass.now.since) }
+    ensures { IfOk result (λ d. IsDoingBy pass.now.stage (act pass.now.role pass.now.seen pass.now.since desk.now) (call_after pass.now.role pass.now.seen pass.now.since) d) }
 {
     match &pass.stage {
-        Stage::Fresh => first_doing(alloc, pass.role, &pass.seen, pass.since),
+        Stage::Fresh => first_doing(act_of(alloc, pass.role, &pass.seen, pass.since, desk)?),
+        Stage::Given { order, value } => Ok(Doing::Call(follow_of(
+            alloc, pass.role, &pass.seen, pass.since, order, value,
+        )?)),
+        Stage::Read => secret_doing(act_of(alloc, pass.role, &pass.seen, pass.since, desk)?),
+        Stage::Saved => status_doing(act_of(alloc, pass.role, &pass.seen, pass.since, desk)?),
         Stage::Wrote => Ok(Doing::End(Cause::Wrote)),
         Stage::Refused { entry, .. } => Ok(Doing::End(Cause::Stopper(*entry))),
         _ => unreachable!(),
+    }
+}
+
+/// What a move is answered that has the pass do this.
+fn answer_of(pass: u64, doing: &Doing) -> Result<Stepped, AllocError>
+    ensures { IfOk result (λ a. a ≡ next_answer pass (asked_in doing.now)) }
+{
+    match doing {
+        Doing::Ask(order) => Ok(Stepped::Order {
+            pass,
+            order: order.copy()?,
+        }),
+        Doing::Call(_) | Doing::End(_) => Ok(Stepped::Done),
+    }
+}
+
+/// What comes next of a pass has many shapes, and to let go of it is one thing for all of them.
+fn let_go<T: Drop>(value: T) {
+    let _value = value;
+}
+
+/// The entry of a value that a pass is given.
+fn value_entry_of(pass: u64, value: &Value) -> Result<Entry, AllocError>
+    ensures { IfOk result (λ e. e ≡ value_entry pass value.now) }
+{
+    match value {
+        Value::Made(key) => Ok(Entry::Made {
+            pass,
+            key: key.copy()?,
+        }),
+        Value::Signed(signature) => Ok(Entry::Signed {
+            pass,
+            signature: signature.copy()?,
+        }),
+        Value::Answered(answer) => Ok(Entry::Answered {
+            pass,
+            answer: answer.copy()?,
+        }),
+        Value::Judged(approved) => Ok(Entry::Judged {
+            pass,
+            yes: *approved,
+        }),
     }
 }
 
@@ -145,23 +236,124 @@ impl World {
         }
     }
 
-    pub(crate) fn judge_next(&self, pass: u64, named: u64) -> Stepped
-        ensures { AnswersNext (setting_of self.now.scenario) self.now.history pass named result }
+    /// What the pass, which waits for no value, does next.
+    fn doing(&self, alloc: Global, pass: u64, current: &OpenPass) -> Result<Doing, AllocError>
+        requires opened { spec.open_pass (setting_of self.now.scenario) self.now.history pass ≡ Some current.now }
+        requires free { kept_of (Some current.now) ≡ None }
+        ensures { IfOk result (λ d. IsDoingBy current.now.stage (act current.now.role current.now.seen current.now.since (desk_at (setting_of self.now.scenario) self.now.history current.now.role current.now.seen)) (call_after current.now.role current.now.seen current.now.since) d) }
     {
-        let old = self.outdated_origin(self.origins.get(pass), named);
-        let is_open = self.passes.get(pass).is_some();
-        let entries = self.history.len();
-        let room = has_room(entries, self.scenario.events(), 1);
-        answer_next(old, is_open, pass, entries, room)
+        let asked = self.questions.asked_for(current.role, &current.seen)?;
+        if asked == 0 {
+            return doing_of(alloc, current, &self.desk);
+        }
+        let desk = Desk {
+            material: self.desk.material.copy()?,
+            asked,
+            rules: self.desk.rules.copy()?,
+        };
+        doing_of(alloc, current, &desk)
     }
 
-    fn doing(&self, alloc: Global, pass: u64) -> Result<Doing, AllocError>
-        requires { IsOpen (spec.open_pass (setting_of self.now.scenario) self.now.history pass) }
-        ensures { IfOk result (λ d. IsDoing (setting_of self.now.scenario) self.now.history pass d) }
+    /// What the next move of the pass, which waits for no value, comes to.
+    fn judge_doing(
+        &self,
+        alloc: Global,
+        pass: u64,
+        current: &OpenPass,
+    ) -> Result<Judged, AllocError>
+        requires opened { spec.open_pass (setting_of self.now.scenario) self.now.history pass ≡ Some current.now }
+        requires free { kept_of (Some current.now) ≡ None }
+        ensures { IfOk result (λ j. IsGoingOn (setting_of self.now.scenario) self.now.history pass j) }
     {
+        let doing = self.doing(alloc, pass, current)?;
+        let entries = self.history.len();
+        if !has_room(entries, self.scenario.events(), 1) {
+            return Ok(Judged::Answer(Stepped::Spent { entries }));
+        }
+        Ok(Judged::Does(doing))
+    }
+
+    /// What the next move of the open pass comes to.
+    fn judge_open(&self, alloc: Global, pass: u64, current: &OpenPass) -> Result<Judged, AllocError>
+        requires { spec.open_pass (setting_of self.now.scenario) self.now.history pass ≡ Some current.now }
+        ensures { IfOk result (λ j. IsGoingOn (setting_of self.now.scenario) self.now.history pass j) }
+    {
+        match &current.stage {
+            Stage::Asked { order } => Ok(Judged::Answer(Stepped::Order {
+                pass,
+                order: order.copy()?,
+            })),
+            _ => self.judge_doing(alloc, pass, current),
+        }
+    }
+
+    /// What the next move of the pass of this number comes to.
+    fn judge_next(&self, alloc: Global, pass: u64, named: u64) -> Result<Judged, AllocError>
+        ensures { IfOk result (λ j. IsJudged (setting_of self.now.scenario) self.now.history pass named j) }
+    {
+        if let Some(incarnation) = self.outdated_origin(self.origins.get(pass), named) {
+            return Ok(Judged::Answer(Stepped::Ended { incarnation }));
+        }
         match self.passes.get(pass) {
-            Some(open) => doing_of(alloc, open),
-            None => unreachable!(),
+            Some(open) => self.judge_open(alloc, pass, open),
+            None => Ok(Judged::Answer(Stepped::NotNow(Lack::NoPass { pass }))),
+        }
+    }
+
+    /// What the pass of this number is answered as it goes on.
+    pub(crate) fn answer_next(
+        &self,
+        alloc: Global,
+        pass: u64,
+        named: u64,
+    ) -> Result<Stepped, AllocError>
+        ensures { IfOk result (λ a. AnswersNext (setting_of self.now.scenario) self.now.history pass named a) }
+    {
+        match self.judge_next(alloc, pass, named)? {
+            Judged::Answer(answer) => Ok(answer),
+            Judged::Does(doing) => {
+                let answer = answer_of(pass, &doing);
+                let_go(doing);
+                answer
+            }
+        }
+    }
+
+    /// What a value for the question of the open pass is answered.
+    fn judge_value(&self, current: &OpenPass, given: &Given) -> Result<Stepped, AllocError>
+        ensures { IfOk result (λ a. AnswersGiven (setting_of self.now.scenario) self.now.history (kept_of (Some current.now)) (order_of given.now) a) }
+    {
+        let Stage::Asked { order } = &current.stage else {
+            return Ok(Stepped::NotNow(Lack::NotAsked));
+        };
+        if !given.is_for(order) {
+            return Ok(Stepped::NotMine {
+                kept: order.copy()?,
+                given: given.order()?,
+            });
+        }
+        let entries = self.history.len();
+        if !has_room(entries, self.scenario.events(), 1) {
+            return Ok(Stepped::Spent { entries });
+        }
+        Ok(Stepped::Done)
+    }
+
+    /// What the pass of this number is answered where it is given this.
+    pub(crate) fn judge_give(
+        &self,
+        pass: u64,
+        named: u64,
+        given: &Given,
+    ) -> Result<Stepped, AllocError>
+        ensures { IfOk result (λ a. AnswersGive (setting_of self.now.scenario) self.now.history pass named given.now a) }
+    {
+        if let Some(incarnation) = self.outdated_origin(self.origins.get(pass), named) {
+            return Ok(Stepped::Ended { incarnation });
+        }
+        match self.passes.get(pass) {
+            Some(open) => self.judge_value(open, given),
+            None => Ok(Stepped::NotNow(Lack::NoPass { pass })),
         }
     }
 
@@ -256,17 +448,66 @@ impl World {
         Ok(())
     }
 
-    /// Lets an open pass make its call, or end.
-    fn go_on(&mut self, alloc: Global, pass: u64) -> Result<(), AllocError>
-        requires may { IsOpen (spec.open_pass (setting_of self.old.scenario) self.old.history pass) }
+    /// Has an open pass ask its question.
+    fn ask(&mut self, pass: u64, order: Order) -> Result<(), AllocError>
+        requires stands { IsOpen (spec.open_pass (setting_of self.old.scenario) self.old.history pass) }
+        requires may { MayAsk (setting_of self.old.scenario) self.old.history (spec.open_pass (setting_of self.old.scenario) self.old.history pass) order }
         requires room { length self.old.history < self.old.scenario.events }
-        ensures ok { OnOk result (GoesOn pass self.old self.new) }
+        ensures ok { OnOk result (self.new ≡ record { scenario = self.old.scenario; history = Entry.Ask pass order ∷ self.old.history }) }
         ensures err { OnErr result (self.new ≡ self.old) }
     {
-        match self.doing(alloc, pass)? {
+        self.is_short();
+        self.history.reserve(1)?;
+        let kept = order.copy()?;
+        self.questions.note(&order)?;
+        self.passes.advance(pass, Stage::Asked { order: kept });
+        self.history.push(Entry::Ask { pass, order });
+        Ok(())
+    }
+
+    /// Gives an open pass the value of its question.
+    fn take(&mut self, pass: u64, given: Given) -> Result<(), AllocError>
+        requires kept { kept_of (spec.open_pass (setting_of self.old.scenario) self.old.history pass) ≡ Some (order_of given) }
+        requires room { length self.old.history < self.old.scenario.events }
+        ensures ok { OnOk result (self.new ≡ record { scenario = self.old.scenario; history = value_entry pass (value_of given) ∷ self.old.history }) }
+        ensures err { OnErr result (self.new ≡ self.old) }
+    {
+        self.history.reserve(1)?;
+        let order = given.order()?;
+        let value = given.into_value();
+        let entry = value_entry_of(pass, &value)?;
+        self.passes.advance(pass, Stage::Given { order, value });
+        self.history.push(entry);
+        Ok(())
+    }
+
+    /// Has an open pass do what comes next of it.
+    fn go_on(&mut self, alloc: Global, pass: u64, doing: Doing) -> Result<(), AllocError>
+        requires stands { IsOpen (spec.open_pass (setting_of self.old.scenario) self.old.history pass) }
+        requires does { IsDoing (setting_of self.old.scenario) self.old.history pass doing }
+        requires room { length self.old.history < self.old.scenario.events }
+        ensures ok { OnOk result (GoesOn pass doing self.old self.new) }
+        ensures err { OnErr result (self.new ≡ self.old) }
+    {
+        match doing {
             Doing::Call(call) => self.call(alloc, pass, call),
+            Doing::Ask(order) => self.ask(pass, order),
             Doing::End(cause) => self.end(pass, cause),
         }
+    }
+
+    /// Has an open pass do what comes next of it, and answers the move.
+    fn make_next(&mut self, alloc: Global, pass: u64, doing: Doing) -> Result<Stepped, AllocError>
+        requires stands { IsOpen (spec.open_pass (setting_of self.old.scenario) self.old.history pass) }
+        requires goes { IsGoing (setting_of self.old.scenario) self.old.history pass doing }
+        ensures answer { IfOk result (λ r. r ≡ next_answer pass (asked_in doing)) }
+        ensures scenario { self.new.scenario ≡ self.old.scenario }
+        ensures leaves { IfOk result (λ r. (named : ℕ) → Leaves (setting_of self.old.scenario) self.old.history (moves.Next pass named) r self.new.history) }
+        ensures err { OnErr result (self.new ≡ self.old) }
+    {
+        let answer = answer_of(pass, &doing)?;
+        self.go_on(alloc, pass, doing)?;
+        Ok(answer)
     }
 
     pub(crate) fn step_next(
@@ -280,11 +521,28 @@ impl World {
         ensures leaves { IfOk result (λ r. Leaves (setting_of self.old.scenario) self.old.history (moves.Next pass named) r self.new.history) }
         ensures err { OnErr result (self.new ≡ self.old) }
     {
-        let answer = self.judge_next(pass, named);
+        match self.judge_next(alloc, pass, named)? {
+            Judged::Answer(answer) => Ok(answer),
+            Judged::Does(doing) => self.make_next(alloc, pass, doing),
+        }
+    }
+
+    pub(crate) fn step_give(
+        &mut self,
+        pass: u64,
+        named: u64,
+        given: Given,
+    ) -> Result<Stepped, AllocError>
+        ensures answer { IfOk result (λ r. AnswersGive (setting_of self.old.scenario) self.old.history pass named given r) }
+        ensures scenario { self.new.scenario ≡ self.old.scenario }
+        ensures leaves { IfOk result (λ r. Leaves (setting_of self.old.scenario) self.old.history (moves.Give pass named given) r self.new.history) }
+        ensures err { OnErr result (self.new ≡ self.old) }
+    {
+        let answer = self.judge_give(pass, named, &given)?;
         if !answer.is_done() {
             return Ok(answer);
         }
-        self.go_on(alloc, pass)?;
+        self.take(pass, given)?;
         Ok(Stepped::Done)
     }
 }

@@ -1,7 +1,7 @@
 //! The world: the store, the history of what was done on it, and the controllers that work on it.
 //!
 //! One call of [`World::step`] makes one move. Whatever the moves, the history stays legal, caused and
-//! following its script, and each accepted write of a controller keeps its rights.
+//! following its script, each accepted write of a controller keeps its rights, and the history is safe.
 #![tactic(auto)]
 
 mod acts;

@@ -1,10 +1,11 @@
 //! Moves, and what a step answers.
 ghost use Rattle.std.specs.Prelude.{◌≡◌};
-ghost use Rattle.cmc_world.specs.Tables.{delivery_answer, begin_answer, next_answer, script_answer};
+ghost use Rattle.cmc_world.specs.Tables.{delivery_answer, begin_answer, script_answer};
 ghost use Rattle.cmc_world.specs.Answers as answers;
 
 use cmc_meta::{Key, Kind};
-use cmc_objects::Role;
+use cmc_objects::{Order, Role};
+use cmc_pass::Given;
 
 /// What may happen next.
 #[derive(Drop)]
@@ -12,12 +13,28 @@ pub enum Move {
     /// The next step of the script is made, with what it has happen.
     Script,
     /// A role is told of the accepted writes of a kind up to this version.
-    Deliver { role: Role, kind: Kind, to: u64 },
+    Deliver {
+        role: Role,
+        kind: Kind,
+        to: u64,
+    },
     /// A role begins a pass on a key.
-    Begin { role: Role, key: Key },
-    /// The pass of this number, begun while its role had this incarnation, goes on: it makes its call
-    /// or ends.
-    Next { pass: u64, incarnation: u64 },
+    Begin {
+        role: Role,
+        key: Key,
+    },
+    /// The pass of this number, begun while its role had this incarnation, goes on: it asks its question,
+    /// makes its call or ends.
+    Next {
+        pass: u64,
+        incarnation: u64,
+    },
+    /// The pass of this number, begun while its role had this incarnation, is given the value of its question.
+    Give {
+        pass: u64,
+        incarnation: u64,
+        given: Given,
+    },
 }
 
 /// Why a move is not possible now.
@@ -47,33 +64,35 @@ pub enum Lack {
     OwnWrite { version: u64 },
     /// No pass of this number is open.
     NoPass { pass: u64 },
+    /// The pass waits for no value: it has not asked, or was given one.
+    NotAsked,
 }
 
 /// What a step answers.
-#[derive(Clone, Copy)]
+#[derive(Drop)]
 pub enum Stepped {
     /// The move was made: the history has its one or two entries more.
     Done,
+    /// The pass asks this question, and waits for its value. The history has the question once: the first such
+    /// answer of a pass adds its entry.
+    Order { pass: u64, order: Order },
     /// The move is not possible now; all is as it was.
     NotNow(Lack),
     /// The pass has this number, and it or the move is not of the role's present incarnation, which is
     /// this one; all is as it was.
     Ended { incarnation: u64 },
+    /// The pass waits for the value of another question than the one that is answered; all is as it was.
+    NotMine { kept: Order, given: Order },
     /// The entries of the move do not fit in the history, which has this many; all is as it was.
     Spent { entries: u64 },
 }
 
 impl Stepped {
     /// Whether the move was made.
-    pub fn is_done(self) -> bool
-        ensures { result ≡ answers.is_done self }
+    pub fn is_done(&self) -> bool
+        ensures { result ≡ answers.is_done self.now }
     {
-        match self {
-            Stepped::Done => true,
-            Stepped::NotNow(_) => false,
-            Stepped::Ended { .. } => false,
-            Stepped::Spent { .. } => false,
-        }
+        matches!(self, Stepped::Done)
     }
 }
 
@@ -136,27 +155,6 @@ pub(crate) fn answer_begin(
     }
     if !queued {
         return Stepped::NotNow(Lack::NotQueued);
-    }
-    if !room {
-        return Stepped::Spent { entries };
-    }
-    Stepped::Done
-}
-
-pub(crate) fn answer_next(
-    outdated: Option<u64>,
-    is_open: bool,
-    pass: u64,
-    entries: u64,
-    room: bool,
-) -> Stepped
-    ensures { result ≡ next_answer outdated is_open pass entries room }
-{
-    if let Some(incarnation) = outdated {
-        return Stepped::Ended { incarnation };
-    }
-    if !is_open {
-        return Stepped::NotNow(Lack::NoPass { pass });
     }
     if !room {
         return Stepped::Spent { entries };

@@ -37,7 +37,12 @@ impl World {
             Move::Script => self.judge_script(alloc),
             Move::Deliver { role, kind, to } => Ok(self.judge_delivery(*role, *kind, *to)),
             Move::Begin { role, key } => self.judge_begin(alloc, *role, key),
-            Move::Next { pass, incarnation } => Ok(self.judge_next(*pass, *incarnation)),
+            Move::Next { pass, incarnation } => self.answer_next(alloc, *pass, *incarnation),
+            Move::Give {
+                pass,
+                incarnation,
+                given,
+            } => self.judge_give(*pass, *incarnation, given),
         }
     }
 

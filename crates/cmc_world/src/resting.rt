@@ -4,17 +4,17 @@ ghost use Rattle.std.specs.Prelude.{◌≡◌, ◌↔◌, ◌⊎◌, ◌+◌, �
 ghost use Rattle.cmc_objects.specs.declared.entry.Entry.{Entry};
 ghost use Rattle.cmc_model.specs.declared.write.Write.{Write as WriteValue};
 ghost use Rattle.cmc_pass.specs.declared.pass.Act.TheVariants.{Nothing};
-ghost use Rattle.cmc_pass.specs.declared.pass.Desk.{Desk as DeskValue};
 ghost use Rattle.cmc_rules.specs.Acts as acts;
 ghost use Rattle.cmc_rules.specs.Following as following;
 ghost use Rattle.cmc_rules.specs.UserWrites as writes_of;
-ghost use Rattle.cmc_model.specs.Histories.{Setting, runs};
+ghost use Rattle.cmc_model.specs.Histories.{Setting, moment, runs};
 ghost use Rattle.cmc_rules.specs.Passes.{open_pass};
 ghost use Rattle.cmc_rules.specs.Sameness.{IsDue};
 ghost use Rattle.cmc_rules.specs.Resting as spec;
 ghost use Rattle.cmc_rules.specs.Runs.{IsFinished};
 ghost use Rattle.cmc_rules.specs.Scripting as scripting;
-ghost use Rattle.cmc_rules.specs.Dates.{HasDatedFailure};
+ghost use Rattle.cmc_rules.specs.Desks.{desk as desk_at};
+ghost use Rattle.cmc_safety.specs.Acting.{MayAct};
 ghost use Rattle.cmc_rules.specs.Viewing.{views};
 ghost use Rattle.cmc_model.specs.Writes.{writes};
 ghost use Rattle.cmc_held.specs.Remembered.{past_or_new};
@@ -32,19 +32,25 @@ use cmc_held::{
 use cmc_meta::{Key, Kind};
 use cmc_model::Write;
 use cmc_objects::{Object, Positions, Role, Step};
-use cmc_pass::Views;
+use cmc_pass::{Act, Desk, Views};
 use cmc_rules::Past;
 use cmc_store::Store;
 use std::alloc::{AllocError, Global};
 
-/// Whether the role has nothing to do where it sees this.
-fn has_nothing(alloc: Global, role: Role, seen: &Views, now: i64) -> Result<bool, AllocError>
-    requires { HasDatedFailure seen.now }
-    ensures { IfOk result (λ b. (desk : DeskValue) → (IsTrue b ↔ (acts.act role seen.now now desk ≡ Nothing))) }
+/// Whether the role has nothing to do where it sees this and decides by this desk.
+fn has_nothing(
+    alloc: Global,
+    role: Role,
+    seen: &Views,
+    now: i64,
+    desk: &Desk,
+) -> Result<bool, AllocError>
+    requires { MayAct seen.now now desk.now }
+    ensures { IfOk result (λ b. IsTrue b ↔ (acts.act role seen.now now desk.now ≡ Nothing)) }
 {
-    match act_of(alloc, role, seen, now)? {
-        None => Ok(true),
-        Some(_) => Ok(false),
+    match act_of(alloc, role, seen, now, desk)? {
+        Act::Nothing => Ok(true),
+        _ => Ok(false),
     }
 }
 
@@ -63,24 +69,6 @@ pub(crate) fn is_due(past: Option<&Past>, seen: &Views, now: i64, at: Positions)
         Some(past) => is_due_after(past, seen, now, at),
         None => true,
     }
-}
-
-/// Whether the role has nothing to do where it sees this, or may not begin.
-fn is_paused(
-    alloc: Global,
-    role: Role,
-    past: Option<&Past>,
-    seen: &Views,
-    now: i64,
-    at: Positions,
-) -> Result<bool, AllocError>
-    requires { HasDatedFailure seen.now }
-    ensures { IfOk result (λ b. (desk : DeskValue) → (IsTrue b ↔ ((acts.act role seen.now now desk ≡ Nothing) ⊎ (IsDue (past_or_new (option_copied past.entry)) seen.now now at → ⊥)))) }
-{
-    if !is_due(past, seen, now, at) {
-        return Ok(true);
-    }
-    has_nothing(alloc, role, seen, now)
 }
 
 /// Whether an informer of a role that stands so is held.
@@ -169,10 +157,10 @@ impl World {
     ///
     /// Want of memory alone.
     pub fn is_idle(&self, alloc: Global, role: Role, seen: &Views) -> Result<bool, AllocError>
-        requires { HasDatedFailure seen.now }
+        requires { MayAct seen.now (moment (setting_of self.now.scenario) self.now.history) (desk_at (setting_of self.now.scenario) self.now.history role seen.now) }
         ensures { IfOk result (λ b. IsTrue b ↔ spec.IsIdle (setting_of self.now.scenario) self.now.history role seen.now) }
     {
-        has_nothing(alloc, role, seen, self.moment)
+        has_nothing(alloc, role, seen, self.moment, &self.desk)
     }
 
     /// Whether the role, which sees this of the key, has nothing to do there, or may not begin.
@@ -186,15 +174,11 @@ impl World {
         requires { seen.now ≡ views (setting_of self.now.scenario) self.now.history role key.now }
         ensures { IfOk result (λ b. IsTrue b ↔ spec.IsPaused (setting_of self.now.scenario) self.now.history role key.now) }
     {
-        let at = shown_positions(role, self.standings.get(role).told);
-        is_paused(
-            alloc,
-            role,
-            self.pasts.get(role, key),
-            seen,
-            self.moment,
-            at,
-        )
+        if !self.is_due(role, key, seen) {
+            return Ok(true);
+        }
+        self.can_act();
+        self.is_idle(alloc, role, seen)
     }
 
     /// Whether an informer of the role is held.
@@ -218,7 +202,7 @@ impl World {
             return self.is_paused_on(alloc, role, key, &seen);
         }
         self.is_run();
-        self.keeps_years();
+        self.can_act();
         self.is_idle(alloc, role, &seen)
     }
 

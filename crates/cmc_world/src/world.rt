@@ -7,16 +7,24 @@ ghost use Rattle.cmc_rules.specs.Rights.{KeepsRights};
 ghost use Rattle.cmc_rules.specs.Runs.{IsRun};
 ghost use Rattle.cmc_model.specs.Histories.{Setting};
 ghost use Rattle.cmc_world.specs.Answers.{Answers, Leaves};
-ghost use Rattle.cmc_world.specs.Kept.{KeepsYears, setting_of};
+ghost use Rattle.cmc_meta.specs.declared.key.Key.{Key as KeyValue};
+ghost use Rattle.cmc_objects.specs.declared.role.Role.{Role as RoleValue};
+ghost use Rattle.cmc_rules.specs.Desks.{desk as desk_at};
+ghost use Rattle.cmc_rules.specs.Safety.{IsSafe};
+ghost use Rattle.cmc_rules.specs.Viewing.{views};
+ghost use Rattle.cmc_safety.specs.Acting.{MayAct, IsNeverInvalid};
+ghost use Rattle.cmc_safety.specs.Formed.{IsFormed};
+ghost use Rattle.cmc_world.specs.Kept.{setting_of};
 ghost use Rattle.cmc_world.specs.Leading.{Lead, Extends};
 ghost use Rattle.cmc_world.specs.declared.moves.Move.{Move as MoveValue};
 
 use crate::moves::{Move, Stepped};
 use cmc_caches::Caches;
-use cmc_held::{Log, Origins, Passes, Pasts, Standings};
+use cmc_held::{Log, Origins, Passes, Pasts, Questions, Standings};
 use cmc_history::History;
 use cmc_meta::{Key, Numbers};
 use cmc_objects::{Object, Role};
+use cmc_pass::Desk;
 use cmc_setup::Scenario;
 use cmc_store::Store;
 use std::alloc::{AllocError, Global};
@@ -38,11 +46,14 @@ pub struct World {
     pub(crate) origins: Origins,
     pub(crate) passes: Passes,
     pub(crate) pasts: Pasts,
+    pub(crate) questions: Questions,
+    pub(crate) desk: Desk,
 }
 
 impl Model for World {
     ghost use Rattle.cmc_caches.specs.Told.{caches_of};
     ghost use Rattle.cmc_held.specs.Open.{pass_at};
+    ghost use Rattle.cmc_held.specs.Questioned.{count_at};
     ghost use Rattle.cmc_held.specs.Remembered.{past_at};
     ghost use Rattle.cmc_held.specs.Standing.{standing_of};
     ghost use Rattle.cmc_world.specs.Kept.{setting_of, Seen, IsKept};
@@ -51,7 +62,7 @@ impl Model for World {
 
     ghost view = { λ w. record { scenario = w.scenario; history = w.history.entries } };
 
-    ghost invariant = { λ w. IsKept (setting_of w.scenario) w.history.entries (record { faults = w.store.faults; state = w.store.state; log = w.log.writes; moment = w.moment; made = w.made; standing = λ role. standing_of w.standings role; caches = λ role. caches_of w.caches role; origins = w.origins.origins; opened = λ n. pass_at w.passes n; past = λ role key. past_at w.pasts role key }) };
+    ghost invariant = { λ w. IsKept (setting_of w.scenario) w.history.entries (record { faults = w.store.faults; state = w.store.state; log = w.log.writes; moment = w.moment; made = w.made; standing = λ role. standing_of w.standings role; caches = λ role. caches_of w.caches role; origins = w.origins.origins; opened = λ n. pass_at w.passes n; past = λ role key. past_at w.pasts role key; keys_asked = count_at w.questions.keys; answers_asked = count_at w.questions.answers; desk = w.desk }) };
 }
 
 impl Drop for World {
@@ -68,6 +79,8 @@ impl Drop for World {
             origins: _origins,
             passes: _passes,
             pasts: _pasts,
+            questions: _questions,
+            desk: _desk,
         } = self;
     }
 }
@@ -107,6 +120,13 @@ impl World {
         let pasts = Pasts::new(alloc)?;
         let caches = Caches::new(alloc)?;
         let moment = scenario.now();
+        let material = scenario.material().copy()?;
+        let rules = scenario.approver().copy()?;
+        let desk = Desk {
+            material,
+            asked: 0,
+            rules,
+        };
         let _events = scenario.events();
         Ok(World {
             scenario,
@@ -120,6 +140,8 @@ impl World {
             origins: Origins::new(alloc),
             passes: Passes::new(alloc),
             pasts,
+            questions: Questions::new(alloc),
+            desk,
         })
     }
 
@@ -161,20 +183,34 @@ impl World {
     }
 
     /// A law: whatever moves led to this world, its history is legal, caused, and follows the script with
-    /// at most as many entries as the scenario allows, and each accepted write of a pass changes only what
-    /// its role may change.
+    /// at most as many entries as the scenario allows; each accepted write of a pass changes only what its role may
+    /// change; the history is safe, so that each Secret that issuing wrote is a good issue, no issuer was asked about a
+    /// request that was not approved, and revisions rose by one behind their Secret alone; and no rule refused a call
+    /// of a pass.
     pub fn is_run(&self)
         ensures run { IsRun (setting_of self.now.scenario) self.now.history }
         ensures rights { KeepsRights (setting_of self.now.scenario) self.now.history }
+        ensures safe { IsSafe (setting_of self.now.scenario) self.now.history }
+        ensures valid { IsNeverInvalid self.now.history }
     {
         let _entries = self.history.len();
     }
 
-    /// A law: from the scenario's beginning on, every moment that its ticks can come to lies in the years 1950 to 9999.
-    pub fn keeps_years(&self)
-        ensures { KeepsYears (setting_of self.now.scenario) }
+    /// A law: the setting of the run is one that a scenario has, so that all moments that its ticks can come to lie in the
+    /// time of a run, and the objects that users apply have their form.
+    pub fn is_formed(&self)
+        ensures { IsFormed (setting_of self.now.scenario) }
     {
         let _entries = self.history.len();
+    }
+
+    /// A law: what a role sees of a key, and what it would see if it was told of all, meets all that its controller takes
+    /// for granted.
+    pub fn can_act(&self)
+        ensures { (role : RoleValue) → (key : KeyValue) → MayAct (views (setting_of self.now.scenario) self.now.history role key) (spec.moment (setting_of self.now.scenario) self.now.history) (desk_at (setting_of self.now.scenario) self.now.history role (views (setting_of self.now.scenario) self.now.history role key)) }
+    {
+        self.is_run();
+        self.is_formed();
     }
 
     fn make(&mut self, alloc: Global, step: Move) -> Result<Stepped, AllocError>
@@ -188,6 +224,11 @@ impl World {
             Move::Deliver { role, kind, to } => self.step_deliver(alloc, role, kind, to),
             Move::Begin { role, key } => self.step_begin(alloc, role, key),
             Move::Next { pass, incarnation } => self.step_next(alloc, pass, incarnation),
+            Move::Give {
+                pass,
+                incarnation,
+                given,
+            } => self.step_give(pass, incarnation, given),
         }
     }
 
@@ -196,7 +237,8 @@ impl World {
     ///
     /// A move that is made adds one or two entries to the history, those of its kind (`Grows`): a step of the
     /// script its own and that of what it has happen, a delivery that of the delivery or of a list, a begin its
-    /// own, and a pass that goes on its call or its end. Any other answer leaves the world as it was.
+    /// own, a pass that goes on its call or its end, and a value that is given its own. A question that is told
+    /// for the first time adds its entry (`LeavesAsked`). Any other answer leaves the world as it was.
     ///
     /// # Errors
     ///
@@ -207,6 +249,7 @@ impl World {
         ensures scenario { self.new.scenario ≡ self.old.scenario }
         ensures run { IsRun (setting_of self.new.scenario) self.new.history }
         ensures rights { KeepsRights (setting_of self.new.scenario) self.new.history }
+        ensures safe { IsSafe (setting_of self.new.scenario) self.new.history }
         ensures err { OnErr result (self.new ≡ self.old) }
     {
         self.is_run();
@@ -217,9 +260,10 @@ impl World {
 }
 
 /// A law: whatever list of moves is made, one after another, on a new world, the history that they lead to is
-/// legal, caused, and follows the script, and keeps the rights of the roles; and no move changes what stood in
-/// the history before. What each move is answered, and what it leaves, is all that is asked.
+/// legal, caused, and follows the script, keeps the rights of the roles, and is safe; and no move changes what
+/// stood in the history before. What each move is answered, and what it leaves, is all that is asked, and that the
+/// setting is one that a scenario has.
 pub fn every_list_of_moves()
-    ensures keeps { (s : Setting) (moves : List MoveValue) (h : List Entry) → Lead s moves [] h → IsRun s h × KeepsRights s h }
+    ensures keeps { (s : Setting) (moves : List MoveValue) (h : List Entry) → IsFormed s → Lead s moves [] h → IsRun s h × (KeepsRights s h × IsSafe s h) }
     ensures grows { (s : Setting) (moves : List MoveValue) (h k : List Entry) → Lead s moves h k → Extends h k }
 {}

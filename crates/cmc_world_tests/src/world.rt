@@ -1,13 +1,20 @@
-// What no clause says: that each answer of a step can come, and that passes write, find nothing to do and are
-// refused. Pseudo-random moves are made on a world of several Certificates and Secrets, with lag, stops and starts.
+// What no clause says: that each answer of a step can come, and that passes ask, issue, find nothing to do and are
+// refused. Pseudo-random moves of all eight roles, mixed with plain ones, are made on a world of several
+// Certificates and Secrets, with lag, stops, starts, holds, faults, and values that answer another question.
+use cmc_answers::{ScriptedSigner, Signer, judge};
 use cmc_history::History;
+use cmc_keys::{KeyMaker, ScriptedKeys, is_allowed_size};
+use cmc_match::pair_in;
 use cmc_meta::{Bytes, Conditions, Key, Kind, Numbers, Texts};
 use cmc_objects::{
-    Cause, CertStatus, Certificate, Entry, Material, Object, Parts, Role, Rules, Secret, Step,
+    Call, Cause, CertStatus, Certificate, Entry, Material, Object, Order, Parts, Reply, Role,
+    Rules, Secret, Step, Who,
 };
+use cmc_pass::Given;
+use cmc_plain::plain;
 use cmc_policy_rules::Policies;
 use cmc_setup::{Roles, Scenario, Steps, is_setup};
-use cmc_tests::values::{key, least_spec, new_meta, text};
+use cmc_tests::values::{key, least_spec, new_meta, text, texts};
 use cmc_world::{Lack, Move, Stepped, World};
 use std::alloc::Global;
 use std::test::Fail;
@@ -54,45 +61,55 @@ fn delete(alloc: Global, kind: Kind, word: &str) -> Result<Step, Fail> {
     })
 }
 
+fn hold(role: Role, kind: Kind) -> Step {
+    Step::Hold { role, kind }
+}
+
+fn release(role: Role, kind: Kind) -> Step {
+    Step::Release { role, kind }
+}
+
 fn first_steps(alloc: Global, steps: &mut Steps) -> Result<(), Fail> {
     steps.push(Step::Settle)?;
     steps.push(certificate(alloc, "web", "web-tls", "example.com")?)?;
     steps.push(certificate(alloc, "api", "api-tls", "api.example.com")?)?;
     steps.push(Step::Until {
-        role: Role::Trigger,
-        kind: Kind::Certificate,
+        role: Role::Issuing,
+        kind: Kind::Secret,
         writes: 1,
     })?;
     steps.push(Step::Stop {
-        role: Role::Trigger,
+        role: Role::Issuing,
     })?;
     steps.push(secret(alloc, "web-tls")?)?;
     steps.push(Step::Start {
-        role: Role::Trigger,
+        role: Role::Issuing,
         behind: 3,
     })?;
-    steps.push(Step::Hold {
-        role: Role::Trigger,
-        kind: Kind::Secret,
-    })?;
+    steps.push(hold(Role::Trigger, Kind::Secret))?;
     steps.push(certificate(alloc, "web", "web-tls", "www.example.com")?)?;
     steps.push(Step::Tick { seconds: 5 })?;
     Ok(())
 }
 
 fn last_steps(alloc: Global, steps: &mut Steps) -> Result<(), Fail> {
-    steps.push(Step::Release {
-        role: Role::Trigger,
-        kind: Kind::Secret,
-    })?;
+    steps.push(release(Role::Trigger, Kind::Secret))?;
     steps.push(delete(alloc, Kind::Secret, "web-tls")?)?;
+    steps.push(Step::Stop {
+        role: Role::KeyManager,
+    })?;
     steps.push(certificate(alloc, "shop", "shop-tls", "shop.example.com")?)?;
+    steps.push(Step::Start {
+        role: Role::KeyManager,
+        behind: 0,
+    })?;
     steps.push(delete(alloc, Kind::Certificate, "web")?)?;
     steps.push(certificate(alloc, "web", "web-tls", "example.com")?)?;
     Ok(())
 }
 
 fn scenario_of(
+    events: u64,
     roles: Roles,
     faults: Numbers,
     approver: Rules,
@@ -100,7 +117,7 @@ fn scenario_of(
     script: Steps,
 ) -> Result<Scenario, Fail> {
     if is_setup(
-        45,
+        events,
         2,
         1_893_456_000,
         &roles,
@@ -110,7 +127,7 @@ fn scenario_of(
         &script,
     ) {
         return Ok(Scenario::new(
-            45,
+            events,
             2,
             1_893_456_000,
             roles,
@@ -123,21 +140,35 @@ fn scenario_of(
     Err(Fail::from("no scenario"))
 }
 
-fn scenario(alloc: Global) -> Result<Scenario, Fail> {
+/// The eight roles in their order.
+const ROLES: [Role; 8] = [
+    Role::Trigger,
+    Role::KeyManager,
+    Role::RequestManager,
+    Role::Approver,
+    Role::Issuer,
+    Role::Issuing,
+    Role::Readiness,
+    Role::Revision,
+];
+
+fn scenario(alloc: Global, events: u64) -> Result<Scenario, Fail> {
     let mut steps = Steps::new(alloc);
     first_steps(alloc, &mut steps)?;
     last_steps(alloc, &mut steps)?;
     let mut roles = Roles::new(alloc);
-    roles.push(Role::Trigger)?;
-    roles.push(Role::Approver)?;
+    for role in ROLES {
+        roles.push(role)?;
+    }
     let mut faults = Numbers::new(alloc);
     faults.push(4)?;
+    faults.push(31)?;
     let approver = Rules {
-        issuers: Texts::new(alloc),
+        issuers: texts(alloc, "*")?,
         refuse: Texts::new(alloc),
         policies: Policies::new(alloc),
     };
-    scenario_of(roles, faults, approver, Material::new(alloc), steps)
+    scenario_of(events, roles, faults, approver, Material::new(alloc), steps)
 }
 
 /// A number below `bound`, of a linear congruential generator.
@@ -152,10 +183,14 @@ fn pick(random: &mut u64, bound: u64) -> u64 {
 }
 
 fn some_role(random: &mut u64) -> Role {
-    match pick(random, 12) {
+    match pick(random, 9) {
         0 => Role::KeyManager,
-        1 => Role::Approver,
-        2 => Role::Issuing,
+        1 => Role::RequestManager,
+        2 => Role::Approver,
+        3 => Role::Issuer,
+        4 => Role::Issuing,
+        5 => Role::Readiness,
+        6 => Role::Revision,
         _ => Role::Trigger,
     }
 }
@@ -204,15 +239,15 @@ fn some_move(alloc: Global, random: &mut u64, begun: u64) -> Result<Move, Fail> 
 /// Which answers came, in the order of their names below.
 #[derive(Drop)]
 struct Met {
-    answers: [bool; 15],
+    answers: [bool; 18],
 }
 
-const NAMES: [&str; 15] = [
+const NAMES: [&str; 18] = [
     "done", "over", "waits", "stopped", "informer", "held", "current", "write", "queued",
-    "process", "same", "own", "pass", "ended", "spent",
+    "process", "same", "own", "pass", "ended", "spent", "order", "asked", "mine",
 ];
 
-fn note_lack(met: &mut Met, lack: Lack) {
+fn note_lack(met: &mut Met, lack: &Lack) {
     match lack {
         Lack::ScriptOver => met.answers[1] = true,
         Lack::ScriptWaits => met.answers[2] = true,
@@ -226,16 +261,55 @@ fn note_lack(met: &mut Met, lack: Lack) {
         Lack::SameViews => met.answers[10] = true,
         Lack::OwnWrite { .. } => met.answers[11] = true,
         Lack::NoPass { .. } => met.answers[12] = true,
+        Lack::NotAsked => met.answers[16] = true,
     }
 }
 
-fn note(met: &mut Met, answer: Stepped) {
+fn note(met: &mut Met, answer: &Stepped) {
     match answer {
         Stepped::Done => met.answers[0] = true,
+        Stepped::Order { .. } => met.answers[15] = true,
         Stepped::NotNow(lack) => note_lack(met, lack),
         Stepped::Ended { .. } => met.answers[13] = true,
+        Stepped::NotMine { .. } => met.answers[17] = true,
         Stepped::Spent { .. } => met.answers[14] = true,
     }
+}
+
+/// The value of the question, as the scenario's own maker and signer have it.
+fn value_of(alloc: Global, order: &Order) -> Result<Given, Fail> {
+    match order {
+        Order::Key(asked) => {
+            if is_allowed_size(asked.algorithm, asked.size) {
+                return Ok(Given::Made(ScriptedKeys.make(alloc, asked)?));
+            }
+            Err(Fail::from("no size"))
+        }
+        Order::Csr(asked) => Ok(Given::Signed(ScriptedKeys.sign(alloc, asked)?)),
+        Order::Sign(asked) => Ok(Given::Answered(ScriptedSigner.sign(alloc, asked)?)),
+        Order::Judge(asked) => Ok(Given::Judged(judge(alloc, asked.copy()?)?)),
+    }
+}
+
+/// The value of the question that was told last, given to the pass that asked it, or to another one.
+fn some_gift(
+    alloc: Global,
+    random: &mut u64,
+    pass: u64,
+    begun: u64,
+    order: &Order,
+) -> Result<Move, Fail> {
+    let given = value_of(alloc, order)?;
+    let to = if pick(random, 4) == 0 {
+        pick(random, begun.saturating_add(2))
+    } else {
+        pass
+    };
+    Ok(Move::Give {
+        pass: to,
+        incarnation: 1 + pick(random, 3) / 2,
+        given,
+    })
 }
 
 /// What the entries of the history show: a list, and passes that wrote, had nothing to do and were refused.
@@ -253,39 +327,164 @@ fn note_entries(shown: &mut [bool; 4], history: &History) {
     }
 }
 
-fn wander(alloc: Global, met: &mut Met, shown: &mut [bool; 4], seed: u64) -> Result<(), Fail> {
-    let mut world = World::new(alloc, scenario(alloc)?)?;
+/// The plain move, but often any move in place of the next step of the script, so that much happens between two steps.
+fn steady_move(alloc: Global, world: &World, random: &mut u64, begun: u64) -> Result<Move, Fail> {
+    match plain(alloc, world)? {
+        Some(Move::Script) => {
+            if pick(random, 25) == 0 {
+                return Ok(Move::Script);
+            }
+            some_move(alloc, random, begun)
+        }
+        Some(step) => Ok(step),
+        None => some_move(alloc, random, begun),
+    }
+}
+
+/// The next move: a plain one, a value of a question that was told, or any.
+fn next_move(
+    alloc: Global,
+    world: &World,
+    random: &mut u64,
+    begun: u64,
+    told: &Told,
+) -> Result<Move, Fail> {
+    match (pick(random, 6), &told.last, &told.before) {
+        (0, _, _) => some_move(alloc, random, begun),
+        (1, Some(order), _) => some_gift(alloc, random, told.pass, begun, order),
+        (2, _, Some(order)) => some_gift(alloc, random, told.pass, begun, order),
+        _ => steady_move(alloc, world, random, begun),
+    }
+}
+
+/// The pass that told its question last, that question, and the one that another pass told before.
+#[derive(Drop)]
+struct Told {
+    pass: u64,
+    last: Option<Order>,
+    before: Option<Order>,
+}
+
+fn tell(told: Told, pass: u64, order: Order) -> Told {
+    let Told {
+        pass: other,
+        last,
+        before,
+    } = told;
+    Told {
+        pass,
+        last: Some(order),
+        before: if other == pass { before } else { last },
+    }
+}
+
+fn wander(
+    alloc: Global,
+    met: &mut Met,
+    shown: &mut [bool; 4],
+    seed: u64,
+    events: u64,
+) -> Result<u64, Fail> {
+    let mut world = World::new(alloc, scenario(alloc, events)?)?;
     let mut random = seed;
     let mut begun = 0_u64;
-    for _ in 0..500 {
-        let step = some_move(alloc, &mut random, begun)?;
+    let mut told = Told {
+        pass: 0,
+        last: None,
+        before: None,
+    };
+    for _ in 0..750 {
+        let step = next_move(alloc, &world, &mut random, begun, &told)?;
         let begins = matches!(step, Move::Begin { .. });
         let answer = world.step(alloc, step)?;
         if begins && answer.is_done() {
             begun = begun.saturating_add(1);
         }
-        note(met, answer);
+        note(met, &answer);
+        if let Stepped::Order { pass, order } = answer {
+            told = tell(told, pass, order);
+        }
     }
     note_entries(shown, world.history());
-    Ok(())
+    audit(world.history())
+}
+
+/// How many Secrets issuing wrote: each has a key and a certificate that are a pair.
+fn audit(history: &History) -> Result<u64, Fail> {
+    let mut roles = [Role::Trigger; 751];
+    let mut written = 0_u64;
+    for entry in history.as_slice() {
+        match entry {
+            Entry::Begin { pass, role, .. } => {
+                if *pass < 751 {
+                    roles[*pass as usize] = *role;
+                }
+            }
+            Entry::Call {
+                who: Who::Pass(pass),
+                call,
+                reply: Reply::Ok { .. },
+            } => {
+                let by_issuing = *pass < 751 && matches!(roles[*pass as usize], Role::Issuing);
+                if by_issuing && !writes_pair(call) {
+                    return Err(Fail::from("no pair"));
+                }
+                if by_issuing && is_secret_write(call) {
+                    written = written.saturating_add(1);
+                }
+            }
+            _ => {}
+        }
+    }
+    Ok(written)
+}
+
+fn is_secret_write(call: &Call) -> bool {
+    matches!(
+        call,
+        Call::Create {
+            object: Object::Secret(_),
+            ..
+        } | Call::Update {
+            object: Object::Secret(_),
+            ..
+        }
+    )
+}
+
+/// Whether the call, if it writes a Secret, writes one whose key and certificate are a pair.
+fn writes_pair(call: &Call) -> bool {
+    match call {
+        Call::Create {
+            object: Object::Secret(secret),
+            ..
+        } => pair_in(secret).is_some(),
+        Call::Update {
+            object: Object::Secret(secret),
+            ..
+        } => pair_in(secret).is_some(),
+        _ => true,
+    }
 }
 
 #[test]
 fn each_answer_comes(rt: HostRuntime) -> Result<(), Fail> {
     let alloc = rt.alloc();
     let mut met = Met {
-        answers: [false; 15],
+        answers: [false; 18],
     };
     let mut shown = [false; 4];
-    for seed in [20, 7, 1, 99] {
-        wander(alloc, &mut met, &mut shown, seed)?;
+    let mut issued = 0_u64;
+    for (seed, events) in [(20, 900), (7, 900), (1, 900), (99, 60)] {
+        issued = issued.saturating_add(wander(alloc, &mut met, &mut shown, seed, events)?);
     }
     for (i, name) in NAMES.iter().enumerate() {
         if !met.answers[i] {
             println!(rt; "{name} never came")?;
         }
     }
-    assert_eq!(rt; met.answers, [true; 15]);
+    assert_eq!(rt; met.answers, [true; 18]);
     assert_eq!(rt; shown, [true; 4]);
+    assert!(rt; issued > 3);
     Ok(())
 }

@@ -4,16 +4,15 @@ use Rattle.std.specs.Str.{IsUtf8}
 use Rattle.serde_json.specs.Data.{Data}
 use Rattle.serde_json.specs.Read.{read}
 use Rattle.cmc_objects.specs.declared.entry.Entry.{Entry}
-use Rattle.cmc_model.specs.Histories.{objects}
 use Rattle.cmc_rules.specs.Rights.{KeepsRights}
 use Rattle.cmc_rules.specs.Safety.{IsSafe}
 use Rattle.cmc_rules.specs.Runs.{IsRun, IsFinished}
-use Rattle.cmc_model.specs.Summaries.{summary_of}
 use Rattle.cmc_report.specs.Text.{joined, history_lines}
 use Rattle.cmc_setup.specs.declared.scenario.Scenario.{Scenario}
 use Rattle.cmc_scenario.specs.Scenarios.{scenario_at}
 use Rattle.cmc_world.specs.Kept.{setting_of}
 use Rattle.cmc_plain.specs.Histories.{IsPlain, IsFull}
+use Rattle.cmc_plain.specs.Waits.{summary_at}
 
 -- the bytes are UTF-8, and the JSON text of this value
 pub record Reads (bytes : List ℕ) (value : Data) : Type 0 where
@@ -28,7 +27,7 @@ pub record RunsOn (value : Data) (scenario : Scenario) (text : List ℕ) : Type 
   pub safe : IsSafe (setting_of scenario) history
   pub plain : IsPlain (setting_of scenario) history
   pub finished : IsFinished (setting_of scenario) history
-  pub is : text ≡ joined (history_lines value history (summary_of (objects (setting_of scenario) history)))
+  pub is : text ≡ joined (history_lines value history (summary_at (setting_of scenario) history))
 
 -- the value is that of a scenario, and the text that of a finished history of it
 pub record Answers (value : Data) (text : List ℕ) : Type 0 where

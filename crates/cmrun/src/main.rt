@@ -5,11 +5,12 @@
 #![tactic(auto)]
 
 mod memory;
-mod safety;
 mod sink;
 mod source;
 mod top;
 
+use cmc_answers::ScriptedSigner;
+use cmc_keys::ScriptedKeys;
 use sink::StdSink;
 use source::StdSource;
 use std::alloc::AllocError;
@@ -32,7 +33,14 @@ fn main(rt: HostRuntime) -> ExitCode {
         Ok(words) => {
             let mut source = StdSource::new(rt.stdin());
             let mut sink = StdSink::new(rt.stdout());
-            run(rt.alloc(), words.as_slice(), &mut source, &mut sink)
+            run(
+                rt.alloc(),
+                words.as_slice(),
+                &mut source,
+                &mut sink,
+                &ScriptedKeys,
+                &ScriptedSigner,
+            )
         }
         Err(_) => Status::NoMemory,
     };
@@ -46,3 +54,5 @@ fn main(rt: HostRuntime) -> ExitCode {
 mod tests;
 #[cfg(test)]
 mod tests_of_steps;
+#[cfg(test)]
+mod tests_of_waits;

@@ -3,6 +3,8 @@
 use crate::memory::{MemSink, MemSource};
 use crate::source::Source;
 use crate::top::{Status, code, failing_path, message, run};
+use cmc_answers::ScriptedSigner;
+use cmc_keys::ScriptedKeys;
 use cmc_meta::{Bytes, Numbers, Text};
 use std::alloc::{AllocError, Global};
 use std::process::Abort;
@@ -42,7 +44,14 @@ fn run_with(
     let mut sink = MemSink::new(alloc, numbers(alloc, failing_writes)?)?;
     let mut words = Vec::new(alloc);
     words.push(String::from_str(alloc, word)?)?;
-    let status = run(alloc, words.as_slice(), &mut source, &mut sink);
+    let status = run(
+        alloc,
+        words.as_slice(),
+        &mut source,
+        &mut sink,
+        &ScriptedKeys,
+        &ScriptedSigner,
+    );
     Ok(Ended {
         status,
         written: sink.bytes().to_vec(alloc)?,
@@ -285,14 +294,14 @@ const WHOLE: [(&str, &str); 27] = [
         r#"{"roles":[],"script":[{"do":"apply","object":{"apiVersion":"v1","kind":"ConfigMap"}}]}"#,
         "script.0.object.kind",
     ),
-    ("{}", "roles"),
+    ("{}", "done"),
     (r#"{"x":1}"#, "x"),
     ("[]", ""),
     ("1.5", ""),
-    (r#"{"script":[]}"#, "roles"),
+    (r#"{"script":[{"do":"settle"}]}"#, "done"),
     (r#"{"roles":[1.5]}"#, "roles.0"),
     (r#"{"roles":"trigger"}"#, "roles"),
-    (r#"{"roles":["trigger","keymanager"]}"#, "roles.1"),
+    (r#"{"roles":["trigger","key-manager"]}"#, "roles.1"),
     (r#"{"roles":["Trigger"]}"#, "roles.0"),
     (
         r#"{"roles":["trigger"],"script":[{"do":"settle"}]}"#,
@@ -502,7 +511,14 @@ fn left_by(
     let mut sink = MemSink::new(alloc, Numbers::new(alloc))?;
     let mut words = Vec::new(alloc);
     words.push(String::from_str(alloc, word)?)?;
-    let status = run(alloc, words.as_slice(), &mut source, &mut sink);
+    let status = run(
+        alloc,
+        words.as_slice(),
+        &mut source,
+        &mut sink,
+        &ScriptedKeys,
+        &ScriptedSigner,
+    );
     let mut next = [0; 8];
     match source.read(&mut next) {
         Ok(count) => Ok((status, count)),
@@ -516,7 +532,7 @@ fn stops_reading_where_a_run_ends(rt: HostRuntime) -> Result<(), Fail> {
     let (status, left) = left_by(alloc, "load", b"{}", &[])?;
     assert!(rt; matches!(status, Status::Usage));
     assert_eq!(rt; left, 2);
-    let (status, left) = left_by(alloc, "run", b"{}", &[])?;
+    let (status, left) = left_by(alloc, "run", b"[]", &[])?;
     assert!(rt; matches!(status, Status::BadScenario(_)));
     assert_eq!(rt; left, 0);
     let some = blanks(alloc, 8_195)?;

@@ -9,9 +9,10 @@ ghost use Rattle.cmc_rules.specs.Runs.{IsFinished};
 ghost use Rattle.cmrun.specs.Headline.{Answers, IsRunOf, RunsOn};
 ghost use Rattle.cmrun.specs.Statuses.{Explains, Leaves, Refuses, RefusesValue, SpendsOn, exit_code, is_run_words, message_of, path_of, reads_failed, reads_nothing, writes_failed, writes_nothing};
 
-use crate::safety::is_safe;
 use crate::sink::{Sink, write_lines};
 use crate::source::{ReadError, Source, read_all};
+use cmc_answers::Signer;
+use cmc_keys::KeyMaker;
 use cmc_meta::Text;
 use cmc_plain::{Driven, drive_plain, summary};
 use cmc_report::{Lines, history_text};
@@ -61,43 +62,58 @@ fn lines_of(alloc: Global, value: &Value, world: &World) -> Result<Lines, AllocE
     ensures { IfOk result (λ lines. RunsOn (view value.now) world.now.scenario (joined lines)) }
 {
     world.is_run();
-    is_safe(world);
     let counts = summary(alloc, world)?;
     history_text(alloc, value, world.history(), &counts)
 }
 
 /// The lines of the run of a scenario, which the value is.
-fn run_of(alloc: Global, value: &Value, scenario: Scenario) -> Result<Lines, Status>
+fn run_of<M: KeyMaker, N: Signer>(
+    alloc: Global,
+    value: &Value,
+    scenario: Scenario,
+    keys: &M,
+    signer: &N,
+) -> Result<Lines, Status>
     requires float_free { has_float (view value.now) ≡ false }
     ensures ok { IfOk result (λ lines. RunsOn (view value.now) scenario (joined lines)) }
     ensures err { IfErr result (λ status. SpendsOn scenario status) }
 {
-    match drive_plain(alloc, scenario)? {
+    match drive_plain(alloc, scenario, keys, signer)? {
         Driven::Finished(world) => Ok(lines_of(alloc, value, &world)?),
         Driven::Spent(_) => Err(Status::Spent),
     }
 }
 
 /// The lines of the run of a value.
-fn answer(alloc: Global, value: &Value) -> Result<Lines, Status>
+fn answer<M: KeyMaker, N: Signer>(
+    alloc: Global,
+    value: &Value,
+    keys: &M,
+    signer: &N,
+) -> Result<Lines, Status>
     ensures ok { IfOk result (λ lines. Answers (view value.now) (joined lines)) }
     ensures err { IfErr result (λ status. RefusesValue (view value.now) status) }
 {
     match read(alloc, value) {
-        Ok(scenario) => run_of(alloc, value, scenario),
+        Ok(scenario) => run_of(alloc, value, scenario, keys, signer),
         Err(BadScenario::Path(path)) => Err(Status::BadScenario(path)),
         Err(BadScenario::NoMemory) => Err(Status::NoMemory),
     }
 }
 
 /// The lines of the run of a text.
-fn answer_text(alloc: Global, text: &str) -> Result<Lines, Status>
+fn answer_text<M: KeyMaker, N: Signer>(
+    alloc: Global,
+    text: &str,
+    keys: &M,
+    signer: &N,
+) -> Result<Lines, Status>
     requires { IsUtf8 text.now }
     ensures ok { IfOk result (λ lines. IsRunOf text.now (joined lines)) }
     ensures err { IfErr result (λ status. Refuses text.now status) }
 {
     match Value::from_str(alloc, text) {
-        Ok(value) => answer(alloc, &value),
+        Ok(value) => answer(alloc, &value, keys, signer),
         Err(error) => match error.classify() {
             Category::Memory => Err(Status::NoMemory),
             _ => Err(Status::NotJson),
@@ -106,12 +122,17 @@ fn answer_text(alloc: Global, text: &str) -> Result<Lines, Status>
 }
 
 /// The lines of the run of some bytes.
-fn answer_bytes(alloc: Global, bytes: &[u8]) -> Result<Lines, Status>
+fn answer_bytes<M: KeyMaker, N: Signer>(
+    alloc: Global,
+    bytes: &[u8],
+    keys: &M,
+    signer: &N,
+) -> Result<Lines, Status>
     ensures ok { IfOk result (λ lines. IsRunOf bytes.now (joined lines)) }
     ensures err { IfErr result (λ status. Refuses bytes.now status) }
 {
     match str::from_utf8(bytes) {
-        Ok(text) => answer_text(alloc, text),
+        Ok(text) => answer_text(alloc, text, keys, signer),
         Err(_) => Err(Status::NotJson),
     }
 }
@@ -168,17 +189,20 @@ pub fn failing_path(status: &Status) -> &str
 }
 
 /// Does all that the program does: reads a scenario from the source, runs it by the plain order on an empty
-/// store, and writes the history and its summary to the sink.
+/// store, and writes the history and its summary to the sink. `keys` makes keys and signs requests, and `signer`
+/// answers for the issuers, whatever they answer.
 ///
 /// The lines are made before the first of them is written, each as one piece. Each status has its cause,
 /// as its variant says; at `WriteFault` some first part of the text was written, and at every status but
 /// `Done` and `WriteFault` nothing was. At `Usage` nothing was read; else reading stopped at the first byte
 /// above the limit, at the end, or at the read that failed.
-pub fn run<S: Source, K: Sink>(
+pub fn run<S: Source, K: Sink, M: KeyMaker, N: Signer>(
     alloc: Global,
     words: &[String],
     source: &mut S,
     sink: &mut K,
+    keys: &M,
+    signer: &N,
 ) -> Status
     ensures told { IfSome (S.left source.old) (λ bytes. Explains result bytes (K.holds sink.old) (K.holds sink.new)) }
     ensures left { Leaves result (S.left source.old) (S.left source.new) }
@@ -197,7 +221,7 @@ pub fn run<S: Source, K: Sink>(
         Err(ReadError::Fault) => return Status::ReadFault,
         Err(ReadError::TooLong) => return Status::TooLong,
     };
-    let lines = match answer_bytes(alloc, bytes.as_slice()) {
+    let lines = match answer_bytes(alloc, bytes.as_slice(), keys, signer) {
         Ok(lines) => lines,
         Err(status) => return status,
     };

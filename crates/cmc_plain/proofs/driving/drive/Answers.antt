@@ -6,6 +6,6 @@ use Rattle.cmc_plain.proofs.Turns.{driving_on}
 use Rattle.cmc_plain.proofs.driving.drive.Goals as goal
 
 pub loop-turn-preserved : goal.loop-turn-preserved
-loop-turn-preserved c =
+loop-turn-preserved g c =
     driving_on c.args.world.scenario c.loop-turn.world c.take_turn.new.world c.loop-turn._turn c.loop-turn.invariant c.in_ok-take_turn.ensures.scenario
     (subst (λ (t : Turn). IsTurn (setting_of c.loop-turn.world.scenario) c.loop-turn.world.history c.take_turn.new.world.history t) c.in-On.is c.in_ok-take_turn.ensures.turn)

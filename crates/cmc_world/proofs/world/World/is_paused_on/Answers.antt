@@ -1,24 +1,16 @@
-use Rattle.std.proofs.Common.{◌≡◌, sym, subst, ap, rules, w64, ◌∙◌}
-use Rattle.std.proofs.lemmas.Int.{to_z-of_z}
-use Rattle.std.specs.Prelude.{◌↔◌, IsTrue, IfOk}
-use Rattle.std.specs.Option.{option_copied}
-use Rattle.cmc_held.specs.declared.standings.Standing.{Standing}
-use Rattle.cmc_held.specs.Dues.{shown_positions}
-use Rattle.cmc_held.specs.Remembered.{past_or_new}
-use Rattle.cmc_rules.specs.Viewing.{views}
-use Rattle.cmc_rules.specs.Resting.{IsPaused}
-use Rattle.cmc_world.specs.Kept.{setting_of, Seen}
-use Rattle.cmc_world.proofs.Idling.{told_is_dated, paused_by}
+use Rattle.std.proofs.Common.{sym, subst}
+use Rattle.cmc_rules.specs.Desks.{desk}
+use Rattle.cmc_model.specs.Histories.{moment}
+use Rattle.cmc_pass.specs.declared.pass.Views.{Views}
+use Rattle.cmc_safety.specs.Acting.{MayAct}
+use Rattle.cmc_world.specs.Kept.{setting_of}
+use Rattle.cmc_world.proofs.Idling.{paused_due}
 use Rattle.cmc_world.proofs.world.World.is_paused_on.Goals as goal
 
-pub is_paused-requires : goal.is_paused-requires
-is_paused-requires c =
-    told_is_dated (setting_of c.self.inside.scenario) c.self.inside.history.entries c.args.role c.args.key.now _ c.args.seen.now c.self.invariant (subst (λ (v : Seen). c.args.seen.now ≡ views (setting_of v.scenario) v.history c.args.role c.args.key.now) (sym c.self.view_is) c.requires)
+pub is_idle-requires : goal.is_idle-requires
+is_idle-requires c =
+    subst (λ (v : Views). MayAct v (moment (setting_of c.args.self.now.scenario) c.args.self.now.history) (desk (setting_of c.args.self.now.scenario) c.args.self.now.history c.args.role v)) (sym c.requires) (c.can_act.ensures c.args.role c.args.key.now)
 
 pub returns : goal.returns
 returns c =
-    subst (λ (v : Seen). IfOk c.is_paused.result (λ b. IsTrue b ↔ IsPaused (setting_of v.scenario) v.history c.args.role c.args.key.now)) c.self.view_is
-    (paused_by (setting_of c.self.inside.scenario) c.self.inside.history.entries c.args.role c.args.key.now _ (past_or_new (option_copied c.get-2.result)) c.args.seen.now _ c.shown_positions-at.result c.is_paused.result c.self.invariant
-    c.get-2.ensures (to_z-of_z w64 c.self.inside.moment (search rules))
-    (c.shown_positions-at.ensures ∙ ap (λ (t : Standing). shown_positions c.args.role t.told) c.get.ensures)
-    (subst (λ (v : Seen). c.args.seen.now ≡ views (setting_of v.scenario) v.history c.args.role c.args.key.now) (sym c.self.view_is) c.requires) c.is_paused.ensures)
+    paused_due (setting_of c.args.self.now.scenario) c.args.self.now.history c.args.role c.args.key.now c.args.seen.now c.is_due.result c.is_idle.result c.requires c.is_due.ensures c.if-not-is_due.false c.is_idle.ensures

@@ -1,8 +1,23 @@
 use Rattle.std.proofs.Common.{subst}
 use Rattle.cmc_rules.specs.Rights.{KeepsRights}
+use Rattle.cmc_rules.specs.Safety.{IsSafe}
+use Rattle.cmc_safety.specs.Acting.{IsNeverInvalid}
+use Rattle.cmc_safety.proofs.Barred.{never_invalid}
+use Rattle.cmc_safety.proofs.Rights.{keeps_rights}
+use Rattle.cmc_safety.proofs.Safe.{safe}
 use Rattle.cmc_world.specs.Kept.{Seen, setting_of}
-use Rattle.cmc_world.proofs.Rights.{keeps_rights}
+use Rattle.cmc_world.proofs.Sounds.{each_sound}
 use Rattle.cmc_world.proofs.world.World.is_run.Goals as goal
 
 pub returns-clause-rights : goal.returns-clause-rights
-returns-clause-rights c = subst (λ (v : Seen). KeepsRights (setting_of v.scenario) v.history) c.self.view_is (keeps_rights _ _ c.self.invariant.held.run)
+returns-clause-rights c = subst (λ (v : Seen). KeepsRights (setting_of v.scenario) v.history) c.self.view_is (keeps_rights each_sound _ _ c.self.invariant.held.formed c.self.invariant.held.run)
+
+pub returns-clause-safe : goal.returns-clause-safe
+returns-clause-safe c =
+    let run = c.self.invariant.held.run in
+    subst (λ (v : Seen). IsSafe (setting_of v.scenario) v.history) c.self.view_is (safe each_sound _ _ c.self.invariant.held.formed run.legal run.caused run.follows)
+
+pub returns-clause-valid : goal.returns-clause-valid
+returns-clause-valid c =
+    let run = c.self.invariant.held.run in
+    subst (λ (v : Seen). IsNeverInvalid v.history) c.self.view_is (never_invalid each_sound _ _ run.legal run.caused)

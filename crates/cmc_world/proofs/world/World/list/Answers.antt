@@ -9,7 +9,6 @@ use Rattle.cmc_world.specs.Kept.{Seen, setting_of}
 use Rattle.cmc_world.specs.Changes.{telling}
 use Rattle.cmc_model.specs.declared.write.Write.{Write}
 use Rattle.cmc_model.specs.Writes.{contents, oldest, of_kind}
-use Rattle.cmc_model.proofs.Writes.{writes_count}
 use Rattle.cmc_caches.specs.Told.{caches_of, with_cached}
 use Rattle.cmc_world.proofs.Caching.{has_told, log_length, told_from}
 use Rattle.cmc_world.proofs.Events.{kept_listed}

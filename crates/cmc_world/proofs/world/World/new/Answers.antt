@@ -6,6 +6,7 @@ use Rattle.cmc_store.specs.Kept.{Kept}
 use Rattle.cmc_model.specs.Histories.{role_eq}
 use Rattle.cmc_caches.specs.Told.{caches_of}
 use Rattle.cmc_held.specs.Open.{pass_at}
+use Rattle.cmc_held.specs.Questioned.{count_at}
 use Rattle.cmc_held.specs.Remembered.{past_at}
 use Rattle.cmc_held.specs.Standing.{standing_of, first_standing}
 use Rattle.cmc_world.proofs.Starting.{kept_new}
@@ -26,6 +27,9 @@ invariant_of-result c =
       origins = c.new-7.result.origins;
       opened = λ n. pass_at c.new-8.result n;
       past = λ r k. past_at c.in_ok-pasts.pasts r k;
+      keys_asked = count_at c.new-9.result.keys;
+      answers_asked = count_at c.new-9.result.answers;
+      desk = record { material = c.in_ok-material.material; asked = 0; rules = c.in_ok-rules.rules };
     })
     (ap (λ (k : Kept). k.faults) c.new-4.ensures ∙ c.in_ok-faults.ensures ∙ c.faults.ensures)
     (ap (λ (k : Kept). k.state) c.new-4.ensures)
@@ -37,4 +41,7 @@ invariant_of-result c =
     c.new-7.ensures
     c.new-8.ensures
     c.in_ok-pasts.ensures
+    c.new-9.ensures.keys
+    c.new-9.ensures.answers
+    (λ i. record { material = (c.in_ok-material.ensures ∙ c.material.ensures) i; asked = 0; rules = (c.in_ok-rules.ensures ∙ c.approver.ensures) i })
     c.events-events.ensures.setup)

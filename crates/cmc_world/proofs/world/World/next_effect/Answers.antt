@@ -10,12 +10,13 @@ use Rattle.cmc_setup.specs.Setups.{IsSetup, IsTickForm}
 use Rattle.cmc_world.specs.Answers as spec
 use Rattle.cmc_world.specs.Kept.{Seen, setting_of}
 use Rattle.cmc_world.specs.Scripted.{effect_in}
-use Rattle.cmc_world.proofs.Stepping.{effect_kept, run_moment}
+use Rattle.cmc_safety.proofs.Moments.{moment_in_run}
+use Rattle.cmc_world.proofs.Stepping.{effect_kept}
 use Rattle.cmc_world.proofs.world.World.next_effect.Goals as goal
 
 pub effect_in-requires-clause-moment : goal.effect_in-requires-clause-moment
 effect_in-requires-clause-moment c =
-    let run = run_moment c.self.inside.scenario c.self.inside.history.entries c.script_of.ensures.setup c.self.invariant.held.run.follows in
+    let run = moment_in_run (setting_of c.self.inside.scenario) c.self.inside.history.entries c.self.invariant.held.formed c.self.invariant.held.run.follows in
     let same = to_z-of_z w64 c.self.inside.moment (search rules) in
     subst (λ (m : ℤ). is_run_time m ≡ true) (sym (same ∙ c.self.invariant.held.moment)) run
 

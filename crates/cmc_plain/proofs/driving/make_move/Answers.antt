@@ -1,0 +1,30 @@
+use Rattle.std.proofs.Common.{◌∙◌, sym, subst}
+use Rattle.cmc_rules.specs.Runs.{IsRun}
+use Rattle.cmc_setup.specs.Setups.{Setup, IsSetup}
+use Rattle.cmc_world.specs.Kept.{setting_of}
+use Rattle.cmc_plain.proofs.Going.{open_present}
+use Rattle.cmc_plain.proofs.Making.{chosen_comes}
+use Rattle.cmc_plain.proofs.Turns.{stops, moves_on}
+use Rattle.cmc_plain.proofs.driving.make_move.Goals as goal
+
+pub returns-then-goes_on-clause-turn : goal.returns-then-goes_on-clause-turn
+returns-then-goes_on-clause-turn g c =
+    let u = c.args.world.now.scenario in
+    let h = c.args.world.now.history in
+    let k = c.step.new.self.history in
+    let run = subst (λ (v : Setup). IsRun (setting_of v) k) c.in_ok-step.ensures.scenario c.in_ok-step.ensures.run in
+    moves_on (setting_of u) h c.args.step c.in_ok-step.field-0 k c.requires (sym c.goes_on.ensures ∙ c.if-goes_on.true) run
+    (chosen_comes (setting_of u) h c.args.step c.in_ok-made.made c.in_ok-step.field-0 k
+    (open_present u h (subst IsSetup c.scenario.ensures c.events-events.ensures.setup).orderly c.is_run.ensures.run)
+    c.requires.1 c.in_ok-made.ensures run c.in_ok-step.ensures.answer c.in_ok-step.ensures.leaves)
+
+pub returns-else-goes_on-clause-turn : goal.returns-else-goes_on-clause-turn
+returns-else-goes_on-clause-turn g c =
+    let u = c.args.world.now.scenario in
+    let h = c.args.world.now.history in
+    let k = c.step.new.self.history in
+    let run = subst (λ (v : Setup). IsRun (setting_of v) k) c.in_ok-step.ensures.scenario c.in_ok-step.ensures.run in
+    stops (setting_of u) h c.args.step c.in_ok-step.field-0 k c.requires (sym c.goes_on.ensures ∙ c.if-goes_on.false)
+    (chosen_comes (setting_of u) h c.args.step c.in_ok-made.made c.in_ok-step.field-0 k
+    (open_present u h (subst IsSetup c.scenario.ensures c.events-events.ensures.setup).orderly c.is_run.ensures.run)
+    c.requires.1 c.in_ok-made.ensures run c.in_ok-step.ensures.answer c.in_ok-step.ensures.leaves)

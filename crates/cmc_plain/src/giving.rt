@@ -1,0 +1,105 @@
+//! Values for the questions of passes.
+ghost use Rattle.std.specs.Prelude.{◌≡◌, IfOk, option_map};
+ghost use Rattle.cmc_pass.specs.Giving.{order_of};
+ghost use Rattle.cmc_rules.specs.Passes.{open_pass};
+ghost use Rattle.cmc_world.specs.Answers.{kept_at, kept_of};
+ghost use Rattle.cmc_world.specs.Kept.{setting_of};
+ghost use Rattle.cmc_plain.specs.Driving.{CanBeMade, CanBeKept, IsMadeFor, IsNextWith};
+
+use cmc_answers::{Signer, judge};
+use cmc_keys::KeyMaker;
+use cmc_objects::Order;
+use cmc_pass::Given;
+use cmc_rules::Stage;
+use cmc_world::{Move, World};
+use std::alloc::{AllocError, Global};
+
+/// A value for the question.
+fn value_for<M: KeyMaker, N: Signer>(
+    alloc: Global,
+    order: &Order,
+    keys: &M,
+    signer: &N,
+) -> Result<Given, AllocError>
+    requires { CanBeMade order.now }
+    ensures { IfOk result (λ g. order_of g ≡ order.now) }
+{
+    match order {
+        Order::Key(order) => Ok(Given::Made(keys.make(alloc, order)?)),
+        Order::Csr(order) => Ok(Given::Signed(keys.sign(alloc, order)?)),
+        Order::Sign(order) => Ok(Given::Answered(signer.sign(alloc, order)?)),
+        Order::Judge(order) => Ok(Given::Judged(judge(alloc, order.copy()?)?)),
+    }
+}
+
+/// A value for the question that a pass of this stage waits at; `None` exactly where it waits at none.
+fn value_at<M: KeyMaker, N: Signer>(
+    alloc: Global,
+    stage: &Stage,
+    keys: &M,
+    signer: &N,
+) -> Result<Option<Given>, AllocError>
+    requires { CanBeKept (kept_at stage.now) }
+    ensures { IfOk result (λ g. option_map order_of g ≡ kept_at stage.now) }
+{
+    match stage {
+        Stage::Asked { order } => Ok(Some(value_for(alloc, order, keys, signer)?)),
+        _ => Ok(None),
+    }
+}
+
+/// A value for the question that the pass of this number waits at; `None` exactly where it waits at none.
+fn value_of<M: KeyMaker, N: Signer>(
+    alloc: Global,
+    world: &World,
+    pass: u64,
+    keys: &M,
+    signer: &N,
+) -> Result<Option<Given>, AllocError>
+    ensures { IfOk result (λ g. option_map order_of g ≡ kept_of (open_pass (setting_of world.now.scenario) world.now.history pass)) }
+{
+    world.is_run();
+    match world.passes().get(pass) {
+        Some(open) => value_at(alloc, &open.stage, keys, signer),
+        None => Ok(None),
+    }
+}
+
+/// The next move of the pass of this number: it is given the value that it waits for, or goes on.
+fn next_of<M: KeyMaker, N: Signer>(
+    alloc: Global,
+    world: &World,
+    pass: u64,
+    incarnation: u64,
+    keys: &M,
+    signer: &N,
+) -> Result<Move, AllocError>
+    ensures { IfOk result (λ m. IsNextWith pass incarnation (kept_of (open_pass (setting_of world.now.scenario) world.now.history pass)) m) }
+{
+    match value_of(alloc, world, pass, keys, signer)? {
+        Some(given) => Ok(Move::Give {
+            pass,
+            incarnation,
+            given,
+        }),
+        None => Ok(Move::Next { pass, incarnation }),
+    }
+}
+
+/// What is made for the plain move: a pass that waits for a value is given one.
+pub(crate) fn made_for<M: KeyMaker, N: Signer>(
+    alloc: Global,
+    world: &World,
+    step: Move,
+    keys: &M,
+    signer: &N,
+) -> Result<Move, AllocError>
+    ensures { IfOk result (λ m. IsMadeFor (setting_of world.now.scenario) world.now.history step m) }
+{
+    match step {
+        Move::Next { pass, incarnation } => {
+            next_of(alloc, world, pass, incarnation, keys, signer)
+        }
+        other => Ok(other),
+    }
+}

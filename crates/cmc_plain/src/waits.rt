@@ -1,0 +1,216 @@
+//! What Certificates that are not Ready wait for at the end of a run.
+ghost use Rattle.std.specs.List.{list_any};
+ghost use Rattle.std.specs.Option.{option_copied};
+ghost use Rattle.std.specs.Prelude.{◌≡◌, false, IfOk};
+ghost use Rattle.cmc_model.specs.Histories as histories;
+ghost use Rattle.cmc_objects.specs.declared.role.Role.TheVariants.{Issuing};
+ghost use Rattle.cmc_rules.specs.Dates.{HasDatedFailure, IsDatedOption};
+ghost use Rattle.cmc_rules.specs.Issuing as issuing;
+ghost use Rattle.cmc_rules.specs.Runs.{IsFinished};
+ghost use Rattle.cmc_rules.specs.Triggering as triggering;
+ghost use Rattle.cmc_rules.specs.Viewing as viewing;
+ghost use Rattle.cmc_world.specs.Kept.{setting_of};
+ghost use Rattle.cmc_plain.specs.Waits as words;
+
+use cmc_match::{is_next_key, next_request};
+use cmc_meta::{Condition, ConditionKind, Key, Kind, Tri};
+use cmc_next::{is_approved, is_denied, is_issuing};
+use cmc_objects::{CertStatus, Certificate, CertificateRequest, Role, Secret};
+use cmc_pass::Views;
+use cmc_policies::backoff_until;
+use cmc_summary::WaitName;
+use cmc_world::{Lack, Move, Stepped, World};
+use std::alloc::{AllocError, Global};
+
+// ---- one Certificate, by what there is to see of it
+
+fn is_backing_off(status: &CertStatus, moment: i64) -> bool
+    requires { IsDatedOption status.now.last_failure }
+    ensures { result ≡ triggering.is_backing_off status.now moment }
+{
+    match status.last_failure {
+        None => false,
+        Some(last) => moment < backoff_until(last, status.attempts),
+    }
+}
+
+fn says_issued(ready: Option<&Condition>) -> bool
+    ensures { result ≡ issuing.says_issued (option_copied ready.entry) }
+{
+    match ready {
+        None => false,
+        Some(ready) => ready.status.same(Tri::True) && ready.reason.as_str() == "Issued",
+    }
+}
+
+fn is_unanswered(ready: Option<&Condition>) -> bool
+    ensures { result ≡ words.is_unanswered (option_copied ready.entry) }
+{
+    match ready {
+        None => true,
+        Some(ready) => ready.reason.as_str() == "Pending",
+    }
+}
+
+fn is_kept_for_keys(target: &Option<Secret>) -> bool
+    ensures { result ≡ issuing.is_kept_for_keys target.now }
+{
+    match target {
+        None => false,
+        Some(secret) => is_next_key(secret),
+    }
+}
+
+fn wait_of_request(target: &Option<Secret>, request: &CertificateRequest) -> Option<WaitName>
+    ensures { result ≡ words.wait_of_request target.now request.now }
+{
+    if !is_approved(request) && !is_denied(request) {
+        return Some(WaitName::Unapproved);
+    }
+    let conditions = &request.status.conditions;
+    if says_issued(conditions.get(ConditionKind::Ready)) && is_kept_for_keys(target) {
+        return Some(WaitName::Name);
+    }
+    if is_approved(request) && is_unanswered(conditions.get(ConditionKind::Ready)) {
+        return Some(WaitName::Pending);
+    }
+    None
+}
+
+fn wait_of_next(target: &Option<Secret>, request: Option<&CertificateRequest>) -> Option<WaitName>
+    ensures { result ≡ words.wait_of_next target.now (option_copied request.entry) }
+{
+    match request {
+        None => None,
+        Some(request) => wait_of_request(target, request),
+    }
+}
+
+fn wait_of(moment: i64, seen: &Views, certificate: &Certificate) -> Option<WaitName>
+    requires { IsDatedOption certificate.now.status.last_failure }
+    ensures { result ≡ words.wait_of moment seen.now certificate.now }
+{
+    if !is_issuing(certificate) && is_backing_off(&certificate.status, moment) {
+        return Some(WaitName::Backoff);
+    }
+    if is_issuing(certificate) && seen.next.as_slice().is_empty() {
+        return Some(WaitName::Key);
+    }
+    let request = next_request(certificate.status.revision, seen.requests.as_slice());
+    wait_of_next(&seen.secret, request)
+}
+
+fn wait_in(moment: i64, seen: &Views) -> Option<WaitName>
+    requires { HasDatedFailure seen.now }
+    ensures { result ≡ words.wait_in moment seen.now }
+{
+    match &seen.certificate {
+        None => None,
+        Some(certificate) => wait_of(moment, seen, certificate),
+    }
+}
+
+// ---- the roles
+
+fn is_refusal(answer: &Stepped) -> bool
+    ensures { result ≡ words.is_refusal answer.now }
+{
+    matches!(answer, Stepped::NotNow(Lack::Stopped | Lack::Held))
+}
+
+/// Whether the role does not run, or its informer of the kind is held.
+fn is_kept_from(alloc: Global, world: &World, role: Role, kind: Kind) -> Result<bool, AllocError>
+    ensures { IfOk result (λ b. b ≡ words.is_kept_from (setting_of world.now.scenario) world.now.history role kind) }
+{
+    Ok(is_refusal(&world.answer(alloc, &Move::Deliver { role, kind, to: 0 })?))
+}
+
+fn is_hindered(alloc: Global, world: &World, role: Role) -> Result<bool, AllocError>
+    ensures { IfOk result (λ b. b ≡ words.is_hindered (setting_of world.now.scenario) world.now.history role) }
+{
+    if is_kept_from(alloc, world, role, Kind::Certificate)? {
+        return Ok(true);
+    }
+    if is_kept_from(alloc, world, role, Kind::CertificateRequest)? {
+        return Ok(true);
+    }
+    is_kept_from(alloc, world, role, Kind::Secret)
+}
+
+fn is_any_hindered(alloc: Global, world: &World, roles: &[Role]) -> Result<bool, AllocError>
+    ensures { IfOk result (λ b. b ≡ list_any (λ role. words.is_hindered (setting_of world.now.scenario) world.now.history role) roles.now) }
+{
+    for role in roles {
+        if is_hindered(alloc, world, *role)? {
+            return Ok(true);
+        }
+    }
+    Ok(false)
+}
+
+/// Whether some role does not run, or some informer is held.
+///
+/// # Errors
+///
+/// Want of memory alone.
+pub(crate) fn is_stopped(alloc: Global, world: &World) -> Result<bool, AllocError>
+    ensures { IfOk result (λ b. b ≡ words.is_stopped (setting_of world.now.scenario) world.now.history) }
+{
+    let roles = [
+        Role::Trigger,
+        Role::KeyManager,
+        Role::RequestManager,
+        Role::Approver,
+        Role::Issuer,
+        Role::Issuing,
+        Role::Readiness,
+        Role::Revision,
+    ];
+    is_any_hindered(alloc, world, &roles)
+}
+
+// ---- a Certificate at the end of a run
+
+/// What there is to see of the key.
+fn present_views(alloc: Global, world: &World, key: &Key) -> Result<Views, AllocError>
+    requires finished { IsFinished (setting_of world.now.scenario) world.now.history }
+    requires free { words.is_stopped (setting_of world.now.scenario) world.now.history ≡ false }
+    ensures same { IfOk result (λ seen. seen ≡ viewing.present_views (setting_of world.now.scenario) world.now.history Issuing key.now) }
+    ensures dated { IfOk result (λ seen. HasDatedFailure seen) }
+{
+    world.is_run();
+    world.can_act();
+    world.views(alloc, Role::Issuing, key)
+}
+
+fn wait_seen(alloc: Global, world: &World, key: &Key) -> Result<Option<WaitName>, AllocError>
+    requires finished { IsFinished (setting_of world.now.scenario) world.now.history }
+    requires free { words.is_stopped (setting_of world.now.scenario) world.now.history ≡ false }
+    ensures { IfOk result (λ wait. wait ≡ words.wait_in (histories.moment (setting_of world.now.scenario) world.now.history) (viewing.present_views (setting_of world.now.scenario) world.now.history Issuing key.now)) }
+{
+    let seen = present_views(alloc, world, key)?;
+    Ok(wait_in(world.moment(), &seen))
+}
+
+/// What the Certificate of the key waits for in a finished run, of which `stopped` says whether some role does not run
+/// or some informer is held: for that, or else for the end of its back-off, a next key, a verdict on its next request,
+/// the name of its Secret, or its issuer, the first of these that is so. `None` where none is so.
+///
+/// # Errors
+///
+/// Want of memory alone.
+pub(crate) fn wait_at(
+    alloc: Global,
+    world: &World,
+    stopped: bool,
+    key: &Key,
+) -> Result<Option<WaitName>, AllocError>
+    requires finished { IsFinished (setting_of world.now.scenario) world.now.history }
+    requires stopped { stopped ≡ words.is_stopped (setting_of world.now.scenario) world.now.history }
+    ensures { IfOk result (λ wait. wait ≡ words.wait_at (setting_of world.now.scenario) world.now.history key.now) }
+{
+    if stopped {
+        return Ok(Some(WaitName::Stopped));
+    }
+    wait_seen(alloc, world, key)
+}

@@ -1,0 +1,4 @@
+pub mod Formed
+pub mod Acting
+pub mod Completing
+pub mod Standing

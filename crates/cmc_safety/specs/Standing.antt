@@ -1,0 +1,31 @@
+-- What was stored is in order in every run, beside the rules that admit it.
+use Rattle.std.specs.Prelude.{◌≡◌, ◌≤◌, ℕ, true, List, Some, unwrap_or}
+use Rattle.cmc_meta.specs.declared.key.Key.{Key}
+use Rattle.cmc_objects.specs.declared.certificate.Certificate.{Certificate}
+use Rattle.cmc_objects.specs.declared.object.Object.{Object}
+use Rattle.cmc_objects.specs.declared.entry.Entry.{Entry}
+use Rattle.cmc_objects.specs.Requests.{is_object_form, is_run_time}
+use Rattle.cmc_model.specs.Histories.{Setting, moment, accepted}
+use Rattle.cmc_model.specs.Versions.{HasVersion}
+use Rattle.cmc_model.specs.Writes.{writes}
+use Rattle.cmc_rules.specs.declared.progress.OpenPass.{OpenPass}
+use Rattle.cmc_rules.specs.declared.progress.Stage.{Stage}
+use Rattle.cmc_rules.specs.declared.progress.Stage.TheVariants.{Read, Saved}
+use Rattle.cmc_rules.specs.Passes.{open_pass}
+use Rattle.cmc_rules.specs.Raising.{revision, revision_of_uid, stated_revision}
+
+-- the pass stands behind its live read, and its status is not yet written
+abbrev pub IsWriting : Stage → Type 0
+IsWriting Read = Unit {0}
+IsWriting Saved = Unit {0}
+IsWriting other = ⊥
+
+pub record IsInOrder (s : Setting) (h : List Entry) : Type 0 where
+  -- each version of an object has the form in which objects are read and printed
+  pub forms : (key : Key) (o : Object) → HasVersion s h key o → is_object_form o ≡ true
+  -- no revision is above the number of accepted writes
+  pub revisions : (key : Key) (o : Object) → HasVersion s h key o → unwrap_or (stated_revision o) 0 ≤ accepted s h
+  -- the time of the moment can be written
+  pub time : is_run_time (moment s h) ≡ true
+  -- from its live read to its status the revision of an issuance is the one that its pass saw
+  pub in_progress : (n : ℕ) (p : OpenPass) (c : Certificate) → open_pass s h n ≡ Some p → IsWriting p.stage → p.seen.certificate ≡ Some c → revision_of_uid c.meta.uid (writes s h) ≡ revision c

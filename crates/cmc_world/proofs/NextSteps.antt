@@ -1,0 +1,204 @@
+-- What an open pass does next, and what its move is answered.
+use Rattle.std.proofs.Common.{◌≡◌, ℕ, ◌+◌, ◌≤◌, refl, sym, ap, subst, ◌∙◌, List, [], ◌∷◌, length, Option, Some, None, IfOk, Result, inl, inr, arith}
+use Rattle.std.proofs.lemmas.Result.{IfOk-weaker}
+use Rattle.std.specs.Prelude.{◌↔◌, IsTrue, IsSome, Bool, true, false}
+use Rattle.std.specs.declared.alloc.AllocError.{AllocError}
+use Rattle.cmc_objects.specs.declared.certificate.Certificate.{Certificate}
+use Rattle.cmc_objects.specs.declared.request.CertificateRequest.{CertificateRequest}
+use Rattle.cmc_objects.specs.declared.call.Call.{Call}
+use Rattle.cmc_objects.specs.declared.orders.Order.{Order}
+use Rattle.cmc_objects.specs.declared.orders.Order.TheVariants as orders
+use Rattle.cmc_objects.specs.declared.role.Role.{Role}
+use Rattle.cmc_objects.specs.declared.role.Role.TheVariants.{KeyManager, Issuer}
+use Rattle.cmc_objects.specs.declared.entry.Entry.{Entry}
+use Rattle.cmc_objects.specs.declared.entry.Entry.TheVariants.{Ask as AskEntry}
+use Rattle.cmc_pass.specs.declared.pass.Act.{Act}
+use Rattle.cmc_pass.specs.declared.pass.Act.TheVariants.{Nothing, Call as Calls, Ask as Asked, Issue, Temporary}
+use Rattle.cmc_pass.specs.declared.pass.Desk.{Desk}
+use Rattle.cmc_pass.specs.declared.pass.Views.{Views}
+use Rattle.cmc_pass.specs.declared.value.Value.{Value}
+use Rattle.cmc_rules.specs.declared.progress.OpenPass.{OpenPass}
+use Rattle.cmc_rules.specs.declared.progress.Stage.{Stage}
+use Rattle.cmc_rules.specs.declared.progress.Stage.TheVariants as stages
+use Rattle.cmc_rules.specs.Acts.{act, call_after}
+use Rattle.cmc_rules.specs.Causes.{IsSecretCall, IsStatusCall, act_of, after_of, MayCall, MayAsk, MayEnd}
+use Rattle.cmc_rules.specs.Runs.{IsRun}
+use Rattle.cmc_rules.specs.Desks.{asked, asks_key, asks_issuer, asked_before, certificate_named, desk}
+use Rattle.cmc_rules.specs.Passes.{open_pass}
+use Rattle.cmc_model.specs.Histories.{Setting}
+use Rattle.cmc_held.specs.declared.questions.Subject.{Subject}
+use Rattle.cmc_held.specs.Questioned.{Questioned, count_at, named, asks_key_at, asks_issuer_at, keys_asked, answers_asked, asked_for}
+use Rattle.cmc_safety.specs.Acting.{IsUnbarred, IsNotBarred, MayAct}
+use Rattle.cmc_safety.specs.Formed.{IsFormed}
+use Rattle.cmc_safety.proofs.MayAct.{may_act_pass}
+use Rattle.cmc_safety.proofs.Barred.{never_barred}
+use Rattle.cmc_safety.proofs.Course.{of_open}
+use Rattle.cmc_safety.proofs.Following.{has_following, follows_read, follows_secret}
+use Rattle.cmc_world.specs.declared.going.Doing.{Doing}
+use Rattle.cmc_world.specs.declared.going.Doing.TheVariants.{Call as Makes, Ask as Asks, End as Ends}
+use Rattle.cmc_world.specs.declared.going.Judged.{Judged}
+use Rattle.cmc_world.specs.declared.going.Judged.TheVariants.{Answer, Does}
+use Rattle.cmc_world.specs.declared.moves.Move.TheVariants.{Next}
+use Rattle.cmc_world.specs.declared.moves.Stepped.{Stepped}
+use Rattle.cmc_world.specs.declared.moves.Stepped.TheVariants.{Done, Order as Tells, Spent}
+use Rattle.cmc_world.specs.Answers.{kept_at, kept_of, new_at, new_of, next_answer, AnswersGoing, AnswersNext, Leaves, asked_once}
+use Rattle.cmc_world.specs.Acting.{HasSecret, HasStatus, HasNext, IsDoingBy, IsDoing, IsDone, IsGoing, IsGoingOn, IsJudged, IsQuiet, asked_in}
+use Rattle.cmc_world.specs.Kept.{first_desk}
+use Rattle.cmc_world.proofs.Sounds.{each_sound}
+
+-- ---- the desk
+
+none_asked : (h : List Entry) → asked (λ order. false) h ≡ 0
+none_asked [] = refl
+none_asked (AskEntry pass order ∷ h) = none_asked h
+none_asked (other ∷ h) = none_asked h
+
+-- the tests by a name and by a Certificate, or a request, are one
+key_test : (c : Certificate) (order : Order) → asks_key_at (named c.meta.namespace c.meta.name) order ≡ asks_key (Some c) order
+key_test c (orders.Key order) = refl
+key_test c other = refl
+
+issuer_test : (r : CertificateRequest) (order : Order) → asks_issuer_at (named r.meta.namespace (certificate_named r)) order ≡ asks_issuer (Some r) order
+issuer_test r (orders.Sign order) = refl
+issuer_test r other = refl
+
+counted_keys : (h : List Entry) (q : Questioned) (c : Option Certificate) → ((subject : Subject) → count_at q.keys subject ≡ asked (asks_key_at subject) h) → keys_asked q c ≡ asked (asks_key c) h
+counted_keys h q None keys = sym (none_asked h)
+counted_keys h q (Some c) keys = keys (named c.meta.namespace c.meta.name) ∙ ap (λ (f : Order → Bool). asked f h) (λ i order. key_test c order i)
+
+counted_answers : (h : List Entry) (q : Questioned) (r : Option CertificateRequest) → ((subject : Subject) → count_at q.answers subject ≡ asked (asks_issuer_at subject) h) → answers_asked q r ≡ asked (asks_issuer r) h
+counted_answers h q None answers = sym (none_asked h)
+counted_answers h q (Some r) answers = answers (named r.meta.namespace (certificate_named r)) ∙ ap (λ (f : Order → Bool). asked f h) (λ i order. issuer_test r order i)
+
+-- what is counted of questions is what the history says
+pub counted_before : (h : List Entry) (q : Questioned) (role : Role) (seen : Views) → ((subject : Subject) → count_at q.keys subject ≡ asked (asks_key_at subject) h) → ((subject : Subject) → count_at q.answers subject ≡ asked (asks_issuer_at subject) h)
+    → asked_for q role seen ≡ asked_before h role seen
+counted_before h q KeyManager seen keys answers = counted_keys h q seen.certificate keys
+counted_before h q Issuer seen keys answers = counted_answers h q seen.request answers
+counted_before h q other seen keys answers = refl
+
+pub desk_is : (s : Setting) (h : List Entry) (role : Role) (seen : Views) (q : Questioned) (d : Desk) (n : ℕ) → ((subject : Subject) → count_at q.keys subject ≡ asked (asks_key_at subject) h)
+    → ((subject : Subject) → count_at q.answers subject ≡ asked (asks_issuer_at subject) h) → n ≡ asked_for q role seen → d ≡ record (first_desk s) { asked = n } → d ≡ desk s h role seen
+desk_is s h role seen q d n keys answers counted is = is ∙ ap (λ (m : ℕ). record (first_desk s) { asked = m }) (counted ∙ counted_before h q role seen keys answers)
+
+-- an open pass may act by its desk
+pub may_on : (s : Setting) (h : List Entry) (n : ℕ) (p : OpenPass) (d : Desk) → IsFormed s → IsRun s h → open_pass s h n ≡ Some p → d ≡ desk s h p.role p.seen → MayAct p.seen p.since d
+may_on s h n p d formed run is same = subst (MayAct p.seen p.since) (sym same) (may_act_pass each_sound s h n p formed run is)
+
+-- ---- what comes next
+
+first_asked : (does : Act) (call : Call) → IsDoingBy stages.Fresh does (λ order value. None) (Makes call) → new_at stages.Fresh does ≡ None
+first_asked (Asked order) call is = absurd is
+first_asked other call is = refl
+
+asked_first : (does : Act) (order : Order) → IsDoingBy stages.Fresh does (λ o value. None) (Asks order) → new_at stages.Fresh does ≡ Some order
+asked_first (Asked asked) order is = ap (λ (o : Order). Some o) (sym is)
+asked_first Nothing order is = absurd is
+asked_first (Calls call) order is = absurd is
+asked_first (Issue plan) order is = absurd is
+asked_first (Temporary plan) order is = absurd is
+
+-- a question comes next exactly where the act of a pass that has begun is one
+new_in : (stage : Stage) (does : Act) (after : Order → Value → Option Call) (d : Doing) → IsDoingBy stage does after d → new_at stage does ≡ asked_in d
+new_in stages.Fresh does after (Makes call) is = first_asked does call is
+new_in stages.Fresh does after (Asks order) is = asked_first does order is
+new_in stages.Fresh does after (Ends cause) is = ap (new_at stages.Fresh) is.0
+new_in other does after (Makes call) is = refl
+new_in other does after (Asks order) is = absurd is
+new_in other does after (Ends cause) is = refl
+
+has_secret : (does : Act) (call : Call) → IsSecretCall does call → HasSecret does
+has_secret (Issue plan) call is = tt
+has_secret (Temporary plan) call is = tt
+has_secret Nothing call is = absurd is
+has_secret (Calls first) call is = absurd is
+has_secret (Asked order) call is = absurd is
+
+has_status : (does : Act) (call : Call) → IsStatusCall does call → HasStatus does
+has_status (Issue plan) call is = tt
+has_status Nothing call is = absurd is
+has_status (Calls first) call is = absurd is
+has_status (Asked order) call is = absurd is
+has_status (Temporary plan) call is = absurd is
+
+next_of : (stage : Stage) (does : Act) (after : Order → Value → Option Call) → kept_at stage ≡ None → IsUnbarred stage → ((order : Order) (value : Value) → stage ≡ stages.Given order value → IsSome (after order value))
+    → (stage ≡ stages.Read → (call : Call) × IsSecretCall does call) → (stage ≡ stages.Saved → (call : Call) × IsStatusCall does call) → HasNext stage does after
+next_of stages.Fresh does after free unbarred value read saved = tt
+next_of (stages.Asked order) does after free unbarred value read saved = absurd (cc free)
+next_of (stages.Given order given) does after free unbarred value read saved = value order given refl
+next_of stages.Read does after free unbarred value read saved = let found = read refl in has_secret does found.0 found.1
+next_of stages.Saved does after free unbarred value read saved = let found = saved refl in has_status does found.0 found.1
+next_of stages.Wrote does after free unbarred value read saved = tt
+next_of (stages.Refused entry obstacle) does after free unbarred value read saved = tt
+next_of stages.Barred does after free unbarred value read saved = absurd unbarred
+
+-- an open pass of a run that waits for no value has something to do
+pub has_next : (s : Setting) (h : List Entry) (n : ℕ) (p : OpenPass) → IsRun s h → open_pass s h n ≡ Some p → kept_of (Some p) ≡ None → HasNext p.stage (act_of s h p) (after_of p)
+has_next s h n p run is free =
+    next_of p.stage (act_of s h p) (after_of p) free (of_open IsNotBarred (open_pass s h n) p is (never_barred each_sound s h n run.legal run.caused)) (λ order value given. has_following each_sound s h n p order value run is given)
+    (λ read. follows_read each_sound s h n p run is read) (λ saved. follows_secret each_sound s h n p run is saved)
+
+pub next_on : (s : Setting) (h : List Entry) (n : ℕ) (p : OpenPass) (d : Desk) → IsRun s h → open_pass s h n ≡ Some p → kept_of (Some p) ≡ None → d ≡ desk s h p.role p.seen
+    → HasNext p.stage (act p.role p.seen p.since d) (call_after p.role p.seen p.since)
+next_on s h n p d run is free same = subst (λ (x : Desk). HasNext p.stage (act p.role p.seen p.since x) (call_after p.role p.seen p.since)) (sym same) (has_next s h n p run is free)
+
+-- and what it does by its desk is what comes next of it
+pub doing_on : (s : Setting) (h : List Entry) (p : OpenPass) (d : Desk) (r : Result Doing AllocError) → d ≡ desk s h p.role p.seen
+    → IfOk r (λ x. IsDoingBy p.stage (act p.role p.seen p.since d) (call_after p.role p.seen p.since) x) → IfOk r (λ x. IsDoingBy p.stage (act p.role p.seen p.since (desk s h p.role p.seen)) (call_after p.role p.seen p.since) x)
+doing_on s h p d r same does = subst (λ (e : Desk). IfOk r (λ x. IsDoingBy p.stage (act p.role p.seen p.since e) (call_after p.role p.seen p.since) x)) same does
+
+doing_of : (s : Setting) (h : List Entry) (n : ℕ) (p : OpenPass) (d : Doing) → open_pass s h n ≡ Some p → IsDoingBy p.stage (act_of s h p) (after_of p) d → IsDoing s h n d
+doing_of s h n p (Makes call) is does = subst (λ (o : Option OpenPass). MayCall s h o call) (sym is) does
+doing_of s h n p (Asks order) is does = subst (λ (o : Option OpenPass). MayAsk s h o order) (sym is) does
+doing_of s h n p (Ends cause) is does = subst (λ (o : Option OpenPass). MayEnd s h o cause) (sym is) does
+
+kept_none : (s : Setting) (h : List Entry) (n : ℕ) (p : OpenPass) → open_pass s h n ≡ Some p → kept_of (Some p) ≡ None → kept_of (open_pass s h n) ≡ None
+kept_none s h n p is free = ap kept_of is ∙ free
+
+-- no entry more fits
+pub spent_going : (s : Setting) (h : List Entry) (n : ℕ) (p : OpenPass) (entries events : ℕ) (room : Bool) → open_pass s h n ≡ Some p → kept_of (Some p) ≡ None → entries ≡ length h → events ≡ s.events
+    → (IsTrue room ↔ (entries + 1 ≤ events)) → room ≡ false → IsGoingOn s h n (Answer (Spent entries))
+spent_going s h n p entries events room is free counted most fits off =
+    let over : length h + 1 ≤ s.events → ⊥ = λ low. let on : room ≡ true = fits.1 (subst (λ (m : ℕ). m + 1 ≤ events) (sym counted) (subst (λ (m : ℕ). length h + 1 ≤ m) (sym most) low)) in absurd (cc (on, off)) in
+    rw (kept_none s h n p is free, counted) (inl (over, refl), tt)
+
+-- and else the pass does what comes next
+pub does_going : (s : Setting) (h : List Entry) (n : ℕ) (p : OpenPass) (d : Doing) (entries events : ℕ) (room : Bool) → open_pass s h n ≡ Some p → kept_of (Some p) ≡ None
+    → IsDoingBy p.stage (act p.role p.seen p.since (desk s h p.role p.seen)) (call_after p.role p.seen p.since) d → entries ≡ length h → events ≡ s.events → (IsTrue room ↔ (entries + 1 ≤ events)) → room ≡ true
+    → IsGoingOn s h n (Does d)
+does_going s h n p d entries events room is free does counted most fits on =
+    let low : length h + 1 ≤ s.events = subst (λ (m : ℕ). length h + 1 ≤ m) most (subst (λ (m : ℕ). m + 1 ≤ events) counted (fits.0 on)) in
+    let none : kept_of (open_pass s h n) ≡ None = kept_none s h n p is free in
+    let new : new_of s h (open_pass s h n) ≡ asked_in d = ap (new_of s h) is ∙ new_in p.stage (act_of s h p) (after_of p) d does in (
+      going_new (kept_of (open_pass s h n)) (new_of s h (open_pass s h n)) none new low,
+      record { free = none; new = new; does = doing_of s h n p d is does; room = omega (arith, low) },
+    ) where
+      going_new : (kept new : Option Order) → kept ≡ None → new ≡ asked_in d → length h + 1 ≤ s.events → AnswersGoing s h n kept new (next_answer n (asked_in d))
+      going_new kept new none is low = rw (none, is) (inr (low, refl))
+
+-- a question whose value is waited for is told again
+pub told_again : (s : Setting) (h : List Entry) (n : ℕ) (p : OpenPass) (order : Order) → open_pass s h n ≡ Some p → kept_of (Some p) ≡ Some order → IsGoingOn s h n (Answer (Tells n order))
+told_again s h n p order is kept = let same : kept_of (open_pass s h n) ≡ Some order = ap kept_of is ∙ kept in rw same (refl, refl)
+
+-- the answer of a move that has the pass do this
+pub answer_by : (s : Setting) (h : List Entry) (pass named : ℕ) (j : Judged) (d : Doing) (r : Result Stepped AllocError) → IsJudged s h pass named j → j ≡ Does d → IfOk r (λ a. a ≡ next_answer pass (asked_in d)) → IfOk r (λ a. AnswersNext s h pass named a)
+answer_by s h pass named j d r judged is answers =
+    let this = subst (IsJudged s h pass named) is judged in
+    IfOk-weaker r _ _ (λ a same. subst (λ (x : Stepped). AnswersNext s h pass named x) (sym same) this.0) answers
+
+-- ---- what is left
+
+quiet_left : (s : Setting) (h : List Entry) (pass named : ℕ) (answer : Stepped) → IsQuiet (kept_of (open_pass s h pass)) answer → Leaves s h (Next pass named) answer h
+quiet_left s h pass named Done quiet = absurd quiet
+quiet_left s h pass named (Tells number order) quiet = sym (ap (λ (o : Option Order). asked_once o pass order h) quiet)
+quiet_left s h pass named other quiet = refl
+
+-- an answer that leaves all as it was
+pub leaves_quiet : (s : Setting) (h k : List Entry) (pass named : ℕ) (answer : Stepped) → IsQuiet (kept_of (open_pass s h pass)) answer → k ≡ h → Leaves s h (Next pass named) answer k
+leaves_quiet s h k pass named answer quiet same = subst (λ (l : List Entry). Leaves s h (Next pass named) answer l) (sym same) (quiet_left s h pass named answer quiet)
+
+-- what a pass has done is what its move leaves
+pub leaves_done : (s : Setting) (h k : List Entry) (pass named : ℕ) (d : Doing) (e : Entry) → IsGoing s h pass d → IsDone s h pass d e → k ≡ e ∷ h → Leaves s h (Next pass named) (next_answer pass (asked_in d)) k
+leaves_done s h k pass named (Makes call) e goes (reply, right, is) grown = (e, inl (call, goes.does, (reply, right, is)), grown)
+leaves_done s h k pass named (Asks order) e goes is grown = grown ∙ ap (λ (x : Entry). x ∷ h) is ∙ sym (ap (λ (o : Option Order). asked_once o pass order h) goes.free)
+leaves_done s h k pass named (Ends cause) e goes is grown = (e, inr (cause, goes.does, is), grown)
