@@ -13,7 +13,9 @@ ghost use Rattle.cmc_rules.specs.Desks.{desk as desk_at};
 ghost use Rattle.cmc_rules.specs.Safety.{IsSafe};
 ghost use Rattle.cmc_rules.specs.Viewing.{views};
 ghost use Rattle.cmc_safety.specs.Acting.{MayAct, IsNeverInvalid};
+ghost use Rattle.cmc_safety.specs.Completing.{CompletesIssuing};
 ghost use Rattle.cmc_safety.specs.Formed.{IsFormed};
+ghost use Rattle.cmc_safety.specs.Standing.{IsInOrder};
 ghost use Rattle.cmc_world.specs.Kept.{setting_of};
 ghost use Rattle.cmc_world.specs.Leading.{Lead, Extends};
 ghost use Rattle.cmc_world.specs.declared.moves.Move.{Move as MoveValue};
@@ -185,13 +187,16 @@ impl World {
     /// A law: whatever moves led to this world, its history is legal, caused, and follows the script with
     /// at most as many entries as the scenario allows; each accepted write of a pass changes only what its role may
     /// change; the history is safe, so that each Secret that issuing wrote is a good issue, no issuer was asked about a
-    /// request that was not approved, and revisions rose by one behind their Secret alone; and no rule refused a call
-    /// of a pass.
+    /// request that was not approved, and revisions rose by one behind their Secret alone; no rule refused a call of a
+    /// pass; a pass of issuing that has a plan and is left undisturbed carries it out whole; and each object that stands has
+    /// its form, a revision that was counted, and moments that have passed.
     pub fn is_run(&self)
         ensures run { IsRun (setting_of self.now.scenario) self.now.history }
         ensures rights { KeepsRights (setting_of self.now.scenario) self.now.history }
         ensures safe { IsSafe (setting_of self.now.scenario) self.now.history }
         ensures valid { IsNeverInvalid self.now.history }
+        ensures complete { CompletesIssuing (setting_of self.now.scenario) self.now.history }
+        ensures order { IsInOrder (setting_of self.now.scenario) self.now.history }
     {
         let _entries = self.history.len();
     }

@@ -7,6 +7,8 @@ use Rattle.cmc_objects.specs.declared.entry.Entry.{Entry}
 use Rattle.cmc_rules.specs.Rights.{KeepsRights}
 use Rattle.cmc_rules.specs.Safety.{IsSafe}
 use Rattle.cmc_rules.specs.Runs.{IsRun, IsFinished}
+use Rattle.cmc_safety.specs.Completing.{CompletesIssuing}
+use Rattle.cmc_safety.specs.Standing.{IsInOrder}
 use Rattle.cmc_report.specs.Text.{joined, history_lines}
 use Rattle.cmc_setup.specs.declared.scenario.Scenario.{Scenario}
 use Rattle.cmc_scenario.specs.Scenarios.{scenario_at}
@@ -25,6 +27,8 @@ pub record RunsOn (value : Data) (scenario : Scenario) (text : List ℕ) : Type 
   pub run : IsRun (setting_of scenario) history
   pub rights : KeepsRights (setting_of scenario) history
   pub safe : IsSafe (setting_of scenario) history
+  pub complete : CompletesIssuing (setting_of scenario) history
+  pub order : IsInOrder (setting_of scenario) history
   pub plain : IsPlain (setting_of scenario) history
   pub finished : IsFinished (setting_of scenario) history
   pub is : text ≡ joined (history_lines value history (summary_at (setting_of scenario) history))

@@ -2,9 +2,13 @@ use Rattle.std.proofs.Common.{subst}
 use Rattle.cmc_rules.specs.Rights.{KeepsRights}
 use Rattle.cmc_rules.specs.Safety.{IsSafe}
 use Rattle.cmc_safety.specs.Acting.{IsNeverInvalid}
+use Rattle.cmc_safety.specs.Completing.{CompletesIssuing}
+use Rattle.cmc_safety.specs.Standing.{IsInOrder}
 use Rattle.cmc_safety.proofs.Barred.{never_invalid}
+use Rattle.cmc_safety.proofs.Completing.{completes}
 use Rattle.cmc_safety.proofs.Rights.{keeps_rights}
 use Rattle.cmc_safety.proofs.Safe.{safe}
+use Rattle.cmc_safety.proofs.Standing.{in_order}
 use Rattle.cmc_world.specs.Kept.{Seen, setting_of}
 use Rattle.cmc_world.proofs.Sounds.{each_sound}
 use Rattle.cmc_world.proofs.world.World.is_run.Goals as goal
@@ -21,3 +25,13 @@ pub returns-clause-valid : goal.returns-clause-valid
 returns-clause-valid c =
     let run = c.self.invariant.held.run in
     subst (λ (v : Seen). IsNeverInvalid v.history) c.self.view_is (never_invalid each_sound _ _ run.legal run.caused)
+
+pub returns-clause-complete : goal.returns-clause-complete
+returns-clause-complete c =
+    let run = c.self.invariant.held.run in
+    subst (λ (v : Seen). CompletesIssuing (setting_of v.scenario) v.history) c.self.view_is (completes each_sound _ _ run.legal run.caused)
+
+pub returns-clause-order : goal.returns-clause-order
+returns-clause-order c =
+    let run = c.self.invariant.held.run in
+    subst (λ (v : Seen). IsInOrder (setting_of v.scenario) v.history) c.self.view_is (in_order each_sound _ _ c.self.invariant.held.formed run.legal run.caused run.follows)
