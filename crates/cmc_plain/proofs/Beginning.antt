@@ -1,9 +1,6 @@
 -- What a begin needs beside room, and when a key fits a role.
-use Rattle.std.proofs.Common.{◌≡◌, Bool, true, false, List, sym, subst}
-use Rattle.std.proofs.lemmas.Result.{IfOk-weaker}
-use Rattle.std.specs.Prelude.{◌↔◌, IsTrue, IfOk, Result}
-use Rattle.std.specs.declared.alloc.AllocError.{AllocError}
-use Rattle.cmc_plain.specs.Plain.{MayBegin}
+use Rattle.std.proofs.Common.{◌≡◌, Bool, true, false, List, refl, sym, subst}
+use Rattle.std.specs.Prelude.{◌↔◌, not, IsTrue}
 use Rattle.cmc_meta.specs.declared.key.Key.{Key}
 use Rattle.cmc_objects.specs.declared.role.Role.{Role}
 use Rattle.cmc_objects.specs.declared.entry.Entry.{Entry}
@@ -14,8 +11,10 @@ use Rattle.cmc_rules.specs.Positions.{positions}
 use Rattle.cmc_rules.specs.Viewing.{views}
 use Rattle.cmc_rules.specs.Memory.{past}
 use Rattle.cmc_rules.specs.Sameness.{IsDue}
-use Rattle.cmc_plain.specs.Plain.{IsWorth, Fits}
+use Rattle.cmc_rules.specs.Legality.{IsLegal}
+use Rattle.cmc_plain.specs.Plain.{IsQuiet, Fits}
 use Rattle.cmc_plain.specs.Searches.{IsFree}
+use Rattle.cmc_plain.proofs.Unknown.{unknown_quiet}
 
 -- ---- when a key fits
 
@@ -26,18 +25,29 @@ unfit_undue s h role key seen b is due off = (
   λ f. let on = due.1 (subst (λ (v : Views). IsDue (past s h role key) v (moment s h) (positions h role)) (sym is) f.may.due) in absurd (cc (on, off)),
 )
 
-pub fit_worth : (s : Setting) (h : List Entry) (role : Role) (key : Key) (seen : Views) (b : Bool) (r : Result Bool AllocError) → seen ≡ views s h role key
-    → runs s h role ≡ true → is_known key (writes s h) ≡ true → IsFree s h role key
-    → (IsTrue b ↔ IsDue (past s h role key) seen (moment s h) (positions h role)) → b ≡ true
-    → IfOk r (λ w. IsTrue w ↔ IsWorth s h role key) → IfOk r (λ w. IsTrue w ↔ Fits s h role key)
-fit_worth s h role key seen b r is running known free due on worth =
-    let m : MayBegin s h role key = record {
+known_by : (b : Bool) (s : Setting) (h : List Entry) (role : Role) (key : Key) → is_known key (writes s h) ≡ b → IsLegal s h → (IsQuiet s h role key → ⊥) → is_known key (writes s h) ≡ true
+known_by true s h role key is legal worth = is
+known_by false s h role key is legal worth = absurd (worth (unknown_quiet s h role key legal is))
+
+-- a key on which the role is due fits where it is not quiet: one that no write named is quiet
+pub fit_unless_quiet : (s : Setting) (h : List Entry) (role : Role) (key : Key) (seen : Views) (due quiet : Bool) → IsLegal s h → seen ≡ views s h role key
+    → runs s h role ≡ true → IsFree s h role key → (IsTrue due ↔ IsDue (past s h role key) seen (moment s h) (positions h role)) → due ≡ true
+    → (IsTrue quiet ↔ IsQuiet s h role key) → IsTrue (not quiet) ↔ Fits s h role key
+fit_unless_quiet s h role key seen due quiet legal is running free due_is on quiet_is = (λ loud. fits (unquiet quiet loud quiet_is), λ f. loud_by quiet quiet_is f.worth) where
+  unquiet : (b : Bool) → not b ≡ true → (IsTrue b ↔ IsQuiet s h role key) → IsQuiet s h role key → ⊥
+  unquiet true loud e q = absurd (cc loud)
+  unquiet false loud e q = let bad = e.1 q in absurd (cc bad)
+  loud_by : (b : Bool) → (IsTrue b ↔ IsQuiet s h role key) → (IsQuiet s h role key → ⊥) → not b ≡ true
+  loud_by true e worth = absurd (worth (e.0 refl))
+  loud_by false e worth = refl
+  fits : (IsQuiet s h role key → ⊥) → Fits s h role key
+  fits worth = record {
+    may = record {
       running = running;
       idle = free.idle;
-      due = subst (λ (v : Views). IsDue (past s h role key) v (moment s h) (positions h role)) is (due.0 on);
+      due = subst (λ (v : Views). IsDue (past s h role key) v (moment s h) (positions h role)) is (due_is.0 on);
       work = free.kind;
-      known = known;
-    } in
-    IfOk-weaker r _ _ (λ w so. (λ on. record { may = m; worth = so.0 on }, λ f. so.1 f.worth)) worth
-
--- ---- when it is worth it
+      known = known_by (is_known key (writes s h)) s h role key refl legal worth;
+    };
+    worth = worth;
+  }

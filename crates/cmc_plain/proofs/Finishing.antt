@@ -59,7 +59,7 @@ closed_by : (s : Setting) (h : List Entry) (n : ℕ) (p : Option OpenPass) → o
 closed_by s h n None is none = refl
 closed_by s h n (Some p) is none = absurd (none p is)
 
-closed : (s : Setting) (h : List Entry) → HasNoPass s h → (n : ℕ) → open_pass s h n ≡ None
+pub closed : (s : Setting) (h : List Entry) → HasNoPass s h → (n : ℕ) → open_pass s h n ≡ None
 closed s h none n = closed_by s h n (open_pass s h n) refl (λ p is. none n (subst IsOpen (sym is) tt))
 
 -- ---- all roles are told
@@ -71,7 +71,7 @@ told_by false s h role kind e running informed free none =
     let above : position h role kind < last_of_kind kind (writes s h) = grind (arith, nat_tests) in
     absurd (none (record { running = running; informed = informed; free = free; behind = above }))
 
-told : (s : Setting) (h : List Entry) → HasNoDelivery s h → (role : Role) (kind : Kind) → runs s h role ≡ true → has_informer role kind ≡ true → held s h role kind ≡ false
+pub told : (s : Setting) (h : List Entry) → HasNoDelivery s h → (role : Role) (kind : Kind) → runs s h role ≡ true → has_informer role kind ≡ true → held s h role kind ≡ false
     → last_of_kind kind (writes s h) ≤ position h role kind
 told s h none role kind running informed free =
     told_by (nat_le (last_of_kind kind (writes s h)) (position h role kind)) s h role kind refl running informed free (none role kind)
@@ -102,11 +102,15 @@ unseen s h role key other =
 abbrev IsBusy : Setting → List Entry → Role → Key → Type 0
 IsBusy s h role key = IsIdle s h role (views s h role key) → ⊥
 
+-- on such a key it has nothing to do
+pub idle_elsewhere : (s : Setting) (h : List Entry) (role : Role) (key : Key) → kind_eq key.kind (kind_of_work role) ≡ false → IsIdle s h role (views s h role key)
+idle_elsewhere s h role key is =
+    let none = unseen s h role key is in
+    (each_sound role).absent (views s h role key) (moment s h) (desk s h role (views s h role key)) (record { certificate = none.0; request = none.1 })
+
 work_by : (same : Bool) (s : Setting) (h : List Entry) (role : Role) (key : Key) → kind_eq key.kind (kind_of_work role) ≡ same → IsBusy s h role key → key.kind ≡ kind_of_work role
 work_by true s h role key is busy = same_kind key.kind (kind_of_work role) is
-work_by false s h role key is busy =
-    let none = unseen s h role key is in
-    absurd (busy ((each_sound role).absent (views s h role key) (moment s h) (desk s h role (views s h role key)) (record { certificate = none.0; request = none.1 })))
+work_by false s h role key is busy = absurd (busy (idle_elsewhere s h role key is))
 
 work : (s : Setting) (h : List Entry) (role : Role) (key : Key) → IsBusy s h role key → key.kind ≡ kind_of_work role
 work s h role key busy = work_by (kind_eq key.kind (kind_of_work role)) s h role key refl busy
@@ -124,7 +128,7 @@ fits : (s : Setting) (h : List Entry) (role : Role) (key : Key) → runs s h rol
     → IsBusy s h role key → IsDueNow s h role key → Fits s h role key
 fits s h role key running known shut busy due = record {
   may = record { running = running; idle = idle_of s h role key shut; due = due; work = work s h role key busy; known = known };
-  worth = inl busy;
+  worth = λ q. busy q.idle;
 }
 
 -- ---- a role that is told of all is due where it has something to do
@@ -207,7 +211,7 @@ neither : (a b : Bool) → (a || b) ≡ false → (a ≡ false) × (b ≡ false)
 neither true b off = absurd (cc)
 neither false b off = (refl, off)
 
-none_held : (s : Setting) (h : List Entry) (role : Role) → has_held s h role ≡ false → (kind : Kind) → held s h role kind ≡ false
+pub none_held : (s : Setting) (h : List Entry) (role : Role) → has_held s h role ≡ false → (kind : Kind) → held s h role kind ≡ false
 none_held s h role none kinds.Certificate = (neither (held s h role kinds.Certificate) (held s h role kinds.CertificateRequest || held s h role kinds.Secret) none).0
 none_held s h role none kinds.CertificateRequest =
     (neither (held s h role kinds.CertificateRequest) (held s h role kinds.Secret) (neither (held s h role kinds.Certificate) (held s h role kinds.CertificateRequest || held s h role kinds.Secret) none).1).0

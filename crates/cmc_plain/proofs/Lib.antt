@@ -19,3 +19,9 @@ pub mod Ending
 pub mod Turns
 pub mod NothingHeld
 pub mod Asking
+pub mod Unknown
+pub mod Quiet
+pub mod ReadyRows
+pub mod Woken
+pub mod Resting
+pub mod Affecting

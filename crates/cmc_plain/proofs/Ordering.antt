@@ -23,7 +23,7 @@ one_more P n role r false is not_here before low e p = not_here (subst P (role_o
 pub none_before_more : (P : Role → Type 0) (n : ℕ) (role : Role) → role_rank role ≡ n → (P role → ⊥) → HasNoneBefore P n → HasNoneBefore P (n + 1)
 none_before_more P n role is not_here before r low p = one_more P n role r (nat_lt (role_rank r) n) is not_here before low refl p
 
-rank_low : (r : Role) → role_rank r < 8
+pub rank_low : (r : Role) → role_rank r < 8
 rank_low Trigger = omega arith
 rank_low other = omega arith
 

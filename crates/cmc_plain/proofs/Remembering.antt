@@ -236,7 +236,7 @@ IsRemembered seen since (Some l) = (l.seen ≡ seen) × (l.since ≡ since)
 abbrev pub RemembersPass : Setting → List Entry → OpenPass → Type 0
 RemembersPass s h p = IsRemembered p.seen p.since (past s h p.role p.key).last
 
-last_called : (s : Setting) (h : List Entry) (role : Role) (key : Key) (p : Past) (who : Who) (kind : Kind) (ok : Bool) → (past_called s h role key p who kind ok).last ≡ p.last
+pub last_called : (s : Setting) (h : List Entry) (role : Role) (key : Key) (p : Past) (who : Who) (kind : Kind) (ok : Bool) → (past_called s h role key p who kind ok).last ≡ p.last
 last_called s h role key p User kind ok = refl
 last_called s h role key p (Pass pass) kind ok = kept (ok && is_pass_of role key (open_pass s h pass)) where
   kept : (b : Bool) → (if b then with_own kind (accepted s h + 1) p else p).last ≡ p.last

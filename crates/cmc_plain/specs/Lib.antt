@@ -3,3 +3,4 @@ pub mod Searches
 pub mod Histories
 pub mod Driving
 pub mod Waits
+pub mod Ready

@@ -71,9 +71,10 @@ abbrev pub seen_last : Option LastPass → Views
 seen_last None = no_views
 seen_last (Some last) = last.seen
 
--- the role has something to do on the key, or sees what it did not see as it last began a pass on it
-abbrev pub IsWorth : Setting → List Entry → Role → Key → Type 0
-IsWorth s h role key = (IsIdle s h role (views s h role key) → ⊥) ⊎ (views s h role key ≡ seen_last (past s h role key).last → ⊥)
+-- the role has nothing to do on the key, and sees what it saw as it last began a pass on it
+pub record IsQuiet (s : Setting) (h : List Entry) (role : Role) (key : Key) : Type 0 where
+  pub idle : IsIdle s h role (views s h role key)
+  pub same : views s h role key ≡ seen_last (past s h role key).last
 
 -- a pass of the role on the key may begin: it runs, works on the key in no pass, is due, and the key is one of its work that an accepted write named
 pub record MayBegin (s : Setting) (h : List Entry) (role : Role) (key : Key) : Type 0 where
@@ -83,9 +84,10 @@ pub record MayBegin (s : Setting) (h : List Entry) (role : Role) (key : Key) : T
   pub work : key.kind ≡ kind_of_work role
   pub known : is_known key (writes s h) ≡ true
 
+-- and it is worth it: the role has something to do there, or sees something new
 pub record Fits (s : Setting) (h : List Entry) (role : Role) (key : Key) : Type 0 where
   pub may : MayBegin s h role key
-  pub worth : IsWorth s h role key
+  pub worth : IsQuiet s h role key → ⊥
 
 pub record IsFirstBegin (s : Setting) (h : List Entry) (role : Role) (key : Key) : Type 0 where
   pub fits : Fits s h role key

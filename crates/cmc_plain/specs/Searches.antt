@@ -1,5 +1,5 @@
 -- What the searches for the plain move find.
-use Rattle.std.specs.Prelude.{◌≡◌, ℕ, ◌<◌, List, Option, Some, None}
+use Rattle.std.specs.Prelude.{◌≡◌, ℕ, ◌<◌, true, List, Option, Some, None}
 use Rattle.std.specs.declared.cmp.Ordering.TheVariants.{Less}
 use Rattle.cmc_meta.specs.declared.key.Key.{Key}
 use Rattle.cmc_meta.specs.declared.key.Kind.{Kind}
@@ -7,11 +7,12 @@ use Rattle.cmc_meta.specs.Keys.{kind_rank, key_cmp}
 use Rattle.cmc_objects.specs.Roles.{role_rank}
 use Rattle.cmc_objects.specs.declared.role.Role.{Role}
 use Rattle.cmc_objects.specs.declared.entry.Entry.{Entry}
-use Rattle.cmc_model.specs.Histories.{Setting}
+use Rattle.cmc_model.specs.Histories.{Setting, runs}
 use Rattle.cmc_rules.specs.Positions.{kind_of_work}
 use Rattle.cmc_world.specs.declared.moves.Move.{Move}
 use Rattle.cmc_world.specs.declared.moves.Stepped.{Stepped}
 use Rattle.cmc_world.specs.declared.moves.Stepped.TheVariants.{Done, Spent}
+use Rattle.cmc_world.specs.Rest.{RestsOnKnown}
 use Rattle.cmc_rules.specs.Passes.{open_pass, IsWorking}
 use Rattle.cmc_plain.specs.declared.passes.Going.{Going}
 use Rattle.cmc_plain.specs.declared.deliveries.Delivery.{Delivery}
@@ -72,6 +73,16 @@ HasNoBegin s h = (role : Role) (key : Key) → Fits s h role key → ⊥
 abbrev pub FindsBegin : Setting → List Entry → Option Beginning → Type 0
 FindsBegin s h None = HasNoBegin s h
 FindsBegin s h (Some b) = IsFirstBegin s h b.role b.key
+
+-- ---- rest
+
+-- the role has nothing to do on any key that an accepted write named, if it runs
+abbrev pub RestsWhereRunning : Setting → List Entry → Role → Type 0
+RestsWhereRunning s h role = runs s h role ≡ true → RestsOnKnown s h role
+
+-- it is so of each role before this place
+abbrev pub EachBefore : (Role → Type 0) → ℕ → Type 0
+EachBefore P n = (r : Role) → role_rank r < n → P r
 
 -- ---- all moves
 

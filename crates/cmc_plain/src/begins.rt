@@ -7,16 +7,17 @@ ghost use Rattle.cmc_meta.specs.Keys.{key_cmp};
 ghost use Rattle.cmc_model.specs.Histories as histories;
 ghost use Rattle.cmc_rules.specs.Memory.{past};
 ghost use Rattle.cmc_rules.specs.Viewing.{views};
-ghost use Rattle.cmc_model.specs.Writes.{is_known, writes};
 ghost use Rattle.cmc_held.specs.Remembered.{past_or_new};
 ghost use Rattle.cmc_world.specs.Kept.{setting_of};
+ghost use Rattle.cmc_rules.specs.Positions.{kind_of_work};
 ghost use Rattle.cmc_plain.specs.Plain as spec;
+ghost use Rattle.cmc_plain.specs.Ready.{Covers};
 ghost use Rattle.cmc_plain.specs.Searches.{FindsBegin, FindsKey, IsFree};
 
+use crate::ready::Ready;
 use crate::roles::role_in;
 use cmc_held::kind_of_work;
 use cmc_meta::Key;
-use cmc_model::Write;
 use cmc_objects::Role;
 use cmc_pass::Views;
 use cmc_rules::{LastPass, Past};
@@ -29,24 +30,6 @@ use std::collections::BTreeSet;
 pub(crate) struct Beginning {
     pub role: Role,
     pub key: Key,
-}
-
-/// The keys of these writes, in order.
-fn keys_of(alloc: Global, writes: &[Write]) -> Result<BTreeSet<Key>, AllocError>
-    ensures { IfOk result (λ keys. (k : KeyValue) → contains key_cmp keys k ≡ is_known k writes.now) }
-{
-    let mut keys = BTreeSet::new(alloc);
-    for write in writes {
-        keys.insert(write.key.copy()?)?;
-    }
-    Ok(keys)
-}
-
-/// The keys that accepted writes named, in order.
-fn known_keys(alloc: Global, world: &World) -> Result<BTreeSet<Key>, AllocError>
-    ensures { IfOk result (λ keys. (k : KeyValue) → contains key_cmp keys k ≡ is_known k (writes (setting_of world.now.scenario) world.now.history)) }
-{
-    keys_of(alloc, world.log().as_slice())
 }
 
 /// Whether the key is one of the role's kind of work, and no pass of it on the key is open.
@@ -83,9 +66,8 @@ fn saw_last(alloc: Global, before: Option<&Past>, seen: &Views) -> bool
     }
 }
 
-/// Whether the role, which sees this of the key, has something to do there, or sees what it did not see
-/// as it last began.
-fn is_worth(
+/// Whether the role, which sees this of the key, has nothing to do there and sees what it saw as it last began.
+fn is_quiet_seen(
     alloc: Global,
     world: &World,
     role: Role,
@@ -93,16 +75,33 @@ fn is_worth(
     seen: &Views,
 ) -> Result<bool, AllocError>
     requires { seen.now ≡ views (setting_of world.now.scenario) world.now.history role key.now }
-    ensures { IfOk result (λ b. IsTrue b ↔ spec.IsWorth (setting_of world.now.scenario) world.now.history role key.now) }
+    ensures { IfOk result (λ b. IsTrue b ↔ spec.IsQuiet (setting_of world.now.scenario) world.now.history role key.now) }
 {
     world.can_act();
     if !saw_last(alloc, world.past(role, key), seen) {
-        return Ok(true);
+        return Ok(false);
     }
-    Ok(!world.is_idle(alloc, role, seen)?)
+    world.is_idle(alloc, role, seen)
 }
 
-/// Whether the key, which an accepted write named, fits the role, which runs and sees it so.
+/// Whether the role has nothing to do on the key, and sees what it saw as it last began a pass on it.
+///
+/// # Errors
+///
+/// Want of memory alone.
+pub(crate) fn is_quiet(
+    alloc: Global,
+    world: &World,
+    role: Role,
+    key: &Key,
+) -> Result<bool, AllocError>
+    ensures { IfOk result (λ b. IsTrue b ↔ spec.IsQuiet (setting_of world.now.scenario) world.now.history role key.now) }
+{
+    let seen = world.views(alloc, role, key)?;
+    is_quiet_seen(alloc, world, role, key, &seen)
+}
+
+/// Whether the key fits the role, which runs, sees it so and works on it in no pass.
 fn fits_seen(
     alloc: Global,
     world: &World,
@@ -112,20 +111,20 @@ fn fits_seen(
 ) -> Result<bool, AllocError>
     requires sees { seen.now ≡ views (setting_of world.now.scenario) world.now.history role key.now }
     requires running { histories.runs (setting_of world.now.scenario) world.now.history role ≡ true }
-    requires known { is_known key.now (writes (setting_of world.now.scenario) world.now.history) ≡ true }
     requires free { IsFree (setting_of world.now.scenario) world.now.history role key.now }
     ensures { IfOk result (λ b. IsTrue b ↔ spec.Fits (setting_of world.now.scenario) world.now.history role key.now) }
 {
+    world.is_run();
     if !world.is_due(role, key, seen) {
         return Ok(false);
     }
-    is_worth(alloc, world, role, key, seen)
+    let quiet = is_quiet_seen(alloc, world, role, key, seen)?;
+    Ok(!quiet)
 }
 
-/// Whether the key, which an accepted write named, fits the role, which runs.
+/// Whether the key fits the role, which runs.
 fn fits(alloc: Global, world: &World, role: Role, key: &Key) -> Result<bool, AllocError>
     requires running { histories.runs (setting_of world.now.scenario) world.now.history role ≡ true }
-    requires known { is_known key.now (writes (setting_of world.now.scenario) world.now.history) ≡ true }
     ensures { IfOk result (λ b. IsTrue b ↔ spec.Fits (setting_of world.now.scenario) world.now.history role key.now) }
 {
     if !is_free(world, role, key) {
@@ -135,7 +134,7 @@ fn fits(alloc: Global, world: &World, role: Role, key: &Key) -> Result<bool, All
     fits_seen(alloc, world, role, key, &seen)
 }
 
-/// The first of the keys that fits the role, which runs.
+/// The first of the keys that fits the role, which runs. Every key of its work beside them is quiet.
 fn first_among(
     alloc: Global,
     world: &World,
@@ -143,7 +142,7 @@ fn first_among(
     keys: &BTreeSet<Key>,
 ) -> Result<Option<Key>, AllocError>
     requires running { histories.runs (setting_of world.now.scenario) world.now.history role ≡ true }
-    requires known { (k : KeyValue) → contains key_cmp keys.now k ≡ is_known k (writes (setting_of world.now.scenario) world.now.history) }
+    requires others { (k : KeyValue) → k.kind ≡ kind_of_work role → contains key_cmp keys.now k ≡ false → spec.IsQuiet (setting_of world.now.scenario) world.now.history role k }
     ensures { IfOk result (λ k. FindsKey (setting_of world.now.scenario) world.now.history role k) }
 {
     for key in keys.iter() {
@@ -154,20 +153,20 @@ fn first_among(
     Ok(None)
 }
 
-/// The first of the keys that fits the role.
+/// The first of the keys that are ready for the role, and fit it.
 fn first_key(
     alloc: Global,
     world: &World,
     role: Role,
-    keys: &BTreeSet<Key>,
+    ready: &Ready,
 ) -> Result<Option<Key>, AllocError>
-    requires { (k : KeyValue) → contains key_cmp keys.now k ≡ is_known k (writes (setting_of world.now.scenario) world.now.history) }
+    requires { Covers (setting_of world.now.scenario) world.now.history ready.now }
     ensures { IfOk result (λ k. FindsKey (setting_of world.now.scenario) world.now.history role k) }
 {
     if !world.runs(role) {
         return Ok(None);
     }
-    first_among(alloc, world, role, keys)
+    first_among(alloc, world, role, ready.keys(role))
 }
 
 /// The first role that a key fits, with the first such key; `None` exactly where there is none.
@@ -175,13 +174,17 @@ fn first_key(
 /// # Errors
 ///
 /// Want of memory alone.
-pub(crate) fn first_begin(alloc: Global, world: &World) -> Result<Option<Beginning>, AllocError>
+pub(crate) fn first_begin(
+    alloc: Global,
+    world: &World,
+    ready: &Ready,
+) -> Result<Option<Beginning>, AllocError>
+    requires { Covers (setting_of world.now.scenario) world.now.history ready.now }
     ensures { IfOk result (λ b. FindsBegin (setting_of world.now.scenario) world.now.history b) }
 {
-    let keys = known_keys(alloc, world)?;
     for place in 0..8 {
         let role = role_in(place);
-        if let Some(key) = first_key(alloc, world, role, &keys)? {
+        if let Some(key) = first_key(alloc, world, role, ready)? {
             return Ok(Some(Beginning { role, key }));
         }
     }

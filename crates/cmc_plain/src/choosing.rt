@@ -2,20 +2,24 @@
 ghost use Rattle.std.specs.Prelude.{IfOk};
 ghost use Rattle.cmc_world.specs.Kept.{setting_of};
 ghost use Rattle.cmc_plain.specs.Plain.{IsPlainMove};
+ghost use Rattle.cmc_plain.specs.Ready.{Covers};
 ghost use Rattle.cmc_plain.specs.Searches.{FindsMove};
 
 use crate::begins::{Beginning, first_begin};
 use crate::deliveries::first_delivery;
 use crate::passes::first_pass;
-use crate::scripts::is_step_ready;
+use crate::ready::Ready;
+use crate::rest::{is_finished, is_step_ready};
+use crate::waking::all_ready;
 use cmc_world::{Move, World};
 use std::alloc::{AllocError, Global};
 
 /// The first move that is possible, and a begin only where it is worth it.
-fn first_move(alloc: Global, world: &World) -> Result<Option<Move>, AllocError>
+fn first_move(alloc: Global, world: &World, ready: &Ready) -> Result<Option<Move>, AllocError>
+    requires { Covers (setting_of world.now.scenario) world.now.history ready.now }
     ensures { IfOk result (λ m. FindsMove (setting_of world.now.scenario) world.now.history m) }
 {
-    if is_step_ready(alloc, world)? {
+    if is_step_ready(alloc, world, ready)? {
         return Ok(Some(Move::Script));
     }
     if let Some(going) = first_pass(world) {
@@ -31,9 +35,35 @@ fn first_move(alloc: Global, world: &World) -> Result<Option<Move>, AllocError>
             to: world.log().last_of_kind(delivery.kind),
         }));
     }
-    match first_begin(alloc, world)? {
+    match first_begin(alloc, world, ready)? {
         Some(Beginning { role, key }) => Ok(Some(Move::Begin { role, key })),
         None => Ok(None),
+    }
+}
+
+/// The move that a run by one hand makes next, as `plain` has it, where every key that is not ready is quiet.
+///
+/// # Errors
+///
+/// Want of memory alone.
+pub(crate) fn plain_by(
+    alloc: Global,
+    world: &World,
+    ready: &Ready,
+) -> Result<Option<Move>, AllocError>
+    requires { Covers (setting_of world.now.scenario) world.now.history ready.now }
+    ensures { IfOk result (λ m. IsPlainMove (setting_of world.now.scenario) world.now.history m) }
+{
+    if is_finished(alloc, world, ready)? {
+        return Ok(None);
+    }
+    match first_move(alloc, world, ready)? {
+        Some(step) => Ok(Some(step)),
+        None => {
+            world.is_run();
+            world.is_settled();
+            unreachable!()
+        }
     }
 }
 
@@ -49,15 +79,6 @@ fn first_move(alloc: Global, world: &World) -> Result<Option<Move>, AllocError>
 pub fn plain(alloc: Global, world: &World) -> Result<Option<Move>, AllocError>
     ensures { IfOk result (λ m. IsPlainMove (setting_of world.now.scenario) world.now.history m) }
 {
-    if world.finished(alloc)? {
-        return Ok(None);
-    }
-    match first_move(alloc, world)? {
-        Some(step) => Ok(Some(step)),
-        None => {
-            world.is_run();
-            world.is_settled();
-            unreachable!()
-        }
-    }
+    let ready = all_ready(alloc, world)?;
+    plain_by(alloc, world, &ready)
 }

@@ -5,8 +5,8 @@ ghost use Rattle.cmc_plain.specs.Plain.{IsPlainMove};
 ghost use Rattle.cmc_plain.specs.Driving as spec;
 ghost use Rattle.cmc_plain.specs.Driving.{IsTurn, IsDriven};
 
-use crate::choosing::plain;
 use crate::giving::made_for;
+use crate::waking::Waking;
 use cmc_answers::Signer;
 use cmc_keys::KeyMaker;
 use cmc_setup::Scenario;
@@ -43,19 +43,19 @@ fn goes_on(answer: Stepped) -> bool
 /// Makes the plain move, which is this one, where it fits.
 fn make_move<M: KeyMaker, N: Signer>(
     alloc: Global,
-    world: &mut World,
+    waking: &mut Waking,
     step: Move,
     keys: &M,
     signer: &N,
 ) -> Result<Turn, AllocError>
-    requires { IsPlainMove (setting_of world.old.scenario) world.old.history (Some step) }
-    ensures turn { IfOk result (λ t. IsTurn (setting_of world.old.scenario) world.old.history world.new.history t) }
-    ensures scenario { world.new.scenario ≡ world.old.scenario }
+    requires { IsPlainMove (setting_of waking.old.scenario) waking.old.history (Some step) }
+    ensures turn { IfOk result (λ t. IsTurn (setting_of waking.old.scenario) waking.old.history waking.new.history t) }
+    ensures scenario { waking.new.scenario ≡ waking.old.scenario }
 {
-    let made = made_for(alloc, world, step, keys, signer)?;
-    world.is_run();
-    let _events = world.scenario().events();
-    if goes_on(world.step(alloc, made)?) {
+    let made = made_for(alloc, waking.world(), step, keys, signer)?;
+    waking.world().is_run();
+    let _events = waking.world().scenario().events();
+    if goes_on(waking.step(alloc, made)?) {
         Ok(Turn::On)
     } else {
         Ok(Turn::Spent)
@@ -64,38 +64,39 @@ fn make_move<M: KeyMaker, N: Signer>(
 
 fn take_turn<M: KeyMaker, N: Signer>(
     alloc: Global,
-    world: &mut World,
+    waking: &mut Waking,
     keys: &M,
     signer: &N,
 ) -> Result<Turn, AllocError>
-    ensures turn { IfOk result (λ t. IsTurn (setting_of world.old.scenario) world.old.history world.new.history t) }
-    ensures scenario { world.new.scenario ≡ world.old.scenario }
+    ensures turn { IfOk result (λ t. IsTurn (setting_of waking.old.scenario) waking.old.history waking.new.history t) }
+    ensures scenario { waking.new.scenario ≡ waking.old.scenario }
 {
-    match plain(alloc, world)? {
+    waking.look(alloc)?;
+    match waking.plain(alloc)? {
         None => Ok(Turn::Finished),
-        Some(step) => make_move(alloc, world, step, keys, signer),
+        Some(step) => make_move(alloc, waking, step, keys, signer),
     }
 }
 
 /// Makes the plain moves of the world, one after another, until it is finished or full.
 fn drive<M: KeyMaker, N: Signer>(
     alloc: Global,
-    mut world: World,
+    mut waking: Waking,
     keys: &M,
     signer: &N,
 ) -> Result<Driven, AllocError>
-    requires { world.history ≡ [] }
-    ensures { IfOk result (λ d. IsDriven world.scenario d) }
+    requires { waking.history ≡ [] }
+    ensures { IfOk result (λ d. IsDriven waking.scenario d) }
 {
-    let events = world.scenario().events();
+    let events = waking.world().scenario().events();
     for _turn in 0..=events {
-        match take_turn(alloc, &mut world, keys, signer)? {
+        match take_turn(alloc, &mut waking, keys, signer)? {
             Turn::On => {}
-            Turn::Finished => return Ok(Driven::Finished(world)),
-            Turn::Spent => return Ok(Driven::Spent(world)),
+            Turn::Finished => return Ok(Driven::Finished(waking.into_world())),
+            Turn::Spent => return Ok(Driven::Spent(waking.into_world())),
         }
     }
-    world.is_run();
+    waking.world().is_run();
     unreachable!()
 }
 
@@ -117,6 +118,6 @@ pub fn drive_plain<M: KeyMaker, N: Signer>(
 ) -> Result<Driven, AllocError>
     ensures { IfOk result (λ d. IsDriven scenario d) }
 {
-    let world = World::new(alloc, scenario)?;
-    drive(alloc, world, keys, signer)
+    let waking = Waking::new(alloc, scenario)?;
+    drive(alloc, waking, keys, signer)
 }

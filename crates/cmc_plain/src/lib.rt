@@ -9,9 +9,12 @@ mod driving;
 mod giving;
 mod laws;
 mod passes;
+mod ready;
+mod rest;
 mod roles;
 mod scripts;
 mod waits;
+mod waking;
 
 pub use choosing::plain;
 pub use counting::summary;

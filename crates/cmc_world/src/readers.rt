@@ -1,6 +1,7 @@
 //! What a world holds, and what it would answer: all that chooses a move reads.
 ghost use Rattle.std.specs.Option.{option_copied};
 ghost use Rattle.std.specs.Prelude.{◌≡◌, ◌↔◌, ℕ, None, IsTrue, IfOk};
+ghost use Rattle.cmc_objects.specs.declared.role.Role.{Role as RoleValue};
 ghost use Rattle.cmc_rules.specs.Following.{owed};
 ghost use Rattle.cmc_model.specs.Histories as spec;
 ghost use Rattle.cmc_rules.specs.Passes.{open_pass};
@@ -9,6 +10,7 @@ ghost use Rattle.cmc_rules.specs.Sameness.{IsDue};
 ghost use Rattle.cmc_rules.specs.Positions.{positions};
 ghost use Rattle.cmc_rules.specs.Viewing.{views};
 ghost use Rattle.cmc_model.specs.Writes.{writes};
+ghost use Rattle.cmc_caches.specs.Told.{caches_at, caches_of};
 ghost use Rattle.cmc_held.specs.Open.{pass_at};
 ghost use Rattle.cmc_held.specs.Remembered.{past_or_new};
 ghost use Rattle.cmc_world.specs.Answers.{Answers};
@@ -17,6 +19,7 @@ ghost use Rattle.cmc_world.specs.Kept.{setting_of};
 use crate::moves::{Move, Stepped};
 use crate::resting;
 use crate::world::World;
+use cmc_caches::Caches;
 use cmc_held::{Log, Passes, shown_positions};
 use cmc_meta::Key;
 use cmc_objects::{Positions, Role};
@@ -90,6 +93,13 @@ impl World {
         ensures { IfOk result (λ seen. seen ≡ views (setting_of self.now.scenario) self.now.history role key.now) }
     {
         self.caches.views(alloc, role, key)
+    }
+
+    /// What each role was told of: of each kind, what the writes of the kind up to its position leave.
+    pub fn caches(&self) -> &Caches
+        ensures { (role : RoleValue) → caches_of result.now role ≡ caches_at (writes (setting_of self.now.scenario) self.now.history) (positions self.now.history role) }
+    {
+        &self.caches
     }
 
     /// Whether the role runs.

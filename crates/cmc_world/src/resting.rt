@@ -193,7 +193,7 @@ impl World {
     /// # Errors
     ///
     /// Want of memory alone.
-    pub(crate) fn rests_on(&self, alloc: Global, role: Role, key: &Key) -> Result<bool, AllocError>
+    pub fn rests_on(&self, alloc: Global, role: Role, key: &Key) -> Result<bool, AllocError>
         requires { EachKind (IsToldAll (setting_of self.now.scenario) self.now.history role) }
         ensures { IfOk result (λ b. IsTrue b ↔ spec.RestsOn (setting_of self.now.scenario) self.now.history role key.now) }
     {
@@ -289,8 +289,8 @@ impl World {
         rests_in_each(self, alloc, &roles)
     }
 
-    /// Whether all steps of the script were made.
-    fn has_made_all(&self) -> bool
+    /// Whether all steps of the script were made, with all that they have happen.
+    pub fn has_made_all(&self) -> bool
         ensures made { IsTrue result ↔ (scripting.scripted self.now.history ≡ length self.now.scenario.script) }
         ensures settled { following.owed (setting_of self.now.scenario) self.now.history ≡ None }
     {
@@ -313,7 +313,7 @@ impl World {
     }
 
     /// Whether the role's passes made so many writes of the kind.
-    fn has_written(&self, role: Role, kind: Kind, writes: u64) -> bool
+    pub fn has_written(&self, role: Role, kind: Kind, writes: u64) -> bool
         ensures { IsTrue result ↔ (writes ≤ following.written (setting_of self.now.scenario) self.now.history role kind) }
     {
         writes <= written_of(self.standings.get(role), kind)
@@ -361,7 +361,7 @@ impl World {
     }
 
     /// The next step of the script; `None` exactly where all are made.
-    fn next_step(&self) -> Option<&Step>
+    pub fn next_step(&self) -> Option<&Step>
         ensures { option_copied result ≡ scripting.step_at self.now.scenario.script (scripting.scripted self.now.history + 1) }
     {
         self.scenario.script().get(self.made as usize)

@@ -10,7 +10,7 @@ loop-key-init c =
     let s = setting_of c.args.world.now.scenario in
     let h = c.args.world.now.history in
     rw (c.into_iter-key-iterator.ensures.into_iter_gives, c.iter-key-items.ensures.rest)
-    (all_keys_left s h c.args.role c.args.keys.now c.iter-key-items.ensures.ordered c.iter-key-items.ensures.found c.requires.known)
+    (all_keys_left s h c.args.role c.args.keys.now c.iter-key-items.ensures.ordered c.requires.others)
 
 pub loop-key-preserved : goal.loop-key-preserved
 loop-key-preserved c =

@@ -1,5 +1,5 @@
 use Rattle.cmc_world.specs.Kept.{setting_of}
-use Rattle.cmc_plain.proofs.Beginning.{unfit_undue, fit_worth}
+use Rattle.cmc_plain.proofs.Beginning.{unfit_undue, fit_unless_quiet}
 use Rattle.cmc_plain.proofs.begins.fits_seen.Goals as goal
 
 pub returns-then-not-is_due : goal.returns-then-not-is_due
@@ -8,5 +8,5 @@ returns-then-not-is_due c =
 
 pub returns : goal.returns
 returns c =
-    fit_worth (setting_of c.args.world.now.scenario) c.args.world.now.history c.args.role c.args.key.now c.args.seen.now c.is_due.result c.is_worth.result
-    c.requires.sees c.requires.running c.requires.known c.requires.free c.is_due.ensures c.if-not-is_due.false c.is_worth.ensures
+    fit_unless_quiet (setting_of c.args.world.now.scenario) c.args.world.now.history c.args.role c.args.key.now c.args.seen.now c.is_due.result c.in_ok-quiet.quiet
+    c.is_run.ensures.run.legal c.requires.sees c.requires.running c.requires.free c.is_due.ensures c.if-not-is_due.false c.in_ok-quiet.ensures

@@ -7,5 +7,5 @@ use Rattle.cmc_plain.proofs.driving.drive.Goals as goal
 
 pub loop-turn-preserved : goal.loop-turn-preserved
 loop-turn-preserved g c =
-    driving_on c.args.world.scenario c.loop-turn.world c.take_turn.new.world c.loop-turn._turn c.loop-turn.invariant c.in_ok-take_turn.ensures.scenario
-    (subst (λ (t : Turn). IsTurn (setting_of c.loop-turn.world.scenario) c.loop-turn.world.history c.take_turn.new.world.history t) c.in-On.is c.in_ok-take_turn.ensures.turn)
+    driving_on c.args.waking.scenario c.loop-turn.waking c.take_turn.new.waking c.loop-turn._turn c.loop-turn.invariant c.in_ok-take_turn.ensures.scenario
+    (subst (λ (t : Turn). IsTurn (setting_of c.loop-turn.waking.scenario) c.loop-turn.waking.history c.take_turn.new.waking.history t) c.in-On.is c.in_ok-take_turn.ensures.turn)

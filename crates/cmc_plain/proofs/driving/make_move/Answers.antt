@@ -9,8 +9,8 @@ use Rattle.cmc_plain.proofs.driving.make_move.Goals as goal
 
 pub returns-then-goes_on-clause-turn : goal.returns-then-goes_on-clause-turn
 returns-then-goes_on-clause-turn g c =
-    let u = c.args.world.now.scenario in
-    let h = c.args.world.now.history in
+    let u = c.args.waking.now.scenario in
+    let h = c.args.waking.now.history in
     let k = c.step.new.self.history in
     let run = subst (λ (v : Setup). IsRun (setting_of v) k) c.in_ok-step.ensures.scenario c.in_ok-step.ensures.run in
     moves_on (setting_of u) h c.args.step c.in_ok-step.field-0 k c.requires (sym c.goes_on.ensures ∙ c.if-goes_on.true) run
@@ -20,8 +20,8 @@ returns-then-goes_on-clause-turn g c =
 
 pub returns-else-goes_on-clause-turn : goal.returns-else-goes_on-clause-turn
 returns-else-goes_on-clause-turn g c =
-    let u = c.args.world.now.scenario in
-    let h = c.args.world.now.history in
+    let u = c.args.waking.now.scenario in
+    let h = c.args.waking.now.history in
     let k = c.step.new.self.history in
     let run = subst (λ (v : Setup). IsRun (setting_of v) k) c.in_ok-step.ensures.scenario c.in_ok-step.ensures.run in
     stops (setting_of u) h c.args.step c.in_ok-step.field-0 k c.requires (sym c.goes_on.ensures ∙ c.if-goes_on.false)

@@ -4,7 +4,7 @@ use Rattle.cmc_pass.specs.declared.pass.Views.{Views}
 use Rattle.cmc_rules.specs.Desks.{desk}
 use Rattle.cmc_safety.specs.Acting.{MayAct}
 use Rattle.cmc_world.specs.Kept.{setting_of}
-use Rattle.cmc_plain.proofs.begins.is_worth.Goals as goal
+use Rattle.cmc_plain.proofs.begins.is_quiet_seen.Goals as goal
 
 pub is_idle-requires : goal.is_idle-requires
 is_idle-requires c =

@@ -1,0 +1,139 @@
+-- Of which keys a role that is told of all writes of a kind may see something new.
+use Rattle.std.proofs.Common.{◌≡◌, ℕ, ◌≤◌, List, [], ◌∷◌, ◌++◌, length, Bool, true, false, refl, sym, ap, subst, ◌∙◌, arith}
+use Rattle.std.proofs.lemmas.Bool.{or_right}
+use Rattle.std.proofs.lemmas.List.{length-reverse}
+use Rattle.std.proofs.lemmas.List.Folds.{list_any-append}
+use Rattle.std.specs.Prelude.{◌||◌, if◌then◌else◌, reverse}
+use Rattle.std.specs.BTreeMap.{is_at}
+use Rattle.std.specs.BTreeSet.{BTreeSet}
+use Rattle.std.specs.List.{list_any}
+use Rattle.std.specs.Ordering.{is_eq}
+use Rattle.cmc_meta.specs.declared.key.Key.{Key}
+use Rattle.cmc_meta.specs.declared.key.Kind.{Kind}
+use Rattle.cmc_meta.specs.declared.key.Kind.TheVariants as kinds
+use Rattle.cmc_meta.specs.Keys.{key_cmp}
+use Rattle.cmc_objects.specs.declared.role.Role.{Role}
+use Rattle.cmc_objects.specs.declared.entry.Entry.{Entry}
+use Rattle.cmc_objects.specs.declared.entry.Entry.TheVariants.{Deliver}
+use Rattle.cmc_objects.specs.declared.entry.Positions.{Positions}
+use Rattle.cmc_model.specs.declared.write.Write.{Write}
+use Rattle.cmc_model.specs.Objects.{Objects}
+use Rattle.cmc_model.specs.Histories.{Setting, accepted, role_eq}
+use Rattle.cmc_model.specs.Writes.{writes, contents, oldest, of_kind, last_of_kind}
+use Rattle.cmc_model.proofs.Versions.{one_key}
+use Rattle.cmc_model.proofs.Writes.{writes_count}
+use Rattle.cmc_rules.specs.Positions.{kind_of_work, has_informer, position_of, positions}
+use Rattle.cmc_rules.specs.Viewing.{Caches, views_in, views}
+use Rattle.cmc_rules.specs.Legality.{IsLegal}
+use Rattle.cmc_rules.proofs.Versions.{lawful}
+use Rattle.cmc_caches.specs.Affected.{is_among, AreLeft, HaveOwnUids}
+use Rattle.cmc_caches.specs.Affected as affected
+use Rattle.cmc_caches.specs.Told.{cached, caches_at, with_cached}
+use Rattle.cmc_caches.proofs.Shown.{views-told}
+use Rattle.cmc_world.proofs.Caching.{told_at, told_low}
+use Rattle.cmc_world.proofs.OneKind.{last_low, of_kind-oldest}
+use Rattle.cmc_plain.specs.Ready.{is_ready, Keeps, SeesSame, WakesTold}
+use Rattle.cmc_plain.proofs.Keys.{tied_is_same}
+use Rattle.cmc_plain.proofs.Quiet.{role_itself}
+
+-- the first so many of the writes of the kind
+abbrev left : Kind → ℕ → List Write → Objects
+left kind p ws = contents (of_kind kind (oldest p ws))
+
+-- ---- what the search takes for granted
+
+cached_first : (kind : Kind) (ws : List Write) (at : Positions) → cached kind (caches_at ws at) ≡ left kind (position_of kind at) ws
+cached_first kinds.Certificate ws at = refl
+cached_first kinds.CertificateRequest ws at = refl
+cached_first kinds.Secret ws at = refl
+
+-- the role has what its position says
+pub has_first : (s : Setting) (h : List Entry) (role : Role) (kind : Kind) (seen : Caches) (from : ℕ) (items ws : List Write) → seen ≡ caches_at (writes s h) (positions h role)
+    → from ≡ position_of kind (positions h role) → reverse items ≡ ws → ws ≡ writes s h → cached kind seen ≡ left kind from (reverse items)
+has_first s h role kind seen from items ws sees at turned is =
+    ap (cached kind) sees ∙ cached_first kind (writes s h) (positions h role) ∙ ap (λ (p : ℕ). left kind p (writes s h)) (sym at) ∙ ap (left kind from) (sym (turned ∙ is))
+
+pub certificates_left : (s : Setting) (h : List Entry) (role : Role) (seen : Caches) (items ws : List Write) → seen ≡ caches_at (writes s h) (positions h role)
+    → reverse items ≡ ws → ws ≡ writes s h → AreLeft kinds.Certificate items (cached kinds.Certificate seen)
+certificates_left s h role seen items ws sees turned is =
+    ((positions h role).certificates, has_first s h role kinds.Certificate seen (positions h role).certificates items ws sees refl turned is)
+
+low_of : (s : Setting) (h : List Entry) (role : Role) (kind : Kind) → IsLegal s h → position_of kind (positions h role) ≤ accepted s h
+low_of s h role kinds.Certificate legal = told_low s h role kinds.Certificate legal
+low_of s h role kinds.CertificateRequest legal = told_low s h role kinds.CertificateRequest legal
+low_of s h role kinds.Secret legal = told_low s h role kinds.Secret legal
+
+-- its position is one of the writes
+pub from_low : (s : Setting) (h : List Entry) (role : Role) (kind : Kind) (from to : ℕ) (ws : List Write) → IsLegal s h → from ≡ position_of kind (positions h role) → to ≡ length ws → ws ≡ writes s h → from ≤ to
+from_low s h role kind from to ws legal at count is =
+    let low = low_of s h role kind legal in
+    let all : length ws ≡ accepted s h = ap length is ∙ writes_count s h in
+    omega (arith, low, at, count, all)
+
+pub to_within : (items ws : List Write) (to : ℕ) → reverse items ≡ ws → to ≡ length ws → to ≤ length items
+to_within items ws to turned count =
+    let same : length items ≡ length ws = sym (length-reverse items) ∙ ap length turned in
+    omega (arith, same, count)
+
+pub own_uids : (s : Setting) (h : List Entry) (items ws : List Write) → IsLegal s h → reverse items ≡ ws → ws ≡ writes s h → HaveOwnUids (reverse items)
+own_uids s h items ws legal turned is = subst HaveOwnUids (sym (turned ∙ is)) (λ j k o p one two same. one_key (writes s h) j k o p (lawful s h legal) one two same)
+
+-- ---- what it finds
+
+-- once the role is told so far it has what it had, and of the kind all
+told_caches : (s : Setting) (h : List Entry) (role : Role) (kind : Kind) (to : ℕ) → has_informer role kind ≡ true
+    → caches_at (writes s h) (positions (Deliver role kind to ∷ h) role) ≡ with_cached kind (left kind to (writes s h)) (caches_at (writes s h) (positions h role))
+told_caches s h role kind to informed =
+    sym (told_at (role_eq role role) (writes s h) h role kind to role informed refl)
+    ∙ ap (λ (b : Bool). if b then with_cached kind (left kind to (writes s h)) (caches_at (writes s h) (positions h role)) else caches_at (writes s h) (positions h role)) (role_itself role)
+
+newest : (kind : Kind) (p q : ℕ) (ws : List Write) → last_of_kind kind ws ≤ p → last_of_kind kind ws ≤ q → left kind p ws ≡ left kind q ws
+newest kind p q ws low high = ap contents (of_kind-oldest kind p ws low ∙ sym (of_kind-oldest kind q ws high))
+
+-- of a key that is not among those it sees the same, told of all of the kind
+pub sees_same : (s : Setting) (h : List Entry) (role : Role) (kind : Kind) (seen : Caches) (upto : ℕ) (items ws : List Write) (keys : List Key) → has_informer role kind ≡ true
+    → seen ≡ caches_at (writes s h) (positions h role) → upto ≡ length ws → reverse items ≡ ws → ws ≡ writes s h
+    → affected.SeesSame role keys seen (with_cached kind (left kind upto (reverse items)) seen)
+    → (key : Key) → is_among keys key ≡ false → (to : ℕ) → last_of_kind kind (writes s h) ≤ to → SeesSame s h role kind to key
+sees_same s h role kind seen upto items ws keys informed sees count turned is same key off to low =
+    let turn : reverse items ≡ writes s h = turned ∙ is in
+    let all : upto ≡ length (writes s h) = count ∙ ap length is in
+    let high = last_low kind (writes s h) in
+    let enough : last_of_kind kind (writes s h) ≤ upto = omega (arith, high, all) in
+    sym (views-told s (Deliver role kind to ∷ h) role key)
+    ∙ ap (λ (c : Caches). views_in role c key) (told_caches s h role kind to informed)
+    ∙ ap (λ (m : Objects). views_in role (with_cached kind m (caches_at (writes s h) (positions h role))) key) (newest kind to upto (writes s h) low enough)
+    ∙ ap (λ (l : List Write). views_in role (with_cached kind (left kind upto l) (caches_at (writes s h) (positions h role))) key) (sym turn)
+    ∙ ap (λ (c : Caches). views_in role (with_cached kind (left kind upto (reverse items)) c) key) (sym sees)
+    ∙ sym (same key off)
+    ∙ ap (λ (c : Caches). views_in role c key) sees
+    ∙ views-told s h role key
+
+-- ---- these keys are made ready
+
+-- each of the keys is ready
+abbrev pub AreReady : Role → List Key → List (BTreeSet Key) → Type 0
+AreReady role keys rows = (k : Key) → is_among keys k ≡ true → is_ready rows role k ≡ true
+
+this_or : (b : Bool) (role : Role) (k key : Key) (rows : List (BTreeSet Key)) (before : Bool) → is_eq (key_cmp k key) ≡ b → is_ready rows role key ≡ true → (before ≡ true → is_ready rows role k ≡ true)
+    → (before || (b || false)) ≡ true → is_ready rows role k ≡ true
+this_or true role k key rows before is here below on = subst (λ (q : Key). is_ready rows role q ≡ true) (sym (tied_is_same k key is)) here
+this_or false role k key rows true is here below on = below refl
+this_or false role k key rows false is here below on = absurd (cc on)
+
+pub keys_more : (role : Role) (keys more : List Key) (key : Key) (old new : List (BTreeSet Key)) → more ≡ keys ++ key ∷ [] → Keeps old new → is_ready new role key ≡ true → AreReady role keys old → AreReady role more new
+keys_more role keys more key old new is keeps here before k on =
+    this_or (is_eq (key_cmp k key)) role k key new (is_among keys k) refl here (λ some. keeps role k (before k some))
+    (sym (list_any-append (is_at (key_cmp k)) keys (key ∷ [])) ∙ ap (λ (l : List Key). is_among l k) (sym is) ∙ on)
+
+unready : (b : Bool) (role : Role) (keys : List Key) (rows : List (BTreeSet Key)) (k : Key) → is_among keys k ≡ b → AreReady role keys rows → is_ready rows role k ≡ false → is_among keys k ≡ false
+unready true role keys rows k is ready off = let on = ready k is in absurd (cc (on, off))
+unready false role keys rows k is ready off = is
+
+pub told_ready : (s : Setting) (h : List Entry) (role : Role) (kind : Kind) (keys : List Key) (rows : List (BTreeSet Key))
+    → ((key : Key) → is_among keys key ≡ false → (to : ℕ) → last_of_kind kind (writes s h) ≤ to → SeesSame s h role kind to key) → AreReady role keys rows
+    → (to : ℕ) → last_of_kind kind (writes s h) ≤ to → WakesTold s h role kind to rows
+told_ready s h role kind keys rows same ready to low = record {
+  told = λ key work off. same key (unready (is_among keys key) role keys rows key refl ready off) to low;
+  listed = λ key work off. same key (unready (is_among keys key) role keys rows key refl ready off) (accepted s h) (let high = last_low kind (writes s h) in let all = writes_count s h in omega (arith, high, all));
+}

@@ -1,0 +1,78 @@
+//! The keys that each role has to look at.
+ghost use Rattle.std.specs.BTreeSet.{contains};
+ghost use Rattle.std.specs.Prelude.{◌≡◌, ◌&&◌, ◌||◌, IfOk, OnOk, OnErr, false, not};
+ghost use Rattle.cmc_meta.specs.declared.key.Key.{Key as KeyValue};
+ghost use Rattle.cmc_meta.specs.Keys.{key_cmp, key_eq};
+ghost use Rattle.cmc_model.specs.Histories.{role_eq};
+ghost use Rattle.cmc_objects.specs.declared.role.Role.{Role as RoleValue};
+ghost use Rattle.cmc_plain.specs.Ready.{is_ready};
+
+use cmc_meta::Key;
+use cmc_objects::Role;
+use std::alloc::{AllocError, Global};
+use std::collections::BTreeSet;
+use std::marker::Model;
+
+/// A set of keys for each of the eight roles. Contracts see the sets in the order of roles.
+#[derive(Drop)]
+pub(crate) struct Ready {
+    rows: Vec<BTreeSet<Key>>,
+}
+
+impl Model for Ready {
+    ghost use Rattle.std.specs.BTreeSet.{BTreeSet};
+    ghost use Rattle.std.specs.Prelude.{◌≡◌, List, length};
+    ghost use Rattle.cmc_meta.specs.declared.key.Key.{Key};
+
+    ghost Value = { List (BTreeSet Key) };
+
+    ghost view = { λ r. r.rows.items };
+
+    ghost invariant = { λ r. length r.rows.items ≡ 8 };
+}
+
+impl Ready {
+    /// No key is ready. An error is one of memory.
+    #[tactic(auto, unfolding(crate::specs::Ready::is_ready))]
+    pub(crate) fn new(alloc: Global) -> Result<Ready, AllocError>
+        ensures { IfOk result (λ rows. (r : RoleValue) → (k : KeyValue) → is_ready rows r k ≡ false) }
+    {
+        let rows = vec![in alloc;
+            BTreeSet::new(alloc),
+            BTreeSet::new(alloc),
+            BTreeSet::new(alloc),
+            BTreeSet::new(alloc),
+            BTreeSet::new(alloc),
+            BTreeSet::new(alloc),
+            BTreeSet::new(alloc),
+            BTreeSet::new(alloc),
+        ]?;
+        Ok(Ready { rows })
+    }
+
+    /// The keys that are ready for the role, in their order.
+    #[tactic(auto, unfolding(crate::specs::Ready::is_ready))]
+    pub(crate) fn keys(&self, role: Role) -> &BTreeSet<Key>
+        ensures { (k : KeyValue) → contains key_cmp result.now k ≡ is_ready self.now role k }
+    {
+        &self.rows[role.rank() as usize]
+    }
+
+    /// Makes the key ready for the role. An error is one of memory, and leaves all as it was.
+    #[tactic(auto, unfolding(crate::specs::Ready::is_ready))]
+    pub(crate) fn add(&mut self, role: Role, key: Key) -> Result<(), AllocError>
+        ensures ok { OnOk result ((r : RoleValue) → (k : KeyValue) → is_ready self.new r k ≡ (role_eq role r && key_eq key k || is_ready self.old r k)) }
+        ensures err { OnErr result (self.new ≡ self.old) }
+    {
+        self.rows[role.rank() as usize].insert(key)?;
+        Ok(())
+    }
+
+    /// Lets the key be ready for the role no more.
+    #[tactic(auto, unfolding(crate::specs::Ready::is_ready))]
+    pub(crate) fn remove(&mut self, role: Role, key: &Key)
+        ensures { (r : RoleValue) → (k : KeyValue) → is_ready self.new r k ≡ (not (role_eq role r && key_eq key.now k) && is_ready self.old r k) }
+    {
+        self.rows[role.rank() as usize].remove(key);
+    }
+}

@@ -1,0 +1,162 @@
+//! Whether all is at rest, by the keys that are ready.
+ghost use Rattle.std.specs.BTreeSet.{contains};
+ghost use Rattle.std.specs.Prelude.{◌≡◌, ◌↔◌, IsTrue, IfOk, Some, true, false};
+ghost use Rattle.cmc_meta.specs.declared.key.Key.{Key as KeyValue};
+ghost use Rattle.cmc_meta.specs.Keys.{key_cmp};
+ghost use Rattle.cmc_objects.specs.declared.role.Role.{Role as RoleValue};
+ghost use Rattle.cmc_rules.specs.Following.{IsReady};
+ghost use Rattle.cmc_rules.specs.Positions.{kind_of_work};
+ghost use Rattle.cmc_rules.specs.Resting.{IsAtRest};
+ghost use Rattle.cmc_rules.specs.Runs.{IsFinished};
+ghost use Rattle.cmc_world.specs.Kept.{setting_of};
+ghost use Rattle.cmc_world.specs.Rest.{EachKind, IsToldAll, RestsOnKnown};
+ghost use Rattle.cmc_plain.specs.Plain.{HasNoDelivery, IsQuiet, IsStepReady};
+ghost use Rattle.cmc_plain.specs.Ready.{Covers};
+ghost use Rattle.cmc_plain.specs.Searches.{RestsWhereRunning};
+
+use crate::deliveries::first_delivery;
+use crate::passes::first_pass;
+use crate::ready::Ready;
+use crate::roles::role_in;
+use cmc_meta::Key;
+use cmc_objects::{Role, Step};
+use cmc_world::World;
+use std::alloc::{AllocError, Global};
+use std::collections::BTreeSet;
+
+/// Whether the role, which was told of all that is not held from it, has nothing to do on any of the keys. Every key of
+/// its work beside them is quiet.
+fn rests_on_each(
+    alloc: Global,
+    world: &World,
+    role: Role,
+    keys: &BTreeSet<Key>,
+) -> Result<bool, AllocError>
+    requires told { EachKind (IsToldAll (setting_of world.now.scenario) world.now.history role) }
+    requires others { (k : KeyValue) → k.kind ≡ kind_of_work role → contains key_cmp keys.now k ≡ false → IsQuiet (setting_of world.now.scenario) world.now.history role k }
+    ensures { IfOk result (λ b. IsTrue b ↔ RestsOnKnown (setting_of world.now.scenario) world.now.history role) }
+{
+    world.is_run();
+    for key in keys.iter() {
+        if !world.rests_on(alloc, role, key)? {
+            return Ok(false);
+        }
+    }
+    Ok(true)
+}
+
+/// Whether the role has nothing to do on any key, if it runs. No role is behind.
+fn rests_in(
+    alloc: Global,
+    world: &World,
+    ready: &Ready,
+    role: Role,
+) -> Result<bool, AllocError>
+    requires told { HasNoDelivery (setting_of world.now.scenario) world.now.history }
+    requires covers { Covers (setting_of world.now.scenario) world.now.history ready.now }
+    ensures { IfOk result (λ b. IsTrue b ↔ RestsWhereRunning (setting_of world.now.scenario) world.now.history role) }
+{
+    if !world.runs(role) {
+        return Ok(true);
+    }
+    rests_on_each(alloc, world, role, ready.keys(role))
+}
+
+/// Whether each role has nothing to do on any key, if it runs. No role is behind.
+fn rests_in_each(alloc: Global, world: &World, ready: &Ready) -> Result<bool, AllocError>
+    requires told { HasNoDelivery (setting_of world.now.scenario) world.now.history }
+    requires covers { Covers (setting_of world.now.scenario) world.now.history ready.now }
+    ensures { IfOk result (λ b. IsTrue b ↔ ((role : RoleValue) → RestsWhereRunning (setting_of world.now.scenario) world.now.history role)) }
+{
+    for place in 0..8 {
+        if !rests_in(alloc, world, ready, role_in(place))? {
+            return Ok(false);
+        }
+    }
+    Ok(true)
+}
+
+/// Whether nothing is left to do.
+fn is_at_rest(alloc: Global, world: &World, ready: &Ready) -> Result<bool, AllocError>
+    requires { Covers (setting_of world.now.scenario) world.now.history ready.now }
+    ensures { IfOk result (λ b. IsTrue b ↔ IsAtRest (setting_of world.now.scenario) world.now.history) }
+{
+    if first_pass(world).is_some() {
+        return Ok(false);
+    }
+    if first_delivery(alloc, world)?.is_some() {
+        return Ok(false);
+    }
+    rests_in_each(alloc, world, ready)
+}
+
+/// Whether the step waits no longer.
+fn is_ready(
+    alloc: Global,
+    world: &World,
+    ready: &Ready,
+    step: &Step,
+) -> Result<bool, AllocError>
+    requires { Covers (setting_of world.now.scenario) world.now.history ready.now }
+    ensures { IfOk result (λ b. IsTrue b ↔ IsReady (setting_of world.now.scenario) world.now.history (Some step.now)) }
+{
+    match step {
+        Step::Apply { .. }
+        | Step::Delete { .. }
+        | Step::Approve { .. }
+        | Step::Deny { .. }
+        | Step::Answer { .. }
+        | Step::Renew { .. }
+        | Step::Tick { .. }
+        | Step::Stop { .. }
+        | Step::Start { .. }
+        | Step::Hold { .. }
+        | Step::Release { .. } => Ok(true),
+        Step::Until { role, kind, writes } => {
+            if world.has_written(*role, *kind, *writes) {
+                return Ok(true);
+            }
+            is_at_rest(alloc, world, ready)
+        }
+        Step::Settle => is_at_rest(alloc, world, ready),
+    }
+}
+
+/// Whether a step of the script is left, and does not wait.
+///
+/// # Errors
+///
+/// Want of memory alone.
+pub(crate) fn is_step_ready(
+    alloc: Global,
+    world: &World,
+    ready: &Ready,
+) -> Result<bool, AllocError>
+    requires { Covers (setting_of world.now.scenario) world.now.history ready.now }
+    ensures { IfOk result (λ b. IsTrue b ↔ IsStepReady (setting_of world.now.scenario) world.now.history) }
+{
+    match world.next_step() {
+        Some(step) => is_ready(alloc, world, ready, step),
+        None => Ok(false),
+    }
+}
+
+/// Whether the run is finished: all steps of the script were made, with all that they have happen, and nothing is left
+/// to do.
+///
+/// # Errors
+///
+/// Want of memory alone.
+pub(crate) fn is_finished(
+    alloc: Global,
+    world: &World,
+    ready: &Ready,
+) -> Result<bool, AllocError>
+    requires { Covers (setting_of world.now.scenario) world.now.history ready.now }
+    ensures { IfOk result (λ b. IsTrue b ↔ IsFinished (setting_of world.now.scenario) world.now.history) }
+{
+    if !world.has_made_all() {
+        return Ok(false);
+    }
+    is_at_rest(alloc, world, ready)
+}

@@ -1,0 +1,380 @@
+//! A world, and for each role the keys that it has to look at.
+//!
+//! A search for the next move that goes over all keys makes as many views as there are keys, at each move. So a run
+//! keeps, for each role, the keys on which the role may have something to do or see something new. Before a move is
+//! made, those are made ready that it may wake; and a key that was made ready is looked at once, and is ready no more
+//! where the role has nothing to do on it and sees what it saw.
+ghost use Rattle.std.specs.Option.{option_copied};
+ghost use Rattle.std.specs.Prelude.{◌≡◌, ◌≤◌, ℕ, IfOk, OnOk, OnErr, [], true, false};
+ghost use Rattle.cmc_meta.specs.declared.key.Key.{Key as KeyValue};
+ghost use Rattle.cmc_model.specs.Writes.{is_known, last_of_kind, writes};
+ghost use Rattle.cmc_caches.specs.Affected.{is_among};
+ghost use Rattle.cmc_rules.specs.Positions.{has_informer, kind_of_work};
+ghost use Rattle.cmc_rules.specs.Runs.{IsRun};
+ghost use Rattle.cmc_world.specs.Answers.{Answers, Leaves};
+ghost use Rattle.cmc_world.specs.Kept.{setting_of};
+ghost use Rattle.cmc_world.specs.declared.moves.Move.TheVariants as moves;
+ghost use Rattle.cmc_plain.specs.Plain.{IsPlainMove};
+ghost use Rattle.cmc_plain.specs.Ready as spec;
+ghost use Rattle.cmc_plain.specs.Ready.{Covers, HasKnown, IsToNewest, Keeps, SeesSame, Wakes, WakesTold, is_ready};
+
+use crate::begins::is_quiet;
+use crate::choosing::plain_by;
+use crate::ready::Ready;
+use crate::roles::role_in;
+use cmc_held::{at_kind, kind_of_work};
+use cmc_meta::{Key, Kind};
+use cmc_model::Write;
+use cmc_objects::{Role, Step};
+use cmc_setup::Scenario;
+use cmc_world::{Move, Stepped, World};
+use std::alloc::{AllocError, Global};
+use std::marker::Model;
+
+/// A key at which a role has to look, since something may have changed there.
+#[derive(Drop)]
+pub(crate) struct Look {
+    role: Role,
+    key: Key,
+}
+
+/// A world with the keys that are ready. Contracts see the world alone: on a key of a role's work that is not ready,
+/// the role has nothing to do, and sees what it saw as it last began a pass on it.
+#[derive(Drop)]
+pub(crate) struct Waking {
+    world: World,
+    ready: Ready,
+    looks: Vec<Look>,
+}
+
+impl Model for Waking {
+    ghost use Rattle.cmc_world.specs.Kept.{Seen, setting_of};
+    ghost use Rattle.cmc_plain.specs.Ready.{Covers};
+
+    ghost Value = { Seen };
+
+    ghost view = { λ w. w.world };
+
+    ghost invariant = { λ w. Covers (setting_of w.world.scenario) w.world.history w.ready };
+}
+
+/// Makes the key ready for the role, and has it looked at.
+fn wake(
+    ready: &mut Ready,
+    looks: &mut Vec<Look>,
+    role: Role,
+    key: &Key,
+) -> Result<(), AllocError>
+    ensures keeps { Keeps ready.old ready.new }
+    ensures wakes { OnOk result (is_ready ready.new role key.now ≡ true) }
+{
+    looks.push(Look {
+        role,
+        key: key.copy()?,
+    })?;
+    ready.add(role, key.copy()?)
+}
+
+/// Makes the key ready for the role, unless it is so already.
+fn wake_once(
+    ready: &mut Ready,
+    looks: &mut Vec<Look>,
+    role: Role,
+    key: &Key,
+) -> Result<(), AllocError>
+    ensures keeps { Keeps ready.old ready.new }
+    ensures wakes { OnOk result (is_ready ready.new role key.now ≡ true) }
+{
+    if ready.keys(role).contains(key) {
+        return Ok(());
+    }
+    wake(ready, looks, role, key)
+}
+
+/// Makes the key of the write ready for the role, where it is one of the role's kind of work.
+fn wake_write(
+    ready: &mut Ready,
+    looks: &mut Vec<Look>,
+    role: Role,
+    write: &Write,
+) -> Result<(), AllocError>
+    ensures keeps { Keeps ready.old ready.new }
+    ensures wakes { OnOk result (write.now.key.kind ≡ kind_of_work role → is_ready ready.new role write.now.key ≡ true) }
+{
+    if write.key.kind.same(kind_of_work(role)) {
+        return wake_once(ready, looks, role, &write.key);
+    }
+    Ok(())
+}
+
+/// Makes each key of the role's kind of work ready that one of the writes named.
+fn wake_each(
+    ready: &mut Ready,
+    looks: &mut Vec<Look>,
+    role: Role,
+    writes: &[Write],
+) -> Result<(), AllocError>
+    ensures keeps { Keeps ready.old ready.new }
+    ensures wakes { OnOk result ((k : KeyValue) → k.kind ≡ kind_of_work role → is_known k writes.now ≡ true → is_ready ready.new role k ≡ true) }
+{
+    for write in writes {
+        wake_write(ready, looks, role, write)?;
+    }
+    Ok(())
+}
+
+/// Makes each key of the role's kind of work ready that an accepted write named.
+fn wake_known(
+    world: &World,
+    ready: &mut Ready,
+    looks: &mut Vec<Look>,
+    role: Role,
+) -> Result<(), AllocError>
+    ensures keeps { Keeps ready.old ready.new }
+    ensures wakes { OnOk result (HasKnown (setting_of world.now.scenario) world.now.history role ready.new) }
+{
+    wake_each(ready, looks, role, world.log().as_slice())
+}
+
+/// Makes each key ready that an accepted write named, for each role.
+fn wake_all(
+    world: &World,
+    ready: &mut Ready,
+    looks: &mut Vec<Look>,
+) -> Result<(), AllocError>
+    ensures keeps { Keeps ready.old ready.new }
+    ensures wakes { OnOk result (spec.HasAllKnown (setting_of world.now.scenario) world.now.history ready.new) }
+{
+    for place in 0..8 {
+        wake_known(world, ready, looks, role_in(place))?;
+    }
+    Ok(())
+}
+
+/// Whether the step has happen what may wake any key: another moment, or the start of a role.
+fn is_alarm(step: Option<&Step>) -> bool
+    ensures { result ≡ spec.is_alarm (option_copied step.entry) }
+{
+    matches!(step, Some(Step::Tick { .. } | Step::Start { .. }))
+}
+
+/// Makes those keys ready that the next step of the script may wake.
+fn wake_for_script(
+    world: &World,
+    ready: &mut Ready,
+    looks: &mut Vec<Look>,
+) -> Result<(), AllocError>
+    ensures keeps { Keeps ready.old ready.new }
+    ensures wakes { OnOk result (Wakes (setting_of world.now.scenario) world.now.history moves.Script ready.new) }
+{
+    if is_alarm(world.next_step()) {
+        return wake_all(world, ready, looks);
+    }
+    Ok(())
+}
+
+/// The keys of which the role may see something new once it is told of all writes of the kind, which it looks at.
+fn affected(
+    alloc: Global,
+    world: &World,
+    role: Role,
+    kind: Kind,
+) -> Result<Vec<Key>, AllocError>
+    requires { has_informer role kind ≡ true }
+    ensures { IfOk result (λ keys. (k : KeyValue) → is_among keys.items k ≡ false → (to : ℕ) → last_of_kind kind (writes (setting_of world.now.scenario) world.now.history) ≤ to → SeesSame (setting_of world.now.scenario) world.now.history role kind to k) }
+{
+    world.is_run();
+    let log = world.log();
+    let from = at_kind(world.told(role), kind);
+    let to = log.accepted();
+    world
+        .caches()
+        .affected(alloc, role, log.as_slice(), kind, from, to)
+}
+
+/// Makes each of the keys ready for the role.
+fn wake_keys(
+    ready: &mut Ready,
+    looks: &mut Vec<Look>,
+    role: Role,
+    keys: &[Key],
+) -> Result<(), AllocError>
+    ensures keeps { Keeps ready.old ready.new }
+    ensures wakes { OnOk result ((k : KeyValue) → is_among keys.now k ≡ true → is_ready ready.new role k ≡ true) }
+{
+    for key in keys {
+        wake(ready, looks, role, key)?;
+    }
+    Ok(())
+}
+
+/// Makes those keys ready of which the role may see something new once it is told of all writes of the kind.
+fn wake_told(
+    alloc: Global,
+    world: &World,
+    ready: &mut Ready,
+    looks: &mut Vec<Look>,
+    role: Role,
+    kind: Kind,
+) -> Result<(), AllocError>
+    requires { has_informer role kind ≡ true }
+    ensures keeps { Keeps ready.old ready.new }
+    ensures wakes { OnOk result ((to : ℕ) → last_of_kind kind (writes (setting_of world.now.scenario) world.now.history) ≤ to → WakesTold (setting_of world.now.scenario) world.now.history role kind to ready.new) }
+{
+    let keys = affected(alloc, world, role, kind)?;
+    wake_keys(ready, looks, role, &keys)
+}
+
+/// Makes those keys ready that the move may wake, and has the key of a begin looked at.
+fn wake_for(
+    alloc: Global,
+    world: &World,
+    ready: &mut Ready,
+    looks: &mut Vec<Look>,
+    step: &Move,
+) -> Result<(), AllocError>
+    requires { IsToNewest (setting_of world.now.scenario) world.now.history step.now }
+    ensures keeps { Keeps ready.old ready.new }
+    ensures wakes { OnOk result (Wakes (setting_of world.now.scenario) world.now.history step.now ready.new) }
+{
+    match step {
+        Move::Script => wake_for_script(world, ready, looks),
+        Move::Deliver { role, kind, to: _ } => wake_told(alloc, world, ready, looks, *role, *kind),
+        Move::Begin { role, key } => {
+            looks.push(Look {
+                role: *role,
+                key: key.copy()?,
+            })?;
+            Ok(())
+        }
+        Move::Next { .. } | Move::Give { .. } => Ok(()),
+    }
+}
+
+/// Looks at the key: it is ready no more where it is quiet.
+fn look_at(
+    alloc: Global,
+    world: &World,
+    ready: &mut Ready,
+    look: &Look,
+) -> Result<(), AllocError>
+    requires { Covers (setting_of world.now.scenario) world.now.history ready.old }
+    ensures { Covers (setting_of world.now.scenario) world.now.history ready.new }
+{
+    if is_quiet(alloc, world, look.role, &look.key)? {
+        ready.remove(look.role, &look.key);
+    }
+    Ok(())
+}
+
+/// Looks at all keys that have to be looked at.
+fn look_at_all(
+    alloc: Global,
+    world: &World,
+    ready: &mut Ready,
+    looks: &mut Vec<Look>,
+) -> Result<(), AllocError>
+    requires { Covers (setting_of world.now.scenario) world.now.history ready.old }
+    ensures { Covers (setting_of world.now.scenario) world.now.history ready.new }
+{
+    for _look in 0..looks.len() {
+        if let Some(look) = looks.pop() {
+            look_at(alloc, world, ready, &look)?;
+        }
+    }
+    Ok(())
+}
+
+/// The keys that accepted writes named, all of them ready.
+///
+/// # Errors
+///
+/// Want of memory alone.
+pub(crate) fn all_ready(alloc: Global, world: &World) -> Result<Ready, AllocError>
+    ensures { IfOk result (λ ready. Covers (setting_of world.now.scenario) world.now.history ready) }
+{
+    let mut ready = Ready::new(alloc)?;
+    let mut looks = Vec::new(alloc);
+    world.is_run();
+    wake_all(world, &mut ready, &mut looks)?;
+    Ok(ready)
+}
+
+impl Waking {
+    /// The world of the scenario before its first step, with no key ready.
+    ///
+    /// # Errors
+    ///
+    /// Want of memory alone.
+    pub(crate) fn new(alloc: Global, scenario: Scenario) -> Result<Waking, AllocError>
+        ensures { IfOk result (λ w. w ≡ record { scenario = scenario; history = [] }) }
+    {
+        let world = World::new(alloc, scenario)?;
+        let ready = all_ready(alloc, &world)?;
+        Ok(Waking {
+            world,
+            ready,
+            looks: Vec::new(alloc),
+        })
+    }
+
+    /// The world.
+    pub(crate) fn world(&self) -> &World
+        ensures { result.now ≡ self.now }
+    {
+        &self.world
+    }
+
+    /// The world, without the keys that are ready.
+    pub(crate) fn into_world(self) -> World
+        ensures { result ≡ self }
+    {
+        self.world
+    }
+
+    /// Looks at the keys that were made ready, and may be so no more. Nothing of the world changes.
+    ///
+    /// # Errors
+    ///
+    /// Want of memory alone.
+    pub(crate) fn look(&mut self, alloc: Global) -> Result<(), AllocError>
+        ensures { self.new ≡ self.old }
+    {
+        look_at_all(alloc, &self.world, &mut self.ready, &mut self.looks)
+    }
+
+    /// The move that a run by one hand makes next, as `plain` has it.
+    ///
+    /// # Errors
+    ///
+    /// Want of memory alone.
+    pub(crate) fn plain(&self, alloc: Global) -> Result<Option<Move>, AllocError>
+        ensures { IfOk result (λ m. IsPlainMove (setting_of self.now.scenario) self.now.history m) }
+    {
+        plain_by(alloc, &self.world, &self.ready)
+    }
+
+    /// Makes one move, as `World::step` does. Of a kind the role is told of all writes.
+    ///
+    /// # Errors
+    ///
+    /// Want of memory alone, which leaves the world as it was.
+    pub(crate) fn step(&mut self, alloc: Global, step: Move) -> Result<Stepped, AllocError>
+        requires { IsToNewest (setting_of self.old.scenario) self.old.history step }
+        ensures answer { IfOk result (λ r. Answers (setting_of self.old.scenario) self.old.history step r) }
+        ensures leaves { IfOk result (λ r. Leaves (setting_of self.old.scenario) self.old.history step r self.new.history) }
+        ensures scenario { self.new.scenario ≡ self.old.scenario }
+        ensures run { IsRun (setting_of self.new.scenario) self.new.history }
+        ensures err { OnErr result (self.new ≡ self.old) }
+    {
+        self.world.is_run();
+        wake_for(
+            alloc,
+            &self.world,
+            &mut self.ready,
+            &mut self.looks,
+            &step,
+        )?;
+        self.world.step(alloc, step)
+    }
+}
