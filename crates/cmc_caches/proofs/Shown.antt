@@ -2,7 +2,7 @@
 use Rattle.std.proofs.Common.{◌≡◌, List, refl}
 use Rattle.cmc_meta.specs.declared.key.Key.{Key}
 use Rattle.cmc_objects.specs.declared.role.Role.{Role}
-use Rattle.cmc_objects.specs.declared.role.Role.TheVariants.{Trigger, KeyManager, RequestManager, Approver, Issuer, Issuing, Readiness, Revision}
+use Rattle.cmc_objects.specs.declared.role.Role.TheVariants.{Trigger}
 use Rattle.cmc_objects.specs.declared.entry.Entry.{Entry}
 use Rattle.cmc_model.specs.Histories.{Setting}
 use Rattle.cmc_model.specs.Writes.{writes}

@@ -5,6 +5,8 @@ ghost use Rattle.cmc_model.specs.Histories.{role_eq};
 ghost use Rattle.cmc_model.specs.Writes as spec;
 ghost use Rattle.cmc_rules.specs.Viewing.{views_in};
 ghost use Rattle.cmc_caches.specs.Told.{cached, caches_of, nothing_told, with_cached};
+ghost use Rattle.cmc_meta.specs.declared.key.Kind.TheVariants as kinds;
+ghost use Rattle.cmc_caches.specs.Affected.{AreLeft, HaveOwnUids, SeesSame};
 
 use crate::one_role::RoleCaches;
 use cmc_meta::{Key, Kind};
@@ -90,5 +92,32 @@ impl Caches {
         ensures { IfOk result (λ seen. seen ≡ views_in role (caches_of self.now role) key.now) }
     {
         self.rows[role.rank() as usize].views(alloc, role, key)
+    }
+
+    /// The keys of which the role may see something new once it is told of the writes of the kind above the
+    /// one version and up to the other: of each other key it sees the same before and after. It looks at what
+    /// the role was told of before, and at these writes, and may list a key twice. An `Err` is want of memory.
+    ///
+    /// A key is found by the uid of its Certificate, and so it is taken for granted that the Certificates are
+    /// what some of the writes leave, and that no uid is given under two keys: the uid of an object is the
+    /// version of the write that created it.
+    #[tactic(auto, unfolding(crate::specs::Told::caches_of))]
+    pub fn affected(
+        &self,
+        alloc: Global,
+        role: Role,
+        writes: &[Write],
+        kind: Kind,
+        from: u64,
+        to: u64,
+    ) -> Result<Vec<Key>, AllocError>
+        requires above { from ≤ to }
+        requires within { to ≤ length writes.now }
+        requires holds { cached kind (caches_of self.now role) ≡ spec.contents (spec.of_kind kind (spec.oldest from (reverse writes.now))) }
+        requires certificates { AreLeft kinds.Certificate writes.now (cached kinds.Certificate (caches_of self.now role)) }
+        requires uids { HaveOwnUids (reverse writes.now) }
+        ensures { IfOk result (λ keys. SeesSame role keys.items (caches_of self.now role) (with_cached kind (spec.contents (spec.of_kind kind (spec.oldest to (reverse writes.now)))) (caches_of self.now role))) }
+    {
+        self.rows[role.rank() as usize].affected(alloc, role, writes, kind, from, to)
     }
 }

@@ -3,7 +3,9 @@ ghost use Rattle.std.specs.Prelude.{◌≡◌, ◌≤◌, IfOk, OnOk, OnErr, len
 ghost use Rattle.cmc_model.specs.Writes as spec;
 ghost use Rattle.cmc_rules.specs.Viewing.{views_in};
 ghost use Rattle.cmc_caches.specs.Told.{cached, caches_at, nothing_told, with_cached};
+ghost use Rattle.cmc_caches.specs.Affected.{IsEachUidOfOneKey, SeesSame};
 
+use crate::affected::affected_on;
 use crate::viewing::views_on;
 use cmc_informer::Cache;
 use cmc_meta::{Key, Kind};
@@ -105,6 +107,36 @@ impl RoleCaches {
             &self.requests,
             &self.secrets,
             key,
+        )
+    }
+
+    /// Keys such that a role that was told of this sees the same of each other key once it is told of the
+    /// writes of the kind above the one version and up to the other. An `Err` is want of memory.
+    pub(crate) fn affected(
+        &self,
+        alloc: Global,
+        role: Role,
+        writes: &[Write],
+        kind: Kind,
+        from: u64,
+        to: u64,
+    ) -> Result<Vec<Key>, AllocError>
+        requires above { from ≤ to }
+        requires within { to ≤ length writes.now }
+        requires holds { cached kind self.now ≡ spec.contents (spec.of_kind kind (spec.oldest from (reverse writes.now))) }
+        requires uids { IsEachUidOfOneKey self.now.certificates }
+        ensures { IfOk result (λ keys. SeesSame role keys.items self.now (with_cached kind (spec.contents (spec.of_kind kind (spec.oldest to (reverse writes.now)))) self.now)) }
+    {
+        affected_on(
+            alloc,
+            role,
+            &self.certificates,
+            &self.requests,
+            &self.secrets,
+            writes,
+            kind,
+            from,
+            to,
         )
     }
 }

@@ -1,4 +1,3 @@
-use Rattle.std.proofs.Common.{sym}
 use Rattle.std.specs.Prelude.{option_and_then}
 use Rattle.cmc_model.specs.Objects.{object_at}
 use Rattle.cmc_rules.specs.Viewing.{owned_in}

@@ -1,0 +1,70 @@
+-- No uid is given under two keys, and so none stands under two keys in what some first writes leave.
+use Rattle.std.proofs.Common.{◌≡◌, inl, inr, ℕ, Bool, true, false, cond, List, [], ◌∷◌, length, reverse, Option, Some, None, refl, sym, ap, ◌∙◌}
+use Rattle.std.proofs.lemmas.Bool.{eqb-true}
+use Rattle.std.specs.Prelude.{if◌then◌else◌, nat_le}
+use Rattle.cmc_meta.specs.declared.key.Key.{Key}
+use Rattle.cmc_meta.specs.declared.key.Kind.{Kind}
+use Rattle.cmc_meta.specs.declared.key.Kind.TheVariants.{Certificate}
+use Rattle.cmc_objects.specs.declared.object.Object.{Object}
+use Rattle.cmc_objects.specs.declared.role.Role.{Role}
+use Rattle.cmc_objects.specs.declared.entry.Entry.{Entry}
+use Rattle.cmc_model.specs.declared.write.Write.{Write}
+use Rattle.cmc_model.specs.Objects.{Objects, object_at}
+use Rattle.cmc_model.specs.Histories.{Setting}
+use Rattle.cmc_model.specs.Versions.{uid_of, IsVersion}
+use Rattle.cmc_model.specs.Writes.{contents, kind_eq, of_kind, oldest, writes}
+use Rattle.cmc_model.proofs.Versions.{standing}
+use Rattle.cmc_rules.specs.Legality.{IsLegal}
+use Rattle.cmc_rules.specs.Positions.{position_told, positions}
+use Rattle.cmc_rules.specs.Viewing.{Caches}
+use Rattle.cmc_rules.proofs.Versions.{uid_has_one_key}
+use Rattle.cmc_informer.specs.Caches.{has_uid}
+use Rattle.cmc_caches.specs.Told.{cached, caches_at}
+use Rattle.cmc_caches.specs.Affected.{AreLeft, HaveOwnUids, IsEachUidOfOneKey}
+
+-- ---- what stands is a version of a write
+
+some_write : (b : Bool) (key : Key) (o : Object) (w : Write) (some ws : List Write) → (IsVersion key o some → IsVersion key o ws) → IsVersion key o (cond b (w ∷ some) some) → IsVersion key o (w ∷ ws)
+some_write true key o w some ws below (inl here) = inl here
+some_write true key o w some ws below (inr there) = inr (below there)
+some_write false key o w some ws below there = inr (below there)
+
+version_of_kind : (kind : Kind) (key : Key) (o : Object) (ws : List Write) → IsVersion key o (of_kind kind ws) → IsVersion key o ws
+version_of_kind kind key o [] has = has
+version_of_kind kind key o (w ∷ ws) has = some_write (kind_eq w.key.kind kind) key o w (of_kind kind ws) ws (λ there. version_of_kind kind key o ws there) has
+
+first_writes : (b : Bool) (key : Key) (o : Object) (w : Write) (some ws : List Write) → (IsVersion key o some → IsVersion key o ws) → IsVersion key o (if b then w ∷ ws else some) → IsVersion key o (w ∷ ws)
+first_writes true key o w some ws below has = has
+first_writes false key o w some ws below has = inr (below has)
+
+version_of_oldest : (p : ℕ) (key : Key) (o : Object) (ws : List Write) → IsVersion key o (oldest p ws) → IsVersion key o ws
+unfolding oldest
+version_of_oldest p key o [] has = has
+version_of_oldest p key o (w ∷ ws) has = first_writes (nat_le (length (w ∷ ws)) p) key o w (oldest p ws) ws (λ there. version_of_oldest p key o ws there) has
+
+version_left : (kind : Kind) (ws : List Write) (m : Objects) (key : Key) (o : Object) → AreLeft kind ws m → object_at m key ≡ Some o → IsVersion key o (reverse ws)
+version_left kind ws m key o left is =
+    let first : List Write = oldest left.0 (reverse ws) in
+    version_of_oldest left.0 key o (reverse ws) (version_of_kind kind key o first (standing (of_kind kind first) key o (ap (λ (x : Objects). object_at x key) (sym left.1) ∙ is)))
+
+-- ---- uids
+
+uid_at : (o : Option Object) (uid : ℕ) → has_uid uid o ≡ true → (x : Object) × (o ≡ Some x) × (uid ≡ uid_of x)
+uid_at None uid is = absurd (cc is)
+uid_at (Some x) uid is = (x, refl, eqb-true uid (uid_of x) is)
+
+pub each_of_one_key : (kind : Kind) (ws : List Write) (m : Objects) → AreLeft kind ws m → HaveOwnUids (reverse ws) → IsEachUidOfOneKey m
+each_of_one_key kind ws m left own uid j k at_j at_k =
+    let one = uid_at (object_at m j) uid at_j in
+    let other = uid_at (object_at m k) uid at_k in
+    own j k one.0 other.0 (version_left kind ws m j one.0 left one.1) (version_left kind ws m k other.0 left other.1) (sym one.2 ∙ other.2)
+
+-- in a legal history no uid is given under two keys
+pub legal_uids : (s : Setting) (h : List Entry) → IsLegal s h → HaveOwnUids (writes s h)
+legal_uids s h legal j k o p a b same = uid_has_one_key s h j k o p legal a b same
+
+-- a role that was told of what the history says was told of Certificates so
+pub told_certificates : (s : Setting) (h : List Entry) (ws : List Write) (role : Role) (caches : Caches) → reverse ws ≡ writes s h → caches ≡ caches_at (writes s h) (positions h role)
+    → AreLeft Certificate ws (cached Certificate caches)
+told_certificates s h ws role caches log is =
+    (position_told h role Certificate, ap (λ (c : Caches). c.certificates) is ∙ ap (λ (l : List Write). contents (of_kind Certificate (oldest (position_told h role Certificate) l))) (sym log))

@@ -1,0 +1,52 @@
+-- Lists of keys that grow.
+use Rattle.std.proofs.Common.{◌≡◌, inl, inr, ℕ, Bool, true, false, List, [], ◌∷◌, ◌++◌, sym, ap, ◌∙◌, subst}
+use Rattle.std.proofs.Math.Bool.{or-false, or-true}
+use Rattle.std.proofs.lemmas.Bool.{eqb-true, or_cases}
+use Rattle.std.proofs.lemmas.List.Folds.{list_any-append}
+use Rattle.std.specs.BTreeMap.{is_at}
+use Rattle.std.specs.Cmp.{tied_itself}
+use Rattle.std.specs.Ordering.{is_eq}
+use Rattle.std.specs.Prelude.{◌||◌, ◌==◌}
+use Rattle.cmc_meta.specs.declared.key.Key.{Key}
+use Rattle.cmc_meta.specs.Keys.{key_cmp}
+use Rattle.cmc_model.specs.Objects.{Objects, object_at}
+use Rattle.cmc_model.proofs.Keys.{key_cmp-total}
+use Rattle.cmc_informer.specs.Caches.{has_uid, is_targeting}
+use Rattle.cmc_informer.proofs.OneMark.{same_key}
+use Rattle.cmc_caches.specs.Affected.{AreListedBySecret, AreListedByUid, KeepsKeys, is_among, is_one_of}
+
+or_left : (a b : Bool) → a ≡ true → (a || b) ≡ true
+or_left a b is = ap (λ x. x || b) is
+
+or_right : (a b : Bool) → b ≡ true → (a || b) ≡ true
+or_right a b is = ap (λ x. a || x) is ∙ or-true a
+
+pub keeps_more : (old more new : List Key) → new ≡ old ++ more → KeepsKeys old new
+keeps_more old more new is q among = ap (λ (l : List Key). is_among l q) is ∙ list_any-append (is_at (key_cmp q)) old more ∙ or_left (is_among old q) (is_among more q) among
+
+pub among_more : (old more new : List Key) (q : Key) → new ≡ old ++ more → is_among more q ≡ true → is_among new q ≡ true
+among_more old more new q is among = ap (λ (l : List Key). is_among l q) is ∙ list_any-append (is_at (key_cmp q)) old more ∙ or_right (is_among old q) (is_among more q) among
+
+itself : (k : Key) → is_among (k ∷ []) k ≡ true
+itself k = ap (λ r. is_eq r || false) (tied_itself key_cmp-total k)
+
+pub among_last : (old new : List Key) (last q : Key) → new ≡ old ++ last ∷ [] → last ≡ q → is_among new q ≡ true
+among_last old new last q is same = among_more old (last ∷ []) new q is (subst (λ (k : Key). is_among (k ∷ []) q ≡ true) (sym same) (itself q))
+
+-- one uid more
+pub uids_more : (m : Objects) (before : List ℕ) (u : ℕ) (old new : List Key) → AreListedByUid m before old → KeepsKeys old new → ((k : Key) → has_uid u (object_at m k) ≡ true → is_among new k ≡ true)
+    → AreListedByUid m (before ++ u ∷ []) new
+uids_more m before u old new listed keeps more v among k is =
+    elim (or_cases (is_one_of before v) ((u == v) || false) (sym (list_any-append (λ x. x == v) before (u ∷ [])) ∙ among)) [
+      | inl was ↦ keeps k (listed v was k is)
+      | inr here ↦ more k (subst (λ (x : ℕ). has_uid x (object_at m k) ≡ true) (sym (eqb-true u v (sym (or-false (u == v)) ∙ here))) is)
+    ]
+
+-- one Secret more
+pub secrets_more : (m : Objects) (before : List Key) (s : Key) (old new : List Key) → AreListedBySecret m before old → KeepsKeys old new
+    → ((k : Key) → is_targeting s.namespace s.name (object_at m k) ≡ true → is_among new k ≡ true) → AreListedBySecret m (before ++ s ∷ []) new
+secrets_more m before s old new listed keeps more t among k is =
+    elim (or_cases (is_among before t) (is_eq (key_cmp t s) || false) (sym (list_any-append (is_at (key_cmp t)) before (s ∷ [])) ∙ among)) [
+      | inl was ↦ keeps k (listed t was k is)
+      | inr here ↦ more k (subst (λ (x : Key). is_targeting x.namespace x.name (object_at m k) ≡ true) (same_key t s (sym (or-false (is_eq (key_cmp t s))) ∙ here)) is)
+    ]

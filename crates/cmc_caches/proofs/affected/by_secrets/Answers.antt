@@ -1,0 +1,9 @@
+use Rattle.cmc_meta.specs.declared.key.Kind.TheVariants as kinds
+use Rattle.cmc_caches.specs.Affected.{left_by}
+use Rattle.cmc_caches.proofs.Seeing.{sees_secrets}
+use Rattle.cmc_caches.proofs.affected.by_secrets.Goals as goal
+
+pub returns : goal.returns
+returns c requests =
+    sees_secrets c.args.role c.args.certificates.now requests (left_by c.args.writes.now kinds.Secret c.args.from) (left_by c.args.writes.now kinds.Secret c.args.to) c.in_ok-keys.keys.items c.add_by_targets.new.keys.items
+    c.in_ok-keys.ensures c.in_ok-add_by_targets.ensures.keeps c.in_ok-add_by_targets.ensures.seen

@@ -1,0 +1,17 @@
+use Rattle.std.proofs.Common.{◌+◌, arith, refl}
+use Rattle.cmc_model.specs.declared.write.Write.{Write}
+use Rattle.cmc_model.specs.Writes.{kind_eq}
+use Rattle.cmc_model.proofs.Writes.{contents_of-next}
+use Rattle.cmc_caches.specs.Affected.{left_by}
+use Rattle.cmc_caches.proofs.Touching.{same_more}
+use Rattle.cmc_caches.proofs.touched.written_keys.Goals as goal
+
+pub loop-place-init : goal.loop-place-init
+loop-place-init c = λ q off. refl
+
+pub loop-place-preserved : goal.loop-place-preserved
+loop-place-preserved c =
+    let w : Write = c.index-writes-place.result in
+    let next = contents_of-next c.args.kind c.args.writes.now c.loop-place.place w (omega (arith, c.loop-place-test.true, c.requires.within)) in
+    same_more (kind_eq w.key.kind c.args.kind) (left_by c.args.writes.now c.args.kind c.args.from) (left_by c.args.writes.now c.args.kind c.loop-place.place) (left_by c.args.writes.now c.args.kind (c.loop-place.place + 1)) c.loop-place.keys.items c.add_key.new.keys.items w.key w.object
+    (rw c.index-writes-place.is next) c.in_ok-add_key.ensures c.loop-place.invariant

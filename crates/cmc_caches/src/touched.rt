@@ -1,0 +1,104 @@
+//! What writes touch that a role is told of.
+ghost use Rattle.std.specs.Option.{option_copied};
+ghost use Rattle.std.specs.Prelude.{◌≡◌, ◌≤◌, ◌++◌, ◌∷◌, [], IfOk, OnOk, length, map, if◌then◌else◌};
+ghost use Rattle.cmc_model.specs.Objects.{object_at};
+ghost use Rattle.cmc_model.specs.Writes as spec;
+ghost use Rattle.cmc_caches.specs.Affected.{AreSameBut, AreSameButOf, left_by, owners_of};
+
+use cmc_informer::Cache;
+use cmc_meta::{Key, Kind, Numbers, OwnerRef};
+use cmc_model::Write;
+use cmc_objects::Object;
+use std::alloc::{AllocError, Global};
+
+fn add_key(keys: &mut Vec<Key>, write: &Write, kind: Kind) -> Result<(), AllocError>
+    ensures { OnOk result (keys.new.items ≡ (if spec.kind_eq write.now.key.kind kind then keys.old.items ++ write.now.key ∷ [] else keys.old.items)) }
+{
+    if write.key.kind == kind {
+        keys.push(write.key.copy()?)?;
+    }
+    Ok(())
+}
+
+/// The keys that the writes of the kind above the one version and up to the other name. An error is one of
+/// memory.
+pub(crate) fn written_keys(
+    alloc: Global,
+    writes: &[Write],
+    kind: Kind,
+    from: u64,
+    to: u64,
+) -> Result<Vec<Key>, AllocError>
+    requires above { from ≤ to }
+    requires within { to ≤ length writes.now }
+    ensures { IfOk result (λ keys. AreSameBut keys.items (left_by writes.now kind from) (left_by writes.now kind to)) }
+{
+    let mut keys = Vec::new(alloc);
+    for place in from..to {
+        add_key(&mut keys, &writes[place as usize], kind)?;
+    }
+    Ok(keys)
+}
+
+fn add_uids(uids: &mut Numbers, owners: &[OwnerRef]) -> Result<(), AllocError>
+    ensures { OnOk result (uids.new ≡ uids.old ++ map (λ owner. owner.uid) owners.now) }
+{
+    for owner in owners {
+        uids.push(owner.uid)?;
+    }
+    Ok(())
+}
+
+fn add_owners(uids: &mut Numbers, object: Option<&Object>) -> Result<(), AllocError>
+    ensures { OnOk result (uids.new ≡ uids.old ++ owners_of (option_copied object.entry)) }
+{
+    match object {
+        Some(object) => add_uids(uids, object.meta().owners.as_slice()),
+        None => Ok(()),
+    }
+}
+
+/// Adds the owners of what stood under the key of the write, and of what stands there then.
+fn add_both_owners(objects: &Cache, uids: &mut Numbers, write: &Write) -> Result<(), AllocError>
+    ensures { OnOk result (uids.new ≡ uids.old ++ (owners_of (object_at objects.now write.now.key) ++ owners_of write.now.object)) }
+{
+    add_owners(uids, objects.get(&write.key))?;
+    add_owners(uids, write.object.as_ref())
+}
+
+fn add_owners_of_kind(
+    objects: &Cache,
+    uids: &mut Numbers,
+    write: &Write,
+    kind: Kind,
+) -> Result<(), AllocError>
+    ensures { OnOk result (uids.new ≡ (if spec.kind_eq write.now.key.kind kind then uids.old ++ (owners_of (object_at objects.now write.now.key) ++ owners_of write.now.object) else uids.old)) }
+{
+    if write.key.kind == kind {
+        return add_both_owners(objects, uids, write);
+    }
+    Ok(())
+}
+
+/// The uids of all that owned or comes to own an object that the writes of the kind above the one version
+/// and up to the other change. What stood in between is itself of one of these writes, so the objects as
+/// they were before all of them are all that it looks at. An error is one of memory.
+pub(crate) fn touched_owners(
+    alloc: Global,
+    objects: &Cache,
+    writes: &[Write],
+    kind: Kind,
+    from: u64,
+    to: u64,
+) -> Result<Numbers, AllocError>
+    requires above { from ≤ to }
+    requires within { to ≤ length writes.now }
+    requires holds { objects.now ≡ left_by writes.now kind from }
+    ensures { IfOk result (λ uids. AreSameButOf uids (left_by writes.now kind from) (left_by writes.now kind to)) }
+{
+    let mut uids = Numbers::new(alloc);
+    for place in from..to {
+        add_owners_of_kind(objects, &mut uids, &writes[place as usize], kind)?;
+    }
+    Ok(uids)
+}
