@@ -6,3 +6,5 @@ pub mod OpenOnes
 pub mod Memories
 pub mod RowsOfPasts
 pub mod Counting
+pub mod Lasts
+pub mod Backwards

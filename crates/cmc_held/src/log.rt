@@ -4,8 +4,10 @@ ghost use Rattle.std.specs.Prelude.{◌≡◌, ◌↔◌, ◌+◌, ◌<◌, ◌�
 ghost use Rattle.cmc_rules.specs.Legality.{IsOfKind};
 ghost use Rattle.cmc_model.specs.Writes as spec;
 
+use crate::standings::{at_kind, put_at_kind};
 use cmc_meta::{Key, Kind};
 use cmc_model::Write;
+use cmc_objects::Positions;
 use std::alloc::{AllocError, Global};
 use std::marker::Model;
 
@@ -15,15 +17,23 @@ use std::marker::Model;
 #[derive(Drop)]
 pub struct Log {
     items: Vec<Write>,
+    /// Of each kind the version of the last write, 0 where there is none.
+    last: Positions,
 }
 
 impl Model for Log {
     ghost use Rattle.std.specs.Prelude.{◌-◌, reverse, vec_len, vec_capacity};
+    ghost use Rattle.std.specs.Prelude.{◌≡◌};
+    ghost use Rattle.cmc_meta.specs.declared.key.Kind.{Kind as KindValue};
+    ghost use Rattle.cmc_model.specs.Writes.{last_of_kind};
+    ghost use Rattle.cmc_rules.specs.Positions.{position_of};
     ghost use Rattle.cmc_held.specs.Logs.{Logged};
 
     ghost Value = { Logged };
 
     ghost view = { λ l. record { writes = reverse l.items.items; spare = vec_capacity l.items - vec_len l.items } };
+
+    ghost invariant = { λ l. (kind : KindValue) → position_of kind l.last ≡ last_of_kind kind (reverse l.items.items) };
 }
 
 impl Log {
@@ -33,6 +43,11 @@ impl Log {
     {
         Log {
             items: Vec::new(alloc),
+            last: Positions {
+                certificates: 0,
+                requests: 0,
+                secrets: 0,
+            },
         }
     }
 
@@ -51,7 +66,9 @@ impl Log {
         ensures writes { self.new.writes ≡ write ∷ self.old.writes }
         ensures spare { self.old.spare ≤ self.new.spare + 1 }
     {
+        let kind = write.key.kind;
         self.items.push(write).unwrap();
+        self.last = put_at_kind(self.last, kind, self.items.len() as u64);
     }
 
     /// How many writes were accepted.
@@ -79,7 +96,7 @@ impl Log {
     pub fn last_of_kind(&self, kind: Kind) -> u64
         ensures { result ≡ spec.last_of_kind kind self.now.writes }
     {
-        last_of_kind(self.as_slice(), kind)
+        at_kind(self.last, kind)
     }
 
     /// The version of the last write under the key, 0 where there is none.
@@ -121,28 +138,16 @@ fn is_of_kind(writes: &[Write], version: u64, kind: Kind) -> bool
     }
 }
 
-fn last_of_kind(writes: &[Write], kind: Kind) -> u64
-    ensures { result ≡ spec.last_of_kind kind (reverse writes.now) }
-{
-    let mut last = 0;
-    for (i, write) in writes.iter().enumerate() {
-        if write.key.kind == kind {
-            last = i as u64 + 1;
-        }
-    }
-    last
-}
-
 fn last_under(writes: &[Write], key: &Key) -> u64
     ensures { result ≡ spec.last_under key.now (reverse writes.now) }
 {
-    let mut last = 0;
-    for (i, write) in writes.iter().enumerate() {
-        if write.key == *key {
-            last = i as u64 + 1;
+    for newer in 0..writes.len() {
+        let version = writes.len() - newer;
+        if writes[version - 1].key == *key {
+            return version as u64;
         }
     }
-    last
+    0
 }
 
 fn is_known(writes: &[Write], key: &Key) -> bool

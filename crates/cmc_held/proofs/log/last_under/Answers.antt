@@ -1,15 +1,16 @@
-use Rattle.std.proofs.Common.{sym, arith}
-use Rattle.cmc_held.proofs.Numbered.{last_under-none, last_under-next}
+use Rattle.std.proofs.Common.{◌∙◌, sym, refl, arith}
+use Rattle.cmc_held.proofs.Backwards.{under_here, under_before, under_none}
 use Rattle.cmc_held.proofs.log.last_under.Goals as goal
-use Rattle.cmc_held.proofs.log.last_under.Goals.{then-eq, else-eq}
 
-pub loop-i-init : goal.loop-i-init
-loop-i-init c = sym (last_under-none c.args.key.now)
+pub returns-then-eq : goal.returns-then-eq
+returns-then-eq c =
+    under_here c.args.key.now c.args.writes.now _ c.loop-newer.newer c.index-writes-version.result refl (omega (arith, c.loop-newer-test.true)) c.loop-newer.invariant
+    (grind (arith, c.index-writes-version.is, c.eq.ensures, c.if-eq.true))
 
-pub loop-i-preserved : goal.loop-i-preserved
-loop-i-preserved c =
-    let step = last_under-next c.args.key.now c.args.writes.now c.loop-i.i c.index-writes-i.result (omega (arith, c.loop-i-test.true)) in
-    elim c.if-eq.branch [
-      | then-eq w ↦ grind (arith, step, c.index-writes-i.is, c.eq.ensures, w.if-eq.true, w.last-is)
-      | else-eq w ↦ grind (arith, step, c.index-writes-i.is, c.eq.ensures, w.if-eq.false, w.last-is, c.loop-i.invariant)
-    ]
+pub loop-newer-preserved : goal.loop-newer-preserved
+loop-newer-preserved c =
+    under_before c.args.key.now c.args.writes.now _ c.loop-newer.newer c.index-writes-version.result refl (omega (arith, c.loop-newer-test.true)) c.loop-newer.invariant
+    (grind (arith, c.index-writes-version.is, c.eq.ensures, c.if-eq.false))
+
+pub returns : goal.returns
+returns c = under_none c.args.key.now c.args.writes.now c.loop-newer.newer (omega (arith, c.loop-newer-test.false)) c.loop-newer.invariant

@@ -1,6 +1,6 @@
-use Rattle.std.proofs.Common.{◌≡◌, take, reverse}
+use Rattle.std.proofs.Common.{◌≡◌, ◌-◌, take, reverse, length}
 use Rattle.cmc_model.specs.Writes.{last_under}
 use Rattle.cmc_held.proofs.log.last_under.Given as goal
 
-abbrev pub invariant-loop-i : goal.invariant-loop-i
-invariant-loop-i l = l.last ≡ last_under l.key (reverse (take l.i l.writes))
+abbrev pub invariant-loop-newer : goal.invariant-loop-newer
+invariant-loop-newer l = last_under l.key (reverse l.writes) ≡ last_under l.key (reverse (take (length l.writes - l.newer) l.writes))
