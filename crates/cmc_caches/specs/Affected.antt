@@ -24,7 +24,11 @@ is_among keys key = list_any (is_at (key_cmp key)) keys
 abbrev pub SeesSame : Role → List Key → Caches → Caches → Type 0
 SeesSame role keys old new = (key : Key) → is_among keys key ≡ false → views_in role old key ≡ views_in role new key
 
--- ---- what is taken for granted of the accepted writes
+-- each of these keys is one of the kind, and one of the writes names it
+abbrev pub AreNamed : Kind → List Write → List Key → Type 0
+AreNamed kind ws keys = (key : Key) → is_among keys key ≡ true → (key.kind ≡ kind) × (is_known key ws ≡ true)
+
+-- ---- what is taken for granted
 
 -- what the first so many writes of the kind leave, where the oldest write stands first
 abbrev pub left_by : List Write → Kind → ℕ → Objects
@@ -34,11 +38,7 @@ left_by ws kind p = contents (of_kind kind (oldest p (reverse ws)))
 abbrev pub AreLeft : Kind → List Write → Objects → Type 0
 AreLeft kind ws objects = (p : ℕ) × (objects ≡ left_by ws kind p)
 
--- each of these keys is one of the kind, and one of the writes names it
-abbrev pub AreNamed : Kind → List Write → List Key → Type 0
-AreNamed kind ws keys = (key : Key) → is_among keys key ≡ true → (key.kind ≡ kind) × (is_known key ws ≡ true)
-
--- and so is each key under which something stands
+-- each key under which something stands is one of the kind, and one of the writes names it
 abbrev pub StandUnderNamed : Kind → List Write → Objects → Type 0
 StandUnderNamed kind ws objects = (key : Key) → is_some (object_at objects key) ≡ true → (key.kind ≡ kind) × (is_known key ws ≡ true)
 
