@@ -29,7 +29,7 @@ some_write true key o w some ws below (inl here) = inl here
 some_write true key o w some ws below (inr there) = inr (below there)
 some_write false key o w some ws below there = inr (below there)
 
-version_of_kind : (kind : Kind) (key : Key) (o : Object) (ws : List Write) → IsVersion key o (of_kind kind ws) → IsVersion key o ws
+pub version_of_kind : (kind : Kind) (key : Key) (o : Object) (ws : List Write) → IsVersion key o (of_kind kind ws) → IsVersion key o ws
 version_of_kind kind key o [] has = has
 version_of_kind kind key o (w ∷ ws) has = some_write (kind_eq w.key.kind kind) key o w (of_kind kind ws) ws (λ there. version_of_kind kind key o ws there) has
 
@@ -37,7 +37,7 @@ first_writes : (b : Bool) (key : Key) (o : Object) (w : Write) (some ws : List W
 first_writes true key o w some ws below has = has
 first_writes false key o w some ws below has = inr (below has)
 
-version_of_oldest : (p : ℕ) (key : Key) (o : Object) (ws : List Write) → IsVersion key o (oldest p ws) → IsVersion key o ws
+pub version_of_oldest : (p : ℕ) (key : Key) (o : Object) (ws : List Write) → IsVersion key o (oldest p ws) → IsVersion key o ws
 unfolding oldest
 version_of_oldest p key o [] has = has
 version_of_oldest p key o (w ∷ ws) has = first_writes (nat_le (length (w ∷ ws)) p) key o w (oldest p ws) ws (λ there. version_of_oldest p key o ws there) has

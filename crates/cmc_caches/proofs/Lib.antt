@@ -6,3 +6,4 @@ pub mod Births
 pub mod Touching
 pub mod Gathering
 pub mod Seeing
+pub mod Naming

@@ -1,5 +1,5 @@
 -- Of which keys a role may see something new as it is told of more.
-use Rattle.std.specs.Prelude.{◌≡◌, ◌⊎◌, ◌==◌, ℕ, false, true, Bool, List, [], map, reverse, Option, Some, None}
+use Rattle.std.specs.Prelude.{◌≡◌, ◌⊎◌, ◌==◌, ℕ, false, true, Bool, List, [], map, reverse, Option, Some, None, is_some}
 use Rattle.std.specs.BTreeMap.{is_at}
 use Rattle.std.specs.List.{list_any}
 use Rattle.cmc_meta.specs.declared.key.Key.{Key}
@@ -12,7 +12,7 @@ use Rattle.cmc_objects.specs.Objects.{meta_of}
 use Rattle.cmc_model.specs.declared.write.Write.{Write}
 use Rattle.cmc_model.specs.Objects.{Objects, object_at}
 use Rattle.cmc_model.specs.Versions.{uid_of, IsVersion}
-use Rattle.cmc_model.specs.Writes.{contents, oldest, of_kind}
+use Rattle.cmc_model.specs.Writes.{contents, oldest, of_kind, is_known}
 use Rattle.cmc_rules.specs.Positions.{looks_at_secret, looks_at_next, looks_at_requests}
 use Rattle.cmc_rules.specs.Viewing.{Caches, certificate_at, target_at, next_of, requests_of, views_in}
 use Rattle.cmc_informer.specs.Caches.{has_uid, is_owned_by, is_targeting}
@@ -24,7 +24,11 @@ is_among keys key = list_any (is_at (key_cmp key)) keys
 abbrev pub SeesSame : Role → List Key → Caches → Caches → Type 0
 SeesSame role keys old new = (key : Key) → is_among keys key ≡ false → views_in role old key ≡ views_in role new key
 
--- ---- what is taken for granted of the accepted writes
+-- each of these keys is one of the kind, and one of the writes names it
+abbrev pub AreNamed : Kind → List Write → List Key → Type 0
+AreNamed kind ws keys = (key : Key) → is_among keys key ≡ true → (key.kind ≡ kind) × (is_known key ws ≡ true)
+
+-- ---- what is taken for granted
 
 -- what the first so many writes of the kind leave, where the oldest write stands first
 abbrev pub left_by : List Write → Kind → ℕ → Objects
@@ -33,6 +37,10 @@ left_by ws kind p = contents (of_kind kind (oldest p (reverse ws)))
 -- some first writes of the kind leave these objects
 abbrev pub AreLeft : Kind → List Write → Objects → Type 0
 AreLeft kind ws objects = (p : ℕ) × (objects ≡ left_by ws kind p)
+
+-- each key under which something stands is one of the kind, and one of the writes names it
+abbrev pub StandUnderNamed : Kind → List Write → Objects → Type 0
+StandUnderNamed kind ws objects = (key : Key) → is_some (object_at objects key) ≡ true → (key.kind ≡ kind) × (is_known key ws ≡ true)
 
 -- no uid was ever given under two keys
 abbrev pub HaveOwnUids : List Write → Type 0
@@ -69,6 +77,10 @@ AreSameButOf uids m n = (uid : ℕ) → is_one_of uids uid ≡ false → (key : 
 -- no key is lost
 abbrev pub KeepsKeys : List Key → List Key → Type 0
 KeepsKeys old new = (key : Key) → is_among old key ≡ true → is_among new key ≡ true
+
+-- what is added are keys under which something stands
+abbrev pub AddsStanding : Objects → List Key → List Key → Type 0
+AddsStanding certificates old new = (key : Key) → is_among new key ≡ true → (is_among old key ≡ true) ⊎ (is_some (object_at certificates key) ≡ true)
 
 -- the keys of all objects that have one of the uids are
 abbrev pub AreListedByUid : Objects → List ℕ → List Key → Type 0

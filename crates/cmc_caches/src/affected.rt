@@ -1,9 +1,10 @@
 //! The keys of which a role may see something new as it is told of more.
-ghost use Rattle.std.specs.Prelude.{◌≡◌, ◌≤◌, IfOk, OnOk, length};
+ghost use Rattle.std.specs.Prelude.{◌≡◌, ◌≤◌, IfOk, OnOk, length, reverse};
 ghost use Rattle.cmc_meta.specs.declared.key.Kind.TheVariants as kinds;
 ghost use Rattle.cmc_model.specs.Objects.{Objects};
+ghost use Rattle.cmc_rules.specs.Positions.{kind_of_work};
 ghost use Rattle.cmc_caches.specs.Told.{cached, with_cached};
-ghost use Rattle.cmc_caches.specs.Affected.{IsEachUidOfOneKey, KeepsKeys, SeesSame, SeesSameNext, SeesSameRequests, SeesSameTarget, left_by};
+ghost use Rattle.cmc_caches.specs.Affected.{AreNamed, IsEachUidOfOneKey, KeepsKeys, SeesSame, SeesSameNext, SeesSameRequests, SeesSameTarget, StandUnderNamed, left_by};
 
 use crate::listed::{add_naming_all, add_with_uids};
 use crate::touched::{touched_owners, written_keys};
@@ -24,7 +25,8 @@ fn by_certificates(
 ) -> Result<Vec<Key>, AllocError>
     requires above { from ≤ to }
     requires within { to ≤ length writes.now }
-    ensures { IfOk result (λ keys. (requests secrets : Objects) → SeesSame role keys.items (record { certificates = left_by writes.now kinds.Certificate from; requests = requests; secrets = secrets }) (record { certificates = left_by writes.now kinds.Certificate to; requests = requests; secrets = secrets })) }
+    ensures work { IfOk result (λ keys. AreNamed (kind_of_work role) (reverse writes.now) keys.items) }
+    ensures sees { IfOk result (λ keys. (requests secrets : Objects) → SeesSame role keys.items (record { certificates = left_by writes.now kinds.Certificate from; requests = requests; secrets = secrets }) (record { certificates = left_by writes.now kinds.Certificate to; requests = requests; secrets = secrets })) }
 {
     if works_on_requests(role) {
         return Ok(Vec::new(alloc));
@@ -46,8 +48,10 @@ fn by_owned_requests(
     requires above { from ≤ to }
     requires within { to ≤ length writes.now }
     requires holds { requests.now ≡ left_by writes.now kinds.CertificateRequest from }
+    requires named { StandUnderNamed kinds.Certificate (reverse writes.now) certificates.now }
     requires uids { IsEachUidOfOneKey certificates.now }
-    ensures { IfOk result (λ keys. SeesSameRequests role certificates.now keys.items (left_by writes.now kinds.CertificateRequest from) (left_by writes.now kinds.CertificateRequest to)) }
+    ensures work { IfOk result (λ keys. AreNamed (kind_of_work role) (reverse writes.now) keys.items) }
+    ensures sees { IfOk result (λ keys. SeesSameRequests role certificates.now keys.items (left_by writes.now kinds.CertificateRequest from) (left_by writes.now kinds.CertificateRequest to)) }
 {
     let mut keys = Vec::new(alloc);
     if !looks_at_requests(role) {
@@ -71,8 +75,10 @@ fn by_requests(
     requires above { from ≤ to }
     requires within { to ≤ length writes.now }
     requires holds { requests.now ≡ left_by writes.now kinds.CertificateRequest from }
+    requires named { StandUnderNamed kinds.Certificate (reverse writes.now) certificates.now }
     requires uids { IsEachUidOfOneKey certificates.now }
-    ensures { IfOk result (λ keys. (secrets : Objects) → SeesSame role keys.items (record { certificates = certificates.now; requests = left_by writes.now kinds.CertificateRequest from; secrets = secrets }) (record { certificates = certificates.now; requests = left_by writes.now kinds.CertificateRequest to; secrets = secrets })) }
+    ensures work { IfOk result (λ keys. AreNamed (kind_of_work role) (reverse writes.now) keys.items) }
+    ensures sees { IfOk result (λ keys. (secrets : Objects) → SeesSame role keys.items (record { certificates = certificates.now; requests = left_by writes.now kinds.CertificateRequest from; secrets = secrets }) (record { certificates = certificates.now; requests = left_by writes.now kinds.CertificateRequest to; secrets = secrets })) }
 {
     if works_on_requests(role) {
         return written_keys(alloc, writes, Kind::CertificateRequest, from, to);
@@ -94,8 +100,10 @@ fn by_next_keys(
     requires above { from ≤ to }
     requires within { to ≤ length writes.now }
     requires holds { secrets.now ≡ left_by writes.now kinds.Secret from }
+    requires named { StandUnderNamed kinds.Certificate (reverse writes.now) certificates.now }
     requires uids { IsEachUidOfOneKey certificates.now }
-    ensures { IfOk result (λ keys. SeesSameNext role certificates.now keys.items (left_by writes.now kinds.Secret from) (left_by writes.now kinds.Secret to)) }
+    ensures work { IfOk result (λ keys. AreNamed (kind_of_work role) (reverse writes.now) keys.items) }
+    ensures sees { IfOk result (λ keys. SeesSameNext role certificates.now keys.items (left_by writes.now kinds.Secret from) (left_by writes.now kinds.Secret to)) }
 {
     let mut keys = Vec::new(alloc);
     if !looks_at_next(role) {
@@ -119,7 +127,9 @@ fn add_by_targets(
 ) -> Result<(), AllocError>
     requires above { from ≤ to }
     requires within { to ≤ length writes.now }
-    ensures seen { OnOk result (SeesSameTarget role certificates.now keys.new.items (left_by writes.now kinds.Secret from) (left_by writes.now kinds.Secret to)) }
+    requires named { StandUnderNamed kinds.Certificate (reverse writes.now) certificates.now }
+    ensures work { OnOk result (AreNamed (kind_of_work role) (reverse writes.now) keys.old.items → AreNamed (kind_of_work role) (reverse writes.now) keys.new.items) }
+    ensures sees { OnOk result (SeesSameTarget role certificates.now keys.new.items (left_by writes.now kinds.Secret from) (left_by writes.now kinds.Secret to)) }
     ensures keeps { OnOk result (KeepsKeys keys.old.items keys.new.items) }
 {
     if !looks_at_secret(role) {
@@ -142,16 +152,18 @@ fn by_secrets(
     requires above { from ≤ to }
     requires within { to ≤ length writes.now }
     requires holds { secrets.now ≡ left_by writes.now kinds.Secret from }
+    requires named { StandUnderNamed kinds.Certificate (reverse writes.now) certificates.now }
     requires uids { IsEachUidOfOneKey certificates.now }
-    ensures { IfOk result (λ keys. (requests : Objects) → SeesSame role keys.items (record { certificates = certificates.now; requests = requests; secrets = left_by writes.now kinds.Secret from }) (record { certificates = certificates.now; requests = requests; secrets = left_by writes.now kinds.Secret to })) }
+    ensures work { IfOk result (λ keys. AreNamed (kind_of_work role) (reverse writes.now) keys.items) }
+    ensures sees { IfOk result (λ keys. (requests : Objects) → SeesSame role keys.items (record { certificates = certificates.now; requests = requests; secrets = left_by writes.now kinds.Secret from }) (record { certificates = certificates.now; requests = requests; secrets = left_by writes.now kinds.Secret to })) }
 {
     let mut keys = by_next_keys(alloc, role, certificates, secrets, writes, from, to)?;
     add_by_targets(alloc, role, certificates, &mut keys, writes, from, to)?;
     Ok(keys)
 }
 
-/// Keys such that the role sees the same of each other key once it is told of the writes of the kind above
-/// the one version and up to the other. An error is one of memory.
+/// Keys of the role's work such that it sees the same of each other key once it is told of the writes of the
+/// kind above the one version and up to the other. An error is one of memory.
 pub(crate) fn affected_on(
     alloc: Global,
     role: Role,
@@ -166,8 +178,10 @@ pub(crate) fn affected_on(
     requires above { from ≤ to }
     requires within { to ≤ length writes.now }
     requires holds { cached kind (record { certificates = certificates.now; requests = requests.now; secrets = secrets.now }) ≡ left_by writes.now kind from }
+    requires named { StandUnderNamed kinds.Certificate (reverse writes.now) certificates.now }
     requires uids { IsEachUidOfOneKey certificates.now }
-    ensures { IfOk result (λ keys. SeesSame role keys.items (record { certificates = certificates.now; requests = requests.now; secrets = secrets.now }) (with_cached kind (left_by writes.now kind to) (record { certificates = certificates.now; requests = requests.now; secrets = secrets.now }))) }
+    ensures work { IfOk result (λ keys. AreNamed (kind_of_work role) (reverse writes.now) keys.items) }
+    ensures sees { IfOk result (λ keys. SeesSame role keys.items (record { certificates = certificates.now; requests = requests.now; secrets = secrets.now }) (with_cached kind (left_by writes.now kind to) (record { certificates = certificates.now; requests = requests.now; secrets = secrets.now }))) }
 {
     match kind {
         Kind::Certificate => by_certificates(alloc, role, writes, from, to),

@@ -3,10 +3,11 @@ ghost use Rattle.std.specs.Prelude.{◌≡◌, ◌≤◌, IfOk, OnOk, OnErr, len
 ghost use Rattle.cmc_objects.specs.declared.role.Role.{Role as RoleValue};
 ghost use Rattle.cmc_model.specs.Histories.{role_eq};
 ghost use Rattle.cmc_model.specs.Writes as spec;
+ghost use Rattle.cmc_rules.specs.Positions.{kind_of_work};
 ghost use Rattle.cmc_rules.specs.Viewing.{views_in};
 ghost use Rattle.cmc_caches.specs.Told.{cached, caches_of, nothing_told, with_cached};
 ghost use Rattle.cmc_meta.specs.declared.key.Kind.TheVariants as kinds;
-ghost use Rattle.cmc_caches.specs.Affected.{AreLeft, HaveOwnUids, SeesSame};
+ghost use Rattle.cmc_caches.specs.Affected.{AreLeft, AreNamed, HaveOwnUids, SeesSame};
 
 use crate::one_role::RoleCaches;
 use cmc_meta::{Key, Kind};
@@ -95,8 +96,9 @@ impl Caches {
     }
 
     /// The keys of which the role may see something new once it is told of the writes of the kind above the
-    /// one version and up to the other: of each other key it sees the same before and after. It looks at what
-    /// the role was told of before, and at these writes, and may list a key twice. An `Err` is want of memory.
+    /// one version and up to the other: of each other key it sees the same before and after. Each is a key of
+    /// the role's work that an accepted write names. It looks at what the role was told of before, and at these
+    /// writes, and may list a key twice. An `Err` is want of memory.
     ///
     /// A key is found by the uid of its Certificate, and so it is taken for granted that the Certificates are
     /// what some of the writes leave, and that no uid is given under two keys: the uid of an object is the
@@ -116,7 +118,8 @@ impl Caches {
         requires holds { cached kind (caches_of self.now role) ≡ spec.contents (spec.of_kind kind (spec.oldest from (reverse writes.now))) }
         requires certificates { AreLeft kinds.Certificate writes.now (cached kinds.Certificate (caches_of self.now role)) }
         requires uids { HaveOwnUids (reverse writes.now) }
-        ensures { IfOk result (λ keys. SeesSame role keys.items (caches_of self.now role) (with_cached kind (spec.contents (spec.of_kind kind (spec.oldest to (reverse writes.now)))) (caches_of self.now role))) }
+        ensures work { IfOk result (λ keys. AreNamed (kind_of_work role) (reverse writes.now) keys.items) }
+        ensures sees { IfOk result (λ keys. SeesSame role keys.items (caches_of self.now role) (with_cached kind (spec.contents (spec.of_kind kind (spec.oldest to (reverse writes.now)))) (caches_of self.now role))) }
     {
         self.rows[role.rank() as usize].affected(alloc, role, writes, kind, from, to)
     }

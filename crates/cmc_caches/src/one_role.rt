@@ -1,9 +1,11 @@
 //! What one role was told of.
 ghost use Rattle.std.specs.Prelude.{◌≡◌, ◌≤◌, IfOk, OnOk, OnErr, length, reverse};
+ghost use Rattle.cmc_meta.specs.declared.key.Kind.TheVariants as kinds;
 ghost use Rattle.cmc_model.specs.Writes as spec;
+ghost use Rattle.cmc_rules.specs.Positions.{kind_of_work};
 ghost use Rattle.cmc_rules.specs.Viewing.{views_in};
 ghost use Rattle.cmc_caches.specs.Told.{cached, caches_at, nothing_told, with_cached};
-ghost use Rattle.cmc_caches.specs.Affected.{IsEachUidOfOneKey, SeesSame};
+ghost use Rattle.cmc_caches.specs.Affected.{AreNamed, IsEachUidOfOneKey, SeesSame, StandUnderNamed};
 
 use crate::affected::affected_on;
 use crate::viewing::views_on;
@@ -110,8 +112,9 @@ impl RoleCaches {
         )
     }
 
-    /// Keys such that a role that was told of this sees the same of each other key once it is told of the
-    /// writes of the kind above the one version and up to the other. An `Err` is want of memory.
+    /// Keys of the role's work such that, where it was told of this, it sees the same of each other key once
+    /// it is told of the writes of the kind above the one version and up to the other. An `Err` is want of
+    /// memory.
     pub(crate) fn affected(
         &self,
         alloc: Global,
@@ -124,8 +127,10 @@ impl RoleCaches {
         requires above { from ≤ to }
         requires within { to ≤ length writes.now }
         requires holds { cached kind self.now ≡ spec.contents (spec.of_kind kind (spec.oldest from (reverse writes.now))) }
+        requires named { StandUnderNamed kinds.Certificate (reverse writes.now) self.now.certificates }
         requires uids { IsEachUidOfOneKey self.now.certificates }
-        ensures { IfOk result (λ keys. SeesSame role keys.items self.now (with_cached kind (spec.contents (spec.of_kind kind (spec.oldest to (reverse writes.now)))) self.now)) }
+        ensures work { IfOk result (λ keys. AreNamed (kind_of_work role) (reverse writes.now) keys.items) }
+        ensures sees { IfOk result (λ keys. SeesSame role keys.items self.now (with_cached kind (spec.contents (spec.of_kind kind (spec.oldest to (reverse writes.now)))) self.now)) }
     {
         affected_on(
             alloc,

@@ -1,9 +1,9 @@
 //! What writes touch that a role is told of.
 ghost use Rattle.std.specs.Option.{option_copied};
-ghost use Rattle.std.specs.Prelude.{◌≡◌, ◌≤◌, ◌++◌, ◌∷◌, [], IfOk, OnOk, length, map, if◌then◌else◌};
+ghost use Rattle.std.specs.Prelude.{◌≡◌, ◌≤◌, ◌++◌, ◌∷◌, [], IfOk, OnOk, length, map, reverse, if◌then◌else◌};
 ghost use Rattle.cmc_model.specs.Objects.{object_at};
 ghost use Rattle.cmc_model.specs.Writes as spec;
-ghost use Rattle.cmc_caches.specs.Affected.{AreSameBut, AreSameButOf, left_by, owners_of};
+ghost use Rattle.cmc_caches.specs.Affected.{AreNamed, AreSameBut, AreSameButOf, left_by, owners_of};
 
 use cmc_informer::Cache;
 use cmc_meta::{Key, Kind, Numbers, OwnerRef};
@@ -31,7 +31,8 @@ pub(crate) fn written_keys(
 ) -> Result<Vec<Key>, AllocError>
     requires above { from ≤ to }
     requires within { to ≤ length writes.now }
-    ensures { IfOk result (λ keys. AreSameBut keys.items (left_by writes.now kind from) (left_by writes.now kind to)) }
+    ensures same { IfOk result (λ keys. AreSameBut keys.items (left_by writes.now kind from) (left_by writes.now kind to)) }
+    ensures named { IfOk result (λ keys. AreNamed kind (reverse writes.now) keys.items) }
 {
     let mut keys = Vec::new(alloc);
     for place in from..to {

@@ -3,6 +3,7 @@ use Rattle.std.proofs.lemmas.List.{take_more}
 use Rattle.cmc_meta.specs.declared.key.Key.{Key}
 use Rattle.cmc_caches.specs.Affected.{AreListedBySecret}
 use Rattle.cmc_caches.proofs.Gathering.{secrets_more}
+use Rattle.cmc_caches.proofs.Naming.{adds_on}
 use Rattle.cmc_caches.proofs.listed.add_naming_all.Goals as goal
 
 pub loop-secret-preserved : goal.loop-secret-preserved
@@ -13,4 +14,5 @@ loop-secret-preserved c =
       listed = subst (λ (ks : List Key). AreListedBySecret c.args.certificates.now ks c.add_naming.new.keys.items) (sym next)
           (secrets_more c.args.certificates.now before c.secret-item.result c.loop-secret.keys.items c.add_naming.new.keys.items c.loop-secret.invariant.listed c.in_ok-add_naming.ensures.keeps c.in_ok-add_naming.ensures.listed);
       keeps = λ k among. c.in_ok-add_naming.ensures.keeps k (c.loop-secret.invariant.keeps k among);
+      adds = adds_on c.args.certificates.now c.args.keys.now.items c.loop-secret.keys.items c.add_naming.new.keys.items c.loop-secret.invariant.adds c.in_ok-add_naming.ensures.adds;
     }
