@@ -68,7 +68,7 @@ told_kind ws h kinds.Secret to r is =
     let one : left kinds.Secret to ws ≡ left kinds.Secret (if has_informer r kinds.Secret then to else 0) ws = ap (λ (b : Bool). left kinds.Secret (if b then to else 0) ws) (sym is) in
     λ i. record (caches_at ws (positions h r)) { secrets = one i }
 
-told_at : (b : Bool) (ws : List Write) (h : List Entry) (role : Role) (kind : Kind) (to : ℕ) (r : Role) → has_informer role kind ≡ true → role_eq role r ≡ b
+pub told_at : (b : Bool) (ws : List Write) (h : List Entry) (role : Role) (kind : Kind) (to : ℕ) (r : Role) → has_informer role kind ≡ true → role_eq role r ≡ b
     → (if b then with_cached kind (left kind to ws) (caches_at ws (positions h role)) else caches_at ws (positions h r))
     ≡ caches_at ws (record {
       certificates = if has_informer r kinds.Certificate then (if b && kind_eq kind kinds.Certificate then to else position h r kinds.Certificate) else 0;
