@@ -7,10 +7,9 @@ use Rattle.std.proofs.lemmas.List.{length-reverse, length-take-le, reverse-appen
 use Rattle.std.proofs.lemmas.List.Folds.{list_any-append}
 use Rattle.std.proofs.lemmas.Option.{slice_get_cases}
 use Rattle.cmc_meta.specs.declared.key.Key.{Key}
-use Rattle.cmc_meta.specs.declared.key.Kind.{Kind}
 use Rattle.cmc_meta.specs.Keys.{key_eq}
 use Rattle.cmc_model.specs.declared.write.Write.{Write}
-use Rattle.cmc_model.specs.Writes.{kind_eq, write_at, last_of_kind, last_under}
+use Rattle.cmc_model.specs.Writes.{write_at, last_under}
 
 -- ---- one more write in order of time
 
@@ -23,18 +22,7 @@ counted_next ws i d h =
     let b : length (take i ws) ≡ i = length-take-le i ws (omega (arith, h)) in
     omega (arith, a, b)
 
--- ---- the last write of a kind, and the last one under a key
-
-pub last_of_kind-none : (kind : Kind) → last_of_kind kind [] ≡ 0
-unfolding last_of_kind
-last_of_kind-none kind = refl
-
-pub last_of_kind-next : (kind : Kind) (ws : List Write) (i : ℕ) (d : Write) → i < length ws
-    → last_of_kind kind (reverse (take (i + 1) ws)) ≡ (if kind_eq (get_or ws i d).key.kind kind then i + 1 else last_of_kind kind (reverse (take i ws)))
-unfolding last_of_kind
-last_of_kind-next kind ws i d h =
-    ap (last_of_kind kind) (reversed_next ws i d h)
-    ∙ ap (λ (n : ℕ). if kind_eq (get_or ws i d).key.kind kind then n else last_of_kind kind (reverse (take i ws))) (counted_next ws i d h)
+-- ---- the last write under a key
 
 pub last_under-none : (key : Key) → last_under key [] ≡ 0
 unfolding last_under
