@@ -63,9 +63,9 @@ quiet_on : (s : Setting) (h k : List Entry) (role : Role) (key : Key) → views 
 quiet_on s h k role key sees now saw q =
     let seen : Views = views s k role key in
     let here : act role seen (moment s h) (desk s h role seen) ≡ Nothing = subst (λ (v : Views). act role v (moment s h) (desk s h role v) ≡ Nothing) (sym sees) q.idle in
-    let then : act role seen (moment s k) (desk s h role seen) ≡ Nothing = subst (λ (t : ℤ). act role seen t (desk s h role seen) ≡ Nothing) (sym now) here in
+    let later : act role seen (moment s k) (desk s h role seen) ≡ Nothing = subst (λ (t : ℤ). act role seen t (desk s h role seen) ≡ Nothing) (sym now) here in
     record {
-      idle = any_desk role seen (moment s k) (desk s h role seen) (desk s k role seen) refl then;
+      idle = any_desk role seen (moment s k) (desk s h role seen) (desk s k role seen) refl later;
       same = sees ∙ q.same ∙ sym saw;
     }
 
@@ -135,7 +135,7 @@ covers_known s h rows legal has role key work off = unknown_quiet s h role key l
 -- ---- moves
 
 -- what the role sees where it is told so far of the kind, or not
-told_views : Setting → List Entry → Role → Kind → ℕ → Key → Bool → Views
+abbrev told_views : Setting → List Entry → Role → Kind → ℕ → Key → Bool → Views
 told_views s h role kind to key b =
     views_in role (record {
       certificates = objects_of kinds.Certificate s h (if b && kind_eq kind kinds.Certificate then to else position h role kinds.Certificate);
@@ -182,7 +182,7 @@ covers_effect (Some (effects.Call call)) s h k n rows legal before woken (e, (re
     subst (λ (l : List Entry). Covers s l rows) (sym (grown ∙ ap (λ (x : Entry). x ∷ Script n ∷ h) is))
     (covers_with s (Script n ∷ h) (Called User call reply) rows (tt, before) (λ role key work off. tt) (covers_with s h (Script n) rows before (λ role key work off. tt) covers))
 covers_effect (Some (effects.Tick now)) s h k n rows legal before woken (e, is, grown) covers =
-    subst (λ (l : List Entry). Covers s l rows) (sym (grown ∙ ap (λ (x : Entry). x ∷ Script n ∷ h) is)) (covers_known s (Tick now ∷ Script n ∷ h) rows (tt, tt, before) woken)
+    subst (λ (l : List Entry). Covers s l rows) (sym (grown ∙ ap (λ (x : Entry). x ∷ Script n ∷ h) is)) (covers_known s (Tick now ∷ Script n ∷ h) rows (tt, (tt, before)) woken)
 covers_effect (Some (effects.Stop role)) s h k n rows legal before woken (e, is, grown) covers =
     subst (λ (l : List Entry). Covers s l rows) (sym (grown ∙ ap (λ (x : Entry). x ∷ Script n ∷ h) is))
     (covers_with s (Script n ∷ h) (Stop role) rows (tt, before) (λ role key work off. tt) (covers_with s h (Script n) rows before (λ role key work off. tt) covers))
