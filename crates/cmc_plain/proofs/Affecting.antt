@@ -4,7 +4,6 @@ use Rattle.std.proofs.lemmas.List.Folds.{list_any-append}
 use Rattle.std.specs.Prelude.{◌||◌, if◌then◌else◌, reverse}
 use Rattle.std.specs.BTreeMap.{is_at}
 use Rattle.std.specs.BTreeSet.{BTreeSet}
-use Rattle.std.specs.List.{list_any}
 use Rattle.std.specs.Ordering.{is_eq}
 use Rattle.cmc_meta.specs.declared.key.Key.{Key}
 use Rattle.cmc_meta.specs.declared.key.Kind.{Kind}
@@ -13,14 +12,13 @@ use Rattle.cmc_meta.specs.Keys.{key_cmp}
 use Rattle.cmc_objects.specs.declared.role.Role.{Role}
 use Rattle.cmc_objects.specs.declared.entry.Entry.{Entry}
 use Rattle.cmc_objects.specs.declared.entry.Entry.TheVariants.{Deliver}
-use Rattle.cmc_objects.specs.declared.entry.Positions.{Positions}
 use Rattle.cmc_model.specs.declared.write.Write.{Write}
 use Rattle.cmc_model.specs.Objects.{Objects}
 use Rattle.cmc_model.specs.Histories.{Setting, accepted, role_eq}
 use Rattle.cmc_model.specs.Writes.{writes, contents, oldest, of_kind, last_of_kind}
 use Rattle.cmc_model.proofs.Writes.{writes_count}
-use Rattle.cmc_rules.specs.Positions.{kind_of_work, has_informer, position_of, positions}
-use Rattle.cmc_rules.specs.Viewing.{Caches, views_in, views}
+use Rattle.cmc_rules.specs.Positions.{has_informer, position_of, positions}
+use Rattle.cmc_rules.specs.Viewing.{Caches, views_in}
 use Rattle.cmc_rules.specs.Legality.{IsLegal}
 use Rattle.cmc_caches.specs.Affected.{is_among, HaveOwnUids}
 use Rattle.cmc_caches.specs.Affected as affected

@@ -1,8 +1,7 @@
 -- All is at rest by the keys that are ready: on each other key of its work a role has nothing to do.
-use Rattle.std.proofs.Common.{◌≡◌, ◌⊎◌, ◌+◌, ◌-◌, ◌<◌, ◌≤◌, ℕ, List, [], ◌∷◌, length, Option, Some, None, Bool, true, false, refl, sym, ap, subst, ◌∙◌, inl, inr, arith, get_or}
-use Rattle.std.proofs.lemmas.Bool.Decides.{nat_tests}
+use Rattle.std.proofs.Common.{◌≡◌, ◌⊎◌, ◌+◌, ◌-◌, ◌<◌, ◌≤◌, ℕ, List, [], ◌∷◌, length, Option, Some, None, Bool, true, false, refl, sym, subst, inl, inr, arith, get_or}
 use Rattle.std.proofs.lemmas.Option.{slice_get_cases}
-use Rattle.std.specs.Prelude.{◌↔◌, ◌||◌, IsTrue, nat_lt, slice_get, is_some}
+use Rattle.std.specs.Prelude.{◌↔◌, ◌||◌, IsTrue, slice_get, is_some}
 use Rattle.std.specs.BTreeMap.{is_at}
 use Rattle.std.specs.BTreeSet.{BTreeSet, contains}
 use Rattle.std.specs.List.{list_any}
@@ -14,15 +13,12 @@ use Rattle.cmc_objects.specs.declared.role.Role.{Role}
 use Rattle.cmc_objects.specs.declared.entry.Entry.{Entry}
 use Rattle.cmc_objects.specs.declared.entry.Step.{Step}
 use Rattle.cmc_objects.specs.declared.entry.Step.TheVariants as steps
-use Rattle.cmc_model.specs.Histories.{Setting, moment, runs}
-use Rattle.cmc_model.specs.Writes.{writes, is_known, last_of_kind, kind_eq}
-use Rattle.cmc_rules.specs.Positions.{kind_of_work, has_informer, position}
-use Rattle.cmc_rules.specs.Desks.{desk}
-use Rattle.cmc_rules.specs.Viewing.{views, present_views}
-use Rattle.cmc_rules.specs.Passes.{open_pass}
+use Rattle.cmc_model.specs.Histories.{Setting, runs}
+use Rattle.cmc_model.specs.Writes.{writes, is_known, kind_eq}
+use Rattle.cmc_rules.specs.Positions.{kind_of_work}
 use Rattle.cmc_rules.specs.Legality.{IsLegal, IsOpen}
-use Rattle.cmc_rules.specs.Resting.{IsIdle, RestsOn, IsAtRest}
-use Rattle.cmc_rules.specs.Scripting.{scripted, step_at, held, has_held}
+use Rattle.cmc_rules.specs.Resting.{RestsOn, IsAtRest}
+use Rattle.cmc_rules.specs.Scripting.{scripted, step_at, has_held}
 use Rattle.cmc_rules.specs.Following.{owed, written, IsReady}
 use Rattle.cmc_rules.specs.Runs.{IsFinished}
 use Rattle.cmc_world.specs.Rest.{EachKind, IsToldAll, RestsOnKnown}

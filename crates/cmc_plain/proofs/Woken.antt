@@ -1,5 +1,5 @@
 -- Which keys are made ready, and that the others stay quiet.
-use Rattle.std.proofs.Common.{◌≡◌, ◌+◌, ◌<◌, ◌≤◌, ℕ, List, [], ◌∷◌, ◌++◌, length, take, Option, Some, None, Bool, true, false, refl, sym, ap, subst, ◌∙◌, arith, option_and_then}
+use Rattle.std.proofs.Common.{◌≡◌, ◌+◌, ◌<◌, ℕ, List, [], ◌∷◌, ◌++◌, Option, Some, None, Bool, true, false, refl, sym, ap, subst, ◌∙◌, arith, option_and_then}
 use Rattle.std.proofs.lemmas.Bool.{and_parts, or_right}
 use Rattle.std.proofs.lemmas.Bool.Decides.{nat_tests}
 use Rattle.std.specs.Prelude.{◌&&◌, ◌||◌, not, nat_lt, reverse, Result, Ok, Err, IfOk, OnOk, OnErr}
@@ -19,7 +19,7 @@ use Rattle.cmc_model.specs.Histories.{Setting, accepted, moment, objects, role_e
 use Rattle.cmc_model.specs.Writes.{writes, is_known}
 use Rattle.cmc_rules.specs.declared.effect.Effect.{Effect}
 use Rattle.cmc_rules.specs.declared.effect.Effect.TheVariants as effects
-use Rattle.cmc_rules.specs.Following.{call_or, call_of, effect_besides, effect_on, effect_of}
+use Rattle.cmc_rules.specs.Following.{call_or, call_of, effect_besides, effect_of}
 use Rattle.cmc_rules.specs.Positions.{kind_of_work}
 use Rattle.cmc_rules.specs.Scripting.{scripted, step_at}
 use Rattle.cmc_held.proofs.Numbered.{list_any-reverse}

@@ -1,7 +1,4 @@
-use Rattle.std.proofs.Common.{Option, Some, sym, subst, ap}
 use Rattle.std.proofs.lemmas.Result.{IfOk-weaker}
-use Rattle.cmc_objects.specs.declared.entry.Step.{Step}
-use Rattle.cmc_rules.specs.Following.{IsReady}
 use Rattle.cmc_world.specs.Kept.{setting_of}
 use Rattle.cmc_plain.proofs.Resting.{until_by, settle_by}
 use Rattle.cmc_plain.proofs.rest.is_ready.Goals as goal

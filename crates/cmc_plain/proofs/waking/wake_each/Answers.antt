@@ -10,5 +10,5 @@ loop-write-preserved c =
     (take_more c.args.writes.now c.loop-write.write-index c.write-item.result c.loop-write-test.true) in (
       keeps_twice c.args.ready.now c.loop-write.ready c.wake_write.new.ready c.loop-write.invariant.0 c.wake_write.ensures.keeps,
       each_more c.args.role (take c.loop-write.write-index c.args.writes.now) (take (c.loop-write.write-index + 1) c.args.writes.now) c.write-item.result c.loop-write.ready c.wake_write.new.ready more
-      c.wake_write.ensures.keeps c.in_ok-wake_write.ensures.wakes c.loop-write.invariant.1,
+          c.wake_write.ensures.keeps c.in_ok-wake_write.ensures.wakes c.loop-write.invariant.1,
     )

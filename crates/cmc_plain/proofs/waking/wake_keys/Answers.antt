@@ -11,5 +11,5 @@ loop-key-preserved c =
     (take_more c.args.keys.now c.loop-key.key-index c.key-item.result c.loop-key-test.true) in (
       keeps_twice c.args.ready.now c.loop-key.ready c.wake.new.ready c.loop-key.invariant.0 c.wake.ensures.keeps,
       keys_more c.args.role (take c.loop-key.key-index c.args.keys.now) (take (c.loop-key.key-index + 1) c.args.keys.now) c.key-item.result c.loop-key.ready c.wake.new.ready more
-      c.wake.ensures.keeps c.in_ok-wake.ensures.wakes c.loop-key.invariant.1,
+          c.wake.ensures.keeps c.in_ok-wake.ensures.wakes c.loop-key.invariant.1,
     )

@@ -1,4 +1,4 @@
-use Rattle.std.proofs.Common.{List, subst, sym}
+use Rattle.std.proofs.Common.{List, subst}
 use Rattle.cmc_meta.specs.declared.key.Key.{Key}
 use Rattle.cmc_world.specs.Kept.{setting_of}
 use Rattle.cmc_plain.proofs.Affecting.{AreReady, told_ready}

@@ -1,6 +1,3 @@
-use Rattle.std.proofs.Common.{sym, subst}
-use Rattle.cmc_rules.specs.Runs.{IsRun}
-use Rattle.cmc_world.specs.Kept.{Seen, setting_of}
 use Rattle.cmc_plain.proofs.Woken.{covers_step}
 use Rattle.cmc_plain.proofs.waking.Waking.step.Goals as goal
 
