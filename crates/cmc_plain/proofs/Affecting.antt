@@ -1,12 +1,9 @@
 -- Of which keys a role that is told of all writes of a kind may see something new.
 use Rattle.std.proofs.Common.{◌≡◌, ℕ, ◌≤◌, List, [], ◌∷◌, ◌++◌, length, Bool, true, false, refl, sym, ap, subst, ◌∙◌, arith}
-use Rattle.std.proofs.lemmas.Bool.{or_right}
-use Rattle.std.proofs.lemmas.List.{length-reverse}
 use Rattle.std.proofs.lemmas.List.Folds.{list_any-append}
 use Rattle.std.specs.Prelude.{◌||◌, if◌then◌else◌, reverse}
 use Rattle.std.specs.BTreeMap.{is_at}
 use Rattle.std.specs.BTreeSet.{BTreeSet}
-use Rattle.std.specs.List.{list_any}
 use Rattle.std.specs.Ordering.{is_eq}
 use Rattle.cmc_meta.specs.declared.key.Key.{Key}
 use Rattle.cmc_meta.specs.declared.key.Kind.{Kind}
@@ -15,20 +12,18 @@ use Rattle.cmc_meta.specs.Keys.{key_cmp}
 use Rattle.cmc_objects.specs.declared.role.Role.{Role}
 use Rattle.cmc_objects.specs.declared.entry.Entry.{Entry}
 use Rattle.cmc_objects.specs.declared.entry.Entry.TheVariants.{Deliver}
-use Rattle.cmc_objects.specs.declared.entry.Positions.{Positions}
 use Rattle.cmc_model.specs.declared.write.Write.{Write}
 use Rattle.cmc_model.specs.Objects.{Objects}
 use Rattle.cmc_model.specs.Histories.{Setting, accepted, role_eq}
 use Rattle.cmc_model.specs.Writes.{writes, contents, oldest, of_kind, last_of_kind}
-use Rattle.cmc_model.proofs.Versions.{one_key}
 use Rattle.cmc_model.proofs.Writes.{writes_count}
-use Rattle.cmc_rules.specs.Positions.{kind_of_work, has_informer, position_of, positions}
-use Rattle.cmc_rules.specs.Viewing.{Caches, views_in, views}
+use Rattle.cmc_rules.specs.Positions.{has_informer, position_of, positions}
+use Rattle.cmc_rules.specs.Viewing.{Caches, views_in}
 use Rattle.cmc_rules.specs.Legality.{IsLegal}
-use Rattle.cmc_rules.proofs.Versions.{lawful}
-use Rattle.cmc_caches.specs.Affected.{is_among, AreLeft, HaveOwnUids}
+use Rattle.cmc_caches.specs.Affected.{is_among, HaveOwnUids}
 use Rattle.cmc_caches.specs.Affected as affected
-use Rattle.cmc_caches.specs.Told.{cached, caches_at, with_cached}
+use Rattle.cmc_caches.specs.Told.{caches_at, with_cached}
+use Rattle.cmc_caches.proofs.Births.{legal_uids}
 use Rattle.cmc_caches.proofs.Shown.{views-told}
 use Rattle.cmc_world.proofs.Caching.{told_at, told_low}
 use Rattle.cmc_world.proofs.OneKind.{last_low, of_kind-oldest}
@@ -42,22 +37,6 @@ left kind p ws = contents (of_kind kind (oldest p ws))
 
 -- ---- what the search takes for granted
 
-cached_first : (kind : Kind) (ws : List Write) (at : Positions) → cached kind (caches_at ws at) ≡ left kind (position_of kind at) ws
-cached_first kinds.Certificate ws at = refl
-cached_first kinds.CertificateRequest ws at = refl
-cached_first kinds.Secret ws at = refl
-
--- the role has what its position says
-pub has_first : (s : Setting) (h : List Entry) (role : Role) (kind : Kind) (seen : Caches) (from : ℕ) (items ws : List Write) → seen ≡ caches_at (writes s h) (positions h role)
-    → from ≡ position_of kind (positions h role) → reverse items ≡ ws → ws ≡ writes s h → cached kind seen ≡ left kind from (reverse items)
-has_first s h role kind seen from items ws sees at turned is =
-    ap (cached kind) sees ∙ cached_first kind (writes s h) (positions h role) ∙ ap (λ (p : ℕ). left kind p (writes s h)) (sym at) ∙ ap (left kind from) (sym (turned ∙ is))
-
-pub certificates_left : (s : Setting) (h : List Entry) (role : Role) (seen : Caches) (items ws : List Write) → seen ≡ caches_at (writes s h) (positions h role)
-    → reverse items ≡ ws → ws ≡ writes s h → AreLeft kinds.Certificate items (cached kinds.Certificate seen)
-certificates_left s h role seen items ws sees turned is =
-    ((positions h role).certificates, has_first s h role kinds.Certificate seen (positions h role).certificates items ws sees refl turned is)
-
 low_of : (s : Setting) (h : List Entry) (role : Role) (kind : Kind) → IsLegal s h → position_of kind (positions h role) ≤ accepted s h
 low_of s h role kinds.Certificate legal = told_low s h role kinds.Certificate legal
 low_of s h role kinds.CertificateRequest legal = told_low s h role kinds.CertificateRequest legal
@@ -70,13 +49,8 @@ from_low s h role kind from to ws legal at count is =
     let all : length ws ≡ accepted s h = ap length is ∙ writes_count s h in
     omega (arith, low, at, count, all)
 
-pub to_within : (items ws : List Write) (to : ℕ) → reverse items ≡ ws → to ≡ length ws → to ≤ length items
-to_within items ws to turned count =
-    let same : length items ≡ length ws = sym (length-reverse items) ∙ ap length turned in
-    omega (arith, same, count)
-
 pub own_uids : (s : Setting) (h : List Entry) (items ws : List Write) → IsLegal s h → reverse items ≡ ws → ws ≡ writes s h → HaveOwnUids (reverse items)
-own_uids s h items ws legal turned is = subst HaveOwnUids (sym (turned ∙ is)) (λ j k o p one two same. one_key (writes s h) j k o p (lawful s h legal) one two same)
+own_uids s h items ws legal turned is = subst HaveOwnUids (sym (turned ∙ is)) (legal_uids s h legal)
 
 -- ---- what it finds
 

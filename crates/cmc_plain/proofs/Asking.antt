@@ -1,9 +1,9 @@
 -- Values for the questions of open passes.
-use Rattle.std.proofs.Common.{◌≡◌, ◌∙◌, ℕ, ℤ, List, Option, Some, None, refl, sym, ap, subst}
-use Rattle.std.specs.Prelude.{IfSome, option_map}
+use Rattle.std.proofs.Common.{◌≡◌, ◌∙◌, ℕ, ℤ, List, Option, Some, None, refl, sym}
+use Rattle.std.specs.Prelude.{option_map}
 use Rattle.cmc_objects.specs.declared.entry.Entry.{Entry}
 use Rattle.cmc_objects.specs.declared.orders.Order.{Order}
-use Rattle.cmc_objects.specs.declared.orders.Order.TheVariants.{Key, Csr, Sign, Judge}
+use Rattle.cmc_objects.specs.declared.orders.Order.TheVariants.{Key}
 use Rattle.cmc_objects.specs.declared.role.Role.{Role}
 use Rattle.cmc_pass.specs.Giving.{order_of}
 use Rattle.cmc_pass.specs.declared.given.Given.{Given}
@@ -17,7 +17,6 @@ use Rattle.cmc_rules.specs.Runs.{IsRun}
 use Rattle.cmc_rules.specs.Sound.{IsQuestion}
 use Rattle.cmc_safety.proofs.Course.{HasCome, HasComeTo, has_come, of_open}
 use Rattle.cmc_world.specs.Answers.{kept_at}
-use Rattle.cmc_world.specs.declared.moves.Move.{Move}
 use Rattle.cmc_world.specs.declared.moves.Move.TheVariants.{Give}
 use Rattle.cmc_world.proofs.Sounds.{each_sound}
 use Rattle.cmc_plain.specs.Driving.{CanBeMade, CanBeKept, IsNextWith}

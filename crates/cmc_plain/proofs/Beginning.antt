@@ -37,9 +37,11 @@ fit_unless_quiet s h role key seen due quiet legal is running free due_is on qui
   unquiet : (b : Bool) → not b ≡ true → (IsTrue b ↔ IsQuiet s h role key) → IsQuiet s h role key → ⊥
   unquiet true loud e q = absurd (cc loud)
   unquiet false loud e q = let bad = e.1 q in absurd (cc bad)
+
   loud_by : (b : Bool) → (IsTrue b ↔ IsQuiet s h role key) → (IsQuiet s h role key → ⊥) → not b ≡ true
   loud_by true e worth = absurd (worth (e.0 refl))
   loud_by false e worth = refl
+
   fits : (IsQuiet s h role key → ⊥) → Fits s h role key
   fits worth = record {
     may = record {

@@ -21,7 +21,7 @@ use Rattle.cmc_world.proofs.Rest.{key_eq-Decides}
 use Rattle.cmc_plain.specs.Plain.{IsQuiet, Fits}
 use Rattle.cmc_plain.specs.Searches.{FindsKey}
 
-tied_is_same : (a b : Key) → is_eq (key_cmp a b) ≡ true → a ≡ b
+pub tied_is_same : (a b : Key) → is_eq (key_cmp a b) ≡ true → a ≡ b
 tied_is_same a b e = key_cmp-IsAntisymmetric a b ((Equal-is (key_cmp a b)).0 e)
 
 tied-Decides : (a b : Key) → Decides (is_at (key_cmp a) b) (a ≡ b)

@@ -25,14 +25,14 @@ use Rattle.cmc_rules.specs.Runs.{IsRun}
 use Rattle.cmc_world.specs.declared.moves.Move.{Move}
 use Rattle.cmc_world.specs.declared.moves.Move.TheVariants.{Script, Deliver, Begin, Next, Give}
 use Rattle.cmc_world.specs.declared.moves.Stepped.{Stepped}
-use Rattle.cmc_world.specs.declared.moves.Stepped.TheVariants.{Done, Order as Tells, NotNow, Ended, NotMine, Spent}
+use Rattle.cmc_world.specs.declared.moves.Stepped.TheVariants.{Done, NotNow, Ended, NotMine, Spent}
 use Rattle.cmc_world.specs.declared.moves.Lack.TheVariants.{ScriptOver, ScriptWaits, Stopped, NoInformer, Held, Current, NotAWrite, InProcess, OwnWrite, SameViews, NotQueued, NoPass}
-use Rattle.cmc_world.specs.Answers.{Need, Bar, BarOf, Fits as HasRoom, outdated, entries_of, next_effect, kept_of, new_of, next_answer, asked_once, value_entry, AnswersScript, AnswersDelivery, AnswersBegin, AnswersOpen, AnswersGoing, AnswersGiven, Answers, LeavesAsked, Leaves}
+use Rattle.cmc_world.specs.Answers.{Need, Bar, BarOf, Fits as HasRoom, outdated, entries_of, next_effect, kept_of, new_of, next_answer, asked_once, value_entry, AnswersScript, AnswersDelivery, AnswersBegin, AnswersOpen, AnswersGoing, AnswersGiven, Answers, Leaves}
 use Rattle.cmc_world.proofs.Leading.{new_may}
 use Rattle.cmc_world.proofs.Rest.{same_kind}
 use Rattle.cmc_plain.specs.Plain.{IsStepReady, IsBehind, IsOfPresent, MayBegin, IsChosen}
 use Rattle.cmc_plain.specs.Driving.{IsNextWith, IsMadeFor, goes_on}
-use Rattle.cmc_plain.specs.Histories.{IsOfCourse, GrowsPlainly, entries_for}
+use Rattle.cmc_plain.specs.Histories.{GrowsPlainly, entries_for}
 use Rattle.cmc_plain.specs.Searches.{IsAccepted}
 use Rattle.cmc_world.proofs.OneKind.{last_low}
 

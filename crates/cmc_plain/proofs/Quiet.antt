@@ -1,9 +1,9 @@
 -- Which entries leave a quiet key quiet, and what a quiet key is no matter for.
-use Rattle.std.proofs.Common.{◌≡◌, ◌+◌, ℕ, ℤ, ◌≤◌, List, [], ◌∷◌, length, Option, Some, None, Bool, true, false, refl, sym, ap, subst, ◌∙◌, inl, inr}
+use Rattle.std.proofs.Common.{◌≡◌, ◌+◌, ℕ, ℤ, List, ◌∷◌, Option, Some, None, Bool, true, false, refl, sym, ap, subst, ◌∙◌, inl, inr}
 use Rattle.std.proofs.lemmas.Bool.{and_parts}
 use Rattle.std.proofs.lemmas.Bool.Decides.{Decides-eqb}
 use Rattle.cmc_objects.specs.declared.entry.Who.TheVariants.{User, Pass}
-use Rattle.std.specs.Prelude.{◌&&◌, ◌⊎◌, if◌then◌else◌, nat_le, MatchBool, option_map}
+use Rattle.std.specs.Prelude.{◌&&◌, if◌then◌else◌, nat_le, MatchBool, option_map}
 use Rattle.std.specs.BTreeSet.{BTreeSet}
 use Rattle.cmc_meta.specs.declared.key.Key.{Key}
 use Rattle.cmc_meta.specs.declared.key.Kind.{Kind}
@@ -14,21 +14,18 @@ use Rattle.cmc_objects.specs.declared.entry.Entry.{Entry}
 use Rattle.cmc_objects.specs.declared.entry.Entry.TheVariants.{Script, Call as Called, Deliver, List as Listed, Begin, Ask, Made, Signed, Answered, Judged, End, Stop, Start, Tick}
 use Rattle.cmc_objects.specs.Roles.{role_rank}
 use Rattle.cmc_pass.specs.declared.pass.Views.{Views}
-use Rattle.cmc_pass.specs.declared.pass.Desk.{Desk}
 use Rattle.cmc_pass.specs.declared.pass.Act.TheVariants.{Nothing}
 use Rattle.cmc_pass.specs.Giving.{value_of}
-use Rattle.cmc_pass.specs.declared.given.Given.{Given}
 use Rattle.cmc_pass.specs.declared.value.Value.{Value}
 use Rattle.cmc_pass.specs.declared.value.Value.TheVariants as values
 use Rattle.cmc_objects.specs.declared.orders.Order.{Order}
 use Rattle.cmc_model.specs.Replies.{is_accepted, key_of_call}
-use Rattle.cmc_model.specs.Histories.{Setting, moment, accepted, runs, role_eq}
+use Rattle.cmc_model.specs.Histories.{Setting, moment, accepted, role_eq}
 use Rattle.cmc_model.specs.Writes.{writes, is_known, kind_eq, objects_of}
 use Rattle.cmc_rules.specs.declared.effect.Effect.{Effect}
 use Rattle.cmc_rules.specs.declared.effect.Effect.TheVariants as effects
 use Rattle.cmc_rules.specs.declared.progress.Ending.{Ending}
 use Rattle.cmc_rules.specs.declared.progress.LastPass.{LastPass}
-use Rattle.cmc_rules.specs.declared.progress.OpenPass.{OpenPass}
 use Rattle.cmc_rules.specs.declared.progress.Past.{Past}
 use Rattle.cmc_rules.specs.Positions.{kind_of_work, position}
 use Rattle.cmc_rules.specs.Viewing.{views, views_in, present_views}
@@ -37,15 +34,14 @@ use Rattle.cmc_rules.specs.Acts.{act}
 use Rattle.cmc_rules.specs.Passes.{open_pass, is_pass_of}
 use Rattle.cmc_rules.specs.Memory.{past, with_begin, with_ending, ending_of}
 use Rattle.cmc_rules.specs.Resting.{IsIdle, IsPaused, RestsOn}
-use Rattle.cmc_rules.specs.Scripting.{scripted, held, has_held}
+use Rattle.cmc_rules.specs.Scripting.{scripted, has_held}
 use Rattle.cmc_rules.specs.Legality.{IsLegal}
 use Rattle.cmc_rules.proofs.Positions.{views_called}
-use Rattle.cmc_world.specs.Answers.{Grows, GrowsBy, GrowsByScript, IsEffect, Leaves, LeavesAsked, IsOfPass, next_effect, delivered, beginning, value_entry, kept_of, asked_once}
+use Rattle.cmc_world.specs.Answers.{Grows, GrowsBy, Leaves, LeavesAsked, IsOfPass, next_effect, beginning, value_entry, kept_of, asked_once}
 use Rattle.cmc_world.specs.declared.moves.Move.{Move}
 use Rattle.cmc_world.specs.declared.moves.Move.TheVariants as moves
 use Rattle.cmc_world.specs.declared.moves.Stepped.{Stepped}
 use Rattle.cmc_world.specs.declared.moves.Stepped.TheVariants as answers
-use Rattle.cmc_world.specs.Rest.{EachKind, IsToldAll}
 use Rattle.cmc_world.proofs.Newest.{IsToldOfAll, views_newest}
 use Rattle.cmc_world.proofs.Rest.{same_key}
 use Rattle.cmc_world.proofs.Sounds.{any_desk}
@@ -63,9 +59,9 @@ quiet_on : (s : Setting) (h k : List Entry) (role : Role) (key : Key) → views 
 quiet_on s h k role key sees now saw q =
     let seen : Views = views s k role key in
     let here : act role seen (moment s h) (desk s h role seen) ≡ Nothing = subst (λ (v : Views). act role v (moment s h) (desk s h role v) ≡ Nothing) (sym sees) q.idle in
-    let then : act role seen (moment s k) (desk s h role seen) ≡ Nothing = subst (λ (t : ℤ). act role seen t (desk s h role seen) ≡ Nothing) (sym now) here in
+    let later : act role seen (moment s k) (desk s h role seen) ≡ Nothing = subst (λ (t : ℤ). act role seen t (desk s h role seen) ≡ Nothing) (sym now) here in
     record {
-      idle = any_desk role seen (moment s k) (desk s h role seen) (desk s k role seen) refl then;
+      idle = any_desk role seen (moment s k) (desk s h role seen) (desk s k role seen) refl later;
       same = sees ∙ q.same ∙ sym saw;
     }
 
@@ -135,7 +131,7 @@ covers_known s h rows legal has role key work off = unknown_quiet s h role key l
 -- ---- moves
 
 -- what the role sees where it is told so far of the kind, or not
-told_views : Setting → List Entry → Role → Kind → ℕ → Key → Bool → Views
+abbrev told_views : Setting → List Entry → Role → Kind → ℕ → Key → Bool → Views
 told_views s h role kind to key b =
     views_in role (record {
       certificates = objects_of kinds.Certificate s h (if b && kind_eq kind kinds.Certificate then to else position h role kinds.Certificate);
@@ -182,7 +178,7 @@ covers_effect (Some (effects.Call call)) s h k n rows legal before woken (e, (re
     subst (λ (l : List Entry). Covers s l rows) (sym (grown ∙ ap (λ (x : Entry). x ∷ Script n ∷ h) is))
     (covers_with s (Script n ∷ h) (Called User call reply) rows (tt, before) (λ role key work off. tt) (covers_with s h (Script n) rows before (λ role key work off. tt) covers))
 covers_effect (Some (effects.Tick now)) s h k n rows legal before woken (e, is, grown) covers =
-    subst (λ (l : List Entry). Covers s l rows) (sym (grown ∙ ap (λ (x : Entry). x ∷ Script n ∷ h) is)) (covers_known s (Tick now ∷ Script n ∷ h) rows (tt, tt, before) woken)
+    subst (λ (l : List Entry). Covers s l rows) (sym (grown ∙ ap (λ (x : Entry). x ∷ Script n ∷ h) is)) (covers_known s (Tick now ∷ Script n ∷ h) rows (tt, (tt, before)) woken)
 covers_effect (Some (effects.Stop role)) s h k n rows legal before woken (e, is, grown) covers =
     subst (λ (l : List Entry). Covers s l rows) (sym (grown ∙ ap (λ (x : Entry). x ∷ Script n ∷ h) is))
     (covers_with s (Script n ∷ h) (Stop role) rows (tt, before) (λ role key work off. tt) (covers_with s h (Script n) rows before (λ role key work off. tt) covers))

@@ -1,8 +1,7 @@
 -- All is at rest by the keys that are ready: on each other key of its work a role has nothing to do.
-use Rattle.std.proofs.Common.{◌≡◌, ◌⊎◌, ◌+◌, ◌-◌, ◌<◌, ◌≤◌, ℕ, List, [], ◌∷◌, length, Option, Some, None, Bool, true, false, refl, sym, ap, subst, ◌∙◌, inl, inr, arith, get_or}
-use Rattle.std.proofs.lemmas.Bool.Decides.{nat_tests}
+use Rattle.std.proofs.Common.{◌≡◌, ◌⊎◌, ◌+◌, ◌-◌, ◌<◌, ◌≤◌, ℕ, List, [], ◌∷◌, length, Option, Some, None, Bool, true, false, refl, sym, subst, inl, inr, arith, get_or}
 use Rattle.std.proofs.lemmas.Option.{slice_get_cases}
-use Rattle.std.specs.Prelude.{◌↔◌, ◌||◌, IsTrue, nat_lt, slice_get, is_some}
+use Rattle.std.specs.Prelude.{◌↔◌, ◌||◌, IsTrue, slice_get, is_some}
 use Rattle.std.specs.BTreeMap.{is_at}
 use Rattle.std.specs.BTreeSet.{BTreeSet, contains}
 use Rattle.std.specs.List.{list_any}
@@ -13,16 +12,14 @@ use Rattle.cmc_meta.specs.Keys.{key_cmp}
 use Rattle.cmc_objects.specs.declared.role.Role.{Role}
 use Rattle.cmc_objects.specs.declared.entry.Entry.{Entry}
 use Rattle.cmc_objects.specs.declared.entry.Step.{Step}
-use Rattle.cmc_model.specs.Histories.{Setting, moment, runs}
-use Rattle.cmc_model.specs.Writes.{writes, is_known, last_of_kind, kind_eq}
-use Rattle.cmc_rules.specs.Positions.{kind_of_work, has_informer, position}
-use Rattle.cmc_rules.specs.Desks.{desk}
-use Rattle.cmc_rules.specs.Viewing.{views, present_views}
-use Rattle.cmc_rules.specs.Passes.{open_pass}
+use Rattle.cmc_objects.specs.declared.entry.Step.TheVariants as steps
+use Rattle.cmc_model.specs.Histories.{Setting, runs}
+use Rattle.cmc_model.specs.Writes.{writes, is_known, kind_eq}
+use Rattle.cmc_rules.specs.Positions.{kind_of_work}
 use Rattle.cmc_rules.specs.Legality.{IsLegal, IsOpen}
-use Rattle.cmc_rules.specs.Resting.{IsIdle, RestsOn, IsAtRest}
-use Rattle.cmc_rules.specs.Scripting.{scripted, step_at, held, has_held}
-use Rattle.cmc_rules.specs.Following.{owed, IsReady}
+use Rattle.cmc_rules.specs.Resting.{RestsOn, IsAtRest}
+use Rattle.cmc_rules.specs.Scripting.{scripted, step_at, has_held}
+use Rattle.cmc_rules.specs.Following.{owed, written, IsReady}
 use Rattle.cmc_rules.specs.Runs.{IsFinished}
 use Rattle.cmc_world.specs.Rest.{EachKind, IsToldAll, RestsOnKnown}
 use Rattle.cmc_world.proofs.Newest.{IsToldOfAll}
@@ -158,3 +155,24 @@ finished_not s h b e off = (λ bad. absurd (cc), λ done. let on = e.1 done.all_
 
 pub finished_by : (s : Setting) (h : List Entry) (made rest : Bool) → (IsTrue made ↔ (scripted h ≡ length s.script)) → made ≡ true → owed s h ≡ None → (IsTrue rest ↔ IsAtRest s h) → IsTrue rest ↔ IsFinished s h
 finished_by s h made rest e on settled r = (λ is. record { all_steps = e.0 on; all_effects = settled; rest = r.0 is }, λ done. r.1 done.rest)
+
+-- ---- steps that wait
+
+settle_ready : (s : Setting) (h : List Entry) (b : Bool) → (IsTrue b ↔ IsAtRest s h) → IsTrue b ↔ IsReady s h (Some steps.Settle)
+settle_ready s h b rest = rest
+
+pub settle_by : (s : Setting) (h : List Entry) (step : Step) (b : Bool) → step ≡ steps.Settle → (IsTrue b ↔ IsAtRest s h) → IsTrue b ↔ IsReady s h (Some step)
+settle_by s h step b is rest = subst (λ (x : Step). IsTrue b ↔ IsReady s h (Some x)) (sym is) (settle_ready s h b rest)
+
+either : (b : Bool) (A B : Type 0) → (A → ⊥) → (IsTrue b ↔ B) → IsTrue b ↔ (A ⊎ B)
+either b A B never e = (λ on. inr (e.0 on), λ some. of some) where
+  of : A ⊎ B → IsTrue b
+  of (inl a) = absurd (never a)
+  of (inr x) = e.1 x
+
+-- until so many writes were made, or all is at rest
+pub until_by : (s : Setting) (h : List Entry) (step : Step) (role : Role) (kind : Kind) (count : ℕ) (b : Bool) → step ≡ steps.Until role kind count
+    → (has : Bool) → (IsTrue has ↔ (count ≤ written s h role kind)) → has ≡ false → (IsTrue b ↔ IsAtRest s h) → IsTrue b ↔ IsReady s h (Some step)
+until_by s h step role kind count b is has e off rest =
+    subst (λ (x : Step). IsTrue b ↔ IsReady s h (Some x)) (sym is)
+    (either b (count ≤ written s h role kind) (IsAtRest s h) (λ low. let on = e.1 low in absurd (cc (on, off))) rest)

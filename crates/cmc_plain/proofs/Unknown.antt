@@ -1,6 +1,5 @@
 -- A key that no accepted write named is quiet.
-use Rattle.std.proofs.Common.{◌≡◌, ◌+◌, ℕ, ℤ, List, [], ◌∷◌, length, Option, Some, None, Bool, true, false, cond, refl, sym, ap, subst, ◌∙◌, option_and_then}
-use Rattle.std.proofs.lemmas.Bool.{and_parts}
+use Rattle.std.proofs.Common.{◌≡◌, ℕ, ℤ, List, [], ◌∷◌, length, Option, None, Bool, true, false, cond, refl, sym, ap, subst, ◌∙◌, option_and_then}
 use Rattle.std.specs.Prelude.{◌&&◌, ◌||◌, if◌then◌else◌, nat_le}
 use Rattle.std.specs.FinMap.{get-empty}
 use Rattle.std.specs.Ordering.{eq_by_cmp}
@@ -10,17 +9,15 @@ use Rattle.cmc_meta.specs.declared.key.Kind.TheVariants as kinds
 use Rattle.cmc_meta.specs.Keys.{key_cmp, key_eq}
 use Rattle.cmc_objects.specs.declared.certificate.Certificate.{Certificate}
 use Rattle.cmc_objects.specs.declared.request.CertificateRequest.{CertificateRequest}
-use Rattle.cmc_objects.specs.declared.object.Object.{Object}
-use Rattle.cmc_objects.specs.declared.call.Reply.{Reply}
 use Rattle.cmc_objects.specs.declared.role.Role.{Role}
 use Rattle.cmc_objects.specs.declared.role.Role.TheVariants.{Trigger, KeyManager, RequestManager, Approver, Issuer, Issuing, Readiness, Revision}
 use Rattle.cmc_objects.specs.declared.entry.Entry.{Entry}
 use Rattle.cmc_objects.specs.declared.entry.Entry.TheVariants.{Call as Called, Begin, End, Start}
 use Rattle.cmc_model.specs.declared.write.Write.{Write}
-use Rattle.cmc_model.specs.Objects.{Objects, object_at, no_objects}
+use Rattle.cmc_model.specs.Objects.{object_at}
 use Rattle.cmc_model.specs.Replies.{is_accepted, key_of_call, settled}
 use Rattle.cmc_model.specs.Histories.{Setting, moment, state, role_eq}
-use Rattle.cmc_model.specs.Writes.{writes, write_of, contents, oldest, kind_eq, of_kind, is_known, objects_of}
+use Rattle.cmc_model.specs.Writes.{writes, write_of, contents, oldest, kind_eq, is_known}
 use Rattle.cmc_model.proofs.Versions.{object_at-put}
 use Rattle.cmc_pass.specs.declared.pass.Views.{Views}
 use Rattle.cmc_rules.specs.declared.progress.LastPass.{LastPass}
@@ -30,7 +27,7 @@ use Rattle.cmc_rules.specs.Positions.{works_on_requests, position, cache}
 use Rattle.cmc_rules.specs.Viewing.{certificate_in, request_in, certificate_at, request_at, views_of, views_in, views, Caches, caches}
 use Rattle.cmc_rules.specs.Desks.{desk}
 use Rattle.cmc_rules.specs.Passes.{open_pass, is_pass_of}
-use Rattle.cmc_rules.specs.Memory.{past, past_called, no_past, with_begin, with_ending, ending_of}
+use Rattle.cmc_rules.specs.Memory.{past, no_past, with_begin, with_ending, ending_of}
 use Rattle.cmc_rules.specs.Legality.{IsLegal}
 use Rattle.cmc_world.proofs.OneKind.{object_at-of_kind, same_at}
 use Rattle.cmc_world.proofs.Rest.{same_key, key_eq-refl}

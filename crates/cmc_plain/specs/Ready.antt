@@ -1,5 +1,5 @@
 -- Which keys a role has to look at, and which it may leave alone.
-use Rattle.std.specs.Prelude.{◌≡◌, ◌≤◌, ℕ, Bool, true, false, List, [], ◌∷◌, slice_index_or, Option, Some, None}
+use Rattle.std.specs.Prelude.{◌≡◌, ◌≤◌, ℕ, Bool, true, false, List, [], ◌∷◌, slice_index_or, Option, Some}
 use Rattle.std.specs.BTreeSet.{BTreeSet, contains}
 use Rattle.cmc_meta.specs.declared.key.Key.{Key}
 use Rattle.cmc_meta.specs.declared.key.Kind.{Kind}
@@ -8,7 +8,7 @@ use Rattle.cmc_objects.specs.declared.role.Role.{Role}
 use Rattle.cmc_objects.specs.declared.entry.Entry.{Entry}
 use Rattle.cmc_objects.specs.declared.entry.Step.{Step}
 use Rattle.cmc_objects.specs.declared.entry.Step.TheVariants as steps
-use Rattle.cmc_objects.specs.declared.entry.Entry.TheVariants.{Deliver, List as Listed}
+use Rattle.cmc_objects.specs.declared.entry.Entry.TheVariants.{Deliver}
 use Rattle.cmc_objects.specs.Roles.{role_rank}
 use Rattle.cmc_model.specs.Histories.{Setting, accepted}
 use Rattle.cmc_model.specs.Writes.{writes, is_known, last_of_kind}

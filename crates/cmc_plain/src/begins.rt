@@ -1,6 +1,6 @@
 //! The first begin that is worth it.
 ghost use Rattle.std.specs.Option.{option_copied};
-ghost use Rattle.std.specs.Prelude.{◌≡◌, ◌↔◌, ℕ, IsTrue, IfOk, true};
+ghost use Rattle.std.specs.Prelude.{◌≡◌, ◌↔◌, ℕ, IsTrue, IfOk, true, false};
 ghost use Rattle.std.specs.BTreeSet.{contains};
 ghost use Rattle.cmc_meta.specs.declared.key.Key.{Key as KeyValue};
 ghost use Rattle.cmc_meta.specs.Keys.{key_cmp};

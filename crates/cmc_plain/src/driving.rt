@@ -52,9 +52,10 @@ fn make_move<M: KeyMaker, N: Signer>(
     ensures turn { IfOk result (λ t. IsTurn (setting_of waking.old.scenario) waking.old.history waking.new.history t) }
     ensures scenario { waking.new.scenario ≡ waking.old.scenario }
 {
-    let made = made_for(alloc, waking.world(), step, keys, signer)?;
-    waking.world().is_run();
-    let _events = waking.world().scenario().events();
+    let world = waking.world();
+    let made = made_for(alloc, world, step, keys, signer)?;
+    world.is_run();
+    let _events = world.scenario().events();
     if goes_on(waking.step(alloc, made)?) {
         Ok(Turn::On)
     } else {

@@ -46,12 +46,7 @@ fn rests_on_each(
 }
 
 /// Whether the role has nothing to do on any key, if it runs. No role is behind.
-fn rests_in(
-    alloc: Global,
-    world: &World,
-    ready: &Ready,
-    role: Role,
-) -> Result<bool, AllocError>
+fn rests_in(alloc: Global, world: &World, ready: &Ready, role: Role) -> Result<bool, AllocError>
     requires told { HasNoDelivery (setting_of world.now.scenario) world.now.history }
     requires covers { Covers (setting_of world.now.scenario) world.now.history ready.now }
     ensures { IfOk result (λ b. IsTrue b ↔ RestsWhereRunning (setting_of world.now.scenario) world.now.history role) }
@@ -91,12 +86,7 @@ fn is_at_rest(alloc: Global, world: &World, ready: &Ready) -> Result<bool, Alloc
 }
 
 /// Whether the step waits no longer.
-fn is_ready(
-    alloc: Global,
-    world: &World,
-    ready: &Ready,
-    step: &Step,
-) -> Result<bool, AllocError>
+fn is_ready(alloc: Global, world: &World, ready: &Ready, step: &Step) -> Result<bool, AllocError>
     requires { Covers (setting_of world.now.scenario) world.now.history ready.now }
     ensures { IfOk result (λ b. IsTrue b ↔ IsReady (setting_of world.now.scenario) world.now.history (Some step.now)) }
 {
@@ -127,11 +117,7 @@ fn is_ready(
 /// # Errors
 ///
 /// Want of memory alone.
-pub(crate) fn is_step_ready(
-    alloc: Global,
-    world: &World,
-    ready: &Ready,
-) -> Result<bool, AllocError>
+pub(crate) fn is_step_ready(alloc: Global, world: &World, ready: &Ready) -> Result<bool, AllocError>
     requires { Covers (setting_of world.now.scenario) world.now.history ready.now }
     ensures { IfOk result (λ b. IsTrue b ↔ IsStepReady (setting_of world.now.scenario) world.now.history) }
 {
@@ -147,11 +133,7 @@ pub(crate) fn is_step_ready(
 /// # Errors
 ///
 /// Want of memory alone.
-pub(crate) fn is_finished(
-    alloc: Global,
-    world: &World,
-    ready: &Ready,
-) -> Result<bool, AllocError>
+pub(crate) fn is_finished(alloc: Global, world: &World, ready: &Ready) -> Result<bool, AllocError>
     requires { Covers (setting_of world.now.scenario) world.now.history ready.now }
     ensures { IfOk result (λ b. IsTrue b ↔ IsFinished (setting_of world.now.scenario) world.now.history) }
 {

@@ -59,12 +59,7 @@ impl Model for Waking {
 }
 
 /// Makes the key ready for the role, and has it looked at.
-fn wake(
-    ready: &mut Ready,
-    looks: &mut Vec<Look>,
-    role: Role,
-    key: &Key,
-) -> Result<(), AllocError>
+fn wake(ready: &mut Ready, looks: &mut Vec<Look>, role: Role, key: &Key) -> Result<(), AllocError>
     ensures keeps { Keeps ready.old ready.new }
     ensures wakes { OnOk result (is_ready ready.new role key.now ≡ true) }
 {
@@ -137,11 +132,7 @@ fn wake_known(
 }
 
 /// Makes each key ready that an accepted write named, for each role.
-fn wake_all(
-    world: &World,
-    ready: &mut Ready,
-    looks: &mut Vec<Look>,
-) -> Result<(), AllocError>
+fn wake_all(world: &World, ready: &mut Ready, looks: &mut Vec<Look>) -> Result<(), AllocError>
     ensures keeps { Keeps ready.old ready.new }
     ensures wakes { OnOk result (spec.HasAllKnown (setting_of world.now.scenario) world.now.history ready.new) }
 {
@@ -174,12 +165,7 @@ fn wake_for_script(
 }
 
 /// The keys of which the role may see something new once it is told of all writes of the kind, which it looks at.
-fn affected(
-    alloc: Global,
-    world: &World,
-    role: Role,
-    kind: Kind,
-) -> Result<Vec<Key>, AllocError>
+fn affected(alloc: Global, world: &World, role: Role, kind: Kind) -> Result<Vec<Key>, AllocError>
     requires { has_informer role kind ≡ true }
     ensures { IfOk result (λ keys. (k : KeyValue) → is_among keys.items k ≡ false → (to : ℕ) → last_of_kind kind (writes (setting_of world.now.scenario) world.now.history) ≤ to → SeesSame (setting_of world.now.scenario) world.now.history role kind to k) }
 {
@@ -252,12 +238,7 @@ fn wake_for(
 }
 
 /// Looks at the key: it is ready no more where it is quiet.
-fn look_at(
-    alloc: Global,
-    world: &World,
-    ready: &mut Ready,
-    look: &Look,
-) -> Result<(), AllocError>
+fn look_at(alloc: Global, world: &World, ready: &mut Ready, look: &Look) -> Result<(), AllocError>
     requires { Covers (setting_of world.now.scenario) world.now.history ready.old }
     ensures { Covers (setting_of world.now.scenario) world.now.history ready.new }
 {
@@ -368,13 +349,7 @@ impl Waking {
         ensures err { OnErr result (self.new ≡ self.old) }
     {
         self.world.is_run();
-        wake_for(
-            alloc,
-            &self.world,
-            &mut self.ready,
-            &mut self.looks,
-            &step,
-        )?;
+        wake_for(alloc, &self.world, &mut self.ready, &mut self.looks, &step)?;
         self.world.step(alloc, step)
     }
 }

@@ -1,0 +1,7 @@
+use Rattle.cmc_plain.proofs.Woken.{covers_step}
+use Rattle.cmc_plain.proofs.waking.Waking.step.Goals as goal
+
+pub invariant_of-self-2 : goal.invariant_of-self-2
+invariant_of-self-2 c =
+    covers_step c.self.inside.world c.step.new.self c.args.step c.step.result c.self.inside.ready c.wake_for.new.ready c.step.ensures.run c.is_run.ensures.run c.wake_for.ensures.keeps
+    c.in_ok-wake_for.ensures.wakes c.step.ensures.scenario c.step.ensures.leaves c.step.ensures.err c.self.invariant

@@ -1,0 +1,14 @@
+use Rattle.std.proofs.Common.{List, subst}
+use Rattle.cmc_meta.specs.declared.key.Key.{Key}
+use Rattle.cmc_world.specs.Kept.{setting_of}
+use Rattle.cmc_plain.proofs.Affecting.{AreReady, told_ready}
+use Rattle.cmc_plain.proofs.Woken.{on_ok}
+use Rattle.cmc_plain.proofs.waking.wake_told.Goals as goal
+
+pub returns-clause-wakes : goal.returns-clause-wakes
+returns-clause-wakes c =
+    on_ok c.wake_keys.result
+    (λ ready.
+    told_ready (setting_of c.args.world.now.scenario) c.args.world.now.history c.args.role c.args.kind c.in_ok-keys.keys.items c.wake_keys.new.ready c.in_ok-keys.ensures
+    (subst (λ (keys : List Key). AreReady c.args.role keys c.wake_keys.new.ready) c.deref.ensures.value ready))
+    c.wake_keys.ensures.wakes
