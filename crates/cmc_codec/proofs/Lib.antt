@@ -1,10 +1,10 @@
 pub mod Slots
 pub mod Entries
 pub mod ValuesAgain
-mod DecimalsAgain
+pub mod DecimalsAgain
 pub mod PrintedSpecs
-mod SpecsAgain
-mod MetadataAgain
+pub mod SpecsAgain
+pub mod MetadataAgain
 pub mod ObjectsAgain
 mod LongDurations
 mod Only

@@ -1,5 +1,4 @@
 -- The laws of keys, of what is so of each reading.
-use Rattle.std.proofs.Common.{◌≡◌, Ok}
 use Rattle.cmc_meta.specs.declared.key.Key.{Key}
 use Rattle.cmc_scenario_laws.specs.Keys.{IsCertificateReadAgain, IsKeyReadAgain}
 use Rattle.cmc_scenario_laws.proofs.KeysAgain.{certificate_so, key_so}

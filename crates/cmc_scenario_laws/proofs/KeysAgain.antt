@@ -1,5 +1,5 @@
 -- Keys that were read are printed as the texts that were read.
-use Rattle.std.proofs.Common.{◌≡◌, ℕ, ◌<◌, ◌≤◌, List, [], ◌∷◌, ◌++◌, length, get_or, eqb, Bool, true, false, Ok, Err, refl, ap, sym, subst, ◌∙◌, codes, arith}
+use Rattle.std.proofs.Common.{◌≡◌, ℕ, ◌<◌, ◌≤◌, List, [], ◌∷◌, ◌++◌, length, get_or, Bool, true, false, Ok, Err, refl, ap, sym, subst, ◌∙◌, codes, arith}
 use Rattle.std.specs.Prelude.{if◌then◌else◌, ◌==◌, not}
 use Rattle.std.specs.List.{position_or_len, before_first, after_first}
 use Rattle.std.specs.Str.{bytes_eq}
@@ -12,7 +12,7 @@ use Rattle.cmc_meta.specs.Names.{is_subdomain}
 use Rattle.cmc_meta.specs.declared.key.Key.{Key}
 use Rattle.cmc_meta.specs.declared.key.Kind.{Kind}
 use Rattle.cmc_meta.specs.declared.key.Kind.TheVariants.{Certificate, CertificateRequest, Secret}
-use Rattle.cmc_cursor.specs.Reading.{Read, ◌>>=◌}
+use Rattle.cmc_cursor.specs.Reading.{Read}
 use Rattle.cmc_cursor.specs.Readers.{text_at, name_in}
 use Rattle.cmc_cursor.proofs.Always.{Always, so, failed, next, after, with_both, further}
 use Rattle.cmc_print.specs.Words.{kind_name, name_text, key_text}

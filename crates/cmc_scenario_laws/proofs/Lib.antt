@@ -8,3 +8,15 @@ mod KeyLaws
 mod MaterialAgain
 mod RowOrder
 mod MaterialLaws
+mod Addresses
+mod PoliciesAgain
+mod ApproversAgain
+mod AppliedAgain
+mod StepsAgain
+mod ScriptsAgain
+mod RolesAgain
+mod ScenariosAgain
+mod Floats
+mod ObjectFloats
+mod ScenarioFloats
+mod ScenarioLaws

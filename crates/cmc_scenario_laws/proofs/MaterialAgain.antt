@@ -1,5 +1,5 @@
 -- The rows of all Certificates: members stand in the order of their names, entries in that of their keys.
-use Rattle.std.proofs.Common.{◌≡◌, ℕ, List, [], ◌∷◌, Bool, true, false, Ok, Err, Option, Some, None, refl, ap, sym, subst, ◌∙◌, codes, rules}
+use Rattle.std.proofs.Common.{◌≡◌, ℕ, List, [], ◌∷◌, Ok, Err, Option, Some, None, refl, ap, sym, subst, ◌∙◌, codes, rules}
 use Rattle.std.specs.List.{AllByRecursion}
 use Rattle.std.specs.Cmp.{IsTotalOrder}
 use Rattle.std.specs.Cmp.Rules.{comparing}
@@ -15,7 +15,7 @@ use Rattle.cmc_meta.specs.declared.key.Key.{Key}
 use Rattle.cmc_objects.specs.Materials.{with_rows}
 use Rattle.cmc_objects.specs.declared.rows.Rows.{Rows}
 use Rattle.cmc_cursor.specs.Reading.{Read, ◌>>=◌, under}
-use Rattle.cmc_cursor.proofs.Always.{Always, so, failed, next, after, below, further}
+use Rattle.cmc_cursor.proofs.Always.{Always, so, failed, after, below, further}
 use Rattle.cmc_print.specs.Words.{name_text}
 use Rattle.cmc_material.specs.Keys.{key_of_kind}
 use Rattle.cmc_material.specs.MaterialRows.{rows_at, entry_at, material_with, material_at}

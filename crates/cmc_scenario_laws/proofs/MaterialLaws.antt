@@ -1,5 +1,5 @@
 -- The law of the rows of all Certificates, of what is so of each reading.
-use Rattle.std.proofs.Common.{◌≡◌, List, Ok}
+use Rattle.std.proofs.Common.{List}
 use Rattle.std.specs.List.{AllByRecursion}
 use Rattle.cmc_meta.specs.declared.key.Key.{Key}
 use Rattle.cmc_objects.specs.declared.rows.Rows.{Rows}

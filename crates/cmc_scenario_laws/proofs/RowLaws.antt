@@ -1,5 +1,4 @@
 -- The laws of rows, of what is so of each reading.
-use Rattle.std.proofs.Common.{◌≡◌, Ok}
 use Rattle.cmc_objects.specs.declared.rows.Rows.{Rows}
 use Rattle.cmc_objects.specs.declared.rows.SignRow.{SignRow}
 use Rattle.cmc_scenario_laws.specs.Rows.{AreReadAgain, HasReplyBytes, HaveRowBytes, IsReplyReadAgain}

@@ -1,5 +1,5 @@
 -- Rows of keys and issuers that were read are printed as rows that are read again.
-use Rattle.std.proofs.Common.{◌≡◌, ℕ, List, [], ◌∷◌, Bool, true, false, Ok, Option, Some, None, refl, ap, sym, drop, codes}
+use Rattle.std.proofs.Common.{◌≡◌, ℕ, List, [], ◌∷◌, true, Ok, Option, Some, None, refl, ap, drop, codes}
 use Rattle.std.specs.Prelude.{if◌then◌else◌, ◌==◌, IfSome}
 use Rattle.std.specs.List.{AllByRecursion}
 use Rattle.std.specs.Str.{bytes_eq}
@@ -11,7 +11,7 @@ use Rattle.cmc_objects.specs.declared.rows.KeyRow.{KeyRow}
 use Rattle.cmc_objects.specs.declared.rows.KeyRow.TheVariants as key_rows
 use Rattle.cmc_objects.specs.declared.rows.SignRow.{SignRow}
 use Rattle.cmc_objects.specs.declared.rows.SignRow.TheVariants as signs
-use Rattle.cmc_cursor.specs.Reading.{Read, ◌>>=◌, under, Field, fields_of, fields_at, optional_at, required_at, at_end}
+use Rattle.cmc_cursor.specs.Reading.{under, Field, fields_of, fields_at, optional_at, required_at, at_end}
 use Rattle.cmc_cursor.specs.Readers.{text_at, count_at, bytes_at, passes, text_member}
 use Rattle.cmc_cursor.proofs.Always.{Always, so, failed, next, after, below, either}
 use Rattle.cmc_print.specs.Trees.{natural}
@@ -19,12 +19,12 @@ use Rattle.cmc_print.specs.Puts.{base64_text}
 use Rattle.cmc_material.specs.Lists.{numbered_at, member_or, member_option, bounded_at}
 use Rattle.cmc_material.specs.MaterialRows.{synthetic_in, key_row_in, key_row_at, issue_in, pending_in, fail_in, raw_in, no_reply_in, reply_row_in, reply_row_at, key_rows_at, reply_rows_at, rows_at}
 use Rattle.cmc_scenario_print.specs.Defaults.{is_usual_message}
-use Rattle.cmc_scenario_print.specs.RowTrees.{key_row_members, key_row_tree, sign_row_members, sign_row_tree, rows_tree}
-use Rattle.cmc_codec.proofs.Slots.{slots, start, Stands, bind, next_is, required_is, put_is, some_option, put_option_is, some_list, put_list_is}
+use Rattle.cmc_scenario_print.specs.RowTrees.{key_row_tree, sign_row_members, sign_row_tree, rows_tree}
+use Rattle.cmc_codec.proofs.Slots.{slots, start, bind, next_is, required_is, put_is, some_option, put_option_is, some_list, put_list_is}
 use Rattle.cmc_scenario_laws.proofs.Names.{word_is}
 use Rattle.cmc_codec.proofs.ObjectsAgain.{bytes_again}
 use Rattle.cmc_scenario_laws.specs.Rows.{HasKeyBytes, HasReplyBytes, HaveRowBytes}
-use Rattle.cmc_scenario_laws.proofs.Members.{some_unless, put_unless_is, unless_given, option_given, list_given, under_given, option_so, each_count, bounded_again, is_zero, Again, numbered_again, trees_of, list_again, list_so}
+use Rattle.cmc_scenario_laws.proofs.Members.{some_unless, put_unless_is, unless_given, option_given, list_given, option_so, each_count, bounded_again, is_zero, Again, numbered_again, trees_of, list_again, list_so}
 
 abbrev Places : Type 0
 Places = List (List ℕ × Option Data)

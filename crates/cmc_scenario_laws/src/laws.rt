@@ -8,7 +8,8 @@ use cmc_meta::Key;
 use cmc_objects::{KeyRow, Material, Rows, SignRow};
 use std::collections::BTreeMap;
 
-fn are_bytes(bytes: &[u8])
+/// The items of a slice of bytes are bytes. The call changes nothing.
+pub fn are_bytes(bytes: &[u8])
     ensures { IsBytes bytes.now }
 {
     let _bytes = bytes;
@@ -31,7 +32,8 @@ fn key_rows_have_bytes(rows: &[KeyRow])
     }
 }
 
-fn reply_has_bytes(row: &SignRow)
+/// The octets of a reply row are bytes. The call changes nothing.
+pub fn reply_has_bytes(row: &SignRow)
     ensures { HasReplyBytes row.now }
 {
     match row {
@@ -92,7 +94,8 @@ pub fn printed_certificate_is_read(key: &Key)
     let _key = key;
 }
 
-fn entries_have_bytes(material: &BTreeMap<Key, Rows>)
+/// The octets of all rows are bytes. The call changes nothing.
+pub fn entries_have_bytes(material: &BTreeMap<Key, Rows>)
     ensures { AllByRecursion HasEntryBytes material.now.entries }
 {
     for (_, rows) in material.iter() {
@@ -100,8 +103,9 @@ fn entries_have_bytes(material: &BTreeMap<Key, Rows>)
     }
 }
 
+/// The rows of all Certificates stand in order of key. The call changes nothing.
 #[tactic(auto, using(crate::proofs::RowOrder::in_order))]
-fn rows_in_order(material: &Material)
+pub fn rows_in_order(material: &Material)
     ensures { AreInOrder material.now }
 {
     let _len = material.as_map().len();

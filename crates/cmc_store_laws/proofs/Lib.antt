@@ -1,0 +1,3 @@
+mod Suffixes
+mod Keys
+mod FreeNames
