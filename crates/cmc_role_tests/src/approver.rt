@@ -6,7 +6,7 @@ use crate::trigger::{OTHER_NAME, REQUEST, desk};
 use cmc_answers::judge;
 use cmc_approver::{act, is_sound, then};
 use cmc_meta::{ConditionKind, Tri};
-use cmc_objects::{Order, Rules};
+use cmc_objects::{JudgeOrder, Order, Rules};
 use cmc_pass::{Act, Desk, Given, Views};
 use cmc_policy_rules::{Pattern, Patterns, Policies, Policy};
 use cmc_tests::values::{text, texts};
@@ -33,7 +33,7 @@ const OPEN: Case = Case {
 };
 
 /// It judges the requests that have no verdict yet, to the issuers of cert-manager's own group that the rules name.
-const CASES: [(Case, &str); 15] = [
+static CASES: [(Case, &str); 15] = [
     (
         Case {
             stands: false,
@@ -203,7 +203,7 @@ const YES: (&str, &str) = (
 const REFUSED: (&str, &str) = ("Denied", "Certificate request has a refused name");
 
 /// What is written: Approved, or Denied and why.
-const VERDICTS: [(Ruled, (&str, &str)); 12] = [
+static VERDICTS: [(Ruled, (&str, &str)); 12] = [
     (RULED, YES),
     (
         Ruled {
@@ -325,22 +325,25 @@ fn rules(alloc: Global, ruled: &Ruled) -> Result<Rules, Fail> {
     })
 }
 
+fn question(alloc: Global, views: &Views, rules: Rules) -> Result<JudgeOrder, Fail> {
+    let mut desk = desk(alloc);
+    desk.rules = rules;
+    match act(alloc, views, 0, &desk)? {
+        Act::Ask(Order::Judge(order)) => Ok(order),
+        _other => Err(Fail::from("no question")),
+    }
+}
+
 /// What is written of the request at 2030-01-01T00:01:00Z.
 #[tactic(auto, unfolding(cmc_rules::specs::Approving::judged_after))]
 fn written(alloc: Global, ruled: &Ruled) -> Result<String, Fail> {
     let mut views = Views::new(alloc);
-    views.request = Some(request(
-        alloc,
-        &RequestRow {
-            der: ruled.der,
-            ..WANTED
-        },
-    )?);
-    let mut desk = desk(alloc);
-    desk.rules = rules(alloc, ruled)?;
-    let Act::Ask(Order::Judge(order)) = act(alloc, &views, 0, &desk)? else {
-        return Err(Fail::from("no question"));
+    let row = RequestRow {
+        der: ruled.der,
+        ..WANTED
     };
+    views.request = Some(request(alloc, &row)?);
+    let order = question(alloc, &views, rules(alloc, ruled)?)?;
     let given = Given::Judged(judge(alloc, order)?);
     let call = then(alloc, &views, 1_893_456_060, &given)?;
     Ok(call_told(alloc, &call)?)

@@ -163,7 +163,7 @@ fn status(alloc: Global, case: &Case) -> Result<CertStatus, Fail>
     Ok(status)
 }
 
-fn certificate(alloc: Global, case: &Case) -> Result<Certificate, Fail>
+pub(crate) fn certificate(alloc: Global, case: &Case) -> Result<Certificate, Fail>
     ensures { IfOk result (λ c. unwrap_or c.status.revision 0 < 2 ^ 63) }
 {
     let mut meta = new_meta(alloc, "web")?;

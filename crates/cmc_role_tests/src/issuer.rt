@@ -51,7 +51,7 @@ const OPEN: Case = Case {
 const ASK: &str = "ask issuer 1 9 1893456060 issue";
 
 /// Requests that are not denied.
-const ASKED: [(Case, &str); 10] = [
+static ASKED: [(Case, &str); 10] = [
     (
         Case {
             stands: false,
@@ -122,7 +122,7 @@ const ASKED: [(Case, &str); 10] = [
 ];
 
 /// Approved requests that the issuer has answered, and one that is said not to be denied.
-const ANSWERED: [(Case, &str); 9] = [
+static ANSWERED: [(Case, &str); 9] = [
     (
         Case {
             row: RequestRow {
@@ -234,7 +234,7 @@ const MARKED_ALL: &str =
     r#"status 9 request {"ca":"qv8=","certificate":"Aw==","conditions":[{"lastTransitionTime":"2030-01-01T00:01:00Z","message":"The CertificateRequest was denied by an approval controller","reason":"Denied","status":"False","type":"Ready"},APPROVED,{"lastTransitionTime":"2030-01-01T00:00:00Z","message":"","reason":"Script","status":"True","type":"Denied"}],"failureTime":"2030-01-01T00:01:00Z"}}"#;
 
 /// Denied requests are marked so once, and keep all else.
-const REFUSED: [(Case, &str); 4] = [
+static REFUSED: [(Case, &str); 4] = [
     (
         Case {
             row: RequestRow {
@@ -401,7 +401,7 @@ const WAITED: RequestRow = RequestRow {
 
 /// What each answer makes of the status. Another role's condition stays; only a request that goes on waiting gets a new
 /// moment where the status of Ready stays False.
-const WRITTEN: [(RequestRow, Answer, &str); 6] = [
+static WRITTEN: [(RequestRow, Answer, &str); 6] = [
     (
         OPEN_ROW,
         Answer::Issued("03", "aaff"),
@@ -455,10 +455,10 @@ fn signing(alloc: Global, answer: &Answer) -> Result<Signing, Fail> {
 fn question(alloc: Global, views: &Views) -> Result<SignOrder, Fail>
     requires { HasForm views.now.request }
 {
-    let Act::Ask(Order::Sign(order)) = act(alloc, views, NOW, &asked(alloc, 0))? else {
-        return Err(Fail::from("no question"));
-    };
-    Ok(order)
+    match act(alloc, views, NOW, &asked(alloc, 0))? {
+        Act::Ask(Order::Sign(order)) => Ok(order),
+        _other => Err(Fail::from("no question")),
+    }
 }
 
 #[tactic(auto, unfolding(cmc_rules::specs::Granting::answered_after))]

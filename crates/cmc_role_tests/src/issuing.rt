@@ -53,7 +53,7 @@ const GRANTED: Case = Case {
 };
 
 /// Without a Certificate that is being issued, or a fitting key under the name that the status has.
-const WITHOUT_KEY: [(Case, Outcome); 9] = [
+static WITHOUT_KEY: [(Case, Outcome); 9] = [
     (
         Case {
             stands: false,
@@ -126,7 +126,7 @@ const WITHOUT_KEY: [(Case, Outcome); 9] = [
 ];
 
 /// Without one request of the next revision that asks for what the Certificate asks for, with that key.
-const WITHOUT_REQUEST: [(Case, Outcome); 8] = [
+static WITHOUT_REQUEST: [(Case, Outcome); 8] = [
     (
         Case {
             requests: &[],
@@ -201,7 +201,7 @@ const WITHOUT_REQUEST: [(Case, Outcome); 8] = [
 ];
 
 /// The issuer refused, or the request was denied, in this issuance or before it.
-const REFUSED: [(Case, Outcome); 9] = [
+static REFUSED: [(Case, Outcome); 9] = [
     (
         Case {
             requests: &[RequestRow {
@@ -306,7 +306,7 @@ const REFUSED: [(Case, Outcome); 9] = [
 ];
 
 /// What is not issued, or not by an approval that stands; and certificates that do not belong to the key.
-const FOREIGN: [(Case, Outcome); 10] = [
+static FOREIGN: [(Case, Outcome); 10] = [
     (
         Case {
             requests: &[RequestRow {
@@ -456,7 +456,7 @@ const RELABELLED: &str =
 
 /// The Secret is made or written, with the CA's certificate only where there is one, and what others wrote stays; but
 /// never a Secret that holds a next key.
-const WRITTEN: [(Case, Outcome); 8] = [
+static WRITTEN: [(Case, Outcome); 8] = [
     (GRANTED, Outcome::Issues(CREATED, 2)),
     (
         Case {
@@ -568,7 +568,7 @@ const TEMPORARY_AGAIN: &str =
 
 /// A stand-in is written where the Certificate asks for one and nothing better stands, whether or not the request is
 /// approved yet.
-const STOOD_IN: [(Case, Outcome); 9] = [
+static STOOD_IN: [(Case, Outcome); 9] = [
     (ASKING, Outcome::StandsIn(TEMPORARY)),
     (
         Case {
@@ -642,7 +642,7 @@ const STOOD_IN: [(Case, Outcome); 9] = [
 ];
 
 /// The target's pair stays, unless it is marked as one that stands in and has another key than the next one.
-const PAIRED: [(Case, Outcome); 5] = [
+static PAIRED: [(Case, Outcome); 5] = [
     (
         Case {
             target: Some(PAIR),

@@ -1,14 +1,14 @@
 //! What no clause says: what the key manager does, as texts, and that there is an answer where memory is ample.
-ghost use Rattle.std.specs.Prelude.{◌<◌, ◌^◌};
+ghost use Rattle.std.specs.Prelude.{◌<◌, ◌^◌, IfOk};
 
-use crate::fixtures::{Case, SecretRow, Stated, bytes, views};
+use crate::fixtures::{Case, SecretRow, Stated, bytes, certificate, views};
 use crate::telling::{call_told, told};
 use crate::trigger::{KEY, OTHER, desk};
 use cmc_keymanager::{act, is_sound, then};
 use cmc_keys::{KeyMaker, ScriptedKeys, is_allowed_size};
 use cmc_meta::{ConditionKind, Kind, Tri};
-use cmc_objects::{Algorithm, KeyRow, KeyRows, Order, Rotation, Rows, SignRows};
-use cmc_pass::{Act, Desk, Given};
+use cmc_objects::{Algorithm, KeyOrder, KeyRow, KeyRows, Order, Rotation, Rows, SignRows};
+use cmc_pass::{Act, Desk, Given, Views};
 use cmc_tests::values::key;
 use std::alloc::Global;
 use std::process::Abort;
@@ -87,7 +87,7 @@ const UNNAMED: &str =
     r#"status 3 web {"conditions":[{"lastTransitionTime":"2030-01-01T00:00:00Z","message":"","reason":"Issued","status":"False","type":"Issuing"}]}}"#;
 
 /// Where nothing is being issued, and where one key or several stand.
-const KEPT: [(Case, &str); 12] = [
+static KEPT: [(Case, &str); 12] = [
     (
         Case {
             stands: false,
@@ -180,7 +180,7 @@ const KEPT: [(Case, &str); 12] = [
 ];
 
 /// Keys that do not fit; and where no key stands a new one, or with the rotation Never the one of the target.
-const ASKED: [(Case, &str); 12] = [
+static ASKED: [(Case, &str); 12] = [
     (
         Case {
             next: &[SecretRow {
@@ -321,26 +321,25 @@ fn scripted(alloc: Global) -> Result<Desk, Fail>
     Ok(desk)
 }
 
+fn question(alloc: Global, views: &Views) -> Result<KeyOrder, Fail> {
+    match act(alloc, views, 0, &scripted(alloc)?)? {
+        Act::Ask(Order::Key(order)) => Ok(order),
+        _other => Err(Fail::from("no question")),
+    }
+}
+
 // The key that was made, by the row of the first question, is kept in a new Secret.
 #[test]
 #[tactic(auto, unfolding(cmc_rules::specs::KeyManaging::key_after))]
 fn keeps_the_key_that_was_made(rt: HostRuntime) -> Result<(), Fail> {
     let alloc = rt.alloc();
-    let views = views(alloc, &BEGUN)?;
-    let desk = scripted(alloc)?;
-    let act = act(alloc, &views, 0, &desk)?;
-    assert_eq!(rt;
-        told(alloc, &act)?.as_str(),
-        "ask key 1 default/web ECDSA 256 der"
-    );
-    let Act::Ask(Order::Key(order)) = act else {
-        return Err(Fail::from("no question"));
-    };
+    let mut views = Views::new(alloc);
+    views.certificate = Some(certificate(alloc, &BEGUN)?);
+    let order = question(alloc, &views)?;
+    assert_eq!(rt; order.number, 1);
     assert!(rt; is_allowed_size(order.algorithm, order.size));
     let given = Given::Made(ScriptedKeys.make(alloc, &order)?);
-    assert_eq!(rt;
-        call_told(alloc, &then(alloc, &views, 0, &given)?)?.as_str(),
-        CREATED
-    );
+    let call = then(alloc, &views, 0, &given)?;
+    assert_eq!(rt; call_told(alloc, &call)?.as_str(), CREATED);
     Ok(())
 }

@@ -16,7 +16,7 @@ const BODY: &str =
 /// certification request of that body whose signature is the SHA-256 of the body, and the certificate that an issuer
 /// `ca` gives as its first for the request that openssl made; that request, a CertificateRequest with it up to its
 /// status, and an approval. openssl reads each of the files.
-const SHORT: [(&str, &str); 9] = [
+static SHORT: [(&str, &str); 9] = [
     (
         r#"{"apiVersion":"cert-manager.io/v1","kind":"Certificate","metadata":{"name":"web","namespace":"default"},"spec":{"dnsNames":["example.com"],"issuerRef":{"name":"ca"},"privateKey":{"algorithm":"ECDSA"},"secretName":"web-tls"},"status":"#,
         "web ",
@@ -71,7 +71,7 @@ fn replaced(alloc: Global, text: &str, long: &str, word: &str) -> Result<String,
 fn object_told(alloc: Global, object: &Object) -> Result<String, AllocError> {
     let line = tree_of(alloc, object)?.line(alloc)?;
     let mut text = String::from_str(alloc, line.as_str().trim_end())?;
-    for (long, word) in SHORT {
+    for (long, word) in &SHORT {
         text = replaced(alloc, text.as_str(), long, word)?;
     }
     Ok(text)
