@@ -3,6 +3,20 @@
 #![tactic(auto)]
 
 #[cfg(test)]
+mod approver;
+#[cfg(test)]
+mod fixtures;
+#[cfg(test)]
+mod issuer;
+#[cfg(test)]
+mod issuing;
+#[cfg(test)]
+mod keymanager;
+#[cfg(test)]
+mod requestmanager;
+#[cfg(test)]
 mod status;
+#[cfg(test)]
+mod telling;
 #[cfg(test)]
 mod trigger;

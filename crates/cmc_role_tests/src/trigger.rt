@@ -1,5 +1,5 @@
 //! What no clause says: what is written, as texts, and that there is an answer where memory is ample.
-ghost use Rattle.std.specs.Prelude.{◌≡◌, IfOk};
+ghost use Rattle.std.specs.Prelude.{◌≡◌, [], IfOk};
 ghost use Rattle.cmc_rules.specs.Dates.{IsDatedOption, HasDatedFailure};
 
 use cmc_meta::{Bytes, Condition, ConditionKind, Conditions, ObjectMeta, Pairs, Text, Texts, Tri};
@@ -19,7 +19,7 @@ use std::test::Fail;
 pub(crate) const KEY: &str =
     "30770201010420ece4f18ff309bb6d5188d6868bb4a996766d19bbae98fd682dbc6dacac5c682ea00a06082a8648ce3d030107a14403420004c8d4912385d6e2891d6cfabb34b212e66324e6f7093596d65399c3133beba273bf1c4ba284d690d02756f61451a3b3791c0f7f9ef6d9ac371ee1fa5258d67588";
 
-const CERTIFICATE: &str =
+pub(crate) const CERTIFICATE: &str =
     "308201d83082017ea00302010202147e801bb99536364c756b92a2dc3e400a48dd1791300a06082a8648ce3d04030230163114301206035504030c0b6578616d706c652e636f6d301e170d3236313132373033303933335a170d3237303232353033303933335a30163114301206035504030c0b6578616d706c652e636f6d3059301306072a8648ce3d020106082a8648ce3d03010703420004c8d4912385d6e2891d6cfabb34b212e66324e6f7093596d65399c3133beba273bf1c4ba284d690d02756f61451a3b3791c0f7f9ef6d9ac371ee1fa5258d67588a381a93081a6301d0603551d0e04160414fd465a26ce699eea1a6d538564f27a87e4ca1f34301f0603551d23041830168014fd465a26ce699eea1a6d538564f27a87e4ca1f34300f0603551d130101ff040530030101ff30530603551d11044c304a820b6578616d706c652e636f6d820f7777772e6578616d706c652e636f6d87040a000001861568747470733a2f2f6578616d706c652e636f6d2f78810d61406578616d706c652e636f6d300a06082a8648ce3d0403020348003045022100c1fdd54bd7feb7d1794828c4b3415e1652cc32482c1875f1682fa18d0665d63a02205218c4a69a8a3cd882ac5c520bf0d31b79583eac5290679f42a91c6bc813d5aa";
 
 /// Requests that `openssl req -new` made: of that key for the name of the Certificate, of that key for another
@@ -232,7 +232,9 @@ fn told(alloc: Global, act: &Act) -> Result<String, AllocError> {
     format!(in alloc; "{version} {since} {reason}: {message}")
 }
 
-pub(crate) fn desk(alloc: Global) -> Desk {
+pub(crate) fn desk(alloc: Global) -> Desk
+    ensures { result.material ≡ [] }
+{
     Desk {
         material: Material::new(alloc),
         asked: 0,

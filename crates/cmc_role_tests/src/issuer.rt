@@ -1,0 +1,505 @@
+//! What no clause says: what the controller that asks issuers does, as texts, and that there is an answer where memory
+//! is ample.
+ghost use Rattle.std.specs.Prelude.{◌≡◌, ◌<◌, ◌^◌, [], IfOk, true};
+ghost use Rattle.cmc_rules.specs.Granting.{HasForm};
+ghost use Rattle.cmc_objects.specs.Requests.{is_short_text, is_short_option, is_duration_form, is_request_form};
+
+use crate::fixtures::{RequestRow, Stated, bytes, request};
+use crate::requestmanager::WANTED;
+use crate::telling::{call_told, told};
+use crate::trigger::desk;
+use cmc_answers::{ScriptedSigner, Signer};
+use cmc_issuer::{act, follow, is_sound, then};
+use cmc_meta::{ConditionKind, Text, Tri};
+use cmc_objects::{CertificateRequest, Order, SignOrder, Signing};
+use cmc_pass::{Act, Desk, Given, Value, Views};
+use cmc_tests::values::text;
+use std::alloc::{AllocError, Global};
+use std::process::Abort;
+use std::test::Fail;
+
+/// 2030-01-01T00:01:00Z.
+const NOW: i64 = 1_893_456_060;
+
+const APPROVED: Stated = (ConditionKind::Approved, Tri::True, "Script", 1_893_456_000);
+
+const DENIED: Stated = (ConditionKind::Denied, Tri::True, "Script", 1_893_456_000);
+
+const OPEN_ROW: RequestRow = RequestRow {
+    conditions: &[APPROVED],
+    ..WANTED
+};
+
+/// What the controller sees of the request, where one stands, and the group of its issuer; and how many questions were
+/// asked for its Certificate.
+#[derive(Clone, Copy)]
+struct Case {
+    stands: bool,
+    row: RequestRow,
+    group: Option<&'static str>,
+    asked: u32,
+}
+
+/// An approved request that its issuer has not been asked about.
+const OPEN: Case = Case {
+    stands: true,
+    row: OPEN_ROW,
+    group: None,
+    asked: 0,
+};
+
+const ASK: &str = "ask issuer 1 9 1893456060 issue";
+
+/// Requests that are not denied.
+static ASKED: [(Case, &str); 10] = [
+    (
+        Case {
+            stands: false,
+            ..OPEN
+        },
+        "nothing",
+    ),
+    (OPEN, ASK),
+    (Case { asked: 4, ..OPEN }, "ask issuer 5 9 1893456060 issue"),
+    (
+        Case {
+            row: WANTED,
+            ..OPEN
+        },
+        "nothing",
+    ),
+    (
+        Case {
+            row: RequestRow {
+                conditions: &[(ConditionKind::Approved, Tri::False, "", 0)],
+                ..WANTED
+            },
+            ..OPEN
+        },
+        "nothing",
+    ),
+    (
+        Case {
+            row: RequestRow {
+                conditions: &[(ConditionKind::Approved, Tri::Unknown, "", 0)],
+                ..WANTED
+            },
+            ..OPEN
+        },
+        "nothing",
+    ),
+    (
+        Case {
+            row: RequestRow {
+                conditions: &[(ConditionKind::Ready, Tri::True, "Approved", 0)],
+                ..WANTED
+            },
+            ..OPEN
+        },
+        "nothing",
+    ),
+    (
+        Case {
+            group: Some("cert-manager.io"),
+            ..OPEN
+        },
+        ASK,
+    ),
+    (
+        Case {
+            group: Some("example.com"),
+            ..OPEN
+        },
+        "nothing",
+    ),
+    (
+        Case {
+            group: Some(""),
+            ..OPEN
+        },
+        "nothing",
+    ),
+];
+
+/// Approved requests that the issuer has answered, and one that is said not to be denied.
+static ANSWERED: [(Case, &str); 9] = [
+    (
+        Case {
+            row: RequestRow {
+                conditions: &[(ConditionKind::Ready, Tri::True, "Issued", 0), APPROVED],
+                ..WANTED
+            },
+            ..OPEN
+        },
+        "nothing",
+    ),
+    (
+        Case {
+            row: RequestRow {
+                conditions: &[(ConditionKind::Ready, Tri::False, "Issued", 0), APPROVED],
+                ..WANTED
+            },
+            ..OPEN
+        },
+        "nothing",
+    ),
+    (
+        Case {
+            row: RequestRow {
+                conditions: &[(ConditionKind::Ready, Tri::False, "Failed", 0), APPROVED],
+                ..WANTED
+            },
+            ..OPEN
+        },
+        "nothing",
+    ),
+    (
+        Case {
+            row: RequestRow {
+                conditions: &[
+                    (ConditionKind::Ready, Tri::False, "Pending", 1_893_456_001),
+                    APPROVED,
+                ],
+                ..WANTED
+            },
+            ..OPEN
+        },
+        "nothing",
+    ),
+    (
+        Case {
+            row: RequestRow {
+                conditions: &[
+                    (ConditionKind::Ready, Tri::False, "Pending", 1_893_456_000),
+                    APPROVED,
+                ],
+                ..WANTED
+            },
+            ..OPEN
+        },
+        ASK,
+    ),
+    (
+        Case {
+            row: RequestRow {
+                conditions: &[
+                    (ConditionKind::Ready, Tri::False, "Pending", 1_893_455_999),
+                    APPROVED,
+                ],
+                ..WANTED
+            },
+            ..OPEN
+        },
+        ASK,
+    ),
+    (
+        Case {
+            row: RequestRow {
+                conditions: &[
+                    (ConditionKind::Ready, Tri::False, "Pending", 1_893_456_061),
+                    APPROVED,
+                ],
+                ..WANTED
+            },
+            ..OPEN
+        },
+        "nothing",
+    ),
+    (
+        Case {
+            row: RequestRow {
+                conditions: &[(ConditionKind::Ready, Tri::False, "Denied", 0), APPROVED],
+                ..WANTED
+            },
+            ..OPEN
+        },
+        ASK,
+    ),
+    (
+        Case {
+            row: RequestRow {
+                conditions: &[APPROVED, (ConditionKind::Denied, Tri::False, "", 0)],
+                ..WANTED
+            },
+            ..OPEN
+        },
+        ASK,
+    ),
+];
+
+const MARKED: &str =
+    r#"status 9 request {"conditions":[{"lastTransitionTime":"2030-01-01T00:01:00Z","message":"The CertificateRequest was denied by an approval controller","reason":"Denied","status":"False","type":"Ready"},{"lastTransitionTime":"2030-01-01T00:00:00Z","message":"","reason":"Script","status":"True","type":"Denied"}],"failureTime":"2030-01-01T00:01:00Z"}}"#;
+
+const MARKED_ALL: &str =
+    r#"status 9 request {"ca":"qv8=","certificate":"Aw==","conditions":[{"lastTransitionTime":"2030-01-01T00:01:00Z","message":"The CertificateRequest was denied by an approval controller","reason":"Denied","status":"False","type":"Ready"},APPROVED,{"lastTransitionTime":"2030-01-01T00:00:00Z","message":"","reason":"Script","status":"True","type":"Denied"}],"failureTime":"2030-01-01T00:01:00Z"}}"#;
+
+/// Denied requests are marked so once, and keep all else.
+static REFUSED: [(Case, &str); 4] = [
+    (
+        Case {
+            row: RequestRow {
+                conditions: &[DENIED],
+                ..WANTED
+            },
+            ..OPEN
+        },
+        MARKED,
+    ),
+    (
+        Case {
+            row: RequestRow {
+                conditions: &[(ConditionKind::Ready, Tri::False, "Denied", 0), DENIED],
+                ..WANTED
+            },
+            ..OPEN
+        },
+        "nothing",
+    ),
+    (
+        Case {
+            row: RequestRow {
+                conditions: &[
+                    (ConditionKind::Ready, Tri::True, "Issued", 0),
+                    APPROVED,
+                    DENIED,
+                ],
+                failure: Some(0),
+                certificate: "03",
+                ca: "aaff",
+                ..WANTED
+            },
+            ..OPEN
+        },
+        MARKED_ALL,
+    ),
+    (
+        Case {
+            row: RequestRow {
+                conditions: &[
+                    (ConditionKind::Ready, Tri::True, "Denied", 0),
+                    APPROVED,
+                    DENIED,
+                ],
+                ..WANTED
+            },
+            ..OPEN
+        },
+        "nothing",
+    ),
+];
+
+fn is_short(text: &Text) -> bool
+    ensures { result ≡ is_short_text text.now }
+{
+    text.as_str().len() <= 253
+}
+
+fn is_short_or_absent(text: &Option<Text>) -> bool
+    ensures { result ≡ is_short_option text.now }
+{
+    match text {
+        None => true,
+        Some(text) => is_short(text),
+    }
+}
+
+fn is_duration(seconds: Option<u64>) -> bool
+    ensures { result ≡ is_duration_form seconds }
+{
+    match seconds {
+        None => true,
+        Some(seconds) => seconds <= 3_599_999_996_400,
+    }
+}
+
+/// Whether the request is one that reading gives.
+fn is_of_form(request: &CertificateRequest) -> bool
+    ensures { result ≡ is_request_form request.now }
+{
+    let issuer = &request.spec.issuer;
+    (is_short(&issuer.name)
+        && (is_short_or_absent(&issuer.kind) && is_short_or_absent(&issuer.group)))
+        && is_duration(request.spec.duration)
+}
+
+fn request_of(alloc: Global, case: &Case) -> Result<CertificateRequest, Fail>
+    ensures { IfOk result (λ r. is_request_form r ≡ true) }
+{
+    let mut request = request(alloc, &case.row)?;
+    if let Some(group) = case.group {
+        request.spec.issuer.group = Some(text(alloc, group)?);
+    }
+    if is_of_form(&request) {
+        return Ok(request);
+    }
+    Err(Fail::from("no such request"))
+}
+
+fn views_of(alloc: Global, case: &Case) -> Result<Views, Fail>
+    ensures { IfOk result (λ v. HasForm v.request) }
+{
+    let mut views = Views::new(alloc);
+    views.request = None;
+    if case.stands {
+        views.request = Some(request_of(alloc, case)?);
+    }
+    Ok(views)
+}
+
+fn asked(alloc: Global, count: u32) -> Desk
+    ensures few { result.asked < 2 ^ 63 }
+    ensures plain { result.material ≡ [] }
+{
+    let mut desk = desk(alloc);
+    desk.asked = count as u64;
+    desk
+}
+
+#[tactic(auto, unfolding(cmc_rules::specs::Orders::reply_row))]
+fn told_of(alloc: Global, case: &Case) -> Result<String, Fail> {
+    let views = views_of(alloc, case)?;
+    let desk = asked(alloc, case.asked);
+    let act = act(alloc, &views, NOW, &desk)?;
+    Ok(told(alloc, &act)?)
+}
+
+fn meets(rt: &impl Abort, alloc: Global, rows: &[(Case, &str)]) -> Result<(), Fail> {
+    for (case, expected) in rows {
+        assert_eq!(rt; told_of(alloc, case)?.as_str(), *expected);
+    }
+    Ok(())
+}
+
+#[test]
+fn asks_about_approved_requests(rt: HostRuntime) -> Result<(), Fail> {
+    let alloc = rt.alloc();
+    is_sound();
+    meets(&rt, alloc, &ASKED)?;
+    meets(&rt, alloc, &ANSWERED)?;
+    meets(&rt, alloc, &REFUSED)
+}
+
+/// What an issuer says.
+#[derive(Clone, Copy)]
+enum Answer {
+    Issued(&'static str, &'static str),
+    Pending,
+    Failed(&'static str),
+}
+
+/// An approved request that the issuer was asked about a minute ago, and that had a certificate and a failure before.
+const WAITED: RequestRow = RequestRow {
+    conditions: &[
+        (ConditionKind::Ready, Tri::False, "Pending", 1_893_456_000),
+        APPROVED,
+    ],
+    failure: Some(0),
+    certificate: "03",
+    ca: "aaff",
+    ..WANTED
+};
+
+/// What each answer makes of the status. Another role's condition stays; only a request that goes on waiting gets a new
+/// moment where the status of Ready stays False.
+static WRITTEN: [(RequestRow, Answer, &str); 6] = [
+    (
+        OPEN_ROW,
+        Answer::Issued("03", "aaff"),
+        r#""ca":"qv8=","certificate":"Aw==","conditions":[{"lastTransitionTime":"2030-01-01T00:01:00Z","message":"Certificate fetched from issuer successfully","reason":"Issued","status":"True","type":"Ready"},APPROVED]"#,
+    ),
+    (
+        WAITED,
+        Answer::Issued("ff", ""),
+        r#""certificate":"/w==","conditions":[{"lastTransitionTime":"2030-01-01T00:01:00Z","message":"Certificate fetched from issuer successfully","reason":"Issued","status":"True","type":"Ready"},APPROVED],"failureTime":"1970-01-01T00:00:00Z""#,
+    ),
+    (
+        OPEN_ROW,
+        Answer::Pending,
+        r#""conditions":[{"lastTransitionTime":"2030-01-01T00:01:00Z","message":"Waiting on the issuer","reason":"Pending","status":"False","type":"Ready"},APPROVED]"#,
+    ),
+    (
+        WAITED,
+        Answer::Pending,
+        r#""ca":"qv8=","certificate":"Aw==","conditions":[{"lastTransitionTime":"2030-01-01T00:01:00Z","message":"Waiting on the issuer","reason":"Pending","status":"False","type":"Ready"},APPROVED],"failureTime":"1970-01-01T00:00:00Z""#,
+    ),
+    (
+        OPEN_ROW,
+        Answer::Failed("The issuer refused"),
+        r#""conditions":[{"lastTransitionTime":"2030-01-01T00:01:00Z","message":"The issuer refused","reason":"Failed","status":"False","type":"Ready"},APPROVED],"failureTime":"2030-01-01T00:01:00Z""#,
+    ),
+    (
+        WAITED,
+        Answer::Failed("no"),
+        r#""ca":"qv8=","certificate":"Aw==","conditions":[{"lastTransitionTime":"2030-01-01T00:00:00Z","message":"no","reason":"Failed","status":"False","type":"Ready"},APPROVED],"failureTime":"2030-01-01T00:01:00Z""#,
+    ),
+];
+
+fn signing(alloc: Global, answer: &Answer) -> Result<Signing, Fail> {
+    match answer {
+        Answer::Issued(certificate, ca) => {
+            let certificate = bytes(alloc, certificate)?;
+            Ok(Signing::Issued {
+                certificate,
+                ca: bytes(alloc, ca)?,
+            })
+        }
+        Answer::Pending => Ok(Signing::Pending),
+        Answer::Failed(message) => Ok(Signing::Failed {
+            message: text(alloc, message)?,
+        }),
+    }
+}
+
+/// The question about the request.
+#[tactic(auto, unfolding(cmc_rules::specs::Orders::reply_row))]
+fn question(alloc: Global, views: &Views) -> Result<SignOrder, Fail>
+    requires { HasForm views.now.request }
+{
+    match act(alloc, views, NOW, &asked(alloc, 0))? {
+        Act::Ask(Order::Sign(order)) => Ok(order),
+        _other => Err(Fail::from("no question")),
+    }
+}
+
+#[tactic(auto, unfolding(cmc_rules::specs::Granting::answered_after))]
+fn written(alloc: Global, row: RequestRow, answer: &Answer) -> Result<String, Fail> {
+    let mut views = Views::new(alloc);
+    views.request = Some(request_of(alloc, &Case { row, ..OPEN })?);
+    let order = question(alloc, &views)?;
+    let value = Value::Answered(signing(alloc, answer)?);
+    let call = follow(alloc, &views, NOW, &Order::Sign(order), &value)?;
+    Ok(call_told(alloc, &call)?)
+}
+
+fn status_told(alloc: Global, members: &str) -> Result<String, AllocError> {
+    format!(in alloc; "status 9 request {{{members}}}}}")
+}
+
+#[test]
+fn writes_answers(rt: HostRuntime) -> Result<(), Fail> {
+    let alloc = rt.alloc();
+    for (row, answer, members) in &WRITTEN {
+        let written = written(alloc, *row, answer)?;
+        assert_eq!(rt; written.as_str(), status_told(alloc, members)?.as_str());
+    }
+    Ok(())
+}
+
+const BY_SCRIPT: &str =
+    r#""certificate":"BY-SCRIPT","conditions":[{"lastTransitionTime":"2030-01-01T00:01:00Z","message":"Certificate fetched from issuer successfully","reason":"Issued","status":"True","type":"Ready"},APPROVED]"#;
+
+// A plain answer is a certificate for what the request asks for.
+#[test]
+#[tactic(auto, unfolding(cmc_rules::specs::Granting::answered_after))]
+fn writes_the_certificate_that_was_issued(rt: HostRuntime) -> Result<(), Fail> {
+    let alloc = rt.alloc();
+    let mut views = Views::new(alloc);
+    views.request = Some(request_of(alloc, &OPEN)?);
+    let given = Given::Answered(ScriptedSigner.sign(alloc, &question(alloc, &views)?)?);
+    let call = then(alloc, &views, NOW, &given)?;
+    assert_eq!(rt;
+        call_told(alloc, &call)?.as_str(),
+        status_told(alloc, BY_SCRIPT)?.as_str()
+    );
+    Ok(())
+}

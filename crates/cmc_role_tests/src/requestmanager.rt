@@ -1,0 +1,399 @@
+//! What no clause says: what the request manager does, as texts, and that there is an answer where memory is ample.
+ghost use Rattle.std.specs.Prelude.{ℕ, List, IsTrue, IsSome};
+ghost use Rattle.cmc_rules.specs.NextRequests.{HasNextRevision};
+ghost use Rattle.cmc_rules.specs.RequestManaging.{signed_for};
+
+use crate::fixtures::{Case, RequestRow, SecretRow, Stated, views};
+use crate::keymanager::WIDE;
+use crate::telling::{call_told, told};
+use crate::trigger::{KEY, OTHER, OTHER_KEY, OTHER_NAME, REQUEST, desk};
+use cmc_keys::{KeyMaker, ScriptedKeys};
+use cmc_meta::{ConditionKind, Tri};
+use cmc_next::{key_in, named_key};
+use cmc_objects::{Algorithm, Certificate, CsrOrder, Order, Secret};
+use cmc_pass::{Act, Given, Views};
+use cmc_requestmanager::{act, is_sound, then};
+use cmc_x509::key_public;
+use std::alloc::Global;
+use std::process::Abort;
+use std::test::Fail;
+
+/// The condition Issuing since 2030-01-01T00:00:00Z.
+const ISSUING: &[Stated] = &[(ConditionKind::Issuing, Tri::True, "Renewing", 1_893_456_000)];
+
+pub(crate) const NEXT_KEY: SecretRow = SecretRow {
+    name: "web-bbbbf",
+    version: 7,
+    labels: &[("cert-manager.io/next-private-key", "true")],
+    marks: &[],
+    parts: &[("tls.key", KEY)],
+};
+
+/// Another next key under another name.
+const OTHER_SECRET: SecretRow = SecretRow {
+    name: "web-bbbbg",
+    parts: &[("tls.key", OTHER)],
+    ..NEXT_KEY
+};
+
+/// The request that is wanted, as it was made.
+pub(crate) const WANTED: RequestRow = RequestRow {
+    name: "web-bbbbh",
+    revision: "2",
+    der: REQUEST,
+    conditions: &[],
+    failure: None,
+    certificate: "",
+    ca: "",
+};
+
+const WANTED_AGAIN: RequestRow = RequestRow {
+    name: "web-bbbbj",
+    ..WANTED
+};
+
+const STANDING: RequestRow = RequestRow {
+    name: "web-bbbbd",
+    revision: "1",
+    ..WANTED
+};
+
+const LATER: RequestRow = RequestRow {
+    name: "web-bbbbk",
+    revision: "3",
+    ..WANTED
+};
+
+/// The request failed a second before the last transition of Issuing.
+const FAILED: RequestRow = RequestRow {
+    conditions: &[(ConditionKind::Ready, Tri::False, "Failed", 1_893_455_999)],
+    failure: Some(1_893_455_999),
+    ..WANTED
+};
+
+const DENIED: RequestRow = RequestRow {
+    conditions: &[(ConditionKind::Ready, Tri::False, "Denied", 1_893_455_999)],
+    ..FAILED
+};
+
+/// The Certificate is being issued as revision 2, and its next key stands.
+pub(crate) const KEYED: Case = Case {
+    stands: true,
+    conditions: ISSUING,
+    algorithm: Some(Algorithm::Ecdsa),
+    rotation: None,
+    named: "web-bbbbf",
+    revision: Some(1),
+    failures: None,
+    marks: &[],
+    target: None,
+    next: &[NEXT_KEY],
+    requests: &[],
+};
+
+const ASK: &str = "ask signature, body true, key true";
+
+/// Nothing is asked before a fitting key stands under the name that the status has.
+static WAITING: [(Case, &str); 10] = [
+    (
+        Case {
+            stands: false,
+            ..KEYED
+        },
+        "nothing",
+    ),
+    (
+        Case {
+            conditions: &[],
+            ..KEYED
+        },
+        "nothing",
+    ),
+    (
+        Case {
+            conditions: &[(ConditionKind::Issuing, Tri::Unknown, "Renewing", 0)],
+            ..KEYED
+        },
+        "nothing",
+    ),
+    (Case { named: "", ..KEYED }, "nothing"),
+    (Case { next: &[], ..KEYED }, "nothing"),
+    (
+        Case {
+            named: "web-bbbbg",
+            ..KEYED
+        },
+        "nothing",
+    ),
+    (
+        Case {
+            next: &[SecretRow {
+                parts: &[("tls.key", "000000")],
+                ..NEXT_KEY
+            }],
+            ..KEYED
+        },
+        "nothing",
+    ),
+    (
+        Case {
+            next: &[SecretRow {
+                parts: &[("tls.key", WIDE)],
+                ..NEXT_KEY
+            }],
+            ..KEYED
+        },
+        "nothing",
+    ),
+    (
+        Case {
+            next: &[NEXT_KEY, OTHER_SECRET],
+            ..KEYED
+        },
+        ASK,
+    ),
+    (KEYED, ASK),
+];
+
+/// One request of the next revision stays; those that ask for something else go, and the last of several.
+static KEPT: [(Case, &str); 10] = [
+    (
+        Case {
+            requests: &[WANTED],
+            ..KEYED
+        },
+        "nothing",
+    ),
+    (
+        Case {
+            requests: &[WANTED, WANTED_AGAIN],
+            ..KEYED
+        },
+        "delete 9 CertificateRequest/default/web-bbbbj",
+    ),
+    (
+        Case {
+            requests: &[STANDING, WANTED, WANTED_AGAIN, LATER],
+            ..KEYED
+        },
+        "delete 9 CertificateRequest/default/web-bbbbj",
+    ),
+    (
+        Case {
+            requests: &[STANDING, LATER],
+            ..KEYED
+        },
+        ASK,
+    ),
+    (
+        Case {
+            requests: &[RequestRow {
+                revision: "02",
+                ..WANTED
+            }],
+            ..KEYED
+        },
+        ASK,
+    ),
+    (
+        Case {
+            revision: None,
+            requests: &[RequestRow {
+                revision: "1",
+                ..WANTED
+            }],
+            ..KEYED
+        },
+        "nothing",
+    ),
+    (
+        Case {
+            requests: &[RequestRow {
+                der: OTHER_NAME,
+                ..WANTED
+            }],
+            ..KEYED
+        },
+        "delete 9 CertificateRequest/default/web-bbbbh",
+    ),
+    (
+        Case {
+            requests: &[
+                WANTED,
+                RequestRow {
+                    der: OTHER_KEY,
+                    ..WANTED_AGAIN
+                },
+            ],
+            ..KEYED
+        },
+        "delete 9 CertificateRequest/default/web-bbbbj",
+    ),
+    (
+        Case {
+            requests: &[
+                RequestRow {
+                    der: OTHER_KEY,
+                    ..WANTED
+                },
+                WANTED_AGAIN,
+            ],
+            ..KEYED
+        },
+        "delete 9 CertificateRequest/default/web-bbbbh",
+    ),
+    (
+        Case {
+            requests: &[RequestRow {
+                der: "3000",
+                ..WANTED
+            }],
+            ..KEYED
+        },
+        "delete 9 CertificateRequest/default/web-bbbbh",
+    ),
+];
+
+/// A request that failed in an issuance before this one goes; one that failed in this one stays for issuing.
+static REFUSED: [(Case, &str); 8] = [
+    (
+        Case {
+            requests: &[FAILED],
+            ..KEYED
+        },
+        "delete 9 CertificateRequest/default/web-bbbbh",
+    ),
+    (
+        Case {
+            requests: &[DENIED],
+            ..KEYED
+        },
+        "delete 9 CertificateRequest/default/web-bbbbh",
+    ),
+    (
+        Case {
+            requests: &[RequestRow {
+                failure: Some(1_893_456_000),
+                ..FAILED
+            }],
+            ..KEYED
+        },
+        "nothing",
+    ),
+    (
+        Case {
+            requests: &[RequestRow {
+                failure: Some(1_893_456_000),
+                ..DENIED
+            }],
+            ..KEYED
+        },
+        "nothing",
+    ),
+    (
+        Case {
+            requests: &[RequestRow {
+                failure: None,
+                ..FAILED
+            }],
+            ..KEYED
+        },
+        "nothing",
+    ),
+    (
+        Case {
+            requests: &[RequestRow {
+                conditions: &[(ConditionKind::Ready, Tri::False, "Pending", 0)],
+                ..FAILED
+            }],
+            ..KEYED
+        },
+        "nothing",
+    ),
+    (
+        Case {
+            requests: &[RequestRow {
+                conditions: &[(ConditionKind::Ready, Tri::True, "Failed", 0)],
+                ..FAILED
+            }],
+            ..KEYED
+        },
+        "nothing",
+    ),
+    (
+        Case {
+            requests: &[FAILED, WANTED_AGAIN],
+            ..KEYED
+        },
+        "delete 9 CertificateRequest/default/web-bbbbh",
+    ),
+];
+
+fn told_of(alloc: Global, case: &Case) -> Result<String, Fail> {
+    let views = views(alloc, case)?;
+    let desk = desk(alloc);
+    let act = act(alloc, &views, 0, &desk)?;
+    Ok(told(alloc, &act)?)
+}
+
+fn meets(rt: &impl Abort, alloc: Global, rows: &[(Case, &str)]) -> Result<(), Fail> {
+    for (case, expected) in rows {
+        assert_eq!(rt; told_of(alloc, case)?.as_str(), *expected);
+    }
+    Ok(())
+}
+
+#[test]
+fn asks_once_the_key_stands(rt: HostRuntime) -> Result<(), Fail> {
+    is_sound();
+    meets(&rt, rt.alloc(), &WAITING)
+}
+
+#[test]
+fn keeps_one_request(rt: HostRuntime) -> Result<(), Fail> {
+    let alloc = rt.alloc();
+    meets(&rt, alloc, &KEPT)?;
+    meets(&rt, alloc, &REFUSED)
+}
+
+const CREATED: &str =
+    r#"generate {"apiVersion":"cert-manager.io/v1","kind":"CertificateRequest","metadata":{"annotations":{"cert-manager.io/certificate-name":"web","cert-manager.io/certificate-revision":"2","cert-manager.io/private-key-secret-name":"web-bbbbf"},"name":"web","namespace":"default","ownerReferences":[{"controller":true,"kind":"Certificate","name":"web","uid":"uid-1"}]},"spec":{"issuerRef":{"name":"ca"},"request":"SIGNED"}}"#;
+
+fn question(alloc: Global, views: &Views) -> Result<CsrOrder, Fail>
+    requires { HasNextRevision views.now.certificate }
+{
+    match act(alloc, views, 0, &desk(alloc))? {
+        Act::Ask(Order::Csr(order)) => Ok(order),
+        _other => Err(Fail::from("no question")),
+    }
+}
+
+/// Whether the key stands that the Certificate names.
+fn has_key(certificate: &Option<Certificate>, next: &[Secret]) -> bool
+    ensures { IsTrue result → (signature : List ℕ) → IsSome (signed_for certificate.now next.now signature) }
+{
+    let Some(certificate) = certificate else {
+        return false;
+    };
+    let Some(secret) = named_key(&certificate.status.next_key, next) else {
+        return false;
+    };
+    let Some(file) = key_in(secret) else {
+        return false;
+    };
+    key_public(file.as_slice()).is_some()
+}
+
+// The request has the body that openssl made for the key and the name, and the signature that was given.
+#[test]
+#[tactic(auto, unfolding(cmc_rules::specs::RequestManaging::request_after))]
+fn makes_the_request_that_was_signed(rt: HostRuntime) -> Result<(), Fail> {
+    let alloc = rt.alloc();
+    let views = views(alloc, &KEYED)?;
+    let order = question(alloc, &views)?;
+    let given = Given::Signed(ScriptedKeys.sign(alloc, &order)?);
+    assert!(rt; has_key(&views.certificate, views.next.as_slice()));
+    let call = then(alloc, &views, 0, &given)?;
+    assert_eq!(rt; call_told(alloc, &call)?.as_str(), CREATED);
+    Ok(())
+}
