@@ -1,8 +1,10 @@
 //! What no clause says: what the approver asks and writes, as texts, and that there is an answer where memory is ample.
-use crate::fixtures::{RequestRow, Stated, request};
+ghost use Rattle.std.specs.Prelude.{IfOk, IsSome};
+
+use crate::fixtures::{RequestRow, request};
 use crate::requestmanager::WANTED;
 use crate::telling::{call_told, told};
-use crate::trigger::{OTHER_NAME, REQUEST, desk};
+use crate::trigger::{OTHER_NAME, desk};
 use cmc_answers::judge;
 use cmc_approver::{act, is_sound, then};
 use cmc_meta::{ConditionKind, Tri};
@@ -14,12 +16,12 @@ use std::alloc::{AllocError, Global};
 use std::process::Abort;
 use std::test::Fail;
 
-/// What the controller sees of the request, where one stands: its conditions and the group of its issuer `ca`; and the
-/// issuers that the rules name.
+/// What the controller sees of the request, where one stands, and the group of its issuer `ca`; and the issuers that the
+/// rules name.
 #[derive(Clone, Copy)]
 struct Case {
     stands: bool,
-    conditions: &'static [Stated],
+    row: RequestRow,
     group: Option<&'static str>,
     issuers: &'static [&'static str],
 }
@@ -27,7 +29,7 @@ struct Case {
 /// A request without a verdict to an issuer that the rules name.
 const OPEN: Case = Case {
     stands: true,
-    conditions: &[],
+    row: WANTED,
     group: None,
     issuers: &["ca"],
 };
@@ -44,28 +46,40 @@ static CASES: [(Case, &str); 15] = [
     (OPEN, "judge 9 1"),
     (
         Case {
-            conditions: &[(ConditionKind::Approved, Tri::True, "Script", 0)],
+            row: RequestRow {
+                conditions: &[(ConditionKind::Approved, Tri::True, "Script", 0)],
+                ..WANTED
+            },
             ..OPEN
         },
         "nothing",
     ),
     (
         Case {
-            conditions: &[(ConditionKind::Denied, Tri::True, "Script", 0)],
+            row: RequestRow {
+                conditions: &[(ConditionKind::Denied, Tri::True, "Script", 0)],
+                ..WANTED
+            },
             ..OPEN
         },
         "nothing",
     ),
     (
         Case {
-            conditions: &[(ConditionKind::Approved, Tri::False, "Script", 0)],
+            row: RequestRow {
+                conditions: &[(ConditionKind::Approved, Tri::False, "Script", 0)],
+                ..WANTED
+            },
             ..OPEN
         },
         "judge 9 1",
     ),
     (
         Case {
-            conditions: &[(ConditionKind::Ready, Tri::True, "Issued", 0)],
+            row: RequestRow {
+                conditions: &[(ConditionKind::Ready, Tri::True, "Issued", 0)],
+                ..WANTED
+            },
             ..OPEN
         },
         "judge 9 1",
@@ -139,13 +153,7 @@ static CASES: [(Case, &str); 15] = [
 fn views_of(alloc: Global, case: &Case) -> Result<Views, Fail> {
     let mut views = Views::new(alloc);
     if case.stands {
-        let mut request = request(
-            alloc,
-            &RequestRow {
-                conditions: case.conditions,
-                ..WANTED
-            },
-        )?;
+        let mut request = request(alloc, &case.row)?;
         if let Some(group) = case.group {
             request.spec.issuer.group = Some(text(alloc, group)?);
         }
@@ -162,11 +170,18 @@ fn desk_of(alloc: Global, issuers: &[&str]) -> Result<Desk, Fail> {
     Ok(desk)
 }
 
-fn told_of(alloc: Global, case: &Case) -> Result<String, Fail> {
+fn told_on(alloc: Global, views: &Views, desk: &Desk) -> Result<String, AllocError> {
+    told(alloc, &act(alloc, views, 0, desk)?)
+}
+
+fn told_by(alloc: Global, case: &Case, desk: &Desk) -> Result<String, Fail> {
     let views = views_of(alloc, case)?;
+    Ok(told_on(alloc, &views, desk)?)
+}
+
+fn told_of(alloc: Global, case: &Case) -> Result<String, Fail> {
     let desk = desk_of(alloc, case.issuers)?;
-    let act = act(alloc, &views, 0, &desk)?;
-    Ok(told(alloc, &act)?)
+    told_by(alloc, case, &desk)
 }
 
 #[test]
@@ -181,16 +196,16 @@ fn judges_open_requests(rt: HostRuntime) -> Result<(), Fail> {
 /// A policy for these issuers, the DNS names that it allows and no others, and the longest duration.
 type PolicyRow = (&'static str, &'static str, Option<u64>);
 
-/// The signing request that is judged, the name that is refused, and the policies.
+/// The request that is judged, the name that is refused, and the policies.
 #[derive(Clone, Copy)]
 struct Ruled {
-    der: &'static str,
+    row: RequestRow,
     refuse: &'static str,
     policies: &'static [PolicyRow],
 }
 
 const RULED: Ruled = Ruled {
-    der: REQUEST,
+    row: WANTED,
     refuse: "other.example.com",
     policies: &[],
 };
@@ -214,14 +229,20 @@ static VERDICTS: [(Ruled, (&str, &str)); 12] = [
     ),
     (
         Ruled {
-            der: OTHER_NAME,
+            row: RequestRow {
+                der: OTHER_NAME,
+                ..WANTED
+            },
             ..RULED
         },
         REFUSED,
     ),
     (
         Ruled {
-            der: OTHER_NAME,
+            row: RequestRow {
+                der: OTHER_NAME,
+                ..WANTED
+            },
             refuse: "example.com",
             ..RULED
         },
@@ -229,7 +250,10 @@ static VERDICTS: [(Ruled, (&str, &str)); 12] = [
     ),
     (
         Ruled {
-            der: "3000",
+            row: RequestRow {
+                der: "3000",
+                ..WANTED
+            },
             ..RULED
         },
         REFUSED,
@@ -334,19 +358,28 @@ fn question(alloc: Global, views: &Views, rules: Rules) -> Result<JudgeOrder, Fa
     }
 }
 
-/// What is written of the request at 2030-01-01T00:01:00Z.
+/// What is written of the request that is seen, at 2030-01-01T00:01:00Z.
 #[tactic(auto, unfolding(cmc_rules::specs::Approving::judged_after))]
-fn written(alloc: Global, ruled: &Ruled) -> Result<String, Fail> {
-    let mut views = Views::new(alloc);
-    let row = RequestRow {
-        der: ruled.der,
-        ..WANTED
-    };
-    views.request = Some(request(alloc, &row)?);
-    let order = question(alloc, &views, rules(alloc, ruled)?)?;
+fn written_on(alloc: Global, views: &Views, order: JudgeOrder) -> Result<String, AllocError>
+    requires { IsSome views.now.request }
+{
     let given = Given::Judged(judge(alloc, order)?);
-    let call = then(alloc, &views, 1_893_456_060, &given)?;
-    Ok(call_told(alloc, &call)?)
+    let call = then(alloc, views, 1_893_456_060, &given)?;
+    call_told(alloc, &call)
+}
+
+fn views_with(alloc: Global, row: &RequestRow) -> Result<Views, Fail>
+    ensures { IfOk result (λ v. IsSome v.request) }
+{
+    let mut views = Views::new(alloc);
+    views.request = Some(request(alloc, row)?);
+    Ok(views)
+}
+
+fn written(alloc: Global, ruled: &Ruled) -> Result<String, Fail> {
+    let views = views_with(alloc, &ruled.row)?;
+    let order = question(alloc, &views, rules(alloc, ruled)?)?;
+    Ok(written_on(alloc, &views, order)?)
 }
 
 fn verdict(alloc: Global, kind: &str, message: &str) -> Result<String, AllocError> {

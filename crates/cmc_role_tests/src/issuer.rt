@@ -1,6 +1,6 @@
 //! What no clause says: what the controller that asks issuers does, as texts, and that there is an answer where memory
 //! is ample.
-ghost use Rattle.std.specs.Prelude.{◌≡◌, ◌<◌, ◌^◌, [], IfOk, true};
+ghost use Rattle.std.specs.Prelude.{◌≡◌, ◌<◌, ◌^◌, [], IfOk, IsSome, true};
 ghost use Rattle.cmc_rules.specs.Granting.{HasForm};
 ghost use Rattle.cmc_objects.specs.Requests.{is_short_text, is_short_option, is_duration_form, is_request_form};
 
@@ -356,11 +356,15 @@ fn asked(alloc: Global, count: u32) -> Desk
 }
 
 #[tactic(auto, unfolding(cmc_rules::specs::Orders::reply_row))]
+fn told_on(alloc: Global, views: &Views, count: u32) -> Result<String, AllocError>
+    requires { HasForm views.now.request }
+{
+    told(alloc, &act(alloc, views, NOW, &asked(alloc, count))?)
+}
+
 fn told_of(alloc: Global, case: &Case) -> Result<String, Fail> {
     let views = views_of(alloc, case)?;
-    let desk = asked(alloc, case.asked);
-    let act = act(alloc, &views, NOW, &desk)?;
-    Ok(told(alloc, &act)?)
+    Ok(told_on(alloc, &views, case.asked)?)
 }
 
 fn meets(rt: &impl Abort, alloc: Global, rows: &[(Case, &str)]) -> Result<(), Fail> {
@@ -399,36 +403,41 @@ const WAITED: RequestRow = RequestRow {
     ..WANTED
 };
 
+const WAITED_CASE: Case = Case {
+    row: WAITED,
+    ..OPEN
+};
+
 /// What each answer makes of the status. Another role's condition stays; only a request that goes on waiting gets a new
 /// moment where the status of Ready stays False.
-static WRITTEN: [(RequestRow, Answer, &str); 6] = [
+static WRITTEN: [(Case, Answer, &str); 6] = [
     (
-        OPEN_ROW,
+        OPEN,
         Answer::Issued("03", "aaff"),
         r#""ca":"qv8=","certificate":"Aw==","conditions":[{"lastTransitionTime":"2030-01-01T00:01:00Z","message":"Certificate fetched from issuer successfully","reason":"Issued","status":"True","type":"Ready"},APPROVED]"#,
     ),
     (
-        WAITED,
+        WAITED_CASE,
         Answer::Issued("ff", ""),
         r#""certificate":"/w==","conditions":[{"lastTransitionTime":"2030-01-01T00:01:00Z","message":"Certificate fetched from issuer successfully","reason":"Issued","status":"True","type":"Ready"},APPROVED],"failureTime":"1970-01-01T00:00:00Z""#,
     ),
     (
-        OPEN_ROW,
+        OPEN,
         Answer::Pending,
         r#""conditions":[{"lastTransitionTime":"2030-01-01T00:01:00Z","message":"Waiting on the issuer","reason":"Pending","status":"False","type":"Ready"},APPROVED]"#,
     ),
     (
-        WAITED,
+        WAITED_CASE,
         Answer::Pending,
         r#""ca":"qv8=","certificate":"Aw==","conditions":[{"lastTransitionTime":"2030-01-01T00:01:00Z","message":"Waiting on the issuer","reason":"Pending","status":"False","type":"Ready"},APPROVED],"failureTime":"1970-01-01T00:00:00Z""#,
     ),
     (
-        OPEN_ROW,
+        OPEN,
         Answer::Failed("The issuer refused"),
         r#""conditions":[{"lastTransitionTime":"2030-01-01T00:01:00Z","message":"The issuer refused","reason":"Failed","status":"False","type":"Ready"},APPROVED],"failureTime":"2030-01-01T00:01:00Z""#,
     ),
     (
-        WAITED,
+        WAITED_CASE,
         Answer::Failed("no"),
         r#""ca":"qv8=","certificate":"Aw==","conditions":[{"lastTransitionTime":"2030-01-01T00:00:00Z","message":"no","reason":"Failed","status":"False","type":"Ready"},APPROVED],"failureTime":"2030-01-01T00:01:00Z""#,
     ),
@@ -462,13 +471,32 @@ fn question(alloc: Global, views: &Views) -> Result<SignOrder, Fail>
 }
 
 #[tactic(auto, unfolding(cmc_rules::specs::Granting::answered_after))]
-fn written(alloc: Global, row: RequestRow, answer: &Answer) -> Result<String, Fail> {
+fn written_on(
+    alloc: Global,
+    views: &Views,
+    order: SignOrder,
+    answer: Signing,
+) -> Result<String, AllocError>
+    requires { IsSome views.now.request }
+{
+    let value = Value::Answered(answer);
+    let call = follow(alloc, views, NOW, &Order::Sign(order), &value)?;
+    call_told(alloc, &call)
+}
+
+fn views_with(alloc: Global, case: &Case) -> Result<Views, Fail>
+    ensures form { IfOk result (λ v. HasForm v.request) }
+    ensures stands { IfOk result (λ v. IsSome v.request) }
+{
     let mut views = Views::new(alloc);
-    views.request = Some(request_of(alloc, &Case { row, ..OPEN })?);
+    views.request = Some(request_of(alloc, case)?);
+    Ok(views)
+}
+
+fn written(alloc: Global, case: &Case, answer: &Answer) -> Result<String, Fail> {
+    let views = views_with(alloc, case)?;
     let order = question(alloc, &views)?;
-    let value = Value::Answered(signing(alloc, answer)?);
-    let call = follow(alloc, &views, NOW, &Order::Sign(order), &value)?;
-    Ok(call_told(alloc, &call)?)
+    Ok(written_on(alloc, &views, order, signing(alloc, answer)?)?)
 }
 
 fn status_told(alloc: Global, members: &str) -> Result<String, AllocError> {
@@ -478,8 +506,8 @@ fn status_told(alloc: Global, members: &str) -> Result<String, AllocError> {
 #[test]
 fn writes_answers(rt: HostRuntime) -> Result<(), Fail> {
     let alloc = rt.alloc();
-    for (row, answer, members) in &WRITTEN {
-        let written = written(alloc, *row, answer)?;
+    for (case, answer, members) in &WRITTEN {
+        let written = written(alloc, case, answer)?;
         assert_eq!(rt; written.as_str(), status_told(alloc, members)?.as_str());
     }
     Ok(())
@@ -488,18 +516,23 @@ fn writes_answers(rt: HostRuntime) -> Result<(), Fail> {
 const BY_SCRIPT: &str =
     r#""certificate":"BY-SCRIPT","conditions":[{"lastTransitionTime":"2030-01-01T00:01:00Z","message":"Certificate fetched from issuer successfully","reason":"Issued","status":"True","type":"Ready"},APPROVED]"#;
 
+static ASKED_ONCE: Case = OPEN;
+
+#[tactic(auto, unfolding(cmc_rules::specs::Granting::answered_after))]
+fn scripted(alloc: Global, views: &Views) -> Result<String, Fail>
+    requires form { HasForm views.now.request }
+    requires stands { IsSome views.now.request }
+{
+    let given = Given::Answered(ScriptedSigner.sign(alloc, &question(alloc, views)?)?);
+    let call = then(alloc, views, NOW, &given)?;
+    Ok(call_told(alloc, &call)?)
+}
+
 // A plain answer is a certificate for what the request asks for.
 #[test]
-#[tactic(auto, unfolding(cmc_rules::specs::Granting::answered_after))]
 fn writes_the_certificate_that_was_issued(rt: HostRuntime) -> Result<(), Fail> {
     let alloc = rt.alloc();
-    let mut views = Views::new(alloc);
-    views.request = Some(request_of(alloc, &OPEN)?);
-    let given = Given::Answered(ScriptedSigner.sign(alloc, &question(alloc, &views)?)?);
-    let call = then(alloc, &views, NOW, &given)?;
-    assert_eq!(rt;
-        call_told(alloc, &call)?.as_str(),
-        status_told(alloc, BY_SCRIPT)?.as_str()
-    );
+    let written = scripted(alloc, &views_with(alloc, &ASKED_ONCE)?)?;
+    assert_eq!(rt; written.as_str(), status_told(alloc, BY_SCRIPT)?.as_str());
     Ok(())
 }

@@ -1,5 +1,5 @@
 //! What no clause says: what the issuing controller does, as texts, and that there is an answer where memory is ample.
-ghost use Rattle.std.specs.Prelude.{◌≡◌, true};
+ghost use Rattle.cmc_rules.specs.NextRequests.{HasNextRevision};
 
 use crate::fixtures::{Case, RequestRow, SecretRow, Stated, views};
 use crate::keymanager::WIDE;
@@ -8,6 +8,7 @@ use crate::telling::told;
 use crate::trigger::{CERTIFICATE, KEY, OTHER, OTHER_KEY, OTHER_NAME, desk};
 use cmc_issuing::{act, is_sound};
 use cmc_meta::{ConditionKind, Tri};
+use cmc_pass::Views;
 use std::alloc::{AllocError, Global};
 use std::process::Abort;
 use std::test::Fail;
@@ -704,10 +705,15 @@ fn expected(alloc: Global, outcome: &Outcome) -> Result<String, AllocError> {
     }
 }
 
+fn told_on(alloc: Global, views: &Views) -> Result<String, AllocError>
+    requires { HasNextRevision views.now.certificate }
+{
+    told(alloc, &act(alloc, views, NOW, &desk(alloc))?)
+}
+
 fn told_of(alloc: Global, case: &Case) -> Result<String, Fail> {
     let views = views(alloc, case)?;
-    let act = act(alloc, &views, NOW, &desk(alloc))?;
-    Ok(told(alloc, &act)?)
+    Ok(told_on(alloc, &views)?)
 }
 
 fn meets(rt: &impl Abort, alloc: Global, rows: &[(Case, Outcome)]) -> Result<(), Fail> {

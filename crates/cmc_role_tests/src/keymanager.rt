@@ -1,5 +1,5 @@
 //! What no clause says: what the key manager does, as texts, and that there is an answer where memory is ample.
-ghost use Rattle.std.specs.Prelude.{◌<◌, ◌^◌, IfOk};
+ghost use Rattle.std.specs.Prelude.{◌<◌, ◌^◌, IfOk, IsSome};
 
 use crate::fixtures::{Case, SecretRow, Stated, bytes, certificate, views};
 use crate::telling::{call_told, told};
@@ -10,7 +10,7 @@ use cmc_meta::{ConditionKind, Kind, Tri};
 use cmc_objects::{Algorithm, KeyOrder, KeyRow, KeyRows, Order, Rotation, Rows, SignRows};
 use cmc_pass::{Act, Desk, Given, Views};
 use cmc_tests::values::key;
-use std::alloc::Global;
+use std::alloc::{AllocError, Global};
 use std::process::Abort;
 use std::test::Fail;
 
@@ -279,11 +279,13 @@ fn asked(alloc: Global) -> Desk
     desk
 }
 
+fn told_on(alloc: Global, views: &Views) -> Result<String, AllocError> {
+    told(alloc, &act(alloc, views, 0, &asked(alloc))?)
+}
+
 fn told_of(alloc: Global, case: &Case) -> Result<String, Fail> {
     let views = views(alloc, case)?;
-    let desk = asked(alloc);
-    let act = act(alloc, &views, 0, &desk)?;
-    Ok(told(alloc, &act)?)
+    Ok(told_on(alloc, &views)?)
 }
 
 fn meets(rt: &impl Abort, alloc: Global, rows: &[(Case, &str)]) -> Result<(), Fail> {
@@ -328,18 +330,35 @@ fn question(alloc: Global, views: &Views) -> Result<KeyOrder, Fail> {
     }
 }
 
+static BEGUN_ONCE: Case = BEGUN;
+
+fn views_with(alloc: Global, case: &Case) -> Result<Views, Fail>
+    ensures { IfOk result (λ v. IsSome v.certificate) }
+{
+    let mut views = Views::new(alloc);
+    views.certificate = Some(certificate(alloc, case)?);
+    Ok(views)
+}
+
+#[tactic(auto, unfolding(cmc_rules::specs::KeyManaging::key_after))]
+fn kept(alloc: Global, views: &Views, order: &KeyOrder) -> Result<String, AllocError>
+    requires { IsSome views.now.certificate }
+{
+    if !is_allowed_size(order.algorithm, order.size) {
+        return format!(in alloc; "another size");
+    }
+    let given = Given::Made(ScriptedKeys.make(alloc, order)?);
+    let call = then(alloc, views, 0, &given)?;
+    call_told(alloc, &call)
+}
+
 // The key that was made, by the row of the first question, is kept in a new Secret.
 #[test]
-#[tactic(auto, unfolding(cmc_rules::specs::KeyManaging::key_after))]
 fn keeps_the_key_that_was_made(rt: HostRuntime) -> Result<(), Fail> {
     let alloc = rt.alloc();
-    let mut views = Views::new(alloc);
-    views.certificate = Some(certificate(alloc, &BEGUN)?);
+    let views = views_with(alloc, &BEGUN_ONCE)?;
     let order = question(alloc, &views)?;
     assert_eq!(rt; order.number, 1);
-    assert!(rt; is_allowed_size(order.algorithm, order.size));
-    let given = Given::Made(ScriptedKeys.make(alloc, &order)?);
-    let call = then(alloc, &views, 0, &given)?;
-    assert_eq!(rt; call_told(alloc, &call)?.as_str(), CREATED);
+    assert_eq!(rt; kept(alloc, &views, &order)?.as_str(), CREATED);
     Ok(())
 }

@@ -1,20 +1,15 @@
 //! What no clause says: what the request manager does, as texts, and that there is an answer where memory is ample.
-ghost use Rattle.std.specs.Prelude.{ℕ, List, IsTrue, IsSome};
 ghost use Rattle.cmc_rules.specs.NextRequests.{HasNextRevision};
-ghost use Rattle.cmc_rules.specs.RequestManaging.{signed_for};
 
 use crate::fixtures::{Case, RequestRow, SecretRow, Stated, views};
 use crate::keymanager::WIDE;
-use crate::telling::{call_told, told};
+use crate::telling::told;
 use crate::trigger::{KEY, OTHER, OTHER_KEY, OTHER_NAME, REQUEST, desk};
-use cmc_keys::{KeyMaker, ScriptedKeys};
 use cmc_meta::{ConditionKind, Tri};
-use cmc_next::{key_in, named_key};
-use cmc_objects::{Algorithm, Certificate, CsrOrder, Order, Secret};
-use cmc_pass::{Act, Given, Views};
-use cmc_requestmanager::{act, is_sound, then};
-use cmc_x509::key_public;
-use std::alloc::Global;
+use cmc_objects::Algorithm;
+use cmc_pass::Views;
+use cmc_requestmanager::{act, is_sound};
+use std::alloc::{AllocError, Global};
 use std::process::Abort;
 use std::test::Fail;
 
@@ -329,11 +324,15 @@ static REFUSED: [(Case, &str); 8] = [
     ),
 ];
 
+fn told_on(alloc: Global, views: &Views) -> Result<String, AllocError>
+    requires { HasNextRevision views.now.certificate }
+{
+    told(alloc, &act(alloc, views, 0, &desk(alloc))?)
+}
+
 fn told_of(alloc: Global, case: &Case) -> Result<String, Fail> {
     let views = views(alloc, case)?;
-    let desk = desk(alloc);
-    let act = act(alloc, &views, 0, &desk)?;
-    Ok(told(alloc, &act)?)
+    Ok(told_on(alloc, &views)?)
 }
 
 fn meets(rt: &impl Abort, alloc: Global, rows: &[(Case, &str)]) -> Result<(), Fail> {
@@ -354,46 +353,4 @@ fn keeps_one_request(rt: HostRuntime) -> Result<(), Fail> {
     let alloc = rt.alloc();
     meets(&rt, alloc, &KEPT)?;
     meets(&rt, alloc, &REFUSED)
-}
-
-const CREATED: &str =
-    r#"generate {"apiVersion":"cert-manager.io/v1","kind":"CertificateRequest","metadata":{"annotations":{"cert-manager.io/certificate-name":"web","cert-manager.io/certificate-revision":"2","cert-manager.io/private-key-secret-name":"web-bbbbf"},"name":"web","namespace":"default","ownerReferences":[{"controller":true,"kind":"Certificate","name":"web","uid":"uid-1"}]},"spec":{"issuerRef":{"name":"ca"},"request":"SIGNED"}}"#;
-
-fn question(alloc: Global, views: &Views) -> Result<CsrOrder, Fail>
-    requires { HasNextRevision views.now.certificate }
-{
-    match act(alloc, views, 0, &desk(alloc))? {
-        Act::Ask(Order::Csr(order)) => Ok(order),
-        _other => Err(Fail::from("no question")),
-    }
-}
-
-/// Whether the key stands that the Certificate names.
-fn has_key(certificate: &Option<Certificate>, next: &[Secret]) -> bool
-    ensures { IsTrue result → (signature : List ℕ) → IsSome (signed_for certificate.now next.now signature) }
-{
-    let Some(certificate) = certificate else {
-        return false;
-    };
-    let Some(secret) = named_key(&certificate.status.next_key, next) else {
-        return false;
-    };
-    let Some(file) = key_in(secret) else {
-        return false;
-    };
-    key_public(file.as_slice()).is_some()
-}
-
-// The request has the body that openssl made for the key and the name, and the signature that was given.
-#[test]
-#[tactic(auto, unfolding(cmc_rules::specs::RequestManaging::request_after))]
-fn makes_the_request_that_was_signed(rt: HostRuntime) -> Result<(), Fail> {
-    let alloc = rt.alloc();
-    let views = views(alloc, &KEYED)?;
-    let order = question(alloc, &views)?;
-    let given = Given::Signed(ScriptedKeys.sign(alloc, &order)?);
-    assert!(rt; has_key(&views.certificate, views.next.as_slice()));
-    let call = then(alloc, &views, 0, &given)?;
-    assert_eq!(rt; call_told(alloc, &call)?.as_str(), CREATED);
-    Ok(())
 }

@@ -5,7 +5,7 @@ ghost use Rattle.std.specs.Prelude.{◌≡◌, None};
 use crate::trigger::{Case, NONE, OTHER_NAME, REQUEST, WELL, desk, request, views};
 use cmc_meta::{Condition, ConditionKind, Text, Tri};
 use cmc_objects::{Call, CertStatus, CertificateRequest, Object};
-use cmc_pass::{Act, Views};
+use cmc_pass::{Act, Requests, Views};
 use cmc_status::{act_readiness, act_revision, is_readiness_sound, is_revision_sound};
 use cmc_tests::values::{name as object_name, text};
 use std::alloc::{AllocError, Global};
@@ -58,89 +58,86 @@ fn told(alloc: Global, act: &Act) -> Result<String, AllocError> {
     format!(in alloc; "{version} {ready} {times}")
 }
 
+fn told_on(alloc: Global, views: &Views, now: i64) -> Result<String, AllocError> {
+    told(alloc, &act_readiness(alloc, views, now, &desk(alloc))?)
+}
+
 fn told_of(alloc: Global, case: &Case) -> Result<String, Fail>
     requires { case.now.failed ≡ None }
 {
     let views = views(alloc, case)?;
-    let desk = desk(alloc);
-    let act = act_readiness(alloc, &views, case.now, &desk)?;
-    Ok(told(alloc, &act)?)
+    Ok(told_on(alloc, &views, case.now)?)
 }
 
-// What the status says comes from the Secret, the specification and the current request alone.
+const READY: &str = "True Ready: Certificate is up to date and has not expired";
+
+/// What the status says comes from the Secret, the specification and the current request alone: the reason, and the
+/// times.
+static READINESS: [(Case, &str, &str); 8] = [
+    (
+        NONE,
+        "False DoesNotExist: Certificate is not ready: DoesNotExist",
+        "- - -",
+    ),
+    (WELL, READY, TIMES),
+    (
+        Case {
+            now: 1_803_524_972,
+            ..WELL
+        },
+        READY,
+        TIMES,
+    ),
+    (
+        Case {
+            now: 1_803_524_973,
+            ..WELL
+        },
+        "False Expired: Certificate is not ready: Expired",
+        TIMES,
+    ),
+    (
+        Case {
+            mark: ("cert-manager.io/issuer-name", "other"),
+            ..WELL
+        },
+        READY,
+        TIMES,
+    ),
+    (
+        Case {
+            mark: ("cert-manager.io/temporary-certificate", "true"),
+            ..WELL
+        },
+        "False MissingData: Certificate is not ready: MissingData",
+        TIMES,
+    ),
+    (
+        Case {
+            algorithm: None,
+            ..WELL
+        },
+        "False SecretMismatch: Certificate is not ready: SecretMismatch",
+        TIMES,
+    ),
+    (
+        Case {
+            requests: &[("1", OTHER_NAME)],
+            ..WELL
+        },
+        "False RequestChanged: Certificate is not ready: RequestChanged",
+        TIMES,
+    ),
+];
+
 #[test]
 fn says_whether_a_certificate_is_ready(rt: HostRuntime) -> Result<(), Fail> {
     let alloc = rt.alloc();
     is_readiness_sound();
-    let ends = Case {
-        now: 1_803_524_973,
-        ..WELL
-    };
-    let last = Case {
-        now: 1_803_524_972,
-        ..WELL
-    };
-    let other_issuer = Case {
-        mark: ("cert-manager.io/issuer-name", "other"),
-        ..WELL
-    };
-    let temporary = Case {
-        mark: ("cert-manager.io/temporary-certificate", "true"),
-        ..WELL
-    };
-    let rsa = Case {
-        algorithm: None,
-        ..WELL
-    };
-    let other_name = Case {
-        requests: &[("1", OTHER_NAME)],
-        ..WELL
-    };
-    for (case, reason, times) in [
-        (
-            NONE,
-            "False DoesNotExist: Certificate is not ready: DoesNotExist",
-            "- - -",
-        ),
-        (
-            WELL,
-            "True Ready: Certificate is up to date and has not expired",
-            TIMES,
-        ),
-        (
-            last,
-            "True Ready: Certificate is up to date and has not expired",
-            TIMES,
-        ),
-        (
-            ends,
-            "False Expired: Certificate is not ready: Expired",
-            TIMES,
-        ),
-        (
-            other_issuer,
-            "True Ready: Certificate is up to date and has not expired",
-            TIMES,
-        ),
-        (
-            temporary,
-            "False MissingData: Certificate is not ready: MissingData",
-            TIMES,
-        ),
-        (
-            rsa,
-            "False SecretMismatch: Certificate is not ready: SecretMismatch",
-            TIMES,
-        ),
-        (
-            other_name,
-            "False RequestChanged: Certificate is not ready: RequestChanged",
-            TIMES,
-        ),
-    ] {
+    for (case, reason, times) in &READINESS {
         let never_failed = Case {
             failed: None,
-            ..case
+            ..*case
         };
         let now = case.now;
         let expected = format!(in alloc; "3 {now} {reason} {times}")?;
@@ -172,66 +169,120 @@ fn ready_request(
 /// The name, the revision and the Ready of a request.
 type Row = (&'static str, &'static str, Tri);
 
-/// The name of the request that goes, where this is the limit and these are the requests.
-fn gone_of(
+fn add(alloc: Global, requests: &mut Requests, row: &Row) -> Result<(), Fail> {
+    let (name, number, status) = row;
+    requests.push(ready_request(alloc, name, number, *status)?)?;
+    Ok(())
+}
+
+/// What is seen where this is the limit and these are the requests.
+fn limited(
     alloc: Global,
     case: &Case,
     limit: Option<u32>,
-    first: Row,
-    second: Row,
-) -> Result<String, Fail>
+    first: &Row,
+    second: &Row,
+) -> Result<Views, Fail>
     requires { case.now.failed ≡ None }
 {
-    let mut views: Views = views(alloc, case)?;
-    let first = ready_request(alloc, first.0, first.1, first.2)?;
-    views.requests.push(first)?;
-    let second = ready_request(alloc, second.0, second.1, second.2)?;
-    views.requests.push(second)?;
+    let mut views = views(alloc, case)?;
+    add(alloc, &mut views.requests, first)?;
+    add(alloc, &mut views.requests, second)?;
     if let Some(certificate) = &mut views.certificate {
         certificate.spec.history_limit = limit;
     }
-    let desk = desk(alloc);
-    match act_revision(alloc, &views, 0, &desk)? {
+    Ok(views)
+}
+
+/// The name of the request that goes.
+fn gone_on(alloc: Global, views: &Views) -> Result<String, AllocError> {
+    match &act_revision(alloc, views, 0, &desk(alloc))? {
         Act::Call(
             Call::Delete {
                 key,
                 version: Some(_),
             },
-        ) => Ok(String::from_str(alloc, key.name.as_str())?),
-        _ => Ok(String::from_str(alloc, "nothing")?),
+        ) => String::from_str(alloc, key.name.as_str()),
+        _ => String::from_str(alloc, "nothing"),
     }
 }
+
+const ISSUING: Case = Case {
+    issuing: Some(Tri::True),
+    ..NONE
+};
+
+/// What is seen, the limit and the requests, and the one that goes.
+static KEPT: [(Case, Option<u32>, Row, Row, &str); 8] = [
+    (
+        NONE,
+        Some(1),
+        ("b", "1", Tri::True),
+        ("c", "2", Tri::True),
+        "b",
+    ),
+    (
+        NONE,
+        Some(1),
+        ("b", "2", Tri::True),
+        ("c", "1", Tri::True),
+        "c",
+    ),
+    (
+        NONE,
+        Some(1),
+        ("b", "1", Tri::True),
+        ("c", "1", Tri::True),
+        "b",
+    ),
+    (
+        NONE,
+        Some(2),
+        ("b", "1", Tri::True),
+        ("c", "2", Tri::True),
+        "nothing",
+    ),
+    (
+        NONE,
+        Some(1),
+        ("b", "1", Tri::False),
+        ("c", "2", Tri::True),
+        "nothing",
+    ),
+    (
+        NONE,
+        Some(1),
+        ("b", "x", Tri::True),
+        ("c", "2", Tri::True),
+        "nothing",
+    ),
+    (
+        NONE,
+        None,
+        ("b", "1", Tri::True),
+        ("c", "2", Tri::True),
+        "nothing",
+    ),
+    (
+        ISSUING,
+        Some(1),
+        ("b", "1", Tri::True),
+        ("c", "2", Tri::True),
+        "nothing",
+    ),
+];
 
 #[test]
 fn keeps_as_many_requests_as_the_limit(rt: HostRuntime) -> Result<(), Fail> {
     let alloc = rt.alloc();
     is_revision_sound();
-    let issuing = Case {
-        issuing: Some(Tri::True),
-        ..NONE
-    };
-    let two = (("b", "1", Tri::True), ("c", "2", Tri::True));
-    let later = (("b", "2", Tri::True), ("c", "1", Tri::True));
-    let same = (("b", "1", Tri::True), ("c", "1", Tri::True));
-    let failed = (("b", "1", Tri::False), ("c", "2", Tri::True));
-    let unnumbered = (("b", "x", Tri::True), ("c", "2", Tri::True));
-    for (case, limit, rows, gone) in [
-        (NONE, Some(1), two, "b"),
-        (NONE, Some(1), later, "c"),
-        (NONE, Some(1), same, "b"),
-        (NONE, Some(2), two, "nothing"),
-        (NONE, Some(1), failed, "nothing"),
-        (NONE, Some(1), unnumbered, "nothing"),
-        (NONE, None, two, "nothing"),
-        (issuing, Some(1), two, "nothing"),
-    ] {
+    for (case, limit, first, second, gone) in &KEPT {
         let never_failed = Case {
             failed: None,
-            ..case
+            ..*case
         };
-        let (first, second) = rows;
-        let name = gone_of(alloc, &never_failed, limit, first, second)?;
-        assert_eq!(rt; name.as_str(), gone);
+        let views = limited(alloc, &never_failed, *limit, first, second)?;
+        assert_eq!(rt; gone_on(alloc, &views)?.as_str(), *gone);
     }
     Ok(())
 }

@@ -12,11 +12,10 @@ const BODY: &str =
     "30818b02010030003059301306072a8648ce3d020106082a8648ce3d03010703420004c8d4912385d6e2891d6cfabb34b212e66324e6f7093596d65399c3133beba273bf1c4ba284d690d02756f61451a3b3791c0f7f9ef6d9ac371ee1fa5258d67588a029302706092a864886f70d01090e311a301830160603551d11040f300d820b6578616d706c652e636f6d";
 
 /// Long texts of JSON and the words that stand for them in what is expected: the Certificate up to its status, and, in
-/// base64 as `openssl base64 -A` gives it, the key file, its certificate, the certificate that stands in for it, the
-/// certification request of that body whose signature is the SHA-256 of the body, and the certificate that an issuer
-/// `ca` gives as its first for the request that openssl made; that request, a CertificateRequest with it up to its
-/// status, and an approval. openssl reads each of the files.
-static SHORT: [(&str, &str); 9] = [
+/// base64 as `openssl base64 -A` gives it, the key file, its certificate, the certificate that stands in for it, and the
+/// certificate that an issuer `ca` gives as its first for the request that openssl made; that request, a
+/// CertificateRequest with it up to its status, and an approval. openssl reads each of the files.
+static SHORT: [(&str, &str); 8] = [
     (
         r#"{"apiVersion":"cert-manager.io/v1","kind":"Certificate","metadata":{"name":"web","namespace":"default"},"spec":{"dnsNames":["example.com"],"issuerRef":{"name":"ca"},"privateKey":{"algorithm":"ECDSA"},"secretName":"web-tls"},"status":"#,
         "web ",
@@ -32,10 +31,6 @@ static SHORT: [(&str, &str); 9] = [
     (
         "MIIBATCBz6ADAgECAgRJlgLSMAoGCCqGSM49BAMCMB0xGzAZBgNVBAMMEmNlcnQtbWFuYWdlci5sb2NhbDAeFw0zMDAxMDEwMDAxMDBaFw0zMDA0MDEwMDAxMDBaMAAwWTATBgcqhkjOPQIBBggqhkjOPQMBBwNCAATI1JEjhdbiiR1s+rs0shLmYyTm9wk1ltZTmcMTO+uic78cS6KE1pDQJ1b2FFGjs3kcD3+e9tmsNx7h+lJY1nWIoxowGDAWBgNVHREEDzANggtleGFtcGxlLmNvbTAKBggqhkjOPQQDAgMhAPgr7fYKuw8yv3mjKrGYB5w5hkj5sT+IBcKI+zvYEpet",
         "STAND-IN",
-    ),
-    (
-        "MIG9MIGLAgEAMAAwWTATBgcqhkjOPQIBBggqhkjOPQMBBwNCAATI1JEjhdbiiR1s+rs0shLmYyTm9wk1ltZTmcMTO+uic78cS6KE1pDQJ1b2FFGjs3kcD3+e9tmsNx7h+lJY1nWIoCkwJwYJKoZIhvcNAQkOMRowGDAWBgNVHREEDzANggtleGFtcGxlLmNvbTAKBggqhkjOPQQDAgMhANEZ/LZLik+L+FVK4aoYl9rVSPJ/NZ/01AmscKNfkmJx",
-        "SIGNED",
     ),
     (
         "MIHuMIG8oAMCAQICAQEwCgYIKoZIzj0EAwIwDTELMAkGA1UEAwwCY2EwHhcNMzAwMTAxMDAwMTAwWhcNMzAwNDAxMDAwMTAwWjAAMFkwEwYHKoZIzj0CAQYIKoZIzj0DAQcDQgAEyNSRI4XW4okdbPq7NLIS5mMk5vcJNZbWU5nDEzvronO/HEuihNaQ0CdW9hRRo7N5HA9/nvbZrDce4fpSWNZ1iKMaMBgwFgYDVR0RBA8wDYILZXhhbXBsZS5jb20wCgYIKoZIzj0EAwIDIQBI8xNl5GvImrg5EMg56rrHnGvoaReml+lmcwOxamgMBQ==",

@@ -270,34 +270,187 @@ pub(crate) fn views(alloc: Global, case: &Case) -> Result<Views, Fail>
     Ok(views)
 }
 
+fn told_on(alloc: Global, views: &Views, now: i64) -> Result<String, AllocError>
+    requires { HasDatedFailure views.now }
+{
+    told(alloc, &act(alloc, views, now, &desk(alloc))?)
+}
+
 fn told_of(alloc: Global, case: &Case) -> Result<String, Fail>
     requires { IsDatedOption case.now.failed }
 {
     let views = views(alloc, case)?;
-    let desk = desk(alloc);
-    let act = act(alloc, &views, case.now, &desk)?;
-    Ok(told(alloc, &act)?)
+    Ok(told_on(alloc, &views, case.now)?)
 }
 
+const MISSING: &str = "3 1893456000 MissingData: Certificate must be issued: MissingData";
+
+const UNPAIRED: &str = "3 1893456000 InvalidKeyPair: Certificate must be issued: InvalidKeyPair";
+
+/// The parts of the Secret.
+static SECRETS: [(Case, &str); 7] = [
+    (
+        NONE,
+        "3 1893456000 DoesNotExist: Certificate must be issued: DoesNotExist",
+    ),
+    (
+        Case {
+            parts: Some(("000000", "")),
+            ..NONE
+        },
+        MISSING,
+    ),
+    (
+        Case {
+            parts: Some(("", CERTIFICATE)),
+            ..NONE
+        },
+        MISSING,
+    ),
+    (
+        Case {
+            parts: Some(("000000", CERTIFICATE)),
+            ..NONE
+        },
+        UNPAIRED,
+    ),
+    (
+        Case {
+            parts: Some((OTHER, CERTIFICATE)),
+            ..NONE
+        },
+        UNPAIRED,
+    ),
+    (
+        Case {
+            parts: Some((KEY, "000000")),
+            ..NONE
+        },
+        UNPAIRED,
+    ),
+    (
+        Case {
+            parts: Some((KEY, CERTIFICATE)),
+            ..NONE
+        },
+        "3 1893456000 SecretMismatch: Certificate must be issued: SecretMismatch",
+    ),
+];
+
+/// One difference a row from where all is well.
+static CHECKS: [(Case, &str); 14] = [
+    (WELL, "nothing"),
+    (
+        Case {
+            now: 1_800_932_973,
+            ..WELL
+        },
+        "Renewing",
+    ),
+    (
+        Case {
+            mark: ("cert-manager.io/issuer-name", "other"),
+            ..WELL
+        },
+        "IncorrectIssuer",
+    ),
+    (
+        Case {
+            mark: ("cert-manager.io/issuer-kind", "ClusterIssuer"),
+            ..WELL
+        },
+        "IncorrectIssuer",
+    ),
+    (
+        Case {
+            mark: ("cert-manager.io/issuer-group", "example.com"),
+            ..WELL
+        },
+        "IncorrectIssuer",
+    ),
+    (
+        Case {
+            mark: ("cert-manager.io/certificate-name", "api"),
+            ..WELL
+        },
+        "IncorrectCertificate",
+    ),
+    (
+        Case {
+            mark: ("cert-manager.io/temporary-certificate", "true"),
+            ..WELL
+        },
+        "MissingData",
+    ),
+    (
+        Case {
+            algorithm: None,
+            ..WELL
+        },
+        "SecretMismatch",
+    ),
+    (
+        Case {
+            requests: &[],
+            ..WELL
+        },
+        "SecretMismatch",
+    ),
+    (
+        Case {
+            requests: &[("2", REQUEST)],
+            ..WELL
+        },
+        "SecretMismatch",
+    ),
+    (
+        Case {
+            requests: &[("1", REQUEST), ("1", REQUEST)],
+            ..WELL
+        },
+        "SecretMismatch",
+    ),
+    (
+        Case {
+            requests: &[("1", OTHER_KEY)],
+            ..WELL
+        },
+        "SecretMismatch",
+    ),
+    (
+        Case {
+            requests: &[("1", "3000")],
+            ..WELL
+        },
+        "SecretMismatch",
+    ),
+    (
+        Case {
+            requests: &[("1", OTHER_NAME)],
+            ..WELL
+        },
+        "RequestChanged",
+    ),
+];
+
 #[test]
-fn rows(rt: HostRuntime) -> Result<(), Fail> {
+fn checks(rt: HostRuntime) -> Result<(), Fail> {
     let alloc = rt.alloc();
     is_sound();
-    let absent = "3 1893456000 DoesNotExist: Certificate must be issued: DoesNotExist";
-    let missing = "3 1893456000 MissingData: Certificate must be issued: MissingData";
-    let unpaired = "3 1893456000 InvalidKeyPair: Certificate must be issued: InvalidKeyPair";
-    let unfit = "3 1893456000 SecretMismatch: Certificate must be issued: SecretMismatch";
-    for (parts, told) in [
-        (None, absent),
-        (Some(("000000", "")), missing),
-        (Some(("", CERTIFICATE)), missing),
-        (Some(("000000", CERTIFICATE)), unpaired),
-        (Some((OTHER, CERTIFICATE)), unpaired),
-        (Some((KEY, "000000")), unpaired),
-        (Some((KEY, CERTIFICATE)), unfit),
-    ] {
-        let case = Case { parts, ..NONE };
-        assert_eq!(rt; told_of(alloc, &case)?.as_str(), told);
+    for (case, reason) in &CHECKS {
+        let never_failed = Case {
+            failed: None,
+            ..*case
+        };
+        let told = told_of(alloc, &never_failed)?;
+        assert!(rt; told.as_str().ends_with(reason));
+    }
+    for (case, expected) in &SECRETS {
+        let never_failed = Case {
+            failed: None,
+            ..*case
+        };
+        assert_eq!(rt; told_of(alloc, &never_failed)?.as_str(), *expected);
     }
     Ok(())
 }
@@ -326,126 +479,60 @@ fn times(rt: HostRuntime) -> Result<(), Fail> {
     Ok(())
 }
 
-// One difference a row from where all is well.
-#[test]
-fn checks(rt: HostRuntime) -> Result<(), Fail> {
-    let alloc = rt.alloc();
-    let due = Case {
-        now: 1_800_932_973,
-        ..WELL
-    };
-    let other_issuer = Case {
-        mark: ("cert-manager.io/issuer-name", "other"),
-        ..WELL
-    };
-    let other_kind = Case {
-        mark: ("cert-manager.io/issuer-kind", "ClusterIssuer"),
-        ..WELL
-    };
-    let other_group = Case {
-        mark: ("cert-manager.io/issuer-group", "example.com"),
-        ..WELL
-    };
-    let other_owner = Case {
-        mark: ("cert-manager.io/certificate-name", "api"),
-        ..WELL
-    };
-    let temporary = Case {
-        mark: ("cert-manager.io/temporary-certificate", "true"),
-        ..WELL
-    };
-    let rsa = Case {
-        algorithm: None,
-        ..WELL
-    };
-    let none = Case {
-        requests: &[],
-        ..WELL
-    };
-    let next = Case {
-        requests: &[("2", REQUEST)],
-        ..WELL
-    };
-    let two = Case {
-        requests: &[("1", REQUEST), ("1", REQUEST)],
-        ..WELL
-    };
-    let other_key = Case {
-        requests: &[("1", OTHER_KEY)],
-        ..WELL
-    };
-    let other_name = Case {
-        requests: &[("1", OTHER_NAME)],
-        ..WELL
-    };
-    let unreadable = Case {
-        requests: &[("1", "3000")],
-        ..WELL
-    };
-    for (case, reason) in [
-        (WELL, "nothing"),
-        (due, "Renewing"),
-        (other_issuer, "IncorrectIssuer"),
-        (other_kind, "IncorrectIssuer"),
-        (other_group, "IncorrectIssuer"),
-        (other_owner, "IncorrectCertificate"),
-        (temporary, "MissingData"),
-        (rsa, "SecretMismatch"),
-        (none, "SecretMismatch"),
-        (next, "SecretMismatch"),
-        (two, "SecretMismatch"),
-        (other_key, "SecretMismatch"),
-        (unreadable, "SecretMismatch"),
-        (other_name, "RequestChanged"),
-    ] {
-        let never_failed = Case {
-            failed: None,
-            ..case
-        };
-        let told = told_of(alloc, &never_failed)?;
-        assert!(rt; told.as_str().ends_with(reason));
-    }
-    Ok(())
-}
+/// A first failure a second before the end of back-off: what is done by the next requests that stand.
+static BACK_OFFS: [(Case, &str); 6] = [
+    (TRIED, "nothing"),
+    (
+        Case {
+            requests: &[("2", REQUEST)],
+            ..TRIED
+        },
+        "nothing",
+    ),
+    (
+        Case {
+            requests: &[("1", OTHER_NAME), ("2", OTHER_NAME)],
+            ..TRIED
+        },
+        "DoesNotExist",
+    ),
+    (
+        Case {
+            requests: &[("2", OTHER_NAME), ("2", OTHER_NAME)],
+            ..TRIED
+        },
+        "nothing",
+    ),
+    (
+        Case {
+            requests: &[("1", OTHER_NAME)],
+            ..TRIED
+        },
+        "nothing",
+    ),
+    (
+        Case {
+            requests: &[("3", OTHER_NAME)],
+            ..TRIED
+        },
+        "nothing",
+    ),
+];
 
-// A second before the end of back-off: what is done by the next requests that stand.
+const TRIED: Case = Case {
+    attempts: Some(1),
+    ..NONE
+};
+
 #[test]
 fn back_offs(rt: HostRuntime) -> Result<(), Fail> {
     let alloc = rt.alloc();
-    let failed = Case {
-        failed: Some(1_893_452_401),
-        attempts: Some(1),
-        ..NONE
-    };
-    let same = Case {
-        requests: &[("2", REQUEST)],
-        ..failed
-    };
-    let outrun = Case {
-        requests: &[("1", OTHER_NAME), ("2", OTHER_NAME)],
-        ..failed
-    };
-    let two = Case {
-        requests: &[("2", OTHER_NAME), ("2", OTHER_NAME)],
-        ..failed
-    };
-    let current = Case {
-        requests: &[("1", OTHER_NAME)],
-        ..failed
-    };
-    let behind = Case {
-        requests: &[("3", OTHER_NAME)],
-        ..failed
-    };
-    for (case, reason) in [
-        (failed, "nothing"),
-        (same, "nothing"),
-        (outrun, "DoesNotExist"),
-        (two, "nothing"),
-        (current, "nothing"),
-        (behind, "nothing"),
-    ] {
-        let told = told_of(alloc, &case)?;
+    for (case, reason) in &BACK_OFFS {
+        let failed = Case {
+            failed: Some(1_893_452_401),
+            ..*case
+        };
+        let told = told_of(alloc, &failed)?;
         assert!(rt; told.as_str().ends_with(reason));
     }
     Ok(())
