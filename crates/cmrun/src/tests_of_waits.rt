@@ -5,8 +5,8 @@ use std::alloc::{AllocError, Global};
 use std::process::Abort;
 use std::test::Fail;
 
-/// The scenario of a row: `APPLY` stands for the step that applies the Certificate of the rows, `OTHER` for one whose
-/// issuer is of another group, and `NEVER` for one that keeps the key that stands.
+/// The scenario of a row: `APPLY` stands for the step that applies the Certificate of the rows, and `OTHER` for one whose
+/// issuer is of another group.
 fn scenario(alloc: Global, row: &str) -> Result<String, AllocError> {
     let apply = format!(in alloc; "{{\"do\":\"apply\",\"object\":{WEB}}}")?;
     let other = apply.as_str().replace(
@@ -14,14 +14,8 @@ fn scenario(alloc: Global, row: &str) -> Result<String, AllocError> {
         r#""name":"ca""#,
         r#""group":"example.org","name":"ca""#,
     )?;
-    let never = apply.as_str().replace(
-        alloc,
-        r#""algorithm":"ECDSA""#,
-        r#""algorithm":"ECDSA","rotationPolicy":"Never""#,
-    )?;
     let row = row.replace(alloc, "APPLY", apply.as_str())?;
-    let row = row.as_str().replace(alloc, "OTHER", other.as_str())?;
-    row.as_str().replace(alloc, "NEVER", never.as_str())
+    row.as_str().replace(alloc, "OTHER", other.as_str())
 }
 
 /// The run ends with a Certificate that waits for this.
@@ -74,11 +68,6 @@ fn tells_what_certificates_wait_for(rt: HostRuntime) -> Result<(), Fail> {
         (
             r#"{"script":[OTHER,{"do":"settle"},{"certificate":"default/web","do":"answer","revision":1,"row":{"reply":"issue"}}]}"#,
             "unapproved",
-        ),
-        // The key in the Secret is of another curve, and is never changed.
-        (
-            r#"{"script":[{"do":"apply","object":{"apiVersion":"v1","data":{"tls.key":"MIGkAgEBBDAAAAAAAAAAAAAAAAAAAAAAAAAAAAAAAAAAAAAAAAAAAAAAAAAAAAAAAAAAAAAAAAGgBwYFK4EEACKhZANiAAQAAAAAAAAAAAAAAAAAAAAAAAAAAAAAAAAAAAAAAAAAAAAAAAAAAAAAAAAAAAAAAAEAAAAAAAAAAAAAAAAAAAAAAAAAAAAAAAAAAAAAAAAAAAAAAAAAAAAAAAAAAAAAAAE="},"kind":"Secret","metadata":{"name":"web-tls","namespace":"default"}}},NEVER]}"#,
-            "key",
         ),
         // The Secret is one for next keys.
         (
