@@ -158,7 +158,7 @@ fn scenario(alloc: Global, events: u64) -> Result<Scenario, Fail> {
     last_steps(alloc, &mut steps)?;
     let mut roles = Roles::new(alloc);
     for role in ROLES {
-        roles.push(role)?;
+        roles.add(role)?;
     }
     let mut faults = Numbers::new(alloc);
     faults.push(4)?;
@@ -378,6 +378,14 @@ fn tell(told: Told, pass: u64, order: Order) -> Told {
     }
 }
 
+/// What was told, once a step has answered so.
+fn heard(told: Told, answer: Stepped) -> Told {
+    match answer {
+        Stepped::Order { pass, order } => tell(told, pass, order),
+        _other => told,
+    }
+}
+
 fn wander(
     alloc: Global,
     met: &mut Met,
@@ -401,9 +409,7 @@ fn wander(
             begun = begun.saturating_add(1);
         }
         note(met, &answer);
-        if let Stepped::Order { pass, order } = answer {
-            told = tell(told, pass, order);
-        }
+        told = heard(told, answer);
     }
     note_entries(shown, world.history());
     audit(world.history())
