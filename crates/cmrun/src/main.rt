@@ -53,8 +53,6 @@ fn main(rt: HostRuntime) -> ExitCode {
 #[cfg(test)]
 mod tests;
 #[cfg(test)]
-mod tests_of_rows;
-#[cfg(test)]
 mod tests_of_steps;
 #[cfg(test)]
 mod tests_of_waits;
