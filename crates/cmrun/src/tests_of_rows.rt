@@ -443,22 +443,30 @@ fn has_pieces(text: &str, pieces: &str) -> bool {
     true
 }
 
-/// The line is that of the write: of a user, or of a pass that the role began, and with its pieces.
-fn is_line_of(alloc: Global, written: &str, line: &str, write: &str) -> Result<bool, AllocError> {
-    let Some((role, pieces)) = write.split_once(" ") else {
-        return Ok(false);
-    };
+/// The call on the line is a user's, or one of a pass that the role began.
+fn is_by(alloc: Global, written: &str, line: &str, role: &str) -> Result<bool, AllocError> {
     let Some((_, caller)) = line.rsplit_once(",\"who\":") else {
         return Ok(false);
     };
-    if role == "user" {
-        return Ok(caller == "\"user\"}" && has_pieces(line, pieces));
-    }
     let Some(pass) = caller.strip_suffix("}") else {
         return Ok(false);
     };
+    if role == "user" {
+        return Ok(pass == "\"user\"");
+    }
     let begun = format!(in alloc; "\"pass\":{pass},\"role\":\"{role}\"}}")?;
-    Ok(written.contains(begun.as_str()) && has_pieces(line, pieces))
+    Ok(written.contains(begun.as_str()))
+}
+
+/// The line is that of the write: by who writes, and with its pieces.
+fn is_line_of(alloc: Global, written: &str, line: &str, write: &str) -> Result<bool, AllocError> {
+    match write.split_once(" ") {
+        Some((role, pieces)) => {
+            let is_by = is_by(alloc, written, line, role)?;
+            Ok(is_by && has_pieces(line, pieces))
+        }
+        None => Ok(false),
+    }
 }
 
 /// The accepted writes of the run are these, in order, and there are no others.
