@@ -445,15 +445,15 @@ fn has_pieces(text: &str, pieces: &str) -> bool {
 
 /// The call on the line is a user's, or one of a pass that the role began.
 fn is_by(alloc: Global, written: &str, line: &str, role: &str) -> Result<bool, AllocError> {
+    if role == "user" {
+        return Ok(line.ends_with(",\"who\":\"user\"}"));
+    }
     let Some((_, caller)) = line.rsplit_once(",\"who\":") else {
         return Ok(false);
     };
     let Some(pass) = caller.strip_suffix("}") else {
         return Ok(false);
     };
-    if role == "user" {
-        return Ok(pass == "\"user\"");
-    }
     let begun = format!(in alloc; "\"pass\":{pass},\"role\":\"{role}\"}}")?;
     Ok(written.contains(begun.as_str()))
 }
