@@ -7,7 +7,7 @@ use Rattle.cmc_objects.specs.declared.role.Role.{Role}
 use Rattle.cmc_objects.specs.declared.role.Role.TheVariants.{Trigger, KeyManager, RequestManager, Approver, Issuer, Issuing, Readiness, Revision}
 use Rattle.cmc_objects.specs.declared.entry.Entry.{Entry}
 use Rattle.cmc_model.specs.Histories.{Setting, runs}
-use Rattle.cmc_rules.specs.Positions.{has_informer}
+use Rattle.cmc_objects.specs.Watching.{has_informer}
 use Rattle.cmc_rules.specs.Scripting.{held}
 use Rattle.cmc_rules.specs.Runs.{IsFinished}
 use Rattle.cmc_world.specs.declared.moves.Stepped.{Stepped}

@@ -15,7 +15,7 @@ use Rattle.cmc_objects.specs.declared.entry.Step.{Step}
 use Rattle.cmc_objects.specs.declared.entry.Step.TheVariants as steps
 use Rattle.cmc_model.specs.Histories.{Setting, runs}
 use Rattle.cmc_model.specs.Writes.{writes, is_known, kind_eq}
-use Rattle.cmc_rules.specs.Positions.{kind_of_work}
+use Rattle.cmc_objects.specs.Watching.{kind_of_work}
 use Rattle.cmc_rules.specs.Legality.{IsLegal, IsOpen}
 use Rattle.cmc_rules.specs.Resting.{RestsOn, IsAtRest}
 use Rattle.cmc_rules.specs.Scripting.{scripted, step_at, has_held}

@@ -5,7 +5,7 @@ ghost use Rattle.cmc_meta.specs.declared.key.Key.{Key as KeyValue};
 ghost use Rattle.cmc_meta.specs.Keys.{key_cmp};
 ghost use Rattle.cmc_objects.specs.declared.role.Role.{Role as RoleValue};
 ghost use Rattle.cmc_rules.specs.Following.{IsReady};
-ghost use Rattle.cmc_rules.specs.Positions.{kind_of_work};
+ghost use Rattle.cmc_objects.specs.Watching.{kind_of_work};
 ghost use Rattle.cmc_rules.specs.Resting.{IsAtRest};
 ghost use Rattle.cmc_rules.specs.Runs.{IsFinished};
 ghost use Rattle.cmc_world.specs.Kept.{setting_of};

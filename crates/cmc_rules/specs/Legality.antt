@@ -13,7 +13,8 @@ use Rattle.cmc_rules.specs.declared.progress.OpenPass.{OpenPass}
 use Rattle.cmc_model.specs.Replies.{IsReply}
 use Rattle.cmc_model.specs.Histories.{Setting, moment, state, accepted, runs}
 use Rattle.cmc_model.specs.Writes.{writes, write_at, is_known}
-use Rattle.cmc_rules.specs.Positions.{has_informer, kind_of_work, position, positions}
+use Rattle.cmc_objects.specs.Watching.{has_informer, kind_of_work}
+use Rattle.cmc_rules.specs.Positions.{position, positions}
 use Rattle.cmc_rules.specs.Passes.{open_pass, begun, IsWorking}
 
 abbrev pub IsOfKind : Kind → Option Write → Type 0

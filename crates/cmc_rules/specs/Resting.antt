@@ -10,7 +10,8 @@ use Rattle.cmc_rules.specs.Acts.{act}
 use Rattle.cmc_rules.specs.Desks.{desk}
 use Rattle.cmc_model.specs.Histories.{Setting, moment, runs}
 use Rattle.cmc_model.specs.Writes.{writes, last_of_kind, is_known}
-use Rattle.cmc_rules.specs.Positions.{has_informer, position, positions}
+use Rattle.cmc_objects.specs.Watching.{has_informer}
+use Rattle.cmc_rules.specs.Positions.{position, positions}
 use Rattle.cmc_rules.specs.Viewing.{views, present_views}
 use Rattle.cmc_rules.specs.Passes.{open_pass}
 use Rattle.cmc_rules.specs.Memory.{past}

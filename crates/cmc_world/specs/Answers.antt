@@ -29,7 +29,8 @@ use Rattle.cmc_rules.specs.declared.progress.Stage.{Stage}
 use Rattle.cmc_rules.specs.declared.progress.Stage.TheVariants.{Fresh, Asked}
 use Rattle.cmc_model.specs.Histories.{Setting, moment, accepted, runs, incarnation}
 use Rattle.cmc_model.specs.Writes.{writes, write_at, last_of_kind, is_known}
-use Rattle.cmc_rules.specs.Positions.{has_informer, kind_of_work, position, positions}
+use Rattle.cmc_objects.specs.Watching.{has_informer, kind_of_work}
+use Rattle.cmc_rules.specs.Positions.{position, positions}
 use Rattle.cmc_rules.specs.Viewing.{views}
 use Rattle.cmc_rules.specs.Passes.{open_pass, begun, IsWorking}
 use Rattle.cmc_rules.specs.Origins.{origins, origin_at}
