@@ -234,8 +234,7 @@ rests s h role key run shut no_delivery no_begin running known =
 at_rest : (s : Setting) (h : List Entry) → IsRun s h → ((n : ℕ) → open_pass s h n ≡ None) → HasNoDelivery s h → ((r : Role) (k : Key) → Fits s h r k → ⊥) → IsAtRest s h
 at_rest s h run shut no_delivery no_begin = record {
   closed = shut;
-  told = told s h no_delivery;
-  idle = λ role key running known. rests s h role key run shut no_delivery no_begin running known;
+  rests = λ role running. (λ kind. told s h no_delivery role kind running, λ key known. rests s h role key run shut no_delivery no_begin running known);
 }
 
 -- ---- all steps are made

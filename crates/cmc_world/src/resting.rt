@@ -20,7 +20,8 @@ ghost use Rattle.cmc_model.specs.Writes.{writes};
 ghost use Rattle.cmc_held.specs.Remembered.{past_or_new};
 ghost use Rattle.cmc_world.specs.Answers.{AnswersScript, entries_of};
 ghost use Rattle.cmc_world.specs.Kept.{setting_of};
-ghost use Rattle.cmc_world.specs.Rest.{IsToldAll, EachKind, RestsIn};
+ghost use Rattle.cmc_world.specs.Rest.{EachKind};
+ghost use Rattle.cmc_rules.specs.Resting.{IsToldAll, RestsIn};
 
 use crate::acts::act_of;
 use crate::moves::{Lack, Stepped, answer_script};
