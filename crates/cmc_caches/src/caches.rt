@@ -20,6 +20,7 @@ use std::marker::Model;
 /// What each of the eight roles was told of. Contracts see it in the order of roles.
 #[derive(Drop)]
 pub struct Caches {
+    /// The caches of the eight roles, in the order of roles.
     rows: Vec<RoleCaches>,
 }
 
