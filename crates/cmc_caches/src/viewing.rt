@@ -2,7 +2,7 @@
 ghost use Rattle.std.specs.List.{list_any};
 ghost use Rattle.std.specs.Prelude.{◌≡◌, ◌==◌, ◌&&◌, ◌++◌, Some, None, [], IfOk, OnOk, OnErr, codes, option_to_list, option_and_then, filter_map, if◌then◌else◌};
 ghost use Rattle.cmc_model.specs.Objects.{Objects, object_at};
-ghost use Rattle.cmc_rules.specs.Positions as tables;
+ghost use Rattle.cmc_objects.specs.Watching as tables;
 ghost use Rattle.cmc_rules.specs.Viewing as seen;
 
 use cmc_informer::Cache;

@@ -5,7 +5,7 @@ ghost use Rattle.cmc_rules.specs.Sameness as sameness;
 ghost use Rattle.cmc_held.specs.Remembered.{past_or_new};
 ghost use Rattle.cmc_rules.specs.Passes.{new_pass};
 ghost use Rattle.cmc_rules.specs.Sameness.{IsSame};
-ghost use Rattle.cmc_rules.specs.Positions as spec;
+ghost use Rattle.cmc_objects.specs.Watching as spec;
 ghost use Rattle.cmc_model.specs.Writes.{is_known};
 ghost use Rattle.cmc_world.specs.Answers.{AnswersBegin, Leaves, beginning};
 ghost use Rattle.cmc_world.specs.Kept.{setting_of};
