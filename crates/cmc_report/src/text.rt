@@ -17,9 +17,11 @@ use std::alloc::{AllocError, Global};
 fn push_entries(lines: &mut Lines, alloc: Global, entries: &[Entry]) -> Result<(), AllocError>
     ensures { OnOk result (lines.new ≡ lines.old ++ entry_lines (reverse entries.now)) }
 {
+    let mut scratch = String::new(alloc);
     for (place, entry) in entries.iter().enumerate() {
-        let line = entry_line(alloc, place as u64 + 1, entry)?;
+        let (line, room) = entry_line(alloc, scratch, place as u64 + 1, entry)?;
         lines.push(line)?;
+        scratch = room;
     }
     Ok(())
 }
