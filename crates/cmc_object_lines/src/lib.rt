@@ -4,7 +4,6 @@
 mod objects;
 mod others;
 mod rows;
-mod words;
 
 pub use others::write_object;
 pub use rows::{bytes_row, moment_row, some_bytes_row};

@@ -13,12 +13,12 @@ use crate::rows::{
     count_option_row, duration_row, moment_option_row, moment_row, pairs_row,
     small_count_option_row, some_text_row, text_option_row, texts_row, true_row,
 };
-use crate::words::{
-    algorithm_word, condition_word, encoding_word, kind_word, rotation_word, tri_word, uid_word,
-};
 use cmc_meta::{Condition, Name, ObjectMeta, OwnerRef};
 use cmc_objects::{
     Algorithm, CertSpec, CertStatus, Certificate, Encoding, IssuerRef, KeySpec, Rotation,
+};
+use cmc_print::{
+    algorithm_word, condition_word, encoding_word, kind_word, rotation_word, tri_word, uid_word,
 };
 use cmc_writer::Printer;
 use std::alloc::{AllocError, Global};

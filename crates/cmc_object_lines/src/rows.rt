@@ -12,9 +12,9 @@ ghost use Rattle.cmc_print.specs.Trees.{natural};
 ghost use Rattle.cmc_writer.specs.Adding.{with_value, with_values, with_row, with_rows};
 ghost use Rattle.cmc_writer.specs.Rows.{list_row, true_row};
 
-use crate::words::moment_word;
 use base64::engine::general_purpose::STANDARD;
 use cmc_meta::{Bytes, Text};
+use cmc_print::moment_word;
 use cmc_time::print_duration;
 use cmc_writer::Printer;
 use std::alloc::{AllocError, Global};
