@@ -1,5 +1,5 @@
 // The entries of a history as lines.
-ghost use Rattle.std.specs.Prelude.{◌≡◌, codes, Some, IfOk, OnOk, string_bytes};
+ghost use Rattle.std.specs.Prelude.{◌≡◌, [], codes, Some, IfOk, OnOk, string_bytes};
 ghost use Rattle.serde_json.specs.Data.{string};
 ghost use Rattle.cmc_objects.specs.declared.entry.Entry.TheVariants as entries;
 ghost use Rattle.cmc_print.specs.Trees.{line_of};
@@ -357,17 +357,18 @@ fn write_entry(
     }
 }
 
-/// The line of the entry of that number, and the room for the next.
+/// The line of the entry of that number, and the printer for the next.
 #[tactic(auto, using(crate::proofs::CallLaws::line_written))]
 pub fn entry_line(
     alloc: Global,
-    scratch: String,
+    mut printer: Printer,
     number: u64,
     entry: &Entry,
-) -> Result<(String, String), AllocError>
-    ensures { IfOk result (λ r. string_bytes r.0 ≡ line_of (entry_tree number entry.now)) }
+) -> Result<(String, Printer), AllocError>
+    requires { printer ≡ [] }
+    ensures line { IfOk result (λ r. string_bytes r.0 ≡ line_of (entry_tree number entry.now)) }
+    ensures empty { IfOk result (λ r. r.1 ≡ []) }
 {
-    let mut printer = Printer::new(Vec::new(alloc), scratch);
     write_entry(&mut printer, alloc, number, entry)?;
-    printer.into_line()
+    printer.into_line(alloc)
 }

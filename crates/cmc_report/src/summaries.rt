@@ -22,7 +22,8 @@ pub fn scenario_line(alloc: Global, scenario: &Value) -> Result<String, AllocErr
     ensures { IfOk result (λ s. string_bytes s ≡ line_of (scenario_tree (view scenario.now))) }
 {
     let text = scenario.to_string(alloc)?;
-    let mut line = String::from_str(alloc, "{\"scenario\":")?;
+    let mut line = String::with_capacity(alloc, text.len() + 14)?;
+    line.push_str("{\"scenario\":")?;
     line.push_str(text.as_str())?;
     line.push_str("}\n")?;
     Ok(line)
@@ -117,8 +118,8 @@ fn write_summary(printer: &mut Printer, summary: &Summary) -> Result<(), AllocEr
 pub fn summary_line(alloc: Global, summary: &Summary) -> Result<String, AllocError>
     ensures { IfOk result (λ s. string_bytes s ≡ line_of (summary_tree summary.now)) }
 {
-    let mut printer = Printer::new(Vec::new(alloc), String::new(alloc));
+    let mut printer = Printer::new(alloc);
     write_summary(&mut printer, summary)?;
-    let (line, _scratch) = printer.into_line()?;
+    let (line, _printer) = printer.into_line(alloc)?;
     Ok(line)
 }

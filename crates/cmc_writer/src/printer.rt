@@ -32,26 +32,31 @@ impl Model for Printer {
 }
 
 impl Printer {
-    /// Nothing is written. The memory of the buffer is used again.
-    pub fn new(mut buffer: Vec<u8>, scratch: String) -> Printer
+    /// Nothing is written. It takes no memory.
+    pub fn new(alloc: Global) -> Printer
         ensures { result ≡ [] }
     {
-        buffer.clear();
         Printer {
-            writer: Writer::new(buffer),
-            scratch,
+            writer: Writer::new(Vec::new(alloc)),
+            scratch: String::new(alloc),
         }
     }
 
-    /// The text as one line, and the room for the next.
-    pub fn into_line(self) -> Result<(String, String), AllocError>
-        ensures { IfOk result (λ r. string_bytes r.0 ≡ print self ++ 10 ∷ []) }
+    /// The text as one line, which takes no more memory than it needs, and the printer with nothing
+    /// written, whose memory the next line is written in.
+    pub fn into_line(self, alloc: Global) -> Result<(String, Printer), AllocError>
+        ensures line { IfOk result (λ r. string_bytes r.0 ≡ print self ++ 10 ∷ []) }
+        ensures empty { IfOk result (λ r. r.1 ≡ []) }
     {
         let Printer { writer, scratch } = self;
-        let bytes = writer.into_inner();
-        let mut line = unsafe { String::from_utf8_unchecked(bytes) };
+        let text = unsafe { String::from_utf8_unchecked(writer.into_inner()) };
+        let mut line = String::with_capacity(alloc, text.len() + 1)?;
+        line.push_str(text.as_str())?;
         line.push_str("\n")?;
-        Ok((line, scratch))
+        let mut buffer = text.into_bytes();
+        buffer.clear();
+        let writer = Writer::new(buffer);
+        Ok((line, Printer { writer, scratch }))
     }
 
     /// An object begins.
