@@ -1,4 +1,4 @@
-use Rattle.std.proofs.Common.{◌≡◌, ◌×◌, [], ◌++◌, take, reverse}
+use Rattle.std.proofs.Common.{◌≡◌, [], ◌++◌, take, reverse}
 use Rattle.cmc_report.specs.Text.{entry_lines}
 use Rattle.cmc_report.proofs.text.push_entries.Given as goal
 
