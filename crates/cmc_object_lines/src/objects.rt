@@ -75,9 +75,8 @@ fn add_meta(printer: &mut Printer, alloc: Global, meta: &ObjectMeta) -> Result<(
     owners_row(printer, alloc, meta.owners.as_slice())
 }
 
-/// The metadata of an object.
 #[tactic(auto, using(crate::proofs::Laws::meta_written))]
-pub fn write_meta(printer: &mut Printer, alloc: Global, meta: &ObjectMeta) -> Result<(), AllocError>
+fn write_meta(printer: &mut Printer, alloc: Global, meta: &ObjectMeta) -> Result<(), AllocError>
     ensures { OnOk result (printer.new ≡ with_value printer.old (meta_tree meta.now)) }
 {
     printer.begin_object()?;
@@ -193,9 +192,8 @@ fn add_last(printer: &mut Printer, spec: &CertSpec) -> Result<(), AllocError>
     texts_row(printer, "usages", spec.usages.as_slice())
 }
 
-/// The spec of a Certificate.
 #[tactic(auto, using(crate::proofs::Laws::spec_written))]
-pub fn write_spec(printer: &mut Printer, alloc: Global, spec: &CertSpec) -> Result<(), AllocError>
+fn write_spec(printer: &mut Printer, alloc: Global, spec: &CertSpec) -> Result<(), AllocError>
     ensures { OnOk result (printer.new ≡ with_value printer.old (spec_tree spec.now)) }
 {
     printer.begin_object()?;
