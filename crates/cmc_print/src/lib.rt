@@ -13,8 +13,11 @@ mod words;
 
 pub use printing::{applied_tree, tree_of, value_of};
 pub use puts::{
-    put_bytes, put_count, put_count_option, put_duration, put_flag, put_if_true, put_members,
+    put_bytes, put_count, put_count_option, put_duration, put_if_true, put_members,
     put_small_count_option, put_some_bytes, put_text, put_texts, put_time, texts_tree,
 };
 pub use tree::{Members, Tree, Trees};
-pub use words::{key_word, kind_word, name_word, role_word};
+pub use words::{
+    algorithm_word, condition_word, encoding_word, key_word, kind_word, moment_word, name_word,
+    role_word, rotation_word, tri_word, uid_word,
+};

@@ -270,19 +270,6 @@ pub fn put_parts(
     members.put(alloc, name, tree)
 }
 
-/// Puts a flag, true or false.
-pub fn put_flag(
-    members: &mut Members,
-    alloc: Global,
-    name: &str,
-    flag: bool,
-) -> Result<(), AllocError>
-    ensures ok { OnOk result (members_of members.new ≡ put name.now (boolean flag) (members_of members.old)) }
-    ensures err { OnErr result (members_of members.new ≡ members_of members.old) }
-{
-    members.put(alloc, name, Tree::flag(flag))
-}
-
 /// Puts a moment, in seconds since 1970-01-01T00:00:00Z.
 pub fn put_time(members: &mut Members, alloc: Global, name: &str, at: i64) -> Result<(), AllocError>
     ensures ok { OnOk result (members_of members.new ≡ put name.now (moment_tree at) (members_of members.old)) }

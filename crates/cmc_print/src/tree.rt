@@ -78,16 +78,6 @@ impl Tree {
         }
     }
 
-    /// A copy of a value in which no number is a float.
-    pub fn copy_of(value: &Value) -> Result<Tree, AllocError>
-        requires { has_float (view value.now) ≡ false }
-        ensures { IfOk result (λ t. data_of t ≡ view value.now) }
-    {
-        Ok(Tree {
-            value: value.clone()?,
-        })
-    }
-
     /// The JSON value.
     pub fn into_value(self) -> Value
         ensures value { view result ≡ data_of self }

@@ -1,1 +1,5 @@
-pub mod Joining
+mod Joining
+pub mod CallLaws
+mod OrderLaws
+mod EntryLaws
+mod SummaryLaws

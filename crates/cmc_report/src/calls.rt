@@ -1,73 +1,155 @@
-// Calls and replies as JSON.
-ghost use Rattle.std.specs.Prelude.{◌≡◌, ◌++◌, codes, IfOk, OnOk, string_bytes};
-ghost use Rattle.serde_json.specs.Data.{object, put};
-ghost use Rattle.cmc_objects.specs.Objects.{key_of, name_of};
+// Calls and replies, written.
+ghost use Rattle.std.specs.Prelude.{◌≡◌, codes, Some, OnOk};
+ghost use Rattle.serde_json.specs.Data.{string, object, put, no_members};
+ghost use Rattle.cmc_objects.specs.Objects.{key_of};
+ghost use Rattle.cmc_objects.specs.declared.entry.Entry.TheVariants.{Call as Called};
+ghost use Rattle.cmc_print.specs.Trees.{natural};
 ghost use Rattle.cmc_print.specs.Printed.{object_tree};
-ghost use Rattle.cmc_print.specs.Trees.{data_of, members_of};
 ghost use Rattle.cmc_print.specs.Words.{key_text};
-ghost use Rattle.cmc_report.specs.Trees as spec;
-ghost use Rattle.cmc_report.specs.Trees.{lone, ok_members, conflict_tree, reply_tree, who_tree, call_name, put_written, put_version, put_call};
+ghost use Rattle.cmc_report.specs.Trees.{lone, ok_members, conflict_tree, reply_tree, who_tree, call_key, call_name, entry_tree};
+ghost use Rattle.cmc_report.specs.Rows as spec;
+ghost use Rattle.cmc_report.specs.Rows.{ok_rows, call_head, call_tail};
+ghost use Rattle.cmc_writer.specs.Adding.{with_value, with_row, with_rows};
 
 use cmc_meta::{Key, Name};
+use cmc_object_lines::write_object;
 use cmc_objects::{Call, Object, Reply, Who};
-use cmc_print::{Members, Tree, key_word, put_count, put_text, tree_of};
+use cmc_print::kind_word;
+use cmc_writer::Printer;
 use std::alloc::{AllocError, Global};
 
-fn lone_number(alloc: Global, name: &str, number: u64) -> Result<Tree, AllocError>
-    ensures { IfOk result (λ t. data_of t ≡ lone name.now number) }
+fn write_key(printer: &mut Printer, key: &Key) -> Result<(), AllocError>
+    ensures { OnOk result (printer.new ≡ with_value printer.old (string (key_text key.now))) }
 {
-    let mut members = Members::new(alloc);
-    put_count(&mut members, alloc, name, number)?;
-    Ok(Tree::object(members))
+    printer.triple(
+        kind_word(key.kind),
+        key.namespace.as_str(),
+        key.name.as_str(),
+    )
 }
 
-#[tactic(auto, unfolding(crate::specs::Trees::conflict_tree))]
-fn conflict(alloc: Global, named: u64, have: u64) -> Result<Tree, AllocError>
-    ensures { IfOk result (λ t. data_of t ≡ conflict_tree named have) }
+fn write_object_key(printer: &mut Printer, object: &Object) -> Result<(), AllocError>
+    ensures { OnOk result (printer.new ≡ with_value printer.old (string (key_text (key_of object.now)))) }
 {
-    let mut inner = Members::new(alloc);
-    put_count(&mut inner, alloc, "have", have)?;
-    put_count(&mut inner, alloc, "named", named)?;
-    let mut members = Members::new(alloc);
-    members.put(alloc, "conflict", Tree::object(inner))?;
-    Ok(Tree::object(members))
+    let meta = object.meta();
+    printer.triple(
+        kind_word(object.kind()),
+        meta.namespace.as_str(),
+        meta.name.as_str(),
+    )
 }
 
-fn accepted(alloc: Global, call: &Call, version: u64, name: &Name) -> Result<Tree, AllocError>
-    ensures { IfOk result (λ t. data_of t ≡ object (ok_members call.now version name.now)) }
+fn write_call_key(printer: &mut Printer, call: &Call) -> Result<(), AllocError>
+    ensures { OnOk result (printer.new ≡ with_value printer.old (string (call_key call.now))) }
 {
-    let mut members = Members::new(alloc);
-    put_count(&mut members, alloc, "ok", version)?;
-    if let Call::Create { .. } = call {
-        put_text(&mut members, alloc, "name", name.as_str())?;
-        return Ok(Tree::object(members));
+    match call {
+        Call::Create {
+            object,
+            generate: false,
+        } => write_object_key(printer, object),
+        Call::Create {
+            object,
+            generate: true,
+        } => printer.ended(object.meta().name.as_str(), "-"),
+        Call::Update { object, .. } => write_object_key(printer, object),
+        Call::UpdateStatus { object, .. } => write_object_key(printer, object),
+        Call::Delete { key, .. } => write_key(printer, key),
+        Call::Get { key } => write_key(printer, key),
     }
-    Ok(Tree::object(members))
+}
+
+#[tactic(auto, using(cmc_writer::proofs::Written::member_written))]
+fn key_row(printer: &mut Printer, call: &Call) -> Result<(), AllocError>
+    ensures { OnOk result (printer.new ≡ with_row printer.old (codes "key") (Some (string (call_key call.now)))) }
+{
+    printer.name("key")?;
+    write_call_key(printer, call)
+}
+
+/// An object with one number.
+#[tactic(auto, using(crate::proofs::CallLaws::lone_written))]
+pub fn write_lone(printer: &mut Printer, name: &str, number: u64) -> Result<(), AllocError>
+    ensures { OnOk result (printer.new ≡ with_value printer.old (lone name.now number)) }
+{
+    printer.begin_object()?;
+    printer.count_row(name, number)?;
+    printer.end_object()
+}
+
+#[tactic(auto, using(crate::proofs::CallLaws::conflict_written))]
+fn write_versions(printer: &mut Printer, named: u64, have: u64) -> Result<(), AllocError>
+    ensures { OnOk result (printer.new ≡ with_value printer.old (object (put (codes "named") (natural named) (put (codes "have") (natural have) no_members)))) }
+{
+    printer.begin_object()?;
+    printer.count_row("have", have)?;
+    printer.count_row("named", named)?;
+    printer.end_object()
+}
+
+#[tactic(auto, using(cmc_writer::proofs::Written::member_written))]
+fn conflict_row(printer: &mut Printer, named: u64, have: u64) -> Result<(), AllocError>
+    ensures { OnOk result (printer.new ≡ with_row printer.old (codes "conflict") (Some (object (put (codes "named") (natural named) (put (codes "have") (natural have) no_members))))) }
+{
+    printer.name("conflict")?;
+    write_versions(printer, named, have)
+}
+
+#[tactic(auto, using(crate::proofs::CallLaws::conflict_around))]
+fn write_conflict(printer: &mut Printer, named: u64, have: u64) -> Result<(), AllocError>
+    ensures { OnOk result (printer.new ≡ with_value printer.old (conflict_tree named have)) }
+{
+    printer.begin_object()?;
+    conflict_row(printer, named, have)?;
+    printer.end_object()
+}
+
+#[tactic(auto, unfolding(cmc_writer::specs::Adding::with_row))]
+fn name_row(printer: &mut Printer, call: &Call, name: &Name) -> Result<(), AllocError>
+    ensures { OnOk result (printer.new ≡ with_row printer.old (codes "name") (spec.name_row call.now name.now)) }
+{
+    match call {
+        Call::Create { .. } => printer.text_row("name", name.as_str()),
+        _ => Ok(()),
+    }
+}
+
+#[tactic(auto, using(crate::proofs::CallLaws::ok_written))]
+fn write_accepted(
+    printer: &mut Printer,
+    call: &Call,
+    version: u64,
+    name: &Name,
+) -> Result<(), AllocError>
+    ensures { OnOk result (printer.new ≡ with_value printer.old (object (ok_members call.now version name.now))) }
+{
+    printer.begin_object()?;
+    name_row(printer, call, name)?;
+    printer.count_row("ok", version)?;
+    printer.end_object()
 }
 
 #[tactic(auto, unfolding(crate::specs::Trees::reply_tree))]
-fn reply_of(alloc: Global, call: &Call, reply: &Reply) -> Result<Tree, AllocError>
-    ensures { IfOk result (λ t. data_of t ≡ reply_tree call.now reply.now) }
+fn write_reply(printer: &mut Printer, call: &Call, reply: &Reply) -> Result<(), AllocError>
+    ensures { OnOk result (printer.new ≡ with_value printer.old (reply_tree call.now reply.now)) }
 {
     match reply {
-        Reply::Ok { version, name } => accepted(alloc, call, *version, name),
-        Reply::Unchanged { version } => lone_number(alloc, "unchanged", *version),
-        Reply::Found { object } => lone_number(alloc, "found", object.meta().version),
-        Reply::Conflict { named, have } => conflict(alloc, *named, *have),
-        Reply::NotFound { at } => lone_number(alloc, "notFound", *at),
-        Reply::AlreadyExists { have } => lone_number(alloc, "alreadyExists", *have),
-        Reply::Invalid { rule } => lone_number(alloc, "invalid", *rule as u64),
-        Reply::Unavailable { number } => lone_number(alloc, "unavailable", *number),
+        Reply::Ok { version, name } => write_accepted(printer, call, *version, name),
+        Reply::Unchanged { version } => write_lone(printer, "unchanged", *version),
+        Reply::Found { object } => write_lone(printer, "found", object.meta().version),
+        Reply::Conflict { named, have } => write_conflict(printer, *named, *have),
+        Reply::NotFound { at } => write_lone(printer, "notFound", *at),
+        Reply::AlreadyExists { have } => write_lone(printer, "alreadyExists", *have),
+        Reply::Invalid { rule } => write_lone(printer, "invalid", *rule as u64),
+        Reply::Unavailable { number } => write_lone(printer, "unavailable", *number),
     }
 }
 
-fn caller(alloc: Global, who: Who) -> Result<Tree, AllocError>
-    ensures { IfOk result (λ t. data_of t ≡ who_tree who) }
+#[tactic(auto, using(cmc_writer::proofs::Written::member_written))]
+fn reply_row(printer: &mut Printer, call: &Call, reply: &Reply) -> Result<(), AllocError>
+    ensures { OnOk result (printer.new ≡ with_row printer.old (codes "reply") (Some (reply_tree call.now reply.now))) }
 {
-    match who {
-        Who::User => Tree::text(alloc, "user"),
-        Who::Pass(number) => Ok(Tree::count(number)),
-    }
+    printer.name("reply")?;
+    write_reply(printer, call, reply)
 }
 
 fn verb(call: &Call) -> &'static str
@@ -89,94 +171,91 @@ fn verb(call: &Call) -> &'static str
     }
 }
 
-fn object_key(alloc: Global, object: &Object) -> Result<String, AllocError>
-    ensures { IfOk result (λ s. string_bytes s ≡ key_text (key_of object.now)) }
+#[tactic(auto, using(cmc_writer::proofs::Written::member_written))]
+fn object_row(printer: &mut Printer, alloc: Global, object: &Object) -> Result<(), AllocError>
+    ensures { OnOk result (printer.new ≡ with_row printer.old (codes "object") (Some (object_tree object.now))) }
 {
-    let key = object.key()?;
-    key_word(alloc, &key)
+    printer.name("object")?;
+    write_object(printer, alloc, object)
 }
 
-fn prefix_word(alloc: Global, object: &Object) -> Result<String, AllocError>
-    ensures { IfOk result (λ s. string_bytes s ≡ name_of object.now ++ codes "-") }
-{
-    let mut word = String::from_str(alloc, object.meta().name.as_str())?;
-    word.push_str("-")?;
-    Ok(word)
-}
-
-fn call_key(alloc: Global, call: &Call) -> Result<String, AllocError>
-    ensures { IfOk result (λ s. string_bytes s ≡ spec.call_key call.now) }
-{
-    match call {
-        Call::Create {
-            object,
-            generate: false,
-        } => object_key(alloc, object),
-        Call::Create {
-            object,
-            generate: true,
-        } => prefix_word(alloc, object),
-        Call::Update { object, .. } => object_key(alloc, object),
-        Call::UpdateStatus { object, .. } => object_key(alloc, object),
-        Call::Delete { key, .. } => key_word(alloc, key),
-        Call::Get { key } => key_word(alloc, key),
-    }
-}
-
-fn add_object(members: &mut Members, alloc: Global, object: &Object) -> Result<(), AllocError>
-    ensures { OnOk result (members_of members.new ≡ put (codes "object") (object_tree object.now) (members_of members.old)) }
-{
-    let tree = tree_of(alloc, object)?;
-    members.put(alloc, "object", tree)
-}
-
-fn add_written(members: &mut Members, alloc: Global, call: &Call) -> Result<(), AllocError>
-    ensures { OnOk result (members_of members.new ≡ put_written call.now (members_of members.old)) }
+#[tactic(auto, unfolding(cmc_writer::specs::Adding::with_row))]
+fn written_row(printer: &mut Printer, alloc: Global, call: &Call) -> Result<(), AllocError>
+    ensures { OnOk result (printer.new ≡ with_row printer.old (codes "object") (spec.written_row call.now)) }
 {
     match call {
         Call::Create {
             object,
             generate: _,
-        } => add_object(members, alloc, object),
-        Call::Update { object, .. } => add_object(members, alloc, object),
-        Call::UpdateStatus { object, .. } => add_object(members, alloc, object),
+        } => object_row(printer, alloc, object),
+        Call::Update { object, .. } => object_row(printer, alloc, object),
+        Call::UpdateStatus { object, .. } => object_row(printer, alloc, object),
         Call::Delete { .. } | Call::Get { .. } => Ok(()),
     }
 }
 
-fn add_version(members: &mut Members, alloc: Global, call: &Call) -> Result<(), AllocError>
-    ensures { OnOk result (members_of members.new ≡ put_version call.now (members_of members.old)) }
+#[tactic(auto, unfolding(cmc_writer::specs::Adding::with_row))]
+fn version_row(printer: &mut Printer, call: &Call) -> Result<(), AllocError>
+    ensures { OnOk result (printer.new ≡ with_row printer.old (codes "version") (spec.version_row call.now)) }
 {
     match call {
-        Call::Update { version, .. } => put_count(members, alloc, "version", *version),
-        Call::UpdateStatus { version, .. } => put_count(members, alloc, "version", *version),
+        Call::Update { version, .. } => printer.count_row("version", *version),
+        Call::UpdateStatus { version, .. } => printer.count_row("version", *version),
         Call::Delete {
             version: Some(version),
             ..
-        } => put_count(members, alloc, "version", *version),
+        } => printer.count_row("version", *version),
         _ => Ok(()),
     }
 }
 
-/// Puts what the entry of a call has beside its number.
-#[tactic(auto, unfolding(crate::specs::Trees::put_call))]
-pub fn add_call(
-    members: &mut Members,
+fn who_row(printer: &mut Printer, who: Who) -> Result<(), AllocError>
+    ensures { OnOk result (printer.new ≡ with_row printer.old (codes "who") (Some (who_tree who))) }
+{
+    match who {
+        Who::User => printer.text_row("who", "user"),
+        Who::Pass(number) => printer.count_row("who", number),
+    }
+}
+
+fn add_head(printer: &mut Printer, number: u64, call: &Call) -> Result<(), AllocError>
+    ensures { OnOk result (printer.new ≡ with_rows printer.old (call_head number call.now)) }
+{
+    printer.text_row("call", verb(call))?;
+    printer.text_row("is", "call")?;
+    key_row(printer, call)?;
+    printer.count_row("n", number)
+}
+
+fn add_tail(
+    printer: &mut Printer,
     alloc: Global,
     who: Who,
     call: &Call,
     reply: &Reply,
 ) -> Result<(), AllocError>
-    ensures { OnOk result (members_of members.new ≡ put_call who call.now reply.now (members_of members.old)) }
+    ensures { OnOk result (printer.new ≡ with_rows printer.old (call_tail who call.now reply.now)) }
 {
-    put_text(members, alloc, "is", "call")?;
-    put_text(members, alloc, "call", verb(call))?;
-    let key = call_key(alloc, call)?;
-    put_text(members, alloc, "key", key.as_str())?;
-    add_written(members, alloc, call)?;
-    let reply = reply_of(alloc, call, reply)?;
-    members.put(alloc, "reply", reply)?;
-    add_version(members, alloc, call)?;
-    let who = caller(alloc, who)?;
-    members.put(alloc, "who", who)
+    written_row(printer, alloc, call)?;
+    reply_row(printer, call, reply)?;
+    version_row(printer, call)?;
+    who_row(printer, who)
+}
+
+/// The entry of a call.
+#[tactic(auto, using(crate::proofs::CallLaws::call_written))]
+pub fn write_call(
+    printer: &mut Printer,
+    alloc: Global,
+    number: u64,
+    who: Who,
+    call: &Call,
+    reply: &Reply,
+) -> Result<(), AllocError>
+    ensures { OnOk result (printer.new ≡ with_value printer.old (entry_tree number (Called who call.now reply.now))) }
+{
+    printer.begin_object()?;
+    add_head(printer, number, call)?;
+    add_tail(printer, alloc, who, call, reply)?;
+    printer.end_object()
 }

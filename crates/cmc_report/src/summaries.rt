@@ -1,26 +1,32 @@
 // The scenario and the summary as lines.
-ghost use Rattle.std.specs.Prelude.{◌≡◌, false, map, IfOk, string_bytes};
-ghost use Rattle.serde_json.specs.Data.{array};
+ghost use Rattle.std.specs.Prelude.{◌≡◌, codes, false, map, Some, IfOk, OnOk, string_bytes};
+ghost use Rattle.serde_json.specs.Data.{array, string};
 ghost use Rattle.serde_json.specs.View.{view, items_of};
 ghost use Rattle.serde_json.specs.Written.{has_float};
-ghost use Rattle.cmc_print.specs.Trees.{data_of, line_of};
+ghost use Rattle.cmc_print.specs.Trees.{line_of};
+ghost use Rattle.cmc_print.specs.Words.{name_text};
 ghost use Rattle.cmc_report.specs.Trees.{scenario_tree, wait_name, waiting_tree, counts_tree, summary_tree};
+ghost use Rattle.cmc_writer.specs.Adding.{with_value, with_values, with_row, with_rows};
+ghost use Rattle.cmc_report.specs.Rows.{count_rows};
 
-use cmc_print::{Members, Tree, Trees, name_word, put_count, put_text};
+use crate::orders::certificate_row;
 use cmc_summary::{Summary, WaitName, Waiting};
+use cmc_writer::Printer;
 use serde_json::Value;
 use std::alloc::{AllocError, Global};
 
 /// The line of the scenario.
-#[tactic(auto, unfolding(crate::specs::Trees::scenario_tree))]
+#[tactic(auto, using(crate::proofs::SummaryLaws::scenario_text))]
 pub fn scenario_line(alloc: Global, scenario: &Value) -> Result<String, AllocError>
     requires { has_float (view scenario.now) ≡ false }
     ensures { IfOk result (λ s. string_bytes s ≡ line_of (scenario_tree (view scenario.now))) }
 {
-    let tree = Tree::copy_of(scenario)?;
-    let mut members = Members::new(alloc);
-    members.put(alloc, "scenario", tree)?;
-    Tree::object(members).line(alloc)
+    let text = scenario.to_string(alloc)?;
+    let mut line = String::with_capacity(alloc, text.len() + 14)?;
+    line.push_str("{\"scenario\":")?;
+    line.push_str(text.as_str())?;
+    line.push_str("}\n")?;
+    Ok(line)
 }
 
 fn wait_word(wait: WaitName) -> &'static str
@@ -36,47 +42,84 @@ fn wait_word(wait: WaitName) -> &'static str
     }
 }
 
-#[tactic(auto, unfolding(crate::specs::Trees::waiting_tree))]
-fn waiting(alloc: Global, waiting: &Waiting) -> Result<Tree, AllocError>
-    ensures { IfOk result (λ t. data_of t ≡ waiting_tree waiting.now) }
+#[tactic(auto, using(crate::proofs::SummaryLaws::waiting_written))]
+fn write_waiting(printer: &mut Printer, waiting: &Waiting) -> Result<(), AllocError>
+    ensures { OnOk result (printer.new ≡ with_value printer.old (waiting_tree waiting.now)) }
 {
-    let mut members = Members::new(alloc);
-    let name = name_word(alloc, &waiting.certificate)?;
-    put_text(&mut members, alloc, "certificate", name.as_str())?;
-    put_text(&mut members, alloc, "wait", wait_word(waiting.wait))?;
-    Ok(Tree::object(members))
+    printer.begin_object()?;
+    certificate_row(printer, &waiting.certificate)?;
+    printer.text_row("wait", wait_word(waiting.wait))?;
+    printer.end_object()
 }
 
-fn waiting_list(alloc: Global, waits: &[Waiting]) -> Result<Tree, AllocError>
-    ensures { IfOk result (λ t. data_of t ≡ array (items_of (map waiting_tree waits.now))) }
+fn add_waits(printer: &mut Printer, waits: &[Waiting]) -> Result<(), AllocError>
+    ensures { OnOk result (printer.new ≡ with_values printer.old (map waiting_tree waits.now)) }
 {
-    let mut trees = Trees::new(alloc);
-    for item in waits {
-        trees.push(waiting(alloc, item)?)?;
+    for waiting in waits {
+        write_waiting(printer, waiting)?;
     }
-    Ok(Tree::list(trees))
+    Ok(())
 }
 
-#[tactic(auto, unfolding(crate::specs::Trees::counts_tree))]
-fn counts(alloc: Global, summary: &Summary) -> Result<Tree, AllocError>
-    ensures { IfOk result (λ t. data_of t ≡ counts_tree summary.now) }
+#[tactic(auto, using(cmc_writer::proofs::Written::list_written))]
+fn write_waits(printer: &mut Printer, waits: &[Waiting]) -> Result<(), AllocError>
+    ensures { OnOk result (printer.new ≡ with_value printer.old (array (items_of (map waiting_tree waits.now)))) }
 {
-    let mut members = Members::new(alloc);
-    put_count(&mut members, alloc, "certificates", summary.certificates)?;
-    put_count(&mut members, alloc, "ready", summary.ready)?;
-    put_count(&mut members, alloc, "secrets", summary.secrets)?;
-    let waiting = waiting_list(alloc, summary.waiting.as_slice())?;
-    members.put(alloc, "waiting", waiting)?;
-    Ok(Tree::object(members))
+    printer.begin_array()?;
+    add_waits(printer, waits)?;
+    printer.end_array()
+}
+
+#[tactic(auto, using(cmc_writer::proofs::Written::member_written))]
+fn waits_row(printer: &mut Printer, waits: &[Waiting]) -> Result<(), AllocError>
+    ensures { OnOk result (printer.new ≡ with_row printer.old (codes "waiting") (Some (array (items_of (map waiting_tree waits.now))))) }
+{
+    printer.name("waiting")?;
+    write_waits(printer, waits)
+}
+
+fn add_counts(printer: &mut Printer, summary: &Summary) -> Result<(), AllocError>
+    ensures { OnOk result (printer.new ≡ with_rows printer.old (count_rows summary.now)) }
+{
+    printer.count_row("certificates", summary.certificates)?;
+    printer.count_row("ready", summary.ready)?;
+    printer.count_row("secrets", summary.secrets)?;
+    waits_row(printer, summary.waiting.as_slice())
+}
+
+#[tactic(auto, using(crate::proofs::SummaryLaws::counts_written))]
+fn write_counts(printer: &mut Printer, summary: &Summary) -> Result<(), AllocError>
+    ensures { OnOk result (printer.new ≡ with_value printer.old (counts_tree summary.now)) }
+{
+    printer.begin_object()?;
+    add_counts(printer, summary)?;
+    printer.end_object()
+}
+
+#[tactic(auto, using(cmc_writer::proofs::Written::member_written))]
+fn counts_row(printer: &mut Printer, summary: &Summary) -> Result<(), AllocError>
+    ensures { OnOk result (printer.new ≡ with_row printer.old (codes "summary") (Some (counts_tree summary.now))) }
+{
+    printer.name("summary")?;
+    write_counts(printer, summary)
+}
+
+#[tactic(auto, using(crate::proofs::SummaryLaws::summary_written))]
+fn write_summary(printer: &mut Printer, summary: &Summary) -> Result<(), AllocError>
+    ensures { OnOk result (printer.new ≡ with_value printer.old (summary_tree summary.now)) }
+{
+    printer.begin_object()?;
+    counts_row(printer, summary)?;
+    printer.end_object()
 }
 
 /// The line of the summary.
-#[tactic(auto, unfolding(crate::specs::Trees::summary_tree))]
+#[tactic(auto, using(crate::proofs::CallLaws::line_written))]
 pub fn summary_line(alloc: Global, summary: &Summary) -> Result<String, AllocError>
     ensures { IfOk result (λ s. string_bytes s ≡ line_of (summary_tree summary.now)) }
 {
-    let counts = counts(alloc, summary)?;
-    let mut members = Members::new(alloc);
-    members.put(alloc, "summary", counts)?;
-    Tree::object(members).line(alloc)
+    let mut printer = Printer::new(alloc);
+    write_summary(&mut printer, summary)?;
+    let (line, _printer) = printer.into_line(alloc)?;
+    Ok(line)
 }

@@ -10,6 +10,7 @@ use crate::summaries::{scenario_line, summary_line};
 use cmc_history::History;
 use cmc_objects::Entry;
 use cmc_summary::Summary;
+use cmc_writer::Printer;
 use serde_json::Value;
 use std::alloc::{AllocError, Global};
 
@@ -17,9 +18,11 @@ use std::alloc::{AllocError, Global};
 fn push_entries(lines: &mut Lines, alloc: Global, entries: &[Entry]) -> Result<(), AllocError>
     ensures { OnOk result (lines.new ≡ lines.old ++ entry_lines (reverse entries.now)) }
 {
+    let mut printer = Printer::new(alloc);
     for (place, entry) in entries.iter().enumerate() {
-        let line = entry_line(alloc, place as u64 + 1, entry)?;
+        let (line, empty) = entry_line(alloc, printer, place as u64 + 1, entry)?;
         lines.push(line)?;
+        printer = empty;
     }
     Ok(())
 }

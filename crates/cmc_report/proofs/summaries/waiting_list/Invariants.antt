@@ -1,7 +1,0 @@
-use Rattle.std.proofs.Common.{◌≡◌, map, take}
-use Rattle.cmc_report.specs.Trees.{waiting_tree}
-use Rattle.cmc_print.specs.Trees.{items_in}
-use Rattle.cmc_report.proofs.summaries.waiting_list.Given as goal
-
-abbrev pub invariant-loop-item : goal.invariant-loop-item
-invariant-loop-item l = items_in l.trees ≡ map waiting_tree (take l.item-index l.waits)
