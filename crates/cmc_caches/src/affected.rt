@@ -2,17 +2,16 @@
 ghost use Rattle.std.specs.Prelude.{◌≡◌, ◌≤◌, IfOk, OnOk, length, reverse};
 ghost use Rattle.cmc_meta.specs.declared.key.Kind.TheVariants as kinds;
 ghost use Rattle.cmc_model.specs.Objects.{Objects};
-ghost use Rattle.cmc_rules.specs.Positions.{kind_of_work};
+ghost use Rattle.cmc_objects.specs.Watching.{kind_of_work};
 ghost use Rattle.cmc_caches.specs.Told.{cached, with_cached};
 ghost use Rattle.cmc_caches.specs.Affected.{AreNamed, IsEachUidOfOneKey, KeepsKeys, SeesSame, SeesSameNext, SeesSameRequests, SeesSameTarget, StandUnderNamed, left_by};
 
 use crate::listed::{add_naming_all, add_with_uids};
 use crate::touched::{touched_owners, written_keys};
-use cmc_held::{looks_at_next, looks_at_requests, looks_at_secret, works_on_requests};
 use cmc_informer::Cache;
 use cmc_meta::{Key, Kind};
 use cmc_model::Write;
-use cmc_objects::Role;
+use cmc_objects::{Role, looks_at_next, looks_at_requests, looks_at_secret, works_on_requests};
 use std::alloc::{AllocError, Global};
 
 /// By writes of Certificates: of a role that works on them, each key that one of them names.

@@ -3,7 +3,7 @@ ghost use Rattle.std.specs.Prelude.{◌≡◌, ◌≤◌, IfOk, OnOk, OnErr, len
 ghost use Rattle.cmc_objects.specs.declared.role.Role.{Role as RoleValue};
 ghost use Rattle.cmc_model.specs.Histories.{role_eq};
 ghost use Rattle.cmc_model.specs.Writes as spec;
-ghost use Rattle.cmc_rules.specs.Positions.{kind_of_work};
+ghost use Rattle.cmc_objects.specs.Watching.{kind_of_work};
 ghost use Rattle.cmc_rules.specs.Viewing.{views_in};
 ghost use Rattle.cmc_caches.specs.Told.{cached, caches_of, nothing_told, with_cached};
 ghost use Rattle.cmc_meta.specs.declared.key.Kind.TheVariants as kinds;
@@ -20,6 +20,7 @@ use std::marker::Model;
 /// What each of the eight roles was told of. Contracts see it in the order of roles.
 #[derive(Drop)]
 pub struct Caches {
+    /// The caches of the eight roles, in the order of roles.
     rows: Vec<RoleCaches>,
 }
 

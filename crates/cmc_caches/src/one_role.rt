@@ -2,7 +2,7 @@
 ghost use Rattle.std.specs.Prelude.{◌≡◌, ◌≤◌, IfOk, OnOk, OnErr, length, reverse};
 ghost use Rattle.cmc_meta.specs.declared.key.Kind.TheVariants as kinds;
 ghost use Rattle.cmc_model.specs.Writes as spec;
-ghost use Rattle.cmc_rules.specs.Positions.{kind_of_work};
+ghost use Rattle.cmc_objects.specs.Watching.{kind_of_work};
 ghost use Rattle.cmc_rules.specs.Viewing.{views_in};
 ghost use Rattle.cmc_caches.specs.Told.{cached, caches_at, nothing_told, with_cached};
 ghost use Rattle.cmc_caches.specs.Affected.{AreNamed, IsEachUidOfOneKey, SeesSame, StandUnderNamed};

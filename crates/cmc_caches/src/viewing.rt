@@ -5,10 +5,12 @@ ghost use Rattle.cmc_model.specs.Objects.{Objects, object_at};
 ghost use Rattle.cmc_rules.specs.Positions as tables;
 ghost use Rattle.cmc_rules.specs.Viewing as seen;
 
-use cmc_held::{looks_at_next, looks_at_requests, looks_at_secret, works_on_requests};
 use cmc_informer::Cache;
 use cmc_meta::{Key, Kind, ObjectMeta, OwnerRef, Text};
-use cmc_objects::{Certificate, CertificateRequest, Object, Role, Secret};
+use cmc_objects::{
+    Certificate, CertificateRequest, Object, Role, Secret, looks_at_next, looks_at_requests,
+    looks_at_secret, works_on_requests,
+};
 use cmc_pass::{Requests, Secrets, Views};
 use std::alloc::{AllocError, Global};
 

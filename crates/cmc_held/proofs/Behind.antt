@@ -10,6 +10,7 @@ use Rattle.cmc_objects.specs.declared.role.Role.{Role}
 use Rattle.cmc_pass.specs.declared.pass.Views.{Views}
 use Rattle.cmc_rules.specs.declared.progress.Past.{Past}
 use Rattle.cmc_rules.specs.Sameness.{IsDue, IsSame}
-use Rattle.cmc_rules.specs.Positions.{has_informer, position, position_of, positions}
+use Rattle.cmc_objects.specs.Watching.{has_informer}
+use Rattle.cmc_rules.specs.Positions.{position, position_of, positions}
 use Rattle.cmc_held.specs.Dues.{shown_positions}
 use Rattle.cmc_rules.specs.Sameness.{if_above, own_above}

@@ -2,12 +2,12 @@
 //! before again.
 ghost use Rattle.std.specs.Prelude.{◌≡◌, ◌↔◌, IsTrue, if◌then◌else◌};
 ghost use Rattle.cmc_rules.specs.Sameness.{EndsAlike, IsSame, IsStillBehind, own_above};
-ghost use Rattle.cmc_rules.specs.Positions.{has_informer};
+ghost use Rattle.cmc_objects.specs.Watching.{has_informer};
 ghost use Rattle.cmc_held.specs.Dues.{shown_positions};
 
 use crate::standings::at_kind;
 use cmc_meta::Kind;
-use cmc_objects::{Positions, Role};
+use cmc_objects::{Positions, Role, has_informer};
 use cmc_pass::Views;
 use cmc_rules::{Ending, LastPass, Obstacle};
 
@@ -73,22 +73,5 @@ pub fn shown_positions(role: Role, told: Positions) -> Positions
 fn shown(role: Role, kind: Kind, told: u64) -> u64
     ensures { result ≡ (if has_informer role kind then told else 0) }
 {
-    if is_told(role, kind) { told } else { 0 }
-}
-
-fn is_told(role: Role, kind: Kind) -> bool
-    ensures { result ≡ has_informer role kind }
-{
-    match kind {
-        Kind::Certificate => !matches!(role, Role::Approver | Role::Issuer),
-        Kind::CertificateRequest => !matches!(role, Role::KeyManager),
-        Kind::Secret => matches!(
-            role,
-            Role::Trigger
-                | Role::KeyManager
-                | Role::RequestManager
-                | Role::Issuing
-                | Role::Readiness
-        ),
-    }
+    if has_informer(role, kind) { told } else { 0 }
 }

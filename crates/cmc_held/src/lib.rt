@@ -10,7 +10,6 @@ mod passes;
 mod pasts;
 mod questions;
 mod standings;
-mod tables;
 
 pub use due::{is_same, own_above, shown_positions};
 pub use log::Log;
@@ -21,8 +20,4 @@ pub use questions::Questions;
 pub use standings::{
     Flags, Standing, Standings, at_kind, is_held, put_at_kind, told_of, with_held, with_told,
     with_written, written_of,
-};
-pub use tables::{
-    has_informer, kind_of_work, looks_at_next, looks_at_requests, looks_at_secret,
-    works_on_requests,
 };

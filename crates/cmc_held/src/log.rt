@@ -16,6 +16,7 @@ use std::marker::Model;
 /// is room already.
 #[derive(Drop)]
 pub struct Log {
+    /// The writes, the oldest first: the write of version n is the nth.
     items: Vec<Write>,
     /// Of each kind the version of the last write, 0 where there is none.
     last: Positions,

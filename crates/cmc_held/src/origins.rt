@@ -11,6 +11,7 @@ use std::marker::Model;
 /// for which there is room already.
 #[derive(Drop)]
 pub struct Origins {
+    /// The origins, the oldest first: that of pass n is the nth.
     items: Vec<Origin>,
 }
 

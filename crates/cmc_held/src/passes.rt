@@ -18,6 +18,7 @@ use std::marker::Model;
 /// The open passes under their numbers; contracts see the list of both in order of number.
 #[derive(Drop)]
 pub struct Passes {
+    /// A pass stands under its number from its begin to its end, or to the stop of its role.
     map: BTreeMap<u64, OpenPass>,
 }
 

@@ -108,6 +108,7 @@ impl Memory {
 /// What each of the eight roles remembers. Contracts see the memories in the order of roles.
 #[derive(Drop)]
 pub struct Pasts {
+    /// Eight memories, one for each role, in the order of roles.
     rows: Vec<Memory>,
 }
 

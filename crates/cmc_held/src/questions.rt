@@ -122,7 +122,9 @@ impl Counts {
 #[derive(Drop)]
 pub struct Questions {
     alloc: Global,
+    /// The questions of the key manager. A name that is not there was never asked for.
     keys: Counts,
+    /// The questions to issuers.
     answers: Counts,
 }
 

@@ -38,6 +38,7 @@ pub struct Standing {
 /// How each of the eight roles stands. Contracts see the standings in the order of roles.
 #[derive(Drop)]
 pub struct Standings {
+    /// Eight standings, one for each role, in the order of roles.
     rows: Vec<Standing>,
 }
 

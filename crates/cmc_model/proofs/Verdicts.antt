@@ -89,11 +89,11 @@ stays_stated k old new settled kept is =
 -- ---- one write
 
 -- what stood keeps its verdicts
-abbrev IsHeirOf : Option Object → Object → Type 0
+abbrev pub IsHeirOf : Option Object → Object → Type 0
 IsHeirOf None new = Unit {0}
 IsHeirOf (Some old) new = KeepsVerdicts old new
 
-abbrev IsSteady : Option Object → Option Object → Type 0
+abbrev pub IsSteady : Option Object → Option Object → Type 0
 IsSteady old None = Unit {0}
 IsSteady old (Some new) = HasOneVerdict new × IsHeirOf old new
 
@@ -145,7 +145,7 @@ keeps_one k old o p same kept is = let stays = kept is in (same.0 ∙ stays.0, s
 keeps_as : (old o p : Object) → ((k : ConditionKind) → IsAlike k o p) → KeepsVerdicts old o → KeepsVerdicts old p
 keeps_as old o p same kept = record { approved = λ a. keeps_one Approved old o p (same Approved) kept.approved a; denied = λ d. keeps_one Denied old o p (same Denied) kept.denied d }
 
-keeps_self : (o : Object) → KeepsVerdicts o o
+pub keeps_self : (o : Object) → KeepsVerdicts o o
 keeps_self o = record { approved = λ a. (a, refl); denied = λ d. (d, refl) }
 
 or_false : (a b : Bool) → (a || b) ≡ false → (a ≡ false) × (b ≡ false)
@@ -191,11 +191,11 @@ passed_status (Secret a) (Request b) passed one = (one, keeps_self (Secret a))
 passed_status (Secret a) (Secret b) passed one = (one, keeps_self (Secret a))
 
 -- what is known of the object that stood
-abbrev IsOne : Option Object → Type 0
+abbrev pub IsOne : Option Object → Type 0
 IsOne None = Unit {0}
 IsOne (Some o) = HasOneVerdict o
 
-steady_call : (n : ℕ) (now : ℤ) (m : Objects) (call : Call) → IsFounded m call → IsOne (object_at m (key_of_call call))
+pub steady_call : (n : ℕ) (now : ℤ) (m : Objects) (call : Call) → IsFounded m call → IsOne (object_at m (key_of_call call))
     → IsSteady (object_at m (key_of_call call)) (stored n now m call)
 unfolding IsFounded
 steady_call n now m (Create object generate) is one =

@@ -3,9 +3,7 @@
 #![tactic(auto)]
 
 mod laws;
-mod summary;
 mod write;
 
 pub use laws::verdicts_stay;
-pub use summary::{Summary, WaitName, Waiting, Waits};
 pub use write::Write;

@@ -3,3 +3,4 @@ pub mod Objects
 pub mod Roles
 pub mod Materials
 pub mod Requests
+pub mod Watching

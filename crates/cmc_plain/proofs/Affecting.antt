@@ -17,7 +17,8 @@ use Rattle.cmc_model.specs.Objects.{Objects}
 use Rattle.cmc_model.specs.Histories.{Setting, accepted, role_eq}
 use Rattle.cmc_model.specs.Writes.{writes, contents, oldest, of_kind, last_of_kind}
 use Rattle.cmc_model.proofs.Writes.{writes_count}
-use Rattle.cmc_rules.specs.Positions.{has_informer, position_of, positions}
+use Rattle.cmc_objects.specs.Watching.{has_informer}
+use Rattle.cmc_rules.specs.Positions.{position_of, positions}
 use Rattle.cmc_rules.specs.Viewing.{Caches, views_in}
 use Rattle.cmc_rules.specs.Legality.{IsLegal}
 use Rattle.cmc_caches.specs.Affected.{is_among, HaveOwnUids}

@@ -31,7 +31,8 @@ use Rattle.cmc_rules.specs.declared.progress.LastPass.{LastPass}
 use Rattle.cmc_model.specs.Objects.{object_at}
 use Rattle.cmc_model.specs.Histories.{Setting, moment, runs}
 use Rattle.cmc_model.specs.Writes.{writes, contents, oldest, kind_eq, last_of_kind, is_known}
-use Rattle.cmc_rules.specs.Positions.{works_on_requests, kind_of_work, has_informer, position, position_of, positions, cache}
+use Rattle.cmc_objects.specs.Watching.{works_on_requests, kind_of_work, has_informer}
+use Rattle.cmc_rules.specs.Positions.{position, position_of, positions, cache}
 use Rattle.cmc_rules.specs.Viewing.{certificate_in, request_in, certificate_at, request_at, views_of, views_in, views, present_views}
 use Rattle.cmc_rules.specs.Desks.{desk}
 use Rattle.cmc_rules.specs.Acts.{act}
@@ -233,8 +234,7 @@ rests s h role key run shut no_delivery no_begin running known =
 at_rest : (s : Setting) (h : List Entry) → IsRun s h → ((n : ℕ) → open_pass s h n ≡ None) → HasNoDelivery s h → ((r : Role) (k : Key) → Fits s h r k → ⊥) → IsAtRest s h
 at_rest s h run shut no_delivery no_begin = record {
   closed = shut;
-  told = told s h no_delivery;
-  idle = λ role key running known. rests s h role key run shut no_delivery no_begin running known;
+  rests = λ role running. (λ kind. told s h no_delivery role kind running, λ key known. rests s h role key run shut no_delivery no_begin running known);
 }
 
 -- ---- all steps are made

@@ -16,7 +16,7 @@ use Rattle.cmc_objects.specs.declared.role.Role.{Role}
 use Rattle.cmc_objects.specs.declared.entry.Entry.{Entry}
 use Rattle.cmc_model.specs.Histories.{Setting}
 use Rattle.cmc_model.proofs.Keys.{key_cmp-total, key_cmp-IsAntisymmetric}
-use Rattle.cmc_rules.specs.Positions.{kind_of_work}
+use Rattle.cmc_objects.specs.Watching.{kind_of_work}
 use Rattle.cmc_world.proofs.Rest.{key_eq-Decides}
 use Rattle.cmc_plain.specs.Plain.{IsQuiet, Fits}
 use Rattle.cmc_plain.specs.Searches.{FindsKey}

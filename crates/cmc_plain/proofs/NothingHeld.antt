@@ -7,7 +7,7 @@ use Rattle.cmc_objects.specs.declared.role.Role.{Role}
 use Rattle.cmc_objects.specs.declared.role.Role.TheVariants.{Trigger, KeyManager, RequestManager, Approver, Issuer, Issuing, Readiness, Revision}
 use Rattle.cmc_objects.specs.declared.entry.Entry.{Entry}
 use Rattle.cmc_model.specs.Histories.{Setting, runs}
-use Rattle.cmc_rules.specs.Positions.{has_informer}
+use Rattle.cmc_objects.specs.Watching.{has_informer}
 use Rattle.cmc_rules.specs.Scripting.{held}
 use Rattle.cmc_rules.specs.Runs.{IsFinished}
 use Rattle.cmc_world.specs.declared.moves.Stepped.{Stepped}
@@ -88,4 +88,4 @@ told_of_kind s h kind free informed =
 pub told_of_all : (s : Setting) (h : List Entry) → IsFinished s h → is_stopped s h ≡ false → IsToldOfAll s h Issuing
 told_of_all s h finished free kind informed =
     let on = told_of_kind s h kind (kind_free s h Issuing kind (issuing_free s h free)) informed in
-    finished.rest.told Issuing kind on.0 informed on.1
+    (finished.rest.rests Issuing on.0).0 kind informed on.1

@@ -27,7 +27,8 @@ use Rattle.cmc_rules.specs.declared.effect.Effect.TheVariants as effects
 use Rattle.cmc_rules.specs.declared.progress.Ending.{Ending}
 use Rattle.cmc_rules.specs.declared.progress.LastPass.{LastPass}
 use Rattle.cmc_rules.specs.declared.progress.Past.{Past}
-use Rattle.cmc_rules.specs.Positions.{kind_of_work, position}
+use Rattle.cmc_objects.specs.Watching.{kind_of_work}
+use Rattle.cmc_rules.specs.Positions.{position}
 use Rattle.cmc_rules.specs.Viewing.{views, views_in, present_views}
 use Rattle.cmc_rules.specs.Desks.{desk}
 use Rattle.cmc_rules.specs.Acts.{act}

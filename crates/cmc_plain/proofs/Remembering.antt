@@ -40,7 +40,8 @@ use Rattle.cmc_model.specs.Replies.{is_accepted, key_of_call, settled}
 use Rattle.cmc_model.proofs.Settling.{kind_of-settled}
 use Rattle.cmc_model.specs.Histories.{Setting, moment, state, accepted, role_eq}
 use Rattle.cmc_model.specs.Writes.{writes, write_of, last_of_kind, last_under}
-use Rattle.cmc_rules.specs.Positions.{has_informer, position_of}
+use Rattle.cmc_objects.specs.Watching.{has_informer}
+use Rattle.cmc_rules.specs.Positions.{position_of}
 use Rattle.cmc_rules.specs.Viewing.{views}
 use Rattle.cmc_rules.specs.Desks.{desk}
 use Rattle.cmc_rules.specs.Acts.{act}

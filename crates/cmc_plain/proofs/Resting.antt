@@ -15,13 +15,13 @@ use Rattle.cmc_objects.specs.declared.entry.Step.{Step}
 use Rattle.cmc_objects.specs.declared.entry.Step.TheVariants as steps
 use Rattle.cmc_model.specs.Histories.{Setting, runs}
 use Rattle.cmc_model.specs.Writes.{writes, is_known, kind_eq}
-use Rattle.cmc_rules.specs.Positions.{kind_of_work}
+use Rattle.cmc_objects.specs.Watching.{kind_of_work}
 use Rattle.cmc_rules.specs.Legality.{IsLegal, IsOpen}
-use Rattle.cmc_rules.specs.Resting.{RestsOn, IsAtRest}
+use Rattle.cmc_rules.specs.Resting.{RestsOn, IsAtRest, IsToldAll, RestsOnKnown}
 use Rattle.cmc_rules.specs.Scripting.{scripted, step_at, has_held}
 use Rattle.cmc_rules.specs.Following.{owed, written, IsReady}
 use Rattle.cmc_rules.specs.Runs.{IsFinished}
-use Rattle.cmc_world.specs.Rest.{EachKind, IsToldAll, RestsOnKnown}
+use Rattle.cmc_world.specs.Rest.{EachKind}
 use Rattle.cmc_world.proofs.Newest.{IsToldOfAll}
 use Rattle.cmc_world.proofs.Rest.{each_kind, same_kind}
 use Rattle.cmc_plain.specs.declared.passes.Going.{Going}
@@ -100,7 +100,7 @@ none_open s h (Some g) none finds = absurd (cc none)
 
 role_behind : (s : Setting) (h : List Entry) (role : Role) (kind : Kind) → IsBehind s h role kind → IsAtRest s h → ⊥
 role_behind s h role kind b rest =
-    let low = rest.told role kind b.running b.informed b.free in
+    let low = (rest.rests role b.running).0 kind b.informed b.free in
     let above = b.behind in
     absurd (omega (arith, low, above))
 
@@ -117,8 +117,8 @@ none_behind s h (Some d) none finds = absurd (cc none)
 
 pub at_rest_by : (s : Setting) (h : List Entry) (b : Bool) → HasNoPass s h → HasNoDelivery s h → (IsTrue b ↔ ((role : Role) → RestsWhereRunning s h role)) → IsTrue b ↔ IsAtRest s h
 at_rest_by s h b no_pass no_delivery e = (
-  λ on. record { closed = closed s h no_pass; told = told s h no_delivery; idle = λ role key running known. e.0 on role running key known },
-  λ rest. e.1 (λ role running key known. rest.idle role key running known),
+  λ on. record { closed = closed s h no_pass; rests = λ role running. (λ kind. told s h no_delivery role kind running, e.0 on role running) },
+  λ rest. e.1 (λ role running. (rest.rests role running).1),
 )
 
 -- ---- the script

@@ -14,7 +14,6 @@ use Rattle.cmc_rules.specs.Passes.{open_pass, new_pass, unless_of, stage_after}
 use Rattle.cmc_rules.specs.Origins.{origins, origin_at}
 use Rattle.cmc_rules.specs.Legality.{IsLegal}
 use Rattle.cmc_rules.proofs.Carrying.{over_call, over_ask, over_given, over_begin, over_end, over_stop}
-use Rattle.cmc_world.proofs.Origins.{origins_count}
 use Rattle.cmc_world.proofs.Standings.{same_role}
 
 -- ---- starts of stopped roles
@@ -125,7 +124,7 @@ present_pass s (Called who call reply ∷ h) n stopped legal =
     over_call (IsFromPresent s h n) n who (stage_after s h call reply) (open_pass s h n) (λ p present. present) (present_pass s h n stopped.1 legal.1)
 present_pass s (Begin pass role key at now ∷ h) n stopped legal =
     over_origin s h n pass (present_origin s h role) (n == pass) (new_pass role key (views s h role key) now) (open_pass s h n) refl
-    (omega (arith, origins_count s h, legal.0.numbered)) refl (present_pass s h n stopped.1 legal.1)
+    (omega (arith, legal.0.numbered)) refl (present_pass s h n stopped.1 legal.1)
 present_pass s (Ask pass order ∷ h) n stopped legal = over_ask (IsFromPresent s h n) n pass order (open_pass s h n) (λ p present. present) (present_pass s h n stopped.1 legal.1)
 present_pass s (Made pass key ∷ h) n stopped legal = over_given (IsFromPresent s h n) n pass (values.Made key) (open_pass s h n) (λ p present. present) (present_pass s h n stopped.1 legal.1)
 present_pass s (Signed pass signature ∷ h) n stopped legal = over_given (IsFromPresent s h n) n pass (values.Signed signature) (open_pass s h n) (λ p present. present) (present_pass s h n stopped.1 legal.1)

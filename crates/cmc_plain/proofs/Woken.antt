@@ -20,7 +20,7 @@ use Rattle.cmc_model.specs.Writes.{writes, is_known}
 use Rattle.cmc_rules.specs.declared.effect.Effect.{Effect}
 use Rattle.cmc_rules.specs.declared.effect.Effect.TheVariants as effects
 use Rattle.cmc_rules.specs.Following.{call_or, call_of, effect_besides, effect_of}
-use Rattle.cmc_rules.specs.Positions.{kind_of_work}
+use Rattle.cmc_objects.specs.Watching.{kind_of_work}
 use Rattle.cmc_rules.specs.Scripting.{scripted, step_at}
 use Rattle.cmc_held.proofs.Numbered.{list_any-reverse}
 use Rattle.cmc_rules.specs.Runs.{IsRun}

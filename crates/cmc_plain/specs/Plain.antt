@@ -12,7 +12,8 @@ use Rattle.cmc_rules.specs.declared.progress.LastPass.{LastPass}
 use Rattle.cmc_rules.specs.declared.progress.OpenPass.{OpenPass}
 use Rattle.cmc_model.specs.Histories.{Setting, runs, moment, incarnation}
 use Rattle.cmc_model.specs.Writes.{writes, last_of_kind, is_known}
-use Rattle.cmc_rules.specs.Positions.{kind_of_work, has_informer, position, positions}
+use Rattle.cmc_objects.specs.Watching.{kind_of_work, has_informer}
+use Rattle.cmc_rules.specs.Positions.{position, positions}
 use Rattle.cmc_rules.specs.Viewing.{views}
 use Rattle.cmc_rules.specs.Passes.{open_pass, IsWorking}
 use Rattle.cmc_rules.specs.Memory.{past}

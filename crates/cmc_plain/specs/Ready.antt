@@ -14,7 +14,7 @@ use Rattle.cmc_model.specs.Histories.{Setting, accepted}
 use Rattle.cmc_model.specs.Writes.{writes, is_known, last_of_kind}
 use Rattle.cmc_rules.specs.declared.effect.Effect.{Effect}
 use Rattle.cmc_rules.specs.declared.effect.Effect.TheVariants as effects
-use Rattle.cmc_rules.specs.Positions.{has_informer, kind_of_work}
+use Rattle.cmc_objects.specs.Watching.{has_informer, kind_of_work}
 use Rattle.cmc_rules.specs.Viewing.{views}
 use Rattle.cmc_world.specs.Answers.{next_effect}
 use Rattle.cmc_world.specs.declared.moves.Move.{Move}

@@ -25,7 +25,7 @@ use Rattle.cmc_pass.specs.declared.pass.Views.{Views}
 use Rattle.cmc_match.specs.Revisions.{next_request}
 use Rattle.cmc_model.specs.Histories.{Setting, moment, objects, runs}
 use Rattle.cmc_model.specs.Summaries.{is_certificate, is_secret, is_ready, is_waiting}
-use Rattle.cmc_rules.specs.Positions.{has_informer}
+use Rattle.cmc_objects.specs.Watching.{has_informer}
 use Rattle.cmc_rules.specs.Scripting.{held}
 use Rattle.cmc_rules.specs.Triggering.{is_issuing, is_backing_off}
 use Rattle.cmc_rules.specs.Issuing.{says_issued, is_kept_for_keys}

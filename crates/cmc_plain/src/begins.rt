@@ -9,16 +9,15 @@ ghost use Rattle.cmc_rules.specs.Memory.{past};
 ghost use Rattle.cmc_rules.specs.Viewing.{views};
 ghost use Rattle.cmc_held.specs.Remembered.{past_or_new};
 ghost use Rattle.cmc_world.specs.Kept.{setting_of};
-ghost use Rattle.cmc_rules.specs.Positions.{kind_of_work};
+ghost use Rattle.cmc_objects.specs.Watching.{kind_of_work};
 ghost use Rattle.cmc_plain.specs.Plain as spec;
 ghost use Rattle.cmc_plain.specs.Ready.{Covers};
 ghost use Rattle.cmc_plain.specs.Searches.{FindsBegin, FindsKey, IsFree};
 
 use crate::ready::Ready;
 use crate::roles::role_in;
-use cmc_held::kind_of_work;
 use cmc_meta::Key;
-use cmc_objects::Role;
+use cmc_objects::{Role, kind_of_work};
 use cmc_pass::Views;
 use cmc_rules::{LastPass, Past};
 use cmc_world::World;

@@ -14,7 +14,8 @@ use Rattle.cmc_pass.specs.declared.value.Value.{Value}
 use Rattle.cmc_pass.specs.declared.value.Value.TheVariants as values
 use Rattle.cmc_model.specs.Histories.{Setting}
 use Rattle.cmc_rules.specs.Viewing.{views}
-use Rattle.cmc_rules.specs.Passes.{open_pass, begun, called, asking, given, gone_on, stage_given, unless_of, with_stage, new_pass, stage_after}
+use Rattle.cmc_rules.specs.Origins.{begun}
+use Rattle.cmc_rules.specs.Passes.{open_pass, called, asking, given, gone_on, stage_given, unless_of, with_stage, new_pass, stage_after}
 use Rattle.cmc_rules.specs.Legality.{IsLegal}
 
 none_gone_on : (n m : ℕ) (stage : OpenPass → Stage) (p : Option OpenPass) → p ≡ None → gone_on n m stage p ≡ None
@@ -41,7 +42,7 @@ none_begun : (b : Bool) (n pass : ℕ) (new : OpenPass) (p : Option OpenPass) �
 none_begun true n pass new p e less none = absurd (grind (arith, nat_tests))
 none_begun false n pass new p e less none = none
 
-pub closed_beyond : (s : Setting) (h : List Entry) (n : ℕ) → IsLegal s h → begun h < n → open_pass s h n ≡ None
+pub closed_beyond : (s : Setting) (h : List Entry) (n : ℕ) → IsLegal s h → begun s h < n → open_pass s h n ≡ None
 unfolding IsLegal
 closed_beyond s [] n legal less = refl
 closed_beyond s (Called who call reply ∷ h) n legal less = none_called n who (stage_after s h call reply) (open_pass s h n) (closed_beyond s h n legal.1 less)

@@ -10,14 +10,14 @@ use Rattle.cmc_objects.specs.declared.call.Reply.{Reply}
 use Rattle.cmc_objects.specs.declared.role.Role.{Role}
 use Rattle.cmc_objects.specs.declared.entry.Who.{Who}
 use Rattle.cmc_objects.specs.declared.entry.Entry.{Entry}
-use Rattle.cmc_objects.specs.declared.entry.Entry.TheVariants.{Script, Call as Called, Deliver, List as Listed, Start}
+use Rattle.cmc_objects.specs.declared.entry.Entry.TheVariants.{Script, Call as Called, Begin, Deliver, List as Listed, Start}
 use Rattle.cmc_model.specs.declared.write.Write.{Write}
 use Rattle.cmc_model.specs.Replies.{is_accepted}
 use Rattle.cmc_model.specs.Histories.{Setting, state, accepted, role_eq}
 use Rattle.cmc_model.specs.Writes.{writes, write_at, objects_of}
 use Rattle.cmc_rules.specs.Positions.{is_informer, position, cache}
 use Rattle.cmc_rules.specs.Viewing.{Caches, caches, views, views_in}
-use Rattle.cmc_rules.specs.Passes.{begun}
+use Rattle.cmc_rules.specs.Origins.{begun}
 use Rattle.cmc_rules.specs.Legality.{IsOfKind, IsLegal}
 use Rattle.cmc_model.proofs.Writes.{writes_count, objects_of-older}
 
@@ -87,7 +87,8 @@ calls_short s [] = omega arith
 calls_short s (Script step ∷ h) = omega (arith, calls_short s h)
 calls_short s (other ∷ h) = omega (arith, calls_short s h)
 
-pub begun_short : (h : List Entry) → begun h ≤ length h
-begun_short [] = omega arith
-begun_short (Script step ∷ h) = omega (arith, begun_short h)
-begun_short (other ∷ h) = omega (arith, begun_short h)
+pub begun_short : (s : Setting) (h : List Entry) → begun s h ≤ length h
+begun_short s [] = omega arith
+begun_short s (Script step ∷ h) = omega (arith, begun_short s h)
+begun_short s (Begin pass role key at now ∷ h) = omega (arith, begun_short s h)
+begun_short s (other ∷ h) = omega (arith, begun_short s h)

@@ -13,8 +13,10 @@ use Rattle.cmc_rules.specs.declared.progress.OpenPass.{OpenPass}
 use Rattle.cmc_model.specs.Replies.{IsReply}
 use Rattle.cmc_model.specs.Histories.{Setting, moment, state, accepted, runs}
 use Rattle.cmc_model.specs.Writes.{writes, write_at, is_known}
-use Rattle.cmc_rules.specs.Positions.{has_informer, kind_of_work, position, positions}
-use Rattle.cmc_rules.specs.Passes.{open_pass, begun, IsWorking}
+use Rattle.cmc_objects.specs.Watching.{has_informer, kind_of_work}
+use Rattle.cmc_rules.specs.Positions.{position, positions}
+use Rattle.cmc_rules.specs.Origins.{begun}
+use Rattle.cmc_rules.specs.Passes.{open_pass, IsWorking}
 
 abbrev pub IsOfKind : Kind → Option Write → Type 0
 IsOfKind kind None = ⊥
@@ -38,7 +40,7 @@ pub record IsListing (s : Setting) (h : List Entry) (role : Role) (kind : Kind) 
 -- A pass of a running role begins on the key of an accepted write, of the kind that the role works on, and on no key that it works on already.
 pub record IsBegin (s : Setting) (h : List Entry) (pass : ℕ) (role : Role) (key : Key) (at : Positions) (now : ℤ) : Type 0 where
   pub running : runs s h role ≡ true
-  pub numbered : pass ≡ begun h + 1
+  pub numbered : pass ≡ begun s h + 1
   pub work : key.kind ≡ kind_of_work role
   pub known : is_known key (writes s h) ≡ true
   pub free : IsWorking s h role key → ⊥

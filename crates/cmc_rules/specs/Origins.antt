@@ -14,6 +14,10 @@ abbrev pub origins : Setting → List Entry → List Origin
 origins s [] = []
 origins s (e ∷ h) = origins_with s h (origins s h) e
 
+-- how many passes were begun
+abbrev pub begun : Setting → List Entry → ℕ
+begun s h = length (origins s h)
+
 -- the origin of the pass of this number: passes are numbered from 1 as they begin
 unfoldable pub origin_at : ℕ → List Origin → Option Origin
 origin_at n [] = None

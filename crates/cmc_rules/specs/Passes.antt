@@ -123,15 +123,6 @@ abbrev pub open_pass : Setting → List Entry → ℕ → Option OpenPass
 open_pass s [] n = None
 open_pass s (e ∷ h) n = pass_with s h n (open_pass s h n) e
 
-abbrev pub begun_with : ℕ → Entry → ℕ
-begun_with n (Begin pass role key at now) = n + 1
-begun_with n other = n
-
--- how many passes were begun
-abbrev pub begun : List Entry → ℕ
-begun [] = 0
-begun (e ∷ h) = begun_with (begun h) e
-
 -- whether this is a pass of the role on the key
 abbrev pub is_pass_of : Role → Key → Option OpenPass → Bool
 is_pass_of role key None = false

@@ -10,7 +10,8 @@ use Rattle.cmc_rules.specs.Acts.{act}
 use Rattle.cmc_rules.specs.Desks.{desk}
 use Rattle.cmc_model.specs.Histories.{Setting, moment, runs}
 use Rattle.cmc_model.specs.Writes.{writes, last_of_kind, is_known}
-use Rattle.cmc_rules.specs.Positions.{has_informer, position, positions}
+use Rattle.cmc_objects.specs.Watching.{has_informer}
+use Rattle.cmc_rules.specs.Positions.{position, positions}
 use Rattle.cmc_rules.specs.Viewing.{views, present_views}
 use Rattle.cmc_rules.specs.Passes.{open_pass}
 use Rattle.cmc_rules.specs.Memory.{past}
@@ -29,8 +30,19 @@ IsPaused s h role key = IsIdle s h role (views s h role key) ⊎ (IsDue (past s 
 abbrev pub RestsOn : Setting → List Entry → Role → Key → Type 0
 RestsOn s h role key = MatchBool (has_held s h role) (IsPaused s h role key) (IsIdle s h role (present_views s h role key))
 
--- No pass is open, the running roles have been told of all that is not held from them, and none of them has anything to do on any key.
+-- the role was told of the last write of the kind, if it looks at the kind and its informer is not held
+abbrev pub IsToldAll : Setting → List Entry → Role → Kind → Type 0
+IsToldAll s h role kind = has_informer role kind ≡ true → held s h role kind ≡ false → last_of_kind kind (writes s h) ≤ position h role kind
+
+-- it has nothing to do on any key that an accepted write named
+abbrev pub RestsOnKnown : Setting → List Entry → Role → Type 0
+RestsOnKnown s h role = (key : Key) → is_known key (writes s h) ≡ true → RestsOn s h role key
+
+-- where the role runs, it was told of all that is not held from it, and has nothing to do
+abbrev pub RestsIn : Setting → List Entry → Role → Type 0
+RestsIn s h role = runs s h role ≡ true → ((kind : Kind) → IsToldAll s h role kind) × RestsOnKnown s h role
+
+-- No pass is open, and each role rests.
 pub record IsAtRest (s : Setting) (h : List Entry) : Type 0 where
   pub closed : (pass : ℕ) → open_pass s h pass ≡ None
-  pub told : (role : Role) (kind : Kind) → runs s h role ≡ true → has_informer role kind ≡ true → held s h role kind ≡ false → last_of_kind kind (writes s h) ≤ position h role kind
-  pub idle : (role : Role) (key : Key) → runs s h role ≡ true → is_known key (writes s h) ≡ true → RestsOn s h role key
+  pub rests : (role : Role) → RestsIn s h role

@@ -33,7 +33,7 @@ use Rattle.cmc_pass.specs.declared.pass.IssuePlan.{IssuePlan}
 use Rattle.cmc_pass.specs.declared.pass.TemporaryPlan.{TemporaryPlan}
 use Rattle.cmc_pass.specs.declared.pass.Act.{Act}
 use Rattle.cmc_pass.specs.declared.pass.Act.TheVariants.{Nothing, Call as Calls, Ask as Asks, Issue, Temporary}
-use Rattle.cmc_rules.specs.Positions.{works_on_requests, looks_at_secret, looks_at_next, looks_at_requests}
+use Rattle.cmc_objects.specs.Watching.{works_on_requests, looks_at_secret, looks_at_next, looks_at_requests}
 use Rattle.cmc_rules.specs.Dates.{IsDated}
 use Rattle.cmc_rules.specs.Sighting.{IsAmong, IsWellSeen, OnSeen}
 use Rattle.cmc_rules.specs.Viewing.{has_next_label}

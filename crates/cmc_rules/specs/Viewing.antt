@@ -17,7 +17,8 @@ use Rattle.cmc_objects.specs.declared.entry.Entry.{Entry}
 use Rattle.cmc_pass.specs.declared.pass.Views.{Views}
 use Rattle.cmc_model.specs.Objects.{Objects, object_at}
 use Rattle.cmc_model.specs.Histories.{Setting, objects}
-use Rattle.cmc_rules.specs.Positions.{works_on_requests, looks_at_secret, looks_at_next, looks_at_requests, cache}
+use Rattle.cmc_objects.specs.Watching.{works_on_requests, looks_at_secret, looks_at_next, looks_at_requests}
+use Rattle.cmc_rules.specs.Positions.{cache}
 
 -- what a role may look at: the objects of each kind
 pub record Caches : Type 0 where

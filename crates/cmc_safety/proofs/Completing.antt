@@ -48,7 +48,8 @@ use Rattle.cmc_rules.specs.Causes.{act_of, after_of, IsNextCall, MayCall, AsksBy
 use Rattle.cmc_rules.specs.Desks.{desk}
 use Rattle.cmc_rules.specs.Issuing.{secret_call, new_target, old_target, issuing}
 use Rattle.cmc_rules.specs.Legality.{IsLegalEntry, IsLegal}
-use Rattle.cmc_rules.specs.Passes.{open_pass, begun, is_as_seen, writes_stand_in, stage_read, stage_written, stage_after, stage_given, new_pass, with_stage, given}
+use Rattle.cmc_rules.specs.Origins.{begun}
+use Rattle.cmc_rules.specs.Passes.{open_pass, is_as_seen, writes_stand_in, stage_read, stage_written, stage_after, stage_given, new_pass, with_stage, given}
 use Rattle.cmc_rules.specs.Raising.{RaisesRevision}
 use Rattle.cmc_rules.specs.Safety.{Stands, IsSecretWrite, IsStatusUpdate, IsServed}
 use Rattle.cmc_rules.specs.Sighting.{OnSeen, IsWellSeen}
@@ -508,23 +509,23 @@ given_well s e h k pass n seen since c does value x y may well =
 -- ---- histories
 
 -- it was begun, so that no later pass has its number
-begun_more : (e : Entry) (h : List Entry) (n : ℕ) → n ≤ begun h → n ≤ begun (e ∷ h)
-begun_more (Begin pass role key at now) h n low = omega (arith, low)
-begun_more other h n low = low
+begun_more : (s : Setting) (e : Entry) (h : List Entry) (n : ℕ) → n ≤ begun s h → n ≤ begun s (e ∷ h)
+begun_more s (Begin pass role key at now) h n low = omega (arith, low)
+begun_more s other h n low = low
 
-not_begun : (n pass : ℕ) (h : List Entry) → n ≤ begun h → pass ≡ begun h + 1 → (n == pass) ≡ true → ⊥
-not_begun n pass h low numbered same = omega (arith, low, numbered, same_number n pass same)
+not_begun : (s : Setting) (n pass : ℕ) (h : List Entry) → n ≤ begun s h → pass ≡ begun s h + 1 → (n == pass) ≡ true → ⊥
+not_begun s n pass h low numbered same = omega (arith, low, numbered, same_number n pass same)
 
-begun_low : (k base : List Entry) (n : ℕ) → n ≤ begun base → n ≤ begun (k ++ base)
-begun_low [] base n low = low
-begun_low (e ∷ k) base n low = begun_more e (k ++ base) n (begun_low k base n low)
+begun_low : (s : Setting) (k base : List Entry) (n : ℕ) → n ≤ begun s base → n ≤ begun s (k ++ base)
+begun_low s [] base n low = low
+begun_low s (e ∷ k) base n low = begun_more s e (k ++ base) n (begun_low s k base n low)
 
 -- the pass that begins here is another one
 begun_well : (own : Bool) (P : OpenPass → Type 0) (new : OpenPass) (x : Option OpenPass) → (own ≡ true → ⊥) → IfSome x P → IfSome (if own then Some new else x) P
 begun_well true P new x other well = absurd (other refl)
 begun_well false P new x other well = well
 
-goes : (s : Setting) (base : List Entry) (n : ℕ) (seen : Views) (since : ℤ) (c : Certificate) (does : Act) (a b : Key) (k : List Entry) → IsScene s seen since c does → AreKeys c a b → n ≤ begun base
+goes : (s : Setting) (base : List Entry) (n : ℕ) (seen : Views) (since : ℤ) (c : Certificate) (does : Act) (a b : Key) (k : List Entry) → IsScene s seen since c does → AreKeys c a b → n ≤ begun s base
     → AllWell s base [] n seen since c does → AreQuiet s base n a b k → IsLegal s (k ++ base) → IsCaused s (k ++ base) → AllWell s (k ++ base) k n seen since c does
 unfolding IsLegal IsCaused AreQuiet
 goes s base n seen since c does a b [] scene keys low start quiet legal caused = start
@@ -544,7 +545,7 @@ goes s base n seen since c does a b (e ∷ k) scene keys low start quiet legal c
       step (Called (Pass m) call reply) q l d well = called_well s h k m n seen since c does a b call reply (n == m) refl keys legal.1 scene d l.0 q well
       step (Begin pass role key at now) q l d well =
           begun_well (n == pass) (GoesWell s (Begin pass role key at now ∷ h) (Begin pass role key at now ∷ k) n seen since c does) (new_pass role key (views s h role key) now) (open_pass s h n)
-          (λ same. not_begun n pass h (begun_low k base n low) l.numbered same) (more (Begin pass role key at now) refl refl well)
+          (λ same. not_begun s n pass h (begun_low s k base n low) l.numbered same) (more (Begin pass role key at now) refl refl well)
       step (Ask pass order) q l d well = asked_well s h k pass n seen since c does order scene d well
       step (Made pass key) q l d well = given_well s (Made pass key) h k pass n seen since c does (values.Made key) refl refl d well
       step (Signed pass signature) q l d well = given_well s (Signed pass signature) h k pass n seen since c does (values.Signed signature) refl refl d well

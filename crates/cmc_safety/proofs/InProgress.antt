@@ -35,7 +35,8 @@ use Rattle.cmc_model.proofs.Writing.{IsCallOf}
 use Rattle.cmc_rules.specs.declared.progress.OpenPass.{OpenPass}
 use Rattle.cmc_rules.specs.declared.progress.Stage.{Stage}
 use Rattle.cmc_rules.specs.declared.progress.Stage.TheVariants.{Fresh, Asked, Given, Read, Saved, Wrote, Refused, Barred}
-use Rattle.cmc_rules.specs.Positions.{works_on_requests, cache}
+use Rattle.cmc_objects.specs.Watching.{works_on_requests}
+use Rattle.cmc_rules.specs.Positions.{cache}
 use Rattle.cmc_rules.specs.Viewing.{certificate_in, certificate_at, views_of, views_in, views}
 use Rattle.cmc_rules.specs.Passes.{open_pass, called, gone_on, is_as_seen, writes_stand_in, stage_read, stage_written, stage_by, stage_after, stage_given, new_pass}
 use Rattle.cmc_rules.specs.Legality.{IsLegal}

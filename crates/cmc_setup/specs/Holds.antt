@@ -2,41 +2,12 @@
 use Rattle.std.specs.Prelude.{◌≡◌, ◌==◌, ◌&&◌, Bool, true, false, not, if◌then◌else◌, List, [], ◌∷◌, Some, None}
 use Rattle.std.specs.declared.option.Option.{Option}
 use Rattle.cmc_meta.specs.declared.key.Kind.{Kind}
-use Rattle.cmc_meta.specs.declared.key.Kind.TheVariants.{Certificate, CertificateRequest, Secret}
 use Rattle.cmc_meta.specs.Keys.{kind_rank}
 use Rattle.cmc_objects.specs.declared.role.Role.{Role}
-use Rattle.cmc_objects.specs.declared.role.Role.TheVariants.{Trigger, KeyManager, RequestManager, Approver, Issuer, Issuing, Readiness, Revision}
 use Rattle.cmc_objects.specs.declared.entry.Step.{Step}
 use Rattle.cmc_objects.specs.declared.entry.Step.TheVariants.{Hold, Release}
 use Rattle.cmc_objects.specs.Roles.{role_rank}
-
--- approver and issuer are told of CertificateRequests alone, the others of Certificates
-abbrev pub is_told_of_certificates : Role → Bool
-is_told_of_certificates Approver = false
-is_told_of_certificates Issuer = false
-is_told_of_certificates other = true
-
--- all but the key manager are told of CertificateRequests
-abbrev pub is_told_of_requests : Role → Bool
-is_told_of_requests KeyManager = false
-is_told_of_requests other = true
-
--- the roles that look at private keys or issued certificates are told of Secrets
-abbrev pub is_told_of_secrets : Role → Bool
-is_told_of_secrets Trigger = true
-is_told_of_secrets KeyManager = true
-is_told_of_secrets RequestManager = true
-is_told_of_secrets Approver = false
-is_told_of_secrets Issuer = false
-is_told_of_secrets Issuing = true
-is_told_of_secrets Readiness = true
-is_told_of_secrets Revision = false
-
--- the role has an informer of the kind
-abbrev pub is_told_of : Kind → Role → Bool
-is_told_of Certificate role = is_told_of_certificates role
-is_told_of CertificateRequest role = is_told_of_requests role
-is_told_of Secret role = is_told_of_secrets role
+use Rattle.cmc_objects.specs.Watching.{has_informer}
 
 -- which informers are held
 abbrev pub Held : Type 0
@@ -57,7 +28,7 @@ is_informer kind role k r = (kind_rank kind == kind_rank k) && (role_rank role =
 -- an informer that the role has and that is not held may be held, and one that is held may be released
 abbrev pub may_grip : Held → Option (Kind × (Role × Bool)) → Bool
 may_grip held None = true
-may_grip held (Some (kind, (role, on))) = if on then is_told_of kind role && not (held kind role) else held kind role
+may_grip held (Some (kind, (role, on))) = if on then has_informer role kind && not (held kind role) else held kind role
 
 -- the informers that are held then; each stays as it is but the one that is held or released
 abbrev pub held_after : Held → Option (Kind × (Role × Bool)) → Held

@@ -3,22 +3,11 @@ ghost use Rattle.std.specs.Prelude.{◌≡◌, ◌↔◌, IsTrue, MatchOption, S
 ghost use Rattle.cmc_meta.specs.declared.key.Kind.{Kind as KindValue};
 ghost use Rattle.cmc_objects.specs.declared.role.Role.{Role as RoleValue};
 ghost use Rattle.cmc_setup.specs.Holding.{held_of};
-ghost use Rattle.cmc_setup.specs.Holds.{AreHeldInTurn, Held, is_informer, is_told_of, grip_of, held_after, may_grip, none_held};
+ghost use Rattle.cmc_setup.specs.Holds.{AreHeldInTurn, Held, is_informer, grip_of, held_after, may_grip, none_held};
 
 use crate::flags::RoleFlags;
 use cmc_meta::Kind;
-use cmc_objects::{Role, Step};
-
-/// Whether the role is told of the kind.
-pub fn is_told(kind: Kind, role: Role) -> bool
-    ensures { result ≡ is_told_of kind role }
-{
-    match kind {
-        Kind::Certificate => !matches!(role, Role::Approver | Role::Issuer),
-        Kind::CertificateRequest => !matches!(role, Role::KeyManager),
-        Kind::Secret => !matches!(role, Role::Approver | Role::Issuer | Role::Revision),
-    }
-}
+use cmc_objects::{Role, Step, has_informer};
 
 /// The informers that are held: the roles by kind.
 #[derive(Clone, Copy)]
@@ -74,7 +63,7 @@ impl Holding {
         ensures { result ≡ may_grip (held_of self) (Some (kind, (role, on))) }
     {
         if on {
-            return is_told(kind, role) && !self.has(kind, role);
+            return has_informer(role, kind) && !self.has(kind, role);
         }
         self.has(kind, role)
     }

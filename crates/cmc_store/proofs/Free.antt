@@ -1,5 +1,5 @@
 -- The search for a free number, and what a create comes to under its name.
-use Rattle.std.proofs.Common.{◌≡◌, ℕ, ℤ, zero, suc, ◌+◌, Bool, true, false, Option, Some, refl, sym, ap, subst, ◌∙◌, arith}
+use Rattle.std.proofs.Common.{◌≡◌, ℕ, ℤ, zero, suc, ◌+◌, Bool, true, false, Some, refl, sym, ap, subst, ◌∙◌, arith}
 use Rattle.std.specs.Prelude.{if◌then◌else◌, IfOk}
 use Rattle.std.specs.declared.alloc.AllocError.{AllocError}
 use Rattle.std.specs.declared.result.Result.{Result}
@@ -10,7 +10,7 @@ use Rattle.cmc_objects.specs.Objects.{key_of}
 use Rattle.cmc_model.specs.Objects.{Objects}
 use Rattle.cmc_model.specs.Stored.{created}
 use Rattle.cmc_model.specs.Generated.{free_from, free_named}
-use Rattle.cmc_model.specs.Replies.{IsServed, IsCreatedIn, is_accepted, key_of_call, settled, stored, under_reply, put_at}
+use Rattle.cmc_model.specs.Replies.{IsServed, IsCreatedIn, is_accepted, key_of_call, settled, stored, under_reply}
 use Rattle.cmc_model.proofs.Settling.{made_as}
 use Rattle.cmc_store.specs.declared.calls.Replied.{Replied}
 use Rattle.cmc_store.specs.Answers.{IsAnswer}

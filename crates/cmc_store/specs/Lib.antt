@@ -2,3 +2,4 @@ pub mod Changes
 pub mod Answers
 pub mod Kept
 pub mod Claims
+pub mod Permanence

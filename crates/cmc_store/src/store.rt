@@ -6,6 +6,7 @@ ghost use Rattle.cmc_model.specs.Objects.{object_at};
 ghost use Rattle.cmc_model.specs.Replies.{IsReply, IsServed, empty_store, is_accepted, key_of_call, key_written, object_written, settled, state_after, stored};
 ghost use Rattle.cmc_store.specs.Answers.{IsAnswer};
 ghost use Rattle.cmc_store.specs.Kept.{Kept};
+ghost use Rattle.cmc_store.specs.Permanence.{AreFinal};
 
 use crate::calls::{Replied, delete, get, update, update_status};
 use crate::catalogue::Catalogue;
@@ -27,10 +28,10 @@ pub struct Store {
 }
 
 impl Model for Store {
-    ghost use Rattle.std.specs.Prelude.{◌≤◌};
     ghost use Rattle.std.specs.Coded.{codes};
     ghost use Rattle.cmc_store.specs.contracts.catalogue.Catalogue as catalogue_row;
     ghost use Rattle.cmc_store.specs.Kept.{Kept};
+    ghost use Rattle.cmc_store.specs.Permanence.{IsStore};
 
     ghost Value = { Kept };
 
@@ -38,7 +39,7 @@ impl Model for Store {
 
     ghost view = { λ s. record { faults = s.faults; state = record { objects = s.catalogue; accepted = s.accepted; calls = s.calls } } };
 
-    ghost invariant = { λ s. s.accepted ≤ s.calls };
+    ghost invariant = { λ s. IsStore s.catalogue s.accepted s.calls };
 }
 
 impl Store {
@@ -93,13 +94,15 @@ impl Store {
     /// Makes one call at the moment `now` and answers it.
     ///
     /// A call that is not accepted leaves the objects and the count of accepted writes as they were;
-    /// want of memory leaves all.
+    /// want of memory leaves all. No request that stands is ever approved and denied, and an approval
+    /// or a denial that stood stands unchanged, as long as its request does.
     pub fn call(&mut self, alloc: Global, now: i64, call: &Call) -> Result<Replied, AllocError>
         requires room { self.old.state.calls < 2 ^ 64 - 1 }
         ensures reply { IfOk result (λ r. IsReply self.old.faults self.old.state call.now r.reply) }
         ensures after { IfOk result (λ r. self.new ≡ record { faults = self.old.faults; state = state_after now self.old.state call.now r.reply }) }
         ensures key { IfOk result (λ r. r.key ≡ key_written call.now r.reply) }
         ensures object { IfOk result (λ r. r.object ≡ object_written now self.old.state call.now r.reply) }
+        ensures verdicts { IfOk result (λ r. AreFinal self.old.state.objects self.new.state.objects) }
         ensures err { OnErr result (self.new ≡ self.old) }
     {
         let number = self.calls + 1;

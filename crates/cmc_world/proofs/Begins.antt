@@ -15,7 +15,8 @@ use Rattle.cmc_model.specs.Histories.{Setting, moment, role_eq}
 use Rattle.cmc_rules.specs.Positions.{positions}
 use Rattle.cmc_rules.specs.Viewing.{views}
 use Rattle.cmc_rules.specs.Sameness.{IsDue}
-use Rattle.cmc_rules.specs.Passes.{begun, new_pass}
+use Rattle.cmc_rules.specs.Origins.{begun}
+use Rattle.cmc_rules.specs.Passes.{new_pass}
 use Rattle.cmc_rules.specs.Memory.{past, with_begin}
 use Rattle.cmc_rules.specs.Legality.{IsBegin}
 use Rattle.cmc_rules.proofs.Positions.{begun_short}
@@ -28,16 +29,15 @@ use Rattle.cmc_world.specs.Kept.{Holdings, IsKept}
 use Rattle.cmc_world.specs.Prepared.{IsPrepared}
 use Rattle.cmc_world.proofs.Events.{kept_begun}
 use Rattle.cmc_world.proofs.Judging.{shown_is}
-use Rattle.cmc_world.proofs.Origins.{origins_count}
 use Rattle.cmc_world.proofs.Tables.{may_begin}
 
-counted : (s : Setting) (h : List Entry) (w : Holdings) (n : ℕ) → IsKept s h w → n ≡ length w.origins → n ≡ begun h
-counted s h w n k e = e ∙ ap length k.held.origins ∙ origins_count s h
+counted : (s : Setting) (h : List Entry) (w : Holdings) (n : ℕ) → IsKept s h w → n ≡ length w.origins → n ≡ begun s h
+counted s h w n k e = e ∙ ap length k.held.origins
 
 pub number_fits : (s : Setting) (h : List Entry) (w : Holdings) (n : ℕ) → IsKept s h w → length h ≤ 250000 → n ≡ length w.origins → n ≤ 250000
 number_fits s h w n k short e =
-    let same : n ≡ begun h = counted s h w n k e in
-    let low : begun h ≤ length h = begun_short h in
+    let same : n ≡ begun s h = counted s h w n k e in
+    let low : begun s h ≤ length h = begun_short s h in
     omega (arith, same, low, short)
 
 pub prepared : (s : Setting) (h : List Entry) (w : Holdings) (role : Role) (key copied : Key) (t : Standing) (at : Positions) (seen twice : Views) (pass : OpenPass) (since : ℤ) (count : ℕ)
@@ -65,7 +65,7 @@ kept_open s h w role p now later os opened pasts k m1 m2 a is came put noted =
     let later_is : later ≡ moment s h = m2 ∙ k.held.moment in
     let may = may_begin s h role p.key a in
     let due : IsDue (past s h role p.key) (views s h role p.key) (moment s h) (positions h role) = record { told = may.own; other = may.other } in
-    let begins : IsBegin s h (begun h + 1) role p.key (positions h role) (moment s h) =
+    let begins : IsBegin s h (begun s h + 1) role p.key (positions h role) (moment s h) =
     record {
       running = may.running;
       numbered = refl;
@@ -78,8 +78,8 @@ kept_open s h w role p now later os opened pasts k m1 m2 a is came put noted =
     let kept =
     kept_begun s h w role p.key os opened pasts k begins due (omega (arith, may.room))
     (came ∙ ap (λ (o : Origin). o ∷ w.origins) is.origin)
-    (λ n. put n ∙ ap (λ (m : ℕ). if n == m then Some p.pass else w.opened n) is.number ∙ ap (λ (q : OpenPass). if n == begun h + 1 then Some q else w.opened n) is.pass)
+    (λ n. put n ∙ ap (λ (m : ℕ). if n == m then Some p.pass else w.opened n) is.number ∙ ap (λ (q : OpenPass). if n == begun s h + 1 then Some q else w.opened n) is.pass)
     (λ r q. noted r q ∙ ap (λ (v : Views). if role_eq role r && key_eq p.key q then with_begin v now (w.past r q) else w.past r q) is.seen ∙ ap (λ (m : ℤ). if role_eq role r && key_eq p.key q then with_begin (views s h role p.key) m (w.past r q) else w.past r q) now_is) in
     subst (λ (m : ℕ). IsKept s (Begin m role p.key p.at later ∷ h) (record w { origins = os; opened = opened; past = pasts })) (sym is.number)
-    (subst (λ (q : Positions). IsKept s (Begin (begun h + 1) role p.key q later ∷ h) (record w { origins = os; opened = opened; past = pasts })) (sym is.at)
-    (subst (λ (m : ℤ). IsKept s (Begin (begun h + 1) role p.key (positions h role) m ∷ h) (record w { origins = os; opened = opened; past = pasts })) (sym later_is) kept))
+    (subst (λ (q : Positions). IsKept s (Begin (begun s h + 1) role p.key q later ∷ h) (record w { origins = os; opened = opened; past = pasts })) (sym is.at)
+    (subst (λ (m : ℤ). IsKept s (Begin (begun s h + 1) role p.key (positions h role) m ∷ h) (record w { origins = os; opened = opened; past = pasts })) (sym later_is) kept))

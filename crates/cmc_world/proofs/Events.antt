@@ -22,7 +22,8 @@ use Rattle.cmc_model.specs.Histories.{Setting, moment, state, accepted, incarnat
 use Rattle.cmc_model.specs.Writes.{write_of}
 use Rattle.cmc_rules.specs.Positions.{positions}
 use Rattle.cmc_rules.specs.Viewing.{views}
-use Rattle.cmc_rules.specs.Passes.{open_pass, begun, stage_after, with_stage, unless_of, new_pass, is_pass_of}
+use Rattle.cmc_rules.specs.Origins.{begun}
+use Rattle.cmc_rules.specs.Passes.{open_pass, stage_after, with_stage, unless_of, new_pass, is_pass_of}
 use Rattle.cmc_rules.specs.Memory.{past, no_past, with_begin, with_own, with_ending, ending_at, ending_of, past_called}
 use Rattle.cmc_rules.specs.Sameness.{IsDue}
 use Rattle.cmc_rules.specs.Legality.{IsDelivery, IsListing, IsBegin, IsOpen, IsLegal}
@@ -117,12 +118,12 @@ one_past : (s : Setting) (h : List Entry) (w : Holdings) (b : Bool) (f : Past �
 one_past s h w b f r key k = ap (λ (p : Past). if b then f p else p) (k.past r key)
 
 pub kept_begun : (s : Setting) (h : List Entry) (w : Holdings) (role : Role) (key : Key) (os : List Origin) (opened : ℕ → Option OpenPass) (pasts : Role → Key → Past)
-    → IsKept s h w → IsBegin s h (begun h + 1) role key (positions h role) (moment s h)
+    → IsKept s h w → IsBegin s h (begun s h + 1) role key (positions h role) (moment s h)
     → IsDue (past s h role key) (views s h role key) (moment s h) (positions h role) → length h < s.events
     → os ≡ record { role = role; incarnation = incarnation s h role } ∷ w.origins
-    → ((n : ℕ) → opened n ≡ (if n == begun h + 1 then Some (new_pass role key (views s h role key) (moment s h)) else w.opened n))
+    → ((n : ℕ) → opened n ≡ (if n == begun s h + 1 then Some (new_pass role key (views s h role key) (moment s h)) else w.opened n))
     → ((r : Role) (k : Key) → pasts r k ≡ (if role_eq role r && key_eq key k then with_begin (views s h role key) (moment s h) (w.past r k) else w.past r k))
-    → IsKept s (Begin (begun h + 1) role key (positions h role) (moment s h) ∷ h) (record w { origins = os; opened = opened; past = pasts })
+    → IsKept s (Begin (begun s h + 1) role key (positions h role) (moment s h) ∷ h) (record w { origins = os; opened = opened; past = pasts })
 unfolding IsLegal IsCaused Follows
 kept_begun s h w role key os opened pasts k may due room came put noted = record {
   held = record {
@@ -138,7 +139,7 @@ kept_begun s h w role key os opened pasts k may due room came put noted = record
     standing = k.held.standing;
     caches = k.held.caches;
     origins = came ∙ ap (λ (l : List Origin). let o : Origin = record { role = role; incarnation = incarnation s h role } in o ∷ l) k.held.origins;
-    opened = λ n. put n ∙ ap (λ (p : Option OpenPass). if n == begun h + 1 then Some (new_pass role key (views s h role key) (moment s h)) else p) (k.held.opened n);
+    opened = λ n. put n ∙ ap (λ (p : Option OpenPass). if n == begun s h + 1 then Some (new_pass role key (views s h role key) (moment s h)) else p) (k.held.opened n);
     past = λ r q. noted r q ∙ one_past s h w (role_eq role r && key_eq key q) (with_begin (views s h role key) (moment s h)) r q k.held;
     run = record {
       legal = (may, k.held.run.legal);

@@ -21,7 +21,7 @@ use Rattle.cmc_model.specs.Histories.{Setting, moment}
 use Rattle.cmc_rules.specs.Memory.{past, no_past}
 use Rattle.cmc_rules.specs.Sameness.{IsDue, IsSame}
 use Rattle.cmc_rules.specs.Positions.{positions}
-use Rattle.cmc_rules.specs.Resting.{IsIdle, IsPaused, RestsOn}
+use Rattle.cmc_rules.specs.Resting.{IsIdle, IsPaused, RestsOn, IsToldAll}
 use Rattle.cmc_rules.specs.Scripting.{has_held, held}
 use Rattle.cmc_safety.specs.Acting.{MayAct}
 use Rattle.cmc_safety.specs.Formed.{IsFormed}
@@ -30,7 +30,7 @@ use Rattle.cmc_rules.specs.Viewing.{views, present_views}
 use Rattle.cmc_rules.specs.Sameness.{own_above}
 use Rattle.cmc_world.specs.Kept.{first_desk}
 use Rattle.cmc_rules.specs.Legality.{IsLegal}
-use Rattle.cmc_world.specs.Rest.{EachKind, IsToldAll}
+use Rattle.cmc_world.specs.Rest.{EachKind}
 use Rattle.cmc_world.proofs.Newest.{IsToldOfAll, views_newest}
 use Rattle.cmc_world.proofs.Sounds.{any_desk}
 

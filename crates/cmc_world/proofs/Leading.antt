@@ -35,7 +35,7 @@ use Rattle.cmc_world.specs.declared.moves.Move.TheVariants as moves
 use Rattle.cmc_world.specs.declared.moves.Stepped.{Stepped}
 use Rattle.cmc_world.specs.declared.moves.Stepped.TheVariants.{Done, Order as Tells}
 use Rattle.cmc_world.specs.Answers.{IsEffect, IsOfPass, GrowsBy, next_effect, entries_of, delivered, beginning, Grows, LeavesAsked, Leaves, Answers, AnswersScript, kept_at, kept_of, asked_by, new_at, new_of, asked_once, value_entry}
-use Rattle.cmc_world.specs.Leading.{IsRight, Lead, Extends}
+use Rattle.cmc_world.specs.Leading.{IsRight, IsStep, Lead, Extends}
 use Rattle.cmc_rules.specs.Safety.{IsSafe}
 use Rattle.cmc_safety.specs.Formed.{IsFormed}
 use Rattle.cmc_safety.proofs.Rights.{keeps_rights}
@@ -239,6 +239,11 @@ pub keeps : (s : Setting) (ms : List Move) (h : List Entry) → IsFormed s → L
 keeps s ms h formed led =
     let so = leads s ms [] h led (begins_settled s) in
     (so.run, (keeps_rights each_sound s h formed so.run, safe each_sound s h formed so.run.legal so.run.caused so.run.follows))
+
+-- one move more
+pub led_on : (s : Setting) (ms : List Move) (h g k : List Entry) (move : Move) → Lead s ms h g → IsStep s g move k → Lead s (ms ++ move ∷ []) h k
+led_on s [] h g k move same step = (k, subst (λ (l : List Entry). IsStep s l move k) same step, refl)
+led_on s (m ∷ ms) h g k move (a, x, rest) step = (a, x, led_on s ms a g k move rest step)
 
 -- ---- the old history stands below
 

@@ -10,18 +10,12 @@ use Rattle.cmc_rules.specs.declared.progress.OpenPass.{OpenPass}
 use Rattle.cmc_rules.specs.declared.progress.Origin.{Origin}
 use Rattle.cmc_model.specs.Histories.{Setting, incarnation}
 use Rattle.cmc_rules.specs.Viewing.{views}
-use Rattle.cmc_rules.specs.Passes.{open_pass, begun, new_pass, stage_after}
+use Rattle.cmc_rules.specs.Passes.{open_pass, new_pass, stage_after}
 use Rattle.cmc_rules.specs.Origins.{origins, origin_at}
 use Rattle.cmc_rules.specs.Legality.{IsLegal}
 use Rattle.cmc_rules.proofs.Carrying.{over_call, over_ask, over_given, over_end, over_stop}
 
 -- ---- one origin for each pass
-
--- there are as many origins as passes were begun
-pub origins_count : (s : Setting) (h : List Entry) → length (origins s h) ≡ begun h
-origins_count s [] = refl
-origins_count s (Begin pass role key at now ∷ h) = omega (arith, origins_count s h)
-origins_count s (other ∷ h) = origins_count s h
 
 -- the number lies between 1 and n
 abbrev IsUpTo : ℕ → ℕ → Type 0
@@ -84,7 +78,7 @@ has_origin s [] n legal = tt
 has_origin s (Called who call reply ∷ h) n legal = over_call (HasOrigin n (origins s h)) n who (stage_after s h call reply) (open_pass s h n) (λ p has. has) (has_origin s h n legal.1)
 has_origin s (Begin pass role key at now ∷ h) n legal =
     origin_begun n pass (record { role = role; incarnation = incarnation s h role }) (origins s h) (n == pass) (new_pass role key (views s h role key) now) (open_pass s h n) refl
-    (omega (arith, origins_count s h, legal.0.numbered)) refl (has_origin s h n legal.1)
+    (omega (arith, legal.0.numbered)) refl (has_origin s h n legal.1)
 has_origin s (Ask pass order ∷ h) n legal = over_ask (HasOrigin n (origins s h)) n pass order (open_pass s h n) (λ p has. has) (has_origin s h n legal.1)
 has_origin s (Made pass key ∷ h) n legal = over_given (HasOrigin n (origins s h)) n pass (values.Made key) (open_pass s h n) (λ p has. has) (has_origin s h n legal.1)
 has_origin s (Signed pass signature ∷ h) n legal = over_given (HasOrigin n (origins s h)) n pass (values.Signed signature) (open_pass s h n) (λ p has. has) (has_origin s h n legal.1)

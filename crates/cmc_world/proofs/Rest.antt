@@ -18,8 +18,8 @@ use Rattle.cmc_model.specs.declared.write.Write.{Write}
 use Rattle.cmc_model.specs.Histories.{Setting, runs}
 use Rattle.cmc_model.specs.Writes.{writes, is_known}
 use Rattle.cmc_rules.specs.Passes.{open_pass}
-use Rattle.cmc_rules.specs.Resting.{RestsOn, IsAtRest}
-use Rattle.cmc_world.specs.Rest.{EachRole, EachKind, IsToldAll, RestsIn}
+use Rattle.cmc_rules.specs.Resting.{RestsOn, IsAtRest, IsToldAll, RestsIn}
+use Rattle.cmc_world.specs.Rest.{EachRole, EachKind}
 
 -- ---- keys
 
@@ -108,19 +108,15 @@ each_kind P = (one_kind P, λ all. (all Certificate, all CertificateRequest, all
 pub rests_in_by : (s : Setting) (h : List Entry) (role : Role)
     → (runs s h role ≡ true → EachKind (IsToldAll s h role) × All (λ (w : Write). RestsOn s h role w.key) (writes s h)) ↔ RestsIn s h role
 rests_in_by s h role = (
-  λ found running. ((found running).0, (each_known (RestsOn s h role) (writes s h)).0 (found running).1),
-  λ rests running. ((rests running).0, (each_known (RestsOn s h role) (writes s h)).1 (rests running).1),
+  λ found running. ((each_kind (IsToldAll s h role)).0 (found running).0, (each_known (RestsOn s h role) (writes s h)).0 (found running).1),
+  λ rests running. ((each_kind (IsToldAll s h role)).1 (rests running).0, (each_known (RestsOn s h role) (writes s h)).1 (rests running).1),
 )
 
 -- all is at rest where no pass is open and each role rests
 pub at_rest_by : (s : Setting) (h : List Entry) → (((pass : ℕ) → open_pass s h pass ≡ None) × ((role : Role) → RestsIn s h role)) ↔ IsAtRest s h
 at_rest_by s h = (
-  λ found. record {
-    closed = found.0;
-    told = λ role kind running. one_kind (IsToldAll s h role) (found.1 role running).0 kind;
-    idle = λ role key running. (found.1 role running).1 key;
-  },
-  λ rest. (rest.closed, λ role running. ((each_kind (IsToldAll s h role)).1 (λ kind. rest.told role kind running), λ key. rest.idle role key running)),
+  λ found. record { closed = found.0; rests = found.1 },
+  λ rest. (rest.closed, rest.rests),
 )
 
 -- the same over the eight roles

@@ -12,7 +12,8 @@ use Rattle.cmc_rules.specs.declared.progress.OpenPass.{OpenPass}
 use Rattle.cmc_objects.specs.declared.entry.Entry.{Entry}
 use Rattle.cmc_model.specs.Histories.{Setting, moment, runs}
 use Rattle.cmc_model.specs.Writes.{writes, last_of_kind}
-use Rattle.cmc_rules.specs.Positions.{has_informer, position, positions}
+use Rattle.cmc_objects.specs.Watching.{has_informer}
+use Rattle.cmc_rules.specs.Positions.{position, positions}
 use Rattle.cmc_rules.specs.Viewing.{views}
 use Rattle.cmc_rules.specs.Passes.{open_pass}
 use Rattle.cmc_rules.specs.Origins.{origins, origin_at}

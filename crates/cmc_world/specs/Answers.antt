@@ -29,10 +29,11 @@ use Rattle.cmc_rules.specs.declared.progress.Stage.{Stage}
 use Rattle.cmc_rules.specs.declared.progress.Stage.TheVariants.{Fresh, Asked}
 use Rattle.cmc_model.specs.Histories.{Setting, moment, accepted, runs, incarnation}
 use Rattle.cmc_model.specs.Writes.{writes, write_at, last_of_kind, is_known}
-use Rattle.cmc_rules.specs.Positions.{has_informer, kind_of_work, position, positions}
+use Rattle.cmc_objects.specs.Watching.{has_informer, kind_of_work}
+use Rattle.cmc_rules.specs.Positions.{position, positions}
 use Rattle.cmc_rules.specs.Viewing.{views}
-use Rattle.cmc_rules.specs.Passes.{open_pass, begun, IsWorking}
-use Rattle.cmc_rules.specs.Origins.{origins, origin_at}
+use Rattle.cmc_rules.specs.Passes.{open_pass, IsWorking}
+use Rattle.cmc_rules.specs.Origins.{origins, begun, origin_at}
 use Rattle.cmc_rules.specs.Memory.{past}
 use Rattle.cmc_rules.specs.Sameness.{IsSame}
 use Rattle.cmc_rules.specs.Legality.{IsOfKind, IsOpen}
@@ -138,7 +139,7 @@ AnswersBegin s h role key answer =
     (Need (IsQueued s h role key) (NotNow NotQueued) answer (Fits s h 1 answer)))))
 
 abbrev pub beginning : Setting → List Entry → Role → Key → Entry
-beginning s h role key = entries.Begin (begun h + 1) role key (positions h role) (moment s h)
+beginning s h role key = entries.Begin (begun s h + 1) role key (positions h role) (moment s h)
 
 -- ---- passes that go on
 

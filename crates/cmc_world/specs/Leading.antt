@@ -1,5 +1,5 @@
 -- Where lists of moves lead.
-use Rattle.std.specs.Prelude.{◌≡◌, ◌++◌, List, [], ◌∷◌}
+use Rattle.std.specs.Prelude.{◌≡◌, ◌++◌, ℕ, List, [], ◌∷◌, take}
 use Rattle.cmc_objects.specs.declared.entry.Entry.{Entry}
 use Rattle.cmc_model.specs.Histories.{Setting}
 use Rattle.cmc_pass.specs.Giving.{order_of, value_of}
@@ -25,6 +25,10 @@ pub record IsStep (s : Setting) (h : List Entry) (move : Move) (k : List Entry) 
 abbrev pub Lead : Setting → List Move → List Entry → List Entry → Type 0
 Lead s [] h k = k ≡ h
 Lead s (move ∷ moves) h k = (g : List Entry) × IsStep s h move g × Lead s moves g k
+
+-- some of the moves, from the first on, lead from the one history to the other
+abbrev pub LeadsSome : Setting → List Move → List Entry → List Entry → Type 0
+LeadsSome s moves h k = (n : ℕ) × Lead s (take n moves) h k
 
 -- below further entries stands the old history
 abbrev pub Extends : List Entry → List Entry → Type 0

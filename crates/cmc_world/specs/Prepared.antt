@@ -6,12 +6,13 @@ use Rattle.cmc_objects.specs.declared.entry.Entry.{Entry}
 use Rattle.cmc_model.specs.Histories.{Setting, moment, incarnation}
 use Rattle.cmc_rules.specs.Positions.{positions}
 use Rattle.cmc_rules.specs.Viewing.{views}
-use Rattle.cmc_rules.specs.Passes.{begun, new_pass}
+use Rattle.cmc_rules.specs.Origins.{begun}
+use Rattle.cmc_rules.specs.Passes.{new_pass}
 use Rattle.cmc_world.specs.declared.beginning.Prepared.{Prepared}
 
 -- the next pass of the role on the key, with what its entry and its role's memory take
 pub record IsPrepared (s : Setting) (h : List Entry) (role : Role) (named : Key) (p : Prepared) : Type 0 where
-  pub number : p.number ≡ begun h + 1
+  pub number : p.number ≡ begun s h + 1
   pub origin : p.origin ≡ record { role = role; incarnation = incarnation s h role }
   pub pass : p.pass ≡ new_pass role named (views s h role named) (moment s h)
   pub seen : p.seen ≡ views s h role named

@@ -15,9 +15,9 @@ ghost use Rattle.cmc_world.specs.declared.moves.Stepped.TheVariants as answers;
 
 use crate::moves::{Stepped, answer_begin};
 use crate::world::{World, has_room};
-use cmc_held::{Log, is_same, kind_of_work, own_above, shown_positions};
+use cmc_held::{Log, is_same, own_above, shown_positions};
 use cmc_meta::Key;
-use cmc_objects::{Entry, Positions, Role};
+use cmc_objects::{Entry, Positions, Role, kind_of_work};
 use cmc_pass::Views;
 use cmc_rules::{OpenPass, Origin, Past, Stage};
 use std::alloc::{AllocError, Global};

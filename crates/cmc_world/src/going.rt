@@ -156,8 +156,8 @@ fn answer_of(pass: u64, doing: &Doing) -> Result<Stepped, AllocError>
     }
 }
 
-/// What comes next of a pass has many shapes, and to let go of it is one thing for all of them.
-fn let_go<T: Drop>(value: T) {
+/// What comes next of a pass, and what a step answers, has many shapes; to let go of it is one thing for all of them.
+pub(crate) fn let_go<T: Drop>(value: T) {
     let _value = value;
 }
 

@@ -12,9 +12,11 @@ mod noting;
 mod readers;
 mod resting;
 mod scripting;
+mod steps;
 mod telling;
 mod user_writes;
 mod world;
 
 pub use moves::{Lack, Move, Stepped};
+pub use steps::make_all;
 pub use world::{World, every_list_of_moves};

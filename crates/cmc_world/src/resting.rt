@@ -20,18 +20,17 @@ ghost use Rattle.cmc_model.specs.Writes.{writes};
 ghost use Rattle.cmc_held.specs.Remembered.{past_or_new};
 ghost use Rattle.cmc_world.specs.Answers.{AnswersScript, entries_of};
 ghost use Rattle.cmc_world.specs.Kept.{setting_of};
-ghost use Rattle.cmc_world.specs.Rest.{IsToldAll, EachKind, RestsIn};
+ghost use Rattle.cmc_world.specs.Rest.{EachKind};
+ghost use Rattle.cmc_rules.specs.Resting.{IsToldAll, RestsIn};
 
 use crate::acts::act_of;
 use crate::moves::{Lack, Stepped, answer_script};
 use crate::user_writes::request_for;
 use crate::world::{World, has_room};
-use cmc_held::{
-    Standing, has_informer, is_held, is_same, own_above, shown_positions, told_of, written_of,
-};
+use cmc_held::{Standing, is_held, is_same, own_above, shown_positions, told_of, written_of};
 use cmc_meta::{Key, Kind};
 use cmc_model::Write;
-use cmc_objects::{Object, Positions, Role, Step};
+use cmc_objects::{Object, Positions, Role, Step, has_informer};
 use cmc_pass::{Act, Desk, Views};
 use cmc_rules::Past;
 use cmc_store::Store;

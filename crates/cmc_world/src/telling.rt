@@ -12,9 +12,9 @@ ghost use Rattle.cmc_world.specs.declared.moves.Stepped.TheVariants as answers;
 
 use crate::moves::{Stepped, answer_delivery};
 use crate::world::{World, has_room};
-use cmc_held::{Log, has_informer, is_held, told_of, with_told};
+use cmc_held::{Log, is_held, told_of, with_told};
 use cmc_meta::Kind;
-use cmc_objects::{Entry, Role};
+use cmc_objects::{Entry, Role, has_informer};
 use std::alloc::{AllocError, Global};
 
 fn is_news(log: &Log, position: u64, to: u64, kind: Kind) -> bool

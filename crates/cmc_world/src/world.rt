@@ -37,18 +37,33 @@ use std::marker::Model;
 ///
 /// Contracts see the scenario and the entries of the history, the newest first.
 pub struct World {
+    /// What the run was given; it never changes.
     pub(crate) scenario: Scenario,
+    /// The objects after all calls of the history, the accepted writes and the calls counted, and the calls that
+    /// fail.
     pub(crate) store: Store,
+    /// The accepted writes of the history.
     pub(crate) log: Log,
+    /// All that was done. Every other field is what this says, and is kept so that nothing has to read it again.
     pub(crate) history: History,
+    /// The scenario's moment, or that of the last tick.
     pub(crate) moment: i64,
+    /// How many steps of the script were made; nothing that they have happen is owed.
     pub(crate) made: u64,
+    /// Of each role whether it runs and in which incarnation, how far it was told of each kind, and which of its
+    /// informers are held.
     pub(crate) standings: Standings,
+    /// Of each role and kind the objects up to where it was told.
     pub(crate) caches: Caches,
+    /// Of each pass that was begun its role and the incarnation in which it began.
     pub(crate) origins: Origins,
+    /// The open passes under their numbers, each with what it saw and how far it has come.
     pub(crate) passes: Passes,
+    /// Of each role and key the last pass and the own writes since the role's last start.
     pub(crate) pasts: Pasts,
+    /// How many questions were asked for each Certificate's name.
     pub(crate) questions: Questions,
+    /// The rows and the approver's rules of the scenario, with no question asked.
     pub(crate) desk: Desk,
 }
 

@@ -1,9 +1,9 @@
-//! What each role looks at.
+//! Which objects each role looks at, and so which kinds it watches.
 ghost use Rattle.std.specs.Prelude.{◌≡◌};
-ghost use Rattle.cmc_rules.specs.Positions as tables;
+ghost use Rattle.cmc_objects.specs.Watching as tables;
 
+use crate::role::Role;
 use cmc_meta::Kind;
-use cmc_objects::Role;
 
 /// Whether the keys of the role are those of CertificateRequests; all other roles work on keys of
 /// Certificates.
@@ -54,7 +54,7 @@ pub fn kind_of_work(role: Role) -> Kind
     }
 }
 
-/// Whether the role is told of the kind.
+/// Whether the role is told of the kind: it has an informer of each kind that it looks at, and of no other.
 pub fn has_informer(role: Role, kind: Kind) -> bool
     ensures { result ≡ tables.has_informer role kind }
 {
