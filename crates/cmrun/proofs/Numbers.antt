@@ -53,29 +53,29 @@ refused true m h = absurd (h refl)
 refused false m h = refl
 
 pub number_found : (least most n : ℕ) (text : List ℕ)
-  → IsNumeral 10 (without_leading_plus text) → n ≡ digits_value 10 (without_leading_plus text) → least ≤ n → n ≤ most
-  → Some n ≡ number_in least most text
+    → IsNumeral 10 (without_leading_plus text) → n ≡ digits_value 10 (without_leading_plus text) → least ≤ n → n ≤ most
+    → Some n ≡ number_in least most text
 number_found least most n text h e low high =
     answered _ n _
     (joined_true (is_numeral (without_leading_plus text)) _ (numeral _ h)
-      (joined_true (nat_le least (digits_value 10 (without_leading_plus text))) _ (grind (arith, nat_tests, e, low)) (grind (arith, nat_tests, e, high))))
+    (joined_true (nat_le least (digits_value 10 (without_leading_plus text))) _ (grind (arith, nat_tests, e, low)) (grind (arith, nat_tests, e, high))))
     e
 
 bounds : (least most : ℕ) (text : List ℕ) → (is_numeral (without_leading_plus text) && (nat_le least (digits_value 10 (without_leading_plus text)) && nat_le (digits_value 10 (without_leading_plus text)) most)) ≡ true
-  → IsNumeral 10 (without_leading_plus text) × (least ≤ digits_value 10 (without_leading_plus text)) × (digits_value 10 (without_leading_plus text) ≤ most)
+    → IsNumeral 10 (without_leading_plus text) × (least ≤ digits_value 10 (without_leading_plus text)) × (digits_value 10 (without_leading_plus text) ≤ most)
 bounds least most text h =
     let parts : (is_numeral (without_leading_plus text) ≡ true) × ((nat_le least (digits_value 10 (without_leading_plus text)) && nat_le (digits_value 10 (without_leading_plus text)) most) ≡ true) = both_true (is_numeral (without_leading_plus text)) _ h in
     let inner : (nat_le least (digits_value 10 (without_leading_plus text)) ≡ true) × (nat_le (digits_value 10 (without_leading_plus text)) most ≡ true) = both_true (nat_le least (digits_value 10 (without_leading_plus text))) _ parts.1 in
     (is_read _ parts.0, grind (arith, nat_tests, inner.0), grind (arith, nat_tests, inner.1))
 
 pub number_low : (least most n : ℕ) (text : List ℕ)
-  → n ≡ digits_value 10 (without_leading_plus text) → n < least → None ≡ number_in least most text
+    → n ≡ digits_value 10 (without_leading_plus text) → n < least → None ≡ number_in least most text
 number_low least most n text e low = refused _ _ (λ h. let b = bounds least most text h in omega (arith, b.1, e, low))
 
 pub number_high : (least most n : ℕ) (text : List ℕ)
-  → n ≡ digits_value 10 (without_leading_plus text) → most < n → None ≡ number_in least most text
+    → n ≡ digits_value 10 (without_leading_plus text) → most < n → None ≡ number_in least most text
 number_high least most n text e high = refused _ _ (λ h. let b = bounds least most text h in omega (arith, b.2, e, high))
 
 pub number_missed : (least most : ℕ) (text : List ℕ) → most < 2 ^ 32
-  → (IsNumeral 10 (without_leading_plus text) × (digits_value 10 (without_leading_plus text) < 2 ^ 32) → ⊥) → None ≡ number_in least most text
+    → (IsNumeral 10 (without_leading_plus text) × (digits_value 10 (without_leading_plus text) < 2 ^ 32) → ⊥) → None ≡ number_in least most text
 number_missed least most text small h = refused _ _ (λ k. let b = bounds least most text k in h (b.0, omega (arith, b.2, small)))

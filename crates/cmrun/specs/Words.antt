@@ -9,7 +9,6 @@ use Rattle.cmrun.specs.declared.words.Command.{Command}
 use Rattle.cmrun.specs.declared.words.Command.TheVariants.{Run, Load}
 
 infixl 20 ◌>>=◌
-
 abbrev ◌>>=◌ : {T U : Type 0} → Option T → (T → Option U) → Option U
 o >>= f = option_and_then f o
 

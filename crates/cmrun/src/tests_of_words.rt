@@ -157,7 +157,10 @@ fn assert_written(
     for (words, expected) in rows {
         let ended = run_with(alloc, *words, input.as_bytes(), failing_reads(*words), &[])?;
         assert!(rt; matches!(ended.status, Status::Done), "at {words}");
-        assert!(rt; ended.written.as_slice() == expected.as_bytes(), "at {words}");
+        assert!(rt;
+            ended.written.as_slice() == expected.as_bytes(),
+            "at {words}"
+        );
     }
     Ok(())
 }
@@ -171,8 +174,9 @@ const LOAD_OF_ONE: &str =
 #[test]
 fn writes_loads_and_summaries(rt: HostRuntime) -> Result<(), Fail> {
     let alloc = rt.alloc();
-    let input =
-        format!(in alloc; "{{\"roles\":[],\"script\":[{{\"do\":\"apply\",\"object\":{WEB}}}]}}")?;
+    let input = format!(in alloc;
+        "{{\"roles\":[],\"script\":[{{\"do\":\"apply\",\"object\":{WEB}}}]}}"
+    )?;
     assert_written(&rt, alloc, input.as_str(), &WRITTEN)?;
     let ended = run_with(alloc, "load 1", b"", &[1], &[])?;
     assert!(rt; matches!(ended.status, Status::Done));

@@ -59,12 +59,7 @@ impl From<AllocError> for Status {
 }
 
 /// The lines of a finished world, whose scenario the value is, or the line of its summary alone.
-fn lines_of(
-    alloc: Global,
-    alone: bool,
-    value: &Value,
-    world: &World,
-) -> Result<Lines, AllocError>
+fn lines_of(alloc: Global, alone: bool, value: &Value, world: &World) -> Result<Lines, AllocError>
     requires float_free { has_float (view value.now) ≡ false }
     requires ends { EndsPlainly world.now.scenario IsFinished world.now }
     ensures { IfOk result (λ lines. RunsOn alone (view value.now) world.now.scenario (joined lines)) }
