@@ -19,3 +19,7 @@ entry_lines (e ∷ h) = entry_lines h ++ line_of (entry_tree (length h + 1) e) �
 -- The lines of a run: the scenario, each entry of the history, whose newest entry stands at the head, and the summary.
 unfoldable pub history_lines : Data → List Entry → Summary → List (List ℕ)
 history_lines scenario history summary = line_of (scenario_tree scenario) ∷ (entry_lines history ++ line_of (summary_tree summary) ∷ [])
+
+-- The line of the summary alone.
+abbrev pub summary_lines : Summary → List (List ℕ)
+summary_lines summary = line_of (summary_tree summary) ∷ []

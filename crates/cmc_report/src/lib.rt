@@ -12,4 +12,4 @@ mod summaries;
 mod text;
 
 pub use lines::Lines;
-pub use text::history_text;
+pub use text::{history_text, summary_text};

@@ -2,7 +2,7 @@
 ghost use Rattle.std.specs.Prelude.{◌≡◌, ◌++◌, false, reverse, IfOk, OnOk};
 ghost use Rattle.serde_json.specs.View.{view};
 ghost use Rattle.serde_json.specs.Written.{has_float};
-ghost use Rattle.cmc_report.specs.Text.{entry_lines, history_lines};
+ghost use Rattle.cmc_report.specs.Text.{entry_lines, history_lines, summary_lines};
 
 use crate::entries::entry_line;
 use crate::lines::Lines;
@@ -42,6 +42,15 @@ pub fn history_text(
     let mut lines = Lines::new(alloc);
     lines.push(scenario_line(alloc, scenario)?)?;
     push_entries(&mut lines, alloc, history.as_slice())?;
+    lines.push(summary_line(alloc, summary)?)?;
+    Ok(lines)
+}
+
+/// The line of the summary alone, as it ends the lines of a run.
+pub fn summary_text(alloc: Global, summary: &Summary) -> Result<Lines, AllocError>
+    ensures { IfOk result (λ lines. lines ≡ summary_lines summary.now) }
+{
+    let mut lines = Lines::new(alloc);
     lines.push(summary_line(alloc, summary)?)?;
     Ok(lines)
 }

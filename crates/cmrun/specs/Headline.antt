@@ -1,5 +1,5 @@
--- What a run writes for what it reads.
-use Rattle.std.specs.Prelude.{◌≡◌, ◌⊎◌, ℕ, List, Some, None, Ok, Err}
+-- What a run writes for what it reads, or for the scenario that is made for it.
+use Rattle.std.specs.Prelude.{◌≡◌, ◌⊎◌, ℕ, Bool, true, false, List, Some, None, Ok, Err}
 use Rattle.std.specs.Str.{IsUtf8}
 use Rattle.serde_json.specs.Data.{Data}
 use Rattle.serde_json.specs.Read.{read}
@@ -9,9 +9,12 @@ use Rattle.cmc_rules.specs.Safety.{IsSafe}
 use Rattle.cmc_rules.specs.Runs.{IsRun, IsFinished}
 use Rattle.cmc_safety.specs.Completing.{CompletesIssuing}
 use Rattle.cmc_safety.specs.Standing.{IsInOrder}
-use Rattle.cmc_report.specs.Text.{joined, history_lines}
+use Rattle.cmc_report.specs.Text.{joined, history_lines, summary_lines}
+use Rattle.cmc_summary.specs.declared.summary.Summary.{Summary}
 use Rattle.cmc_setup.specs.declared.scenario.Scenario.{Scenario}
 use Rattle.cmc_scenario.specs.Scenarios.{scenario_at}
+use Rattle.cmc_scenario.specs.Loads.{load_setup}
+use Rattle.cmc_scenario_print.specs.ScenarioTree.{scenario_tree}
 use Rattle.cmc_world.specs.Kept.{setting_of}
 use Rattle.cmc_plain.specs.Histories.{IsPlain, IsFull}
 use Rattle.cmc_plain.specs.Waits.{summary_at}
@@ -21,8 +24,13 @@ pub record Reads (bytes : List ℕ) (value : Data) : Type 0 where
   pub utf8 : IsUtf8 bytes
   pub json : read bytes ≡ Some value
 
--- the text is that of a finished history of the scenario, which is read from this value: of the one that the plain order makes
-pub record RunsOn (value : Data) (scenario : Scenario) (text : List ℕ) : Type 0 where
+-- what is printed of a history of the scenario that this value says: all of it, or the summary line alone
+abbrev pub printed_lines : Bool → Data → List Entry → Summary → List (List ℕ)
+printed_lines false value history summary = history_lines value history summary
+printed_lines true value history summary = summary_lines summary
+
+-- the text is that of a finished history of the scenario, which this value says: of the one that the plain order makes
+pub record RunsOn (alone : Bool) (value : Data) (scenario : Scenario) (text : List ℕ) : Type 0 where
   pub history : List Entry
   pub run : IsRun (setting_of scenario) history
   pub rights : KeepsRights (setting_of scenario) history
@@ -31,19 +39,23 @@ pub record RunsOn (value : Data) (scenario : Scenario) (text : List ℕ) : Type 
   pub order : IsInOrder (setting_of scenario) history
   pub plain : IsPlain (setting_of scenario) history
   pub finished : IsFinished (setting_of scenario) history
-  pub is : text ≡ joined (history_lines value history (summary_at (setting_of scenario) history))
+  pub is : text ≡ joined (printed_lines alone value history (summary_at (setting_of scenario) history))
 
 -- the value is that of a scenario, and the text that of a finished history of it
-pub record Answers (value : Data) (text : List ℕ) : Type 0 where
+pub record Answers (alone : Bool) (value : Data) (text : List ℕ) : Type 0 where
   pub scenario : Scenario
   pub form : scenario_at value ≡ Ok scenario
-  pub runs : RunsOn value scenario text
+  pub runs : RunsOn alone value scenario text
 
 -- the bytes are JSON of a scenario, and the text answers it
-pub record IsRunOf (bytes text : List ℕ) : Type 0 where
+pub record IsRunOf (alone : Bool) (bytes text : List ℕ) : Type 0 where
   pub value : Data
   pub reads : Reads bytes value
-  pub answer : Answers value text
+  pub answer : Answers alone value text
+
+-- the text is that of a finished history of the generated scenario of so many Certificates
+abbrev pub IsLoadOf : Bool → ℕ → List ℕ → Type 0
+IsLoadOf alone count text = RunsOn alone (scenario_tree (load_setup count)) (load_setup count) text
 
 -- the bytes are no JSON
 abbrev pub HasNoReading : List ℕ → Type 0

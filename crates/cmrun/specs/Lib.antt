@@ -4,3 +4,5 @@ pub mod Readings
 pub mod Memory
 pub mod Headline
 pub mod Statuses
+pub mod Words
+pub mod Said

@@ -1,22 +1,16 @@
 -- What each status says of what was read and written.
-use Rattle.std.specs.Prelude.{◌≡◌, ◌⊎◌, ℕ, ◌<◌, ◌≤◌, Err, List, [], ◌∷◌, Bool, true, false, length, codes, String, string_bytes}
-use Rattle.std.specs.declared.alloc.Global.{Global}
-use Rattle.std.specs.declared.option.Option.{Option}
-use Rattle.std.specs.Str.{bytes_eq}
+use Rattle.std.specs.Prelude.{◌≡◌, ◌⊎◌, ℕ, ◌<◌, ◌≤◌, Err, List, [], Bool, true, false, Option, Some, None, IfSome, length, codes}
 use Rattle.std.specs.Io.KnownBytes.{Appends, Keeps, IsAtEnd}
 use Rattle.serde_json.specs.Data.{Data}
 use Rattle.cmc_setup.specs.declared.scenario.Scenario.{Scenario}
 use Rattle.cmc_scenario.specs.Scenarios.{scenario_at}
+use Rattle.cmc_scenario.specs.Loads.{load_setup}
 use Rattle.cmrun.specs.Ends.{AppendsPrefix, ConsumesExactly, ConsumesAtMost, risen}
-use Rattle.cmrun.specs.Headline.{IsRunOf, HasNoReading, FailsAt, Spends, SpendsValue, SpendsAll}
+use Rattle.cmrun.specs.Headline.{IsRunOf, IsLoadOf, HasNoReading, FailsAt, Spends, SpendsValue, SpendsAll}
+use Rattle.cmrun.specs.declared.words.Command.{Command}
+use Rattle.cmrun.specs.declared.words.Command.TheVariants.{Run, Load}
 use Rattle.cmrun.specs.declared.top.Status.{Status}
 use Rattle.cmrun.specs.declared.top.Status.TheVariants.{Done, TooLong, NotJson, BadScenario, Usage, ReadFault, WriteFault, NoMemory, Spent}
-
--- the words are the one word `run`
-abbrev pub is_run_words : List (String Global) → Bool
-is_run_words [] = false
-is_run_words (word ∷ []) = bytes_eq (string_bytes word) (codes "run")
-is_run_words (word ∷ other ∷ words) = false
 
 -- why a scenario was not run to its end
 abbrev pub SpendsOn : Scenario → Status → Type 0
@@ -61,28 +55,51 @@ IsShort bytes = length bytes ≤ 16777216
 abbrev pub IsLong : List ℕ → Type 0
 IsLong bytes = 16777216 < length bytes
 
--- What a status says of the bytes that could be read, and of what the sink held and holds. An input that is too long is
--- answered by TooLong, unless a fault or want of memory comes before.
-abbrev pub Explains : Status → List ℕ → Option (List ℕ) → Option (List ℕ) → Type 0
-Explains Done bytes old new = IsShort bytes × ((text : List ℕ) × IsRunOf bytes text × Appends old new text)
-Explains WriteFault bytes old new = IsShort bytes × ((text : List ℕ) × IsRunOf bytes text × AppendsPrefix old new text)
-Explains TooLong bytes old new = IsLong bytes × Keeps old new
-Explains NotJson bytes old new = IsShort bytes × (HasNoReading bytes × Keeps old new)
-Explains (BadScenario path) bytes old new = IsShort bytes × (FailsAt bytes path × Keeps old new)
-Explains Spent bytes old new = IsShort bytes × (SpendsAll bytes × Keeps old new)
-Explains Usage bytes old new = Keeps old new
-Explains ReadFault bytes old new = Keeps old new
-Explains NoMemory bytes old new = Keeps old new
+-- What a status says, at `run`, of the bytes that could be read, and of what the sink held and holds. An input that is too
+-- long is answered by TooLong, unless a fault or want of memory comes before.
+abbrev pub ExplainsRun : Bool → Status → List ℕ → Option (List ℕ) → Option (List ℕ) → Type 0
+ExplainsRun alone Done bytes old new = IsShort bytes × ((text : List ℕ) × IsRunOf alone bytes text × Appends old new text)
+ExplainsRun alone WriteFault bytes old new = IsShort bytes × ((text : List ℕ) × IsRunOf alone bytes text × AppendsPrefix old new text)
+ExplainsRun alone TooLong bytes old new = IsLong bytes × Keeps old new
+ExplainsRun alone NotJson bytes old new = IsShort bytes × (HasNoReading bytes × Keeps old new)
+ExplainsRun alone (BadScenario path) bytes old new = IsShort bytes × (FailsAt bytes path × Keeps old new)
+ExplainsRun alone Spent bytes old new = IsShort bytes × (SpendsAll bytes × Keeps old new)
+ExplainsRun alone ReadFault bytes old new = Keeps old new
+ExplainsRun alone NoMemory bytes old new = Keeps old new
+ExplainsRun alone Usage bytes old new = ⊥
 
--- What a status says of what was left of the source and of what is left: at Usage all of it, at a fault or want of memory
--- what stands behind at most one byte above the limit, and at TooLong what stands behind exactly that byte. Else it was
--- read to its end.
-abbrev pub Leaves : Status → Option (List ℕ) → Option (List ℕ) → Type 0
-Leaves Usage old new = Keeps old new
-Leaves TooLong old new = ConsumesExactly old new 16777217
-Leaves ReadFault old new = ConsumesAtMost old new 16777217
-Leaves NoMemory old new = ConsumesAtMost old new 16777217
-Leaves other old new = IsAtEnd new
+-- What a status says, at `load`, of what the sink held and holds. No other status comes: what is not read can't be too
+-- long, no JSON or no scenario, and can't fail to be read.
+abbrev pub ExplainsLoad : Bool → ℕ → Status → Option (List ℕ) → Option (List ℕ) → Type 0
+ExplainsLoad alone count Done old new = (text : List ℕ) × IsLoadOf alone count text × Appends old new text
+ExplainsLoad alone count WriteFault old new = (text : List ℕ) × IsLoadOf alone count text × AppendsPrefix old new text
+ExplainsLoad alone count Spent old new = Spends (load_setup count) × Keeps old new
+ExplainsLoad alone count NoMemory old new = Keeps old new
+ExplainsLoad alone count TooLong old new = ⊥
+ExplainsLoad alone count NotJson old new = ⊥
+ExplainsLoad alone count (BadScenario path) old new = ⊥
+ExplainsLoad alone count ReadFault old new = ⊥
+ExplainsLoad alone count Usage old new = ⊥
+
+-- What a status says of what was left to read, where that is told, and of what the sink held and holds.
+abbrev pub Explains : Option Command → Status → Option (List ℕ) → Option (List ℕ) → Option (List ℕ) → Type 0
+Explains None status left old new = Keeps old new
+Explains (Some (Run workers alone)) status left old new = IfSome left (λ bytes. ExplainsRun alone status bytes old new)
+Explains (Some (Load count workers alone)) status left old new = ExplainsLoad alone count status old new
+
+-- What a status says, at `run`, of what was left of the source and of what is left: at a fault or want of memory what stands
+-- behind at most one byte above the limit, and at TooLong what stands behind exactly that byte. Else it was read to its end.
+abbrev pub LeavesRun : Status → Option (List ℕ) → Option (List ℕ) → Type 0
+LeavesRun TooLong old new = ConsumesExactly old new 16777217
+LeavesRun ReadFault old new = ConsumesAtMost old new 16777217
+LeavesRun NoMemory old new = ConsumesAtMost old new 16777217
+LeavesRun other old new = IsAtEnd new
+
+-- The same for every command: all of it is left but at `run`.
+abbrev pub Leaves : Option Command → Status → Option (List ℕ) → Option (List ℕ) → Type 0
+Leaves None status old new = Keeps old new
+Leaves (Some (Run workers alone)) status old new = LeavesRun status old new
+Leaves (Some (Load count workers alone)) status old new = Keeps old new
 
 -- the count of reads that failed: one more at ReadFault, and none else
 abbrev pub reads_failed : Status → ℕ → ℕ
@@ -94,10 +111,11 @@ abbrev pub writes_failed : Status → ℕ → ℕ
 writes_failed WriteFault before = risen before
 writes_failed other before = before
 
--- the status comes before anything is read
-abbrev pub reads_nothing : Status → Bool
-reads_nothing Usage = true
-reads_nothing other = false
+-- only `run` reads
+abbrev pub reads_nothing : Option Command → Bool
+reads_nothing None = true
+reads_nothing (Some (Run workers alone)) = false
+reads_nothing (Some (Load count workers alone)) = true
 
 -- the status comes before anything is written
 abbrev pub writes_nothing : Status → Bool

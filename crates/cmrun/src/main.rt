@@ -1,13 +1,16 @@
 // Runs cert-manager's certificate controllers over a modelled Kubernetes API store.
 //
 // `cmrun run` reads a scenario from standard input, runs its script and its controllers on an empty store,
-// and prints the history of the run and a summary to standard output.
+// and prints the history of the run and a summary to standard output. `cmrun load COUNT` does the same with a
+// scenario that it makes, of COUNT Certificates that are issued and renewed, and reads nothing. With `--summary`
+// the summary alone is printed. `--workers N` is read, and changes nothing: every run is that of the plain order.
 #![tactic(auto)]
 
 mod memory;
 mod sink;
 mod source;
 mod top;
+mod words;
 
 use cmc_answers::ScriptedSigner;
 use cmc_keys::ScriptedKeys;
@@ -18,7 +21,7 @@ use std::env;
 use std::process::ExitCode;
 use top::{Status, code, failing_path, message, run};
 
-fn words(rt: &HostRuntime) -> Result<Vec<String>, AllocError> {
+fn command_line(rt: &HostRuntime) -> Result<Vec<String>, AllocError> {
     let mut words = Vec::new(rt.alloc());
     if let Ok(args) = env::args(rt) {
         for word in args.skip(1) {
@@ -29,7 +32,7 @@ fn words(rt: &HostRuntime) -> Result<Vec<String>, AllocError> {
 }
 
 fn main(rt: HostRuntime) -> ExitCode {
-    let status = match words(&rt) {
+    let status = match command_line(&rt) {
         Ok(words) => {
             let mut source = StdSource::new(rt.stdin());
             let mut sink = StdSink::new(rt.stdout());
@@ -53,6 +56,10 @@ fn main(rt: HostRuntime) -> ExitCode {
 #[cfg(test)]
 mod tests;
 #[cfg(test)]
+mod tests_of_rows;
+#[cfg(test)]
 mod tests_of_steps;
 #[cfg(test)]
 mod tests_of_waits;
+#[cfg(test)]
+mod tests_of_words;

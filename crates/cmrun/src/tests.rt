@@ -32,9 +32,20 @@ fn numbers(alloc: Global, list: &[u64]) -> Result<Numbers, AllocError> {
     Ok(numbers)
 }
 
-fn run_with(
+/// The words of a command line, between which a blank stands; none where the text is empty.
+pub(crate) fn words_of(alloc: Global, text: &str) -> Result<Vec<String>, AllocError> {
+    let mut words = Vec::new(alloc);
+    if !text.is_empty() {
+        for word in text.split(" ") {
+            words.push(String::from_str(alloc, word)?)?;
+        }
+    }
+    Ok(words)
+}
+
+pub(crate) fn run_with(
     alloc: Global,
-    word: &str,
+    words: &str,
     input: &[u8],
     failing_reads: &[u64],
     failing_writes: &[u64],
@@ -42,8 +53,7 @@ fn run_with(
     let bytes = Bytes::from_slice(alloc, input)?;
     let mut source = MemSource::new(alloc, bytes, numbers(alloc, failing_reads)?)?;
     let mut sink = MemSink::new(alloc, numbers(alloc, failing_writes)?)?;
-    let mut words = Vec::new(alloc);
-    words.push(String::from_str(alloc, word)?)?;
+    let words = words_of(alloc, words)?;
     let status = run(
         alloc,
         words.as_slice(),
@@ -502,15 +512,14 @@ fn writes_each_line_as_one_piece(rt: HostRuntime) -> Result<(), Fail> {
 /// How a run ended, and how many of the next eight bytes its source still has.
 fn left_by(
     alloc: Global,
-    word: &str,
+    words: &str,
     input: &[u8],
     failing_reads: &[u64],
 ) -> Result<(Status, usize), Fail> {
     let bytes = Bytes::from_slice(alloc, input)?;
     let mut source = MemSource::new(alloc, bytes, numbers(alloc, failing_reads)?)?;
     let mut sink = MemSink::new(alloc, Numbers::new(alloc))?;
-    let mut words = Vec::new(alloc);
-    words.push(String::from_str(alloc, word)?)?;
+    let words = words_of(alloc, words)?;
     let status = run(
         alloc,
         words.as_slice(),
@@ -531,6 +540,9 @@ fn stops_reading_where_a_run_ends(rt: HostRuntime) -> Result<(), Fail> {
     let alloc = rt.alloc();
     let (status, left) = left_by(alloc, "load", b"{}", &[])?;
     assert!(rt; matches!(status, Status::Usage));
+    assert_eq!(rt; left, 2);
+    let (status, left) = left_by(alloc, "load 1 --summary", b"{}", &[])?;
+    assert!(rt; matches!(status, Status::Done));
     assert_eq!(rt; left, 2);
     let (status, left) = left_by(alloc, "run", b"[]", &[])?;
     assert!(rt; matches!(status, Status::BadScenario(_)));

@@ -1,22 +1,25 @@
 // The top call: from the bytes read to the bytes written.
 ghost use Rattle.serde_json.specs.View.{view};
 ghost use Rattle.serde_json.specs.Written.{has_float};
-ghost use Rattle.std.specs.Prelude.{◌≡◌, ◌↔◌, true, false, IfOk, IfErr, IfSome};
+ghost use Rattle.std.specs.Prelude.{◌≡◌, ◌≢◌, ◌≤◌, ◌↔◌, true, false, None, IfOk, IfErr, IfSome};
 ghost use Rattle.std.specs.Str.{IsUtf8};
 ghost use Rattle.cmc_report.specs.Text.{joined};
 ghost use Rattle.cmc_plain.specs.Driving.{EndsPlainly};
 ghost use Rattle.cmc_rules.specs.Runs.{IsFinished};
-ghost use Rattle.cmrun.specs.Headline.{Answers, IsRunOf, RunsOn};
-ghost use Rattle.cmrun.specs.Statuses.{Explains, Leaves, Refuses, RefusesValue, SpendsOn, exit_code, is_run_words, message_of, path_of, reads_failed, reads_nothing, writes_failed, writes_nothing};
+ghost use Rattle.cmc_scenario.specs.Loads.{load_setup};
+ghost use Rattle.cmrun.specs.Headline.{Answers, IsLoadOf, IsRunOf, RunsOn};
+ghost use Rattle.cmrun.specs.Statuses.{Explains, ExplainsLoad, ExplainsRun, Leaves, LeavesRun, Refuses, RefusesValue, SpendsOn, exit_code, message_of, path_of, reads_failed, reads_nothing, writes_failed, writes_nothing};
+ghost use Rattle.cmrun.specs.Words.{command_of};
 
 use crate::sink::{Sink, write_lines};
 use crate::source::{ReadError, Source, read_all};
+use crate::words::{Command, read_words};
 use cmc_answers::Signer;
 use cmc_keys::KeyMaker;
 use cmc_meta::Text;
 use cmc_plain::{Driven, drive_plain, summary};
-use cmc_report::{Lines, history_text};
-use cmc_scenario::{BadScenario, Scenario, read};
+use cmc_report::{Lines, history_text, summary_text};
+use cmc_scenario::{BadScenario, Scenario, generate, read, value_of_scenario};
 use cmc_world::World;
 use serde_json::{Category, Value};
 use std::alloc::{AllocError, Global};
@@ -33,7 +36,7 @@ pub enum Status {
     NotJson,
     /// The input is JSON, but no scenario: it fails at this path first.
     BadScenario(Text),
-    /// The words are not the one word `run`.
+    /// The words are not of the command line's form.
     Usage,
     /// A read failed.
     ReadFault,
@@ -55,31 +58,35 @@ impl From<AllocError> for Status {
     }
 }
 
-/// The lines of a finished world, whose scenario the value is.
-fn lines_of(alloc: Global, value: &Value, world: &World) -> Result<Lines, AllocError>
+/// The lines of a finished world, whose scenario the value is, or the line of its summary alone.
+fn lines_of(alloc: Global, alone: bool, value: &Value, world: &World) -> Result<Lines, AllocError>
     requires float_free { has_float (view value.now) ≡ false }
     requires ends { EndsPlainly world.now.scenario IsFinished world.now }
-    ensures { IfOk result (λ lines. RunsOn (view value.now) world.now.scenario (joined lines)) }
+    ensures { IfOk result (λ lines. RunsOn alone (view value.now) world.now.scenario (joined lines)) }
 {
     world.is_run();
     let counts = summary(alloc, world)?;
+    if alone {
+        return summary_text(alloc, &counts);
+    }
     history_text(alloc, value, world.history(), &counts)
 }
 
 /// The lines of the run of a scenario, which the value is.
 fn run_of<M: KeyMaker, N: Signer>(
     alloc: Global,
+    alone: bool,
     value: &Value,
     scenario: Scenario,
     keys: &M,
     signer: &N,
 ) -> Result<Lines, Status>
     requires float_free { has_float (view value.now) ≡ false }
-    ensures ok { IfOk result (λ lines. RunsOn (view value.now) scenario (joined lines)) }
+    ensures ok { IfOk result (λ lines. RunsOn alone (view value.now) scenario (joined lines)) }
     ensures err { IfErr result (λ status. SpendsOn scenario status) }
 {
     match drive_plain(alloc, scenario, keys, signer)? {
-        Driven::Finished(world) => Ok(lines_of(alloc, value, &world)?),
+        Driven::Finished(world) => Ok(lines_of(alloc, alone, value, &world)?),
         Driven::Spent(_) => Err(Status::Spent),
     }
 }
@@ -87,15 +94,16 @@ fn run_of<M: KeyMaker, N: Signer>(
 /// The lines of the run of a value.
 fn answer<M: KeyMaker, N: Signer>(
     alloc: Global,
+    alone: bool,
     value: &Value,
     keys: &M,
     signer: &N,
 ) -> Result<Lines, Status>
-    ensures ok { IfOk result (λ lines. Answers (view value.now) (joined lines)) }
+    ensures ok { IfOk result (λ lines. Answers alone (view value.now) (joined lines)) }
     ensures err { IfErr result (λ status. RefusesValue (view value.now) status) }
 {
     match read(alloc, value) {
-        Ok(scenario) => run_of(alloc, value, scenario, keys, signer),
+        Ok(scenario) => run_of(alloc, alone, value, scenario, keys, signer),
         Err(BadScenario::Path(path)) => Err(Status::BadScenario(path)),
         Err(BadScenario::NoMemory) => Err(Status::NoMemory),
     }
@@ -104,16 +112,17 @@ fn answer<M: KeyMaker, N: Signer>(
 /// The lines of the run of a text.
 fn answer_text<M: KeyMaker, N: Signer>(
     alloc: Global,
+    alone: bool,
     text: &str,
     keys: &M,
     signer: &N,
 ) -> Result<Lines, Status>
     requires { IsUtf8 text.now }
-    ensures ok { IfOk result (λ lines. IsRunOf text.now (joined lines)) }
+    ensures ok { IfOk result (λ lines. IsRunOf alone text.now (joined lines)) }
     ensures err { IfErr result (λ status. Refuses text.now status) }
 {
     match Value::from_str(alloc, text) {
-        Ok(value) => answer(alloc, &value, keys, signer),
+        Ok(value) => answer(alloc, alone, &value, keys, signer),
         Err(error) => match error.classify() {
             Category::Memory => Err(Status::NoMemory),
             _ => Err(Status::NotJson),
@@ -124,26 +133,36 @@ fn answer_text<M: KeyMaker, N: Signer>(
 /// The lines of the run of some bytes.
 fn answer_bytes<M: KeyMaker, N: Signer>(
     alloc: Global,
+    alone: bool,
     bytes: &[u8],
     keys: &M,
     signer: &N,
 ) -> Result<Lines, Status>
-    ensures ok { IfOk result (λ lines. IsRunOf bytes.now (joined lines)) }
+    ensures ok { IfOk result (λ lines. IsRunOf alone bytes.now (joined lines)) }
     ensures err { IfErr result (λ status. Refuses bytes.now status) }
 {
     match str::from_utf8(bytes) {
-        Ok(text) => answer_text(alloc, text, keys, signer),
+        Ok(text) => answer_text(alloc, alone, text, keys, signer),
         Err(_) => Err(Status::NotJson),
     }
 }
 
-fn is_run(words: &[String]) -> bool
-    ensures { result ≡ is_run_words words.now }
+/// The lines of the run of the generated scenario of so many Certificates.
+fn load_lines<M: KeyMaker, N: Signer>(
+    alloc: Global,
+    alone: bool,
+    count: u32,
+    keys: &M,
+    signer: &N,
+) -> Result<Lines, Status>
+    requires some { 1 ≤ count }
+    requires few { count ≤ 200 }
+    ensures ok { IfOk result (λ lines. IsLoadOf alone count (joined lines)) }
+    ensures err { IfErr result (λ status. SpendsOn (load_setup count) status) }
 {
-    match words {
-        [word] => word.as_str() == "run",
-        _ => false,
-    }
+    let scenario = generate(alloc, count)?;
+    let value = value_of_scenario(alloc, &scenario)?;
+    run_of(alloc, alone, &value, scenario, keys, signer)
 }
 
 /// The exit status of the program.
@@ -188,14 +207,74 @@ pub fn failing_path(status: &Status) -> &str
     }
 }
 
-/// Does all that the program does: reads a scenario from the source, runs it by the plain order on an empty
-/// store, and writes the history and its summary to the sink. `keys` makes keys and signs requests, and `signer`
-/// answers for the issuers, whatever they answer.
+/// Runs the scenario that the source gives.
+fn run_source<S: Source, K: Sink, M: KeyMaker, N: Signer>(
+    alloc: Global,
+    alone: bool,
+    source: &mut S,
+    sink: &mut K,
+    keys: &M,
+    signer: &N,
+) -> Status
+    ensures told { IfSome (S.left source.old) (λ bytes. ExplainsRun alone result bytes (K.holds sink.old) (K.holds sink.new)) }
+    ensures left { LeavesRun result (S.left source.old) (S.left source.new) }
+    ensures unwritten { writes_nothing result ≡ true → sink.new ≡ sink.old }
+    ensures words { result ≢ Status.Usage }
+    ensures read { S.faults source.new ≡ reads_failed result (S.faults source.old) }
+    ensures write { K.faults sink.new ≡ writes_failed result (K.faults sink.old) }
+{
+    let bytes = match read_all(alloc, source) {
+        Ok(bytes) => bytes,
+        Err(ReadError::NoMemory) => return Status::NoMemory,
+        Err(ReadError::Fault) => return Status::ReadFault,
+        Err(ReadError::TooLong) => return Status::TooLong,
+    };
+    let lines = match answer_bytes(alloc, alone, bytes.as_slice(), keys, signer) {
+        Ok(lines) => lines,
+        Err(status) => return status,
+    };
+    match write_lines(sink, lines.as_slice()) {
+        Ok(()) => Status::Done,
+        Err(_) => Status::WriteFault,
+    }
+}
+
+/// Runs the generated scenario of so many Certificates.
+fn run_load<K: Sink, M: KeyMaker, N: Signer>(
+    alloc: Global,
+    alone: bool,
+    count: u32,
+    sink: &mut K,
+    keys: &M,
+    signer: &N,
+) -> Status
+    requires some { 1 ≤ count }
+    requires few { count ≤ 200 }
+    ensures told { ExplainsLoad alone count result (K.holds sink.old) (K.holds sink.new) }
+    ensures unwritten { writes_nothing result ≡ true → sink.new ≡ sink.old }
+    ensures write { K.faults sink.new ≡ writes_failed result (K.faults sink.old) }
+{
+    let lines = match load_lines(alloc, alone, count, keys, signer) {
+        Ok(lines) => lines,
+        Err(status) => return status,
+    };
+    match write_lines(sink, lines.as_slice()) {
+        Ok(()) => Status::Done,
+        Err(_) => Status::WriteFault,
+    }
+}
+
+/// Does all that the program does. With `run` it reads a scenario from the source, and with `load` it makes one of
+/// so many Certificates, and reads nothing. It runs the scenario on an empty store and writes the history and its
+/// summary to the sink, with `--summary` the line of the summary alone. `keys` makes keys and signs requests, and
+/// `signer` answers for the issuers, whatever they answer. With every number of workers the run is that of the
+/// plain order.
 ///
 /// The lines are made before the first of them is written, each as one piece. Each status has its cause,
 /// as its variant says; at `WriteFault` some first part of the text was written, and at every status but
-/// `Done` and `WriteFault` nothing was. At `Usage` nothing was read; else reading stopped at the first byte
-/// above the limit, at the end, or at the read that failed.
+/// `Done` and `WriteFault` nothing was. `Usage` comes exactly where the words are not of the command line's form. At
+/// `run` reading stopped at the first byte above the limit, at the end, or at the read that failed; else nothing was
+/// read.
 pub fn run<S: Source, K: Sink, M: KeyMaker, N: Signer>(
     alloc: Global,
     words: &[String],
@@ -204,29 +283,21 @@ pub fn run<S: Source, K: Sink, M: KeyMaker, N: Signer>(
     keys: &M,
     signer: &N,
 ) -> Status
-    ensures told { IfSome (S.left source.old) (λ bytes. Explains result bytes (K.holds sink.old) (K.holds sink.new)) }
-    ensures left { Leaves result (S.left source.old) (S.left source.new) }
-    ensures unread { reads_nothing result ≡ true → source.new ≡ source.old }
+    ensures told { Explains (command_of words.now) result (S.left source.old) (K.holds sink.old) (K.holds sink.new) }
+    ensures left { Leaves (command_of words.now) result (S.left source.old) (S.left source.new) }
+    ensures unread { reads_nothing (command_of words.now) ≡ true → source.new ≡ source.old }
     ensures unwritten { writes_nothing result ≡ true → sink.new ≡ sink.old }
-    ensures usage { (result ≡ Status.Usage) ↔ (is_run_words words.now ≡ false) }
+    ensures usage { (result ≡ Status.Usage) ↔ (command_of words.now ≡ None) }
     ensures read { S.faults source.new ≡ reads_failed result (S.faults source.old) }
     ensures write { K.faults sink.new ≡ writes_failed result (K.faults sink.old) }
 {
-    if !is_run(words) {
-        return Status::Usage;
-    }
-    let bytes = match read_all(alloc, source) {
-        Ok(bytes) => bytes,
-        Err(ReadError::NoMemory) => return Status::NoMemory,
-        Err(ReadError::Fault) => return Status::ReadFault,
-        Err(ReadError::TooLong) => return Status::TooLong,
-    };
-    let lines = match answer_bytes(alloc, bytes.as_slice(), keys, signer) {
-        Ok(lines) => lines,
-        Err(status) => return status,
-    };
-    match write_lines(sink, lines.as_slice()) {
-        Ok(()) => Status::Done,
-        Err(_) => Status::WriteFault,
+    match read_words(words) {
+        None => Status::Usage,
+        Some(Command::Run { summary, .. }) => {
+            run_source(alloc, summary, source, sink, keys, signer)
+        }
+        Some(Command::Load { count, summary, .. }) => {
+            run_load(alloc, summary, count, sink, keys, signer)
+        }
     }
 }

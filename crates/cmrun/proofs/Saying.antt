@@ -1,0 +1,103 @@
+-- What one word more does to what was said, and which command is said at the end.
+use Rattle.std.proofs.Common.{◌≡◌, ◌<◌, ◌≤◌, ◌⊎◌, inl, inr, arith, get_or, ℕ, zero, suc, Option, Some, None, List, [], ◌∷◌, ◌++◌, length, drop, Bool, true, false, refl, ap, sym, subst, Bor, ◌∙◌}
+use Rattle.std.specs.Prelude.{map, codes, string_bytes, String, nat_eq, if◌then◌else◌, option_and_then}
+use Rattle.std.specs.declared.alloc.Global.{Global}
+use Rattle.std.specs.List.{starts_with}
+use Rattle.std.specs.Str.{bytes_eq}
+use Rattle.std.proofs.lemmas.Bool.Decides.{Decides-eqb}
+use Rattle.std.proofs.lemmas.Slice.Eq.{starts_is}
+use Rattle.cmrun.specs.Words.{Given, with_value, with_word, with_summary, with_other, given_by, workers_in, summary_in, count_in, run_in, command_said, number_in}
+use Rattle.cmrun.specs.Said.{listed, one_more, told, Takes, TakesNext, IsSaidBy}
+use Rattle.cmrun.specs.declared.words.Said.{Said}
+use Rattle.cmrun.specs.declared.words.Command.{Command}
+use Rattle.cmrun.specs.declared.words.Command.TheVariants.{Run, Load}
+
+abbrev no_command : Option Command
+no_command = None
+
+nothing_then : {T : Type 0} (o : Option T) → option_and_then (λ (x : T). no_command) o ≡ no_command
+nothing_then None = refl
+nothing_then (Some x) = refl
+
+neither : (a b : Bool) (r l : Option Command) → r ≡ None → l ≡ None → (if a then r else if b then l else None) ≡ None
+neither true b r l h k = h
+neither false true r l h k = k
+neither false false r l h k = refl
+
+-- a second value, a second `--summary`, a second other word
+pub workers_again : (first value again : List ℕ) (values others : List (List ℕ)) (summaries : ℕ)
+    → command_said first (record { workers = value ∷ again ∷ values; summaries = summaries; others = others }) ≡ None
+workers_again first value again values others summaries = neither _ _ _ _ refl refl
+
+pub summary_again : (first : List ℕ) (workers others : List (List ℕ)) (more : ℕ)
+    → command_said first (record { workers = workers; summaries = suc (suc more); others = others }) ≡ None
+summary_again first workers others more = neither _ _ _ _ (nothing_then (workers_in workers)) (nothing_then (workers_in workers))
+
+others_none : (o : Option ℕ) (p : Option Bool) (first again : List ℕ) (words : List (List ℕ))
+    → option_and_then (λ workers. option_and_then (λ summary. run_in workers summary (first ∷ again ∷ words)) p) o ≡ None
+others_none None p first again words = refl
+others_none (Some w) None first again words = refl
+others_none (Some w) (Some s) first again words = refl
+
+counts_none : (o : Option ℕ) (p : Option Bool)
+    → option_and_then (λ (workers : ℕ). option_and_then (λ (summary : Bool). no_command) p) o ≡ no_command
+counts_none None p = refl
+counts_none (Some w) None = refl
+counts_none (Some w) (Some s) = refl
+
+pub other_again : (first word again : List ℕ) (workers words : List (List ℕ)) (summaries : ℕ)
+    → command_said first (record { workers = workers; summaries = summaries; others = word ∷ again ∷ words }) ≡ None
+other_again first word again workers words summaries =
+    neither _ _ _ _ (others_none (workers_in workers) (summary_in summaries) word again words) (counts_none (workers_in workers) (summary_in summaries))
+
+-- the word holds a value, is `--summary`, or is another
+pub word_value : (s : Said) (word value : List ℕ) (r : Option Said) → word ≡ codes "--workers=" ++ value
+    → Takes s (with_value value) r → Takes s (with_word word) r
+word_value s word value r h t = subst (λ (w : List ℕ). Takes s (with_word w) r) (sym h) t
+
+no_value : (word front : List ℕ) → ((rest : List ℕ) → word ≡ front ++ rest → ⊥)
+    → (b : Bool) → b ≡ starts_with nat_eq word front → b ≡ false
+no_value word front h true e = absurd (h _ ((starts_is Decides-eqb word front true e).0 refl))
+no_value word front h false e = refl
+
+pub word_summary : (s : Said) (word : List ℕ) (r : Option Said) → ((rest : List ℕ) → word ≡ codes "--workers=" ++ rest → ⊥) → bytes_eq word (codes "--summary") ≡ true
+    → Takes s with_summary r → Takes s (with_word word) r
+word_summary s word r h k t =
+    subst (λ (b : Bool). Takes s (λ g. if b then with_value (drop 10 word) g else if bytes_eq word (codes "--summary") then with_summary g else with_other word g) r) (sym (no_value word (codes "--workers=") h _ refl))
+    (subst (λ (b : Bool). Takes s (λ g. if b then with_summary g else with_other word g) r) (sym k) t)
+
+pub word_other : (s : Said) (word : List ℕ) (r : Option Said) → ((rest : List ℕ) → word ≡ codes "--workers=" ++ rest → ⊥) → bytes_eq word (codes "--summary") ≡ false
+    → Takes s (with_other word) r → Takes s (with_word word) r
+word_other s word r h k t =
+    subst (λ (b : Bool). Takes s (λ g. if b then with_value (drop 10 word) g else if bytes_eq word (codes "--summary") then with_summary g else with_other word g) r) (sym (no_value word (codes "--workers=") h _ refl))
+    (subst (λ (b : Bool). Takes s (λ g. if b then with_summary g else with_other word g) r) (sym k) t)
+
+-- the words from one word on
+pub given_pair : (word next : List ℕ) (words : List (List ℕ)) → bytes_eq word (codes "--workers") ≡ true
+    → given_by (word ∷ next ∷ words) ≡ with_value next (given_by words)
+given_pair word next words h = ap (λ (b : Bool). if b then with_value next (given_by words) else with_word word (given_by (next ∷ words))) h
+
+pub given_alone : (word next : List ℕ) (words : List (List ℕ)) → bytes_eq word (codes "--workers") ≡ false
+    → given_by (word ∷ next ∷ words) ≡ with_word word (given_by (next ∷ words))
+given_alone word next words h = ap (λ (b : Bool). if b then with_value next (given_by words) else with_word word (given_by (next ∷ words))) h
+
+-- the word stands last
+pub last_refused : (s : Said) (word : List ℕ) (words : List (String Global)) (r : Option (Said × Bor (List (String Global)))) → length words ≡ 0
+    → ((first : List ℕ) (given : Given) → command_said first (told s (with_word word given)) ≡ None) → r ≡ None → TakesNext s word words r
+last_refused s word [] r n none e = subst (λ (q : Option (Said × Bor (List (String Global)))). TakesNext s word [] q) (sym e) (λ first. none first (given_by []))
+last_refused s word (next ∷ words) r n none e = absurd (omega (arith, n))
+
+pub last_taken : (s more : Said) (word : List ℕ) (words : List (String Global)) → length words ≡ 0
+    → ((given : Given) → told more given ≡ told s (with_word word given))
+    → told more (given_by (map string_bytes words)) ≡ told s (given_by (word ∷ map string_bytes words))
+last_taken s more word [] n same = same (given_by [])
+last_taken s more word (next ∷ words) n same = absurd (omega (arith, n))
+
+-- a value stands behind it
+pub value_refused : (s : Said) (word : List ℕ) (words behind : List (String Global)) (value : String Global) (r : Option (Said × Bor (List (String Global))))
+    → words ≡ value ∷ behind → bytes_eq word (codes "--workers") ≡ true
+    → ((first : List ℕ) (given : Given) → command_said first (told s (with_value (string_bytes value) given)) ≡ None) → r ≡ None → TakesNext s word words r
+value_refused s word words behind value r is h none e =
+    subst (λ (q : Option (Said × Bor (List (String Global)))). TakesNext s word words q) (sym e)
+    (subst (λ (ws : List (String Global)). (first : List ℕ) → command_said first (told s (given_by (word ∷ map string_bytes ws))) ≡ None) (sym is)
+    (subst (λ (g : Given). (first : List ℕ) → command_said first (told s g) ≡ None) (sym (given_pair word (string_bytes value) (map string_bytes behind) h)) (λ first. none first (given_by (map string_bytes behind)))))

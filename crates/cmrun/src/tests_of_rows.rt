@@ -1,0 +1,539 @@
+// Whole runs of all controllers: who writes what, in which order, and how each run ends. The rows come from the tables of
+// the controllers, of temporary certificates and of approval policies.
+use crate::tests::{WEB, run_on};
+use crate::top::Status;
+use std::alloc::{AllocError, Global};
+use std::process::Abort;
+use std::test::Fail;
+
+/// A scenario, and what its run prints. Words in capitals are stand-ins.
+#[derive(Clone, Copy)]
+struct Row {
+    /// The members of the scenario.
+    scenario: &'static str,
+    /// A line for each accepted write, in order: who writes, and pieces of the printed line. Empty where the row does not
+    /// tell the writes.
+    writes: &'static str,
+    /// Pieces of the whole text, as of calls that change nothing.
+    told: &'static str,
+    /// How many calls of the store are printed; 0 where the row does not tell.
+    calls: usize,
+    /// The end of the text.
+    end: &'static str,
+}
+
+/// The ends of runs.
+const READY: &str = "{\"summary\":{\"certificates\":1,\"ready\":1,\"secrets\":1,\"waiting\":[]}}\n";
+
+const BACKOFF: &str = "[{\"certificate\":\"default/web\",\"wait\":\"backoff\"}]}}\n";
+
+const UNAPPROVED: &str = "[{\"certificate\":\"default/web\",\"wait\":\"unapproved\"}]}}\n";
+
+const PENDING: &str = "[{\"certificate\":\"default/web\",\"wait\":\"pending\"}]}}\n";
+
+const KEY: &str = "[{\"certificate\":\"default/web\",\"wait\":\"key\"}]}}\n";
+
+/// The stand-ins: steps of scripts, writes that many runs make, and beginnings of calls. Later ones may stand in the text
+/// of earlier ones.
+const STAND_INS: [(&str, &str); 23] = [
+    ("APPLY", r#"{"do":"apply","object":@}"#),
+    (
+        "OTHER",
+        r#"{"do":"apply","object":{OBJECT,NAMED,"spec":{"dnsNames":["example.com"],"issuerRef":{"group":"example.org","name":"ca"},"privateKey":{"algorithm":"ECDSA"},"secretName":"web-tls"}}}"#,
+    ),
+    (
+        "TEMPORARY",
+        r#"{"do":"apply","object":{OBJECT,ANNOTATED,"spec":{COMMON,"privateKey":{"algorithm":"ECDSA"}}}}"#,
+    ),
+    (
+        "OBJECT",
+        r#""apiVersion":"cert-manager.io/v1","kind":"Certificate""#,
+    ),
+    (
+        "NAMED",
+        r#""metadata":{"name":"web","namespace":"default"}"#,
+    ),
+    (
+        "ANNOTATED",
+        r#""metadata":{"annotations":{"cert-manager.io/issue-temporary-certificate":"true"},"name":"web","namespace":"default"}"#,
+    ),
+    (
+        "COMMON",
+        r#""dnsNames":["example.com"],"issuerRef":{"name":"ca"},"secretName":"web-tls""#,
+    ),
+    ("SETTLE", r#"{"do":"settle"}"#),
+    (
+        "APPROVE",
+        r#"{"certificate":"default/web","do":"approve","revision":1}"#,
+    ),
+    (
+        "DENY",
+        r#"{"certificate":"default/web","do":"deny","revision":1}"#,
+    ),
+    // All that is written until a Certificate that nothing disturbs is Ready.
+    (
+        "ISSUED",
+        r#"ASKED
+ANSWERED
+STORED
+TIDIED
+VALID .. "notAfter":"2030-04-01T00:00:00Z","notBefore":"2030-01-01T00:00:00Z","renewalTime":"2030-03-02T00:00:00Z""#,
+    ),
+    (
+        "ASKED",
+        r#"user "call":"create","is":"call","key":"Certificate/default/web"
+trigger STATUS .. "reason":"DoesNotExist","status":"True","type":"Issuing"}
+keymanager KEYED{"name":"web-bbbbf",
+keymanager STATUS .. "nextPrivateKeySecretName":"web-bbbbf"
+requestmanager FILED{"name":"web-bbbbh","#,
+    ),
+    (
+        "ANSWERED",
+        r#"approver REQUEST .. "status":"True","type":"Approved"}
+issuer REQUEST .. "reason":"Issued","status":"True","type":"Ready"}"#,
+    ),
+    (
+        "STORED",
+        r#"issuing "call":"create","is":"call","key":"Secret/default/web-tls"
+issuing STATUS .. "reason":"Issued","status":"False","type":"Issuing"} .. "revision":1}"#,
+    ),
+    // What follows a denial.
+    (
+        "REFUSED",
+        r#"issuer REQUEST .. "reason":"Denied","status":"False","type":"Ready"} .. "failureTime":
+issuing STATUS .. "reason":"Denied","status":"False","type":"Issuing"} .. "failedIssuanceAttempts":1,"lastFailureTime":
+TIDIED"#,
+    ),
+    (
+        "TIDIED",
+        r#"keymanager "call":"delete","is":"call","key":"Secret/default/web-bbbbf"
+keymanager STATUS .. !"nextPrivateKeySecretName""#,
+    ),
+    (
+        "ABSENT",
+        r#"readiness STATUS .. "reason":"DoesNotExist","status":"False","type":"Ready"}"#,
+    ),
+    (
+        "VALID",
+        r#"readiness STATUS .. "reason":"Ready","status":"True","type":"Ready"}"#,
+    ),
+    (
+        "STATUS",
+        r#""call":"updateStatus","is":"call","key":"Certificate/default/web""#,
+    ),
+    (
+        "REQUEST",
+        r#""call":"updateStatus","is":"call","key":"CertificateRequest/default/web-"#,
+    ),
+    (
+        "KEYED",
+        r#""call":"generate","is":"call","key":"web-" .. "kind":"Secret","metadata" .. "namespace":"default" .. "reply":"#,
+    ),
+    (
+        "FILED",
+        r#""call":"generate","is":"call","key":"web-" .. "kind":"CertificateRequest","metadata" .. "namespace":"default" .. "reply":"#,
+    ),
+    ("@", WEB),
+];
+
+/// Runs that issue, or wait for something else than a verdict.
+const ISSUING: [Row; 11] = [
+    Row {
+        scenario: r#""material":{"default/web":{"keys":[{"synthetic":1}]}},"script":[APPLY]"#,
+        writes: "ISSUED",
+        told: r#""call":"get","is":"call","key":"Certificate/default/web" .. "reply":{"found":4} .. "call":"create","is":"call","key":"Secret/default/web-tls" .. "reply":{"name":"web-tls","ok":8}"#,
+        calls: 13,
+        end: READY,
+    },
+    // Issuing is stopped between its two writes. The next incarnation writes what stands, which changes nothing, and goes on.
+    Row {
+        scenario: r#""script":[APPLY,{"do":"until","kind":"Secret","role":"issuing","writes":1},{"do":"stop","role":"issuing"},{"behind":0,"do":"start","role":"issuing"},SETTLE]"#,
+        writes: "ISSUED",
+        told: r#""reply":{"name":"web-tls","ok":8} .. "call":"get","is":"call","key":"Certificate/default/web" .. "call":"update","is":"call","key":"Secret/default/web-tls" .. "reply":{"unchanged":8},"version":8"#,
+        calls: 0,
+        end: "",
+    },
+    // Issuing starts on old views once all is done: its live read ends the pass.
+    Row {
+        scenario: r#""script":[APPLY,SETTLE,{"do":"hold","kind":"Certificate","role":"issuing"},{"do":"hold","kind":"CertificateRequest","role":"issuing"},{"do":"hold","kind":"Secret","role":"issuing"},{"do":"stop","role":"issuing"},{"behind":5,"do":"start","role":"issuing"},SETTLE,{"do":"release","kind":"Certificate","role":"issuing"},{"do":"release","kind":"CertificateRequest","role":"issuing"},{"do":"release","kind":"Secret","role":"issuing"},SETTLE]"#,
+        writes: "ISSUED",
+        told: r#""at":{"Certificate":7,"CertificateRequest":7,"Secret":7} .. "reply":{"found":12} .. "cause":{ .. !"cause":{"#,
+        calls: 0,
+        end: READY,
+    },
+    // The issuer answers before anybody approves, and nothing is stored until somebody does.
+    Row {
+        scenario: r#""script":[OTHER,SETTLE,{"certificate":"default/web","do":"answer","revision":1,"row":{"reply":"issue"}},SETTLE,APPROVE,SETTLE]"#,
+        writes: r#"ASKED
+ABSENT
+user REQUEST .. "reason":"Issued","status":"True","type":"Ready"}
+user REQUEST .. "status":"True","type":"Approved"}
+STORED
+TIDIED
+VALID"#,
+        told: "",
+        calls: 0,
+        end: "",
+    },
+    // What was issued has another key.
+    Row {
+        scenario: r#""script":[OTHER,SETTLE,APPROVE,{"certificate":"default/web","do":"answer","revision":1,"row":{"key":9,"reply":"issue"}},SETTLE]"#,
+        writes: r#"ASKED
+ABSENT
+user REQUEST .. "status":"True","type":"Approved"}
+user REQUEST .. "reason":"Issued","status":"True","type":"Ready"}
+issuing STATUS .. "reason":"InvalidCertificate","status":"False","type":"Issuing"} .. "failedIssuanceAttempts":1,"lastFailureTime":
+TIDIED"#,
+        told: "",
+        calls: 0,
+        end: BACKOFF,
+    },
+    // The key in the Secret is of another curve, and is never changed.
+    Row {
+        scenario: r#""script":[{"do":"apply","object":{"apiVersion":"v1","data":{"tls.key":"MIGkAgEBBDAAAAAAAAAAAAAAAAAAAAAAAAAAAAAAAAAAAAAAAAAAAAAAAAAAAAAAAAAAAAAAAAGgBwYFK4EEACKhZANiAAQAAAAAAAAAAAAAAAAAAAAAAAAAAAAAAAAAAAAAAAAAAAAAAAAAAAAAAAAAAAAAAAEAAAAAAAAAAAAAAAAAAAAAAAAAAAAAAAAAAAAAAAAAAAAAAAAAAAAAAAAAAAAAAAE="},"kind":"Secret","metadata":{"name":"web-tls","namespace":"default"}}},{"do":"apply","object":{OBJECT,NAMED,"spec":{COMMON,"privateKey":{"algorithm":"ECDSA","rotationPolicy":"Never"}}}},SETTLE]"#,
+        writes: r#"user "call":"create","is":"call","key":"Secret/default/web-tls"
+user "call":"create","is":"call","key":"Certificate/default/web"
+trigger STATUS .. "reason":"MissingData","status":"True","type":"Issuing"}
+readiness STATUS .. "reason":"MissingData","status":"False","type":"Ready"}"#,
+        told: "",
+        calls: 0,
+        end: KEY,
+    },
+    // A Secret that is written over with no pair is issued anew.
+    Row {
+        scenario: r#""material":{"default/web":{"keys":[{"synthetic":1}]}},"script":[APPLY,SETTLE,{"do":"apply","object":{"apiVersion":"v1","data":{"tls.crt":"AAAA","tls.key":"AAAA"},"kind":"Secret","metadata":{"name":"web-tls","namespace":"default"},"type":"kubernetes.io/tls"}},SETTLE]"#,
+        writes: r#"ISSUED
+user "call":"update","is":"call","key":"Secret/default/web-tls"
+trigger STATUS .. "reason":"InvalidKeyPair","status":"True","type":"Issuing"}
+keymanager KEYED{"name":"web-bbbbt",
+keymanager STATUS .. "nextPrivateKeySecretName":"web-bbbbt"
+requestmanager FILED{"name":"web-bbbbw",
+ANSWERED
+issuing "call":"update","is":"call","key":"Secret/default/web-tls"
+issuing STATUS .. "reason":"Issued","status":"False","type":"Issuing"} .. "revision":2}
+keymanager "call":"delete","is":"call","key":"Secret/default/web-bbbbt"
+keymanager STATUS .. !"nextPrivateKeySecretName""#,
+        told: "",
+        calls: 0,
+        end: "",
+    },
+    // The request manager starts again and does not see its own request: the second one is deleted.
+    Row {
+        scenario: r#""script":[APPLY,{"do":"until","kind":"CertificateRequest","role":"requestmanager","writes":1},{"do":"hold","kind":"CertificateRequest","role":"requestmanager"},{"do":"stop","role":"requestmanager"},{"behind":1,"do":"start","role":"requestmanager"},SETTLE,{"do":"release","kind":"CertificateRequest","role":"requestmanager"},SETTLE]"#,
+        writes: r#"ASKED
+requestmanager FILED{"name":"web-bbbbj",
+approver REQUEST .. "status":"True","type":"Approved"}
+approver REQUEST .. "status":"True","type":"Approved"}
+issuer REQUEST .. "reason":"Issued","status":"True","type":"Ready"}
+issuer REQUEST .. "reason":"Issued","status":"True","type":"Ready"}
+ABSENT
+requestmanager "call":"delete","is":"call","key":"CertificateRequest/default/web-bbbbj"
+STORED
+TIDIED
+VALID"#,
+        told: "",
+        calls: 0,
+        end: "",
+    },
+    // The ninth call does not reach the store, and the next pass reads and writes anew.
+    Row {
+        scenario: r#""faults":[9],"material":{"default/web":{"keys":[{"synthetic":1}]}},"script":[APPLY]"#,
+        writes: "ISSUED",
+        told: r#""call":"create","is":"call","key":"Secret/default/web-tls" .. "reply":{"unavailable":9} .. "call":"get","is":"call","key":"Certificate/default/web" .. "reply":{"found":4} .. "call":"create","is":"call","key":"Secret/default/web-tls" .. "reply":{"name":"web-tls","ok":8}"#,
+        calls: 15,
+        end: READY,
+    },
+    // The log keeps two writes: a role that was held is told the whole list.
+    Row {
+        scenario: r#""script":[{"do":"hold","kind":"Certificate","role":"revision"},APPLY,SETTLE,{"do":"release","kind":"Certificate","role":"revision"},SETTLE],"window":2"#,
+        writes: "",
+        told: r#""step":4}
+{"is":"list","kind":"Certificate" .. !"is":"deliver" .. "role":"revision","to":12}"#,
+        calls: 0,
+        end: "",
+    },
+    // A quarter of the hour that the certificate lasts is left at its renewal.
+    Row {
+        scenario: r#""material":{"default/web":{"replies":[{"reply":"issue","seconds":3600}]}},"script":[{"do":"apply","object":{OBJECT,NAMED,"spec":{COMMON,"privateKey":{"algorithm":"ECDSA"},"renewBeforePercentage":25}}},SETTLE]"#,
+        writes: "",
+        told: r#""renewalTime":"2030-01-01T00:45:00Z""#,
+        calls: 0,
+        end: "",
+    },
+];
+
+/// Runs with denials, failures, policies and temporary certificates.
+const REFUSING: [Row; 13] = [
+    // A denied request is not answered. It is tried again an hour later, and not before.
+    Row {
+        scenario: r#""approver":{"issuers":[]},"script":[APPLY,SETTLE,DENY,SETTLE,{"do":"tick","seconds":3599},SETTLE,{"do":"tick","seconds":1},SETTLE]"#,
+        writes: r#"ASKED
+ABSENT
+user REQUEST .. "status":"True","type":"Denied"}
+REFUSED
+trigger STATUS .. "lastTransitionTime":"2030-01-01T01:00:00Z" .. "status":"True","type":"Issuing"}
+keymanager KEYED{"name":"web-bbbbr",
+keymanager STATUS .. "nextPrivateKeySecretName":"web-bbbbr"
+requestmanager "call":"delete","is":"call","key":"CertificateRequest/default/web-bbbbh"
+requestmanager FILED{"name":"web-bbbbv","#,
+        told: "",
+        calls: 0,
+        end: UNAPPROVED,
+    },
+    // Who denied a request can not approve it any more.
+    Row {
+        scenario: r#""approver":{"issuers":[]},"script":[APPLY,SETTLE,DENY,APPROVE]"#,
+        writes: "",
+        told: r#""step":4}
+{"call":"updateStatus","is":"call","key":"CertificateRequest/default/web-bbbbh" .. "reply":{"invalid":10} .. !"type":"Approved""#,
+        calls: 0,
+        end: "",
+    },
+    // Each failure doubles the wait, up to 32 hours.
+    Row {
+        scenario: r#""material":{"default/web":{"replies":[{"reply":"fail"}]}},"script":[APPLY,SETTLE,{"do":"tick","seconds":3600},SETTLE,{"do":"tick","seconds":7200},SETTLE,{"do":"tick","seconds":14400},SETTLE,{"do":"tick","seconds":28800},SETTLE,{"do":"tick","seconds":57600},SETTLE,{"do":"tick","seconds":115200},SETTLE,{"do":"tick","seconds":115199},SETTLE,{"do":"tick","seconds":1},SETTLE]"#,
+        writes: "",
+        told: r#""failedIssuanceAttempts":1,"lastFailureTime":"2030-01-01T00:00:00Z" .. "failedIssuanceAttempts":2,"lastFailureTime":"2030-01-01T01:00:00Z" .. "failedIssuanceAttempts":3,"lastFailureTime":"2030-01-01T03:00:00Z" .. "failedIssuanceAttempts":4,"lastFailureTime":"2030-01-01T07:00:00Z" .. "failedIssuanceAttempts":5,"lastFailureTime":"2030-01-01T15:00:00Z" .. "failedIssuanceAttempts":6,"lastFailureTime":"2030-01-02T07:00:00Z" .. "failedIssuanceAttempts":7,"lastFailureTime":"2030-01-03T15:00:00Z" .. "failedIssuanceAttempts":8,"lastFailureTime":"2030-01-04T23:00:00Z" .. !"failedIssuanceAttempts":9"#,
+        calls: 0,
+        end: "",
+    },
+    // A Certificate that was changed after a failure is tried at once.
+    Row {
+        scenario: r#""material":{"default/web":{"replies":[{"reply":"fail"},{"reply":"issue"}]}},"script":[APPLY,SETTLE,{"do":"apply","object":{OBJECT,NAMED,"spec":{"dnsNames":["www.example.com"],"issuerRef":{"name":"ca"},"privateKey":{"algorithm":"ECDSA"},"secretName":"web-tls"}}},SETTLE]"#,
+        writes: r#"ASKED
+approver REQUEST .. "status":"True","type":"Approved"}
+issuer REQUEST .. "reason":"Failed","status":"False","type":"Ready"}
+issuing STATUS .. "status":"False","type":"Issuing"}
+TIDIED
+ABSENT
+user "call":"update","is":"call","key":"Certificate/default/web"
+trigger STATUS .. "status":"True","type":"Issuing"}
+keymanager KEYED
+keymanager STATUS .. "nextPrivateKeySecretName"
+requestmanager "call":"delete","is":"call","key":"CertificateRequest/default/web-bbbbh"
+requestmanager FILED
+ANSWERED
+issuing "call":"create","is":"call","key":"Secret/default/web-tls"
+issuing STATUS .. "reason":"Issued","status":"False","type":"Issuing"} .. !"failedIssuanceAttempts" .. !"lastFailureTime" .. "revision":1}
+keymanager "call":"delete","is":"call","key":"Secret/default/
+keymanager STATUS .. !"nextPrivateKeySecretName"
+VALID"#,
+        told: "",
+        calls: 0,
+        end: "",
+    },
+    // While the request waits for a verdict, a temporary certificate stands.
+    Row {
+        scenario: r#""approver":{"issuers":[]},"script":[TEMPORARY,SETTLE]"#,
+        writes: r#"ASKED
+issuing "call":"create","is":"call","key":"Secret/default/web-tls" .. "cert-manager.io/temporary-certificate":"true"
+readiness STATUS .. "reason":"MissingData","status":"False","type":"Ready"}"#,
+        told: "",
+        calls: 0,
+        end: UNAPPROVED,
+    },
+    Row {
+        scenario: r#""approver":{"issuers":[]},"script":[TEMPORARY,SETTLE,APPROVE,SETTLE]"#,
+        writes: r#"ASKED
+issuing "call":"create","is":"call","key":"Secret/default/web-tls" .. "cert-manager.io/temporary-certificate":"true"
+readiness STATUS .. "reason":"MissingData","status":"False","type":"Ready"}
+user REQUEST .. "status":"True","type":"Approved"}
+issuer REQUEST .. "reason":"Issued","status":"True","type":"Ready"}
+issuing "call":"update","is":"call","key":"Secret/default/web-tls" .. !"cert-manager.io/temporary-certificate"
+issuing STATUS .. "reason":"Issued","status":"False","type":"Issuing"} .. "revision":1}
+TIDIED
+VALID"#,
+        told: "",
+        calls: 0,
+        end: "",
+    },
+    // As long as the issuer has not answered, too.
+    Row {
+        scenario: r#""material":{"default/web":{"replies":[{"reply":"pending"}]}},"script":[TEMPORARY]"#,
+        writes: r#"ASKED
+approver REQUEST .. "status":"True","type":"Approved"}
+issuer REQUEST .. "reason":"Pending","status":"False","type":"Ready"}
+issuing "call":"create","is":"call","key":"Secret/default/web-tls" .. "cert-manager.io/temporary-certificate":"true"
+readiness STATUS .. "reason":"MissingData","status":"False","type":"Ready"}"#,
+        told: "",
+        calls: 0,
+        end: PENDING,
+    },
+    // A pair that stands is not written over by a temporary certificate.
+    Row {
+        scenario: r#""material":{"default/web":{"replies":[{"reply":"issue"},{"reply":"pending"}]}},"script":[APPLY,SETTLE,{"do":"apply","object":{OBJECT,ANNOTATED,"spec":{COMMON,"privateKey":{"algorithm":"ECDSA","rotationPolicy":"Always","size":384}}}},SETTLE]"#,
+        writes: "",
+        told: r#""key":"Secret/default/web-tls" .. "step":3} .. !"key":"Secret/default/web-tls" .. "reason":"Pending","status":"False","type":"Ready"}"#,
+        calls: 0,
+        end: "",
+    },
+    // A star stands for any text, also for none; the dot behind it has to stand.
+    Row {
+        scenario: r#""approver":{"policies":[{"dnsNames":["*.example.com"],"name":"web"}]},"material":{"default/web":{"keys":[{"synthetic":1}]}},"script":[APPLY]"#,
+        writes: r#"ASKED
+approver REQUEST .. "message":"Policy web does not allow dnsNames" .. "status":"True","type":"Denied"}
+REFUSED
+ABSENT"#,
+        told: "",
+        calls: 0,
+        end: "",
+    },
+    Row {
+        scenario: r#""approver":{"policies":[{"dnsNames":["*example.com"],"name":"web"}]},"material":{"default/web":{"keys":[{"synthetic":1}]}},"script":[APPLY]"#,
+        writes: "ISSUED",
+        told: "",
+        calls: 0,
+        end: READY,
+    },
+    // A certificate of 2,160 hours is asked for.
+    Row {
+        scenario: r#""approver":{"policies":[{"dnsNames":["*example.com"],"maxDuration":"2159h","name":"web"}]},"material":{"default/web":{"keys":[{"synthetic":1}]}},"script":[APPLY]"#,
+        writes: r#"ASKED
+approver REQUEST .. "message":"Policy web does not allow maxDuration" .. "status":"True","type":"Denied"}
+REFUSED
+ABSENT"#,
+        told: "",
+        calls: 0,
+        end: "",
+    },
+    Row {
+        scenario: r#""approver":{"policies":[{"dnsNames":["*example.com"],"maxDuration":"2160h","name":"web"}]},"material":{"default/web":{"keys":[{"synthetic":1}]}},"script":[APPLY]"#,
+        writes: "ISSUED",
+        told: "",
+        calls: 0,
+        end: READY,
+    },
+    // The only policy is for another issuer.
+    Row {
+        scenario: r#""approver":{"policies":[{"dnsNames":["*example.com"],"issuers":["other"],"name":"web"}]},"material":{"default/web":{"keys":[{"synthetic":1}]}},"script":[APPLY]"#,
+        writes: r#"ASKED
+approver REQUEST .. "message":"No policy applies to the request" .. "status":"True","type":"Denied"}
+REFUSED
+ABSENT"#,
+        told: "",
+        calls: 0,
+        end: "",
+    },
+];
+
+/// The text with what its stand-ins stand for.
+fn filled(alloc: Global, text: &str) -> Result<String, AllocError> {
+    let mut text = String::from_str(alloc, text)?;
+    for (name, meaning) in STAND_INS {
+        text = text.as_str().replace(alloc, name, meaning)?;
+    }
+    Ok(text)
+}
+
+/// The pieces, with ` .. ` between them, stand in the text in this order. Behind a `!` is what does not stand behind the
+/// pieces before it.
+fn has_pieces(text: &str, pieces: &str) -> bool {
+    let mut rest = text;
+    for piece in pieces.split(" .. ") {
+        if let Some(absent) = piece.strip_prefix("!") {
+            if rest.contains(absent) {
+                return false;
+            }
+        } else if let Some((_, behind)) = rest.split_once(piece) {
+            rest = behind;
+        } else {
+            return false;
+        }
+    }
+    true
+}
+
+/// The call on the line is a user's, or one of a pass that the role began.
+fn is_by(alloc: Global, written: &str, line: &str, role: &str) -> Result<bool, AllocError> {
+    if role == "user" {
+        return Ok(line.ends_with(",\"who\":\"user\"}"));
+    }
+    let Some((_, caller)) = line.rsplit_once(",\"who\":") else {
+        return Ok(false);
+    };
+    let Some(pass) = caller.strip_suffix("}") else {
+        return Ok(false);
+    };
+    let begun = format!(in alloc; "\"pass\":{pass},\"role\":\"{role}\"}}")?;
+    Ok(written.contains(begun.as_str()))
+}
+
+/// The line is that of the write: by who writes, and with its pieces.
+fn is_line_of(alloc: Global, written: &str, line: &str, write: &str) -> Result<bool, AllocError> {
+    match write.split_once(" ") {
+        Some((role, pieces)) => {
+            let is_by = is_by(alloc, written, line, role)?;
+            Ok(is_by && has_pieces(line, pieces))
+        }
+        None => Ok(false),
+    }
+}
+
+/// The accepted writes of the run are these, in order, and there are no others.
+fn assert_writes(
+    rt: &impl Abort,
+    alloc: Global,
+    written: &str,
+    writes: &str,
+) -> Result<(), AllocError> {
+    let mut left = writes.lines();
+    for line in written.lines() {
+        if line.contains("\"reply\":{\"ok\":") || line.contains("\"reply\":{\"name\":") {
+            let Some(write) = left.next() else {
+                assert!(rt; false, "one more: {line}");
+                return Ok(());
+            };
+            assert!(rt;
+                is_line_of(alloc, written, line, write)?,
+                "not {write}: {line}"
+            );
+        }
+    }
+    assert!(rt; left.next().is_none());
+    Ok(())
+}
+
+fn assert_row(rt: &impl Abort, alloc: Global, row: &Row) -> Result<(), AllocError> {
+    let scenario = row.scenario;
+    let scenario = format!(in alloc; "{{{scenario}}}")?;
+    let input = filled(alloc, scenario.as_str())?;
+    let ended = run_on(alloc, input.as_str())?;
+    assert!(rt; matches!(ended.status, Status::Done), "at {input}");
+    let Ok(written) = str::from_utf8(ended.written.as_slice()) else {
+        assert!(rt; false);
+        return Ok(());
+    };
+    if !row.writes.is_empty() {
+        let writes = filled(alloc, row.writes)?;
+        assert_writes(rt, alloc, written, writes.as_str())?;
+    }
+    assert!(rt;
+        row.told.is_empty() || has_pieces(written, row.told),
+        "at {input}"
+    );
+    let calls = written
+        .lines()
+        .filter(|line| line.contains("\"is\":\"call\""))
+        .count();
+    assert!(rt; row.calls == 0 || calls == row.calls, "at {input}");
+    assert!(rt; written.ends_with(row.end), "at {input}");
+    Ok(())
+}
+
+#[test]
+fn issues_in_order(rt: HostRuntime) -> Result<(), Fail> {
+    let alloc = rt.alloc();
+    for row in ISSUING {
+        assert_row(&rt, alloc, &row)?;
+    }
+    Ok(())
+}
+
+#[test]
+fn refuses_and_tries_again(rt: HostRuntime) -> Result<(), Fail> {
+    let alloc = rt.alloc();
+    for row in REFUSING {
+        assert_row(&rt, alloc, &row)?;
+    }
+    Ok(())
+}
