@@ -11,7 +11,7 @@ all_kept None = tt
 all_kept (Some xs) = refl
 
 by_cause : (alone : Bool) (status : Status) (bytes : List ℕ) (held : Option (List ℕ))
-  → Refuses bytes status → IsShort bytes → ExplainsRun alone status bytes held held
+    → Refuses bytes status → IsShort bytes → ExplainsRun alone status bytes held held
 by_cause alone Done bytes held cause short = absurd cause
 by_cause alone WriteFault bytes held cause short = absurd cause
 by_cause alone TooLong bytes held cause short = absurd cause
@@ -24,7 +24,7 @@ by_cause alone Usage bytes held cause short = absurd cause
 
 -- all bytes that there were are those that were read
 pub told_cause : (alone : Bool) (status : Status) (bytes : List ℕ) (old now held : Option (List ℕ))
-  → Consumes old now bytes → IsAtEnd now → Refuses bytes status → IfSome old IsShort → IfSome old (λ all. ExplainsRun alone status all held held)
+    → Consumes old now bytes → IsAtEnd now → Refuses bytes status → IfSome old IsShort → IfSome old (λ all. ExplainsRun alone status all held held)
 told_cause alone status bytes None now held content end cause short = tt
 told_cause alone status bytes (Some xs) None held content end cause short = absurd content
 told_cause alone status bytes (Some xs) (Some ys) held content end cause short =
