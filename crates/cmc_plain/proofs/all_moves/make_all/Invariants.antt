@@ -6,5 +6,5 @@ use Rattle.cmc_plain.proofs.all_moves.make_all.Given as goal
 abbrev pub invariant-loop-step : goal.invariant-loop-step
 invariant-loop-step l = record {
   same : l.world.scenario ≡ l.fn.world.scenario;
-  led : Lead (setting_of l.fn.world.scenario) (take (length l.yielded) l.moves.items) l.fn.world.history l.world.history;
+  led : Lead (setting_of l.fn.world.scenario) (take (length l.yielded) l.fn.moves.items) l.fn.world.history l.world.history;
 }
