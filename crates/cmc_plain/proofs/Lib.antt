@@ -12,6 +12,7 @@ pub mod Starting
 pub mod Switches
 pub mod Going
 pub mod Beginning
+pub mod Courses
 pub mod Ordering
 pub mod Passing
 pub mod Keys

@@ -1,6 +1,7 @@
 //! The plain order: a run by one hand, whose history is a function of its scenario.
 #![tactic(auto)]
 
+mod all_moves;
 mod begins;
 mod choosing;
 mod counting;
@@ -16,6 +17,7 @@ mod scripts;
 mod waits;
 mod waking;
 
+pub use all_moves::make_all;
 pub use choosing::plain;
 pub use counting::summary;
 pub use driving::{Driven, drive_plain};
