@@ -1,13 +1,15 @@
 //! The first delivery that brings a role up to date in a kind.
-ghost use Rattle.std.specs.Prelude.{◌↔◌, IsTrue, IfOk};
+ghost use Rattle.std.specs.Prelude.{◌≡◌, ◌↔◌, IsTrue, IfOk, false};
+ghost use Rattle.cmc_model.specs.Writes.{last_of_kind, writes};
 ghost use Rattle.cmc_world.specs.Kept.{setting_of};
 ghost use Rattle.cmc_plain.specs.Plain.{IsBehind};
 ghost use Rattle.cmc_plain.specs.Searches.{FindsKind, FindsDelivery};
 
 use crate::roles::role_in;
 use crate::scripts::is_accepted;
+use cmc_held::at_kind;
 use cmc_meta::Kind;
-use cmc_objects::Role;
+use cmc_objects::{Role, has_informer};
 use cmc_world::{Move, World};
 use std::alloc::{AllocError, Global};
 
@@ -18,11 +20,23 @@ pub(crate) struct Delivery {
     pub kind: Kind,
 }
 
+/// Whether the role is told of the kind, and has not been told of its newest write, `to`. It asks little, and is asked of
+/// every role and kind before most moves.
+fn has_news(world: &World, role: Role, kind: Kind, to: u64) -> bool
+    requires { to ≡ last_of_kind kind (writes (setting_of world.now.scenario) world.now.history) }
+    ensures { result ≡ false → IsBehind (setting_of world.now.scenario) world.now.history role kind → ⊥ }
+{
+    has_informer(role, kind) && at_kind(world.told(role), kind) < to
+}
+
 /// Whether the role runs, and can be told of an accepted write of the kind that it was not told of.
 fn is_behind(alloc: Global, world: &World, role: Role, kind: Kind) -> Result<bool, AllocError>
     ensures { IfOk result (λ b. IsTrue b ↔ IsBehind (setting_of world.now.scenario) world.now.history role kind) }
 {
     let to = world.log().last_of_kind(kind);
+    if !has_news(world, role, kind, to) {
+        return Ok(false);
+    }
     Ok(is_accepted(world.answer(alloc, &Move::Deliver { role, kind, to })?))
 }
 
