@@ -1,6 +1,7 @@
 //! What no clause says: what the approver asks and writes, as texts, and that there is an answer where memory is ample.
 ghost use Rattle.std.specs.Prelude.{IfOk, IsSome};
 
+use crate::checks::{passes, tells_at};
 use crate::fixtures::{RequestRow, request};
 use crate::requestmanager::WANTED;
 use crate::telling::{call_told, told};
@@ -187,8 +188,8 @@ fn told_of(alloc: Global, case: &Case) -> Result<String, Fail> {
 #[test]
 fn judges_open_requests(rt: HostRuntime) -> Result<(), Fail> {
     is_sound();
-    for (case, expected) in &CASES {
-        assert_eq!(rt; told_of(rt.alloc(), case)?.as_str(), *expected);
+    for (number, (case, expected)) in CASES.iter().enumerate() {
+        tells_at(&rt, number, told_of(rt.alloc(), case)?.as_str(), expected);
     }
     Ok(())
 }
@@ -337,13 +338,19 @@ fn policy(alloc: Global, row: PolicyRow) -> Result<Policy, AllocError> {
     })
 }
 
-fn rules(alloc: Global, ruled: &Ruled) -> Result<Rules, Fail> {
+fn policies(alloc: Global, rows: &[PolicyRow]) -> Result<Policies, AllocError> {
     let mut policies = Policies::new(alloc);
-    for row in ruled.policies {
+    for row in rows {
         policies.push(policy(alloc, *row)?)?;
     }
+    Ok(policies)
+}
+
+fn rules(alloc: Global, ruled: &Ruled) -> Result<Rules, Fail> {
+    let policies = policies(alloc, ruled.policies)?;
+    let issuers = texts(alloc, "ca")?;
     Ok(Rules {
-        issuers: texts(alloc, "ca")?,
+        issuers,
         refuse: texts(alloc, ruled.refuse)?,
         policies,
     })
@@ -388,18 +395,21 @@ fn verdict(alloc: Global, kind: &str, message: &str) -> Result<String, AllocErro
     )
 }
 
+/// A write of the status of version 9, which ends so.
+fn is_status(written: &str, end: &str) -> bool {
+    written.starts_with("status 9 ") && written.ends_with(end)
+}
+
 #[test]
 fn writes_verdicts(rt: HostRuntime) -> Result<(), Fail> {
     let alloc = rt.alloc();
     for (ruled, (kind, message)) in &VERDICTS {
         let written = written(alloc, ruled)?;
-        assert!(rt; written.as_str().starts_with("status 9 "));
-        assert!(rt;
-            written
-                .as_str()
-                .ends_with(verdict(alloc, kind, message)?.as_str()),
-            "{}",
-            written.as_str()
+        let verdict = verdict(alloc, kind, message)?;
+        passes(
+            &rt,
+            written.as_str(),
+            is_status(written.as_str(), verdict.as_str()),
         );
     }
     Ok(())

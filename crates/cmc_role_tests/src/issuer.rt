@@ -4,6 +4,7 @@ ghost use Rattle.std.specs.Prelude.{◌≡◌, ◌<◌, ◌^◌, [], IfOk, IsSom
 ghost use Rattle.cmc_rules.specs.Granting.{HasForm};
 ghost use Rattle.cmc_objects.specs.Requests.{is_short_text, is_short_option, is_duration_form, is_request_form};
 
+use crate::checks::tells_at;
 use crate::fixtures::{RequestRow, Stated, bytes, request};
 use crate::requestmanager::WANTED;
 use crate::telling::{call_told, told};
@@ -368,8 +369,8 @@ fn told_of(alloc: Global, case: &Case) -> Result<String, Fail> {
 }
 
 fn meets(rt: &impl Abort, alloc: Global, rows: &[(Case, &str)]) -> Result<(), Fail> {
-    for (case, expected) in rows {
-        assert_eq!(rt; told_of(alloc, case)?.as_str(), *expected);
+    for (number, (case, expected)) in rows.iter().enumerate() {
+        tells_at(rt, number, told_of(alloc, case)?.as_str(), expected);
     }
     Ok(())
 }
@@ -506,14 +507,19 @@ fn status_told(alloc: Global, members: &str) -> Result<String, AllocError> {
 #[test]
 fn writes_answers(rt: HostRuntime) -> Result<(), Fail> {
     let alloc = rt.alloc();
-    for (case, answer, members) in &WRITTEN {
-        let written = written(alloc, case, answer)?;
-        assert_eq!(rt; written.as_str(), status_told(alloc, members)?.as_str());
+    for (number, (case, answer, members)) in WRITTEN.iter().enumerate() {
+        let want = status_told(alloc, members)?;
+        tells_at(
+            &rt,
+            number,
+            written(alloc, case, answer)?.as_str(),
+            want.as_str(),
+        );
     }
     Ok(())
 }
 
-const BY_SCRIPT: &str =
+static BY_SCRIPT: &str =
     r#""certificate":"BY-SCRIPT","conditions":[{"lastTransitionTime":"2030-01-01T00:01:00Z","message":"Certificate fetched from issuer successfully","reason":"Issued","status":"True","type":"Ready"},APPROVED]"#;
 
 static ASKED_ONCE: Case = OPEN;
@@ -533,6 +539,7 @@ fn scripted(alloc: Global, views: &Views) -> Result<String, Fail>
 fn writes_the_certificate_that_was_issued(rt: HostRuntime) -> Result<(), Fail> {
     let alloc = rt.alloc();
     let written = scripted(alloc, &views_with(alloc, &ASKED_ONCE)?)?;
-    assert_eq!(rt; written.as_str(), status_told(alloc, BY_SCRIPT)?.as_str());
+    let want = status_told(alloc, BY_SCRIPT)?;
+    tells_at(&rt, 0, written.as_str(), want.as_str());
     Ok(())
 }

@@ -1,6 +1,7 @@
 //! What no clause says: what the issuing controller does, as texts, and that there is an answer where memory is ample.
 ghost use Rattle.cmc_rules.specs.NextRequests.{HasNextRevision};
 
+use crate::checks::tells_at;
 use crate::fixtures::{Case, RequestRow, SecretRow, Stated, views};
 use crate::keymanager::WIDE;
 use crate::requestmanager::{KEYED, NEXT_KEY, WANTED};
@@ -690,15 +691,23 @@ static PAIRED: [(Case, Outcome); 5] = [
     ),
 ];
 
+fn failure(alloc: Global, reason: &str, attempts: u32) -> Result<String, AllocError> {
+    format!(in alloc;
+        r#"status 3 web {{"conditions":[{{"lastTransitionTime":"2030-01-01T00:01:00Z","message":"The certificate request has failed to complete and will be retried","reason":"{reason}","status":"False","type":"Issuing"}}],"failedIssuanceAttempts":{attempts},"lastFailureTime":"2030-01-01T00:01:00Z","nextPrivateKeySecretName":"web-bbbbf","revision":1}}}}"#
+    )
+}
+
+fn issuance(alloc: Global, secret: &str, revision: u32) -> Result<String, AllocError> {
+    format!(in alloc;
+        r#"issue 3 Certificate/default/web; {secret}; status 3 web {{"conditions":[{{"lastTransitionTime":"2030-01-01T00:01:00Z","message":"The certificate has been successfully issued","reason":"Issued","status":"False","type":"Issuing"}}],"nextPrivateKeySecretName":"web-bbbbf","revision":{revision}}}}}"#
+    )
+}
+
 fn expected(alloc: Global, outcome: &Outcome) -> Result<String, AllocError> {
     match outcome {
-        Outcome::Nothing => format!(in alloc; "nothing"),
-        Outcome::Fails(reason, attempts) => format!(in alloc;
-            r#"status 3 web {{"conditions":[{{"lastTransitionTime":"2030-01-01T00:01:00Z","message":"The certificate request has failed to complete and will be retried","reason":"{reason}","status":"False","type":"Issuing"}}],"failedIssuanceAttempts":{attempts},"lastFailureTime":"2030-01-01T00:01:00Z","nextPrivateKeySecretName":"web-bbbbf","revision":1}}}}"#
-        ),
-        Outcome::Issues(secret, revision) => format!(in alloc;
-            r#"issue 3 Certificate/default/web; {secret}; status 3 web {{"conditions":[{{"lastTransitionTime":"2030-01-01T00:01:00Z","message":"The certificate has been successfully issued","reason":"Issued","status":"False","type":"Issuing"}}],"nextPrivateKeySecretName":"web-bbbbf","revision":{revision}}}}}"#
-        ),
+        Outcome::Nothing => String::from_str(alloc, "nothing"),
+        Outcome::Fails(reason, attempts) => failure(alloc, reason, *attempts),
+        Outcome::Issues(secret, revision) => issuance(alloc, secret, *revision),
         Outcome::StandsIn(secret) => {
             format!(in alloc; "temporary 3 Certificate/default/web; {secret}")
         }
@@ -717,9 +726,14 @@ fn told_of(alloc: Global, case: &Case) -> Result<String, Fail> {
 }
 
 fn meets(rt: &impl Abort, alloc: Global, rows: &[(Case, Outcome)]) -> Result<(), Fail> {
-    for (case, outcome) in rows {
-        let told = told_of(alloc, case)?;
-        assert_eq!(rt; told.as_str(), expected(alloc, outcome)?.as_str());
+    for (number, (case, outcome)) in rows.iter().enumerate() {
+        let expected = expected(alloc, outcome)?;
+        tells_at(
+            rt,
+            number,
+            told_of(alloc, case)?.as_str(),
+            expected.as_str(),
+        );
     }
     Ok(())
 }

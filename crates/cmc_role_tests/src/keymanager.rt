@@ -1,6 +1,7 @@
 //! What no clause says: what the key manager does, as texts, and that there is an answer where memory is ample.
 ghost use Rattle.std.specs.Prelude.{◌<◌, ◌^◌, IfOk, IsSome};
 
+use crate::checks::{passes, tells, tells_at};
 use crate::fixtures::{Case, SecretRow, Stated, bytes, certificate, views};
 use crate::telling::{call_told, told};
 use crate::trigger::{KEY, OTHER, desk};
@@ -289,8 +290,8 @@ fn told_of(alloc: Global, case: &Case) -> Result<String, Fail> {
 }
 
 fn meets(rt: &impl Abort, alloc: Global, rows: &[(Case, &str)]) -> Result<(), Fail> {
-    for (case, expected) in rows {
-        assert_eq!(rt; told_of(alloc, case)?.as_str(), *expected);
+    for (number, (case, expected)) in rows.iter().enumerate() {
+        tells_at(rt, number, told_of(alloc, case)?.as_str(), expected);
     }
     Ok(())
 }
@@ -307,18 +308,22 @@ fn asks_or_takes_the_key_again(rt: HostRuntime) -> Result<(), Fail> {
     meets(&rt, rt.alloc(), &ASKED)
 }
 
+fn one_key(alloc: Global) -> Result<Rows, AllocError> {
+    let mut keys = KeyRows::new(alloc);
+    keys.push(KeyRow::Der(bytes(alloc, KEY_FILE)?))?;
+    Ok(Rows {
+        keys,
+        replies: SignRows::new(alloc),
+    })
+}
+
 /// The scenario's first key of the Certificate is the one that openssl made.
 fn scripted(alloc: Global) -> Result<Desk, Fail>
     ensures { IfOk result (λ d. d.asked < 2 ^ 63) }
 {
-    let mut keys = KeyRows::new(alloc);
-    keys.push(KeyRow::Der(bytes(alloc, KEY)?))?;
-    let replies = SignRows::new(alloc);
     let mut desk = desk(alloc);
-    desk.material.set(
-        key(alloc, Kind::Certificate, "web")?,
-        Rows { keys, replies },
-    )?;
+    let web = key(alloc, Kind::Certificate, "web")?;
+    desk.material.set(web, one_key(alloc)?)?;
     desk.asked = 0;
     Ok(desk)
 }
@@ -331,6 +336,10 @@ fn question(alloc: Global, views: &Views) -> Result<KeyOrder, Fail> {
 }
 
 static BEGUN_ONCE: Case = BEGUN;
+
+static KEPT_KEY: &str = CREATED;
+
+static KEY_FILE: &str = KEY;
 
 fn views_with(alloc: Global, case: &Case) -> Result<Views, Fail>
     ensures { IfOk result (λ v. IsSome v.certificate) }
@@ -358,7 +367,12 @@ fn keeps_the_key_that_was_made(rt: HostRuntime) -> Result<(), Fail> {
     let alloc = rt.alloc();
     let views = views_with(alloc, &BEGUN_ONCE)?;
     let order = question(alloc, &views)?;
-    assert_eq!(rt; order.number, 1);
-    assert_eq!(rt; kept(alloc, &views, &order)?.as_str(), CREATED);
+    passes(&rt, "the first question", order.number == 1);
+    tells(
+        &rt,
+        "new Secret",
+        kept(alloc, &views, &order)?.as_str(),
+        KEPT_KEY,
+    );
     Ok(())
 }

@@ -5,6 +5,8 @@
 #[cfg(test)]
 mod approver;
 #[cfg(test)]
+mod checks;
+#[cfg(test)]
 mod fixtures;
 #[cfg(test)]
 mod issuer;

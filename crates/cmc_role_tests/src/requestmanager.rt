@@ -1,14 +1,22 @@
 //! What no clause says: what the request manager does, as texts, and that there is an answer where memory is ample.
+ghost use Rattle.std.specs.Option.{option_copied};
+ghost use Rattle.std.specs.Prelude.{ℕ, List, IsSome, IsTrue, option_map};
+ghost use Rattle.cmc_der.specs.Keys.{key_shown};
 ghost use Rattle.cmc_rules.specs.NextRequests.{HasNextRevision};
+ghost use Rattle.cmc_rules.specs.RequestManaging as table;
 
+use crate::checks::{tells, tells_at};
 use crate::fixtures::{Case, RequestRow, SecretRow, Stated, views};
 use crate::keymanager::WIDE;
-use crate::telling::told;
+use crate::telling::{call_told, told};
 use crate::trigger::{KEY, OTHER, OTHER_KEY, OTHER_NAME, REQUEST, desk};
-use cmc_meta::{ConditionKind, Tri};
-use cmc_objects::Algorithm;
-use cmc_pass::Views;
-use cmc_requestmanager::{act, is_sound};
+use cmc_keys::{KeyMaker, ScriptedKeys};
+use cmc_meta::{Bytes, ConditionKind, Tri};
+use cmc_next::{key_in, named_key};
+use cmc_objects::{Algorithm, Certificate, CsrOrder, Order, Secret};
+use cmc_pass::{Act, Given, Views};
+use cmc_requestmanager::{act, is_sound, then};
+use cmc_x509::{Spki, key_public};
 use std::alloc::{AllocError, Global};
 use std::process::Abort;
 use std::test::Fail;
@@ -336,8 +344,8 @@ fn told_of(alloc: Global, case: &Case) -> Result<String, Fail> {
 }
 
 fn meets(rt: &impl Abort, alloc: Global, rows: &[(Case, &str)]) -> Result<(), Fail> {
-    for (case, expected) in rows {
-        assert_eq!(rt; told_of(alloc, case)?.as_str(), *expected);
+    for (number, (case, expected)) in rows.iter().enumerate() {
+        tells_at(rt, number, told_of(alloc, case)?.as_str(), expected);
     }
     Ok(())
 }
@@ -353,4 +361,89 @@ fn keeps_one_request(rt: HostRuntime) -> Result<(), Fail> {
     let alloc = rt.alloc();
     meets(&rt, alloc, &KEPT)?;
     meets(&rt, alloc, &REFUSED)
+}
+
+/// A request that names the Certificate, its next revision and the Secret with the key, and belongs to the Certificate.
+/// The signature is the SHA-256 digest of the body, as Python's hashlib gives it; openssl reads the request.
+static MADE: &str =
+    r#"generate {"apiVersion":"cert-manager.io/v1","kind":"CertificateRequest","metadata":{"annotations":{"cert-manager.io/certificate-name":"web","cert-manager.io/certificate-revision":"2","cert-manager.io/private-key-secret-name":"web-bbbbf"},"name":"web","namespace":"default","ownerReferences":[{"controller":true,"kind":"Certificate","name":"web","uid":"uid-1"}]},"spec":{"issuerRef":{"name":"ca"},"request":"MIG9MIGLAgEAMAAwWTATBgcqhkjOPQIBBggqhkjOPQMBBwNCAATI1JEjhdbiiR1s+rs0shLmYyTm9wk1ltZTmcMTO+uic78cS6KE1pDQJ1b2FFGjs3kcD3+e9tmsNx7h+lJY1nWIoCkwJwYJKoZIhvcNAQkOMRowGDAWBgNVHREEDzANggtleGFtcGxlLmNvbTAKBggqhkjOPQQDAgMhANEZ/LZLik+L+FVK4aoYl9rVSPJ/NZ/01AmscKNfkmJx"}}"#;
+
+static KEYED_ONCE: Case = KEYED;
+
+/// A call follows each signature where the key is read.
+fn follows_by(certificate: &Certificate, secret: &Secret, key: Option<Spki<'_>>) -> bool
+    ensures { IsTrue result → (s : List ℕ) → IsSome (table.signed_by certificate.now secret.now (option_map key_shown key.entry) s) }
+{
+    let (_certificate, _secret) = (certificate, secret);
+    match key {
+        None => false,
+        Some(_key) => true,
+    }
+}
+
+fn follows_in(certificate: &Certificate, secret: &Secret, file: Option<&Bytes>) -> bool
+    ensures { IsTrue result → (s : List ℕ) → IsSome (table.signed_in certificate.now secret.now (option_copied file.entry) s) }
+{
+    match file {
+        None => false,
+        Some(file) => follows_by(certificate, secret, key_public(file.as_slice())),
+    }
+}
+
+fn follows_with(certificate: &Certificate, secret: Option<&Secret>) -> bool
+    ensures { IsTrue result → (s : List ℕ) → IsSome (table.signed_with certificate.now (option_copied secret.entry) s) }
+{
+    match secret {
+        None => false,
+        Some(secret) => follows_in(certificate, secret, key_in(secret)),
+    }
+}
+
+/// Whether the next key that the Certificate names stands and is read.
+fn follows(views: &Views) -> bool
+    ensures { IsTrue result → (s : List ℕ) → IsSome (table.signed_for views.now.certificate views.now.next s) }
+{
+    match &views.certificate {
+        None => false,
+        Some(certificate) => {
+            let secret = named_key(&certificate.status.next_key, views.next.as_slice());
+            follows_with(certificate, secret)
+        }
+    }
+}
+
+fn question(alloc: Global, views: &Views) -> Result<CsrOrder, Fail>
+    requires { HasNextRevision views.now.certificate }
+{
+    match act(alloc, views, 0, &desk(alloc))? {
+        Act::Ask(Order::Csr(order)) => Ok(order),
+        _other => Err(Fail::from("no question")),
+    }
+}
+
+#[tactic(auto, unfolding(cmc_rules::specs::RequestManaging::request_after))]
+fn made_on(alloc: Global, views: &Views, order: &CsrOrder) -> Result<String, AllocError>
+    requires { HasNextRevision views.now.certificate }
+{
+    if !follows(views) {
+        return String::from_str(alloc, "no readable key");
+    }
+    let given = Given::Signed(ScriptedKeys.sign(alloc, order)?);
+    let call = then(alloc, views, 0, &given)?;
+    call_told(alloc, &call)
+}
+
+// The signature that was made stands in a new request.
+#[test]
+fn makes_the_request_that_was_signed(rt: HostRuntime) -> Result<(), Fail> {
+    let alloc = rt.alloc();
+    let views = views(alloc, &KEYED_ONCE)?;
+    let order = question(alloc, &views)?;
+    tells(
+        &rt,
+        "new request",
+        made_on(alloc, &views, &order)?.as_str(),
+        MADE,
+    );
+    Ok(())
 }

@@ -1,7 +1,6 @@
 //! What no clause says: what the readiness and the revision controllers write, as texts, and that there is an answer
 //! where memory is ample.
-ghost use Rattle.std.specs.Prelude.{◌≡◌, None};
-
+use crate::checks::{tells, tells_at};
 use crate::trigger::{Case, NONE, OTHER_NAME, REQUEST, WELL, desk, request, views};
 use cmc_meta::{Condition, ConditionKind, Text, Tri};
 use cmc_objects::{Call, CertStatus, CertificateRequest, Object};
@@ -16,7 +15,7 @@ const TIMES: &str = "1795748973 1803524973 1800932973";
 
 fn moment(alloc: Global, at: Option<i64>) -> Result<String, AllocError> {
     match at {
-        None => format!(in alloc; "-"),
+        None => String::from_str(alloc, "-"),
         Some(at) => format!(in alloc; "{at}"),
     }
 }
@@ -28,18 +27,23 @@ fn times_of(alloc: Global, status: &CertStatus) -> Result<String, AllocError> {
     format!(in alloc; "{before} {after} {renewal}")
 }
 
+fn tri_word(status: Tri) -> &'static str {
+    match status {
+        Tri::True => "True",
+        Tri::False => "False",
+        Tri::Unknown => "Unknown",
+    }
+}
+
 fn ready_of(alloc: Global, status: &CertStatus) -> Result<String, AllocError> {
     let Some(condition) = status.conditions.get(ConditionKind::Ready) else {
-        return format!(in alloc; "no condition");
+        return String::from_str(alloc, "no condition");
     };
     let reason = condition.reason.as_str();
     let message = condition.message.as_str();
     let since = condition.since;
-    if condition.status.same(Tri::True) {
-        format!(in alloc; "{since} True {reason}: {message}")
-    } else {
-        format!(in alloc; "{since} False {reason}: {message}")
-    }
+    let status = tri_word(condition.status);
+    format!(in alloc; "{since} {status} {reason}: {message}")
 }
 
 /// What the act writes: the version that it names, the condition Ready and the times.
@@ -51,7 +55,7 @@ fn told(alloc: Global, act: &Act) -> Result<String, AllocError> {
         },
     ) = act
     else {
-        return format!(in alloc; "nothing");
+        return String::from_str(alloc, "nothing");
     };
     let ready = ready_of(alloc, &certificate.status)?;
     let times = times_of(alloc, &certificate.status)?;
@@ -62,9 +66,7 @@ fn told_on(alloc: Global, views: &Views, now: i64) -> Result<String, AllocError>
     told(alloc, &act_readiness(alloc, views, now, &desk(alloc))?)
 }
 
-fn told_of(alloc: Global, case: &Case) -> Result<String, Fail>
-    requires { case.now.failed ≡ None }
-{
+fn told_of(alloc: Global, case: &Case) -> Result<String, Fail> {
     let views = views(alloc, case)?;
     Ok(told_on(alloc, &views, case.now)?)
 }
@@ -130,18 +132,17 @@ static READINESS: [(Case, &str, &str); 8] = [
     ),
 ];
 
+fn ready_at(alloc: Global, now: i64, reason: &str, times: &str) -> Result<String, AllocError> {
+    format!(in alloc; "3 {now} {reason} {times}")
+}
+
 #[test]
 fn says_whether_a_certificate_is_ready(rt: HostRuntime) -> Result<(), Fail> {
     let alloc = rt.alloc();
     is_readiness_sound();
     for (case, reason, times) in &READINESS {
-        let never_failed = Case {
-            failed: None,
-            ..*case
-        };
-        let now = case.now;
-        let expected = format!(in alloc; "3 {now} {reason} {times}")?;
-        assert_eq!(rt; told_of(alloc, &never_failed)?.as_str(), expected.as_str());
+        let want = ready_at(alloc, case.now, reason, times)?;
+        tells(&rt, reason, told_of(alloc, case)?.as_str(), want.as_str());
     }
     Ok(())
 }
@@ -182,9 +183,7 @@ fn limited(
     limit: Option<u32>,
     first: &Row,
     second: &Row,
-) -> Result<Views, Fail>
-    requires { case.now.failed ≡ None }
-{
+) -> Result<Views, Fail> {
     let mut views = views(alloc, case)?;
     add(alloc, &mut views.requests, first)?;
     add(alloc, &mut views.requests, second)?;
@@ -276,13 +275,9 @@ static KEPT: [(Case, Option<u32>, Row, Row, &str); 8] = [
 fn keeps_as_many_requests_as_the_limit(rt: HostRuntime) -> Result<(), Fail> {
     let alloc = rt.alloc();
     is_revision_sound();
-    for (case, limit, first, second, gone) in &KEPT {
-        let never_failed = Case {
-            failed: None,
-            ..*case
-        };
-        let views = limited(alloc, &never_failed, *limit, first, second)?;
-        assert_eq!(rt; gone_on(alloc, &views)?.as_str(), *gone);
+    for (number, (case, limit, first, second, gone)) in KEPT.iter().enumerate() {
+        let views = limited(alloc, case, *limit, first, second)?;
+        tells_at(&rt, number, gone_on(alloc, &views)?.as_str(), gone);
     }
     Ok(())
 }

@@ -1,14 +1,16 @@
 //! What controllers do, as texts: a word for the call or the question, and each object as a history prints it.
 use crate::trigger::KEY;
 use cmc_meta::Bytes;
-use cmc_objects::{Algorithm, Call, CsrOrder, KeyOrder, KeyRow, Object, Order, SignOrder, SignRow};
+use cmc_objects::{
+    Algorithm, Call, CsrOrder, JudgeOrder, KeyOrder, KeyRow, Object, Order, SignOrder, SignRow,
+};
 use cmc_pass::{Act, IssuePlan, TemporaryPlan};
 use cmc_print::{key_word, name_word, tree_of};
 use cmc_tests::values::octets;
 use std::alloc::{AllocError, Global};
 
 /// The body of the request that `openssl req -new` made, without its signature.
-const BODY: &str =
+static BODY: &str =
     "30818b02010030003059301306072a8648ce3d020106082a8648ce3d03010703420004c8d4912385d6e2891d6cfabb34b212e66324e6f7093596d65399c3133beba273bf1c4ba284d690d02756f61451a3b3791c0f7f9ef6d9ac371ee1fa5258d67588a029302706092a864886f70d01090e311a301830160603551d11040f300d820b6578616d706c652e636f6d";
 
 /// Long texts of JSON and the words that stand for them in what is expected: the Certificate up to its status, and, in
@@ -76,12 +78,9 @@ fn object_told(alloc: Global, object: &Object) -> Result<String, AllocError> {
 pub(crate) fn call_told(alloc: Global, call: &Call) -> Result<String, AllocError> {
     match call {
         Call::Create { object, generate } => {
+            let word = if *generate { "generate" } else { "create" };
             let object = object_told(alloc, object)?;
-            if *generate {
-                format!(in alloc; "generate {object}")
-            } else {
-                format!(in alloc; "create {object}")
-            }
+            format!(in alloc; "{word} {object}")
         }
         Call::Update { object, version } => {
             let object = object_told(alloc, object)?;
@@ -98,7 +97,7 @@ pub(crate) fn call_told(alloc: Global, call: &Call) -> Result<String, AllocError
             let key = key_word(alloc, key)?;
             format!(in alloc; "delete {version} {key}")
         }
-        _ => format!(in alloc; "another call"),
+        _ => String::from_str(alloc, "another call"),
     }
 }
 
@@ -122,13 +121,15 @@ fn key_told(alloc: Global, order: &KeyOrder) -> Result<String, AllocError> {
     format!(in alloc; "ask key {number} {certificate} {algorithm} {size} {row}")
 }
 
+static KEY_FILE: &str = KEY;
+
 fn is_file(alloc: Global, file: &Bytes, expected: &str) -> Result<bool, AllocError> {
     Ok(file.as_slice() == octets(alloc, expected)?.as_slice())
 }
 
 fn csr_told(alloc: Global, order: &CsrOrder) -> Result<String, AllocError> {
     let is_body = is_file(alloc, &order.body, BODY)?;
-    let is_key = is_file(alloc, &order.key, KEY)?;
+    let is_key = is_file(alloc, &order.key, KEY_FILE)?;
     format!(in alloc; "ask signature, body {is_body}, key {is_key}")
 }
 
@@ -148,16 +149,18 @@ fn sign_told(alloc: Global, order: &SignOrder) -> Result<String, AllocError> {
     format!(in alloc; "ask issuer {number} {version} {now} {row}")
 }
 
+fn judge_told(alloc: Global, order: &JudgeOrder) -> Result<String, AllocError> {
+    let version = order.request.meta.version;
+    let issuers = order.rules.issuers.as_slice().len();
+    format!(in alloc; "judge {version} {issuers}")
+}
+
 fn order_told(alloc: Global, order: &Order) -> Result<String, AllocError> {
     match order {
         Order::Key(order) => key_told(alloc, order),
         Order::Csr(order) => csr_told(alloc, order),
         Order::Sign(order) => sign_told(alloc, order),
-        Order::Judge(order) => {
-            let version = order.request.meta.version;
-            let issuers = order.rules.issuers.as_slice().len();
-            format!(in alloc; "judge {version} {issuers}")
-        }
+        Order::Judge(order) => judge_told(alloc, order),
     }
 }
 
@@ -179,7 +182,7 @@ fn temporary_told(alloc: Global, plan: &TemporaryPlan) -> Result<String, AllocEr
 /// What the controller does.
 pub(crate) fn told(alloc: Global, act: &Act) -> Result<String, AllocError> {
     match act {
-        Act::Nothing => format!(in alloc; "nothing"),
+        Act::Nothing => String::from_str(alloc, "nothing"),
         Act::Call(call) => call_told(alloc, call),
         Act::Ask(order) => order_told(alloc, order),
         Act::Issue(plan) => issue_told(alloc, plan),

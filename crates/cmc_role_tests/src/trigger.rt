@@ -2,6 +2,7 @@
 ghost use Rattle.std.specs.Prelude.{◌≡◌, [], IfOk};
 ghost use Rattle.cmc_rules.specs.Dates.{IsDatedOption, HasDatedFailure};
 
+use crate::checks::{passes, tells_at};
 use cmc_meta::{Bytes, Condition, ConditionKind, Conditions, ObjectMeta, Pairs, Text, Texts, Tri};
 use cmc_objects::{
     Algorithm, Call, CertStatus, Certificate, CertificateRequest, IssuerRef, Material, Object,
@@ -12,6 +13,7 @@ use cmc_policy_rules::Policies;
 use cmc_tests::values::{least_spec, new_meta, octets, text};
 use cmc_trigger::{act, is_sound};
 use std::alloc::{AllocError, Global};
+use std::process::Abort;
 use std::test::Fail;
 
 /// A key file that `openssl ecparam -genkey` made, a certificate that `openssl req -x509` made of it, and
@@ -93,32 +95,42 @@ fn conditions(alloc: Global, issuing: Option<Tri>) -> Result<Conditions, Fail> {
     Ok(conditions)
 }
 
-fn certificate(
-    alloc: Global,
-    conditions: Conditions,
-    algorithm: Option<Algorithm>,
-    failed: Option<i64>,
-    attempts: Option<u32>,
-) -> Result<Certificate, Fail>
-    ensures { IfOk result (λ c. c.status.last_failure ≡ failed) }
+/// The moment, where it lies in the years of a last failure.
+fn dated(failed: Option<i64>) -> Option<i64>
+    ensures { IsDatedOption result }
+{
+    match failed {
+        Some(at) if at >= -631_152_000 && at <= 253_402_300_799 => Some(at),
+        _ => None,
+    }
+}
+
+fn status(alloc: Global, case: &Case) -> Result<CertStatus, Fail>
+    ensures { IfOk result (λ s. IsDatedOption s.last_failure) }
+{
+    Ok(CertStatus {
+        conditions: conditions(alloc, case.issuing)?,
+        last_failure: dated(case.failed),
+        attempts: case.attempts,
+        not_before: None,
+        not_after: None,
+        renewal: None,
+        revision: Some(1),
+        next_key: None,
+    })
+}
+
+fn certificate(alloc: Global, case: &Case) -> Result<Certificate, Fail>
+    ensures { IfOk result (λ c. IsDatedOption c.status.last_failure) }
 {
     let mut meta = new_meta(alloc, "web")?;
     meta.version = 3;
     let mut spec = least_spec(alloc, "web-tls", "example.com")?;
-    spec.key.algorithm = algorithm;
+    spec.key.algorithm = case.algorithm;
     Ok(Certificate {
         meta,
         spec,
-        status: CertStatus {
-            conditions,
-            last_failure: failed,
-            attempts,
-            not_before: None,
-            not_after: None,
-            renewal: None,
-            revision: Some(1),
-            next_key: None,
-        },
+        status: status(alloc, case)?,
     })
 }
 
@@ -134,17 +146,19 @@ fn parts(alloc: Global, key: &str, certificate: &str) -> Result<Parts, Fail> {
     Ok(parts)
 }
 
+static ISSUER: [(&str, &str); 3] = [
+    ("cert-manager.io/issuer-name", "ca"),
+    ("cert-manager.io/issuer-kind", "Issuer"),
+    ("cert-manager.io/issuer-group", "cert-manager.io"),
+];
+
 /// The annotations of the issuer, and then the mark, which may change one of them.
 fn annotations(alloc: Global, mark: (&str, &str)) -> Result<Pairs, Fail> {
     let mut annotations = Pairs::new(alloc);
-    for (key, value) in [
-        ("cert-manager.io/issuer-name", "ca"),
-        ("cert-manager.io/issuer-kind", "Issuer"),
-        ("cert-manager.io/issuer-group", "cert-manager.io"),
-        mark,
-    ] {
+    for (key, value) in &ISSUER {
         annotations.set(text(alloc, key)?, text(alloc, value)?)?;
     }
+    annotations.set(text(alloc, mark.0)?, text(alloc, mark.1)?)?;
     Ok(annotations)
 }
 
@@ -246,27 +260,20 @@ pub(crate) fn desk(alloc: Global) -> Desk
     }
 }
 
+fn secret_of(alloc: Global, case: &Case) -> Result<Option<Secret>, Fail> {
+    match case.parts {
+        None => Ok(None),
+        Some((key, certificate)) => Ok(Some(secret(alloc, key, certificate, case.mark)?)),
+    }
+}
+
 pub(crate) fn views(alloc: Global, case: &Case) -> Result<Views, Fail>
-    requires { IsDatedOption case.now.failed }
     ensures { IfOk result HasDatedFailure }
 {
-    let conditions = conditions(alloc, case.issuing)?;
-    let certificate = certificate(
-        alloc,
-        conditions,
-        case.algorithm,
-        case.failed,
-        case.attempts,
-    )?;
-    let secret = match case.parts {
-        None => None,
-        Some((key, certificate)) => Some(secret(alloc, key, certificate, case.mark)?),
-    };
-    let requests = requests(alloc, case.requests)?;
     let mut views = Views::new(alloc);
-    views.certificate = Some(certificate);
-    views.secret = secret;
-    views.requests = requests;
+    views.secret = secret_of(alloc, case)?;
+    views.requests = requests(alloc, case.requests)?;
+    views.certificate = Some(certificate(alloc, case)?);
     Ok(views)
 }
 
@@ -276,11 +283,18 @@ fn told_on(alloc: Global, views: &Views, now: i64) -> Result<String, AllocError>
     told(alloc, &act(alloc, views, now, &desk(alloc))?)
 }
 
-fn told_of(alloc: Global, case: &Case) -> Result<String, Fail>
-    requires { IsDatedOption case.now.failed }
-{
+fn told_of(alloc: Global, case: &Case) -> Result<String, Fail> {
     let views = views(alloc, case)?;
     Ok(told_on(alloc, &views, case.now)?)
+}
+
+/// What is told of each row ends as it says.
+fn ends(rt: &impl Abort, alloc: Global, rows: &[(Case, &str)]) -> Result<(), Fail> {
+    for (case, end) in rows {
+        let told = told_of(alloc, case)?;
+        passes(rt, told.as_str(), told.as_str().ends_with(*end));
+    }
+    Ok(())
 }
 
 const MISSING: &str = "3 1893456000 MissingData: Certificate must be issued: MissingData";
@@ -437,44 +451,81 @@ static CHECKS: [(Case, &str); 14] = [
 fn checks(rt: HostRuntime) -> Result<(), Fail> {
     let alloc = rt.alloc();
     is_sound();
-    for (case, reason) in &CHECKS {
-        let never_failed = Case {
-            failed: None,
-            ..*case
-        };
-        let told = told_of(alloc, &never_failed)?;
-        assert!(rt; told.as_str().ends_with(reason));
-    }
-    for (case, expected) in &SECRETS {
-        let never_failed = Case {
-            failed: None,
-            ..*case
-        };
-        assert_eq!(rt; told_of(alloc, &never_failed)?.as_str(), *expected);
+    ends(&rt, alloc, &CHECKS)?;
+    for (number, (case, expected)) in SECRETS.iter().enumerate() {
+        tells_at(&rt, number, told_of(alloc, case)?.as_str(), expected);
     }
     Ok(())
 }
 
+const ABSENT: &str = "3 1893456000 DoesNotExist: Certificate must be issued: DoesNotExist";
+
+/// What is done while the Certificate is being issued, and after failures.
+static TIMES: [(Case, &str); 7] = [
+    (
+        Case {
+            issuing: Some(Tri::True),
+            ..NONE
+        },
+        "nothing",
+    ),
+    (
+        Case {
+            issuing: Some(Tri::False),
+            ..NONE
+        },
+        ABSENT,
+    ),
+    (
+        Case {
+            issuing: Some(Tri::Unknown),
+            ..NONE
+        },
+        ABSENT,
+    ),
+    (
+        Case {
+            issuing: Some(Tri::False),
+            failed: Some(1_893_452_401),
+            attempts: Some(1),
+            ..NONE
+        },
+        "nothing",
+    ),
+    (
+        Case {
+            issuing: Some(Tri::False),
+            failed: Some(1_893_452_400),
+            attempts: Some(1),
+            ..NONE
+        },
+        ABSENT,
+    ),
+    (
+        Case {
+            issuing: Some(Tri::False),
+            failed: Some(1_893_448_801),
+            attempts: Some(2),
+            ..NONE
+        },
+        "nothing",
+    ),
+    (
+        Case {
+            issuing: Some(Tri::False),
+            failed: Some(1_893_448_800),
+            attempts: Some(2),
+            ..NONE
+        },
+        ABSENT,
+    ),
+];
+
 #[test]
 fn times(rt: HostRuntime) -> Result<(), Fail> {
     let alloc = rt.alloc();
-    let absent = "3 1893456000 DoesNotExist: Certificate must be issued: DoesNotExist";
-    for (issuing, failed, attempts, told) in [
-        (Some(Tri::True), None, None, "nothing"),
-        (Some(Tri::False), None, None, absent),
-        (Some(Tri::Unknown), None, None, absent),
-        (Some(Tri::False), Some(1_893_452_401), Some(1), "nothing"),
-        (Some(Tri::False), Some(1_893_452_400), Some(1), absent),
-        (Some(Tri::False), Some(1_893_448_801), Some(2), "nothing"),
-        (Some(Tri::False), Some(1_893_448_800), Some(2), absent),
-    ] {
-        let case = Case {
-            issuing,
-            failed,
-            attempts,
-            ..NONE
-        };
-        assert_eq!(rt; told_of(alloc, &case)?.as_str(), told);
+    for (number, (case, expected)) in TIMES.iter().enumerate() {
+        tells_at(&rt, number, told_of(alloc, case)?.as_str(), expected);
     }
     Ok(())
 }
@@ -520,20 +571,12 @@ static BACK_OFFS: [(Case, &str); 6] = [
 ];
 
 const TRIED: Case = Case {
+    failed: Some(1_893_452_401),
     attempts: Some(1),
     ..NONE
 };
 
 #[test]
 fn back_offs(rt: HostRuntime) -> Result<(), Fail> {
-    let alloc = rt.alloc();
-    for (case, reason) in &BACK_OFFS {
-        let failed = Case {
-            failed: Some(1_893_452_401),
-            ..*case
-        };
-        let told = told_of(alloc, &failed)?;
-        assert!(rt; told.as_str().ends_with(reason));
-    }
-    Ok(())
+    ends(&rt, rt.alloc(), &BACK_OFFS)
 }

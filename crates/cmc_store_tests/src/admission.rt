@@ -1,9 +1,10 @@
 //! The admission rules at their bounds, and the store's refusals by them.
-use crate::store::made;
+use crate::checks::{passes, passes_at};
+use crate::store::replies;
 use cmc_admit::{Invalid, admit, is_spec_kept};
-use cmc_meta::{Condition, ConditionKind, Conditions, Kind, Numbers, Text, Texts, Tri};
+use cmc_meta::{Bytes, Condition, ConditionKind, Conditions, Kind, Numbers, Text, Texts, Tri};
 use cmc_objects::{
-    Algorithm, Call, CertStatus, Certificate, CertificateRequest, Object, Parts, Reply, Secret,
+    Algorithm, Call, CertSpec, CertStatus, Certificate, CertificateRequest, Object, Parts,
 };
 use cmc_store::Store;
 use cmc_tests::values::{key, least_spec, name, new_meta, text, texts};
@@ -51,7 +52,7 @@ enum Change {
 }
 
 /// The change, its number, and the rule that refuses, 0 where none does.
-const ROWS: [(Change, u32, u32); 51] = [
+static ROWS: [(Change, u32, u32); 51] = [
     (Change::NoName, 0, 1),
     (Change::CommonName, 1, 0),
     (Change::CommonName, 64, 0),
@@ -138,6 +139,29 @@ fn admitted(alloc: Global, word: &str, secret: &str) -> Result<Certificate, Fail
     })
 }
 
+/// The change, in a word.
+fn word(change: Change) -> &'static str {
+    match change {
+        Change::NoName => "no name",
+        Change::CommonName => "common name",
+        Change::Duration => "duration",
+        Change::RenewBefore => "renew before",
+        Change::RenewBeforeOfHour => "renew before of hour",
+        Change::RsaSize => "rsa size",
+        Change::EcdsaSize => "ecdsa size",
+        Change::HistoryLimit => "history limit",
+        Change::Name => "name",
+        Change::DnsNames => "dns names",
+        Change::Uris => "uris",
+        Change::Bytes => "bytes",
+        Change::Usages => "usages",
+        Change::Usage => "usage",
+        Change::Both => "both",
+        Change::Percent => "percent",
+        Change::PercentOfHour => "percent of hour",
+    }
+}
+
 /// Changes names and usages.
 fn change_texts(
     alloc: Global,
@@ -162,32 +186,47 @@ fn change_texts(
     Ok(())
 }
 
-/// Changes numbers.
-fn change_numbers(c: &mut Certificate, change: Change, number: u32) {
+/// Changes the duration and when the certificate is renewed.
+fn change_times(spec: &mut CertSpec, change: Change, number: u32) {
     match change {
-        Change::Duration => c.spec.duration = Some(u64::from(number)),
-        Change::RenewBefore => c.spec.renew_before = Some(u64::from(number)),
+        Change::Duration => spec.duration = Some(u64::from(number)),
+        Change::RenewBefore => spec.renew_before = Some(u64::from(number)),
         Change::RenewBeforeOfHour => {
-            c.spec.duration = Some(3_600);
-            c.spec.renew_before = Some(u64::from(number));
+            spec.duration = Some(3_600);
+            spec.renew_before = Some(u64::from(number));
         }
-        Change::RsaSize => c.spec.key.size = Some(number),
-        Change::EcdsaSize => {
-            c.spec.key.algorithm = Some(Algorithm::Ecdsa);
-            c.spec.key.size = Some(number);
-        }
-        Change::HistoryLimit => c.spec.history_limit = Some(number),
         Change::Both => {
-            c.spec.renew_before = Some(300);
-            c.spec.renew_percent = Some(number);
+            spec.renew_before = Some(300);
+            spec.renew_percent = Some(number);
         }
-        Change::Percent => c.spec.renew_percent = Some(number),
+        Change::Percent => spec.renew_percent = Some(number),
         Change::PercentOfHour => {
-            c.spec.duration = Some(3_600);
-            c.spec.renew_percent = Some(number);
+            spec.duration = Some(3_600);
+            spec.renew_percent = Some(number);
         }
         _ => {}
     }
+}
+
+/// Changes the key and how many requests are kept.
+fn change_numbers(spec: &mut CertSpec, change: Change, number: u32) {
+    match change {
+        Change::RsaSize => spec.key.size = Some(number),
+        Change::EcdsaSize => {
+            spec.key.algorithm = Some(Algorithm::Ecdsa);
+            spec.key.size = Some(number);
+        }
+        Change::HistoryLimit => spec.history_limit = Some(number),
+        _ => {}
+    }
+}
+
+fn changed(alloc: Global, change: Change, number: u32) -> Result<Object, Fail> {
+    let mut c = admitted(alloc, "web", "web-tls")?;
+    change_texts(alloc, &mut c, change, number)?;
+    change_times(&mut c.spec, change, number);
+    change_numbers(&mut c.spec, change, number);
+    Ok(Object::Cert(c))
 }
 
 fn rule_of(answer: Result<(), Invalid>) -> u32 {
@@ -197,20 +236,26 @@ fn rule_of(answer: Result<(), Invalid>) -> u32 {
     }
 }
 
+/// The rule that refuses a create of the object; none refuses an update of its status by itself.
+fn is_refused_by(object: &Object, rule: u32) -> bool {
+    rule_of(admit(None, object, false, false)) == rule
+        && rule_of(admit(Some(object), object, true, true)) == 0
+}
+
 #[test]
 fn each_rule_on_certificates_at_its_bound(rt: HostRuntime) -> Result<(), Fail> {
     let alloc = rt.alloc();
-    for (change, number, rule) in ROWS {
-        let mut c = admitted(alloc, "web", "web-tls")?;
-        change_texts(alloc, &mut c, change, number)?;
-        change_numbers(&mut c, change, number);
-        let object = Object::Cert(c);
-        assert_eq!(rt; rule_of(admit(None, &object, false, false)), rule);
-        assert_eq!(rt; rule_of(admit(Some(&object), &object, true, true)), 0);
+    for (change, number, rule) in &ROWS {
+        let object = changed(alloc, *change, *number)?;
+        passes_at(&rt, word(*change), *number, is_refused_by(&object, *rule));
     }
     let web = Object::Cert(admitted(alloc, "web", "web-tls")?);
-    assert_eq!(rt; rule_of(admit(Some(&web), &web, false, true)), 7);
-    assert!(rt; is_spec_kept(&web, &web));
+    passes(
+        &rt,
+        "taken",
+        rule_of(admit(Some(&web), &web, false, true)) == 7,
+    );
+    passes(&rt, "kept", is_spec_kept(&web, &web));
     Ok(())
 }
 
@@ -238,7 +283,8 @@ const DENIED: Verdicts = Verdicts {
     ..NONE
 };
 
-const CHANGES: [(Verdicts, Verdicts, u32); 14] = [
+/// The verdicts before and after, and the rule that refuses, 0 where none does.
+static CHANGES: [(Verdicts, Verdicts, u32); 14] = [
     (NONE, NONE, 0),
     (NONE, APPROVED, 0),
     (NONE, DENIED, 0),
@@ -316,82 +362,127 @@ fn put(
     Ok(())
 }
 
-fn judged(alloc: Global, verdicts: Verdicts) -> Result<CertificateRequest, Fail> {
+fn conditions(alloc: Global, verdicts: &Verdicts) -> Result<Conditions, Fail> {
+    let mut conditions = Conditions::new(alloc);
+    let (approved, denied) = (ConditionKind::Approved, ConditionKind::Denied);
+    let reason = verdicts.reason;
+    put(alloc, &mut conditions, approved, verdicts.approved, reason)?;
+    put(alloc, &mut conditions, denied, verdicts.denied, reason)?;
+    Ok(conditions)
+}
+
+fn judged(alloc: Global, verdicts: &Verdicts) -> Result<CertificateRequest, Fail> {
     let mut request = request(alloc)?;
-    request.status.conditions = Conditions::new(alloc);
-    let conditions = &mut request.status.conditions;
-    put(
-        alloc,
-        conditions,
-        ConditionKind::Approved,
-        verdicts.approved,
-        verdicts.reason,
-    )?;
-    put(
-        alloc,
-        conditions,
-        ConditionKind::Denied,
-        verdicts.denied,
-        verdicts.reason,
-    )?;
+    request.status.conditions = conditions(alloc, verdicts)?;
     Ok(request)
+}
+
+fn judged_object(alloc: Global, verdicts: &Verdicts) -> Result<Object, Fail> {
+    Ok(Object::Request(judged(alloc, verdicts)?))
+}
+
+/// The rules that refuse an update of the status, and of the rest.
+fn rules_on(old: &Object, new: &Object) -> (u32, u32) {
+    (
+        rule_of(admit(Some(old), new, true, false)),
+        rule_of(admit(Some(old), new, false, false)),
+    )
+}
+
+fn is_change_refused(
+    alloc: Global,
+    old: &Verdicts,
+    new: &Verdicts,
+    rule: u32,
+) -> Result<bool, Fail> {
+    let old = judged_object(alloc, old)?;
+    Ok(rules_on(&old, &judged_object(alloc, new)?) == (rule, 0))
+}
+
+static NO_VERDICT: Verdicts = NONE;
+
+fn other_request(alloc: Global) -> Result<Object, Fail> {
+    let mut other = judged(alloc, &NO_VERDICT)?;
+    other.spec.is_ca = true;
+    Ok(Object::Request(other))
 }
 
 #[test]
 fn rules_on_requests(rt: HostRuntime) -> Result<(), Fail> {
     let alloc = rt.alloc();
-    for (old, new, rule) in CHANGES {
-        let old = Object::Request(judged(alloc, old)?);
-        let new = Object::Request(judged(alloc, new)?);
-        assert_eq!(rt; rule_of(admit(Some(&old), &new, true, false)), rule);
-        assert_eq!(rt; rule_of(admit(Some(&old), &new, false, false)), 0);
+    for (place, (old, new, rule)) in CHANGES.iter().enumerate() {
+        let is_refused = is_change_refused(alloc, old, new, *rule)?;
+        passes_at(&rt, "change of verdicts", place as u32, is_refused);
     }
-    let mut other = judged(alloc, NONE)?;
-    other.spec.is_ca = true;
-    let other = Object::Request(other);
-    let old = Object::Request(judged(alloc, NONE)?);
-    assert_eq!(rt; rule_of(admit(Some(&old), &other, false, false)), 8);
-    assert_eq!(rt; rule_of(admit(Some(&old), &other, true, false)), 0);
-    assert_eq!(rt; rule_of(admit(None, &other, false, false)), 0);
-    assert!(rt; !is_spec_kept(&old, &other));
+    let other = other_request(alloc)?;
+    let old = judged_object(alloc, &NO_VERDICT)?;
+    passes(&rt, "another spec", rules_on(&old, &other) == (0, 8));
+    passes(
+        &rt,
+        "a create",
+        rule_of(admit(None, &other, false, false)) == 0,
+    );
+    passes(&rt, "not kept", !is_spec_kept(&old, &other));
     Ok(())
 }
 
-/// A Secret of the type, with those of the names that are given and no bytes under them.
-fn typed(alloc: Global, kind: &str, key: bool, certificate: bool) -> Result<Secret, Fail> {
-    let mut secret = secret(alloc)?;
-    secret.kind_text = text(alloc, kind)?;
-    secret.parts = Parts::new(alloc);
+fn empty_part(alloc: Global, parts: &mut Parts, name: &str) -> Result<(), Fail> {
+    parts.set(text(alloc, name)?, Bytes::new(alloc))?;
+    Ok(())
+}
+
+fn parts(alloc: Global, key: bool, certificate: bool) -> Result<Parts, Fail> {
+    let mut parts = Parts::new(alloc);
     if key {
-        secret
-            .parts
-            .set(text(alloc, "tls.key")?, cmc_meta::Bytes::new(alloc))?;
+        empty_part(alloc, &mut parts, "tls.key")?;
     }
     if certificate {
-        secret
-            .parts
-            .set(text(alloc, "tls.crt")?, cmc_meta::Bytes::new(alloc))?;
+        empty_part(alloc, &mut parts, "tls.crt")?;
     }
-    Ok(secret)
+    Ok(parts)
 }
+
+/// A Secret of the type, with those of the names that are given and no bytes under them.
+fn typed(alloc: Global, kind: &str, key: bool, certificate: bool) -> Result<Object, Fail> {
+    let mut secret = secret(alloc)?;
+    secret.kind_text = text(alloc, kind)?;
+    secret.parts = parts(alloc, key, certificate)?;
+    Ok(Object::Secret(secret))
+}
+
+/// Which of both names stand in a Secret of the type of key pairs that is refused.
+static PARTS: [(&str, bool, bool); 3] = [
+    ("none", false, false),
+    ("key", true, false),
+    ("certificate", false, true),
+];
 
 #[test]
 fn the_rule_on_secrets(rt: HostRuntime) -> Result<(), Fail> {
     let alloc = rt.alloc();
-    let opaque = Object::Secret(typed(alloc, "Opaque", false, false)?);
-    let tls = Object::Secret(typed(alloc, "kubernetes.io/tls", true, true)?);
-    assert_eq!(rt; rule_of(admit(None, &opaque, false, false)), 0);
-    assert_eq!(rt; rule_of(admit(None, &tls, false, false)), 0);
-    assert_eq!(rt; rule_of(admit(Some(&tls), &tls, false, false)), 0);
-    assert_eq!(rt; rule_of(admit(Some(&opaque), &tls, false, false)), 14);
-    assert_eq!(rt; rule_of(admit(Some(&tls), &opaque, false, false)), 14);
-    assert_eq!(rt; rule_of(admit(Some(&opaque), &opaque, true, false)), 14);
-    for (key, certificate) in [(false, false), (true, false), (false, true)] {
-        let part = Object::Secret(typed(alloc, "kubernetes.io/tls", key, certificate)?);
-        assert_eq!(rt; rule_of(admit(None, &part, false, false)), 14);
-        assert_eq!(rt; rule_of(admit(Some(&tls), &part, false, false)), 14);
+    let opaque = typed(alloc, "Opaque", false, false)?;
+    let tls = typed(alloc, "kubernetes.io/tls", true, true)?;
+    passes(&rt, "new, of any type", created(&opaque) == 0);
+    passes(&rt, "new, of key pairs", created(&tls) == 0);
+    passes(&rt, "kept", updated(&tls, &tls) == 0);
+    passes(&rt, "to key pairs", updated(&opaque, &tls) == 14);
+    passes(&rt, "to any type", updated(&tls, &opaque) == 14);
+    let status = rule_of(admit(Some(&opaque), &opaque, true, false));
+    passes(&rt, "status", status == 14);
+    for (row, key, certificate) in &PARTS {
+        let part = typed(alloc, "kubernetes.io/tls", *key, *certificate)?;
+        passes(&rt, row, created(&part) == 14);
+        passes(&rt, row, updated(&tls, &part) == 14);
     }
     Ok(())
+}
+
+fn created(object: &Object) -> u32 {
+    rule_of(admit(None, object, false, false))
+}
+
+fn updated(old: &Object, new: &Object) -> u32 {
+    rule_of(admit(Some(old), new, false, false))
 }
 
 fn create(alloc: Global, word: &str, secret: &str) -> Result<Call, Fail> {
@@ -408,110 +499,96 @@ fn update(alloc: Global, word: &str, secret: &str, version: u64) -> Result<Call,
     })
 }
 
-/// The rule of a refusal, 0 for any other reply.
-fn refused(reply: &Reply) -> u32 {
-    match reply {
-        Reply::Invalid { rule } => *rule,
-        _ => 0,
-    }
+fn delete(alloc: Global, word: &str) -> Result<Call, Fail> {
+    Ok(Call::Delete {
+        key: key(alloc, Kind::Certificate, word)?,
+        version: None,
+    })
 }
 
 #[test]
 fn a_secret_has_one_certificate(rt: HostRuntime) -> Result<(), Fail> {
     let alloc = rt.alloc();
     let mut store = Store::new(alloc, Numbers::new(alloc));
-    let web = create(alloc, "web", "web-tls")?;
-    let api = create(alloc, "api", "web-tls")?;
-    assert_eq!(rt; refused(&made(&mut store, alloc, &web)?), 0);
-    assert_eq!(rt; refused(&made(&mut store, alloc, &api)?), 7);
-    assert_eq!(rt; store.accepted(), 1);
-    assert_eq!(rt; store.calls(), 2);
+    replies(
+        &rt,
+        alloc,
+        &mut store,
+        create(alloc, "web", "web-tls")?,
+        "ok 1",
+    )?;
+    replies(
+        &rt,
+        alloc,
+        &mut store,
+        create(alloc, "api", "web-tls")?,
+        "invalid 7",
+    )?;
+    passes(&rt, "one write", store.accepted() == 1);
+    passes(&rt, "two calls", store.calls() == 2);
     // its own Certificate may name it again, and another Secret
     let same = update(alloc, "web", "web-tls", 1)?;
-    assert!(rt;
-        matches!(
-            made(&mut store, alloc, &same)?,
-            Reply::Unchanged { version: 1 }
-        )
-    );
+    replies(&rt, alloc, &mut store, same, "unchanged 1")?;
     let moved = update(alloc, "web", "other", 1)?;
-    assert!(rt;
-        matches!(
-            made(&mut store, alloc, &moved)?,
-            Reply::Ok { version: 2, .. }
-        )
-    );
+    replies(&rt, alloc, &mut store, moved, "ok 2")?;
     // then the Secret is free
-    assert!(rt; matches!(made(&mut store, alloc, &api)?, Reply::Ok { version: 3, .. }));
+    replies(
+        &rt,
+        alloc,
+        &mut store,
+        create(alloc, "api", "web-tls")?,
+        "ok 3",
+    )?;
     let back = update(alloc, "web", "web-tls", 2)?;
-    assert_eq!(rt; refused(&made(&mut store, alloc, &back)?), 7);
+    replies(&rt, alloc, &mut store, back, "invalid 7")?;
     // and so it is where its Certificate is gone
-    let gone = Call::Delete {
-        key: key(alloc, Kind::Certificate, "api")?,
-        version: None,
-    };
-    assert!(rt;
-        matches!(
-            made(&mut store, alloc, &gone)?,
-            Reply::Ok { version: 4, .. }
-        )
-    );
-    assert!(rt;
-        matches!(
-            made(&mut store, alloc, &back)?,
-            Reply::Ok { version: 5, .. }
-        )
-    );
-    Ok(())
+    replies(&rt, alloc, &mut store, delete(alloc, "api")?, "ok 4")?;
+    let back = update(alloc, "web", "web-tls", 2)?;
+    replies(&rt, alloc, &mut store, back, "ok 5")
 }
+
+fn create_of(object: Object) -> Call {
+    Call::Create {
+        object,
+        generate: false,
+    }
+}
+
+fn status_of(object: Object, version: u64) -> Call {
+    Call::UpdateStatus { object, version }
+}
+
+/// The request without a verdict, for another usage.
+fn for_clients(alloc: Global) -> Result<Object, Fail> {
+    let mut other = judged(alloc, &NO_VERDICT)?;
+    other.spec.usages = texts(alloc, "client auth")?;
+    Ok(Object::Request(other))
+}
+
+static ONE_DENIED: Verdicts = DENIED;
+
+static BOTH: Verdicts = Verdicts {
+    approved: Some(Tri::True),
+    ..DENIED
+};
 
 #[test]
 fn the_store_refuses_by_each_kind(rt: HostRuntime) -> Result<(), Fail> {
     let alloc = rt.alloc();
     let mut store = Store::new(alloc, Numbers::new(alloc));
-    let made_request = Call::Create {
-        object: Object::Request(judged(alloc, NONE)?),
-        generate: false,
-    };
-    assert!(rt;
-        matches!(
-            made(&mut store, alloc, &made_request)?,
-            Reply::Ok { version: 1, .. }
-        )
-    );
-    let denied = Call::UpdateStatus {
-        object: Object::Request(judged(alloc, DENIED)?),
-        version: 1,
-    };
-    assert!(rt;
-        matches!(
-            made(&mut store, alloc, &denied)?,
-            Reply::Ok { version: 2, .. }
-        )
-    );
-    let approved = Call::UpdateStatus {
-        object: Object::Request(judged(
-            alloc,
-            Verdicts {
-                approved: Some(Tri::True),
-                ..DENIED
-            },
-        )?),
+    let call = create_of(judged_object(alloc, &NO_VERDICT)?);
+    replies(&rt, alloc, &mut store, call, "ok 1")?;
+    let call = status_of(judged_object(alloc, &ONE_DENIED)?, 1);
+    replies(&rt, alloc, &mut store, call, "ok 2")?;
+    let call = status_of(judged_object(alloc, &BOTH)?, 2);
+    replies(&rt, alloc, &mut store, call, "invalid 10")?;
+    let call = Call::Update {
+        object: for_clients(alloc)?,
         version: 2,
     };
-    assert_eq!(rt; refused(&made(&mut store, alloc, &approved)?), 10);
-    let mut other = judged(alloc, NONE)?;
-    other.spec.usages = texts(alloc, "client auth")?;
-    let changed = Call::Update {
-        object: Object::Request(other),
-        version: 2,
-    };
-    assert_eq!(rt; refused(&made(&mut store, alloc, &changed)?), 8);
-    let tls = Call::Create {
-        object: Object::Secret(typed(alloc, "kubernetes.io/tls", true, false)?),
-        generate: false,
-    };
-    assert_eq!(rt; refused(&made(&mut store, alloc, &tls)?), 14);
-    assert_eq!(rt; store.accepted(), 2);
+    replies(&rt, alloc, &mut store, call, "invalid 8")?;
+    let call = create_of(typed(alloc, "kubernetes.io/tls", true, false)?);
+    replies(&rt, alloc, &mut store, call, "invalid 14")?;
+    passes(&rt, "two writes", store.accepted() == 2);
     Ok(())
 }

@@ -1,4 +1,5 @@
 //! What no clause says: which texts are values of a type, as JSON writes them.
+use crate::checks::tells;
 use cmc_cursor::{BadField, flag, small_count, texts};
 use serde_json::Value;
 use std::alloc::{AllocError, Global};
@@ -35,24 +36,47 @@ fn texts_told(alloc: Global, value: &Value) -> Result<String, BadField> {
     Ok(told)
 }
 
+/// A value, and what it is as a flag, as a count and as a list of texts.
+static VALUES: [(&str, &str, &str, &str); 7] = [
+    ("true", "yes", "at ", "at "),
+    ("false", "no", "at ", "at "),
+    ("4294967295", "at ", "4294967295", "at "),
+    ("4294967296", "at ", "at ", "at "),
+    ("-1", "at ", "at ", "at "),
+    (r#"["a","b"]"#, "at ", "at ", "a;b;"),
+    (r#"["a",1]"#, "at ", "at ", "at 1"),
+];
+
+fn value(alloc: Global, text: &str) -> Result<Value, Fail> {
+    match Value::from_str(alloc, text) {
+        Ok(value) => Ok(value),
+        Err(_) => Err(Fail::from("no JSON")),
+    }
+}
+
 #[test]
 fn reads_single_values(rt: HostRuntime) -> Result<(), Fail> {
     let alloc = rt.alloc();
-    for (input, as_flag, as_count, as_texts) in [
-        ("true", "yes", "at ", "at "),
-        ("false", "no", "at ", "at "),
-        ("4294967295", "at ", "4294967295", "at "),
-        ("4294967296", "at ", "at ", "at "),
-        ("-1", "at ", "at ", "at "),
-        (r#"["a","b"]"#, "at ", "at ", "a;b;"),
-        (r#"["a",1]"#, "at ", "at ", "at 1"),
-    ] {
-        let Ok(value) = Value::from_str(alloc, input) else {
-            return Err(Fail::from("no JSON"));
-        };
-        assert_eq!(rt; told(alloc, flag_told(alloc, &value))?.as_str(), as_flag);
-        assert_eq!(rt; told(alloc, count_told(alloc, &value))?.as_str(), as_count);
-        assert_eq!(rt; told(alloc, texts_told(alloc, &value))?.as_str(), as_texts);
+    for (input, as_flag, as_count, as_texts) in &VALUES {
+        let value = value(alloc, input)?;
+        tells(
+            &rt,
+            input,
+            told(alloc, flag_told(alloc, &value))?.as_str(),
+            as_flag,
+        );
+        tells(
+            &rt,
+            input,
+            told(alloc, count_told(alloc, &value))?.as_str(),
+            as_count,
+        );
+        tells(
+            &rt,
+            input,
+            told(alloc, texts_told(alloc, &value))?.as_str(),
+            as_texts,
+        );
     }
     Ok(())
 }

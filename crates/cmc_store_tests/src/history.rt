@@ -1,11 +1,11 @@
 //! What no clause says: that a history takes entries and answers objects at versions, with ample memory.
-use crate::store::made;
+use crate::checks::passes;
+use crate::store::{create, delete, made, state};
 use cmc_history::History;
 use cmc_meta::{Key, Kind, Numbers};
 use cmc_objects::{Call, Entry, Object, Who};
 use cmc_store::Store;
 use cmc_tests::values::key;
-use cmc_tests::whole::admitted_certificate;
 use std::alloc::Global;
 use std::test::Fail;
 
@@ -30,48 +30,55 @@ fn version_at(history: &History, alloc: Global, key: &Key, position: u64) -> Res
     }
 }
 
+/// A history of a create, the same again, a write of the status, and a delete.
+fn history(alloc: Global) -> Result<History, Fail> {
+    let mut store = Store::new(alloc, Numbers::new(alloc));
+    let mut history = History::new(alloc);
+    note(&mut history, &mut store, alloc, create(alloc)?)?;
+    note(&mut history, &mut store, alloc, create(alloc)?)?;
+    note(&mut history, &mut store, alloc, state(alloc, 1)?)?;
+    note(&mut history, &mut store, alloc, delete(alloc, None)?)?;
+    Ok(history)
+}
+
+/// So many accepted writes, and the version that stands then.
+static VERSIONS: [(&str, u64, u64); 5] = [
+    ("after none", 0, 0),
+    ("after one", 1, 1),
+    ("after two", 2, 2),
+    ("after three", 3, 0),
+    ("after four", 4, 0),
+];
+
 #[test]
 fn looks_at_each_version(rt: HostRuntime) -> Result<(), Fail> {
     let alloc = rt.alloc();
-    let mut store = Store::new(alloc, Numbers::new(alloc));
-    let mut history = History::new(alloc);
+    let history = history(alloc)?;
     let web = key(alloc, Kind::Certificate, "web")?;
-    let create = Call::Create {
-        object: Object::Cert(admitted_certificate(alloc)?),
-        generate: false,
-    };
-    note(&mut history, &mut store, alloc, create.copy()?)?;
-    note(&mut history, &mut store, alloc, create)?;
-    let state = Call::UpdateStatus {
-        object: Object::Cert(admitted_certificate(alloc)?),
-        version: 1,
-    };
-    note(&mut history, &mut store, alloc, state)?;
-    let gone = Call::Delete {
-        key: web.copy()?,
-        version: None,
-    };
-    note(&mut history, &mut store, alloc, gone)?;
-    let versions = [0, 1, 2, 0, 0];
-    for position in 0..5 {
-        assert_eq!(rt;
-            version_at(&history, alloc, &web, position as u64)?,
-            versions[position]
+    for (row, position, version) in &VERSIONS {
+        passes(
+            &rt,
+            row,
+            version_at(&history, alloc, &web, *position)? == *version,
         );
     }
     let other = key(alloc, Kind::Secret, "web")?;
-    assert_eq!(rt; version_at(&history, alloc, &other, 2)?, 0);
+    passes(
+        &rt,
+        "another key",
+        version_at(&history, alloc, &other, 2)? == 0,
+    );
     Ok(())
 }
 
 #[test]
 fn keeps_entries(rt: HostRuntime) -> Result<(), Fail> {
-    let alloc = rt.alloc();
-    let mut history = History::new(alloc);
+    let mut history = History::new(rt.alloc());
     history.reserve(1)?;
     history.push(Entry::Script { step: 1 });
-    assert_eq!(rt; history.len(), 1);
-    assert!(rt; history.entry(0).is_none());
-    assert!(rt; matches!(history.entry(1), Some(Entry::Script { step: 1 })));
+    passes(&rt, "one entry", history.len() == 1);
+    passes(&rt, "none under 0", history.entry(0).is_none());
+    let is_first = matches!(history.entry(1), Some(Entry::Script { step: 1 }));
+    passes(&rt, "the first", is_first);
     Ok(())
 }
