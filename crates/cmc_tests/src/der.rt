@@ -1,11 +1,11 @@
 //! What no clause says: values that openssl made and wrote, and the vectors of the refusals.
 ghost use Rattle.std.specs.Prelude.{◌^◌, ◌<◌, length};
 
+use crate::checks::{passes, tells};
 use crate::made_values::{EC_PUBLIC, MADE, RSA_PUBLIC};
 use crate::values::octets;
 use cmc_der::{DerFault, KeyKind, Spki, Tlv, Writer, read_one};
 use std::alloc::{AllocError, Global};
-use std::process::Abort;
 use std::test::Fail;
 
 /// What was read: the tag, the body and the rest, or the fault.
@@ -22,34 +22,37 @@ fn told(alloc: Global, input: &str) -> Result<String, AllocError> {
     }
 }
 
+fn push_line(alloc: Global, lines: &mut String, line: &str) -> Result<(), AllocError> {
+    if !lines.is_empty() {
+        lines.push_str("; ")?;
+    }
+    lines.push_str(line)
+}
+
 /// The values of the input from the outside in: offset, header length, length and tag of each.
-fn walk(rt: &impl Abort, alloc: Global, input: &[u8]) -> Result<String, AllocError> {
+fn walk(alloc: Global, input: &[u8]) -> Result<String, AllocError> {
     let mut lines = String::new(alloc);
     let mut rest = input;
     for _ in 0..1000u32 {
         if rest.is_empty() {
             break;
         }
-        match read_one(rest) {
-            Err(fault) => assert_eq!(rt; Some(fault), None),
-            Ok((Tlv { tag, body }, after)) => {
-                let header = rest
-                    .len()
-                    .wrapping_sub(body.len())
-                    .wrapping_sub(after.len());
-                let offset = input.len().wrapping_sub(rest.len());
-                let line = format!(in alloc; "; {offset} {header} {} {tag:02x}", body.len())?;
-                lines.push_str(&line)?;
-                // The contents of a constructed value are values, and those of a primitive one are not.
-                let skipped = if tag & 32 == 0 {
-                    header.wrapping_add(body.len())
-                } else {
-                    header
-                };
-                assert!(rt; skipped <= rest.len());
-                rest = &rest[skipped..];
-            }
-        }
+        let Ok((Tlv { tag, body }, after)) = read_one(rest) else {
+            return String::from_str(alloc, "no value");
+        };
+        let header = rest
+            .len()
+            .wrapping_sub(body.len())
+            .wrapping_sub(after.len());
+        let offset = input.len().wrapping_sub(rest.len());
+        let line = format!(in alloc; "{offset} {header} {} {tag:02x}", body.len())?;
+        push_line(alloc, &mut lines, &line)?;
+        // The contents of a constructed value are values, and those of a primitive one are not.
+        rest = if tag & 32 == 0 {
+            after
+        } else {
+            rest.get(header..).unwrap_or(b"")
+        };
     }
     Ok(lines)
 }
@@ -57,32 +60,33 @@ fn walk(rt: &impl Abort, alloc: Global, input: &[u8]) -> Result<String, AllocErr
 #[test]
 fn reads_what_openssl_made(rt: HostRuntime) -> Result<(), Fail> {
     let alloc = rt.alloc();
-    for (name, made, lines) in MADE {
+    for (name, made, lines) in &MADE {
         let made = octets(alloc, made)?;
-        let want = format!(in alloc; "; {lines}")?;
-        assert_eq!(rt; walk(&rt, alloc, &made)?, want, "at {name}");
+        tells(&rt, name, walk(alloc, &made)?.as_str(), lines);
     }
     Ok(())
 }
 
+static READINGS: [(&str, &str); 12] = [
+    ("308103020105", "not DER at 2"),
+    ("3080", "not DER at 1"),
+    ("3085", "not DER at 1"),
+    ("1f", "not DER at 0"),
+    ("308100", "not DER at 2"),
+    ("30820080", "not DER at 2"),
+    ("30030201", "cut"),
+    ("02", "cut"),
+    ("3084", "cut"),
+    ("", "cut"),
+    ("020105ff", "02 1 1"),
+    ("0500", "05 0 0"),
+];
+
 #[test]
 fn refuses_at_the_first_octet_that_no_value_has(rt: HostRuntime) -> Result<(), Fail> {
     let alloc = rt.alloc();
-    for (input, want) in [
-        ("308103020105", "not DER at 2"),
-        ("3080", "not DER at 1"),
-        ("3085", "not DER at 1"),
-        ("1f", "not DER at 0"),
-        ("308100", "not DER at 2"),
-        ("30820080", "not DER at 2"),
-        ("30030201", "cut"),
-        ("02", "cut"),
-        ("3084", "cut"),
-        ("", "cut"),
-        ("020105ff", "02 1 1"),
-        ("0500", "05 0 0"),
-    ] {
-        assert_eq!(rt; told(alloc, input)?.as_str(), want, "at {input}");
+    for (input, want) in &READINGS {
+        tells(&rt, input, told(alloc, input)?.as_str(), want);
     }
     Ok(())
 }
@@ -105,42 +109,61 @@ fn zeros(alloc: Global, count: u32) -> Result<Vec<u8>, AllocError>
     Ok(writer.finish())
 }
 
+/// The octets of a number and its INTEGER.
+static NUMBERS: [(&str, &str); 9] = [
+    ("80", "02020080"),
+    ("00", "020100"),
+    ("", "020100"),
+    ("0001", "020101"),
+    ("7f", "02017f"),
+    ("ff", "020200ff"),
+    ("0100", "02020100"),
+    ("8000", "0203008000"),
+    ("7fffffffffffffffff", "02097fffffffffffffffff"),
+];
+
+fn is_integer(alloc: Global, number: &str, want: &str) -> Result<bool, AllocError> {
+    let number = octets(alloc, number)?;
+    if number.len() >= 1000 {
+        return Ok(false);
+    }
+    Ok(integer(alloc, &number)?.as_slice() == octets(alloc, want)?.as_slice())
+}
+
+/// A count of zeros, and what stands before them.
+static LENGTHS: [(u32, &str); 6] = [
+    (127, "047f"),
+    (128, "048180"),
+    (255, "0481ff"),
+    (256, "04820100"),
+    (65535, "0482ffff"),
+    (65536, "0483010000"),
+];
+
+fn is_of_length(alloc: Global, count: u32, want: &str) -> Result<bool, AllocError> {
+    if count >= 100_000 {
+        return Ok(false);
+    }
+    let written = zeros(alloc, count)?;
+    let want = octets(alloc, want)?;
+    Ok(written.starts_with(&want) && written.len() == want.len().wrapping_add(count as usize))
+}
+
 #[test]
 fn writes_numbers_and_lengths_as_openssl_does(rt: HostRuntime) -> Result<(), Fail> {
     let alloc = rt.alloc();
-    for (number, want) in [
-        ("80", "02020080"),
-        ("00", "020100"),
-        ("", "020100"),
-        ("0001", "020101"),
-        ("7f", "02017f"),
-        ("ff", "020200ff"),
-        ("0100", "02020100"),
-        ("8000", "0203008000"),
-        ("7fffffffffffffffff", "02097fffffffffffffffff"),
-    ] {
-        let number = octets(alloc, number)?;
-        assert!(rt; number.len() < 1000);
-        assert_eq!(rt; integer(alloc, &number)?, octets(alloc, want)?, "{want}");
+    for (number, want) in &NUMBERS {
+        passes(&rt, want, is_integer(alloc, number, want)?);
     }
-    for (count, want) in [
-        (127, "047f"),
-        (128, "048180"),
-        (255, "0481ff"),
-        (256, "04820100"),
-        (65535, "0482ffff"),
-        (65536, "0483010000"),
-    ] {
-        let written = zeros(alloc, count)?;
-        let want = octets(alloc, want)?;
-        assert!(rt; written.starts_with(&want), "at {count}");
-        assert_eq!(rt;
-            written.len(),
-            want.len().wrapping_add(count as usize),
-            "at {count}"
-        );
+    for (count, want) in &LENGTHS {
+        passes(&rt, want, is_of_length(alloc, *count, want)?);
     }
     Ok(())
+}
+
+/// Of a text that is handed on by reference, so that it is not spelt in what is proved.
+fn octets_of(alloc: Global, text: &&str) -> Result<Vec<u8>, AllocError> {
+    octets(alloc, text)
 }
 
 /// A SubjectPublicKeyInfo of a P-256 key with this point.
@@ -158,49 +181,61 @@ fn ec_public(alloc: Global, point: &[u8]) -> Result<Vec<u8>, AllocError>
     Ok(writer.finish())
 }
 
-#[test]
-fn writes_a_public_key_as_openssl_does(rt: HostRuntime) -> Result<(), Fail> {
-    let alloc = rt.alloc();
-    let made = octets(alloc, EC_PUBLIC)?;
-    assert_eq!(rt; made.len(), 91);
-    assert_eq!(rt; ec_public(alloc, &made[26..])?, made);
+fn length_of_two(alloc: Global) -> Result<u64, AllocError> {
     let mut writer = Writer::new(alloc);
     writer.begin(alloc, 0x30)?;
     writer.integer(alloc, &[1, 2])?;
-    assert_eq!(rt; writer.len(), 18);
+    Ok(writer.len())
+}
+
+#[test]
+fn writes_a_public_key_as_openssl_does(rt: HostRuntime) -> Result<(), Fail> {
+    let alloc = rt.alloc();
+    let made = octets_of(alloc, &EC_PUBLIC)?;
+    if made.len() != 91 {
+        return Err(Fail::from("another length"));
+    }
+    let written = ec_public(alloc, &made[26..])?;
+    passes(&rt, "public key", written.as_slice() == made.as_slice());
+    passes(&rt, "length", length_of_two(alloc)? == 18);
     Ok(())
+}
+
+fn is_kind(key: &Spki<'_>, kind: KeyKind) -> bool {
+    match key.kind() {
+        Some(found) => found.same(kind),
+        None => false,
+    }
 }
 
 #[test]
 fn tells_the_kinds_of_keys_apart(rt: HostRuntime) -> Result<(), Fail> {
     let alloc = rt.alloc();
-    let made = octets(alloc, RSA_PUBLIC)?;
-    assert_eq!(rt; made.len(), 294);
+    let made = octets_of(alloc, &RSA_PUBLIC)?;
+    if made.len() != 294 {
+        return Err(Fail::from("another length"));
+    }
     // The modulus stands behind its zero octet, and its highest bit is set.
     let key = Spki::Rsa {
         modulus: &made[33..289],
         exponent: &made[291..],
     };
-    assert!(rt;
-        key.kind()
-            .is_some_and(|kind| kind.same(KeyKind::Rsa { bits: 2048 }))
-    );
+    passes(&rt, "RSA", is_kind(&key, KeyKind::Rsa { bits: 2048 }));
     let less = Spki::Rsa {
         modulus: &[0, 31, 255],
         exponent: &made[291..],
     };
-    assert!(rt;
-        less.kind()
-            .is_some_and(|kind| kind.same(KeyKind::Rsa { bits: 13 }))
-    );
+    passes(&rt, "less", is_kind(&less, KeyKind::Rsa { bits: 13 }));
     let point = Spki::Ec {
         curve: KeyKind::P256,
         point: &made[33..],
     };
-    assert!(rt; point.kind().is_some_and(|kind| kind.same(KeyKind::P256)));
+    passes(&rt, "point", is_kind(&point, KeyKind::P256));
     let other = Spki::Other { whole: &made };
-    assert!(rt; other.kind().is_none());
-    assert!(rt; key.same(&key) && point.same(&point) && other.same(&other));
-    assert!(rt; !key.same(&less) && !key.same(&point) && !point.same(&other));
+    passes(&rt, "other", other.kind().is_none());
+    let are_same = key.same(&key) && point.same(&point) && other.same(&other);
+    passes(&rt, "the same", are_same);
+    let is_any_same = key.same(&less) || key.same(&point) || point.same(&other);
+    passes(&rt, "not the same", !is_any_same);
     Ok(())
 }

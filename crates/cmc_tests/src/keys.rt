@@ -1,5 +1,6 @@
 //! What no clause says: that keys and signatures are made where memory is ample, and that stand-in keys have the
 //! octets that another writer of DER gave. openssl reads each of those as DER.
+use crate::checks::passes;
 use crate::made_keys;
 use crate::values::{made, name, octets};
 use crate::whole::bytes;
@@ -10,117 +11,496 @@ use cmc_keys::{
 use cmc_meta::{Bytes, Key, Kind};
 use cmc_objects::{Algorithm, CsrOrder, Encoding, KeyOrder, KeyRow};
 use sha2::{Digest, Sha256};
-use std::alloc::Global;
-use std::process::Abort;
+use std::alloc::{AllocError, Global};
 use std::test::Fail;
 
-/// The sort of a key, its number, how many octets its file has, and their SHA-256 digest, as Python's hashlib gives it.
-const STAND_INS: &str =
-    "RSA 2048 PKCS1|7|291|7c4b046e70d48e5e7482a0d7cf9086a4e0d8642d68bd815e6e69904123df38f9
-RSA 2048 PKCS8|7|317|016aaee68bee0616cd9f5f743b1de0011ff95fce16dac45801a30d092addbe34
-RSA 3072 PKCS1|7|419|41560ea39eca9a20a78b704d61c24f9ed20fd7c1cd3cddf0faff22d9bec8cdcc
-RSA 3072 PKCS8|7|445|e667ee856acd37616415a56b450a5a89ba24622bed26114b38cf9a20187f5d35
-RSA 4096 PKCS1|7|547|8b4e23c1382a30152ebb8436dc62f36631bf46b78b3f5d0bcdc6b051a0be7e14
-RSA 4096 PKCS8|7|573|d5c3e85dc80b2600a32521567dbed0e9fa369f9d7c98e5722acee365077d816e
-RSA 8192 PKCS1|7|1059|ffddfe0a8bb2de5caea30867ceb40582bb62104cb2dac0ab0b5d3e5c031e3647
-RSA 8192 PKCS8|7|1085|0347fe4b97982447fa7daf55b2b27ab991adcc3163c3c6230e7873642f2b4f67
-ECDSA 256 PKCS1|7|121|6fde3bdc6b4dac1cd4da85e34aba81195dd8c8196914b7a8a9a8ac78caa202c2
-ECDSA 256 PKCS8|7|138|0ac7f24191f9e6d9bee01ac42c6c7065db23eea6c442302614b5bb2fac76b873
-ECDSA 384 PKCS1|7|167|7a8e0b69a9d35ecfe40dfff15da5e0d9b9ae571181b6f74594f1294ee05dab8a
-ECDSA 384 PKCS8|7|185|c51d26f4740c44b83691f2f16143e5c7b05446599e9bbf30fdf29a26b32a14a9
-ECDSA 521 PKCS1|7|223|b40e7ef39282da7ad69f37163fc8c79623b7f74fae43c0933d6811b9f70ed6f9
-ECDSA 521 PKCS8|7|241|4b18797e2d9f155269eb2e66e265495762029804710217ef2f0697106753160c
-RSA 2048 PKCS1|0|291|c86ae82f2a3fbea57659fff9b7ada5274a42ae57f6c04e13c674abfd3bb55449
-RSA 2048 PKCS8|0|317|ab72fc133ba872dbdd4117bcd1fe2f03921a7921dc468e628ce2dcbb165eb157
-ECDSA 256 PKCS1|0|121|010b64da8cb5af1a795b50d4e6e90a15b78c2a88c052dee294a96a2c72c99ec9
-ECDSA 256 PKCS8|0|138|7464e6cdbcad33f935d3184c3294f31c445bcfa70a57a7678a5463733c14029c
-ECDSA 384 PKCS1|0|167|797058660d96c3278930793b3f818a75a4cfac9fd67cd470aafbb8d918a95d86
-ECDSA 384 PKCS8|0|185|47e3934f5e5066591bd8810b0f6cf3f4f1bf50a4b8439ee2a3167f0125e1063d
-ECDSA 521 PKCS1|0|223|8cc0c235a6f3eecff729afece4d3bd28d733ac78388a214f4da731d76289e676
-ECDSA 521 PKCS8|0|241|8cbf3d00a6bae3ce34e304e580b3628c710614d82fa4ac4361b70e4d14682e0e
-RSA 2048 PKCS1|18446744073709551615|291|90f158e9caa2c8186503201058a2d073cd671951b2d1eb6083571f44bcf87735
-RSA 2048 PKCS8|18446744073709551615|317|5c8f5cf00fd2ea92eef3d3fc5d20a9a8b7affb7c52cc199fde41989188c2bfbd
-ECDSA 256 PKCS1|18446744073709551615|121|01ab95244165cc9b9ff081ce63cce0ab59b3acb7f0309dbf4b15e83caf1f84d6
-ECDSA 256 PKCS8|18446744073709551615|138|a800b2688f79827c12874f32e0107450e0028ce22d397d7f796a012ecbc3eb6b
-ECDSA 384 PKCS1|18446744073709551615|167|0fc8968db85b76afdaec5d82d0a744e90595b04c4462ebeda9a91997125c616a
-ECDSA 384 PKCS8|18446744073709551615|185|09f373b8e2728a8333b5203586e86f5329cba790aa91c8b02827985b5c887ffa
-ECDSA 521 PKCS1|18446744073709551615|223|81e789bebb05d98e1be354dc35fa2ea892a2e5113fb5fba16b04c83d66ef8f8a
-ECDSA 521 PKCS8|18446744073709551615|241|51d8977a65cc03c82aee0d08b633210ba1e42bbd3b6b524ecc15d7bc14e507e9";
-
-/// What the question's row says, the Certificate's namespace and name, the number of the question, the sort of key
-/// that is asked for, and the SHA-256 digest of the file that answers. A row is named `default`, `free`,
-/// `synthetic` (of the number 7) or by the file of openssl that it holds.
-const ANSWERS: &str =
-    "default|default|web|1|ECDSA 256 PKCS1|c9da66c2cec72a8251bd98c4184ede3aecb16aa01e7a381b51be84b3ad4b78f9
-default|default|web|2|ECDSA 256 PKCS1|fc274567cd137459209cd1328882d67f710a176ec49797ecb3452180c7fed207
-default|load|c0001|1|ECDSA 256 PKCS1|7edffc84fb64eb507d7bc55b33a07d907d7f1b31c919be79cf64a05dd9054263
-default|default|web|1|ECDSA 521 PKCS8|2c42c737112eacfff1371544e27d0d925ec7364bca066ec14c6d41aa592f2dd1
-default|default|web|1|RSA 2048 PKCS8|d953c260e1a96a0c0a0a31b35a7ff590507deaa6dd3548700acaaf7496f366a8
-free|default|web|1|ECDSA 384 PKCS1|54d14bf38f296e0b5a7bce135860b501876d7517a11196b8cab2b42e283b6b0e
-synthetic|default|web|1|ECDSA 256 PKCS1|6fde3bdc6b4dac1cd4da85e34aba81195dd8c8196914b7a8a9a8ac78caa202c2
-synthetic|default|web|1|ECDSA 384 PKCS1|7a8e0b69a9d35ecfe40dfff15da5e0d9b9ae571181b6f74594f1294ee05dab8a
-p256 as ECPrivateKey|default|web|1|ECDSA 256 PKCS1|984510c9b2630190408a2d44483c2c922f89033e735e09784e25c66a4f4dc478
-p256 as ECPrivateKey|default|web|1|ECDSA 256 PKCS8|984510c9b2630190408a2d44483c2c922f89033e735e09784e25c66a4f4dc478
-p256 as ECPrivateKey|default|web|1|ECDSA 384 PKCS1|54d14bf38f296e0b5a7bce135860b501876d7517a11196b8cab2b42e283b6b0e
-p256 as ECPrivateKey|default|web|1|RSA 2048 PKCS1|438f4ac2e3f201da7e30eabad42ad32f7dfd6f31d897c20686e37313a438fdfe
-rsa as RSAPrivateKey|default|web|1|RSA 2048 PKCS1|9c005e8ea16dab9be1a825fc2ff8129c82186a44088fed7ed7405d000056a7e9
-rsa as RSAPrivateKey|default|web|1|RSA 3072 PKCS1|9527c4e81d84e0b79e94cae2f06d3ccb597b06ab997e8a377f8ca7ef9fb8c79e
-rsa as RSAPrivateKey|default|web|1|ECDSA 256 PKCS1|c9da66c2cec72a8251bd98c4184ede3aecb16aa01e7a381b51be84b3ad4b78f9
-empty|default|web|1|ECDSA 256 PKCS1|c9da66c2cec72a8251bd98c4184ede3aecb16aa01e7a381b51be84b3ad4b78f9
-three zeros|default|web|1|ECDSA 256 PKCS1|c9da66c2cec72a8251bd98c4184ede3aecb16aa01e7a381b51be84b3ad4b78f9";
-
-/// The sorts of keys, each with how the file of its stand-in key of number 1 is called in `made_keys::BUILT`.
-const SORTS: &str = "RSA 2048 PKCS1|synthetic RSA as RSAPrivateKey
-RSA 2048 PKCS8|synthetic RSA as PrivateKeyInfo
-ECDSA 256 PKCS1|synthetic P-256 as ECPrivateKey
-ECDSA 256 PKCS8|synthetic P-256 as PrivateKeyInfo
-ECDSA 384 PKCS1|synthetic P-384 as ECPrivateKey
-ECDSA 384 PKCS8|synthetic P-384 as PrivateKeyInfo
-ECDSA 521 PKCS1|synthetic P-521 as ECPrivateKey
-ECDSA 521 PKCS8|synthetic P-521 as PrivateKeyInfo";
-
-/// A sort of key.
+/// A sort of key, and what it is called.
 #[derive(Clone, Copy)]
 struct Sort {
+    called: &'static str,
     algorithm: Algorithm,
     size: u32,
     encoding: Encoding,
 }
 
-fn number(text: &str) -> Result<u64, Fail> {
-    match text.parse::<u64>() {
-        Ok(number) => Ok(number),
-        Err(_) => Err(Fail::from("no number")),
-    }
+const RSA_2048_PKCS1: Sort = Sort {
+    called: "RSA 2048 PKCS1",
+    algorithm: Algorithm::Rsa,
+    size: 2048,
+    encoding: Encoding::Pkcs1,
+};
+
+const RSA_2048_PKCS8: Sort = Sort {
+    called: "RSA 2048 PKCS8",
+    algorithm: Algorithm::Rsa,
+    size: 2048,
+    encoding: Encoding::Pkcs8,
+};
+
+const RSA_3072_PKCS1: Sort = Sort {
+    called: "RSA 3072 PKCS1",
+    algorithm: Algorithm::Rsa,
+    size: 3072,
+    encoding: Encoding::Pkcs1,
+};
+
+const RSA_3072_PKCS8: Sort = Sort {
+    called: "RSA 3072 PKCS8",
+    algorithm: Algorithm::Rsa,
+    size: 3072,
+    encoding: Encoding::Pkcs8,
+};
+
+const RSA_4096_PKCS1: Sort = Sort {
+    called: "RSA 4096 PKCS1",
+    algorithm: Algorithm::Rsa,
+    size: 4096,
+    encoding: Encoding::Pkcs1,
+};
+
+const RSA_4096_PKCS8: Sort = Sort {
+    called: "RSA 4096 PKCS8",
+    algorithm: Algorithm::Rsa,
+    size: 4096,
+    encoding: Encoding::Pkcs8,
+};
+
+const RSA_8192_PKCS1: Sort = Sort {
+    called: "RSA 8192 PKCS1",
+    algorithm: Algorithm::Rsa,
+    size: 8192,
+    encoding: Encoding::Pkcs1,
+};
+
+const RSA_8192_PKCS8: Sort = Sort {
+    called: "RSA 8192 PKCS8",
+    algorithm: Algorithm::Rsa,
+    size: 8192,
+    encoding: Encoding::Pkcs8,
+};
+
+const ECDSA_256_PKCS1: Sort = Sort {
+    called: "ECDSA 256 PKCS1",
+    algorithm: Algorithm::Ecdsa,
+    size: 256,
+    encoding: Encoding::Pkcs1,
+};
+
+const ECDSA_256_PKCS8: Sort = Sort {
+    called: "ECDSA 256 PKCS8",
+    algorithm: Algorithm::Ecdsa,
+    size: 256,
+    encoding: Encoding::Pkcs8,
+};
+
+const ECDSA_384_PKCS1: Sort = Sort {
+    called: "ECDSA 384 PKCS1",
+    algorithm: Algorithm::Ecdsa,
+    size: 384,
+    encoding: Encoding::Pkcs1,
+};
+
+const ECDSA_384_PKCS8: Sort = Sort {
+    called: "ECDSA 384 PKCS8",
+    algorithm: Algorithm::Ecdsa,
+    size: 384,
+    encoding: Encoding::Pkcs8,
+};
+
+const ECDSA_521_PKCS1: Sort = Sort {
+    called: "ECDSA 521 PKCS1",
+    algorithm: Algorithm::Ecdsa,
+    size: 521,
+    encoding: Encoding::Pkcs1,
+};
+
+const ECDSA_521_PKCS8: Sort = Sort {
+    called: "ECDSA 521 PKCS8",
+    algorithm: Algorithm::Ecdsa,
+    size: 521,
+    encoding: Encoding::Pkcs8,
+};
+
+/// The sort of a key, its number, how many octets its file has, and their SHA-256 digest, as Python's hashlib gives it.
+static STAND_INS: [(Sort, u64, usize, &str); 30] = [
+    (
+        RSA_2048_PKCS1,
+        7,
+        291,
+        "7c4b046e70d48e5e7482a0d7cf9086a4e0d8642d68bd815e6e69904123df38f9",
+    ),
+    (
+        RSA_2048_PKCS8,
+        7,
+        317,
+        "016aaee68bee0616cd9f5f743b1de0011ff95fce16dac45801a30d092addbe34",
+    ),
+    (
+        RSA_3072_PKCS1,
+        7,
+        419,
+        "41560ea39eca9a20a78b704d61c24f9ed20fd7c1cd3cddf0faff22d9bec8cdcc",
+    ),
+    (
+        RSA_3072_PKCS8,
+        7,
+        445,
+        "e667ee856acd37616415a56b450a5a89ba24622bed26114b38cf9a20187f5d35",
+    ),
+    (
+        RSA_4096_PKCS1,
+        7,
+        547,
+        "8b4e23c1382a30152ebb8436dc62f36631bf46b78b3f5d0bcdc6b051a0be7e14",
+    ),
+    (
+        RSA_4096_PKCS8,
+        7,
+        573,
+        "d5c3e85dc80b2600a32521567dbed0e9fa369f9d7c98e5722acee365077d816e",
+    ),
+    (
+        RSA_8192_PKCS1,
+        7,
+        1059,
+        "ffddfe0a8bb2de5caea30867ceb40582bb62104cb2dac0ab0b5d3e5c031e3647",
+    ),
+    (
+        RSA_8192_PKCS8,
+        7,
+        1085,
+        "0347fe4b97982447fa7daf55b2b27ab991adcc3163c3c6230e7873642f2b4f67",
+    ),
+    (
+        ECDSA_256_PKCS1,
+        7,
+        121,
+        "6fde3bdc6b4dac1cd4da85e34aba81195dd8c8196914b7a8a9a8ac78caa202c2",
+    ),
+    (
+        ECDSA_256_PKCS8,
+        7,
+        138,
+        "0ac7f24191f9e6d9bee01ac42c6c7065db23eea6c442302614b5bb2fac76b873",
+    ),
+    (
+        ECDSA_384_PKCS1,
+        7,
+        167,
+        "7a8e0b69a9d35ecfe40dfff15da5e0d9b9ae571181b6f74594f1294ee05dab8a",
+    ),
+    (
+        ECDSA_384_PKCS8,
+        7,
+        185,
+        "c51d26f4740c44b83691f2f16143e5c7b05446599e9bbf30fdf29a26b32a14a9",
+    ),
+    (
+        ECDSA_521_PKCS1,
+        7,
+        223,
+        "b40e7ef39282da7ad69f37163fc8c79623b7f74fae43c0933d6811b9f70ed6f9",
+    ),
+    (
+        ECDSA_521_PKCS8,
+        7,
+        241,
+        "4b18797e2d9f155269eb2e66e265495762029804710217ef2f0697106753160c",
+    ),
+    (
+        RSA_2048_PKCS1,
+        0,
+        291,
+        "c86ae82f2a3fbea57659fff9b7ada5274a42ae57f6c04e13c674abfd3bb55449",
+    ),
+    (
+        RSA_2048_PKCS8,
+        0,
+        317,
+        "ab72fc133ba872dbdd4117bcd1fe2f03921a7921dc468e628ce2dcbb165eb157",
+    ),
+    (
+        ECDSA_256_PKCS1,
+        0,
+        121,
+        "010b64da8cb5af1a795b50d4e6e90a15b78c2a88c052dee294a96a2c72c99ec9",
+    ),
+    (
+        ECDSA_256_PKCS8,
+        0,
+        138,
+        "7464e6cdbcad33f935d3184c3294f31c445bcfa70a57a7678a5463733c14029c",
+    ),
+    (
+        ECDSA_384_PKCS1,
+        0,
+        167,
+        "797058660d96c3278930793b3f818a75a4cfac9fd67cd470aafbb8d918a95d86",
+    ),
+    (
+        ECDSA_384_PKCS8,
+        0,
+        185,
+        "47e3934f5e5066591bd8810b0f6cf3f4f1bf50a4b8439ee2a3167f0125e1063d",
+    ),
+    (
+        ECDSA_521_PKCS1,
+        0,
+        223,
+        "8cc0c235a6f3eecff729afece4d3bd28d733ac78388a214f4da731d76289e676",
+    ),
+    (
+        ECDSA_521_PKCS8,
+        0,
+        241,
+        "8cbf3d00a6bae3ce34e304e580b3628c710614d82fa4ac4361b70e4d14682e0e",
+    ),
+    (
+        RSA_2048_PKCS1,
+        18_446_744_073_709_551_615,
+        291,
+        "90f158e9caa2c8186503201058a2d073cd671951b2d1eb6083571f44bcf87735",
+    ),
+    (
+        RSA_2048_PKCS8,
+        18_446_744_073_709_551_615,
+        317,
+        "5c8f5cf00fd2ea92eef3d3fc5d20a9a8b7affb7c52cc199fde41989188c2bfbd",
+    ),
+    (
+        ECDSA_256_PKCS1,
+        18_446_744_073_709_551_615,
+        121,
+        "01ab95244165cc9b9ff081ce63cce0ab59b3acb7f0309dbf4b15e83caf1f84d6",
+    ),
+    (
+        ECDSA_256_PKCS8,
+        18_446_744_073_709_551_615,
+        138,
+        "a800b2688f79827c12874f32e0107450e0028ce22d397d7f796a012ecbc3eb6b",
+    ),
+    (
+        ECDSA_384_PKCS1,
+        18_446_744_073_709_551_615,
+        167,
+        "0fc8968db85b76afdaec5d82d0a744e90595b04c4462ebeda9a91997125c616a",
+    ),
+    (
+        ECDSA_384_PKCS8,
+        18_446_744_073_709_551_615,
+        185,
+        "09f373b8e2728a8333b5203586e86f5329cba790aa91c8b02827985b5c887ffa",
+    ),
+    (
+        ECDSA_521_PKCS1,
+        18_446_744_073_709_551_615,
+        223,
+        "81e789bebb05d98e1be354dc35fa2ea892a2e5113fb5fba16b04c83d66ef8f8a",
+    ),
+    (
+        ECDSA_521_PKCS8,
+        18_446_744_073_709_551_615,
+        241,
+        "51d8977a65cc03c82aee0d08b633210ba1e42bbd3b6b524ecc15d7bc14e507e9",
+    ),
+];
+
+/// What the question's row says, the Certificate's namespace and name, the number of the question and the sort of key
+/// that is asked for. A row is named `default`, `free`, `synthetic` (of the number 7) or by the file of openssl that it
+/// holds.
+struct Asked {
+    row: &'static str,
+    namespace: &'static str,
+    name: &'static str,
+    number: u64,
+    sort: Sort,
 }
 
-fn width(text: &str) -> Result<u32, Fail> {
-    match text.parse::<u32>() {
-        Ok(size) => Ok(size),
-        Err(_) => Err(Fail::from("no size")),
-    }
-}
+/// A question, and the SHA-256 digest of the file that answers.
+static ANSWERS: [(Asked, &str); 17] = [
+    (
+        Asked {
+            row: "default",
+            namespace: "default",
+            name: "web",
+            number: 1,
+            sort: ECDSA_256_PKCS1,
+        },
+        "c9da66c2cec72a8251bd98c4184ede3aecb16aa01e7a381b51be84b3ad4b78f9",
+    ),
+    (
+        Asked {
+            row: "default",
+            namespace: "default",
+            name: "web",
+            number: 2,
+            sort: ECDSA_256_PKCS1,
+        },
+        "fc274567cd137459209cd1328882d67f710a176ec49797ecb3452180c7fed207",
+    ),
+    (
+        Asked {
+            row: "default",
+            namespace: "load",
+            name: "c0001",
+            number: 1,
+            sort: ECDSA_256_PKCS1,
+        },
+        "7edffc84fb64eb507d7bc55b33a07d907d7f1b31c919be79cf64a05dd9054263",
+    ),
+    (
+        Asked {
+            row: "default",
+            namespace: "default",
+            name: "web",
+            number: 1,
+            sort: ECDSA_521_PKCS8,
+        },
+        "2c42c737112eacfff1371544e27d0d925ec7364bca066ec14c6d41aa592f2dd1",
+    ),
+    (
+        Asked {
+            row: "default",
+            namespace: "default",
+            name: "web",
+            number: 1,
+            sort: RSA_2048_PKCS8,
+        },
+        "d953c260e1a96a0c0a0a31b35a7ff590507deaa6dd3548700acaaf7496f366a8",
+    ),
+    (
+        Asked {
+            row: "free",
+            namespace: "default",
+            name: "web",
+            number: 1,
+            sort: ECDSA_384_PKCS1,
+        },
+        "54d14bf38f296e0b5a7bce135860b501876d7517a11196b8cab2b42e283b6b0e",
+    ),
+    (
+        Asked {
+            row: "synthetic",
+            namespace: "default",
+            name: "web",
+            number: 1,
+            sort: ECDSA_256_PKCS1,
+        },
+        "6fde3bdc6b4dac1cd4da85e34aba81195dd8c8196914b7a8a9a8ac78caa202c2",
+    ),
+    (
+        Asked {
+            row: "synthetic",
+            namespace: "default",
+            name: "web",
+            number: 1,
+            sort: ECDSA_384_PKCS1,
+        },
+        "7a8e0b69a9d35ecfe40dfff15da5e0d9b9ae571181b6f74594f1294ee05dab8a",
+    ),
+    (
+        Asked {
+            row: "p256 as ECPrivateKey",
+            namespace: "default",
+            name: "web",
+            number: 1,
+            sort: ECDSA_256_PKCS1,
+        },
+        "984510c9b2630190408a2d44483c2c922f89033e735e09784e25c66a4f4dc478",
+    ),
+    (
+        Asked {
+            row: "p256 as ECPrivateKey",
+            namespace: "default",
+            name: "web",
+            number: 1,
+            sort: ECDSA_256_PKCS8,
+        },
+        "984510c9b2630190408a2d44483c2c922f89033e735e09784e25c66a4f4dc478",
+    ),
+    (
+        Asked {
+            row: "p256 as ECPrivateKey",
+            namespace: "default",
+            name: "web",
+            number: 1,
+            sort: ECDSA_384_PKCS1,
+        },
+        "54d14bf38f296e0b5a7bce135860b501876d7517a11196b8cab2b42e283b6b0e",
+    ),
+    (
+        Asked {
+            row: "p256 as ECPrivateKey",
+            namespace: "default",
+            name: "web",
+            number: 1,
+            sort: RSA_2048_PKCS1,
+        },
+        "438f4ac2e3f201da7e30eabad42ad32f7dfd6f31d897c20686e37313a438fdfe",
+    ),
+    (
+        Asked {
+            row: "rsa as RSAPrivateKey",
+            namespace: "default",
+            name: "web",
+            number: 1,
+            sort: RSA_2048_PKCS1,
+        },
+        "9c005e8ea16dab9be1a825fc2ff8129c82186a44088fed7ed7405d000056a7e9",
+    ),
+    (
+        Asked {
+            row: "rsa as RSAPrivateKey",
+            namespace: "default",
+            name: "web",
+            number: 1,
+            sort: RSA_3072_PKCS1,
+        },
+        "9527c4e81d84e0b79e94cae2f06d3ccb597b06ab997e8a377f8ca7ef9fb8c79e",
+    ),
+    (
+        Asked {
+            row: "rsa as RSAPrivateKey",
+            namespace: "default",
+            name: "web",
+            number: 1,
+            sort: ECDSA_256_PKCS1,
+        },
+        "c9da66c2cec72a8251bd98c4184ede3aecb16aa01e7a381b51be84b3ad4b78f9",
+    ),
+    (
+        Asked {
+            row: "empty",
+            namespace: "default",
+            name: "web",
+            number: 1,
+            sort: ECDSA_256_PKCS1,
+        },
+        "c9da66c2cec72a8251bd98c4184ede3aecb16aa01e7a381b51be84b3ad4b78f9",
+    ),
+    (
+        Asked {
+            row: "three zeros",
+            namespace: "default",
+            name: "web",
+            number: 1,
+            sort: ECDSA_256_PKCS1,
+        },
+        "c9da66c2cec72a8251bd98c4184ede3aecb16aa01e7a381b51be84b3ad4b78f9",
+    ),
+];
 
-/// The sort that a text such as `RSA 2048 PKCS1` names.
-fn sort_called(text: &str) -> Result<Sort, Fail> {
-    let mut words = text.split(' ');
-    let algorithm = match words.next().unwrap_or("") {
-        "RSA" => Algorithm::Rsa,
-        "ECDSA" => Algorithm::Ecdsa,
-        _ => return Err(Fail::from("no algorithm")),
-    };
-    let size = width(words.next().unwrap_or(""))?;
-    let encoding = match words.next().unwrap_or("") {
-        "PKCS1" => Encoding::Pkcs1,
-        "PKCS8" => Encoding::Pkcs8,
-        _ => return Err(Fail::from("no encoding")),
-    };
-    Ok(Sort {
-        algorithm,
-        size,
-        encoding,
-    })
-}
+/// The sorts of keys, each with how the file of its stand-in key of number 1 is called in `made_keys::built`.
+static SORTS: [(Sort, &str); 8] = [
+    (RSA_2048_PKCS1, "synthetic RSA as RSAPrivateKey"),
+    (RSA_2048_PKCS8, "synthetic RSA as PrivateKeyInfo"),
+    (ECDSA_256_PKCS1, "synthetic P-256 as ECPrivateKey"),
+    (ECDSA_256_PKCS8, "synthetic P-256 as PrivateKeyInfo"),
+    (ECDSA_384_PKCS1, "synthetic P-384 as ECPrivateKey"),
+    (ECDSA_384_PKCS8, "synthetic P-384 as PrivateKeyInfo"),
+    (ECDSA_521_PKCS1, "synthetic P-521 as ECPrivateKey"),
+    (ECDSA_521_PKCS8, "synthetic P-521 as PrivateKeyInfo"),
+];
 
 fn digest(octets: &[u8]) -> [u8; 32] {
     let mut hasher = Sha256::new();
@@ -128,44 +508,44 @@ fn digest(octets: &[u8]) -> [u8; 32] {
     hasher.finalize()
 }
 
-/// The stand-in key of this sort, which is one that may be asked for.
-fn stand_in(rt: &impl Abort, alloc: Global, sort: Sort, number: u64) -> Result<Bytes, Fail> {
-    assert!(rt; is_allowed_size(sort.algorithm, sort.size));
+fn has_digest(alloc: Global, file: &[u8], want: &str) -> Result<bool, AllocError> {
+    Ok(digest(file).as_slice() == octets(alloc, want)?.as_slice())
+}
+
+/// The stand-in key of this sort, where it is one that may be asked for.
+fn stand_in(alloc: Global, sort: &Sort, number: u64) -> Result<Bytes, Fail> {
+    if !is_allowed_size(sort.algorithm, sort.size) {
+        return Err(Fail::from("another size"));
+    }
     Ok(synthetic_key(alloc, sort.algorithm, sort.size, sort.encoding, number)?)
 }
 
+static SIZES: [u32; 7] = [2048, 3072, 4096, 8192, 256, 384, 521];
+
 /// The file is a key of this sort, in whichever encoding, and of no other algorithm or size.
-fn assert_sort(rt: &impl Abort, file: &[u8], sort: Sort) {
-    for size in [2048, 3072, 4096, 8192, 256, 384, 521] {
-        let is_rsa = matches!(sort.algorithm, Algorithm::Rsa) && sort.size == size;
-        let is_ecdsa = matches!(sort.algorithm, Algorithm::Ecdsa) && sort.size == size;
-        assert_eq!(rt; is_key_of(Algorithm::Rsa, size, file), is_rsa, "RSA {size}");
-        assert_eq!(rt;
-            is_key_of(Algorithm::Ecdsa, size, file),
-            is_ecdsa,
-            "ECDSA {size}"
-        );
+fn is_of_sort(file: &[u8], sort: &Sort) -> bool {
+    let is_rsa = matches!(sort.algorithm, Algorithm::Rsa);
+    for size in &SIZES {
+        let is_size = sort.size == *size;
+        if is_key_of(Algorithm::Rsa, *size, file) != (is_rsa && is_size)
+            || is_key_of(Algorithm::Ecdsa, *size, file) != (!is_rsa && is_size)
+        {
+            return false;
+        }
     }
+    true
 }
 
 #[test]
 fn writes_stand_in_keys(rt: HostRuntime) -> Result<(), Fail> {
     let alloc = rt.alloc();
     synthetic_keys_fit();
-    for row in STAND_INS.lines() {
-        let mut columns = row.split('|');
-        let sort = sort_called(columns.next().unwrap_or(""))?;
-        let number = number(columns.next().unwrap_or(""))?;
-        let length = width(columns.next().unwrap_or(""))?;
-        let want = octets(alloc, columns.next().unwrap_or(""))?;
-        let file = stand_in(&rt, alloc, sort, number)?;
-        assert_eq!(rt; file.as_slice().len(), length as usize, "{row}");
-        assert_eq!(rt;
-            digest(file.as_slice()).as_slice(),
-            want.as_slice(),
-            "{row}"
-        );
-        assert_sort(&rt, file.as_slice(), sort);
+    for (sort, number, length, want) in &STAND_INS {
+        let file = stand_in(alloc, sort, *number)?;
+        let octets = file.as_slice();
+        passes(&rt, sort.called, octets.len() == *length);
+        passes(&rt, want, has_digest(alloc, octets, want)?);
+        passes(&rt, sort.called, is_of_sort(octets, sort));
     }
     Ok(())
 }
@@ -173,40 +553,36 @@ fn writes_stand_in_keys(rt: HostRuntime) -> Result<(), Fail> {
 #[test]
 fn writes_whole_files(rt: HostRuntime) -> Result<(), Fail> {
     let alloc = rt.alloc();
-    for row in SORTS.lines() {
-        let mut columns = row.split('|');
-        let sort = sort_called(columns.next().unwrap_or(""))?;
-        let want = made(alloc, &[made_keys::BUILT], columns.next().unwrap_or(""))?;
-        let file = stand_in(&rt, alloc, sort, 1)?;
-        assert_eq!(rt; file.as_slice(), want.as_slice(), "{row}");
+    for (sort, called) in &SORTS {
+        let want = made(alloc, &[made_keys::built()], called)?;
+        passes(&rt, called, stand_in(alloc, sort, 1)?.same(&want));
     }
     Ok(())
 }
 
+/// A size, and whether RSA and ECDSA keys may have it.
+static ALLOWED: [(&str, u32, bool, bool); 14] = [
+    ("2048", 2048, true, false),
+    ("3072", 3072, true, false),
+    ("4096", 4096, true, false),
+    ("8192", 8192, true, false),
+    ("256", 256, false, true),
+    ("384", 384, false, true),
+    ("521", 521, false, true),
+    ("0", 0, false, false),
+    ("224", 224, false, false),
+    ("512", 512, false, false),
+    ("1024", 1024, false, false),
+    ("2049", 2049, false, false),
+    ("16384", 16_384, false, false),
+    ("4294967295", 4_294_967_295, false, false),
+];
+
 #[test]
 fn allows_sizes(rt: HostRuntime) {
-    for (size, rsa, ecdsa) in [
-        (2048, true, false),
-        (3072, true, false),
-        (4096, true, false),
-        (8192, true, false),
-        (256, false, true),
-        (384, false, true),
-        (521, false, true),
-        (0, false, false),
-        (224, false, false),
-        (512, false, false),
-        (1024, false, false),
-        (2049, false, false),
-        (16_384, false, false),
-        (4_294_967_295, false, false),
-    ] {
-        assert_eq!(rt; is_allowed_size(Algorithm::Rsa, size), rsa, "RSA {size}");
-        assert_eq!(rt;
-            is_allowed_size(Algorithm::Ecdsa, size),
-            ecdsa,
-            "ECDSA {size}"
-        );
+    for (row, size, rsa, ecdsa) in &ALLOWED {
+        passes(&rt, row, is_allowed_size(Algorithm::Rsa, *size) == *rsa);
+        passes(&rt, row, is_allowed_size(Algorithm::Ecdsa, *size) == *ecdsa);
     }
 }
 
@@ -217,103 +593,111 @@ fn row_called(alloc: Global, word: &str) -> Result<KeyRow, Fail> {
         "synthetic" => Ok(KeyRow::Synthetic(7)),
         "empty" => Ok(KeyRow::Der(Bytes::new(alloc))),
         "three zeros" => Ok(KeyRow::Der(bytes(alloc)?)),
-        _ => Ok(KeyRow::Der(made(alloc, &[made_keys::MADE], word)?)),
+        _ => Ok(KeyRow::Der(made(alloc, &[made_keys::made()], word)?)),
     }
 }
 
-/// The question of the first five columns.
-fn question(alloc: Global, row: &str) -> Result<KeyOrder, Fail> {
-    let mut columns = row.split('|');
-    let row = row_called(alloc, columns.next().unwrap_or(""))?;
-    let certificate = Key {
+fn certificate_of(alloc: Global, asked: &Asked) -> Result<Key, Fail> {
+    let namespace = name(alloc, asked.namespace)?;
+    Ok(Key {
         kind: Kind::Certificate,
-        namespace: name(alloc, columns.next().unwrap_or(""))?,
-        name: name(alloc, columns.next().unwrap_or(""))?,
-    };
-    let number = number(columns.next().unwrap_or(""))?;
-    let Sort {
-        algorithm,
-        size,
-        encoding,
-    } = sort_called(columns.next().unwrap_or(""))?;
+        namespace,
+        name: name(alloc, asked.name)?,
+    })
+}
+
+fn question(alloc: Global, asked: &Asked) -> Result<KeyOrder, Fail> {
+    let row = row_called(alloc, asked.row)?;
+    let sort = asked.sort;
     Ok(KeyOrder {
-        number,
-        certificate,
-        algorithm,
-        size,
-        encoding,
+        number: asked.number,
+        certificate: certificate_of(alloc, asked)?,
+        algorithm: sort.algorithm,
+        size: sort.size,
+        encoding: sort.encoding,
         row,
     })
 }
 
-/// What is read of an answer, of its copy and of its parts.
-fn assert_answer(rt: &impl Abort, made: Made, order: &KeyOrder, want: &[u8]) -> Result<(), Fail> {
-    assert!(rt; made.order().same(order));
-    assert_eq!(rt; digest(made.bytes()).as_slice(), want);
-    assert!(rt; is_key_of(order.algorithm, order.size, made.bytes()));
-    let copied = made.copy()?;
+/// The parts of the answer make an answer that is read as the other one.
+fn is_made_again(made: Made, other: &Made) -> bool {
     let (asked, file) = made.into_parts();
-    assert!(rt; asked.same(copied.order()));
-    assert_eq!(rt; file.as_slice(), copied.bytes());
     let again = Made::new(asked, file);
-    assert_eq!(rt; again.bytes(), copied.bytes());
-    Ok(())
+    again.order().same(other.order()) && again.bytes() == other.bytes()
+}
+
+/// What is read of an answer, of its copy and of its parts.
+fn is_answer(alloc: Global, order: &KeyOrder, want: &str) -> Result<bool, Fail> {
+    if !is_allowed_size(order.algorithm, order.size) {
+        return Err(Fail::from("another size"));
+    }
+    let made = ScriptedKeys.make(alloc, order)?;
+    let is_read = made.order().same(order)
+        && is_key_of(order.algorithm, order.size, made.bytes())
+        && has_digest(alloc, made.bytes(), want)?;
+    let copied = made.copy()?;
+    Ok(is_read && is_made_again(made, &copied))
 }
 
 #[test]
 fn makes_keys_by_the_row(rt: HostRuntime) -> Result<(), Fail> {
     let alloc = rt.alloc();
     one_key_value();
-    for row in ANSWERS.lines() {
-        let order = question(alloc, row)?;
-        let want = octets(alloc, row.split('|').skip(5).next().unwrap_or(""))?;
-        assert!(rt; is_allowed_size(order.algorithm, order.size), "{row}");
-        let made = ScriptedKeys.make(alloc, &order)?;
-        assert_eq!(rt; digest(made.bytes()).as_slice(), want.as_slice(), "{row}");
-        assert_answer(&rt, made, &order, want.as_slice())?;
+    for (asked, want) in &ANSWERS {
+        let order = question(alloc, asked)?;
+        passes(&rt, want, is_answer(alloc, &order, want)?);
     }
     Ok(())
 }
 
-/// What is read of a signature, of its copy and of its parts.
-fn assert_signed(rt: &impl Abort, signed: SignedCsr, want: &[u8]) -> Result<(), Fail> {
-    assert_eq!(rt; signed.signature(), want);
-    let copied = signed.copy()?;
+fn is_signed_again(signed: SignedCsr, other: &SignedCsr) -> bool {
     let (order, signature) = signed.into_parts();
-    assert!(rt; order.same(copied.order()));
-    assert_eq!(rt; signature.as_slice(), copied.signature());
     let again = SignedCsr::new(order, signature);
-    assert_eq!(rt; again.signature(), want);
-    Ok(())
+    again.order().same(other.order()) && again.signature() == other.signature()
 }
+
+fn body_order(alloc: Global, file: &str, body: &str) -> Result<CsrOrder, Fail> {
+    let key = made(alloc, &[made_keys::made()], file)?;
+    Ok(CsrOrder {
+        key,
+        body: Bytes::from_slice(alloc, body.as_bytes())?,
+    })
+}
+
+/// What is read of a signature, of its copy and of its parts.
+fn is_signature(alloc: Global, order: &CsrOrder, want: &str) -> Result<bool, AllocError> {
+    let signed = ScriptedKeys.sign(alloc, order)?;
+    let is_read = signed.order().same(order)
+        && signed.signature() == octets(alloc, want)?.as_slice();
+    let copied = signed.copy()?;
+    Ok(is_read && is_signed_again(signed, &copied))
+}
+
+/// A key file, a body, and its signature.
+static BODIES: [(&str, &str, &str); 3] = [
+    (
+        "p256 as ECPrivateKey",
+        "",
+        "e3b0c44298fc1c149afbf4c8996fb92427ae41e4649b934ca495991b7852b855",
+    ),
+    (
+        "rsa as RSAPrivateKey",
+        "",
+        "e3b0c44298fc1c149afbf4c8996fb92427ae41e4649b934ca495991b7852b855",
+    ),
+    (
+        "p256 as ECPrivateKey",
+        "abc",
+        "ba7816bf8f01cfea414140de5dae2223b00361a396177a9cb410ff61f20015ad",
+    ),
+];
 
 #[test]
 fn signs_bodies(rt: HostRuntime) -> Result<(), Fail> {
     let alloc = rt.alloc();
-    for (file, body, want) in [
-        (
-            "p256 as ECPrivateKey",
-            "",
-            "e3b0c44298fc1c149afbf4c8996fb92427ae41e4649b934ca495991b7852b855",
-        ),
-        (
-            "rsa as RSAPrivateKey",
-            "",
-            "e3b0c44298fc1c149afbf4c8996fb92427ae41e4649b934ca495991b7852b855",
-        ),
-        (
-            "p256 as ECPrivateKey",
-            "abc",
-            "ba7816bf8f01cfea414140de5dae2223b00361a396177a9cb410ff61f20015ad",
-        ),
-    ] {
-        let order = CsrOrder {
-            key: made(alloc, &[made_keys::MADE], file)?,
-            body: Bytes::from_slice(alloc, body.as_bytes())?,
-        };
-        let signed = ScriptedKeys.sign(alloc, &order)?;
-        assert!(rt; signed.order().same(&order));
-        assert_signed(&rt, signed, octets(alloc, want)?.as_slice())?;
+    for (file, body, want) in &BODIES {
+        let order = body_order(alloc, file, body)?;
+        passes(&rt, file, is_signature(alloc, &order, want)?);
     }
     Ok(())
 }

@@ -1,7 +1,7 @@
 // Keys, a request and a certificate that openssl 3.0 made (`openssl genpkey`, `ec`, `rsa`, `pkcs8`,
 // `req`), each with the lines that `openssl asn1parse` prints of it: offset, header length, length, tag.
 
-pub const MADE: [(&str, &str, &str); 10] = [
+pub static MADE: [(&str, &str, &str); 10] = [
     (
         "p256.sec1",
         "3077020101042060186e72b44cf09d52fd2b9bc5cb0b4167bf7d023adedb8c9b0172ef00620806a00a06082a8648ce3d030107a1440342000446b1cff317dfad9ca71c3abe629b1b5ddc4ba0027176eabc3d775cc71a356b6b1040fc62705ea44f51c2c9167f279bd931dc7bc2f71727a593ca702fd0c7594b",
@@ -55,9 +55,9 @@ pub const MADE: [(&str, &str, &str); 10] = [
 ];
 
 /// A P-256 key as `openssl pkey -pubout` writes it.
-pub const EC_PUBLIC: &str =
+pub static EC_PUBLIC: &str =
     "3059301306072a8648ce3d020106082a8648ce3d0301070342000446b1cff317dfad9ca71c3abe629b1b5ddc4ba0027176eabc3d775cc71a356b6b1040fc62705ea44f51c2c9167f279bd931dc7bc2f71727a593ca702fd0c7594b";
 
 /// An RSA key of 2048 bits, as `openssl rsa -pubout` writes it.
-pub const RSA_PUBLIC: &str =
+pub static RSA_PUBLIC: &str =
     "30820122300d06092a864886f70d01010105000382010f003082010a0282010100e5e3e8b7ba012e0e434689024cb8247938a2b87174e1bc622286857ba0710da445fc4a755ba56c99edc38987f95723886700a4d0eb637193fcdef2e47922753d76d3d7f1e6e9306c27d24028f447a727fd2c9d0d25b545c5e291505d57bdfc707180f05a431dbe00b982c0fa6d5970fb239646c875c3712031c876ead0619e099f432d649ab3fdd4c7cddf6a7eedd2d060dd2be5d78c7df2de64b66c6f2415688aefa53abab27def3bc9a714a9647e4cc8a4f42c05f625c17d6a0934840ee10ae1f86aebff713aec5660881056a662454959ab3f49b3e3f331ee292151555e309e3ad6604223d024515bf44a9bdf4bf15dba7e38aa58532433c8dcd0a772cca70203010001";

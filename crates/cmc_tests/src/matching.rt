@@ -1,27 +1,30 @@
 //! Patterns and policies: worked rows.
+use crate::checks::{passes, tells};
 use cmc_policy_rules::{
     Decision, Field, Pattern, Patterns, Policies, Policy, Wanted, allows, decide, matches,
 };
 use std::alloc::Global;
 use std::test::Fail;
 
+static PATTERNS: [(&str, &str, bool); 10] = [
+    ("a*b", "ab", true),
+    ("a*b", "a", false),
+    ("*", "", true),
+    ("a*a", "a", false),
+    ("*.example.com", "example.com", false),
+    ("*.example.com", "a.example.com.example.com", true),
+    ("a*b*c", "abbc", true),
+    ("a*b*c", "acb", false),
+    ("", "", true),
+    ("**", "a", true),
+];
+
 #[test]
-fn matches_patterns(rt: HostRuntime) -> Result<(), Fail> {
-    for (pattern, text, want) in [
-        ("a*b", "ab", true),
-        ("a*b", "a", false),
-        ("*", "", true),
-        ("a*a", "a", false),
-        ("*.example.com", "example.com", false),
-        ("*.example.com", "a.example.com.example.com", true),
-        ("a*b*c", "abbc", true),
-        ("a*b*c", "acb", false),
-        ("", "", true),
-        ("**", "a", true),
-    ] {
-        assert_eq!(rt; matches(pattern.as_bytes(), text.as_bytes()), want);
+fn matches_patterns(rt: HostRuntime) {
+    for (pattern, text, want) in &PATTERNS {
+        let fits = matches(pattern.as_bytes(), text.as_bytes());
+        passes(&rt, pattern, fits == *want);
     }
-    Ok(())
 }
 
 #[test]
@@ -36,9 +39,9 @@ fn matches_long_texts(rt: HostRuntime) -> Result<(), Fail> {
         text.push(b'a')?;
     }
     pattern.push(b'b')?;
-    assert!(rt; !matches(&pattern, &text));
+    passes(&rt, "a long text", !matches(&pattern, &text));
     text.push(b'b')?;
-    assert!(rt; matches(&pattern, &text));
+    passes(&rt, "a longer text", matches(&pattern, &text));
     Ok(())
 }
 
@@ -90,14 +93,31 @@ fn wanted(alloc: Global) -> Result<Wanted, Fail> {
     })
 }
 
+fn refusal(alloc: Global, wanted: &Wanted, most: u64) -> Result<Option<Field>, Fail> {
+    Ok(allows(&policy(alloc, "*", most)?, wanted).err())
+}
+
 #[test]
 fn allows_by_bounds(rt: HostRuntime) -> Result<(), Fail> {
     let alloc = rt.alloc();
     let wanted = wanted(alloc)?;
-    assert!(rt; allows(&policy(alloc, "*", 7_776_000)?, &wanted).is_ok());
-    let refusal = allows(&policy(alloc, "*", 7_775_999)?, &wanted).err();
-    assert!(rt; refusal == Some(Field::MaxDuration));
+    let refused = refusal(alloc, &wanted, 7_776_000)?;
+    passes(&rt, "90 days", refused.is_none());
+    let refused = refusal(alloc, &wanted, 7_775_999)?;
+    passes(&rt, "a second less", refused == Some(Field::MaxDuration));
     Ok(())
+}
+
+fn told(decision: Decision) -> &'static str {
+    match decision {
+        Decision::Unbound => "unbound",
+        Decision::No {
+            place: 1,
+            field: Field::MaxDuration,
+        } => "the second refuses the duration",
+        Decision::Yes { place: 2 } => "the third allows",
+        _ => "another decision",
+    }
 }
 
 #[test]
@@ -105,21 +125,17 @@ fn decides_by_the_first(rt: HostRuntime) -> Result<(), Fail> {
     let alloc = rt.alloc();
     let wanted = wanted(alloc)?;
     let mut policies = Policies::new(alloc);
-    assert!(rt; matches!(decide(&policies, &wanted), Decision::Unbound));
-    policies.push(policy(alloc, "other", 7_776_000)?)?;
-    assert!(rt; matches!(decide(&policies, &wanted), Decision::Unbound));
-    policies.push(policy(alloc, "c*", 1)?)?;
-    let refusal = decide(&policies, &wanted);
-    assert!(rt;
-        matches!(
-            refusal,
-            Decision::No {
-                place: 1,
-                field: Field::MaxDuration
-            }
-        )
-    );
-    policies.push(policy(alloc, "*", 7_776_000)?)?;
-    assert!(rt; matches!(decide(&policies, &wanted), Decision::Yes { place: 2 }));
+    tells(&rt, "none", told(decide(&policies, &wanted)), "unbound");
+    for (issuers, most, want) in &DECISIONS {
+        policies.push(policy(alloc, issuers, *most)?)?;
+        tells(&rt, issuers, told(decide(&policies, &wanted)), want);
+    }
     Ok(())
 }
+
+/// The issuers of one policy more, its longest duration, and what is then decided.
+static DECISIONS: [(&str, u64, &str); 3] = [
+    ("other", 7_776_000, "unbound"),
+    ("c*", 1, "the second refuses the duration"),
+    ("*", 7_776_000, "the third allows"),
+];

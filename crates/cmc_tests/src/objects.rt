@@ -1,209 +1,292 @@
 //! What no clause says: that copies are made where memory is ample, and are equal.
+use crate::checks::{passes, tells};
 use crate::values::{key, least_spec, text, texts};
 use crate::whole::{bytes, certificate, request, secret};
 use cmc_meta::{Kind, Texts};
 use cmc_objects::{
-    Algorithm, Call, CsrOrder, Encoding, JudgeOrder, KeyOrder, KeyRow, KeyRows, Material, Object,
-    Order, Role, Rotation, Rows, Rules, SignRow, SignRows, Signing, Step,
+    Algorithm, Call, CertSpec, CsrOrder, Encoding, JudgeOrder, KeyOrder, KeyRow, KeyRows, Material,
+    Object, Order, Role, Rotation, Rows, Rules, SignRow, SignRows, Signing, Step,
 };
 use cmc_policy_rules::Policies;
 use cmc_setup::Steps;
-use std::alloc::Global;
+use std::alloc::{AllocError, Global};
 use std::process::Abort;
 use std::test::Fail;
 
-fn assert_order(rt: &impl Abort, order: Order, other: &Order) -> Result<(), Fail> {
-    let copy = order.copy()?;
-    assert!(rt; copy.same(&order));
-    assert!(rt; !copy.same(other));
-    Ok(())
+fn signature(alloc: Global) -> Result<Order, Fail> {
+    let key = bytes(alloc)?;
+    Ok(Order::Csr(CsrOrder {
+        key,
+        body: bytes(alloc)?,
+    }))
 }
 
-#[test]
-fn copies_are_equal(rt: HostRuntime) -> Result<(), Fail> {
-    let alloc = rt.alloc();
-    let csr = Order::Csr(CsrOrder {
-        key: bytes(alloc)?,
-        body: bytes(alloc)?,
-    });
-    let order = KeyOrder {
+fn key_question(alloc: Global) -> Result<Order, Fail> {
+    Ok(Order::Key(KeyOrder {
         number: 1,
         certificate: key(alloc, Kind::Certificate, "web")?,
         algorithm: Algorithm::Rsa,
         size: 2048,
         encoding: Encoding::Pkcs1,
         row: KeyRow::Synthetic(5),
-    };
-    assert_order(&rt, Order::Key(order), &csr)?;
-    let judge = JudgeOrder {
+    }))
+}
+
+fn rules(alloc: Global) -> Result<Rules, Fail> {
+    Ok(Rules {
+        issuers: texts(alloc, "*")?,
+        refuse: Texts::new(alloc),
+        policies: Policies::new(alloc),
+    })
+}
+
+fn judgement(alloc: Global) -> Result<Order, Fail> {
+    let rules = rules(alloc)?;
+    Ok(Order::Judge(JudgeOrder {
         request: request(alloc)?,
-        rules: Rules {
-            issuers: texts(alloc, "*")?,
-            refuse: Texts::new(alloc),
-            policies: Policies::new(alloc),
-        },
-    };
-    assert_order(&rt, Order::Judge(judge), &csr)?;
-    let answer = Signing::Failed {
-        message: text(alloc, "The issuer refused")?,
-    };
-    assert!(rt; answer.copy()?.same(&answer));
-    assert!(rt; !answer.same(&Signing::Pending));
-    let row = SignRow::Raw { der: bytes(alloc)? };
-    assert!(rt; row.copy()?.same(&row));
-    let call = Call::UpdateStatus {
-        object: Object::Cert(certificate(alloc)?),
-        version: 2,
-    };
-    assert!(rt; matches!(call.copy()?, Call::UpdateStatus { version: 2, .. }));
-    let step = Step::Answer {
-        certificate: key(alloc, Kind::Certificate, "web")?,
-        revision: 1,
-        row,
-    };
-    assert!(rt; matches!(step.copy()?, Step::Answer { revision: 1, .. }));
+        rules,
+    }))
+}
+
+/// The copy is the same question, and not the other one.
+fn is_copied(order: Order, other: &Order) -> Result<bool, AllocError> {
+    let copy = order.copy()?;
+    Ok(copy.same(&order) && !copy.same(other))
+}
+
+fn is_key_copied(alloc: Global, other: &Order) -> Result<bool, Fail> {
+    Ok(is_copied(key_question(alloc)?, other)?)
+}
+
+fn is_judgement_copied(alloc: Global, other: &Order) -> Result<bool, Fail> {
+    Ok(is_copied(judgement(alloc)?, other)?)
+}
+
+// The drop of a wide enum splits each goal behind it, so it stands here.
+fn let_go<T: Drop>(value: T) {
+    let _value = value;
+}
+
+fn are_copied(alloc: Global, other: &Order) -> Result<(bool, bool), Fail> {
+    let key = is_key_copied(alloc, other)?;
+    Ok((key, is_judgement_copied(alloc, other)?))
+}
+
+#[test]
+fn copies_questions(rt: HostRuntime) -> Result<(), Fail> {
+    let alloc = rt.alloc();
+    let csr = signature(alloc)?;
+    let copied = are_copied(alloc, &csr);
+    let_go(csr);
+    let (key, judgement) = copied?;
+    passes(&rt, "key", key);
+    passes(&rt, "judge", judgement);
+    Ok(())
+}
+
+fn raw(alloc: Global) -> Result<SignRow, Fail> {
+    Ok(SignRow::Raw { der: bytes(alloc)? })
+}
+
+fn is_row_copied(row: &SignRow) -> Result<bool, AllocError> {
+    Ok(row.copy()?.same(row))
+}
+
+#[test]
+fn copies_rows(rt: HostRuntime) -> Result<(), Fail> {
+    passes(&rt, "raw", is_row_copied(&raw(rt.alloc())?)?);
     Ok(())
 }
 
 /// Rows of every sort.
-fn each_row(alloc: Global) -> Result<Rows, Fail> {
+fn each_key(alloc: Global) -> Result<KeyRows, Fail> {
     let mut keys = KeyRows::new(alloc);
     keys.push(KeyRow::Default)?;
     keys.push(KeyRow::Synthetic(5))?;
     keys.push(KeyRow::Der(bytes(alloc)?))?;
     keys.push(KeyRow::Free)?;
-    let mut replies = SignRows::new(alloc);
-    replies.push(SignRow::Issue {
+    Ok(keys)
+}
+
+fn issue(alloc: Global) -> Result<SignRow, Fail> {
+    Ok(SignRow::Issue {
         seconds: Some(3_600),
         before: 60,
         serial: Some(7),
         key: None,
         ca: bytes(alloc)?,
-    })?;
-    replies.push(SignRow::Pending)?;
-    replies.push(SignRow::Fail {
-        message: text(alloc, "no")?,
-    })?;
-    replies.push(SignRow::Raw { der: bytes(alloc)? })?;
-    replies.push(SignRow::Free)?;
-    Ok(Rows { keys, replies })
+    })
 }
 
-fn assert_each_row(rt: &impl Abort, rows: &Rows) {
-    let keys = rows.keys.as_slice();
-    assert!(rt;
-        matches!(
-            keys,
-            [
-                KeyRow::Default,
-                KeyRow::Synthetic(5),
-                KeyRow::Der(_),
-                KeyRow::Free
-            ]
-        )
-    );
-    let replies = rows.replies.as_slice();
-    assert_eq!(rt; replies.len(), 5);
-    assert!(rt;
-        matches!(
-            replies[0],
+fn fail(alloc: Global) -> Result<SignRow, Fail> {
+    Ok(SignRow::Fail {
+        message: text(alloc, "no")?,
+    })
+}
+
+fn each_reply(alloc: Global) -> Result<SignRows, Fail> {
+    let mut replies = SignRows::new(alloc);
+    replies.push(issue(alloc)?)?;
+    replies.push(SignRow::Pending)?;
+    replies.push(fail(alloc)?)?;
+    replies.push(raw(alloc)?)?;
+    replies.push(SignRow::Free)?;
+    Ok(replies)
+}
+
+fn each_row(alloc: Global) -> Result<Rows, Fail> {
+    let keys = each_key(alloc)?;
+    Ok(Rows {
+        keys,
+        replies: each_reply(alloc)?,
+    })
+}
+
+fn are_keys(keys: &[KeyRow]) -> bool {
+    matches!(
+        keys,
+        [
+            KeyRow::Default,
+            KeyRow::Synthetic(5),
+            KeyRow::Der(_),
+            KeyRow::Free
+        ]
+    )
+}
+
+fn are_replies(replies: &[SignRow]) -> bool {
+    matches!(
+        replies,
+        [
             SignRow::Issue {
                 seconds: Some(3_600),
                 before: 60,
                 serial: Some(7),
                 key: None,
                 ..
-            }
-        )
-    );
-    assert!(rt; matches!(replies[1], SignRow::Pending));
-    assert!(rt; matches!(replies[2], SignRow::Fail { .. }));
-    assert!(rt; matches!(replies[3], SignRow::Raw { .. }));
-    assert!(rt; matches!(replies[4], SignRow::Free));
+            },
+            SignRow::Pending,
+            SignRow::Fail { .. },
+            SignRow::Raw { .. },
+            SignRow::Free
+        ]
+    )
+}
+
+fn are_rows(rows: Option<&Rows>) -> bool {
+    match rows {
+        Some(rows) => are_keys(rows.keys.as_slice()) && are_replies(rows.replies.as_slice()),
+        None => false,
+    }
+}
+
+fn material(alloc: Global) -> Result<Material, Fail> {
+    let mut material = Material::new(alloc);
+    let web = key(alloc, Kind::Certificate, "web")?;
+    material.set(web, each_row(alloc)?.copy()?)?;
+    Ok(material)
 }
 
 #[test]
 fn keeps_material(rt: HostRuntime) -> Result<(), Fail> {
     let alloc = rt.alloc();
     let web = key(alloc, Kind::Certificate, "web")?;
-    let rows = each_row(alloc)?;
-    assert_each_row(&rt, &rows.copy()?);
-    let mut material = Material::new(alloc);
-    material.set(web.copy()?, rows.copy()?)?;
-    assert_each_row(&rt, material.get(&web).ok_or("no rows")?);
-    assert_each_row(&rt, material.copy()?.get(&web).ok_or("no rows")?);
+    let mut material = material(alloc)?;
+    passes(&rt, "rows", are_rows(material.get(&web)));
+    passes(&rt, "copied", are_rows(material.copy()?.get(&web)));
     material.remove(&web);
-    assert!(rt; material.get(&web).is_none());
+    passes(&rt, "removed", material.get(&web).is_none());
     Ok(())
+}
+
+fn issued(alloc: Global) -> Result<Signing, Fail> {
+    let certificate = bytes(alloc)?;
+    Ok(Signing::Issued {
+        certificate,
+        ca: bytes(alloc)?,
+    })
+}
+
+fn failed(alloc: Global) -> Result<Signing, Fail> {
+    Ok(Signing::Failed {
+        message: text(alloc, "The issuer refused")?,
+    })
+}
+
+fn is_answer_copied(answer: &Signing) -> Result<bool, AllocError> {
+    Ok(answer.copy()?.same(answer))
 }
 
 #[test]
 fn copies_each_answer(rt: HostRuntime) -> Result<(), Fail> {
     let alloc = rt.alloc();
-    for answer in [
-        Signing::Issued {
-            certificate: bytes(alloc)?,
-            ca: bytes(alloc)?,
-        },
-        Signing::Pending,
-        Signing::Failed {
-            message: text(alloc, "The issuer refused")?,
-        },
-    ] {
-        assert!(rt; answer.copy()?.same(&answer));
-    }
+    let failed = failed(alloc)?;
+    passes(&rt, "issued", is_answer_copied(&issued(alloc)?)?);
+    passes(&rt, "pending", is_answer_copied(&Signing::Pending)?);
+    passes(&rt, "failed", is_answer_copied(&failed)?);
+    passes(&rt, "not pending", !failed.same(&Signing::Pending));
     Ok(())
 }
 
-/// The number of a step among those of `each_step`.
-fn place(step: &Step) -> usize {
+/// What a step does, in a word.
+fn called(step: &Step) -> &'static str {
     match step {
-        Step::Apply { .. } => 0,
-        Step::Delete { .. } => 1,
-        Step::Approve { .. } => 2,
-        Step::Deny { .. } => 3,
-        Step::Answer { .. } => 4,
-        Step::Renew { .. } => 5,
-        Step::Tick { .. } => 6,
-        Step::Stop { .. } => 7,
-        Step::Start { .. } => 8,
-        Step::Hold { .. } => 9,
-        Step::Release { .. } => 10,
-        Step::Until { .. } => 11,
-        Step::Settle => 12,
+        Step::Apply { .. } => "apply",
+        Step::Delete { .. } => "delete",
+        Step::Approve { .. } => "approve",
+        Step::Deny { .. } => "deny",
+        Step::Answer { revision: 1, .. } => "answer",
+        Step::Answer { .. } => "another answer",
+        Step::Renew { .. } => "renew",
+        Step::Tick { .. } => "tick",
+        Step::Stop { .. } => "stop",
+        Step::Start { .. } => "start",
+        Step::Hold { .. } => "hold",
+        Step::Release { .. } => "release",
+        Step::Until { .. } => "until",
+        Step::Settle => "settle",
     }
+}
+
+fn apply(alloc: Global) -> Result<Step, Fail> {
+    Ok(Step::Apply {
+        object: Object::Cert(certificate(alloc)?),
+        version: Some(1),
+    })
+}
+
+fn answer(alloc: Global) -> Result<Step, Fail> {
+    Ok(Step::Answer {
+        certificate: key(alloc, Kind::Certificate, "web")?,
+        revision: 1,
+        row: raw(alloc)?,
+    })
 }
 
 /// The steps that name a key.
 fn steps_on_keys(alloc: Global, steps: &mut Steps) -> Result<(), Fail> {
-    let web = key(alloc, Kind::Certificate, "web")?;
-    steps.push(Step::Apply {
-        object: Object::Cert(certificate(alloc)?),
-        version: Some(1),
-    })?;
+    steps.push(apply(alloc)?)?;
     steps.push(Step::Delete {
-        key: web.copy()?,
+        key: key(alloc, Kind::Certificate, "web")?,
         version: None,
     })?;
     steps.push(Step::Approve {
-        certificate: web.copy()?,
+        certificate: key(alloc, Kind::Certificate, "web")?,
         revision: 1,
     })?;
     steps.push(Step::Deny {
-        certificate: web.copy()?,
+        certificate: key(alloc, Kind::Certificate, "web")?,
         revision: 1,
     })?;
-    steps.push(Step::Answer {
-        certificate: web.copy()?,
-        revision: 1,
-        row: SignRow::Pending,
+    steps.push(answer(alloc)?)?;
+    steps.push(Step::Renew {
+        certificate: key(alloc, Kind::Certificate, "web")?,
     })?;
-    steps.push(Step::Renew { certificate: web })?;
     Ok(())
 }
 
 /// The steps that name none.
-fn other_steps(steps: &mut Steps) -> Result<(), Fail> {
+fn other_steps(steps: &mut Steps) -> Result<(), AllocError> {
     let role = Role::Trigger;
     let kind = Kind::Secret;
     steps.push(Step::Tick { seconds: 1 })?;
@@ -216,73 +299,124 @@ fn other_steps(steps: &mut Steps) -> Result<(), Fail> {
         kind,
         writes: 1,
     })?;
-    steps.push(Step::Settle)?;
-    Ok(())
+    steps.push(Step::Settle)
+}
+
+static PLACES: [&str; 13] = [
+    "apply", "delete", "approve", "deny", "answer", "renew", "tick", "stop", "start", "hold",
+    "release", "until", "settle",
+];
+
+fn all_steps(alloc: Global) -> Result<Steps, Fail> {
+    let mut steps = Steps::new(alloc);
+    steps_on_keys(alloc, &mut steps)?;
+    other_steps(&mut steps)?;
+    Ok(steps)
+}
+
+/// The steps are called so, one after the other.
+fn are_called(rt: &impl Abort, steps: &[Step]) {
+    passes(rt, "13 steps", steps.len() == 13);
+    for (step, word) in steps.iter().zip(PLACES.iter()) {
+        tells(rt, word, called(step), word);
+    }
 }
 
 #[test]
 fn copies_each_step(rt: HostRuntime) -> Result<(), Fail> {
-    let alloc = rt.alloc();
-    let mut steps = Steps::new(alloc);
-    steps_on_keys(alloc, &mut steps)?;
-    other_steps(&mut steps)?;
-    let copied = steps.copy()?;
-    assert_eq!(rt; copied.as_slice().len(), 13);
-    for (i, step) in copied.as_slice().iter().enumerate() {
-        assert_eq!(rt; place(step), i);
-    }
+    let copied = all_steps(rt.alloc())?.copy()?;
+    are_called(&rt, copied.as_slice());
     Ok(())
+}
+
+fn create(alloc: Global) -> Result<Call, Fail> {
+    Ok(Call::Create {
+        object: Object::Request(request(alloc)?),
+        generate: true,
+    })
+}
+
+fn update(alloc: Global) -> Result<Call, Fail> {
+    Ok(Call::Update {
+        object: Object::Secret(secret(alloc)?),
+        version: 2,
+    })
+}
+
+fn update_status(alloc: Global) -> Result<Call, Fail> {
+    Ok(Call::UpdateStatus {
+        object: Object::Cert(certificate(alloc)?),
+        version: 2,
+    })
+}
+
+fn delete(alloc: Global) -> Result<Call, Fail> {
+    Ok(Call::Delete {
+        key: key(alloc, Kind::Certificate, "web")?,
+        version: Some(3),
+    })
+}
+
+fn get(alloc: Global) -> Result<Call, Fail> {
+    Ok(Call::Get {
+        key: key(alloc, Kind::Certificate, "web")?,
+    })
+}
+
+/// The call, in a word.
+fn word_of(call: &Call) -> &'static str {
+    match call {
+        Call::Create {
+            object: Object::Request(_),
+            generate: true,
+        } => "create",
+        Call::Update { version: 2, .. } => "update",
+        Call::UpdateStatus { version: 2, .. } => "update status",
+        Call::Delete {
+            version: Some(3),
+            ..
+        } => "delete",
+        Call::Get { .. } => "get",
+        _ => "another call",
+    }
+}
+
+/// The copy of the call, in a word.
+fn copied(call: Call) -> Result<&'static str, AllocError> {
+    Ok(word_of(&call.copy()?))
 }
 
 #[test]
 fn copies_each_call(rt: HostRuntime) -> Result<(), Fail> {
     let alloc = rt.alloc();
-    let web = key(alloc, Kind::Certificate, "web")?;
-    let create = Call::Create {
-        object: Object::Request(request(alloc)?),
-        generate: true,
-    };
-    assert!(rt;
-        matches!(
-            create.copy()?,
-            Call::Create {
-                object: Object::Request(_),
-                generate: true,
-            }
-        )
+    tells(&rt, "create", copied(create(alloc)?)?, "create");
+    tells(&rt, "update", copied(update(alloc)?)?, "update");
+    tells(
+        &rt,
+        "status",
+        copied(update_status(alloc)?)?,
+        "update status",
     );
-    let update = Call::Update {
-        object: Object::Secret(secret(alloc)?),
-        version: 2,
-    };
-    assert!(rt; matches!(update.copy()?, Call::Update { version: 2, .. }));
-    let delete = Call::Delete {
-        key: web.copy()?,
-        version: Some(3),
-    };
-    assert!(rt;
-        matches!(
-            delete.copy()?,
-            Call::Delete {
-                version: Some(3),
-                ..
-            }
-        )
-    );
-    let get = Call::Get { key: web };
-    assert!(rt; matches!(get.copy()?, Call::Get { .. }));
+    tells(&rt, "delete", copied(delete(alloc)?)?, "delete");
+    tells(&rt, "get", copied(get(alloc)?)?, "get");
     Ok(())
+}
+
+fn are_issuer_defaults(spec: &CertSpec) -> bool {
+    spec.issuer.kind_at_use() == "Issuer" && spec.issuer.group_at_use() == "cert-manager.io"
+}
+
+fn are_key_defaults(spec: &CertSpec) -> bool {
+    spec.key.size_at_use() == 2048
+        && matches!(spec.key.encoding_at_use(), Encoding::Pkcs1)
+        && matches!(spec.key.rotation_at_use(), Rotation::Always)
 }
 
 #[test]
 fn fills_in_defaults(rt: HostRuntime) -> Result<(), Fail> {
-    let alloc = rt.alloc();
-    let spec = least_spec(alloc, "web-tls", "example.com")?;
-    assert_eq!(rt; spec.duration_at_use(), 7_776_000);
-    assert_eq!(rt; spec.issuer.kind_at_use(), "Issuer");
-    assert_eq!(rt; spec.issuer.group_at_use(), "cert-manager.io");
-    assert_eq!(rt; spec.key.size_at_use(), 2048);
-    assert!(rt; matches!(spec.key.encoding_at_use(), Encoding::Pkcs1));
-    assert!(rt; matches!(spec.key.rotation_at_use(), Rotation::Always));
+    let spec = least_spec(rt.alloc(), "web-tls", "example.com")?;
+    passes(&rt, "duration", spec.duration_at_use() == 7_776_000);
+    passes(&rt, "issuer", are_issuer_defaults(&spec));
+    passes(&rt, "key", are_key_defaults(&spec));
     Ok(())
 }

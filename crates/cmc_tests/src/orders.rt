@@ -3,9 +3,11 @@ ghost use Rattle.std.specs.Prelude.{◌≡◌};
 ghost use Rattle.cmc_meta.specs.ConditionLists.{condition_rank};
 ghost use Rattle.cmc_objects.specs.Requests.{is_stated, is_short_text, is_short_option, is_duration_form, is_request_form};
 
+use crate::checks::passes;
 use crate::whole::request;
 use cmc_meta::{Condition, ConditionKind, Text, Tri};
 use cmc_objects::{CertificateRequest, Order, SignOrder, SignRow};
+use std::alloc::AllocError;
 use std::test::Fail;
 
 /// The place of a kind in the order of kinds.
@@ -73,16 +75,24 @@ pub fn question(request: CertificateRequest) -> Option<SignOrder> {
     None
 }
 
+/// What is read of a question about the request `web-1`.
+fn is_read(order: &SignOrder) -> bool {
+    order.number() == 1
+        && order.now() == 1_893_456_000
+        && order.request().meta.name.as_str() == "web-1"
+        && matches!(order.row(), SignRow::Pending)
+}
+
+fn is_copied(order: &Order) -> Result<bool, AllocError> {
+    Ok(order.copy()?.same(order))
+}
+
 #[test]
 fn copies_a_question_to_an_issuer(rt: HostRuntime) -> Result<(), Fail> {
     let order = question(request(rt.alloc())?).ok_or("not to be asked")?;
     let copied = order.copy()?;
-    assert!(rt; copied.same(&order));
-    assert_eq!(rt; copied.number(), 1);
-    assert_eq!(rt; copied.now(), 1_893_456_000);
-    assert_eq!(rt; copied.request().meta.name.as_str(), "web-1");
-    assert!(rt; matches!(copied.row(), SignRow::Pending));
-    let order = Order::Sign(order);
-    assert!(rt; order.copy()?.same(&order));
+    passes(&rt, "the same", copied.same(&order));
+    passes(&rt, "read", is_read(&copied));
+    passes(&rt, "as any question", is_copied(&Order::Sign(order))?);
     Ok(())
 }

@@ -1,10 +1,11 @@
 //! What no clause says: that each call has an answer where memory is ample.
+use crate::checks::{passes, tells};
 use crate::values::{key, new_meta};
 use crate::whole::{request, secret};
 use cmc_meta::{Bytes, Kind};
-use cmc_objects::{Call, CsrOrder, Order, Secret, Signing};
+use cmc_objects::{Call, CertificateRequest, CsrOrder, Order, Secret, Signing};
 use cmc_pass::{Act, IssuePlan, TemporaryPlan, Value, Views};
-use std::alloc::Global;
+use std::alloc::{AllocError, Global};
 use std::test::Fail;
 
 /// A Secret of that name.
@@ -14,27 +15,43 @@ fn named(alloc: Global, word: &str) -> Result<Secret, Fail> {
     Ok(secret)
 }
 
-#[test]
-fn views_are_copied(rt: HostRuntime) -> Result<(), Fail> {
-    let alloc = rt.alloc();
+fn views(alloc: Global) -> Result<Views, Fail> {
     let mut views = Views::new(alloc);
     views.next.push(named(alloc, "web-bbbbf")?)?;
     views.next.push(named(alloc, "web-bbbbg")?)?;
     views.requests.push(request(alloc)?)?;
     views.secret = Some(named(alloc, "web-tls")?);
-    let copied = views.copy()?;
-    assert_eq!(rt; copied.next.as_slice().len(), 2);
-    assert_eq!(rt; copied.requests.as_slice().len(), 1);
-    assert!(rt; copied.secret.is_some());
-    assert!(rt; copied.certificate.is_none());
-    assert_eq!(rt;
-        copied.next.copy()?.as_slice()[1].meta.name.as_str(),
-        "web-bbbbg"
+    Ok(views)
+}
+
+fn are_secrets(secrets: &[Secret]) -> bool {
+    match secrets {
+        [_first, second] => second.meta.name.as_str() == "web-bbbbg",
+        _ => false,
+    }
+}
+
+fn are_requests(requests: &[CertificateRequest]) -> bool {
+    match requests {
+        [request] => request.meta.name.as_str() == "web-1",
+        _ => false,
+    }
+}
+
+#[test]
+fn views_are_copied(rt: HostRuntime) -> Result<(), Fail> {
+    let copied = views(rt.alloc())?.copy()?;
+    passes(&rt, "next", are_secrets(copied.next.as_slice()));
+    passes(
+        &rt,
+        "next again",
+        are_secrets(copied.next.copy()?.as_slice()),
     );
-    assert_eq!(rt;
-        copied.requests.copy()?.as_slice()[0].meta.name.as_str(),
-        "web-1"
-    );
+    passes(&rt, "requests", are_requests(copied.requests.as_slice()));
+    let requests = copied.requests.copy()?;
+    passes(&rt, "requests again", are_requests(requests.as_slice()));
+    passes(&rt, "secret", copied.secret.is_some());
+    passes(&rt, "certificate", copied.certificate.is_none());
     Ok(())
 }
 
@@ -49,41 +66,56 @@ fn told(act: &Act) -> &'static str {
     }
 }
 
-#[test]
-fn acts_are_copied(rt: HostRuntime) -> Result<(), Fail> {
-    let alloc = rt.alloc();
-    let get = Call::Get {
-        key: key(alloc, Kind::Secret, "web")?,
-    };
-    let order = Order::Csr(CsrOrder {
-        key: Bytes::new(alloc),
-        body: Bytes::new(alloc),
-    });
-    let plan = IssuePlan {
-        get: key(alloc, Kind::Secret, "web")?,
-        version: 1,
-        secret: get.copy()?,
-        status: get.copy()?,
-    };
-    assert_eq!(rt; told(&Act::Nothing.copy()?), "nothing");
-    assert_eq!(rt; told(&Act::Call(get).copy()?), "call");
-    assert_eq!(rt; told(&Act::Ask(order).copy()?), "ask");
-    assert_eq!(rt; told(&Act::Issue(plan).copy()?), "issue");
-    Ok(())
+fn copied(act: Act) -> Result<&'static str, AllocError> {
+    Ok(told(&act.copy()?))
 }
 
-#[test]
-fn temporary_plans_are_copied(rt: HostRuntime) -> Result<(), Fail> {
-    let alloc = rt.alloc();
-    let secret = Call::Get {
+fn get(alloc: Global) -> Result<Call, Fail> {
+    Ok(Call::Get {
         key: key(alloc, Kind::Secret, "web")?,
-    };
-    let plan = TemporaryPlan {
+    })
+}
+
+fn question(alloc: Global) -> Act {
+    Act::Ask(Order::Csr(CsrOrder {
+        key: Bytes::new(alloc),
+        body: Bytes::new(alloc),
+    }))
+}
+
+fn plan(alloc: Global) -> Result<Act, Fail> {
+    let secret = get(alloc)?;
+    let status = get(alloc)?;
+    Ok(Act::Issue(IssuePlan {
+        get: key(alloc, Kind::Secret, "web")?,
+        version: 1,
+        secret,
+        status,
+    }))
+}
+
+fn temporary_plan(alloc: Global) -> Result<Act, Fail> {
+    let secret = get(alloc)?;
+    Ok(Act::Temporary(TemporaryPlan {
         get: key(alloc, Kind::Certificate, "web")?,
         version: 1,
         secret,
-    };
-    assert_eq!(rt; told(&Act::Temporary(plan).copy()?), "temporary");
+    }))
+}
+
+#[test]
+fn acts_are_copied(rt: HostRuntime) -> Result<(), Fail> {
+    let alloc = rt.alloc();
+    tells(&rt, "nothing", copied(Act::Nothing)?, "nothing");
+    tells(&rt, "call", copied(Act::Call(get(alloc)?))?, "call");
+    tells(&rt, "question", copied(question(alloc))?, "ask");
+    tells(&rt, "plan", copied(plan(alloc)?)?, "issue");
+    tells(
+        &rt,
+        "temporary",
+        copied(temporary_plan(alloc)?)?,
+        "temporary",
+    );
     Ok(())
 }
 
@@ -97,15 +129,19 @@ fn said(value: &Value) -> &'static str {
     }
 }
 
+fn said_of_copy(value: Value) -> Result<&'static str, AllocError> {
+    Ok(said(&value.copy()?))
+}
+
 #[test]
 fn values_are_copied(rt: HostRuntime) -> Result<(), Fail> {
     let alloc = rt.alloc();
-    assert_eq!(rt; said(&Value::Made(Bytes::new(alloc)).copy()?), "made");
-    assert_eq!(rt; said(&Value::Signed(Bytes::new(alloc)).copy()?), "signed");
-    assert_eq!(rt;
-        said(&Value::Answered(Signing::Pending).copy()?),
-        "answered"
-    );
-    assert_eq!(rt; said(&Value::Judged(true).copy()?), "judged");
+    let made = Value::Made(Bytes::new(alloc));
+    tells(&rt, "key", said_of_copy(made)?, "made");
+    let signed = Value::Signed(Bytes::new(alloc));
+    tells(&rt, "signature", said_of_copy(signed)?, "signed");
+    let answered = Value::Answered(Signing::Pending);
+    tells(&rt, "answer", said_of_copy(answered)?, "answered");
+    tells(&rt, "verdict", said_of_copy(Value::Judged(true))?, "judged");
     Ok(())
 }

@@ -1,4 +1,5 @@
 //! What no clause says: that approval policies are copied where memory is ample.
+use crate::checks::passes;
 use cmc_policy_rules::{Pattern, Patterns, Policies, Policy};
 use std::alloc::Global;
 use std::test::Fail;
@@ -38,7 +39,7 @@ fn copies_policies(rt: HostRuntime) -> Result<(), Fail> {
     let mut policies = Policies::new(alloc);
     policies.push(policy(alloc)?)?;
     let copied = policies.copy()?;
-    assert_eq!(rt; copied.as_slice().len(), 1);
-    assert!(rt; copied.same(&policies));
+    passes(&rt, "one policy", copied.as_slice().len() == 1);
+    passes(&rt, "the same", copied.same(&policies));
     Ok(())
 }

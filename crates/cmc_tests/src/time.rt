@@ -1,8 +1,10 @@
+use crate::checks::passes;
 use cmc_time::*;
+use std::alloc::{AllocError, Global};
 use std::test::Fail;
 
 // The seconds are those of Python's datetime and of `date -u -d .. +%s`.
-const TIMES: [(&str, i64); 10] = [
+static TIMES: [(&str, i64); 10] = [
     ("0001-01-01T00:00:00Z", -62_135_596_800),
     ("1900-02-28T23:59:59Z", -2_203_891_201),
     ("1950-01-01T00:00:00Z", -631_152_000),
@@ -15,7 +17,7 @@ const TIMES: [(&str, i64); 10] = [
     ("9999-12-31T23:59:59Z", 253_402_300_799),
 ];
 
-const NO_TIMES: [&str; 14] = [
+static NO_TIMES: [&str; 14] = [
     "",
     "2030-01-01",
     "2030-01-01T24:00:00Z",
@@ -32,57 +34,59 @@ const NO_TIMES: [&str; 14] = [
     "2030-01-01t00:00:00Z",
 ];
 
+/// The moment is printed as the text, where it has a text.
+fn is_printed(alloc: Global, text: &str, at: i64) -> Result<bool, AllocError> {
+    if is_printable(at) {
+        return Ok(print_rfc3339(alloc, at)?.as_str() == text);
+    }
+    Ok(true)
+}
+
 #[test]
 fn rfc_3339(rt: HostRuntime) -> Result<(), Fail> {
-    for (text, at) in TIMES {
-        assert_eq!(rt; read_rfc3339(text).ok(), Some(at), "{text}");
-        if is_printable(at) {
-            assert_eq!(rt; print_rfc3339(rt.alloc(), at)?.as_str(), text);
-        }
+    for (text, at) in &TIMES {
+        passes(&rt, text, read_rfc3339(text).ok() == Some(*at));
+        passes(&rt, text, is_printed(rt.alloc(), text, *at)?);
     }
-    for text in NO_TIMES {
-        assert_eq!(rt; read_rfc3339(text).ok(), None, "{text}");
+    for text in &NO_TIMES {
+        passes(&rt, text, read_rfc3339(text).is_err());
     }
     Ok(())
 }
 
-const BODIES: [(u8, &[u8], Option<i64>); 13] = [
-    (0x17, b"300101000000Z", Some(1_893_456_000)),
-    (0x17, b"500101000000Z", Some(-631_152_000)),
-    (0x17, b"491231235959Z", Some(2_524_607_999)),
-    (0x17, b"991231235959Z", Some(946_684_799)),
-    (0x18, b"20500101000000Z", Some(2_524_608_000)),
-    (0x18, b"99991231235959Z", Some(253_402_300_799)),
-    (0x18, b"20491231235959Z", None),
-    (0x18, b"300101000000Z", None),
-    (0x17, b"20500101000000Z", None),
-    (0x17, b"3001010000Z", None),
-    (0x17, b"300101000000+0000", None),
-    (0x17, b"230229000000Z", None),
-    (0x16, b"300101000000Z", None),
+/// The tag and the body of a time, and the moment.
+static BODIES: [(u8, &str, Option<i64>); 13] = [
+    (0x17, "300101000000Z", Some(1_893_456_000)),
+    (0x17, "500101000000Z", Some(-631_152_000)),
+    (0x17, "491231235959Z", Some(2_524_607_999)),
+    (0x17, "991231235959Z", Some(946_684_799)),
+    (0x18, "20500101000000Z", Some(2_524_608_000)),
+    (0x18, "99991231235959Z", Some(253_402_300_799)),
+    (0x18, "20491231235959Z", None),
+    (0x18, "300101000000Z", None),
+    (0x17, "20500101000000Z", None),
+    (0x17, "3001010000Z", None),
+    (0x17, "300101000000+0000", None),
+    (0x17, "230229000000Z", None),
+    (0x16, "300101000000Z", None),
 ];
 
 #[test]
 fn times_of_certificates(rt: HostRuntime) -> Result<(), Fail> {
-    for (tag, body, at) in BODIES {
-        assert_eq!(rt; asn1_time(tag, body).ok(), at);
+    for (tag, body, at) in &BODIES {
+        passes(&rt, body, asn1_time(*tag, body.as_bytes()).ok() == *at);
     }
-    let (early, late) = (1_893_456_000, 2_524_608_000);
-    assert_eq!(rt; asn1_time_tag(early), 0x17);
-    assert_eq!(rt;
-        print_asn1_time(rt.alloc(), early)?.as_str(),
-        "300101000000Z"
-    );
-    assert_eq!(rt; asn1_time_tag(late), 0x18);
-    assert_eq!(rt;
-        print_asn1_time(rt.alloc(), late)?.as_str(),
-        "20500101000000Z"
-    );
+    passes(&rt, "tag before 2050", asn1_time_tag(1_893_456_000) == 0x17);
+    let early = print_asn1_time(rt.alloc(), 1_893_456_000)?;
+    passes(&rt, "before 2050", early.as_str() == "300101000000Z");
+    passes(&rt, "tag of 2050", asn1_time_tag(2_524_608_000) == 0x18);
+    let late = print_asn1_time(rt.alloc(), 2_524_608_000)?;
+    passes(&rt, "in 2050", late.as_str() == "20500101000000Z");
     Ok(())
 }
 
 // As Go's time.Duration prints them, where the second text is one.
-const DURATIONS: [(&str, u64, &str); 12] = [
+static DURATIONS: [(&str, u64, &str); 12] = [
     ("1h30m", 5400, "1h30m0s"),
     ("0", 0, "0s"),
     ("0s", 0, "0s"),
@@ -97,7 +101,7 @@ const DURATIONS: [(&str, u64, &str); 12] = [
     ("999999998h60m", 3_599_999_996_400, "999999999h0m0s"),
 ];
 
-const NO_DURATIONS: [&str; 13] = [
+static NO_DURATIONS: [&str; 13] = [
     "",
     "h",
     "00",
@@ -113,18 +117,22 @@ const NO_DURATIONS: [&str; 13] = [
     "1ms",
 ];
 
+fn is_duration(alloc: Global, text: &str, seconds: u64, printed: &str) -> Result<bool, AllocError> {
+    Ok(
+        read_duration(text).ok() == Some(seconds)
+            && print_duration(alloc, seconds)?.as_str() == printed,
+    )
+}
+
 #[test]
 fn durations(rt: HostRuntime) -> Result<(), Fail> {
-    for (text, seconds, printed) in DURATIONS {
-        assert_eq!(rt; read_duration(text).ok(), Some(seconds), "{text}");
-        assert_eq!(rt; print_duration(rt.alloc(), seconds)?.as_str(), printed);
+    for (text, seconds, printed) in &DURATIONS {
+        passes(&rt, text, is_duration(rt.alloc(), text, *seconds, printed)?);
     }
-    for text in NO_DURATIONS {
-        assert_eq!(rt; read_duration(text).ok(), None, "{text}");
+    for text in &NO_DURATIONS {
+        passes(&rt, text, read_duration(text).is_err());
     }
-    assert_eq!(rt;
-        print_duration(rt.alloc(), u64::MAX)?.as_str(),
-        "5124095576030431h0m15s"
-    );
+    let longest = print_duration(rt.alloc(), u64::MAX)?;
+    passes(&rt, "longest", longest.as_str() == "5124095576030431h0m15s");
     Ok(())
 }

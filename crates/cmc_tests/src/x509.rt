@@ -1,6 +1,7 @@
 //! What no clause says: that material which openssl made is read with the fields that it prints.
 ghost use Rattle.cmc_x509.specs.Lists.{IsValueList};
 
+use crate::checks::{passes, tells};
 use crate::values::octets;
 use crate::{made_certificates, made_keys, made_requests};
 use cmc_x509::{
@@ -11,11 +12,19 @@ use std::alloc::{AllocError, Global};
 use std::process::Abort;
 use std::test::Fail;
 
+fn digit(number: u8) -> char {
+    match number {
+        0..=9 => (b'0' + number) as char,
+        10..=15 => (b'a' + (number - 10)) as char,
+        _ => '?',
+    }
+}
+
 fn hex(alloc: Global, octets: &[u8]) -> Result<String, AllocError> {
     let mut text = String::new(alloc);
     for octet in octets {
-        let digits = format!(in alloc; "{octet:02x}")?;
-        text.push_str(&digits)?;
+        text.push(digit(octet >> 4))?;
+        text.push(digit(octet & 15))?;
     }
     Ok(text)
 }
@@ -27,10 +36,10 @@ fn text(octets: &[u8]) -> &str {
 fn kind_told(alloc: Global, key: &Spki<'_>) -> Result<String, AllocError> {
     match key.kind() {
         Some(KeyKind::Rsa { bits }) => format!(in alloc; "RSA {bits}"),
-        Some(KeyKind::P256) => format!(in alloc; "P-256"),
-        Some(KeyKind::P384) => format!(in alloc; "P-384"),
-        Some(KeyKind::P521) => format!(in alloc; "P-521"),
-        None => format!(in alloc; "other"),
+        Some(KeyKind::P256) => String::from_str(alloc, "P-256"),
+        Some(KeyKind::P384) => String::from_str(alloc, "P-384"),
+        Some(KeyKind::P521) => String::from_str(alloc, "P-521"),
+        None => String::from_str(alloc, "other"),
     }
 }
 
@@ -87,7 +96,7 @@ fn names_told(alloc: Global, names: &Names<'_>) -> Result<String, AllocError>
 fn file_told(alloc: Global, input: &[u8]) -> Result<String, AllocError> {
     match read_key(input) {
         Ok(key) => key_told(alloc, &key),
-        Err(_) => format!(in alloc; "not of the form"),
+        Err(_) => String::from_str(alloc, "not of the form"),
     }
 }
 
@@ -98,7 +107,7 @@ fn request_told(alloc: Global, input: &[u8]) -> Result<String, AllocError> {
             let names = names_told(alloc, &names)?;
             format!(in alloc; "{key}; {names}")
         }
-        Err(_) => format!(in alloc; "not of the form"),
+        Err(_) => String::from_str(alloc, "not of the form"),
     }
 }
 
@@ -118,7 +127,7 @@ fn certificate_told(alloc: Global, input: &[u8]) -> Result<String, AllocError> {
             let names = names_told(alloc, &names)?;
             format!(in alloc; "{serial} {not_before} {not_after}; {key}; {names}")
         }
-        Err(_) => format!(in alloc; "not of the form"),
+        Err(_) => String::from_str(alloc, "not of the form"),
     }
 }
 
@@ -145,7 +154,7 @@ fn check_rows(rt: &impl Abort, alloc: Global, table: &str, sort: Sort) -> Result
         let input = octets(alloc, columns.next().unwrap_or(""))?;
         let want = columns.next().unwrap_or("no row");
         let told = told(alloc, sort, &input)?;
-        assert_eq!(rt; told.as_str(), want, "at {name}");
+        tells(rt, name, told.as_str(), want);
     }
     Ok(())
 }
@@ -153,47 +162,53 @@ fn check_rows(rt: &impl Abort, alloc: Global, table: &str, sort: Sort) -> Result
 #[test]
 fn reads_keys(rt: HostRuntime) -> Result<(), Fail> {
     let alloc = rt.alloc();
-    check_rows(&rt, alloc, made_keys::MADE, Sort::Key)?;
-    check_rows(&rt, alloc, made_keys::BUILT, Sort::Key)?;
-    check_rows(&rt, alloc, made_keys::CHANGED, Sort::Key)?;
+    check_rows(&rt, alloc, made_keys::made(), Sort::Key)?;
+    check_rows(&rt, alloc, made_keys::built(), Sort::Key)?;
+    check_rows(&rt, alloc, made_keys::changed(), Sort::Key)?;
     Ok(())
 }
 
 #[test]
 fn reads_requests(rt: HostRuntime) -> Result<(), Fail> {
     let alloc = rt.alloc();
-    check_rows(&rt, alloc, made_requests::MADE, Sort::Request)?;
-    check_rows(&rt, alloc, made_requests::CHANGED, Sort::Request)?;
+    check_rows(&rt, alloc, made_requests::made(), Sort::Request)?;
+    check_rows(&rt, alloc, made_requests::changed(), Sort::Request)?;
     Ok(())
 }
 
 #[test]
 fn reads_certificates(rt: HostRuntime) -> Result<(), Fail> {
     let alloc = rt.alloc();
-    check_rows(&rt, alloc, made_certificates::MADE, Sort::Certificate)?;
-    check_rows(&rt, alloc, made_certificates::CHANGED, Sort::Certificate)?;
+    check_rows(&rt, alloc, made_certificates::made(), Sort::Certificate)?;
+    check_rows(&rt, alloc, made_certificates::changed(), Sort::Certificate)?;
     Ok(())
 }
 
 /// Each part of a file, and the file with an octet behind it, is no file.
-fn refuses_parts(rt: &impl Abort, alloc: Global, whole: &[u8]) -> Result<(), AllocError> {
-    assert!(rt; key_public(whole).is_some());
+fn refuses_parts(
+    rt: &impl Abort,
+    alloc: Global,
+    name: &str,
+    whole: &[u8],
+) -> Result<(), AllocError> {
+    passes(rt, name, key_public(whole).is_some());
     for count in 0..whole.len() {
-        assert!(rt; key_public(&whole[..count]).is_none(), "at {count}");
+        passes(rt, name, key_public(&whole[..count]).is_none());
     }
     let mut longer = Vec::from_slice(alloc, whole)?;
     longer.push(0)?;
-    assert!(rt; key_public(&longer).is_none());
+    passes(rt, name, key_public(&longer).is_none());
     Ok(())
 }
 
 #[test]
 fn refuses_what_is_cut_and_what_is_longer(rt: HostRuntime) -> Result<(), Fail> {
     let alloc = rt.alloc();
-    for row in made_keys::BUILT.lines() {
-        let mut columns = row.split('|').skip(1);
+    for row in made_keys::built().lines() {
+        let mut columns = row.split('|');
+        let name = columns.next().unwrap_or("");
         let whole = octets(alloc, columns.next().unwrap_or(""))?;
-        refuses_parts(&rt, alloc, &whole)?;
+        refuses_parts(&rt, alloc, name, &whole)?;
     }
     Ok(())
 }
