@@ -1,12 +1,10 @@
 -- A key that no accepted write named is quiet.
 use Rattle.std.proofs.Common.{◌≡◌, ℕ, ℤ, List, [], ◌∷◌, length, Option, None, Bool, true, false, cond, refl, sym, ap, subst, ◌∙◌, option_and_then}
 use Rattle.std.specs.Prelude.{◌&&◌, ◌||◌, if◌then◌else◌, nat_le}
-use Rattle.std.specs.FinMap.{get-empty}
-use Rattle.std.specs.Ordering.{eq_by_cmp}
 use Rattle.cmc_meta.specs.declared.key.Key.{Key}
 use Rattle.cmc_meta.specs.declared.key.Kind.{Kind}
 use Rattle.cmc_meta.specs.declared.key.Kind.TheVariants as kinds
-use Rattle.cmc_meta.specs.Keys.{key_cmp, key_eq}
+use Rattle.cmc_meta.specs.Keys.{key_eq}
 use Rattle.cmc_objects.specs.declared.certificate.Certificate.{Certificate}
 use Rattle.cmc_objects.specs.declared.request.CertificateRequest.{CertificateRequest}
 use Rattle.cmc_objects.specs.declared.role.Role.{Role}
@@ -18,7 +16,6 @@ use Rattle.cmc_model.specs.Objects.{object_at}
 use Rattle.cmc_model.specs.Replies.{is_accepted, key_of_call, settled}
 use Rattle.cmc_model.specs.Histories.{Setting, moment, state, role_eq}
 use Rattle.cmc_model.specs.Writes.{writes, write_of, contents, oldest, kind_eq, is_known}
-use Rattle.cmc_model.proofs.Versions.{object_at-put}
 use Rattle.cmc_pass.specs.declared.pass.Views.{Views}
 use Rattle.cmc_rules.specs.declared.progress.LastPass.{LastPass}
 use Rattle.cmc_rules.specs.declared.progress.Ending.{Ending}
@@ -30,34 +27,14 @@ use Rattle.cmc_rules.specs.Desks.{desk}
 use Rattle.cmc_rules.specs.Passes.{open_pass, is_pass_of}
 use Rattle.cmc_rules.specs.Memory.{past, no_past, with_begin, with_ending, ending_of}
 use Rattle.cmc_rules.specs.Legality.{IsLegal}
-use Rattle.cmc_world.proofs.OneKind.{object_at-of_kind, same_at}
-use Rattle.cmc_world.proofs.Rest.{same_key, key_eq-refl}
+use Rattle.cmc_world.proofs.Known.{neither, none_under}
+use Rattle.cmc_world.proofs.OneKind.{object_at-of_kind}
+use Rattle.cmc_world.proofs.Rest.{same_key}
 use Rattle.cmc_world.proofs.Sounds.{each_sound}
 use Rattle.cmc_plain.specs.Plain.{IsQuiet, no_views, seen_last}
 use Rattle.cmc_plain.proofs.Remembering.{last_called}
 
 -- ---- no object stands under it
-
-neither : (a b : Bool) → (a || b) ≡ false → (a ≡ false) × (b ≡ false)
-neither true b off = absurd (cc)
-neither false b off = (refl, off)
-
--- the two tests on keys
-unequal : (q k : Key) (b : Bool) → eq_by_cmp key_cmp q k ≡ b → key_eq k q ≡ false → b ≡ false
-unequal q k true is apart =
-    let same : q ≡ k = same_at q k is in
-    let on : key_eq k q ≡ true = subst (λ (x : Key). key_eq k x ≡ true) (sym same) (key_eq-refl k) in
-    absurd (cc (on, apart))
-unequal q k false is apart = refl
-
-none_under : (key : Key) (ws : List Write) → is_known key ws ≡ false → object_at (contents ws) key ≡ None
-unfolding contents
-none_under key [] none = get-empty key_cmp key
-none_under key (w ∷ ws) none =
-    let parts = neither (key_eq w.key key) (is_known key ws) none in
-    object_at-put (contents ws) w.key w.object key
-    ∙ ap (λ (b : Bool). cond b w.object (object_at (contents ws) key)) (unequal key w.key (eq_by_cmp key_cmp key w.key) refl parts.0)
-    ∙ none_under key ws parts.1
 
 known_first : (b : Bool) (key : Key) (w : Write) (ws : List Write) (p : ℕ) → (key_eq w.key key || is_known key ws) ≡ false → is_known key (oldest p ws) ≡ false
     → is_known key (if b then w ∷ ws else oldest p ws) ≡ false

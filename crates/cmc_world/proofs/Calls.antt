@@ -77,7 +77,7 @@ pub kept_call : (s : Setting) (h : List Entry) (w : Holdings) (n : ℕ) (call : 
     (fs : List ℕ) (st : State) (log : List Write) (t : Role → Standing) (opened : ℕ → Option OpenPass) (pasts : Role → Key → Past)
     → IsKept s h w → IsCalling s h n call c → MayCall s h (open_pass s h n) call → length h < s.events → now ≡ w.moment
     → IsReply w.faults w.state call reply → fs ≡ w.faults → st ≡ state_after now w.state call reply → key ≡ key_written call reply → object ≡ object_written now w.state call reply
-    → entry ≡ length h + 1 → ((p : OpenPass) → w.opened n ≡ Some p → stage ≡ stage_by p.seen.certificate c.stand_in p.stage entry c.kind c.last reply) → version ≡ length w.log + 1 → log ≡ logged key object w.log
+    → entry ≡ length h + 1 → ((p : OpenPass) → w.opened n ≡ Some p → stage ≡ stage_by p.seen.certificate c.stand_in p.stage entry c.named.kind (last_under c.named w.log) reply) → version ≡ length w.log + 1 → log ≡ logged key object w.log
     → ((r : Role) → t r ≡ counted (option_map (λ (k : Key). k.kind) key) (role_eq c.role r) (w.standing c.role) (w.standing r))
     → ((m : ℕ) → opened m ≡ (if m == n then option_map (with_stage stage) (w.opened m) else w.opened m))
     → ((r : Role) (k : Key) → pasts r k ≡ noted (option_map (λ (q : Key). q.kind) key) version (role_eq c.role r && key_eq c.key k) (w.past r k))
@@ -86,9 +86,9 @@ kept_call s h w n call c reply key object stage now version entry fs st log t op
     let now_is : now ≡ moment s h = at ∙ k.held.moment in
     let version_is : version ≡ accepted s h + 1 = v ∙ ap (λ (ws : List Write). length ws + 1) k.held.log ∙ ap (λ (m : ℕ). m + 1) (writes_count s h) in
     let stage_is : stage ≡ stage_after s h call reply is.pass =
-    staged is.pass (k.held.opened n ∙ is.opened) ∙ ap (λ (m : ℕ). stage_by is.pass.seen.certificate c.stand_in is.pass.stage m c.kind c.last reply) e
-    ∙ ap (λ (kind : Kind). stage_by is.pass.seen.certificate c.stand_in is.pass.stage (length h + 1) kind c.last reply) is.kind
-    ∙ ap (λ (m : ℕ). stage_by is.pass.seen.certificate c.stand_in is.pass.stage (length h + 1) (key_of_call call).kind m reply) is.last
+    staged is.pass (k.held.opened n ∙ is.opened) ∙ ap (λ (m : ℕ). stage_by is.pass.seen.certificate c.stand_in is.pass.stage m c.named.kind (last_under c.named w.log) reply) e
+    ∙ ap (λ (ws : List Write). stage_by is.pass.seen.certificate c.stand_in is.pass.stage (length h + 1) c.named.kind (last_under c.named ws) reply) k.held.log
+    ∙ ap (λ (q : Key). stage_by is.pass.seen.certificate c.stand_in is.pass.stage (length h + 1) q.kind (last_under q (writes s h)) reply) is.named
     ∙ ap (λ (b : Bool). stage_by is.pass.seen.certificate b is.pass.stage (length h + 1) (key_of_call call).kind (last_under (key_of_call call) (writes s h)) reply) is.stand_in in
     let right_is = right_reply s h w call reply k right in
     let after_is : st ≡ state_after (moment s h) (state s h) call reply = after ∙ ap (λ (x : ℤ). state_after x w.state call reply) now_is ∙ ap (λ (x : State). state_after (moment s h) x call reply) k.held.state in

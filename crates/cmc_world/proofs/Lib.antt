@@ -15,6 +15,7 @@ pub mod Calls
 pub mod Begins
 pub mod Stepping
 pub mod OneKind
+pub mod Known
 pub mod Newest
 pub mod Idling
 pub mod Waiting

@@ -14,7 +14,6 @@ use Rattle.cmc_rules.specs.declared.progress.Stage.TheVariants.{Asked, Given, Re
 use Rattle.cmc_rules.specs.declared.progress.OpenPass.{OpenPass}
 use Rattle.cmc_model.specs.Replies.{key_of_call}
 use Rattle.cmc_model.specs.Histories.{Setting}
-use Rattle.cmc_model.specs.Writes.{writes, last_under}
 use Rattle.cmc_rules.specs.Passes.{open_pass, writes_stand_in}
 use Rattle.cmc_rules.specs.Memory.{ending_at}
 use Rattle.cmc_rules.specs.Causes.{IsNextCall, AsksBy, EndsBy, MayCall, MayAsk, MayEnd}
@@ -90,14 +89,13 @@ IsJudged s h pass named (Does d) = AnswersNext s h pass named (next_answer pass 
 
 -- ---- what is known as a pass goes on
 
--- the pass, with the kind of what the call writes and the last write under its key
+-- the pass, with the key that the call names
 pub record IsCalling (s : Setting) (h : List Entry) (n : ℕ) (call : Call) (c : Calling) : Type 0 where
   pub pass : OpenPass
   pub opened : open_pass s h n ≡ Some pass
   pub role : c.role ≡ pass.role
   pub key : c.key ≡ pass.key
-  pub kind : c.kind ≡ (key_of_call call).kind
-  pub last : c.last ≡ last_under (key_of_call call) (writes s h)
+  pub named : c.named ≡ key_of_call call
   pub stand_in : c.stand_in ≡ writes_stand_in call
 
 -- the pass, with how it ends

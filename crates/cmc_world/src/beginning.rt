@@ -1,11 +1,12 @@
 //! Roles begin passes.
 ghost use Rattle.std.specs.Option.{option_copied};
-ghost use Rattle.std.specs.Prelude.{◌≡◌, ◌↔◌, ◌<◌, ◌∷◌, IsTrue, IfOk, OnOk, OnErr, true, length};
+ghost use Rattle.std.specs.Prelude.{◌≡◌, ◌↔◌, ◌<◌, ◌∷◌, IsTrue, IfOk, OnOk, OnErr, true, length, is_some};
 ghost use Rattle.cmc_rules.specs.Sameness as sameness;
 ghost use Rattle.cmc_held.specs.Remembered.{past_or_new};
 ghost use Rattle.cmc_rules.specs.Passes.{new_pass};
 ghost use Rattle.cmc_rules.specs.Sameness.{IsSame};
 ghost use Rattle.cmc_objects.specs.Watching as spec;
+ghost use Rattle.cmc_model.specs.Objects.{object_at};
 ghost use Rattle.cmc_model.specs.Writes.{is_known};
 ghost use Rattle.cmc_world.specs.Answers.{AnswersBegin, Leaves, beginning};
 ghost use Rattle.cmc_world.specs.Kept.{setting_of};
@@ -20,6 +21,7 @@ use cmc_meta::Key;
 use cmc_objects::{Entry, Positions, Role, kind_of_work};
 use cmc_pass::Views;
 use cmc_rules::{OpenPass, Origin, Past, Stage};
+use cmc_store::Store;
 use std::alloc::{AllocError, Global};
 
 /// A pass that is ready to begin.
@@ -58,11 +60,31 @@ fn is_again(past: Option<&Past>, seen: &Views, now: i64, at: Positions) -> bool
     }
 }
 
+/// Whether an object stands under the key.
+fn stands(store: &Store, key: &Key) -> bool
+    ensures { result ≡ is_some (object_at store.now.state.objects key.now) }
+{
+    matches!(store.peek(key), Some(_))
+}
+
+/// Whether an accepted write named the key. Of a key under which an object stands it is known without a look at all
+/// writes.
+fn is_named(stands: bool, log: &Log, key: &Key) -> bool
+    requires { stands ≡ true → is_known key.now log.now.writes ≡ true }
+    ensures { result ≡ is_known key.now log.now.writes }
+{
+    if stands {
+        return true;
+    }
+    log.knows(key)
+}
+
 /// Whether the key is one of the role's kind of work, and an accepted write named it.
-fn is_queued(log: &Log, role: Role, key: &Key) -> bool
+fn is_queued(stands: bool, log: &Log, role: Role, key: &Key) -> bool
+    requires { stands ≡ true → is_known key.now log.now.writes ≡ true }
     ensures { IsTrue result ↔ ((key.now.kind ≡ spec.kind_of_work role) × (is_known key.now log.now.writes ≡ true)) }
 {
-    key.kind.same(kind_of_work(role)) && log.knows(key)
+    key.kind.same(kind_of_work(role)) && is_named(stands, log, key)
 }
 
 fn opened(role: Role, key: Key, seen: Views, since: i64) -> OpenPass
@@ -93,7 +115,7 @@ impl World {
         let past = self.pasts.get(role, key);
         let own = own_write(past, at);
         let same = is_again(past, &seen, self.moment, at);
-        let queued = is_queued(&self.log, role, key);
+        let queued = is_queued(stands(&self.store, key), &self.log, role, key);
         let entries = self.history.len();
         let room = has_room(entries, self.scenario.events(), 1);
         Ok(answer_begin(standing.running, working, own, same, queued, entries, room))

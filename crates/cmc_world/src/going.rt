@@ -24,7 +24,7 @@ use crate::acts::{act_of, follow_of};
 use crate::moves::{Lack, Stepped};
 use crate::noting::{kind_written, log_write, note_write, stage_of, writes_stand_in};
 use crate::world::{World, has_room};
-use cmc_meta::{Key, Kind};
+use cmc_meta::Key;
 use cmc_objects::{Call, Cause, Entry, Order, Role, Who};
 use cmc_pass::{Act, Desk, Given, Value};
 use cmc_rules::{Ending, OpenPass, Origin, Stage};
@@ -46,12 +46,11 @@ pub(crate) enum Judged {
     Does(Doing),
 }
 
-/// What a call of a pass needs to know of the pass and of its key.
+/// What a call of a pass needs to know of the pass, and the key that it names.
 pub(crate) struct Calling {
     pub role: Role,
     pub key: Key,
-    pub kind: Kind,
-    pub last: u64,
+    pub named: Key,
     pub stand_in: bool,
 }
 
@@ -60,8 +59,7 @@ impl Drop for Calling {
         let Calling {
             role: _role,
             key: _key,
-            kind: _kind,
-            last: _last,
+            named: _named,
             stand_in: _stand_in,
         } = self;
     }
@@ -361,14 +359,12 @@ impl World {
         requires { IsOpen (spec.open_pass (setting_of self.now.scenario) self.now.history pass) }
         ensures { IfOk result (λ c. IsCalling (setting_of self.now.scenario) self.now.history pass call.now c) }
     {
-        let written = key_of_call(call)?;
-        let last = self.log.last_under(&written);
+        let named = key_of_call(call)?;
         match self.passes.get(pass) {
             Some(open) => Ok(Calling {
                 role: open.role,
                 key: open.key.copy()?,
-                kind: written.kind,
-                last,
+                named,
                 stand_in: writes_stand_in(call),
             }),
             None => unreachable!(),
@@ -394,8 +390,8 @@ impl World {
             pass,
             calling.stand_in,
             entry,
-            calling.kind,
-            calling.last,
+            &self.log,
+            &calling.named,
             &replied.reply,
         );
         let version = self.log.accepted() + 1;

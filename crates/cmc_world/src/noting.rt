@@ -4,6 +4,7 @@ ghost use Rattle.cmc_meta.specs.declared.key.Key.{Key as KeyValue};
 ghost use Rattle.cmc_meta.specs.Keys.{key_eq};
 ghost use Rattle.cmc_objects.specs.declared.role.Role.{Role as RoleValue};
 ghost use Rattle.cmc_model.specs.Histories.{role_eq};
+ghost use Rattle.cmc_model.specs.Writes.{last_under};
 ghost use Rattle.cmc_rules.specs.declared.progress.Obstacle.TheVariants as obstacles;
 ghost use Rattle.cmc_rules.specs.declared.progress.Stage.TheVariants as stages;
 ghost use Rattle.cmc_rules.specs.declared.progress.OpenPass.{OpenPass as OpenPassValue};
@@ -75,12 +76,13 @@ fn stage_by(
     current: &OpenPass,
     stand_in: bool,
     entry: u64,
-    kind: Kind,
-    last: u64,
+    log: &Log,
+    named: &Key,
     reply: &Reply,
 ) -> Stage
-    ensures { result ≡ spec.stage_by current.now.seen.certificate stand_in current.now.stage entry kind last reply.now }
+    ensures { result ≡ spec.stage_by current.now.seen.certificate stand_in current.now.stage entry named.now.kind (last_under named.now log.now.writes) reply.now }
 {
+    let kind = named.kind;
     match reply {
         Reply::Ok { .. } => stage_written(stand_in, &current.stage),
         Reply::Unchanged { .. } => stage_written(stand_in, &current.stage),
@@ -91,7 +93,8 @@ fn stage_by(
             object.meta().version,
         ),
         Reply::Conflict { have, .. } => newer(entry, kind, *have),
-        Reply::NotFound { .. } => newer(entry, kind, last),
+        // Only here is the last write asked for: the search for it goes over all writes.
+        Reply::NotFound { .. } => newer(entry, kind, log.last_under(named)),
         Reply::AlreadyExists { have } => newer(entry, kind, *have),
         Reply::Invalid { .. } => Stage::Barred,
         Reply::Unavailable { .. } => Stage::Refused {
@@ -101,21 +104,21 @@ fn stage_by(
     }
 }
 
-/// How far the open pass of this number has come whose call of an object of the kind was answered so in the entry of
-/// this number. `last` is the version of the last write under the key of the call.
+/// How far the open pass of this number has come whose call under this key was answered so in the entry of this number.
+/// The log is that from before the call.
 pub(crate) fn stage_of(
     passes: &Passes,
     pass: u64,
     stand_in: bool,
     entry: u64,
-    kind: Kind,
-    last: u64,
+    log: &Log,
+    named: &Key,
     reply: &Reply,
 ) -> Stage
-    ensures { (p : OpenPassValue) → pass_at passes.now pass ≡ Some p → result ≡ spec.stage_by p.seen.certificate stand_in p.stage entry kind last reply.now }
+    ensures { (p : OpenPassValue) → pass_at passes.now pass ≡ Some p → result ≡ spec.stage_by p.seen.certificate stand_in p.stage entry named.now.kind (last_under named.now log.now.writes) reply.now }
 {
     match passes.get(pass) {
-        Some(open) => stage_by(open, stand_in, entry, kind, last, reply),
+        Some(open) => stage_by(open, stand_in, entry, log, named, reply),
         None => Stage::Barred,
     }
 }

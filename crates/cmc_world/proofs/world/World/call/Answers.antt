@@ -7,7 +7,8 @@ use Rattle.cmc_store.specs.Kept.{Kept}
 use Rattle.cmc_model.specs.declared.write.Write.{Write}
 use Rattle.cmc_rules.specs.declared.progress.Past.{Past}
 use Rattle.cmc_model.specs.Histories.{role_eq}
-use Rattle.cmc_rules.specs.Passes.{open_pass}
+use Rattle.cmc_model.specs.Writes.{last_under}
+use Rattle.cmc_rules.specs.Passes.{open_pass, stage_by}
 use Rattle.cmc_rules.specs.Causes.{MayCall}
 use Rattle.cmc_held.specs.Open.{pass_at}
 use Rattle.cmc_held.specs.Remembered.{past_at}
@@ -52,7 +53,7 @@ invariant_of-self-2 c =
     c.in_ok-replied.ensures.key
     c.in_ok-replied.ensures.object
     (ap (λ (n : ℕ). n + 1) (c.len-entry.ensures ∙ ap (λ (l : List Entry). length l) c.in_ok-reserve.ensures.same))
-    c.stage_of-stage.ensures
+    (λ p is. c.stage_of-stage.ensures p is ∙ ap (λ (l : List Write). stage_by p.seen.certificate c.in_ok-calling.calling.stand_in p.stage (c.len-entry.result + 1) c.in_ok-calling.calling.named.kind (last_under c.in_ok-calling.calling.named l) c.in_ok-replied.replied.reply) c.in_ok-reserve-2.ensures.same)
     (ap (λ (n : ℕ). n + 1) (c.accepted-version.ensures ∙ ap (λ (l : List Write). length l) c.in_ok-reserve-2.ensures.same))
     (c.log_write.ensures ∙ ap (λ (l : List Write). logged c.in_ok-replied.replied.key c.in_ok-replied.replied.object l) c.in_ok-reserve-2.ensures.same)
     (λ r. c.note_write.ensures.counted r ∙ ap (λ (x : Option Kind). counted x (role_eq c.in_ok-calling.calling.role r) (standing_of c.self.inside.standings c.in_ok-calling.calling.role) (standing_of c.self.inside.standings r)) c.kind_written-written.ensures)

@@ -1,4 +1,4 @@
-use Rattle.std.proofs.Common.{◌≡◌, sym, subst, rules, w64, to_z, of_z}
+use Rattle.std.proofs.Common.{◌≡◌, ◌∙◌, sym, subst, rules, w64, to_z, of_z}
 use Rattle.std.proofs.lemmas.Int.{to_z-of_z}
 use Rattle.std.specs.Option.{option_copied}
 use Rattle.cmc_rules.specs.Viewing.{views}
@@ -6,6 +6,7 @@ use Rattle.cmc_held.specs.Remembered.{past_or_new}
 use Rattle.cmc_world.specs.Kept.{Seen, setting_of}
 use Rattle.cmc_world.specs.Answers.{AnswersBegin}
 use Rattle.cmc_world.proofs.Judging.{judged_begin}
+use Rattle.cmc_world.proofs.Known.{known_where_stands}
 use Rattle.cmc_world.proofs.world.World.judge_begin.Goals as goal
 
 pub returns : goal.returns
@@ -15,3 +16,6 @@ returns c =
     c.self.invariant c.get-standing.ensures c.shown_positions-at.ensures
     (subst (λ (v : Seen). c.in_ok-seen.seen ≡ views (setting_of v.scenario) v.history c.args.role c.args.key.now) (sym c.self.view_is) c.in_ok-seen.ensures)
     c.get-past.ensures (to_z-of_z w64 c.self.inside.moment (search rules)) c.is_on-working.ensures.some c.own_write-own.ensures c.is_again-same.ensures c.is_queued-queued.ensures c.len-entries.ensures c.events.ensures.value c.has_room-room.ensures c.answer_begin.ensures)
+
+pub is_queued-requires : goal.is_queued-requires
+is_queued-requires c = λ on. known_where_stands _ _ _ c.args.key.now c.self.invariant (sym c.stands.ensures ∙ on)
