@@ -6,6 +6,7 @@ ghost use Rattle.cmc_rules.specs.Following.{owed};
 ghost use Rattle.cmc_model.specs.Histories as spec;
 ghost use Rattle.cmc_rules.specs.Passes.{open_pass};
 ghost use Rattle.cmc_rules.specs.Memory.{past};
+ghost use Rattle.cmc_rules.specs.Origins.{begun};
 ghost use Rattle.cmc_rules.specs.Sameness.{IsDue};
 ghost use Rattle.cmc_rules.specs.Positions.{positions};
 ghost use Rattle.cmc_rules.specs.Viewing.{views};
@@ -68,6 +69,13 @@ impl World {
         ensures { (n : ℕ) → pass_at result.now n ≡ open_pass (setting_of self.now.scenario) self.now.history n }
     {
         &self.passes
+    }
+
+    /// How many passes have begun: the number of the newest of them.
+    pub fn passes_begun(&self) -> u64
+        ensures { result ≡ begun (setting_of self.now.scenario) self.now.history }
+    {
+        self.origins.len()
     }
 
     /// What the role remembers of the key; `None` only where it did nothing on it since it started.
