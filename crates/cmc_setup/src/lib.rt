@@ -9,6 +9,7 @@ mod forms;
 mod holding;
 mod roles;
 mod running;
+mod sameness;
 mod scenario;
 mod stage;
 mod steps;

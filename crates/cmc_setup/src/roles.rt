@@ -1,8 +1,9 @@
 // Lists of roles.
-ghost use Rattle.std.specs.Prelude.{◌≡◌, ◌≤◌, ◌++◌, ◌∷◌, [], length, nat_lt, position, IfOk, OnOk, OnErr};
+ghost use Rattle.std.specs.Prelude.{◌≡◌, ◌↔◌, ◌≤◌, ◌++◌, ◌∷◌, [], length, nat_lt, position, IsTrue, IfOk, OnOk, OnErr};
 ghost use Rattle.cmc_objects.specs.Roles.{role_rank};
 ghost use Rattle.cmc_setup.specs.Setups.{AreInOrder, IsAfter, is_among, place_among, with_role};
 
+use crate::sameness::same_roles;
 use cmc_objects::Role;
 use std::alloc::{AllocError, Global};
 use std::marker::Model;
@@ -72,6 +73,13 @@ impl Roles {
         Ok(Roles {
             items: copy_roles(*self.items.allocator(), self.items.as_slice())?,
         })
+    }
+
+    /// Whether both have the same roles.
+    pub fn same(&self, other: &Roles) -> bool
+        ensures { IsTrue result ↔ (self.now ≡ other.now) }
+    {
+        same_roles(self.items.as_slice(), other.items.as_slice())
     }
 }
 

@@ -1,8 +1,9 @@
 // All that a run is given.
-ghost use Rattle.std.specs.Prelude.{◌≡◌, IfOk};
+ghost use Rattle.std.specs.Prelude.{◌≡◌, ◌↔◌, IsTrue, IfOk};
 ghost use Rattle.cmc_setup.specs.Setups.{IsSetup};
 
 use crate::roles::Roles;
+use crate::sameness::same_material;
 use crate::steps::Steps;
 use cmc_meta::Numbers;
 use cmc_objects::{Material, Role, Rules, Step};
@@ -157,5 +158,19 @@ impl Scenario {
             material,
             script,
         })
+    }
+
+    /// Whether both are one scenario: equal in each part.
+    pub fn same(&self, other: &Scenario) -> bool
+        ensures { IsTrue result ↔ (self.now ≡ other.now) }
+    {
+        self.events == other.events
+            && self.window == other.window
+            && self.moment == other.moment
+            && self.roles.same(&other.roles)
+            && self.faults.same(&other.faults)
+            && self.approver.same(&other.approver)
+            && same_material(&self.material, &other.material)
+            && self.script.same(&other.script)
     }
 }

@@ -1,6 +1,7 @@
 // Lists of steps.
-ghost use Rattle.std.specs.Prelude.{◌≡◌, ◌++◌, ◌∷◌, [], IfOk, OnOk, OnErr};
+ghost use Rattle.std.specs.Prelude.{◌≡◌, ◌↔◌, ◌++◌, ◌∷◌, [], IsTrue, IfOk, OnOk, OnErr};
 
+use crate::sameness::same_steps;
 use cmc_objects::Step;
 use std::alloc::{AllocError, Global};
 use std::marker::Model;
@@ -53,6 +54,13 @@ impl Steps {
         Ok(Steps {
             items: copy_steps(*self.items.allocator(), self.items.as_slice())?,
         })
+    }
+
+    /// Whether both are equal, step by step.
+    pub fn same(&self, other: &Steps) -> bool
+        ensures { IsTrue result ↔ (self.now ≡ other.now) }
+    {
+        same_steps(self.items.as_slice(), other.items.as_slice())
     }
 }
 
