@@ -1,5 +1,5 @@
 -- What a begin needs beside room, and when a key fits a role.
-use Rattle.std.proofs.Common.{◌≡◌, Bool, true, false, List, refl, sym, subst}
+use Rattle.std.proofs.Common.{◌≡◌, Bool, true, false, List, None, refl, sym, subst}
 use Rattle.std.specs.Prelude.{◌↔◌, not, IsTrue}
 use Rattle.cmc_meta.specs.declared.key.Key.{Key}
 use Rattle.cmc_objects.specs.declared.role.Role.{Role}
@@ -10,7 +10,7 @@ use Rattle.cmc_model.specs.Writes.{writes, is_known}
 use Rattle.cmc_rules.specs.Positions.{positions}
 use Rattle.cmc_rules.specs.Viewing.{views}
 use Rattle.cmc_rules.specs.Memory.{past}
-use Rattle.cmc_rules.specs.Sameness.{IsDue}
+use Rattle.cmc_rules.specs.Sameness.{IsDue, own_above}
 use Rattle.cmc_rules.specs.Legality.{IsLegal}
 use Rattle.cmc_plain.specs.Plain.{IsQuiet, Fits}
 use Rattle.cmc_plain.specs.Searches.{IsFree}
@@ -23,6 +23,14 @@ pub unfit_undue : (s : Setting) (h : List Entry) (role : Role) (key : Key) (seen
 unfit_undue s h role key seen b is due off = (
   λ bad. absurd (cc),
   λ f. let on = due.1 (subst (λ (v : Views). IsDue (past s h role key) v (moment s h) (positions h role)) (sym is) f.may.due) in absurd (cc (on, off)),
+)
+
+-- a role that was not told of its own write on the key
+pub unfit_untold : (s : Setting) (h : List Entry) (role : Role) (key : Key) (b : Bool) → (b ≡ false → own_above (past s h role key).own (positions h role) ≡ None → ⊥) → b ≡ false
+    → IsTrue false ↔ Fits s h role key
+unfit_untold s h role key b untold off = (
+  λ bad. absurd (cc),
+  λ f. absurd (untold off f.may.due.told),
 )
 
 known_by : (b : Bool) (s : Setting) (h : List Entry) (role : Role) (key : Key) → is_known key (writes s h) ≡ b → IsLegal s h → (IsQuiet s h role key → ⊥) → is_known key (writes s h) ≡ true

@@ -20,6 +20,7 @@ pub mod Ending
 pub mod Turns
 pub mod NothingHeld
 pub mod Asking
+pub mod Asked
 pub mod Unknown
 pub mod Quiet
 pub mod ReadyRows

@@ -3,7 +3,7 @@ use Rattle.std.proofs.Common.{◌≡◌, ◌∙◌, ℕ, ◌+◌, ◌<◌, ◌�
 use Rattle.cmc_objects.specs.declared.entry.Entry.{Entry}
 use Rattle.cmc_rules.specs.declared.effect.Effect.{Effect}
 use Rattle.cmc_model.specs.Histories.{Setting}
-use Rattle.cmc_rules.specs.Runs.{IsRun}
+use Rattle.cmc_rules.specs.Runs.{IsRun, IsFinished}
 use Rattle.cmc_setup.specs.Setups.{Setup}
 use Rattle.cmc_world.specs.declared.moves.Move.{Move}
 use Rattle.cmc_world.specs.declared.moves.Move.TheVariants as moves
@@ -12,7 +12,9 @@ use Rattle.cmc_world.specs.Answers.{next_effect, entries_of}
 use Rattle.cmc_world.specs.Kept.{Seen, setting_of}
 use Rattle.cmc_plain.specs.Plain.{IsPlainMove}
 use Rattle.cmc_plain.specs.Histories.{IsPlainStep, LeadsPlainly, IsPlain, IsFull, entries_for}
-use Rattle.cmc_plain.specs.Driving.{GoesOn, IsDriving, goes_on}
+use Rattle.cmc_plain.specs.declared.driving.Driven.{Driven}
+use Rattle.cmc_plain.specs.declared.driving.Driven.TheVariants.{Finished, Spent}
+use Rattle.cmc_plain.specs.Driving.{GoesOn, IsDriving, IsDrained, IsDriven, EndsFrom, EndsPlainly, goes_on}
 use Rattle.cmc_plain.proofs.Determined.{grown_length}
 use Rattle.cmc_plain.proofs.Making.{ComesTo}
 
@@ -50,16 +52,30 @@ plain_on s h k (ms, led) on = (ms ++ on.move ∷ [], led_on s ms [] h k on.move 
 
 -- ---- turns
 
-pub driving_on : (setup : Setup) (old new : Seen) (n : ℕ) → IsDriving setup old n → new.scenario ≡ old.scenario → GoesOn (setting_of old.scenario) old.history new.history → IsDriving setup new (n + 1)
-driving_on setup old new n d stays on =
+pub driving_on : (start old new : Seen) (n : ℕ) → IsDriving start old n → new.scenario ≡ old.scenario → GoesOn (setting_of old.scenario) old.history new.history → IsDriving start new (n + 1)
+driving_on start old new n d stays on =
     let on_is = subst (λ (u : Setup). GoesOn (setting_of u) old.history new.history) d.same on in
     record {
       same = stays ∙ d.same;
-      plain = plain_on (setting_of setup) old.history new.history d.plain on_is;
+      plain = λ was. plain_on (setting_of start.scenario) old.history new.history (d.plain was) on_is;
       long = omega (arith, d.long, on.longer);
     }
 
-pub too_long : (setup : Setup) (world : Seen) (n : ℕ) → IsDriving setup world n → setup.events < n → IsRun (setting_of world.scenario) world.history → ⊥
-too_long setup world n d over run =
-    let short : length world.history ≤ setup.events = subst (λ (u : Setup). length world.history ≤ u.events) d.same run.short in
+pub too_long : (start world : Seen) (n : ℕ) → IsDriving start world n → start.scenario.events < n → IsRun (setting_of world.scenario) world.history → ⊥
+too_long start world n d over run =
+    let short : length world.history ≤ start.scenario.events = subst (λ (u : Setup). length world.history ≤ u.events) d.same run.short in
     absurd (omega (arith, d.long, over, short))
+
+-- ---- from the beginning on
+
+-- no move at all was made
+pub plain_new : (s : Setting) → IsPlain s []
+plain_new s = ([], refl)
+
+from_new : (End : Setting → List Entry → Type 0) (setup : Setup) (world : Seen) → EndsFrom (record { scenario = setup; history = [] }) End world → EndsPlainly setup End world
+from_new End setup world e = record { same = e.same; plain = e.plain (plain_new (setting_of setup)); comes = e.comes }
+
+-- what plain moves make of a new world is a run by the plain order
+pub driven_by : (setup : Setup) (d : Driven) → IsDrained (record { scenario = setup; history = [] }) d → IsDriven setup d
+driven_by setup (Finished world) e = from_new IsFinished setup world e
+driven_by setup (Spent world) e = from_new IsFull setup world e

@@ -73,8 +73,19 @@ abbrev pub IsDriven : Setup → Driven → Type 0
 IsDriven setup (Finished world) = EndsPlainly setup IsFinished world
 IsDriven setup (Spent world) = EndsPlainly setup IsFull world
 
+-- A world of the same scenario with this end, to which plain moves led from the one at the start.
+pub record EndsFrom (start : Seen) (End : Setting → List Entry → Type 0) (world : Seen) : Type 0 where
+  pub same : world.scenario ≡ start.scenario
+  pub plain : IsPlain (setting_of start.scenario) start.history → IsPlain (setting_of start.scenario) world.history
+  pub comes : End (setting_of start.scenario) world.history
+
+-- what was begun came to its end, or to the end of its room
+abbrev pub IsDrained : Seen → Driven → Type 0
+IsDrained start (Finished world) = EndsFrom start IsFinished world
+IsDrained start (Spent world) = EndsFrom start IsFull world
+
 -- so many turns were taken, and the run goes on
-pub record IsDriving (setup : Setup) (world : Seen) (turns : ℕ) : Type 0 where
-  pub same : world.scenario ≡ setup
-  pub plain : IsPlain (setting_of setup) world.history
+pub record IsDriving (start : Seen) (world : Seen) (turns : ℕ) : Type 0 where
+  pub same : world.scenario ≡ start.scenario
+  pub plain : IsPlain (setting_of start.scenario) start.history → IsPlain (setting_of start.scenario) world.history
   pub long : turns ≤ length world.history

@@ -4,3 +4,5 @@ pub mod Histories
 pub mod Driving
 pub mod Waits
 pub mod Ready
+pub mod Asking
+pub mod Next

@@ -1,11 +1,13 @@
 //! The first begin that is worth it.
 ghost use Rattle.std.specs.Option.{option_copied};
-ghost use Rattle.std.specs.Prelude.{◌≡◌, ◌↔◌, ℕ, IsTrue, IfOk, true, false};
+ghost use Rattle.std.specs.Prelude.{◌≡◌, ◌↔◌, ℕ, None, IsTrue, IfOk, true, false};
 ghost use Rattle.std.specs.BTreeSet.{contains};
 ghost use Rattle.cmc_meta.specs.declared.key.Key.{Key as KeyValue};
 ghost use Rattle.cmc_meta.specs.Keys.{key_cmp};
 ghost use Rattle.cmc_model.specs.Histories as histories;
 ghost use Rattle.cmc_rules.specs.Memory.{past};
+ghost use Rattle.cmc_rules.specs.Positions.{positions};
+ghost use Rattle.cmc_rules.specs.Sameness as sameness;
 ghost use Rattle.cmc_rules.specs.Viewing.{views};
 ghost use Rattle.cmc_held.specs.Remembered.{past_or_new};
 ghost use Rattle.cmc_world.specs.Kept.{setting_of};
@@ -16,6 +18,7 @@ ghost use Rattle.cmc_plain.specs.Searches.{FindsBegin, FindsKey, IsFree};
 
 use crate::ready::Ready;
 use crate::roles::role_in;
+use cmc_held::own_above;
 use cmc_meta::Key;
 use cmc_objects::{Role, kind_of_work};
 use cmc_pass::Views;
@@ -121,12 +124,26 @@ fn fits_seen(
     Ok(!quiet)
 }
 
+/// Whether the role was told of its own writes on the key. While it was not, no pass is due there, whatever it would see:
+/// so this is asked before views are made.
+fn knows_own(world: &World, role: Role, key: &Key) -> bool
+    ensures { result ≡ false → sameness.own_above (past (setting_of world.now.scenario) world.now.history role key.now).own (positions world.now.history role) ≡ None → ⊥ }
+{
+    match world.past(role, key) {
+        Some(past) => own_above(past.own, world.told(role)).is_none(),
+        None => true,
+    }
+}
+
 /// Whether the key fits the role, which runs.
 fn fits(alloc: Global, world: &World, role: Role, key: &Key) -> Result<bool, AllocError>
     requires running { histories.runs (setting_of world.now.scenario) world.now.history role ≡ true }
     ensures { IfOk result (λ b. IsTrue b ↔ spec.Fits (setting_of world.now.scenario) world.now.history role key.now) }
 {
     if !is_free(world, role, key) {
+        return Ok(false);
+    }
+    if !knows_own(world, role, key) {
         return Ok(false);
     }
     let seen = world.views(alloc, role, key)?;

@@ -2,20 +2,26 @@
 ghost use Rattle.std.specs.Prelude.{◌≡◌, IfOk, option_map};
 ghost use Rattle.cmc_pass.specs.Giving.{order_of};
 ghost use Rattle.cmc_rules.specs.Passes.{open_pass};
-ghost use Rattle.cmc_world.specs.Answers.{kept_at, kept_of};
+ghost use Rattle.cmc_world.specs.Answers.{kept_of};
 ghost use Rattle.cmc_world.specs.Kept.{setting_of};
-ghost use Rattle.cmc_plain.specs.Driving.{CanBeMade, CanBeKept, IsMadeFor, IsNextWith};
+ghost use Rattle.cmc_plain.specs.Driving.{CanBeMade, IsMadeFor, IsNextWith};
 
+use crate::asking::{point_of, question};
+use crate::gate::Gate;
 use cmc_answers::{Signer, judge};
 use cmc_keys::KeyMaker;
 use cmc_objects::Order;
 use cmc_pass::Given;
-use cmc_rules::Stage;
 use cmc_world::{Move, World};
 use std::alloc::{AllocError, Global};
 
-/// A value for the question.
-fn value_for<M: KeyMaker, N: Signer>(
+/// A value for the question, which is right for its row: a key or a signature by `keys`, an issuer's answer by `signer`, and
+/// a judgement by `cmc_answers::judge`.
+///
+/// # Errors
+///
+/// Want of memory alone.
+pub fn value_for<M: KeyMaker, N: Signer>(
     alloc: Global,
     order: &Order,
     keys: &M,
@@ -32,51 +38,39 @@ fn value_for<M: KeyMaker, N: Signer>(
     }
 }
 
-/// A value for the question that a pass of this stage waits at; `None` exactly where it waits at none.
-fn value_at<M: KeyMaker, N: Signer>(
-    alloc: Global,
-    stage: &Stage,
-    keys: &M,
-    signer: &N,
-) -> Result<Option<Given>, AllocError>
-    requires { CanBeKept (kept_at stage.now) }
-    ensures { IfOk result (λ g. option_map order_of g ≡ kept_at stage.now) }
-{
-    match stage {
-        Stage::Asked { order } => Ok(Some(value_for(alloc, order, keys, signer)?)),
-        _ => Ok(None),
-    }
-}
-
-/// A value for the question that the pass of this number waits at; `None` exactly where it waits at none.
-fn value_of<M: KeyMaker, N: Signer>(
+/// A value for the question that the pass of this number waits at, behind the gate; `None` exactly where it waits at none.
+fn value_of<M: KeyMaker, N: Signer, G: Gate>(
     alloc: Global,
     world: &World,
     pass: u64,
     keys: &M,
     signer: &N,
+    gate: &G,
 ) -> Result<Option<Given>, AllocError>
     ensures { IfOk result (λ g. option_map order_of g ≡ kept_of (open_pass (setting_of world.now.scenario) world.now.history pass)) }
 {
-    world.is_run();
-    match world.passes().get(pass) {
-        Some(open) => value_at(alloc, &open.stage, keys, signer),
+    match question(world, pass)? {
+        Some(order) => {
+            gate.at(point_of(world.history(), pass, &order));
+            Ok(Some(value_for(alloc, &order, keys, signer)?))
+        }
         None => Ok(None),
     }
 }
 
 /// The next move of the pass of this number: it is given the value that it waits for, or goes on.
-fn next_of<M: KeyMaker, N: Signer>(
+fn next_of<M: KeyMaker, N: Signer, G: Gate>(
     alloc: Global,
     world: &World,
     pass: u64,
     incarnation: u64,
     keys: &M,
     signer: &N,
+    gate: &G,
 ) -> Result<Move, AllocError>
     ensures { IfOk result (λ m. IsNextWith pass incarnation (kept_of (open_pass (setting_of world.now.scenario) world.now.history pass)) m) }
 {
-    match value_of(alloc, world, pass, keys, signer)? {
+    match value_of(alloc, world, pass, keys, signer, gate)? {
         Some(given) => Ok(Move::Give {
             pass,
             incarnation,
@@ -87,18 +81,19 @@ fn next_of<M: KeyMaker, N: Signer>(
 }
 
 /// What is made for the plain move: a pass that waits for a value is given one.
-pub(crate) fn made_for<M: KeyMaker, N: Signer>(
+pub(crate) fn made_for<M: KeyMaker, N: Signer, G: Gate>(
     alloc: Global,
     world: &World,
     step: Move,
     keys: &M,
     signer: &N,
+    gate: &G,
 ) -> Result<Move, AllocError>
     ensures { IfOk result (λ m. IsMadeFor (setting_of world.now.scenario) world.now.history step m) }
 {
     match step {
         Move::Next { pass, incarnation } => {
-            next_of(alloc, world, pass, incarnation, keys, signer)
+            next_of(alloc, world, pass, incarnation, keys, signer, gate)
         }
         other => Ok(other),
     }

@@ -2,11 +2,13 @@
 #![tactic(auto)]
 
 mod all_moves;
+mod asking;
 mod begins;
 mod choosing;
 mod counting;
 mod deliveries;
 mod driving;
+mod gate;
 mod giving;
 mod laws;
 mod passes;
@@ -18,7 +20,11 @@ mod waits;
 mod waking;
 
 pub use all_moves::make_all;
+pub use asking::{point_of, question};
 pub use choosing::plain;
 pub use counting::summary;
-pub use driving::{Driven, drive_plain};
+pub use driving::{Driven, drain, drive_plain};
+pub use gate::{Gate, NoGate, Point, Work};
+pub use giving::value_for;
 pub use laws::{plain_ends_agree, plain_histories_agree};
+pub use waking::Waking;

@@ -5,22 +5,25 @@
 //! made, those are made ready that it may wake; and a key that was made ready is looked at once, and is ready no more
 //! where the role has nothing to do on it and sees what it saw.
 ghost use Rattle.std.specs.Option.{option_copied};
-ghost use Rattle.std.specs.Prelude.{◌≡◌, ◌≤◌, ℕ, IfOk, OnOk, OnErr, [], true, false};
+ghost use Rattle.std.specs.Prelude.{◌≡◌, ◌≤◌, ◌↔◌, ℕ, IsTrue, IfOk, OnOk, OnErr, [], true, false};
 ghost use Rattle.cmc_meta.specs.declared.key.Key.{Key as KeyValue};
 ghost use Rattle.cmc_model.specs.Writes.{is_known, last_of_kind, writes};
 ghost use Rattle.cmc_caches.specs.Affected.{is_among};
 ghost use Rattle.cmc_objects.specs.Watching.{has_informer, kind_of_work};
-ghost use Rattle.cmc_rules.specs.Runs.{IsRun};
+ghost use Rattle.cmc_rules.specs.Runs.{IsRun, IsFinished};
 ghost use Rattle.cmc_world.specs.Answers.{Answers, Leaves};
 ghost use Rattle.cmc_world.specs.Kept.{setting_of};
 ghost use Rattle.cmc_world.specs.declared.moves.Move.TheVariants as moves;
+ghost use Rattle.cmc_plain.specs.Next.{IsNextBegin, IsNextDelivery, IsNextScript};
 ghost use Rattle.cmc_plain.specs.Plain.{IsPlainMove};
 ghost use Rattle.cmc_plain.specs.Ready as spec;
 ghost use Rattle.cmc_plain.specs.Ready.{Covers, HasKnown, IsToNewest, Keeps, SeesSame, Wakes, WakesTold, is_ready};
 
-use crate::begins::is_quiet;
+use crate::begins::{Beginning, first_begin, is_quiet};
 use crate::choosing::plain_by;
+use crate::deliveries::{Delivery, first_delivery};
 use crate::ready::Ready;
+use crate::rest::{is_finished, is_step_ready};
 use crate::roles::role_in;
 use cmc_held::at_kind;
 use cmc_meta::{Key, Kind};
@@ -38,10 +41,11 @@ pub(crate) struct Look {
     key: Key,
 }
 
-/// A world with the keys that are ready. Contracts see the world alone: on a key of a role's work that is not ready,
-/// the role has nothing to do, and sees what it saw as it last began a pass on it.
+/// A world with the keys that are ready: for each role the keys of its work at which it has to look. Contracts see the world
+/// alone: on a key that is not ready, the role has nothing to do, and sees what it saw as it last began a pass on it. So
+/// the next move of each sort is found without a look at all keys.
 #[derive(Drop)]
-pub(crate) struct Waking {
+pub struct Waking {
     world: World,
     ready: Ready,
     looks: Vec<Look>,
@@ -287,7 +291,7 @@ impl Waking {
     /// # Errors
     ///
     /// Want of memory alone.
-    pub(crate) fn new(alloc: Global, scenario: Scenario) -> Result<Waking, AllocError>
+    pub fn new(alloc: Global, scenario: Scenario) -> Result<Waking, AllocError>
         ensures { IfOk result (λ w. w ≡ record { scenario = scenario; history = [] }) }
     {
         let world = World::new(alloc, scenario)?;
@@ -300,14 +304,14 @@ impl Waking {
     }
 
     /// The world.
-    pub(crate) fn world(&self) -> &World
+    pub fn world(&self) -> &World
         ensures { result.now ≡ self.now }
     {
         &self.world
     }
 
     /// The world, without the keys that are ready.
-    pub(crate) fn into_world(self) -> World
+    pub fn into_world(self) -> World
         ensures { result ≡ self }
     {
         self.world
@@ -318,7 +322,7 @@ impl Waking {
     /// # Errors
     ///
     /// Want of memory alone.
-    pub(crate) fn look(&mut self, alloc: Global) -> Result<(), AllocError>
+    pub fn look(&mut self, alloc: Global) -> Result<(), AllocError>
         ensures { self.new ≡ self.old }
     {
         look_at_all(alloc, &self.world, &mut self.ready, &mut self.looks)
@@ -329,10 +333,69 @@ impl Waking {
     /// # Errors
     ///
     /// Want of memory alone.
-    pub(crate) fn plain(&self, alloc: Global) -> Result<Option<Move>, AllocError>
+    pub fn plain(&self, alloc: Global) -> Result<Option<Move>, AllocError>
         ensures { IfOk result (λ m. IsPlainMove (setting_of self.now.scenario) self.now.history m) }
     {
         plain_by(alloc, &self.world, &self.ready)
+    }
+
+    /// The next step of the script, where one is left and does not wait; `None` exactly where it is not so.
+    ///
+    /// # Errors
+    ///
+    /// Want of memory alone.
+    pub fn next_script(&self, alloc: Global) -> Result<Option<Move>, AllocError>
+        ensures { IfOk result (λ m. IsNextScript (setting_of self.now.scenario) self.now.history m) }
+    {
+        if is_step_ready(alloc, &self.world, &self.ready)? {
+            return Ok(Some(Move::Script));
+        }
+        Ok(None)
+    }
+
+    /// The delivery to the newest accepted write of a kind of which a role was not told, by role, then by kind; `None`
+    /// exactly where each role that runs was told of all that is not held from it.
+    ///
+    /// # Errors
+    ///
+    /// Want of memory alone.
+    pub fn next_delivery(&self, alloc: Global) -> Result<Option<Move>, AllocError>
+        ensures { IfOk result (λ m. IsNextDelivery (setting_of self.now.scenario) self.now.history m) }
+    {
+        match first_delivery(alloc, &self.world)? {
+            Some(Delivery { role, kind }) => {
+                let to = self.world.log().last_of_kind(kind);
+                Ok(Some(Move::Deliver { role, kind, to }))
+            }
+            None => Ok(None),
+        }
+    }
+
+    /// The begin of a pass that is worth it: of the first role with a key on which it may begin, and has something to do or
+    /// sees something new, on the first such key. `None` exactly where there is none. Other passes may be open.
+    ///
+    /// # Errors
+    ///
+    /// Want of memory alone.
+    pub fn next_begin(&self, alloc: Global) -> Result<Option<Move>, AllocError>
+        ensures { IfOk result (λ m. IsNextBegin (setting_of self.now.scenario) self.now.history m) }
+    {
+        match first_begin(alloc, &self.world, &self.ready)? {
+            Some(Beginning { role, key }) => Ok(Some(Move::Begin { role, key })),
+            None => Ok(None),
+        }
+    }
+
+    /// Whether the run is finished: all steps of the script were made, with all that they have happen, and nothing is left
+    /// to do.
+    ///
+    /// # Errors
+    ///
+    /// Want of memory alone.
+    pub fn is_finished(&self, alloc: Global) -> Result<bool, AllocError>
+        ensures { IfOk result (λ b. IsTrue b ↔ IsFinished (setting_of self.now.scenario) self.now.history) }
+    {
+        is_finished(alloc, &self.world, &self.ready)
     }
 
     /// Makes one move, as `World::step` does. Of a kind the role is told of all writes.
@@ -340,7 +403,7 @@ impl Waking {
     /// # Errors
     ///
     /// Want of memory alone, which leaves the world as it was.
-    pub(crate) fn step(&mut self, alloc: Global, step: Move) -> Result<Stepped, AllocError>
+    pub fn step(&mut self, alloc: Global, step: Move) -> Result<Stepped, AllocError>
         requires { IsToNewest (setting_of self.old.scenario) self.old.history step }
         ensures answer { IfOk result (λ r. Answers (setting_of self.old.scenario) self.old.history step r) }
         ensures leaves { IfOk result (λ r. Leaves (setting_of self.old.scenario) self.old.history step r self.new.history) }

@@ -10,23 +10,23 @@ all_kept : (held : Option (List ℕ)) → Keeps held held
 all_kept None = tt
 all_kept (Some xs) = refl
 
-by_cause : (alone : Bool) (status : Status) (bytes : List ℕ) (held : Option (List ℕ))
-    → Refuses bytes status → IsShort bytes → ExplainsRun alone status bytes held held
-by_cause alone Done bytes held cause short = absurd cause
-by_cause alone WriteFault bytes held cause short = absurd cause
-by_cause alone TooLong bytes held cause short = absurd cause
-by_cause alone NotJson bytes held cause short = (short, (cause, all_kept held))
-by_cause alone (BadScenario path) bytes held cause short = (short, (cause, all_kept held))
-by_cause alone Spent bytes held cause short = (short, (cause, all_kept held))
-by_cause alone ReadFault bytes held cause short = all_kept held
-by_cause alone NoMemory bytes held cause short = all_kept held
-by_cause alone Usage bytes held cause short = absurd cause
+by_cause : (workers : ℕ) (alone : Bool) (status : Status) (bytes : List ℕ) (held : Option (List ℕ))
+    → Refuses bytes status → IsShort bytes → ExplainsRun workers alone status bytes held held
+by_cause workers alone Done bytes held cause short = absurd cause
+by_cause workers alone WriteFault bytes held cause short = absurd cause
+by_cause workers alone TooLong bytes held cause short = absurd cause
+by_cause workers alone NotJson bytes held cause short = (short, (cause, all_kept held))
+by_cause workers alone (BadScenario path) bytes held cause short = (short, (cause, all_kept held))
+by_cause workers alone Spent bytes held cause short = (short, (cause, all_kept held))
+by_cause workers alone ReadFault bytes held cause short = all_kept held
+by_cause workers alone NoMemory bytes held cause short = all_kept held
+by_cause workers alone Usage bytes held cause short = absurd cause
 
 -- all bytes that there were are those that were read
-pub told_cause : (alone : Bool) (status : Status) (bytes : List ℕ) (old now held : Option (List ℕ))
-    → Consumes old now bytes → IsAtEnd now → Refuses bytes status → IfSome old IsShort → IfSome old (λ all. ExplainsRun alone status all held held)
-told_cause alone status bytes None now held content end cause short = tt
-told_cause alone status bytes (Some xs) None held content end cause short = absurd content
-told_cause alone status bytes (Some xs) (Some ys) held content end cause short =
+pub told_cause : (workers : ℕ) (alone : Bool) (status : Status) (bytes : List ℕ) (old now held : Option (List ℕ))
+    → Consumes old now bytes → IsAtEnd now → Refuses bytes status → IfSome old IsShort → IfSome old (λ all. ExplainsRun workers alone status all held held)
+told_cause workers alone status bytes None now held content end cause short = tt
+told_cause workers alone status bytes (Some xs) None held content end cause short = absurd content
+told_cause workers alone status bytes (Some xs) (Some ys) held content end cause short =
     let whole : xs ≡ bytes = content ∙ ap (λ (l : List ℕ). bytes ++ l) end ∙ append-nil bytes in
-    by_cause alone status xs held (subst (λ (all : List ℕ). Refuses all status) (sym whole) cause) short
+    by_cause workers alone status xs held (subst (λ (all : List ℕ). Refuses all status) (sym whole) cause) short

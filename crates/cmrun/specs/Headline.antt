@@ -29,33 +29,34 @@ abbrev pub printed_lines : Bool → Data → List Entry → Summary → List (Li
 printed_lines false value history summary = history_lines value history summary
 printed_lines true value history summary = summary_lines summary
 
--- the text is that of a finished history of the scenario, which this value says: of the one that the plain order makes
-pub record RunsOn (alone : Bool) (value : Data) (scenario : Scenario) (text : List ℕ) : Type 0 where
+-- the text is that of a finished history of the scenario, which this value says: by 0 workers of the one that the plain order makes, by
+-- more of them whatever their interleaving made
+pub record RunsOn (workers : ℕ) (alone : Bool) (value : Data) (scenario : Scenario) (text : List ℕ) : Type 0 where
   pub history : List Entry
   pub run : IsRun (setting_of scenario) history
   pub rights : KeepsRights (setting_of scenario) history
   pub safe : IsSafe (setting_of scenario) history
   pub complete : CompletesIssuing (setting_of scenario) history
   pub order : IsInOrder (setting_of scenario) history
-  pub plain : IsPlain (setting_of scenario) history
+  pub plain : workers ≡ 0 → IsPlain (setting_of scenario) history
   pub finished : IsFinished (setting_of scenario) history
   pub is : text ≡ joined (printed_lines alone value history (summary_at (setting_of scenario) history))
 
 -- the value is that of a scenario, and the text that of a finished history of it
-pub record Answers (alone : Bool) (value : Data) (text : List ℕ) : Type 0 where
+pub record Answers (workers : ℕ) (alone : Bool) (value : Data) (text : List ℕ) : Type 0 where
   pub scenario : Scenario
   pub form : scenario_at value ≡ Ok scenario
-  pub runs : RunsOn alone value scenario text
+  pub runs : RunsOn workers alone value scenario text
 
 -- the bytes are JSON of a scenario, and the text answers it
-pub record IsRunOf (alone : Bool) (bytes text : List ℕ) : Type 0 where
+pub record IsRunOf (workers : ℕ) (alone : Bool) (bytes text : List ℕ) : Type 0 where
   pub value : Data
   pub reads : Reads bytes value
-  pub answer : Answers alone value text
+  pub answer : Answers workers alone value text
 
 -- the text is that of a finished history of the generated scenario of so many Certificates
-abbrev pub IsLoadOf : Bool → ℕ → List ℕ → Type 0
-IsLoadOf alone count text = RunsOn alone (scenario_tree (load_setup count)) (load_setup count) text
+abbrev pub IsLoadOf : ℕ → Bool → ℕ → List ℕ → Type 0
+IsLoadOf workers alone count text = RunsOn workers alone (scenario_tree (load_setup count)) (load_setup count) text
 
 -- the bytes are no JSON
 abbrev pub HasNoReading : List ℕ → Type 0

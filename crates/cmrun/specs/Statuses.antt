@@ -57,35 +57,35 @@ IsLong bytes = 16777216 < length bytes
 
 -- What a status says, at `run`, of the bytes that could be read, and of what the sink held and holds. An input that is too
 -- long is answered by TooLong, unless a fault or want of memory comes before.
-abbrev pub ExplainsRun : Bool → Status → List ℕ → Option (List ℕ) → Option (List ℕ) → Type 0
-ExplainsRun alone Done bytes old new = IsShort bytes × ((text : List ℕ) × IsRunOf alone bytes text × Appends old new text)
-ExplainsRun alone WriteFault bytes old new = IsShort bytes × ((text : List ℕ) × IsRunOf alone bytes text × AppendsPrefix old new text)
-ExplainsRun alone TooLong bytes old new = IsLong bytes × Keeps old new
-ExplainsRun alone NotJson bytes old new = IsShort bytes × (HasNoReading bytes × Keeps old new)
-ExplainsRun alone (BadScenario path) bytes old new = IsShort bytes × (FailsAt bytes path × Keeps old new)
-ExplainsRun alone Spent bytes old new = IsShort bytes × (SpendsAll bytes × Keeps old new)
-ExplainsRun alone ReadFault bytes old new = Keeps old new
-ExplainsRun alone NoMemory bytes old new = Keeps old new
-ExplainsRun alone Usage bytes old new = ⊥
+abbrev pub ExplainsRun : ℕ → Bool → Status → List ℕ → Option (List ℕ) → Option (List ℕ) → Type 0
+ExplainsRun workers alone Done bytes old new = IsShort bytes × ((text : List ℕ) × IsRunOf workers alone bytes text × Appends old new text)
+ExplainsRun workers alone WriteFault bytes old new = IsShort bytes × ((text : List ℕ) × IsRunOf workers alone bytes text × AppendsPrefix old new text)
+ExplainsRun workers alone TooLong bytes old new = IsLong bytes × Keeps old new
+ExplainsRun workers alone NotJson bytes old new = IsShort bytes × (HasNoReading bytes × Keeps old new)
+ExplainsRun workers alone (BadScenario path) bytes old new = IsShort bytes × (FailsAt bytes path × Keeps old new)
+ExplainsRun workers alone Spent bytes old new = IsShort bytes × (SpendsAll bytes × Keeps old new)
+ExplainsRun workers alone ReadFault bytes old new = Keeps old new
+ExplainsRun workers alone NoMemory bytes old new = Keeps old new
+ExplainsRun workers alone Usage bytes old new = ⊥
 
 -- What a status says, at `load`, of what the sink held and holds. No other status comes: what is not read can't be too
 -- long, no JSON or no scenario, and can't fail to be read.
-abbrev pub ExplainsLoad : Bool → ℕ → Status → Option (List ℕ) → Option (List ℕ) → Type 0
-ExplainsLoad alone count Done old new = (text : List ℕ) × IsLoadOf alone count text × Appends old new text
-ExplainsLoad alone count WriteFault old new = (text : List ℕ) × IsLoadOf alone count text × AppendsPrefix old new text
-ExplainsLoad alone count Spent old new = Spends (load_setup count) × Keeps old new
-ExplainsLoad alone count NoMemory old new = Keeps old new
-ExplainsLoad alone count TooLong old new = ⊥
-ExplainsLoad alone count NotJson old new = ⊥
-ExplainsLoad alone count (BadScenario path) old new = ⊥
-ExplainsLoad alone count ReadFault old new = ⊥
-ExplainsLoad alone count Usage old new = ⊥
+abbrev pub ExplainsLoad : ℕ → Bool → ℕ → Status → Option (List ℕ) → Option (List ℕ) → Type 0
+ExplainsLoad workers alone count Done old new = (text : List ℕ) × IsLoadOf workers alone count text × Appends old new text
+ExplainsLoad workers alone count WriteFault old new = (text : List ℕ) × IsLoadOf workers alone count text × AppendsPrefix old new text
+ExplainsLoad workers alone count Spent old new = Spends (load_setup count) × Keeps old new
+ExplainsLoad workers alone count NoMemory old new = Keeps old new
+ExplainsLoad workers alone count TooLong old new = ⊥
+ExplainsLoad workers alone count NotJson old new = ⊥
+ExplainsLoad workers alone count (BadScenario path) old new = ⊥
+ExplainsLoad workers alone count ReadFault old new = ⊥
+ExplainsLoad workers alone count Usage old new = ⊥
 
 -- What a status says of what was left to read, where that is told, and of what the sink held and holds.
 abbrev pub Explains : Option Command → Status → Option (List ℕ) → Option (List ℕ) → Option (List ℕ) → Type 0
 Explains None status left old new = Keeps old new
-Explains (Some (Run workers alone)) status left old new = IfSome left (λ bytes. ExplainsRun alone status bytes old new)
-Explains (Some (Load count workers alone)) status left old new = ExplainsLoad alone count status old new
+Explains (Some (Run workers alone)) status left old new = IfSome left (λ bytes. ExplainsRun workers alone status bytes old new)
+Explains (Some (Load count workers alone)) status left old new = ExplainsLoad workers alone count status old new
 
 -- What a status says, at `run`, of what was left of the source and of what is left: at a fault or want of memory what stands
 -- behind at most one byte above the limit, and at TooLong what stands behind exactly that byte. Else it was read to its end.

@@ -3,7 +3,8 @@
 // `cmrun run` reads a scenario from standard input, runs its script and its controllers on an empty store,
 // and prints the history of the run and a summary to standard output. `cmrun load COUNT` does the same with a
 // scenario that it makes, of COUNT Certificates that are issued and renewed, and reads nothing. With `--summary`
-// the summary alone is printed. `--workers N` is read, and changes nothing: every run is that of the plain order.
+// the summary alone is printed. `--workers N` says how many threads take passes of controllers, 4 where it is not given;
+// with 0 there is no thread but the first, and the run is that of the plain order.
 #![tactic(auto)]
 
 mod memory;
@@ -14,6 +15,7 @@ mod words;
 
 use cmc_answers::ScriptedSigner;
 use cmc_keys::ScriptedKeys;
+use cmc_workers::NoGate;
 use sink::StdSink;
 use source::StdSource;
 use std::alloc::AllocError;
@@ -37,12 +39,14 @@ fn main(rt: HostRuntime) -> ExitCode {
             let mut source = StdSource::new(rt.stdin());
             let mut sink = StdSink::new(rt.stdout());
             run(
+                &rt,
                 rt.alloc(),
                 words.as_slice(),
                 &mut source,
                 &mut sink,
                 &ScriptedKeys,
                 &ScriptedSigner,
+                &NoGate,
             )
         }
         Err(_) => Status::NoMemory,

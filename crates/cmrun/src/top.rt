@@ -4,9 +4,10 @@ ghost use Rattle.serde_json.specs.Written.{has_float};
 ghost use Rattle.std.specs.Prelude.{◌≡◌, ◌≢◌, ◌≤◌, ◌↔◌, true, false, None, IfOk, IfErr, IfSome};
 ghost use Rattle.std.specs.Str.{IsUtf8};
 ghost use Rattle.cmc_report.specs.Text.{joined};
-ghost use Rattle.cmc_plain.specs.Driving.{EndsPlainly};
+ghost use Rattle.cmc_plain.specs.Histories.{IsPlain};
 ghost use Rattle.cmc_rules.specs.Runs.{IsFinished};
 ghost use Rattle.cmc_scenario.specs.Loads.{load_setup};
+ghost use Rattle.cmc_world.specs.Kept.{setting_of};
 ghost use Rattle.cmrun.specs.Headline.{Answers, IsLoadOf, IsRunOf, RunsOn};
 ghost use Rattle.cmrun.specs.Statuses.{Explains, ExplainsLoad, ExplainsRun, Leaves, LeavesRun, Refuses, RefusesValue, SpendsOn, exit_code, message_of, path_of, reads_failed, reads_nothing, writes_failed, writes_nothing};
 ghost use Rattle.cmrun.specs.Words.{command_of};
@@ -17,13 +18,16 @@ use crate::words::{Command, read_words};
 use cmc_answers::Signer;
 use cmc_keys::KeyMaker;
 use cmc_meta::Text;
-use cmc_plain::{Driven, drive_plain, summary};
+use cmc_plain::summary;
 use cmc_report::{Lines, history_text, summary_text};
 use cmc_scenario::{BadScenario, Scenario, generate, read, value_of_scenario};
+use cmc_workers::{Driven, Gate, drive};
 use cmc_world::World;
 use serde_json::{Category, Value};
 use std::alloc::{AllocError, Global};
 use std::str;
+use std::sync::Wait;
+use std::thread::Threads;
 
 /// How a run ended.
 #[derive(Drop)]
@@ -59,10 +63,17 @@ impl From<AllocError> for Status {
 }
 
 /// The lines of a finished world, whose scenario the value is, or the line of its summary alone.
-fn lines_of(alloc: Global, alone: bool, value: &Value, world: &World) -> Result<Lines, AllocError>
+fn lines_of(
+    alloc: Global,
+    workers: u32,
+    alone: bool,
+    value: &Value,
+    world: &World,
+) -> Result<Lines, AllocError>
     requires float_free { has_float (view value.now) ≡ false }
-    requires ends { EndsPlainly world.now.scenario IsFinished world.now }
-    ensures { IfOk result (λ lines. RunsOn alone (view value.now) world.now.scenario (joined lines)) }
+    requires finished { IsFinished (setting_of world.now.scenario) world.now.history }
+    requires plain { workers ≡ 0 → IsPlain (setting_of world.now.scenario) world.now.history }
+    ensures { IfOk result (λ lines. RunsOn workers alone (view value.now) world.now.scenario (joined lines)) }
 {
     world.is_run();
     let counts = summary(alloc, world)?;
@@ -73,56 +84,65 @@ fn lines_of(alloc: Global, alone: bool, value: &Value, world: &World) -> Result<
 }
 
 /// The lines of the run of a scenario, which the value is.
-fn run_of<M: KeyMaker, N: Signer>(
+fn run_of<R: Threads + Wait + Sync, M: KeyMaker, N: Signer, G: Gate>(
+    rt: &R,
     alloc: Global,
+    workers: u32,
     alone: bool,
     value: &Value,
     scenario: Scenario,
     keys: &M,
     signer: &N,
+    gate: &G,
 ) -> Result<Lines, Status>
     requires float_free { has_float (view value.now) ≡ false }
-    ensures ok { IfOk result (λ lines. RunsOn alone (view value.now) scenario (joined lines)) }
+    ensures ok { IfOk result (λ lines. RunsOn workers alone (view value.now) scenario (joined lines)) }
     ensures err { IfErr result (λ status. SpendsOn scenario status) }
 {
-    match drive_plain(alloc, scenario, keys, signer)? {
-        Driven::Finished(world) => Ok(lines_of(alloc, alone, value, &world)?),
+    match drive(rt, alloc, scenario, keys, signer, gate, workers)? {
+        Driven::Finished(world) => Ok(lines_of(alloc, workers, alone, value, &world)?),
         Driven::Spent(_) => Err(Status::Spent),
     }
 }
 
 /// The lines of the run of a value.
-fn answer<M: KeyMaker, N: Signer>(
+fn answer<R: Threads + Wait + Sync, M: KeyMaker, N: Signer, G: Gate>(
+    rt: &R,
     alloc: Global,
+    workers: u32,
     alone: bool,
     value: &Value,
     keys: &M,
     signer: &N,
+    gate: &G,
 ) -> Result<Lines, Status>
-    ensures ok { IfOk result (λ lines. Answers alone (view value.now) (joined lines)) }
+    ensures ok { IfOk result (λ lines. Answers workers alone (view value.now) (joined lines)) }
     ensures err { IfErr result (λ status. RefusesValue (view value.now) status) }
 {
     match read(alloc, value) {
-        Ok(scenario) => run_of(alloc, alone, value, scenario, keys, signer),
+        Ok(scenario) => run_of(rt, alloc, workers, alone, value, scenario, keys, signer, gate),
         Err(BadScenario::Path(path)) => Err(Status::BadScenario(path)),
         Err(BadScenario::NoMemory) => Err(Status::NoMemory),
     }
 }
 
 /// The lines of the run of a text.
-fn answer_text<M: KeyMaker, N: Signer>(
+fn answer_text<R: Threads + Wait + Sync, M: KeyMaker, N: Signer, G: Gate>(
+    rt: &R,
     alloc: Global,
+    workers: u32,
     alone: bool,
     text: &str,
     keys: &M,
     signer: &N,
+    gate: &G,
 ) -> Result<Lines, Status>
     requires { IsUtf8 text.now }
-    ensures ok { IfOk result (λ lines. IsRunOf alone text.now (joined lines)) }
+    ensures ok { IfOk result (λ lines. IsRunOf workers alone text.now (joined lines)) }
     ensures err { IfErr result (λ status. Refuses text.now status) }
 {
     match Value::from_str(alloc, text) {
-        Ok(value) => answer(alloc, alone, &value, keys, signer),
+        Ok(value) => answer(rt, alloc, workers, alone, &value, keys, signer, gate),
         Err(error) => match error.classify() {
             Category::Memory => Err(Status::NoMemory),
             _ => Err(Status::NotJson),
@@ -131,38 +151,44 @@ fn answer_text<M: KeyMaker, N: Signer>(
 }
 
 /// The lines of the run of some bytes.
-fn answer_bytes<M: KeyMaker, N: Signer>(
+fn answer_bytes<R: Threads + Wait + Sync, M: KeyMaker, N: Signer, G: Gate>(
+    rt: &R,
     alloc: Global,
+    workers: u32,
     alone: bool,
     bytes: &[u8],
     keys: &M,
     signer: &N,
+    gate: &G,
 ) -> Result<Lines, Status>
-    ensures ok { IfOk result (λ lines. IsRunOf alone bytes.now (joined lines)) }
+    ensures ok { IfOk result (λ lines. IsRunOf workers alone bytes.now (joined lines)) }
     ensures err { IfErr result (λ status. Refuses bytes.now status) }
 {
     match str::from_utf8(bytes) {
-        Ok(text) => answer_text(alloc, alone, text, keys, signer),
+        Ok(text) => answer_text(rt, alloc, workers, alone, text, keys, signer, gate),
         Err(_) => Err(Status::NotJson),
     }
 }
 
 /// The lines of the run of the generated scenario of so many Certificates.
-fn load_lines<M: KeyMaker, N: Signer>(
+fn load_lines<R: Threads + Wait + Sync, M: KeyMaker, N: Signer, G: Gate>(
+    rt: &R,
     alloc: Global,
+    workers: u32,
     alone: bool,
     count: u32,
     keys: &M,
     signer: &N,
+    gate: &G,
 ) -> Result<Lines, Status>
     requires some { 1 ≤ count }
     requires few { count ≤ 200 }
-    ensures ok { IfOk result (λ lines. IsLoadOf alone count (joined lines)) }
+    ensures ok { IfOk result (λ lines. IsLoadOf workers alone count (joined lines)) }
     ensures err { IfErr result (λ status. SpendsOn (load_setup count) status) }
 {
     let scenario = generate(alloc, count)?;
     let value = value_of_scenario(alloc, &scenario)?;
-    run_of(alloc, alone, &value, scenario, keys, signer)
+    run_of(rt, alloc, workers, alone, &value, scenario, keys, signer, gate)
 }
 
 /// The exit status of the program.
@@ -208,15 +234,25 @@ pub fn failing_path(status: &Status) -> &str
 }
 
 /// Runs the scenario that the source gives.
-fn run_source<S: Source, K: Sink, M: KeyMaker, N: Signer>(
+fn run_source<
+    R: Threads + Wait + Sync,
+    S: Source,
+    K: Sink,
+    M: KeyMaker,
+    N: Signer,
+    G: Gate,
+>(
+    rt: &R,
     alloc: Global,
+    workers: u32,
     alone: bool,
     source: &mut S,
     sink: &mut K,
     keys: &M,
     signer: &N,
+    gate: &G,
 ) -> Status
-    ensures told { IfSome (S.left source.old) (λ bytes. ExplainsRun alone result bytes (K.holds sink.old) (K.holds sink.new)) }
+    ensures told { IfSome (S.left source.old) (λ bytes. ExplainsRun workers alone result bytes (K.holds sink.old) (K.holds sink.new)) }
     ensures left { LeavesRun result (S.left source.old) (S.left source.new) }
     ensures unwritten { writes_nothing result ≡ true → sink.new ≡ sink.old }
     ensures words { result ≢ Status.Usage }
@@ -229,7 +265,16 @@ fn run_source<S: Source, K: Sink, M: KeyMaker, N: Signer>(
         Err(ReadError::Fault) => return Status::ReadFault,
         Err(ReadError::TooLong) => return Status::TooLong,
     };
-    let lines = match answer_bytes(alloc, alone, bytes.as_slice(), keys, signer) {
+    let lines = match answer_bytes(
+        rt,
+        alloc,
+        workers,
+        alone,
+        bytes.as_slice(),
+        keys,
+        signer,
+        gate,
+    ) {
         Ok(lines) => lines,
         Err(status) => return status,
     };
@@ -240,21 +285,24 @@ fn run_source<S: Source, K: Sink, M: KeyMaker, N: Signer>(
 }
 
 /// Runs the generated scenario of so many Certificates.
-fn run_load<K: Sink, M: KeyMaker, N: Signer>(
+fn run_load<R: Threads + Wait + Sync, K: Sink, M: KeyMaker, N: Signer, G: Gate>(
+    rt: &R,
     alloc: Global,
+    workers: u32,
     alone: bool,
     count: u32,
     sink: &mut K,
     keys: &M,
     signer: &N,
+    gate: &G,
 ) -> Status
     requires some { 1 ≤ count }
     requires few { count ≤ 200 }
-    ensures told { ExplainsLoad alone count result (K.holds sink.old) (K.holds sink.new) }
+    ensures told { ExplainsLoad workers alone count result (K.holds sink.old) (K.holds sink.new) }
     ensures unwritten { writes_nothing result ≡ true → sink.new ≡ sink.old }
     ensures write { K.faults sink.new ≡ writes_failed result (K.faults sink.old) }
 {
-    let lines = match load_lines(alloc, alone, count, keys, signer) {
+    let lines = match load_lines(rt, alloc, workers, alone, count, keys, signer, gate) {
         Ok(lines) => lines,
         Err(status) => return status,
     };
@@ -267,21 +315,25 @@ fn run_load<K: Sink, M: KeyMaker, N: Signer>(
 /// Does all that the program does. With `run` it reads a scenario from the source, and with `load` it makes one of
 /// so many Certificates, and reads nothing. It runs the scenario on an empty store and writes the history and its
 /// summary to the sink, with `--summary` the line of the summary alone. `keys` makes keys and signs requests, and
-/// `signer` answers for the issuers, whatever they answer. With every number of workers the run is that of the
-/// plain order.
+/// `signer` answers for the issuers, whatever they answer; the gate is called before each such piece of work. With 0
+/// workers the run is that of the plain order, and no thread is started. With more of them, so many threads of the
+/// runtime `rt` take passes, and which history is printed depends on how they come; all that is promised of it is
+/// promised of each.
 ///
 /// The lines are made before the first of them is written, each as one piece. Each status has its cause,
 /// as its variant says; at `WriteFault` some first part of the text was written, and at every status but
 /// `Done` and `WriteFault` nothing was. `Usage` comes exactly where the words are not of the command line's form. At
 /// `run` reading stopped at the first byte above the limit, at the end, or at the read that failed; else nothing was
 /// read.
-pub fn run<S: Source, K: Sink, M: KeyMaker, N: Signer>(
+pub fn run<R: Threads + Wait + Sync, S: Source, K: Sink, M: KeyMaker, N: Signer, G: Gate>(
+    rt: &R,
     alloc: Global,
     words: &[String],
     source: &mut S,
     sink: &mut K,
     keys: &M,
     signer: &N,
+    gate: &G,
 ) -> Status
     ensures told { Explains (command_of words.now) result (S.left source.old) (K.holds sink.old) (K.holds sink.new) }
     ensures left { Leaves (command_of words.now) result (S.left source.old) (S.left source.new) }
@@ -293,11 +345,13 @@ pub fn run<S: Source, K: Sink, M: KeyMaker, N: Signer>(
 {
     match read_words(words) {
         None => Status::Usage,
-        Some(Command::Run { summary, .. }) => {
-            run_source(alloc, summary, source, sink, keys, signer)
+        Some(Command::Run { workers, summary }) => {
+            run_source(rt, alloc, workers, summary, source, sink, keys, signer, gate)
         }
-        Some(Command::Load { count, summary, .. }) => {
-            run_load(alloc, summary, count, sink, keys, signer)
-        }
+        Some(Command::Load {
+            count,
+            workers,
+            summary,
+        }) => run_load(rt, alloc, workers, summary, count, sink, keys, signer, gate),
     }
 }

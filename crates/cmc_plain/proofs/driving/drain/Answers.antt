@@ -3,9 +3,9 @@ use Rattle.cmc_world.specs.Kept.{setting_of}
 use Rattle.cmc_plain.specs.declared.driving.Turn.{Turn}
 use Rattle.cmc_plain.specs.Driving.{IsTurn}
 use Rattle.cmc_plain.proofs.Turns.{driving_on}
-use Rattle.cmc_plain.proofs.driving.drive.Goals as goal
+use Rattle.cmc_plain.proofs.driving.drain.Goals as goal
 
 pub loop-turn-preserved : goal.loop-turn-preserved
 loop-turn-preserved g c =
-    driving_on c.args.waking.scenario c.loop-turn.waking c.take_turn.new.waking c.loop-turn._turn c.loop-turn.invariant c.in_ok-take_turn.ensures.scenario
+    driving_on c.args.waking c.loop-turn.waking c.take_turn.new.waking c.loop-turn._turn c.loop-turn.invariant c.in_ok-take_turn.ensures.scenario
     (subst (λ (t : Turn). IsTurn (setting_of c.loop-turn.waking.scenario) c.loop-turn.waking.history c.take_turn.new.waking.history t) c.in-On.is c.in_ok-take_turn.ensures.turn)

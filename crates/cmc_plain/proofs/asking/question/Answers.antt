@@ -2,8 +2,8 @@ use Rattle.std.proofs.Common.{ap}
 use Rattle.std.specs.Option.{option_copied}
 use Rattle.cmc_world.specs.Kept.{setting_of}
 use Rattle.cmc_plain.proofs.Asking.{question_made}
-use Rattle.cmc_plain.proofs.giving.value_of.Goals as goal
+use Rattle.cmc_plain.proofs.asking.question.Goals as goal
 
-pub value_at-requires-after_bounds : goal.value_at-requires-after_bounds
-value_at-requires-after_bounds g c κs within =
+pub question_at-requires : goal.question_at-requires
+question_at-requires c =
     question_made (setting_of c.args.world.now.scenario) c.args.world.now.history c.args.pass c.in-Some.open.now _ _ c.is_run.ensures.run (c.passes.ensures c.args.pass) c.get.ensures (ap option_copied c.in-Some.is)

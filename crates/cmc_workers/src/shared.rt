@@ -1,0 +1,237 @@
+//! What lies under the lock, and what a thread does while it holds it.
+//!
+//! Each change is a step of the world, so whatever the threads do, the history is one of a run: the world's type keeps
+//! that. A thread does as much as it can in one hold, since to wake others is dearer than to take the lock.
+ghost use Rattle.std.specs.Prelude.{◌≡◌, ◌↔◌, IsTrue, IfOk, IfSome, length};
+ghost use Rattle.cmc_world.specs.Answers.{Answers, Leaves};
+ghost use Rattle.cmc_world.specs.Kept.{setting_of};
+ghost use Rattle.cmc_plain.specs.Ready.{IsToNewest};
+ghost use Rattle.cmc_workers.specs.Driving.{IsAsked};
+
+use cmc_meta::Key;
+use cmc_objects::{Order, Role};
+use cmc_pass::Given;
+use cmc_plain::{Point, Waking, point_of, question};
+use cmc_world::{Move, Stepped};
+use std::alloc::{AllocError, Global};
+
+/// What lies under the lock: a world with its ready keys, and whether all is over for the threads.
+#[derive(Drop)]
+pub(crate) struct Shared {
+    pub waking: Waking,
+    pub over: bool,
+}
+
+/// A pass that a thread has begun, and alone goes on with.
+#[derive(Clone, Copy)]
+pub(crate) struct Taken {
+    pub pass: u64,
+    pub incarnation: u64,
+}
+
+/// A question at which a pass waits.
+#[derive(Drop)]
+pub(crate) struct Question {
+    pub taken: Taken,
+    pub order: Order,
+    pub point: Point,
+}
+
+/// A value for the question of a pass.
+#[derive(Drop)]
+pub(crate) struct Answer {
+    pub taken: Taken,
+    pub given: Given,
+}
+
+impl Shared {
+    /// The world at its beginning, with all of its work to do.
+    pub(crate) fn new(waking: Waking) -> Shared
+        ensures { result.waking ≡ waking }
+    {
+        Shared {
+            waking,
+            over: false,
+        }
+    }
+
+    /// How many entries the history has.
+    pub(crate) fn entries(&self) -> u64
+        ensures { result ≡ length self.now.waking.history }
+    {
+        self.waking.world().history().len()
+    }
+
+    /// How many moves can be made at most.
+    fn limit(&self) -> u64
+        ensures { result ≡ self.now.waking.scenario.events }
+    {
+        self.waking.world().scenario().events()
+    }
+
+    /// Makes a move. Where its entries do not fit, all is over.
+    fn make(&mut self, alloc: Global, step: Move) -> Result<Stepped, AllocError>
+        requires { IsToNewest (setting_of self.old.waking.scenario) self.old.waking.history step }
+        ensures answer { IfOk result (λ r. Answers (setting_of self.old.waking.scenario) self.old.waking.history step r) }
+        ensures leaves { IfOk result (λ r. Leaves (setting_of self.old.waking.scenario) self.old.waking.history step r self.new.waking.history) }
+        ensures scenario { self.new.waking.scenario ≡ self.old.waking.scenario }
+    {
+        let answer = self.waking.step(alloc, step)?;
+        if matches!(answer, Stepped::Spent { .. }) {
+            self.over = true;
+        }
+        Ok(answer)
+    }
+
+    /// The question at which the pass waits, if it waits at one.
+    fn question_of(&self, taken: Taken) -> Result<Option<Question>, AllocError>
+        ensures { IfOk result (λ q. IfSome q (λ asked. IsAsked self.now.waking asked)) }
+    {
+        let world = self.waking.world();
+        match question(world, taken.pass)? {
+            Some(order) => {
+                let point = point_of(world.history(), taken.pass, &order);
+                Ok(Some(Question {
+                    taken,
+                    order,
+                    point,
+                }))
+            }
+            None => Ok(None),
+        }
+    }
+
+    /// Has the pass go on, up to a question or to its end. A pass whose role was stopped meanwhile is let go.
+    fn go_on(&mut self, alloc: Global, taken: Taken) -> Result<Option<Question>, AllocError>
+        ensures asked { IfOk result (λ q. IfSome q (λ asked. IsAsked self.new.waking asked)) }
+        ensures scenario { self.new.waking.scenario ≡ self.old.waking.scenario }
+    {
+        for _move in 0..=self.limit() {
+            let step = Move::Next {
+                pass: taken.pass,
+                incarnation: taken.incarnation,
+            };
+            match self.make(alloc, step)? {
+                Stepped::Done => {}
+                Stepped::Order { .. } => return self.question_of(taken),
+                _ => return Ok(None),
+            }
+        }
+        Ok(None)
+    }
+
+    /// Begins a pass of the role on the key; `None` where it is not begun.
+    fn begin_on(&mut self, alloc: Global, role: Role, key: Key) -> Result<Option<Taken>, AllocError>
+        ensures { self.new.waking.scenario ≡ self.old.waking.scenario }
+    {
+        let incarnation = self.waking.world().incarnation(role);
+        match self.make(alloc, Move::Begin { role, key })? {
+            Stepped::Done => Ok(Some(Taken {
+                pass: self.waking.world().passes_begun(),
+                incarnation,
+            })),
+            _ => Ok(None),
+        }
+    }
+
+    /// Begins the first pass that is worth it; `None` where there is none.
+    fn begin(&mut self, alloc: Global) -> Result<Option<Taken>, AllocError>
+        ensures { self.new.waking.scenario ≡ self.old.waking.scenario }
+    {
+        self.waking.look(alloc)?;
+        match self.waking.next_begin(alloc)? {
+            Some(Move::Begin { role, key }) => self.begin_on(alloc, role, key),
+            _ => Ok(None),
+        }
+    }
+
+    /// Gives a value to the pass that asked for it, and has it go on. The value is dropped where the role of the pass was
+    /// stopped meanwhile.
+    fn give(&mut self, alloc: Global, answer: Answer) -> Result<Option<Question>, AllocError>
+        ensures asked { IfOk result (λ q. IfSome q (λ asked. IsAsked self.new.waking asked)) }
+        ensures scenario { self.new.waking.scenario ≡ self.old.waking.scenario }
+    {
+        let Answer { taken, given } = answer;
+        let step = Move::Give {
+            pass: taken.pass,
+            incarnation: taken.incarnation,
+            given,
+        };
+        match self.make(alloc, step)? {
+            Stepped::Done => self.go_on(alloc, taken),
+            _ => Ok(None),
+        }
+    }
+
+    /// Begins passes, one after another, and has each go on, up to the first question. `None` where no pass can begin any
+    /// more, or all is over.
+    fn take(&mut self, alloc: Global) -> Result<Option<Question>, AllocError>
+        ensures asked { IfOk result (λ q. IfSome q (λ asked. IsAsked self.new.waking asked)) }
+        ensures scenario { self.new.waking.scenario ≡ self.old.waking.scenario }
+    {
+        for _pass in 0..=self.limit() {
+            if self.over {
+                return Ok(None);
+            }
+            let Some(taken) = self.begin(alloc)? else {
+                return Ok(None);
+            };
+            if let Some(question) = self.go_on(alloc, taken)? {
+                return Ok(Some(question));
+            }
+        }
+        Ok(None)
+    }
+
+    /// What one hold of the lock does for a worker: gives back the value that it brings, and goes on with that pass and
+    /// then with others, up to the first question. `None` where no pass can go on or begin.
+    pub(crate) fn work(
+        &mut self,
+        alloc: Global,
+        answer: Option<Answer>,
+    ) -> Result<Option<Question>, AllocError>
+        ensures asked { IfOk result (λ q. IfSome q (λ asked. IsAsked self.new.waking asked)) }
+        ensures scenario { self.new.waking.scenario ≡ self.old.waking.scenario }
+    {
+        if let Some(answer) = answer {
+            if let Some(question) = self.give(alloc, answer)? {
+                return Ok(Some(question));
+            }
+        }
+        self.take(alloc)
+    }
+
+    /// Tells each role of all that it was not told of and that is not held from it.
+    pub(crate) fn deliver(&mut self, alloc: Global) -> Result<(), AllocError>
+        ensures { self.new.waking.scenario ≡ self.old.waking.scenario }
+    {
+        for _delivery in 0..=self.limit() {
+            let Some(step) = self.waking.next_delivery(alloc)? else {
+                return Ok(());
+            };
+            if !self.make(alloc, step)?.is_done() {
+                return Ok(());
+            }
+        }
+        Ok(())
+    }
+
+    /// Performs the steps of the script that do not wait. All is over where the run is finished.
+    pub(crate) fn perform(&mut self, alloc: Global) -> Result<(), AllocError>
+        ensures { self.new.waking.scenario ≡ self.old.waking.scenario }
+    {
+        self.waking.look(alloc)?;
+        for _step in 0..=self.limit() {
+            let Some(step) = self.waking.next_script(alloc)? else {
+                break;
+            };
+            if !self.make(alloc, step)?.is_done() {
+                break;
+            }
+        }
+        if self.waking.is_finished(alloc)? {
+            self.over = true;
+        }
+        Ok(())
+    }
+}
