@@ -66,4 +66,6 @@ mod tests_of_steps;
 #[cfg(test)]
 mod tests_of_waits;
 #[cfg(test)]
+mod tests_of_threads;
+#[cfg(test)]
 mod tests_of_words;

@@ -6,9 +6,12 @@ use crate::top::{Status, code, failing_path, message, run};
 use cmc_answers::ScriptedSigner;
 use cmc_keys::ScriptedKeys;
 use cmc_meta::{Bytes, Numbers, Text};
+use cmc_workers::NoGate;
 use std::alloc::{AllocError, Global};
 use std::process::Abort;
+use std::sync::Wait;
 use std::test::Fail;
+use std::thread::Threads;
 
 /// The Certificate that `@` stands for in the rows.
 pub(crate) const WEB: &str =
@@ -43,7 +46,8 @@ pub(crate) fn words_of(alloc: Global, text: &str) -> Result<Vec<String>, AllocEr
     Ok(words)
 }
 
-pub(crate) fn run_with(
+pub(crate) fn run_with<R: Threads + Wait + Sync>(
+    rt: &R,
     alloc: Global,
     words: &str,
     input: &[u8],
@@ -55,12 +59,14 @@ pub(crate) fn run_with(
     let mut sink = MemSink::new(alloc, numbers(alloc, failing_writes)?)?;
     let words = words_of(alloc, words)?;
     let status = run(
+        rt,
         alloc,
         words.as_slice(),
         &mut source,
         &mut sink,
         &ScriptedKeys,
         &ScriptedSigner,
+        &NoGate,
     );
     Ok(Ended {
         status,
@@ -68,16 +74,25 @@ pub(crate) fn run_with(
     })
 }
 
-pub(crate) fn run_on(alloc: Global, input: &str) -> Result<Ended, AllocError> {
-    run_with(alloc, "run", input.as_bytes(), &[], &[])
+/// A run by one hand, whose text is a function of the input.
+pub(crate) fn run_on<R: Threads + Wait + Sync>(
+    rt: &R,
+    alloc: Global,
+    input: &str,
+) -> Result<Ended, AllocError> {
+    run_with(rt, alloc, "run --workers 0", input.as_bytes(), &[], &[])
 }
 
 /// The path that a run of the input fails at, or its end in words.
-fn end_of(alloc: Global, input: &str) -> Result<String, AllocError> {
+fn end_of<R: Threads + Wait + Sync>(
+    rt: &R,
+    alloc: Global,
+    input: &str,
+) -> Result<String, AllocError> {
     let Ended {
         status,
         written: _written,
-    } = run_on(alloc, input)?;
+    } = run_on(rt, alloc, input)?;
     match status {
         Status::BadScenario(path) => String::from_str(alloc, path.as_str()),
         Status::Done => String::from_str(alloc, "done"),
@@ -121,15 +136,15 @@ fn filled(alloc: Global, row: &str) -> Result<String, AllocError> {
         .replace(alloc, "#MissingData#", missing.as_str())
 }
 
-fn assert_written(
-    rt: &impl Abort,
+fn assert_written<R: Abort + Threads + Wait + Sync>(
+    rt: &R,
     alloc: Global,
     input: &str,
     expected: &str,
 ) -> Result<(), AllocError> {
     let input = filled(alloc, input)?;
     let expected = filled(alloc, expected)?;
-    let ended = run_on(alloc, input.as_str())?;
+    let ended = run_on(rt, alloc, input.as_str())?;
     assert!(rt; matches!(ended.status, Status::Done));
     assert!(rt; ended.written.as_slice() == expected.as_bytes());
     Ok(())
@@ -275,7 +290,7 @@ fn answers_an_old_version_with_a_conflict(rt: HostRuntime) -> Result<(), Fail> {
         "{{\"roles\":[],\"script\":[{{\"do\":\"apply\",\"object\":@}},{{\"do\":\"apply\",\"object\":{versioned}}}]}}"
     )?;
     let input = filled(alloc, input.as_str())?;
-    let ended = run_on(alloc, input.as_str())?;
+    let ended = run_on(&rt, alloc, input.as_str())?;
     let conflict = filled(
         alloc,
         r#"{"call":"update","is":"call","key":"Certificate/default/web","n":4,"object":@,"reply":{"conflict":{"have":1,"named":7}},"version":7,"who":"user"}
@@ -384,11 +399,11 @@ const EDITS: [(&str, &str, &str); 17] = [
 fn fails_at_the_first_path(rt: HostRuntime) -> Result<(), Fail> {
     let alloc = rt.alloc();
     for (input, path) in WHOLE {
-        let end = end_of(alloc, input)?;
+        let end = end_of(&rt, alloc, input)?;
         assert_eq!(rt; end.as_str(), path, "at {input}");
     }
     let good = filled(alloc, GOOD)?;
-    let end = end_of(alloc, good.as_str())?;
+    let end = end_of(&rt, alloc, good.as_str())?;
     assert_eq!(rt; end.as_str(), "done");
     Ok(())
 }
@@ -399,7 +414,7 @@ fn fails_at_the_path_of_an_edit(rt: HostRuntime) -> Result<(), Fail> {
     let good = filled(alloc, GOOD)?;
     for (old, new, path) in EDITS {
         let input = good.replace(alloc, old, new)?;
-        let end = end_of(alloc, input.as_str())?;
+        let end = end_of(&rt, alloc, input.as_str())?;
         let expected = format!(in alloc; "script.0.object.{path}")?;
         assert_eq!(rt; end.as_str(), expected.as_str(), "at {new}");
     }
@@ -415,17 +430,17 @@ fn blanks(alloc: Global, count: usize) -> Result<Vec<u8>, AllocError> {
 fn refuses_what_is_no_json(rt: HostRuntime) -> Result<(), Fail> {
     let alloc = rt.alloc();
     for input in ["", "{", "1e400", "{\"roles\":[]} x", "[1,]"] {
-        let end = end_of(alloc, input)?;
+        let end = end_of(&rt, alloc, input)?;
         assert_eq!(rt; end.as_str(), "not JSON", "at {input}");
     }
-    let ended = run_with(alloc, "run", &[0xff, 0xfe], &[], &[])?;
+    let ended = run_with(&rt, alloc, "run", &[0xff, 0xfe], &[], &[])?;
     assert!(rt; matches!(ended.status, Status::NotJson));
     assert_eq!(rt; ended.written.len(), 0);
     let too_many = blanks(alloc, 16_777_217)?;
-    let ended = run_with(alloc, "run", too_many.as_slice(), &[], &[])?;
+    let ended = run_with(&rt, alloc, "run", too_many.as_slice(), &[], &[])?;
     assert!(rt; matches!(ended.status, Status::TooLong));
     let as_many = blanks(alloc, 16_777_216)?;
-    let ended = run_with(alloc, "run", as_many.as_slice(), &[], &[])?;
+    let ended = run_with(&rt, alloc, "run", as_many.as_slice(), &[], &[])?;
     assert!(rt; matches!(ended.status, Status::NotJson));
     Ok(())
 }
@@ -434,13 +449,13 @@ fn refuses_what_is_no_json(rt: HostRuntime) -> Result<(), Fail> {
 fn ends_at_a_fault(rt: HostRuntime) -> Result<(), Fail> {
     let alloc = rt.alloc();
     let blanks = blanks(alloc, 8_193)?;
-    let ended = run_with(alloc, "run", blanks.as_slice(), &[3], &[])?;
+    let ended = run_with(&rt, alloc, "run", blanks.as_slice(), &[3], &[])?;
     assert!(rt; matches!(ended.status, Status::ReadFault));
     assert_eq!(rt; ended.written.len(), 0);
-    let ended = run_with(alloc, "run", b"{\"roles\":[]}", &[], &[2])?;
+    let ended = run_with(&rt, alloc, "run", b"{\"roles\":[]}", &[], &[2])?;
     assert!(rt; matches!(ended.status, Status::WriteFault));
     assert!(rt; ended.written.as_slice() == b"{\"scenario\":{\"roles\":[]}}\n".as_slice());
-    let ended = run_with(alloc, "load", b"{\"roles\":[]}", &[], &[])?;
+    let ended = run_with(&rt, alloc, "load", b"{\"roles\":[]}", &[], &[])?;
     assert!(rt; matches!(ended.status, Status::Usage));
     assert_eq!(rt; ended.written.len(), 0);
     Ok(())
@@ -494,23 +509,24 @@ fn line_count(bytes: &[u8]) -> usize {
 fn writes_each_line_as_one_piece(rt: HostRuntime) -> Result<(), Fail> {
     let alloc = rt.alloc();
     let input = filled(alloc, GOOD)?;
-    let whole = run_on(alloc, input.as_str())?.written;
+    let whole = run_on(&rt, alloc, input.as_str())?.written;
     assert_eq!(rt; line_count(whole.as_slice()), 4);
     for (lines, failing) in [(0, 1), (1, 2), (2, 3), (3, 4)] {
-        let ended = run_with(alloc, "run", input.as_bytes(), &[], &[failing])?;
+        let ended = run_with(&rt, alloc, "run", input.as_bytes(), &[], &[failing])?;
         assert!(rt; matches!(ended.status, Status::WriteFault));
         assert_eq!(rt; line_count(ended.written.as_slice()), lines);
         assert!(rt; ended.written.is_empty() || ended.written.ends_with(b"\n"));
         assert!(rt; whole.starts_with(ended.written.as_slice()));
     }
-    let ended = run_with(alloc, "run", input.as_bytes(), &[], &[5])?;
+    let ended = run_with(&rt, alloc, "run", input.as_bytes(), &[], &[5])?;
     assert!(rt; matches!(ended.status, Status::Done));
     assert!(rt; ended.written.as_slice() == whole.as_slice());
     Ok(())
 }
 
 /// How a run ended, and how many of the next eight bytes its source still has.
-fn left_by(
+fn left_by<R: Threads + Wait + Sync>(
+    rt: &R,
     alloc: Global,
     words: &str,
     input: &[u8],
@@ -521,12 +537,14 @@ fn left_by(
     let mut sink = MemSink::new(alloc, Numbers::new(alloc))?;
     let words = words_of(alloc, words)?;
     let status = run(
+        rt,
         alloc,
         words.as_slice(),
         &mut source,
         &mut sink,
         &ScriptedKeys,
         &ScriptedSigner,
+        &NoGate,
     );
     let mut next = [0; 8];
     match source.read(&mut next) {
@@ -538,21 +556,21 @@ fn left_by(
 #[test]
 fn stops_reading_where_a_run_ends(rt: HostRuntime) -> Result<(), Fail> {
     let alloc = rt.alloc();
-    let (status, left) = left_by(alloc, "load", b"{}", &[])?;
+    let (status, left) = left_by(&rt, alloc, "load", b"{}", &[])?;
     assert!(rt; matches!(status, Status::Usage));
     assert_eq!(rt; left, 2);
-    let (status, left) = left_by(alloc, "load 1 --summary", b"{}", &[])?;
+    let (status, left) = left_by(&rt, alloc, "load 1 --summary", b"{}", &[])?;
     assert!(rt; matches!(status, Status::Done));
     assert_eq!(rt; left, 2);
-    let (status, left) = left_by(alloc, "run", b"[]", &[])?;
+    let (status, left) = left_by(&rt, alloc, "run", b"[]", &[])?;
     assert!(rt; matches!(status, Status::BadScenario(_)));
     assert_eq!(rt; left, 0);
     let some = blanks(alloc, 8_195)?;
-    let (status, left) = left_by(alloc, "run", some.as_slice(), &[3])?;
+    let (status, left) = left_by(&rt, alloc, "run", some.as_slice(), &[3])?;
     assert!(rt; matches!(status, Status::ReadFault));
     assert_eq!(rt; left, 3);
     let too_many = blanks(alloc, 16_777_219)?;
-    let (status, left) = left_by(alloc, "run", too_many.as_slice(), &[])?;
+    let (status, left) = left_by(&rt, alloc, "run", too_many.as_slice(), &[])?;
     assert!(rt; matches!(status, Status::TooLong));
     assert_eq!(rt; left, 2);
     Ok(())

@@ -4,7 +4,9 @@ use crate::tests::{WEB, run_on};
 use crate::top::Status;
 use std::alloc::{AllocError, Global};
 use std::process::Abort;
+use std::sync::Wait;
 use std::test::Fail;
+use std::thread::Threads;
 
 /// A scenario, and what its run prints. Words in capitals are stand-ins.
 #[derive(Clone, Copy)]
@@ -493,11 +495,11 @@ fn assert_writes(
     Ok(())
 }
 
-fn assert_row(rt: &impl Abort, alloc: Global, row: &Row) -> Result<(), AllocError> {
+fn assert_row<R: Abort + Threads + Wait + Sync>(rt: &R, alloc: Global, row: &Row) -> Result<(), AllocError> {
     let scenario = row.scenario;
     let scenario = format!(in alloc; "{{{scenario}}}")?;
     let input = filled(alloc, scenario.as_str())?;
-    let ended = run_on(alloc, input.as_str())?;
+    let ended = run_on(rt, alloc, input.as_str())?;
     assert!(rt; matches!(ended.status, Status::Done), "at {input}");
     let Ok(written) = str::from_utf8(ended.written.as_slice()) else {
         assert!(rt; false);

@@ -4,7 +4,9 @@ use crate::tests::{WEB, run_on};
 use crate::top::Status;
 use std::alloc::{AllocError, Global};
 use std::process::Abort;
+use std::sync::Wait;
 use std::test::Fail;
+use std::thread::Threads;
 
 /// The request that `!` stands for in the rows.
 const REQUEST: &str =
@@ -29,14 +31,14 @@ fn has_reply(alloc: Global, line: &str, reply: &str) -> Result<bool, AllocError>
 }
 
 /// The calls of the run are answered so, in order, and there are no others.
-fn assert_replies(
-    rt: &impl Abort,
+fn assert_replies<R: Abort + Threads + Wait + Sync>(
+    rt: &R,
     alloc: Global,
     script: &str,
     replies: &[&str],
 ) -> Result<(), AllocError> {
     let input = scenario(alloc, script)?;
-    let ended = run_on(alloc, input.as_str())?;
+    let ended = run_on(rt, alloc, input.as_str())?;
     assert!(rt; matches!(ended.status, Status::Done));
     let Ok(text) = str::from_utf8(ended.written.as_slice()) else {
         assert!(rt; false);
@@ -55,14 +57,14 @@ fn assert_replies(
 }
 
 /// What the run writes has each of these texts.
-fn assert_contains(
-    rt: &impl Abort,
+fn assert_contains<R: Abort + Threads + Wait + Sync>(
+    rt: &R,
     alloc: Global,
     script: &str,
     texts: &[&str],
 ) -> Result<(), AllocError> {
     let input = scenario(alloc, script)?;
-    let ended = run_on(alloc, input.as_str())?;
+    let ended = run_on(rt, alloc, input.as_str())?;
     assert!(rt; matches!(ended.status, Status::Done));
     let Ok(written) = str::from_utf8(ended.written.as_slice()) else {
         assert!(rt; false);

@@ -3,7 +3,9 @@ use crate::tests::{WEB, run_on};
 use crate::top::Status;
 use std::alloc::{AllocError, Global};
 use std::process::Abort;
+use std::sync::Wait;
 use std::test::Fail;
+use std::thread::Threads;
 
 /// The scenario of a row: `APPLY` stands for the step that applies the Certificate of the rows, and `OTHER` for one whose
 /// issuer is of another group.
@@ -19,9 +21,9 @@ fn scenario(alloc: Global, row: &str) -> Result<String, AllocError> {
 }
 
 /// The run ends with a Certificate that waits for this.
-fn assert_wait(rt: &impl Abort, alloc: Global, row: &str, wait: &str) -> Result<(), AllocError> {
+fn assert_wait<R: Abort + Threads + Wait + Sync>(rt: &R, alloc: Global, row: &str, wait: &str) -> Result<(), AllocError> {
     let input = scenario(alloc, row)?;
-    let ended = run_on(alloc, input.as_str())?;
+    let ended = run_on(rt, alloc, input.as_str())?;
     assert!(rt; matches!(ended.status, Status::Done));
     let Ok(written) = str::from_utf8(ended.written.as_slice()) else {
         assert!(rt; false);

@@ -5,7 +5,9 @@ use crate::top::Status;
 use crate::words::{Command, read_words};
 use std::alloc::{AllocError, Global};
 use std::process::Abort;
+use std::sync::Wait;
 use std::test::Fail;
+use std::thread::Threads;
 
 /// Words that are refused.
 static REFUSED: [&str; 34] = [
@@ -148,14 +150,14 @@ fn failing_reads(words: &str) -> &'static [u64] {
     if words.starts_with("load") { &[1] } else { &[] }
 }
 
-fn assert_written(
-    rt: &impl Abort,
+fn assert_written<R: Abort + Threads + Wait + Sync>(
+    rt: &R,
     alloc: Global,
     input: &str,
     rows: &[(&str, &str)],
 ) -> Result<(), AllocError> {
     for (words, expected) in rows {
-        let ended = run_with(alloc, *words, input.as_bytes(), failing_reads(*words), &[])?;
+        let ended = run_with(rt, alloc, *words, input.as_bytes(), failing_reads(*words), &[])?;
         assert!(rt; matches!(ended.status, Status::Done), "at {words}");
         assert!(rt;
             ended.written.as_slice() == expected.as_bytes(),
@@ -178,10 +180,10 @@ fn writes_loads_and_summaries(rt: HostRuntime) -> Result<(), Fail> {
         "{{\"roles\":[],\"script\":[{{\"do\":\"apply\",\"object\":{WEB}}}]}}"
     )?;
     assert_written(&rt, alloc, input.as_str(), &WRITTEN)?;
-    let ended = run_with(alloc, "load 1", b"", &[1], &[])?;
+    let ended = run_with(&rt, alloc, "load 1 --workers 0", b"", &[1], &[])?;
     assert!(rt; matches!(ended.status, Status::Done));
     assert!(rt; ended.written.starts_with(LOAD_OF_ONE.as_bytes()));
-    let ended = run_with(alloc, "load 1 --summary", b"", &[], &[1])?;
+    let ended = run_with(&rt, alloc, "load 1 --summary", b"", &[], &[1])?;
     assert!(rt; matches!(ended.status, Status::WriteFault));
     assert!(rt; ended.written.is_empty());
     Ok(())

@@ -1,0 +1,149 @@
+// Runs in threads: they end as runs by one hand end, and two workers are at an issuer at once.
+use crate::tests::{WEB, run_with};
+use crate::top::Status;
+use cmc_answers::ScriptedSigner;
+use cmc_keys::ScriptedKeys;
+use cmc_objects::{Entry, Order, SignOrder};
+use cmc_scenario::generate;
+use cmc_workers::{Driven, Gate, Point, Work, drive};
+use cmc_world::World;
+use std::alloc::{AllocError, Global};
+use std::process::Abort;
+use std::sync::Wait;
+use std::sync::atomic::{AtomicU64, Ordering};
+use std::test::Fail;
+use std::thread;
+use std::thread::Threads;
+
+/// What the summary begins with where the one Certificate is ready.
+const READY: &str = "{\"summary\":{\"certificates\":1,\"ready\":1,\"secrets\":1,\"waiting\":[]}}\n";
+
+/// Scenarios of one Certificate that is ready in the end, whoever comes first; `@` stands for it, `#` for the same with an
+/// issuer of another group.
+static READY_IN_THE_END: [&str; 4] = [
+    r#"{"material":{"default/web":{"keys":[{"synthetic":1}]}},"script":[{"do":"apply","object":@}]}"#,
+    r#"{"script":[{"do":"apply","object":@},{"do":"settle"},{"do":"hold","kind":"Certificate","role":"issuing"},{"do":"hold","kind":"CertificateRequest","role":"issuing"},{"do":"hold","kind":"Secret","role":"issuing"},{"do":"stop","role":"issuing"},{"behind":5,"do":"start","role":"issuing"},{"do":"settle"},{"do":"release","kind":"Certificate","role":"issuing"},{"do":"release","kind":"CertificateRequest","role":"issuing"},{"do":"release","kind":"Secret","role":"issuing"},{"do":"settle"}]}"#,
+    r#"{"faults":[9],"material":{"default/web":{"keys":[{"synthetic":1}]}},"script":[{"do":"apply","object":@}]}"#,
+    r#"{"script":[{"do":"apply","object":#},{"do":"settle"},{"certificate":"default/web","do":"answer","revision":1,"row":{"reply":"issue"}},{"do":"settle"},{"certificate":"default/web","do":"approve","revision":1},{"do":"settle"}]}"#,
+];
+
+/// The Certificate with an issuer that no controller here answers for.
+const OTHER: &str =
+    r#"{"apiVersion":"cert-manager.io/v1","kind":"Certificate","metadata":{"name":"web","namespace":"default"},"spec":{"dnsNames":["example.com"],"issuerRef":{"group":"example.org","name":"ca"},"privateKey":{"algorithm":"ECDSA"},"secretName":"web-tls"}}"#;
+
+fn assert_ready<R: Abort + Threads + Wait + Sync>(
+    rt: &R,
+    alloc: Global,
+    rows: &[&str],
+    words: &str,
+) -> Result<(), AllocError> {
+    for row in rows {
+        let input = row.replace(alloc, "@", WEB)?;
+        let input = input.as_str().replace(alloc, "#", OTHER)?;
+        let ended = run_with(rt, alloc, words, input.as_bytes(), &[], &[])?;
+        assert!(rt; matches!(ended.status, Status::Done), "at {row}");
+        assert!(rt; ended.written.as_slice() == READY.as_bytes(), "at {row}");
+    }
+    Ok(())
+}
+
+#[test]
+fn finishes_in_threads(rt: HostRuntime) -> Result<(), Fail> {
+    assert_ready(&rt, rt.alloc(), &READY_IN_THE_END, "run --workers 4 --summary")?;
+    assert_ready(&rt, rt.alloc(), &READY_IN_THE_END, "run --summary --workers=1")?;
+    Ok(())
+}
+
+/// Holds the first question to an issuer until a second one is at the gate.
+#[derive(Drop)]
+struct Holding {
+    here: AtomicU64,
+    first: AtomicU64,
+    second: AtomicU64,
+}
+
+impl Holding {
+    fn hold(&self) {
+        for _turn in 0..1_000_000u32 {
+            if self.here.load(Ordering::SeqCst) > 1 {
+                break;
+            }
+            thread::yield_now();
+        }
+    }
+
+    fn sign(&self, entry: u64) {
+        match self.here.fetch_add(1, Ordering::SeqCst) {
+            0 => {
+                self.first.store(entry, Ordering::SeqCst);
+                self.hold();
+            }
+            1 => self.second.store(entry, Ordering::SeqCst),
+            _ => {}
+        }
+    }
+}
+
+impl Gate for Holding {
+    fn at(&self, point: Point) {
+        if matches!(point.work, Work::Sign) {
+            self.sign(point.entry);
+        }
+    }
+}
+
+/// The pass that asks an issuer in the entry of this number, and what it asks.
+fn asked(world: &World, number: u64) -> Option<(u64, &SignOrder)> {
+    match world.history().entry(number)? {
+        Entry::Ask {
+            pass,
+            order: Order::Sign(order),
+        } => Some((*pass, order)),
+        _ => None,
+    }
+}
+
+/// The number of the entry in which the pass was answered.
+fn answered_at(world: &World, asking: u64) -> Option<u64> {
+    let mut number = 0u64;
+    for entry in world.history().as_slice() {
+        number = number.saturating_add(1);
+        if let Entry::Answered { pass, .. } = entry {
+            if *pass == asking {
+                return Some(number);
+            }
+        }
+    }
+    None
+}
+
+fn two_open<R: Threads + Wait + Abort + Sync>(rt: &R, alloc: Global) -> Result<(), Fail> {
+    let gate = Holding {
+        here: AtomicU64::new(0),
+        first: AtomicU64::new(0),
+        second: AtomicU64::new(0),
+    };
+    let scenario = generate(alloc, 2)?;
+    let driven = drive(rt, alloc, scenario, &ScriptedKeys, &ScriptedSigner, &gate, 2)?;
+    let Driven::Finished(world) = driven else {
+        return Err("spent".into());
+    };
+    let first = gate.first.load(Ordering::SeqCst);
+    let second = gate.second.load(Ordering::SeqCst);
+    let (one, one_order) = asked(&world, first).ok_or("the first asks an issuer")?;
+    let (other, other_order) = asked(&world, second).ok_or("the second asks an issuer")?;
+    assert!(rt; one != other);
+    let one_owners = &one_order.request().meta.owners;
+    let other_owners = &other_order.request().meta.owners;
+    assert!(rt; !one_owners.same(other_owners), "for two Certificates");
+    let one_done = answered_at(&world, one).ok_or("the first is answered")?;
+    let other_done = answered_at(&world, other).ok_or("the second is answered")?;
+    let done = one_done.min(other_done);
+    assert!(rt; first < done && second < done, "both stand open at once");
+    Ok(())
+}
+
+#[test]
+fn two_signings_open(rt: HostRuntime) -> Result<(), Fail> {
+    two_open(&rt, rt.alloc())
+}
