@@ -56,6 +56,8 @@ fn main(rt: HostRuntime) -> ExitCode {
 #[cfg(test)]
 mod tests;
 #[cfg(test)]
+mod tests_of_hostile_input;
+#[cfg(test)]
 mod tests_of_rows;
 #[cfg(test)]
 mod tests_of_steps;
