@@ -280,16 +280,25 @@ fn passes(rt: &impl Abort, behind: u64, moves: usize, passed: bool) {
     assert!(rt; passed, "behind {behind} after {moves} moves");
 }
 
-/// Stops the role after each number of moves, from none to all.
+/// Every how many moves a stop is tried. In the gate, where tests are compiled as the program is, that is 1: behind each
+/// move. `rt try --test` takes some two hundred times as long, and ends in time with 20 here.
+const STRIDE: usize = 1;
+
+/// Stops the role behind these moves, and starts it told of everything, and of nothing.
+fn stops_behind(rt: &impl Abort, alloc: Global, moves: &[Move], role: Role) -> Result<(), Fail> {
+    for behind in [0, 12] {
+        let passed = ends_well(alloc, moves, role, behind)?;
+        passes(rt, behind, moves.len(), passed);
+    }
+    Ok(())
+}
+
+/// Stops the role behind each number of moves of the run that nothing disturbs, from none to all.
 fn stops_anywhere(rt: &impl Abort, alloc: Global, role: Role) -> Result<(), Fail> {
     let moves = undisturbed(alloc)?;
     for count in 0..=moves.len() {
-        if count % 20 != 7 {
-            continue;
-        }
-        for behind in [0, 12] {
-            let passed = ends_well(alloc, &moves[..count], role, behind)?;
-            passes(rt, behind, count, passed);
+        if count % STRIDE == 0 {
+            stops_behind(rt, alloc, &moves[..count], role)?;
         }
     }
     Ok(())
