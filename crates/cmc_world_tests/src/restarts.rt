@@ -1,16 +1,15 @@
 //! A controller that stops after any move of a run and starts again: the run still ends, and with one issuance.
 use crate::audit::{audit, raises, stands_true};
-use crate::world::{ROLES, scenario_of, value_of};
+use crate::world::{ROLES, all_roles, any_issuer, scenario_of, value_of};
 use cmc_history::History;
-use cmc_meta::{ConditionKind, Conditions, Kind, Numbers, Texts};
+use cmc_meta::{ConditionKind, Conditions, Kind, Numbers};
 use cmc_objects::{
     Algorithm, CertStatus, Certificate, Entry, KeyRow, KeyRows, Material, Object, Order, Role,
-    Rows, Rules, SignRows, Step, Who,
+    Rows, SignRows, Step, Who,
 };
 use cmc_plain::plain;
-use cmc_policy_rules::Policies;
-use cmc_setup::{Roles, Scenario, Steps};
-use cmc_tests::values::{key, least_spec, new_meta, texts};
+use cmc_setup::{Scenario, Steps};
+use cmc_tests::values::{key, least_spec, new_meta};
 use cmc_world::{Move, Stepped, World};
 use std::alloc::Global;
 use std::process::Abort;
@@ -46,32 +45,32 @@ fn apply(alloc: Global) -> Result<Step, Fail> {
     })
 }
 
-/// The scenario of this script, with all roles, no faults, and the stand-in key 1 for the Certificate.
-fn scenario(alloc: Global, script: Steps) -> Result<Scenario, Fail> {
+fn no_replies(alloc: Global, keys: KeyRows) -> Rows {
+    Rows {
+        keys,
+        replies: SignRows::new(alloc),
+    }
+}
+
+/// The stand-in key 1 for the Certificate.
+fn material(alloc: Global) -> Result<Material, Fail> {
+    let web = key(alloc, Kind::Certificate, "web")?;
     let mut keys = KeyRows::new(alloc);
     keys.push(KeyRow::Synthetic(1))?;
     let mut material = Material::new(alloc);
-    let replies = SignRows::new(alloc);
-    material.set(
-        key(alloc, Kind::Certificate, "web")?,
-        Rows { keys, replies },
-    )?;
-    let mut roles = Roles::new(alloc);
-    for role in ROLES {
-        roles.add(role)?;
-    }
-    let approver = Rules {
-        issuers: texts(alloc, "*")?,
-        refuse: Texts::new(alloc),
-        policies: Policies::new(alloc),
-    };
+    material.set(web, no_replies(alloc, keys))?;
+    Ok(material)
+}
+
+/// The scenario of this script, with all roles and no faults.
+fn scenario(alloc: Global, script: Steps) -> Result<Scenario, Fail> {
     scenario_of(
         100_000,
         1000,
-        roles,
+        all_roles(alloc)?,
         Numbers::new(alloc),
-        approver,
-        material,
+        any_issuer(alloc)?,
+        material(alloc)?,
         script,
     )
 }

@@ -153,28 +153,36 @@ pub(crate) const ROLES: [Role; 8] = [
     Role::Revision,
 ];
 
-fn scenario(alloc: Global, events: u64) -> Result<Scenario, Fail> {
-    let mut steps = Steps::new(alloc);
-    first_steps(alloc, &mut steps)?;
-    last_steps(alloc, &mut steps)?;
+pub(crate) fn all_roles(alloc: Global) -> Result<Roles, Fail> {
     let mut roles = Roles::new(alloc);
     for role in ROLES {
         roles.add(role)?;
     }
-    let mut faults = Numbers::new(alloc);
-    faults.push(4)?;
-    faults.push(31)?;
-    let approver = Rules {
+    Ok(roles)
+}
+
+/// An approver that judges the requests of every issuer, and refuses none.
+pub(crate) fn any_issuer(alloc: Global) -> Result<Rules, Fail> {
+    Ok(Rules {
         issuers: texts(alloc, "*")?,
         refuse: Texts::new(alloc),
         policies: Policies::new(alloc),
-    };
+    })
+}
+
+fn scenario(alloc: Global, events: u64) -> Result<Scenario, Fail> {
+    let mut steps = Steps::new(alloc);
+    first_steps(alloc, &mut steps)?;
+    last_steps(alloc, &mut steps)?;
+    let mut faults = Numbers::new(alloc);
+    faults.push(4)?;
+    faults.push(31)?;
     scenario_of(
         events,
         2,
-        roles,
+        all_roles(alloc)?,
         faults,
-        approver,
+        any_issuer(alloc)?,
         Material::new(alloc),
         steps,
     )

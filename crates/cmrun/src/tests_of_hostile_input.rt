@@ -341,6 +341,11 @@ static FAULTS: [(u64, usize, usize); 13] = [
 static EMPTY: &str =
     "{\"summary\":{\"certificates\":0,\"ready\":0,\"secrets\":0,\"waiting\":[]}}\n";
 
+/// The end of a run with so many accepted writes.
+fn end_behind(writes: usize) -> &'static str {
+    if writes == 0 { EMPTY } else { READY }
+}
+
 /// How many calls, accepted writes, and calls that fail with this number the text has.
 fn counts(alloc: Global, text: &str, fault: u64) -> Result<(usize, usize, usize), AllocError> {
     let unavailable = format!(in alloc; "\"reply\":{{\"unavailable\":{fault}}}")?;
@@ -368,7 +373,6 @@ fn survives(alloc: Global, fault: u64, calls: usize, writes: usize) -> Result<bo
     let Ok(text) = str::from_utf8(ended.written.as_slice()) else {
         return Ok(false);
     };
-    let end = if writes == 0 { EMPTY } else { READY };
     Ok(
         counts(alloc, text, fault)? == (calls, writes, 1)
             && is_newest(alloc, text, writes)?
