@@ -3,8 +3,12 @@
 #![tactic(auto)]
 
 #[cfg(test)]
+mod audit;
+#[cfg(test)]
 mod informer;
 #[cfg(test)]
 mod queue;
+#[cfg(test)]
+mod restarts;
 #[cfg(test)]
 mod world;

@@ -1,14 +1,14 @@
 // What no clause says: that each answer of a step can come, and that passes ask, issue, find nothing to do and are
 // refused. Pseudo-random moves of all eight roles, mixed with plain ones, are made on a world of several
 // Certificates and Secrets, with lag, stops, starts, holds, faults, and values that answer another question.
+use crate::audit::audit;
 use cmc_answers::{ScriptedSigner, Signer, judge};
 use cmc_history::History;
 use cmc_keys::{KeyMaker, ScriptedKeys, is_allowed_size};
-use cmc_match::pair_in;
 use cmc_meta::{Bytes, Conditions, Key, Kind, Numbers, Texts};
 use cmc_objects::{
-    Call, Cause, CertStatus, Certificate, Entry, Material, Object, Order, Parts, Reply, Role,
-    Rules, Secret, Step, Who,
+    Cause, CertStatus, Certificate, Entry, Material, Object, Order, Parts, Role, Rules, Secret,
+    Step,
 };
 use cmc_pass::Given;
 use cmc_plain::plain;
@@ -108,8 +108,9 @@ fn last_steps(alloc: Global, steps: &mut Steps) -> Result<(), Fail> {
     Ok(())
 }
 
-fn scenario_of(
+pub(crate) fn scenario_of(
     events: u64,
+    window: u64,
     roles: Roles,
     faults: Numbers,
     approver: Rules,
@@ -118,7 +119,7 @@ fn scenario_of(
 ) -> Result<Scenario, Fail> {
     if is_setup(
         events,
-        2,
+        window,
         1_893_456_000,
         &roles,
         &faults,
@@ -128,7 +129,7 @@ fn scenario_of(
     ) {
         return Ok(Scenario::new(
             events,
-            2,
+            window,
             1_893_456_000,
             roles,
             faults,
@@ -141,7 +142,7 @@ fn scenario_of(
 }
 
 /// The eight roles in their order.
-const ROLES: [Role; 8] = [
+pub(crate) const ROLES: [Role; 8] = [
     Role::Trigger,
     Role::KeyManager,
     Role::RequestManager,
@@ -152,23 +153,39 @@ const ROLES: [Role; 8] = [
     Role::Revision,
 ];
 
-fn scenario(alloc: Global, events: u64) -> Result<Scenario, Fail> {
-    let mut steps = Steps::new(alloc);
-    first_steps(alloc, &mut steps)?;
-    last_steps(alloc, &mut steps)?;
+pub(crate) fn all_roles(alloc: Global) -> Result<Roles, Fail> {
     let mut roles = Roles::new(alloc);
     for role in ROLES {
         roles.add(role)?;
     }
-    let mut faults = Numbers::new(alloc);
-    faults.push(4)?;
-    faults.push(31)?;
-    let approver = Rules {
+    Ok(roles)
+}
+
+/// An approver that judges the requests of every issuer, and refuses none.
+pub(crate) fn any_issuer(alloc: Global) -> Result<Rules, Fail> {
+    Ok(Rules {
         issuers: texts(alloc, "*")?,
         refuse: Texts::new(alloc),
         policies: Policies::new(alloc),
-    };
-    scenario_of(events, roles, faults, approver, Material::new(alloc), steps)
+    })
+}
+
+fn scenario(alloc: Global, events: u64) -> Result<Scenario, Fail> {
+    let mut steps = Steps::new(alloc);
+    first_steps(alloc, &mut steps)?;
+    last_steps(alloc, &mut steps)?;
+    let mut faults = Numbers::new(alloc);
+    faults.push(4)?;
+    faults.push(31)?;
+    scenario_of(
+        events,
+        2,
+        all_roles(alloc)?,
+        faults,
+        any_issuer(alloc)?,
+        Material::new(alloc),
+        steps,
+    )
 }
 
 /// A number below `bound`, of a linear congruential generator.
@@ -277,7 +294,7 @@ fn note(met: &mut Met, answer: &Stepped) {
 }
 
 /// The value of the question, as the scenario's own maker and signer have it.
-fn value_of(alloc: Global, order: &Order) -> Result<Given, Fail> {
+pub(crate) fn value_of(alloc: Global, order: &Order) -> Result<Given, Fail> {
     match order {
         Order::Key(asked) => {
             if is_allowed_size(asked.algorithm, asked.size) {
@@ -413,64 +430,6 @@ fn wander(
     }
     note_entries(shown, world.history());
     audit(world.history())
-}
-
-/// How many Secrets issuing wrote: each has a key and a certificate that are a pair.
-fn audit(history: &History) -> Result<u64, Fail> {
-    let mut roles = [Role::Trigger; 751];
-    let mut written = 0_u64;
-    for entry in history.as_slice() {
-        match entry {
-            Entry::Begin { pass, role, .. } => {
-                if *pass < 751 {
-                    roles[*pass as usize] = *role;
-                }
-            }
-            Entry::Call {
-                who: Who::Pass(pass),
-                call,
-                reply: Reply::Ok { .. },
-            } => {
-                let by_issuing = *pass < 751 && matches!(roles[*pass as usize], Role::Issuing);
-                if by_issuing && !writes_pair(call) {
-                    return Err(Fail::from("no pair"));
-                }
-                if by_issuing && is_secret_write(call) {
-                    written = written.saturating_add(1);
-                }
-            }
-            _ => {}
-        }
-    }
-    Ok(written)
-}
-
-fn is_secret_write(call: &Call) -> bool {
-    matches!(
-        call,
-        Call::Create {
-            object: Object::Secret(_),
-            ..
-        } | Call::Update {
-            object: Object::Secret(_),
-            ..
-        }
-    )
-}
-
-/// Whether the call, if it writes a Secret, writes one whose key and certificate are a pair.
-fn writes_pair(call: &Call) -> bool {
-    match call {
-        Call::Create {
-            object: Object::Secret(secret),
-            ..
-        } => pair_in(secret).is_some(),
-        Call::Update {
-            object: Object::Secret(secret),
-            ..
-        } => pair_in(secret).is_some(),
-        _ => true,
-    }
 }
 
 #[test]

@@ -60,12 +60,14 @@ fn main(rt: HostRuntime) -> ExitCode {
 #[cfg(test)]
 mod tests;
 #[cfg(test)]
+mod tests_of_hostile_input;
+#[cfg(test)]
 mod tests_of_rows;
 #[cfg(test)]
 mod tests_of_steps;
 #[cfg(test)]
-mod tests_of_waits;
-#[cfg(test)]
 mod tests_of_threads;
+#[cfg(test)]
+mod tests_of_waits;
 #[cfg(test)]
 mod tests_of_words;

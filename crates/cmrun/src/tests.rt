@@ -1,6 +1,7 @@
 // What no clause shows: the worked rows, the paths of bad inputs, and runs with faults, all with ample
 // memory. Expected values come from the store's table of replies and the form of scenarios.
 use crate::memory::{MemSink, MemSource};
+use crate::sink::{Sink, StdSink};
 use crate::source::Source;
 use crate::top::{Status, code, failing_path, message, run};
 use cmc_answers::ScriptedSigner;
@@ -46,6 +47,28 @@ pub(crate) fn words_of(alloc: Global, text: &str) -> Result<Vec<String>, AllocEr
     Ok(words)
 }
 
+/// Does all that the program does, with these words, with the stand-in keys and the scripted issuers. All tests of whole
+/// runs go through it.
+fn run_over<R: Threads + Wait + Sync, S: Source, K: Sink>(
+    rt: &R,
+    alloc: Global,
+    words: &str,
+    source: &mut S,
+    sink: &mut K,
+) -> Result<Status, AllocError> {
+    let words = words_of(alloc, words)?;
+    Ok(run(
+        rt,
+        alloc,
+        words.as_slice(),
+        source,
+        sink,
+        &ScriptedKeys,
+        &ScriptedSigner,
+        &NoGate,
+    ))
+}
+
 pub(crate) fn run_with<R: Threads + Wait + Sync>(
     rt: &R,
     alloc: Global,
@@ -57,17 +80,7 @@ pub(crate) fn run_with<R: Threads + Wait + Sync>(
     let bytes = Bytes::from_slice(alloc, input)?;
     let mut source = MemSource::new(alloc, bytes, numbers(alloc, failing_reads)?)?;
     let mut sink = MemSink::new(alloc, numbers(alloc, failing_writes)?)?;
-    let words = words_of(alloc, words)?;
-    let status = run(
-        rt,
-        alloc,
-        words.as_slice(),
-        &mut source,
-        &mut sink,
-        &ScriptedKeys,
-        &ScriptedSigner,
-        &NoGate,
-    );
+    let status = run_over(rt, alloc, words, &mut source, &mut sink)?;
     Ok(Ended {
         status,
         written: sink.bytes().to_vec(alloc)?,
@@ -81,6 +94,19 @@ pub(crate) fn run_on<R: Threads + Wait + Sync>(
     input: &str,
 ) -> Result<Ended, AllocError> {
     run_with(rt, alloc, "run --workers 0", input.as_bytes(), &[], &[])
+}
+
+/// How the run of the input ends whose sink has room for no more bytes than these, which it fills from the front.
+pub(crate) fn run_into<R: Threads + Wait + Sync>(
+    rt: &R,
+    alloc: Global,
+    input: &str,
+    room: &mut [u8],
+) -> Result<Status, AllocError> {
+    let bytes = Bytes::from_slice(alloc, input.as_bytes())?;
+    let mut source = MemSource::new(alloc, bytes, Numbers::new(alloc))?;
+    let mut sink = StdSink::new(room);
+    run_over(rt, alloc, "run --workers 0", &mut source, &mut sink)
 }
 
 /// The path that a run of the input fails at, or its end in words.
@@ -501,7 +527,7 @@ fn tells_each_status(rt: HostRuntime) -> Result<(), Fail> {
 }
 
 /// How many lines the bytes have.
-fn line_count(bytes: &[u8]) -> usize {
+pub(crate) fn line_count(bytes: &[u8]) -> usize {
     bytes.iter().filter(|byte| **byte == b'\n').count()
 }
 
@@ -535,17 +561,7 @@ fn left_by<R: Threads + Wait + Sync>(
     let bytes = Bytes::from_slice(alloc, input)?;
     let mut source = MemSource::new(alloc, bytes, numbers(alloc, failing_reads)?)?;
     let mut sink = MemSink::new(alloc, Numbers::new(alloc))?;
-    let words = words_of(alloc, words)?;
-    let status = run(
-        rt,
-        alloc,
-        words.as_slice(),
-        &mut source,
-        &mut sink,
-        &ScriptedKeys,
-        &ScriptedSigner,
-        &NoGate,
-    );
+    let status = run_over(rt, alloc, words, &mut source, &mut sink)?;
     let mut next = [0; 8];
     match source.read(&mut next) {
         Ok(count) => Ok((status, count)),

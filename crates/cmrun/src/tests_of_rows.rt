@@ -25,9 +25,10 @@ struct Row {
 }
 
 /// The ends of runs.
-const READY: &str = "{\"summary\":{\"certificates\":1,\"ready\":1,\"secrets\":1,\"waiting\":[]}}\n";
+pub(crate) const READY: &str =
+    "{\"summary\":{\"certificates\":1,\"ready\":1,\"secrets\":1,\"waiting\":[]}}\n";
 
-const BACKOFF: &str = "[{\"certificate\":\"default/web\",\"wait\":\"backoff\"}]}}\n";
+pub(crate) const BACKOFF: &str = "[{\"certificate\":\"default/web\",\"wait\":\"backoff\"}]}}\n";
 
 const UNAPPROVED: &str = "[{\"certificate\":\"default/web\",\"wait\":\"unapproved\"}]}}\n";
 
@@ -418,6 +419,47 @@ ABSENT"#,
     },
 ];
 
+/// Issuers that lie: octets that are no certificate, a certificate for a request that is then denied, and one for a request
+/// that nobody approves. The versions are told too.
+static LIES: [Row; 3] = [
+    Row {
+        scenario: r#""script":[OTHER,SETTLE,APPROVE,{"certificate":"default/web","do":"answer","revision":1,"row":{"der":"AAAA","reply":"raw"}},SETTLE]"#,
+        writes: r#"ASKED
+ABSENT
+user REQUEST .. "status":"True","type":"Approved"} .. "reply":{"ok":7}
+user REQUEST .. "certificate":"AAAA" .. "reason":"Issued","status":"True","type":"Ready"} .. "reply":{"ok":8}
+issuing STATUS .. "reason":"InvalidCertificate","status":"False","type":"Issuing"} .. "failedIssuanceAttempts":1,"lastFailureTime": .. "reply":{"ok":9}
+keymanager "call":"delete","is":"call","key":"Secret/default/web-bbbbf" .. "reply":{"ok":10}
+keymanager STATUS .. !"nextPrivateKeySecretName" .. "reply":{"ok":11}"#,
+        told: r#"!"key":"Secret/default/web-tls""#,
+        calls: 0,
+        end: BACKOFF,
+    },
+    Row {
+        scenario: r#""script":[OTHER,SETTLE,{"certificate":"default/web","do":"answer","revision":1,"row":{"reply":"issue"}},DENY,SETTLE]"#,
+        writes: r#"ASKED
+ABSENT
+user REQUEST .. "reason":"Issued","status":"True","type":"Ready"} .. "reply":{"ok":7}
+user REQUEST .. "status":"True","type":"Denied"} .. "reply":{"ok":8}
+issuer REQUEST .. "reason":"Denied","status":"False","type":"Ready"} .. "failureTime": .. "reply":{"ok":9}
+issuing STATUS .. "reason":"Denied","status":"False","type":"Issuing"} .. "failedIssuanceAttempts":1,"lastFailureTime": .. "reply":{"ok":10}
+keymanager "call":"delete","is":"call","key":"Secret/default/web-bbbbf" .. "reply":{"ok":11}
+keymanager STATUS .. !"nextPrivateKeySecretName" .. "reply":{"ok":12}"#,
+        told: r#"!"key":"Secret/default/web-tls""#,
+        calls: 0,
+        end: BACKOFF,
+    },
+    Row {
+        scenario: r#""script":[OTHER,SETTLE,{"certificate":"default/web","do":"answer","revision":1,"row":{"reply":"issue"}},SETTLE]"#,
+        writes: r#"ASKED
+ABSENT
+user REQUEST .. "reason":"Issued","status":"True","type":"Ready"} .. "reply":{"ok":7}"#,
+        told: r#"!"key":"Secret/default/web-tls""#,
+        calls: 0,
+        end: UNAPPROVED,
+    },
+];
+
 /// The text with what its stand-ins stand for.
 fn filled(alloc: Global, text: &str) -> Result<String, AllocError> {
     let mut text = String::from_str(alloc, text)?;
@@ -495,7 +537,11 @@ fn assert_writes(
     Ok(())
 }
 
-fn assert_row<R: Abort + Threads + Wait + Sync>(rt: &R, alloc: Global, row: &Row) -> Result<(), AllocError> {
+fn assert_row<R: Abort + Threads + Wait + Sync>(
+    rt: &R,
+    alloc: Global,
+    row: &Row,
+) -> Result<(), AllocError> {
     let scenario = row.scenario;
     let scenario = format!(in alloc; "{{{scenario}}}")?;
     let input = filled(alloc, scenario.as_str())?;
@@ -536,6 +582,15 @@ fn refuses_and_tries_again(rt: HostRuntime) -> Result<(), Fail> {
     let alloc = rt.alloc();
     for row in REFUSING {
         assert_row(&rt, alloc, &row)?;
+    }
+    Ok(())
+}
+
+#[test]
+fn stores_nothing_for_an_issuer_that_lies(rt: HostRuntime) -> Result<(), Fail> {
+    let alloc = rt.alloc();
+    for row in &LIES {
+        assert_row(&rt, alloc, row)?;
     }
     Ok(())
 }

@@ -49,8 +49,18 @@ fn assert_ready<R: Abort + Threads + Wait + Sync>(
 
 #[test]
 fn finishes_in_threads(rt: HostRuntime) -> Result<(), Fail> {
-    assert_ready(&rt, rt.alloc(), &READY_IN_THE_END, "run --workers 4 --summary")?;
-    assert_ready(&rt, rt.alloc(), &READY_IN_THE_END, "run --summary --workers=1")?;
+    assert_ready(
+        &rt,
+        rt.alloc(),
+        &READY_IN_THE_END,
+        "run --workers 4 --summary",
+    )?;
+    assert_ready(
+        &rt,
+        rt.alloc(),
+        &READY_IN_THE_END,
+        "run --summary --workers=1",
+    )?;
     Ok(())
 }
 
@@ -124,7 +134,15 @@ fn two_open<R: Threads + Wait + Abort + Sync>(rt: &R, alloc: Global) -> Result<(
         second: AtomicU64::new(0),
     };
     let scenario = generate(alloc, 2)?;
-    let driven = drive(rt, alloc, scenario, &ScriptedKeys, &ScriptedSigner, &gate, 2)?;
+    let driven = drive(
+        rt,
+        alloc,
+        scenario,
+        &ScriptedKeys,
+        &ScriptedSigner,
+        &gate,
+        2,
+    )?;
     let Driven::Finished(world) = driven else {
         return Err("spent".into());
     };

@@ -21,7 +21,12 @@ fn scenario(alloc: Global, row: &str) -> Result<String, AllocError> {
 }
 
 /// The run ends with a Certificate that waits for this.
-fn assert_wait<R: Abort + Threads + Wait + Sync>(rt: &R, alloc: Global, row: &str, wait: &str) -> Result<(), AllocError> {
+fn assert_wait<R: Abort + Threads + Wait + Sync>(
+    rt: &R,
+    alloc: Global,
+    row: &str,
+    wait: &str,
+) -> Result<(), AllocError> {
     let input = scenario(alloc, row)?;
     let ended = run_on(rt, alloc, input.as_str())?;
     assert!(rt; matches!(ended.status, Status::Done));

@@ -157,7 +157,14 @@ fn assert_written<R: Abort + Threads + Wait + Sync>(
     rows: &[(&str, &str)],
 ) -> Result<(), AllocError> {
     for (words, expected) in rows {
-        let ended = run_with(rt, alloc, *words, input.as_bytes(), failing_reads(*words), &[])?;
+        let ended = run_with(
+            rt,
+            alloc,
+            *words,
+            input.as_bytes(),
+            failing_reads(*words),
+            &[],
+        )?;
         assert!(rt; matches!(ended.status, Status::Done), "at {words}");
         assert!(rt;
             ended.written.as_slice() == expected.as_bytes(),

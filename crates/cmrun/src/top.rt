@@ -120,7 +120,9 @@ fn answer<R: Threads + Wait + Sync, M: KeyMaker, N: Signer, G: Gate>(
     ensures err { IfErr result (λ status. RefusesValue (view value.now) status) }
 {
     match read(alloc, value) {
-        Ok(scenario) => run_of(rt, alloc, workers, alone, value, scenario, keys, signer, gate),
+        Ok(scenario) => run_of(
+            rt, alloc, workers, alone, value, scenario, keys, signer, gate,
+        ),
         Err(BadScenario::Path(path)) => Err(Status::BadScenario(path)),
         Err(BadScenario::NoMemory) => Err(Status::NoMemory),
     }
@@ -188,7 +190,9 @@ fn load_lines<R: Threads + Wait + Sync, M: KeyMaker, N: Signer, G: Gate>(
 {
     let scenario = generate(alloc, count)?;
     let value = value_of_scenario(alloc, &scenario)?;
-    run_of(rt, alloc, workers, alone, &value, scenario, keys, signer, gate)
+    run_of(
+        rt, alloc, workers, alone, &value, scenario, keys, signer, gate,
+    )
 }
 
 /// The exit status of the program.
@@ -234,14 +238,7 @@ pub fn failing_path(status: &Status) -> &str
 }
 
 /// Runs the scenario that the source gives.
-fn run_source<
-    R: Threads + Wait + Sync,
-    S: Source,
-    K: Sink,
-    M: KeyMaker,
-    N: Signer,
-    G: Gate,
->(
+fn run_source<R: Threads + Wait + Sync, S: Source, K: Sink, M: KeyMaker, N: Signer, G: Gate>(
     rt: &R,
     alloc: Global,
     workers: u32,
@@ -346,12 +343,16 @@ pub fn run<R: Threads + Wait + Sync, S: Source, K: Sink, M: KeyMaker, N: Signer,
     match read_words(words) {
         None => Status::Usage,
         Some(Command::Run { workers, summary }) => {
-            run_source(rt, alloc, workers, summary, source, sink, keys, signer, gate)
+            run_source(
+                rt, alloc, workers, summary, source, sink, keys, signer, gate,
+            )
         }
-        Some(Command::Load {
-            count,
-            workers,
-            summary,
-        }) => run_load(rt, alloc, workers, summary, count, sink, keys, signer, gate),
+        Some(
+            Command::Load {
+                count,
+                workers,
+                summary,
+            },
+        ) => run_load(rt, alloc, workers, summary, count, sink, keys, signer, gate),
     }
 }
