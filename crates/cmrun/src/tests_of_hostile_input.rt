@@ -404,7 +404,7 @@ fn survives<R: Threads + Wait + Sync>(
     Ok(
         counts(alloc, text, fault)? == (calls, writes, 1)
             && is_newest(alloc, text, writes)?
-            && text.ends_with(end),
+            && text.ends_with(end_behind(writes)),
     )
 }
 
