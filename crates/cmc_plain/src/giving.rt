@@ -6,8 +6,8 @@ ghost use Rattle.cmc_world.specs.Answers.{kept_of};
 ghost use Rattle.cmc_world.specs.Kept.{setting_of};
 ghost use Rattle.cmc_plain.specs.Driving.{CanBeMade, IsMadeFor, IsNextWith};
 
-use crate::asking::{point_of, question};
 use crate::gate::Gate;
+use crate::questions::{point_of, question};
 use cmc_answers::{Signer, judge};
 use cmc_keys::KeyMaker;
 use cmc_objects::Order;

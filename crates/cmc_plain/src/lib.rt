@@ -2,7 +2,6 @@
 #![tactic(auto)]
 
 mod all_moves;
-mod asking;
 mod begins;
 mod choosing;
 mod counting;
@@ -12,6 +11,7 @@ mod gate;
 mod giving;
 mod laws;
 mod passes;
+mod questions;
 mod ready;
 mod rest;
 mod roles;
@@ -20,11 +20,11 @@ mod waits;
 mod waking;
 
 pub use all_moves::make_all;
-pub use asking::{point_of, question};
 pub use choosing::plain;
 pub use counting::summary;
 pub use driving::{Driven, drain, drive_plain};
 pub use gate::{Gate, NoGate, Point, Work};
 pub use giving::value_for;
 pub use laws::{plain_ends_agree, plain_histories_agree};
+pub use questions::{point_of, question};
 pub use waking::Waking;

@@ -2,7 +2,7 @@ use Rattle.std.proofs.Common.{ap}
 use Rattle.std.specs.Option.{option_copied}
 use Rattle.cmc_world.specs.Kept.{setting_of}
 use Rattle.cmc_plain.proofs.Asking.{question_made}
-use Rattle.cmc_plain.proofs.asking.question.Goals as goal
+use Rattle.cmc_plain.proofs.questions.question.Goals as goal
 
 pub question_at-requires : goal.question_at-requires
 question_at-requires c =

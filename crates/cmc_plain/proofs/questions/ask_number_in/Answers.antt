@@ -1,6 +1,6 @@
 use Rattle.std.proofs.Common.{refl, arith}
 use Rattle.cmc_plain.proofs.Asked.{asks_here, asks_before, asks_nowhere}
-use Rattle.cmc_plain.proofs.asking.ask_number_in.Goals as goal
+use Rattle.cmc_plain.proofs.questions.ask_number_in.Goals as goal
 
 pub returns-then-is_question : goal.returns-then-is_question
 returns-then-is_question c =
