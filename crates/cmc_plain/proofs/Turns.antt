@@ -1,5 +1,5 @@
 -- Runs by the plain order.
-use Rattle.std.proofs.Common.{◌≡◌, ◌∙◌, ℕ, ◌+◌, ◌<◌, ◌≤◌, true, false, List, [], ◌∷◌, ◌++◌, length, Option, Some, None, inl, inr, refl, subst, arith}
+use Rattle.std.proofs.Common.{◌≡◌, ◌∙◌, ℕ, ◌+◌, ◌<◌, ◌≤◌, true, false, List, [], ◌∷◌, ◌++◌, length, Option, Some, None, inl, inr, refl, sym, subst, arith}
 use Rattle.cmc_objects.specs.declared.entry.Entry.{Entry}
 use Rattle.cmc_rules.specs.declared.effect.Effect.{Effect}
 use Rattle.cmc_model.specs.Histories.{Setting}
@@ -65,6 +65,15 @@ pub too_long : (start world : Seen) (n : ℕ) → IsDriving start world n → st
 too_long start world n d over run =
     let short : length world.history ≤ start.scenario.events = subst (λ (u : Setup). length world.history ≤ u.events) d.same run.short in
     absurd (omega (arith, d.long, over, short))
+
+-- the turns come to an end
+pub ended_from : (End : Setting → List Entry → Type 0) (start old new : Seen) (n : ℕ) → IsDriving start old n → new.scenario ≡ old.scenario → End (setting_of old.scenario) old.history → new.history ≡ old.history
+    → EndsFrom start End new
+ended_from End start old new n d stays ends same = record {
+  same = stays ∙ d.same;
+  plain = λ was. subst (IsPlain (setting_of start.scenario)) (sym same) (d.plain was);
+  comes = subst (End (setting_of start.scenario)) (sym same) (subst (λ (u : Setup). End (setting_of u) old.history) d.same ends);
+}
 
 -- ---- from the beginning on
 
