@@ -1,79 +1,112 @@
 #!/usr/bin/env python3
-"""Refuses memory to runs of the program, at one allocation each, and checks how each run ends.
+"""Refuses memory to runs of the built program, at one allocation each, and checks how each run ends.
 
-    tools/refuse_memory.py examples/every_member.json --at 4000 --step 50
+usage: tools/refuse_memory.py [--step S] [--workers N] -- PROGRAM SCENARIO
 
-Each run has to end with status 5 (out of memory) and nothing written, or with status 0 (done).
-
-`rt try --fail-alloc N` builds the program anew for each N, which takes a minute or two. So this script keeps N, and
-moves the run instead: it gives the program the same scenario with 0, S, 2 S, .. texts more in a member of an object's
-metadata that is dropped unread (one allocation each, while the text is read). With J of them the refused allocation is
-the one of number N - J of the scenario itself, less some for the growth of their list. One build serves up to N / S runs;
-those that have too few allocations for N are done. What comes before the texts are read (the words, the reading of the
-input) is reached by small N alone: give --at several times.
-
-Nothing here is proved, and it is no part of the gate.
+PROGRAM is the built program, as crates/cmrun/out/cmrun (`rt run` builds it), SCENARIO a file that it reads, as
+examples/every_member.json. A small library, which is made with `cc` and loaded before libc, lets the allocation of one number
+fail. Each run has to end with the exit status 5 and nothing written (out of memory), or with the status 0 and the text that it
+writes with ample memory; with threads, whose texts differ, with some summary. Runs are made for the numbers 1, 1 + S, 1 + 2 S,
+.. up to one that no run comes to any more. Nothing here is proved, and it is no part of the gate.
 """
-
 import argparse
-import json
+import os
 import pathlib
-import re
 import subprocess
 import sys
 import tempfile
 
-CRATE = pathlib.Path(__file__).resolve().parent.parent / "crates" / "cmrun"
+LIBRARY = r"""
+#include <errno.h>
+#include <stdatomic.h>
+#include <stddef.h>
+#include <stdlib.h>
 
-CASE = re.compile(r"^case=(\S+) run=(\S+)(?: status=(\d+))?", re.M)
+static atomic_long made;
+static long refused;
+
+__attribute__((constructor)) static void begin(void) {
+    const char *number = getenv("REFUSED_ALLOCATION");
+    refused = number ? atol(number) : 0;
+    made = 0;
+}
+
+static int is_refused(void) { return atomic_fetch_add(&made, 1) + 1 == refused; }
+
+extern void *__libc_malloc(size_t);
+extern void *__libc_realloc(void *, size_t);
+extern void *__libc_calloc(size_t, size_t);
+extern void *__libc_memalign(size_t, size_t);
+
+void *malloc(size_t size) {
+    if (is_refused()) { errno = ENOMEM; return NULL; }
+    return __libc_malloc(size);
+}
+void *realloc(void *old, size_t size) {
+    if (is_refused()) { errno = ENOMEM; return NULL; }
+    return __libc_realloc(old, size);
+}
+void *calloc(size_t count, size_t size) {
+    if (is_refused()) { errno = ENOMEM; return NULL; }
+    return __libc_calloc(count, size);
+}
+void *aligned_alloc(size_t align, size_t size) {
+    if (is_refused()) { errno = ENOMEM; return NULL; }
+    return __libc_memalign(align, size);
+}
+int posix_memalign(void **into, size_t align, size_t size) {
+    if (is_refused()) { return ENOMEM; }
+    *into = __libc_memalign(align, size);
+    return *into ? 0 : ENOMEM;
+}
+"""
 
 
-def padded(scenario, count):
-    """The scenario with so many texts more in the metadata of the first object that it applies."""
-    scenario = json.loads(json.dumps(scenario))
-    if count:
-        applied = next(it["object"] for it in scenario["script"] if it["do"] == "apply")
-        applied["metadata"]["dropped"] = ["x"] * count
-    return json.dumps(scenario, separators=(",", ":"))
+def library(folder):
+    """The library, made in the folder."""
+    source = pathlib.Path(folder, "refuse.c")
+    source.write_text(LIBRARY)
+    made = source.with_suffix(".so")
+    subprocess.run(["cc", "-O2", "-shared", "-fPIC", "-o", made, source], check=True)
+    return made
 
 
-def runs(scenario, number, counts):
-    """Yields for each count how the run with the refused allocation ended, its status, and what it wrote."""
-    with tempfile.TemporaryDirectory(prefix="refuse-memory-") as folder:
-        for count in counts:
-            pathlib.Path(folder, f"pad{count:07}").write_text(padded(scenario, count))
-        words = ["rt", "try", "--fail-alloc", str(number), "--cases", folder, "--", "run"]
-        ran = subprocess.run(words, cwd=CRATE, capture_output=True, text=True)
-    written = dict(re.findall(r"^== (\S+)\n(.*?)(?=^== |\Z)", ran.stdout, re.M | re.S))
-    ended = {name: (how, status) for name, how, status in CASE.findall(ran.stderr)}
-    if not ended:
-        sys.exit(ran.stderr)
-    for count in counts:
-        name = f"pad{count:07}"
-        how, status = ended.get(name, ("missing", ""))
-        yield count, how, status, written.get(name, "")
+def run(given, made, number):
+    """The exit status of a run whose allocation of this number fails (of none at 0), and what it wrote."""
+    loaded = dict(os.environ, LD_PRELOAD=str(made), REFUSED_ALLOCATION=str(number))
+    words = [given.program, "run", "--workers", str(given.workers)]
+    with open(given.scenario, "rb") as scenario:
+        ran = subprocess.run(words, stdin=scenario, capture_output=True, env=loaded, timeout=60)
+    return ran.returncode, ran.stdout
 
 
 def main():
     words = argparse.ArgumentParser(description=__doc__.split("\n")[0])
+    words.add_argument("--step", type=int, default=1, help="from one number to the next")
+    words.add_argument("--workers", type=int, default=0)
+    words.add_argument("program")
     words.add_argument("scenario", type=pathlib.Path)
-    words.add_argument("--at", type=int, action="append", required=True, help="the number of the allocation")
-    words.add_argument("--step", type=int, default=100, help="how many texts more from run to run")
-    words.add_argument("--first", type=int, default=0, help="how many texts the first run has")
     given = words.parse_args()
-    scenario = json.loads(given.scenario.read_text())
-    done, refused, wrong = 0, 0, []
-    for number in given.at:
-        for count, how, status, text in runs(scenario, number, range(given.first, number, given.step)):
-            if (how, status) == ("ended", "0") and '{"summary":' in text:
-                done += 1
-            elif (how, status) == ("ended", "5") and not text.strip():
-                refused += 1
+    wrong = []
+    counts = {0: 0, 5: 0}
+    with tempfile.TemporaryDirectory(prefix="refuse-memory-") as folder:
+        made = library(folder)
+        whole = run(given, made, 0)
+        if whole[0] != 0:
+            sys.exit(f"with ample memory the run ends with status {whole[0]}")
+        most = 64
+        while any(run(given, made, most + more)[0] == 5 for more in range(8)):
+            most *= 2
+        for number in range(1, most, given.step):
+            status, text = run(given, made, number)
+            is_whole = text == whole[1] if given.workers == 0 else b'{"summary":' in text
+            if (status == 5 and not text) or (status == 0 and is_whole):
+                counts[status] += 1
             else:
-                wrong.append(f"at {number} with {count} texts: {how} {status}, {len(text)} characters written")
-    print(f"done {done}, out of memory {refused}, neither {len(wrong)}")
+                wrong.append(f"at allocation {number}: status {status}, {len(text)} bytes written")
+    print(f"{sum(counts.values()) + len(wrong)} runs: {counts[5]} out of memory, {counts[0]} done, {len(wrong)} neither")
     for line in wrong:
-        print(line)
+        print("   ", line)
     sys.exit(1 if wrong else 0)
 
 
