@@ -17,5 +17,5 @@ returns c =
     (subst (λ (v : Seen). c.in_ok-seen.seen ≡ views (setting_of v.scenario) v.history c.args.role c.args.key.now) (sym c.self.view_is) c.in_ok-seen.ensures)
     c.get-past.ensures (to_z-of_z w64 c.self.inside.moment (search rules)) c.is_on-working.ensures.some c.own_write-own.ensures c.is_again-same.ensures c.is_queued-queued.ensures c.len-entries.ensures c.events.ensures.value c.has_room-room.ensures c.answer_begin.ensures)
 
-pub is_queued-requires : goal.is_queued-requires
-is_queued-requires c = λ on. known_where_stands _ _ _ c.args.key.now c.self.invariant (sym c.stands.ensures ∙ on)
+pub is_queued-queued-requires : goal.is_queued-queued-requires
+is_queued-queued-requires c = λ on. known_where_stands _ _ _ c.args.key.now c.self.invariant (sym c.stands.ensures ∙ on)
