@@ -18,6 +18,7 @@ use Rattle.cmc_rules.specs.declared.progress.Stage.TheVariants.{Fresh}
 use Rattle.cmc_rules.specs.Acts.{act, call_after}
 use Rattle.cmc_rules.specs.Desks.{desk}
 use Rattle.cmc_rules.specs.Legality.{IsOpen}
+use Rattle.cmc_rules.specs.Origins.{origins, origin_at}
 use Rattle.cmc_rules.specs.Passes.{open_pass}
 use Rattle.cmc_rules.specs.Runs.{IsRun}
 use Rattle.cmc_model.specs.Histories.{Setting}
@@ -33,9 +34,10 @@ use Rattle.cmc_world.specs.declared.moves.Move.TheVariants.{Next, Decide}
 use Rattle.cmc_world.specs.declared.moves.Stepped.{Stepped}
 use Rattle.cmc_world.specs.declared.moves.Stepped.TheVariants.{Done, Order as Tells, NotNow, OtherViews}
 use Rattle.cmc_world.specs.Acting.{IsDoingBy, IsGoingOn, IsTaking, IsTaken, asked_in}
-use Rattle.cmc_world.specs.Answers.{AnswersDecide, Leaves, kept_of, next_answer}
+use Rattle.cmc_world.specs.Answers.{AnswersDecided, AnswersDecide, Leaves, kept_of, next_answer, outdated}
 use Rattle.cmc_world.specs.Decisions.{BegunPass, Decision, IsDecided, IsDecidedOn, IsUndecided, SawSame, bare_desk, decides_alone, is_fresh, is_undecided}
 use Rattle.cmc_world.proofs.Sounds.{each_sound}
+use Rattle.cmc_world.proofs.Tables.{of_open_pass}
 
 -- ---- roles that decide alone
 
@@ -113,6 +115,17 @@ pub takes : (s : Setting) (h : List Entry) (n : ℕ) (p : OpenPass) (d : Decisio
 takes s h n p d (Answer answer) is undecided saw (going, quiet) = (inr (subst IsUndecided (sym is) undecided, inr (subst (SawSame d) (sym is) saw, going)), quiet)
 takes s h n p d (Does doing) is undecided saw (going, goes) = (inr (subst IsUndecided (sym is) undecided, inr (subst (SawSame d) (sym is) saw, going)), goes)
 
+-- and so it is taken where it and the pass are of the present incarnation
+pub takes_present : (s : Setting) (h : List Entry) (n named : ℕ) (p : OpenPass) (d : Decision) (j : Judged) → outdated s h named (origin_at n (origins s h)) ≡ None → open_pass s h n ≡ Some p → IsTaking s h n d j
+    → IsTaken s h n named d j
+takes_present s h n named p d (Answer answer) present is (taken, quiet) = (of_open_pass s h n named p answer (AnswersDecided s h n d answer) present is taken, quiet)
+takes_present s h n named p d (Does doing) present is (taken, goes) =
+    (of_open_pass s h n named p (next_answer n (asked_in doing)) (AnswersDecided s h n d (next_answer n (asked_in doing))) present is taken, subst IsOpen (sym is) tt, goes)
+
+pub present_taken : (s : Setting) (h : List Entry) (n named : ℕ) (p : OpenPass) (d : Decision) (r : Result Judged AllocError) → outdated s h named (origin_at n (origins s h)) ≡ None → open_pass s h n ≡ Some p
+    → IfOk r (λ j. IsTaking s h n d j) → IfOk r (λ j. IsTaken s h n named d j)
+present_taken s h n named p d r present is taking = IfOk-weaker r _ _ (λ j taken. takes_present s h n named p d j present is taken) taking
+
 -- the answer of a decision that has the pass do this
 pub answer_taken : (s : Setting) (h : List Entry) (pass named : ℕ) (d : Decision) (j : Judged) (x : Doing) (r : Result Stepped AllocError) → IsTaken s h pass named d j → j ≡ Does x → IfOk r (λ a. a ≡ next_answer pass (asked_in x))
     → IfOk r (λ a. AnswersDecide s h pass named d a)
@@ -126,3 +139,6 @@ pub leaves_as_next : (s : Setting) (h k : List Entry) (pass named : ℕ) (d : De
 leaves_as_next s h k pass named d Done left = left
 leaves_as_next s h k pass named d (Tells number order) left = left
 leaves_as_next s h k pass named d other left = left
+
+pub leaves_taken : (s : Setting) (h k : List Entry) (pass named : ℕ) (d : Decision) (r : Result Stepped AllocError) → IfOk r (λ a. (m : ℕ) → Leaves s h (Next pass m) a k) → IfOk r (λ a. Leaves s h (Decide pass named d) a k)
+leaves_taken s h k pass named d r left = IfOk-weaker r _ _ (λ a each. leaves_as_next s h k pass named d a (each named)) left

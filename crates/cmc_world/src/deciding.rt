@@ -305,7 +305,9 @@ impl World {
         ensures leaves { IfOk result (λ r. Leaves (setting_of self.old.scenario) self.old.history (moves.Decide pass named decided) r self.new.history) }
         ensures err { OnErr result (self.new ≡ self.old) }
     {
-        match self.judge_decide(pass, named, &decided)? {
+        let judged = self.judge_decide(pass, named, &decided);
+        let_go(decided);
+        match judged? {
             Judged::Answer(answer) => Ok(answer),
             Judged::Does(doing) => self.make_next(alloc, pass, doing),
         }
