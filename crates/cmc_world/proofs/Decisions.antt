@@ -120,7 +120,7 @@ pub takes_present : (s : Setting) (h : List Entry) (n named : ℕ) (p : OpenPass
     → IsTaken s h n named d j
 takes_present s h n named p d (Answer answer) present is (taken, quiet) = (of_open_pass s h n named p answer (AnswersDecided s h n d answer) present is taken, quiet)
 takes_present s h n named p d (Does doing) present is (taken, goes) =
-    (of_open_pass s h n named p (next_answer n (asked_in doing)) (AnswersDecided s h n d (next_answer n (asked_in doing))) present is taken, subst IsOpen (sym is) tt, goes)
+    (of_open_pass s h n named p (next_answer n (asked_in doing)) (AnswersDecided s h n d (next_answer n (asked_in doing))) present is taken, (subst IsOpen (sym is) tt, goes))
 
 pub present_taken : (s : Setting) (h : List Entry) (n named : ℕ) (p : OpenPass) (d : Decision) (r : Result Judged AllocError) → outdated s h named (origin_at n (origins s h)) ≡ None → open_pass s h n ≡ Some p
     → IfOk r (λ j. IsTaking s h n d j) → IfOk r (λ j. IsTaken s h n named d j)
