@@ -35,7 +35,7 @@ use Rattle.cmc_world.specs.declared.moves.Stepped.{Stepped}
 use Rattle.cmc_world.specs.declared.moves.Stepped.TheVariants.{Done, Order as Tells, NotNow, OtherViews}
 use Rattle.cmc_world.specs.Acting.{IsDoingBy, IsGoingOn, IsTaking, IsTaken, asked_in}
 use Rattle.cmc_world.specs.Answers.{AnswersDecided, AnswersDecide, Leaves, kept_of, next_answer, outdated}
-use Rattle.cmc_world.specs.Decisions.{BegunPass, Decision, IsDecided, IsDecidedOn, IsUndecided, SawSame, bare_desk, decides_alone, is_fresh, is_undecided}
+use Rattle.cmc_world.specs.Decisions.{BegunPass, Decision, IsDecided, IsUndecided, SawSame, bare_desk, decides_alone, is_fresh, is_undecided}
 use Rattle.cmc_world.proofs.Sounds.{each_sound}
 use Rattle.cmc_world.proofs.Tables.{of_open_pass}
 
