@@ -20,15 +20,21 @@ use sink::StdSink;
 use source::StdSource;
 use std::alloc::AllocError;
 use std::env;
+use std::io::ErrorKind;
 use std::process::ExitCode;
 use top::{Status, code, failing_path, message, run};
 
 fn command_line(rt: &HostRuntime) -> Result<Vec<String>, AllocError> {
     let mut words = Vec::new(rt.alloc());
-    if let Ok(args) = env::args(rt) {
-        for word in args.skip(1) {
-            words.push(word)?;
+    match env::args(rt) {
+        Ok(args) => {
+            for word in args.skip(1) {
+                words.push(word)?;
+            }
         }
+        Err(error) if matches!(error.kind(), ErrorKind::OutOfMemory) => return Err(AllocError),
+        // A word that is no UTF-8 is none of the command line, and with no words at all there is no command.
+        Err(_) => {}
     }
     Ok(words)
 }
