@@ -27,6 +27,7 @@ extends_grown s h moves.Script k grown = extends_by s h moves.Script k grown
 extends_grown s h (moves.Deliver role kind to) k grown = extends_by s h (moves.Deliver role kind to) k grown
 extends_grown s h (moves.Begin role key) k grown = extends_by s h (moves.Begin role key) k grown
 extends_grown s h (moves.Give pass named given) k grown = extends_by s h (moves.Give pass named given) k grown
+extends_grown s h (moves.Decide pass named d) k grown = extends_by s h (moves.Decide pass named d) k grown
 
 -- where plain moves lead, what they led from stands below
 pub extends_plainly : (s : Setting) (ms : List Move) (h k : List Entry) → LeadsPlainly s ms h k → Extends h k
@@ -67,6 +68,7 @@ grown_length s h (moves.Deliver role kind to) k grown = ap length grown ∙ omeg
 grown_length s h (moves.Begin role key) k grown = ap length grown ∙ omega arith
 grown_length s h (moves.Next pass named) k (e, right, is) = ap length is ∙ omega arith
 grown_length s h (moves.Give pass named given) k grown = ap length grown ∙ omega arith
+grown_length s h (moves.Decide pass named d) k (e, right, is) = ap length is ∙ omega arith
 
 -- behind the end of a run no plain step is made
 no_more : (s : Setting) (h : List Entry) (move : Move) (k : List Entry) → IsEnd s h → IsPlainStep s h move k → ⊥

@@ -23,7 +23,7 @@ use Rattle.cmc_rules.specs.Causes.{IsCausedEntry, IsCaused, MayGive}
 use Rattle.cmc_rules.specs.Legality.{IsOfKind, IsOpen}
 use Rattle.cmc_rules.specs.Runs.{IsRun}
 use Rattle.cmc_world.specs.declared.moves.Move.{Move}
-use Rattle.cmc_world.specs.declared.moves.Move.TheVariants.{Script, Deliver, Begin, Next, Give}
+use Rattle.cmc_world.specs.declared.moves.Move.TheVariants.{Script, Deliver, Begin, Next, Give, Decide}
 use Rattle.cmc_world.specs.declared.moves.Stepped.{Stepped}
 use Rattle.cmc_world.specs.declared.moves.Stepped.TheVariants.{Done, NotNow, Ended, NotMine, Spent}
 use Rattle.cmc_world.specs.declared.moves.Lack.TheVariants.{ScriptOver, ScriptWaits, Stopped, NoInformer, Held, Current, NotAWrite, InProcess, OwnWrite, SameViews, NotQueued, NoPass}
@@ -190,6 +190,7 @@ chosen_comes s h (Deliver role kind to) step answer k present c is run a left =
     other_comes s h (Deliver role kind to) step answer k (λ grown. grown) is (λ asks. delivery_made s h role kind answer c.2.behind (subst (λ (m : ℕ). AnswersDelivery s h role kind m answer) c.3 asks)) a left
 chosen_comes s h (Begin role key) step answer k present c is run a left = other_comes s h (Begin role key) step answer k (λ grown. grown) is (begin_made s h role key answer c.3.fits.may) a left
 chosen_comes s h (Give n named given) step answer k present c is run a left = absurd c
+chosen_comes s h (Decide n named d) step answer k present c is run a left = absurd c
 
 -- ---- and what an answer tells
 

@@ -210,3 +210,5 @@ one_growth s h (moves.Deliver role kind to) g k run none x y = x ∙ sym y
 one_growth s h (moves.Begin role key) g k run none x y = x ∙ sym y
 one_growth s h (moves.Next pass named) g k run none (e, x, g_is) (d, y, k_is) = g_is ∙ ap (λ (z : Entry). z ∷ h) (one_of_course s h pass e d run none x y) ∙ sym k_is
 one_growth s h (moves.Give pass named given) g k run none x y = x ∙ sym y
+one_growth s h (moves.Decide pass named decision) g k run none (e, x, g_is) (d, y, k_is) =
+    g_is ∙ ap (λ (z : Entry). z ∷ h) (one_of_course s h pass e d run none (inl x) (inl y)) ∙ sym k_is

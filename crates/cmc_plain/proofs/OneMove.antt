@@ -15,7 +15,7 @@ use Rattle.cmc_model.specs.Writes.{writes, last_of_kind}
 use Rattle.cmc_rules.specs.Passes.{open_pass}
 use Rattle.cmc_model.proofs.Keys.{key_cmp-total, key_cmp-IsAntisymmetric}
 use Rattle.cmc_world.specs.declared.moves.Move.{Move}
-use Rattle.cmc_world.specs.declared.moves.Move.TheVariants.{Script, Deliver, Begin, Next, Give}
+use Rattle.cmc_world.specs.declared.moves.Move.TheVariants.{Script, Deliver, Begin, Next, Give, Decide}
 use Rattle.cmc_world.proofs.Rest.{same_kind}
 use Rattle.cmc_plain.specs.Plain.{IsOfPresent, IsFirstPass, IsFirstDelivery, IsFirstBegin, IsChosen, IsPlainMove}
 
@@ -78,10 +78,15 @@ one_begin s h role other key named x y =
 
 one_chosen : (s : Setting) (h : List Entry) (m n : Move) → IsChosen s h m → IsChosen s h n → m ≡ n
 one_chosen s h (Give pass named given) n x y = absurd x
+one_chosen s h (Decide pass named d) n x y = absurd x
 one_chosen s h Script (Give pass named given) x y = absurd y
 one_chosen s h (Next number present) (Give pass named given) x y = absurd y
 one_chosen s h (Deliver role kind to) (Give pass named given) x y = absurd y
 one_chosen s h (Begin role key) (Give pass named given) x y = absurd y
+one_chosen s h Script (Decide pass named d) x y = absurd y
+one_chosen s h (Next number present) (Decide pass named d) x y = absurd y
+one_chosen s h (Deliver role kind to) (Decide pass named d) x y = absurd y
+one_chosen s h (Begin role key) (Decide pass named d) x y = absurd y
 one_chosen s h Script Script x y = refl
 one_chosen s h Script (Next pass named) x y = absurd (y.0 x)
 one_chosen s h Script (Deliver role kind to) x y = absurd (y.0 x)

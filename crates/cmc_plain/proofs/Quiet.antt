@@ -208,6 +208,7 @@ covers_made s h (moves.Begin role key) k rows legal before woken grown covers =
 covers_made s h (moves.Next pass named) k rows legal before woken (e, of, grown) covers = subst (λ (l : List Entry). Covers s l rows) (sym grown) (covers_pass s h pass e rows before of covers)
 covers_made s h (moves.Give pass named given) k rows legal before woken grown covers =
     subst (λ (l : List Entry). Covers s l rows) (sym grown) (covers_value (value_of given) s h pass rows before covers)
+covers_made s h (moves.Decide pass named d) k rows legal before woken (e, of, grown) covers = subst (λ (l : List Entry). Covers s l rows) (sym grown) (covers_pass s h pass e rows before of covers)
 
 covers_once : (kept : Option Order) (s : Setting) (h : List Entry) (pass : ℕ) (order : Order) (rows : List (BTreeSet Key)) → IsLegal s h → Covers s h rows → Covers s (asked_once kept pass order h) rows
 covers_once None s h pass order rows legal covers = covers_with s h (Ask pass order) rows legal (λ role key work off. tt) covers
@@ -215,6 +216,8 @@ covers_once (Some kept) s h pass order rows legal covers = covers
 
 covers_asked : (s : Setting) (h : List Entry) (move : Move) (order : Order) (k : List Entry) (rows : List (BTreeSet Key)) → IsLegal s h → LeavesAsked s h move order k → Covers s h rows → Covers s k rows
 covers_asked s h (moves.Next pass named) order k rows legal is covers =
+    subst (λ (l : List Entry). Covers s l rows) (sym is) (covers_once (kept_of (open_pass s h pass)) s h pass order rows legal covers)
+covers_asked s h (moves.Decide pass named d) order k rows legal is covers =
     subst (λ (l : List Entry). Covers s l rows) (sym is) (covers_once (kept_of (open_pass s h pass)) s h pass order rows legal covers)
 covers_asked s h other order k rows legal is covers = subst (λ (l : List Entry). Covers s l rows) (sym is) covers
 

@@ -24,7 +24,7 @@ use Rattle.cmc_rules.specs.Resting.{IsIdle}
 use Rattle.cmc_rules.specs.Following.{IsReady}
 use Rattle.cmc_rules.specs.Runs.{IsFinished}
 use Rattle.cmc_world.specs.declared.moves.Move.{Move}
-use Rattle.cmc_world.specs.declared.moves.Move.TheVariants.{Script, Deliver, Begin, Next, Give}
+use Rattle.cmc_world.specs.declared.moves.Move.TheVariants.{Script, Deliver, Begin, Next, Give, Decide}
 
 -- ---- the script
 
@@ -106,13 +106,14 @@ abbrev pub HasNoDelivery : Setting → List Entry → Type 0
 HasNoDelivery s h = (role : Role) (kind : Kind) → IsBehind s h role kind → ⊥
 
 -- First the next step of the script, then the least open pass, then a delivery of the newest write, then a begin. A pass that waits for a
--- value is open too: that it is given one is its next phase, and no move of its own.
+-- value is open too: that it is given one is its next phase, and no move of its own. One hand decides as it goes on, and never apart from that.
 abbrev pub IsChosen : Setting → List Entry → Move → Type 0
 IsChosen s h Script = IsStepReady s h
 IsChosen s h (Next n named) = HasNoScript s h × IsFirstPass s h n × IsOfPresent s h named (open_pass s h n)
 IsChosen s h (Deliver role kind to) = HasNoScript s h × HasNoPass s h × IsFirstDelivery s h role kind × (to ≡ last_of_kind kind (writes s h))
 IsChosen s h (Begin role key) = HasNoScript s h × HasNoPass s h × HasNoDelivery s h × IsFirstBegin s h role key
 IsChosen s h (Give n named given) = ⊥
+IsChosen s h (Decide n named d) = ⊥
 
 -- the move that a run by one hand makes next, none exactly where it is finished
 abbrev pub IsPlainMove : Setting → List Entry → Option Move → Type 0

@@ -35,7 +35,11 @@ fn is_right(step: &Move)
 {
     match step {
         Move::Give { given, .. } => is_value(given),
-        Move::Script | Move::Deliver { .. } | Move::Begin { .. } | Move::Next { .. } => {}
+        Move::Script
+        | Move::Deliver { .. }
+        | Move::Begin { .. }
+        | Move::Next { .. }
+        | Move::Decide { .. } => {}
     }
 }
 

@@ -11,13 +11,15 @@ pub enum Work {
     Sign,
     /// The approver judges a request.
     Judge,
+    /// A role decides by what its pass saw: issuing and the request manager, which read certificates and keys for it.
+    Decide,
 }
 
 /// A piece of work that is about to be done.
 #[derive(Clone, Copy)]
 pub struct Point {
     pub work: Work,
-    /// The number of the entry in which the pass asked for it.
+    /// The number of the entry in which the pass asked for it, and of a decision of that in which it began.
     pub entry: u64,
 }
 

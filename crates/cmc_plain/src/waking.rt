@@ -237,7 +237,7 @@ fn wake_for(
             })?;
             Ok(())
         }
-        Move::Next { .. } | Move::Give { .. } => Ok(()),
+        Move::Next { .. } | Move::Give { .. } | Move::Decide { .. } => Ok(()),
     }
 }
 

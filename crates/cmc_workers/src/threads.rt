@@ -2,18 +2,56 @@
 //!
 //! They meet at one lock and one condition variable. A thread that changed something wakes the others before it waits
 //! itself, and one that changed nothing does not, so that idle threads do not wake each other for ever. What is handed
-//! out (keys, signatures, issuers' answers, judgements) is made outside the lock, behind the gate.
+//! out (keys, signatures, issuers' answers, judgements) is made outside the lock, behind the gate, and there issuing and
+//! the request manager decide, which read certificates and keys for it.
 ghost use Rattle.std.specs.Prelude.{IfOk, IfSome};
-ghost use Rattle.cmc_plain.specs.Driving.{CanBeMade};
+ghost use Rattle.cmc_workers.specs.Driving.{CanBeDone};
 
-use crate::shared::{Answer, Question, Shared};
+use crate::shared::{Errand, Outcome, Shared, Undecided};
 use cmc_answers::Signer;
 use cmc_keys::KeyMaker;
 use cmc_plain::{Gate, Waking, value_for};
+use cmc_world::decide;
 use std::alloc::{AllocError, Global};
 use std::sync::{Condvar, Mutex, Wait};
 use std::thread;
 use std::thread::Threads;
+
+/// Has the role of the pass decide, behind the gate.
+fn decided<G: Gate>(alloc: Global, undecided: Undecided, gate: &G) -> Result<Outcome, AllocError> {
+    let Undecided {
+        taken,
+        begun,
+        point,
+    } = undecided;
+    gate.at(point);
+    match decide(alloc, begun)? {
+        Some(decided) => Ok(Outcome::Decision { taken, decided }),
+        None => Ok(Outcome::Nothing { taken }),
+    }
+}
+
+/// Does what a pass waits for, behind the gate.
+fn done<M: KeyMaker, N: Signer, G: Gate>(
+    alloc: Global,
+    errand: Errand,
+    keys: &M,
+    signer: &N,
+    gate: &G,
+) -> Result<Outcome, AllocError>
+    requires { CanBeDone errand }
+{
+    match errand {
+        Errand::Value(question) => {
+            gate.at(question.point);
+            Ok(Outcome::Value {
+                taken: question.taken,
+                given: value_for(alloc, &question.order, keys, signer)?,
+            })
+        }
+        Errand::Decision(undecided) => decided(alloc, undecided, gate),
+    }
+}
 
 /// What the threads share.
 struct Hall {
@@ -28,29 +66,29 @@ impl Hall {
         self.moved.notify_all();
     }
 
-    /// Gives a value back, and goes on with passes up to the next question. Waits while no pass can go on or begin. `None`
-    /// where all is over.
+    /// Goes on with the pass for which the worker comes back, and then with others, up to the next work outside of the lock.
+    /// Waits while no pass can go on or begin. `None` where all is over.
     fn next<R: Wait>(
         &self,
         rt: &R,
         alloc: Global,
-        given: Option<Answer>,
-    ) -> Result<Option<Question>, AllocError>
-        ensures { IfOk result (λ q. IfSome q (λ asked. CanBeMade asked.order)) }
+        brought: Option<Outcome>,
+    ) -> Result<Option<Errand>, AllocError>
+        ensures { IfOk result (λ e. IfSome e CanBeDone) }
     {
         let mut shared = self.shared.lock(rt);
-        let mut answer = given;
+        let mut outcome = brought;
         for _ in rt.forever() {
             if shared.over {
                 self.moved.notify_all();
                 return Ok(None);
             }
             let before = shared.entries();
-            if let Some(question) = shared.work(alloc, answer.take())? {
+            if let Some(errand) = shared.work(alloc, outcome.take())? {
                 // This thread may stay away for long, while others sleep.
                 drop(shared);
                 self.moved.notify_all();
-                return Ok(Some(question));
+                return Ok(Some(errand));
             }
             if before < shared.entries() || shared.over {
                 self.moved.notify_all();
@@ -71,16 +109,12 @@ impl Hall {
         signer: &N,
         gate: &G,
     ) -> Result<(), AllocError> {
-        let mut given = None;
+        let mut brought = None;
         for _ in rt.forever() {
-            let Some(question) = self.next(rt, alloc, given)? else {
+            let Some(errand) = self.next(rt, alloc, brought)? else {
                 return Ok(());
             };
-            gate.at(question.point);
-            given = Some(Answer {
-                taken: question.taken,
-                given: value_for(alloc, &question.order, keys, signer)?,
-            });
+            brought = Some(done(alloc, errand, keys, signer, gate)?);
         }
         unreachable!()
     }

@@ -43,7 +43,7 @@ use Rattle.cmc_safety.proofs.Safe.{safe}
 use Rattle.cmc_world.proofs.Asking.{silent}
 use Rattle.cmc_world.proofs.Sounds.{each_sound}
 use Rattle.cmc_world.proofs.Stepping.{low_start}
-use Rattle.cmc_world.proofs.Tables.{MayDeliver, may_deliver, may_begin, may_step, room_next, MayTell, may_tell, may_give}
+use Rattle.cmc_world.proofs.Tables.{MayDeliver, may_deliver, may_begin, may_step, room_next, MayTell, may_tell, next_done, next_told, may_give}
 
 -- ---- one entry more
 
@@ -175,6 +175,8 @@ by_question s h pass order k so is (inr (none, new, room)) left =
 
 by_told : (s : Setting) (h : List Entry) (move : Move) (number : ℕ) (order : Order) (k : List Entry) → IsSettled s h → Answers s h move (Tells number order) → LeavesAsked s h move order k → IsSettled s k
 by_told s h (moves.Next pass named) number order k so a left = let may = may_tell s h pass named number order a in by_question s h pass order k so may.0 may.1 left
+by_told s h (moves.Decide pass named d) number order k so a left =
+    let may = may_tell s h pass named number order (next_told s h pass named number d order a) in by_question s h pass order k so may.0 may.1 left
 by_told s h other number order k so a same = subst (IsSettled s) (sym same) so
 
 -- a value that is right for the question that is kept is one that the pass may be given
@@ -221,6 +223,7 @@ by_move s h (moves.Begin role key) k right so a grown =
 by_move s h (moves.Next pass named) k right so a (e, is, grown) = subst (IsSettled s) (sym grown) (by_pass s h pass e so (room_next s h pass named a) is)
 by_move s h (moves.Give pass named given) k right so a grown =
     let may = may_give s h pass named given a in subst (IsSettled s) (sym grown) (by_value s h pass (order_of given) (value_of given) so may.1 may.0 right)
+by_move s h (moves.Decide pass named d) k right so a (e, is, grown) = subst (IsSettled s) (sym grown) (by_pass s h pass e so (room_next s h pass named (next_done s h pass named d a)) is)
 
 by_step : (s : Setting) (h : List Entry) (move : Move) (answer : Stepped) (k : List Entry) → IsRight move → IsSettled s h → Answers s h move answer → Leaves s h move answer k → IsSettled s k
 by_step s h move Done k right so a grown = by_move s h move k right so a grown
@@ -257,6 +260,7 @@ extends_by s h (moves.Deliver role kind to) k grown = (delivered s h role kind t
 extends_by s h (moves.Begin role key) k grown = (beginning s h role key ∷ [], grown)
 extends_by s h (moves.Next pass named) k (e, right, is) = (e ∷ [], is)
 extends_by s h (moves.Give pass named given) k grown = (value_entry pass (value_of given) ∷ [], grown)
+extends_by s h (moves.Decide pass named d) k (e, right, is) = (e ∷ [], is)
 
 -- a question that is told is at most one entry more
 asked_above : (kept : Option Order) (pass : ℕ) (order : Order) (h k : List Entry) → k ≡ asked_once kept pass order h → Extends h k
@@ -265,6 +269,7 @@ asked_above (Some other) pass order h k is = ([], is)
 
 extends_asked : (s : Setting) (h : List Entry) (move : Move) (order : Order) (k : List Entry) → LeavesAsked s h move order k → Extends h k
 extends_asked s h (moves.Next pass named) order k left = asked_above (kept_of (open_pass s h pass)) pass order h k left
+extends_asked s h (moves.Decide pass named d) order k left = asked_above (kept_of (open_pass s h pass)) pass order h k left
 extends_asked s h other order k same = ([], same)
 
 left_by : (s : Setting) (h : List Entry) (move : Move) (answer : Stepped) (k : List Entry) → Leaves s h move answer k → Extends h k

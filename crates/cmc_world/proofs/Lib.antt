@@ -9,6 +9,7 @@ pub mod Events
 pub mod Judging
 pub mod Asking
 pub mod NextSteps
+pub mod Decisions
 pub mod Starting
 pub mod Counts
 pub mod Calls

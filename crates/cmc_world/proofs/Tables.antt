@@ -24,11 +24,12 @@ use Rattle.cmc_rules.specs.Scripting.{scripted, step_at, held}
 use Rattle.cmc_rules.specs.Following.{IsReady}
 use Rattle.cmc_rules.specs.Sameness.{own_above}
 use Rattle.cmc_world.specs.declared.moves.Lack.{Lack}
-use Rattle.cmc_world.specs.declared.moves.Lack.TheVariants.{ScriptOver, ScriptWaits, Stopped, NoInformer, Held, Current, NotAWrite, NotQueued, InProcess, SameViews, OwnWrite, NoPass}
+use Rattle.cmc_world.specs.declared.moves.Lack.TheVariants.{ScriptOver, ScriptWaits, Stopped, NoInformer, Held, Current, NotAWrite, NotQueued, InProcess, SameViews, OwnWrite, NoPass, Settled}
 use Rattle.cmc_world.specs.declared.moves.Stepped.{Stepped}
-use Rattle.cmc_world.specs.declared.moves.Stepped.TheVariants.{Done, Order as Asks, NotNow, Ended, NotMine, Spent}
-use Rattle.cmc_world.specs.Answers.{is_done, Need, Bar, BarOf, Fits, IsNews, IsQueued, outdated, entries_of, next_effect, AnswersScript, AnswersDelivery, AnswersBegin, AnswersOpen, AnswersGoing, AnswersNext, AnswersGiven, AnswersGive, kept_of, new_of, next_answer}
+use Rattle.cmc_world.specs.declared.moves.Stepped.TheVariants.{Done, Order as Asks, NotNow, Ended, NotMine, OtherViews, Spent}
+use Rattle.cmc_world.specs.Answers.{is_done, Need, Bar, BarOf, Fits, IsNews, IsQueued, outdated, entries_of, next_effect, AnswersScript, AnswersDelivery, AnswersBegin, AnswersOpen, AnswersGoing, AnswersNext, AnswersDecided, AnswersDecide, AnswersGiven, AnswersGive, kept_of, new_of, next_answer}
 use Rattle.cmc_rules.specs.Passes.{IsWorking}
+use Rattle.cmc_world.specs.Decisions.{Decision}
 use Rattle.cmc_world.specs.Tables.{fitting, own_answer, delivery_answer, begin_answer, script_answer}
 
 -- a test decides whether a fact holds
@@ -232,6 +233,36 @@ pub may_tell : (s : Setting) (h : List Entry) (pass named number : ℕ) (order :
 may_tell s h pass named number order a =
     let found = open_of s h pass named (Asks number order) (AnswersGoing s h pass (kept_of (open_pass s h pass)) (new_of s h (open_pass s h pass)) (Asks number order)) (λ present e. absurd (cc e)) (λ e. absurd (cc e)) a in
     (found.0, going_told s h pass number (kept_of (open_pass s h pass)) (new_of s h (open_pass s h pass)) order found.1)
+
+-- ---- decisions
+
+-- what is known of a pass that is open may be exchanged
+open_on : {one other : Type 0} → (s : Setting) (h : List Entry) (pass : ℕ) (out : Option ℕ) (answer : Stepped) → (one → other)
+    → BarOf out (λ present. Ended present) answer (Need (IsOpen (open_pass s h pass)) (NotNow (NoPass pass)) answer one)
+    → BarOf out (λ present. Ended present) answer (Need (IsOpen (open_pass s h pass)) (NotNow (NoPass pass)) answer other)
+open_on s h pass None answer on (inl bad) = inl bad
+open_on s h pass None answer on (inr good) = inr (good.0, on good.1)
+open_on s h pass (Some present) answer on a = a
+
+going_taken : (s : Setting) (h : List Entry) (pass : ℕ) (d : Decision) (answer : Stepped) → (answer ≡ NotNow Settled → ⊥) → (answer ≡ OtherViews pass → ⊥) → AnswersDecided s h pass d answer
+    → AnswersGoing s h pass (kept_of (open_pass s h pass)) (new_of s h (open_pass s h pass)) answer
+going_taken s h pass d answer settled others (inl bad) = absurd (settled bad.1)
+going_taken s h pass d answer settled others (inr (is, inl bad)) = absurd (others bad.1)
+going_taken s h pass d answer settled others (inr (is, inr (same, going))) = going
+
+-- a decision that is taken is answered as the move without one
+next_answers : (s : Setting) (h : List Entry) (pass named : ℕ) (d : Decision) (answer : Stepped) → (answer ≡ NotNow Settled → ⊥) → (answer ≡ OtherViews pass → ⊥) → AnswersDecide s h pass named d answer
+    → AnswersNext s h pass named answer
+next_answers s h pass named d answer settled others a =
+    open_on s h pass (outdated s h named (origin_at pass (origins s h))) answer (going_taken s h pass d answer settled others) a
+
+pub next_done : (s : Setting) (h : List Entry) (pass named : ℕ) (d : Decision) → AnswersDecide s h pass named d Done → AnswersNext s h pass named Done
+next_done s h pass named d a = next_answers s h pass named d Done (not_now Settled) (λ e. absurd (cc e)) a
+
+pub next_told : (s : Setting) (h : List Entry) (pass named number : ℕ) (d : Decision) (order : Order) → AnswersDecide s h pass named d (Asks number order) → AnswersNext s h pass named (Asks number order)
+next_told s h pass named number d order a = next_answers s h pass named d (Asks number order) (λ e. absurd (cc e)) (λ e. absurd (cc e)) a
+
+-- ---- values
 
 given_done : (s : Setting) (h : List Entry) (kept : Option Order) (given : Order) → AnswersGiven s h kept given Done → (kept ≡ Some given) × (length h + 1 ≤ s.events)
 given_done s h None given a = absurd (cc a)

@@ -18,7 +18,8 @@ use Rattle.cmc_rules.specs.Passes.{open_pass, writes_stand_in}
 use Rattle.cmc_rules.specs.Memory.{ending_at}
 use Rattle.cmc_rules.specs.Causes.{IsNextCall, AsksBy, EndsBy, MayCall, MayAsk, MayEnd}
 use Rattle.cmc_rules.specs.Legality.{IsOpen}
-use Rattle.cmc_world.specs.Answers.{IsCalled, kept_of, new_of, next_answer, AnswersGoing, AnswersNext}
+use Rattle.cmc_world.specs.Answers.{IsCalled, kept_of, new_of, next_answer, AnswersGoing, AnswersNext, AnswersDecided, AnswersDecide}
+use Rattle.cmc_world.specs.Decisions.{Decision}
 use Rattle.cmc_world.specs.Kept.{Seen, setting_of}
 use Rattle.cmc_world.specs.declared.moves.Stepped.{Stepped}
 use Rattle.cmc_world.specs.declared.moves.Stepped.TheVariants.{Done, Order as Tells}
@@ -86,6 +87,16 @@ IsGoingOn s h pass (Does d) = AnswersGoing s h pass (kept_of (open_pass s h pass
 abbrev pub IsJudged : Setting → List Entry → ℕ → ℕ → Judged → Type 0
 IsJudged s h pass named (Answer answer) = AnswersNext s h pass named answer × IsQuiet (kept_of (open_pass s h pass)) answer
 IsJudged s h pass named (Does d) = AnswersNext s h pass named (next_answer pass (asked_in d)) × (IsOpen (open_pass s h pass) × IsGoing s h pass d)
+
+-- what a decision for the open pass comes to
+abbrev pub IsTaking : Setting → List Entry → ℕ → Decision → Judged → Type 0
+IsTaking s h pass d (Answer answer) = AnswersDecided s h pass d answer × IsQuiet (kept_of (open_pass s h pass)) answer
+IsTaking s h pass d (Does doing) = AnswersDecided s h pass d (next_answer pass (asked_in doing)) × IsGoing s h pass doing
+
+-- the same of the pass of this number, which need not be open
+abbrev pub IsTaken : Setting → List Entry → ℕ → ℕ → Decision → Judged → Type 0
+IsTaken s h pass named d (Answer answer) = AnswersDecide s h pass named d answer × IsQuiet (kept_of (open_pass s h pass)) answer
+IsTaken s h pass named d (Does doing) = AnswersDecide s h pass named d (next_answer pass (asked_in doing)) × (IsOpen (open_pass s h pass) × IsGoing s h pass doing)
 
 -- ---- what is known as a pass goes on
 

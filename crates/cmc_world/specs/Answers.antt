@@ -41,10 +41,11 @@ use Rattle.cmc_rules.specs.Scripting.{scripted, step_at, held}
 use Rattle.cmc_rules.specs.Following.{effect_of, IsReady}
 use Rattle.cmc_rules.specs.Sameness.{own_above}
 use Rattle.cmc_world.specs.declared.moves.Move.{Move}
-use Rattle.cmc_world.specs.declared.moves.Move.TheVariants.{Script, Deliver, Begin, Next, Give}
-use Rattle.cmc_world.specs.declared.moves.Lack.TheVariants.{ScriptOver, ScriptWaits, Stopped, NoInformer, Held, Current, NotAWrite, NotQueued, InProcess, SameViews, OwnWrite, NoPass, NotAsked}
+use Rattle.cmc_world.specs.declared.moves.Move.TheVariants.{Script, Deliver, Begin, Next, Give, Decide}
+use Rattle.cmc_world.specs.declared.moves.Lack.TheVariants.{ScriptOver, ScriptWaits, Stopped, NoInformer, Held, Current, NotAWrite, NotQueued, InProcess, SameViews, OwnWrite, NoPass, NotAsked, Settled}
 use Rattle.cmc_world.specs.declared.moves.Stepped.{Stepped}
-use Rattle.cmc_world.specs.declared.moves.Stepped.TheVariants.{Done, Order as Asks, NotNow, Ended, NotMine, Spent}
+use Rattle.cmc_world.specs.declared.moves.Stepped.TheVariants.{Done, Order as Asks, NotNow, Ended, NotMine, OtherViews, Spent}
+use Rattle.cmc_world.specs.Decisions.{Decision, IsUndecided, SawSame}
 
 abbrev pub is_done : Stepped → Bool
 is_done Done = true
@@ -191,6 +192,17 @@ AnswersOpen s h pass named answer rest =
 abbrev pub AnswersNext : Setting → List Entry → ℕ → ℕ → Stepped → Type 0
 AnswersNext s h pass named answer = AnswersOpen s h pass named answer (AnswersGoing s h pass (kept_of (open_pass s h pass)) (new_of s h (open_pass s h pass)) answer)
 
+-- A decision is taken by a pass that has done nothing yet, of a role that decides alone, and only on what this pass saw. Then the pass goes
+-- on as without one.
+abbrev pub AnswersDecided : Setting → List Entry → ℕ → Decision → Stepped → Type 0
+AnswersDecided s h pass d answer =
+    Need (IsUndecided (open_pass s h pass)) (NotNow Settled) answer
+    (Need (SawSame d (open_pass s h pass)) (OtherViews pass) answer
+    (AnswersGoing s h pass (kept_of (open_pass s h pass)) (new_of s h (open_pass s h pass)) answer))
+
+abbrev pub AnswersDecide : Setting → List Entry → ℕ → ℕ → Decision → Stepped → Type 0
+AnswersDecide s h pass named d answer = AnswersOpen s h pass named answer (AnswersDecided s h pass d answer)
+
 -- what is given has to answer the question whose value is waited for
 abbrev pub AnswersGiven : Setting → List Entry → Option Order → Order → Stepped → Type 0
 AnswersGiven s h None given answer = answer ≡ NotNow NotAsked
@@ -225,6 +237,7 @@ Answers s h (Deliver role kind to) answer = AnswersDelivery s h role kind to ans
 Answers s h (Begin role key) answer = AnswersBegin s h role key answer
 Answers s h (Next pass named) answer = AnswersNext s h pass named answer
 Answers s h (Give pass named given) answer = AnswersGive s h pass named given answer
+Answers s h (Decide pass named d) answer = AnswersDecide s h pass named d answer
 
 -- the entries that the move adds, below which the old history stands
 abbrev pub Grows : Setting → List Entry → Move → List Entry → Type 0
@@ -233,10 +246,12 @@ Grows s h (Deliver role kind to) k = k ≡ delivered s h role kind to ∷ h
 Grows s h (Begin role key) k = k ≡ beginning s h role key ∷ h
 Grows s h (Next pass named) k = (e : Entry) × IsOfPass s h pass e × (k ≡ e ∷ h)
 Grows s h (Give pass named given) k = k ≡ value_entry pass (value_of given) ∷ h
+Grows s h (Decide pass named d) k = (e : Entry) × IsOfPass s h pass e × (k ≡ e ∷ h)
 
 -- a question that is told stands once
 abbrev pub LeavesAsked : Setting → List Entry → Move → Order → List Entry → Type 0
 LeavesAsked s h (Next pass named) order k = k ≡ asked_once (kept_of (open_pass s h pass)) pass order h
+LeavesAsked s h (Decide pass named d) order k = k ≡ asked_once (kept_of (open_pass s h pass)) pass order h
 LeavesAsked s h other order k = k ≡ h
 
 -- a move that is made adds its entries, and a question that is told its own, once; any other answer leaves the history as it was

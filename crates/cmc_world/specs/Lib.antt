@@ -1,4 +1,5 @@
 pub mod Rest
+pub mod Decisions
 pub mod Answers
 pub mod Tables
 pub mod Acting

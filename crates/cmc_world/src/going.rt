@@ -83,7 +83,7 @@ impl Drop for Closing {
 }
 
 /// What a pass does first whose act is this: what issues begins with the live read of its Certificate.
-fn first_doing(does: Act) -> Result<Doing, AllocError>
+pub(crate) fn first_doing(does: Act) -> Result<Doing, AllocError>
     ensures { IfOk result (λ d. (after : OrderValue → ValueGiven → OptionValue CallValue) → IsDoingBy Stage.Fresh does after d) }
 {
     match does {
@@ -142,7 +142,7 @@ fn doing_of(alloc: Global, pass: &OpenPass, desk: &Desk) -> Result<Doing, AllocE
 }
 
 /// What a move is answered that has the pass do this.
-fn answer_of(pass: u64, doing: &Doing) -> Result<Stepped, AllocError>
+pub(crate) fn answer_of(pass: u64, doing: &Doing) -> Result<Stepped, AllocError>
     ensures { IfOk result (λ a. a ≡ next_answer pass (asked_in doing.now)) }
 {
     match doing {
@@ -155,7 +155,7 @@ fn answer_of(pass: u64, doing: &Doing) -> Result<Stepped, AllocError>
 }
 
 /// What comes next of a pass has many shapes, and to let go of it is one thing for all of them.
-fn let_go<T: Drop>(value: T) {
+pub(crate) fn let_go<T: Drop>(value: T) {
     let _value = value;
 }
 
@@ -221,7 +221,7 @@ fn key_of_call(call: &Call) -> Result<Key, AllocError>
 }
 
 impl World {
-    fn outdated_origin(&self, origin: Option<Origin>, named: u64) -> Option<u64>
+    pub(crate) fn outdated_origin(&self, origin: Option<Origin>, named: u64) -> Option<u64>
         ensures { result ≡ outdated (setting_of self.now.scenario) self.now.history named origin }
     {
         match origin {
@@ -493,7 +493,12 @@ impl World {
     }
 
     /// Has an open pass do what comes next of it, and answers the move.
-    fn make_next(&mut self, alloc: Global, pass: u64, doing: Doing) -> Result<Stepped, AllocError>
+    pub(crate) fn make_next(
+        &mut self,
+        alloc: Global,
+        pass: u64,
+        doing: Doing,
+    ) -> Result<Stepped, AllocError>
         requires stands { IsOpen (spec.open_pass (setting_of self.old.scenario) self.old.history pass) }
         requires goes { IsGoing (setting_of self.old.scenario) self.old.history pass doing }
         ensures answer { IfOk result (λ r. r ≡ next_answer pass (asked_in doing)) }

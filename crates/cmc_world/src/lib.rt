@@ -6,6 +6,7 @@
 
 mod acts;
 mod beginning;
+mod deciding;
 mod going;
 mod moves;
 mod noting;
@@ -16,5 +17,6 @@ mod telling;
 mod user_writes;
 mod world;
 
+pub use deciding::{Begun, Decided, decide, decides_alone};
 pub use moves::{Lack, Move, Stepped};
 pub use world::{World, every_list_of_moves};

@@ -3,6 +3,7 @@ ghost use Rattle.std.specs.Prelude.{◌≡◌};
 ghost use Rattle.cmc_world.specs.Tables.{delivery_answer, begin_answer, script_answer};
 ghost use Rattle.cmc_world.specs.Answers as answers;
 
+use crate::deciding::Decided;
 use cmc_meta::{Key, Kind};
 use cmc_objects::{Order, Role};
 use cmc_pass::Given;
@@ -35,6 +36,13 @@ pub enum Move {
         incarnation: u64,
         given: Given,
     },
+    /// The pass of this number, begun while its role had this incarnation, goes on by a decision that was made on what it
+    /// saw: its role need not decide once more.
+    Decide {
+        pass: u64,
+        incarnation: u64,
+        decided: Decided,
+    },
 }
 
 /// Why a move is not possible now.
@@ -66,6 +74,9 @@ pub enum Lack {
     NoPass { pass: u64 },
     /// The pass waits for no value: it has not asked, or was given one.
     NotAsked,
+    /// The pass takes no decision: its role is one that decides by more than what it sees, or the pass has asked or
+    /// called already.
+    Settled,
 }
 
 /// What a step answers.
@@ -83,6 +94,8 @@ pub enum Stepped {
     Ended { incarnation: u64 },
     /// The pass waits for the value of another question than the one that is answered; all is as it was.
     NotMine { kept: Order, given: Order },
+    /// The decision is not on what this pass saw: the role, the views or the moment differ; all is as it was.
+    OtherViews { pass: u64 },
     /// The entries of the move do not fit in the history, which has this many; all is as it was.
     Spent { entries: u64 },
 }

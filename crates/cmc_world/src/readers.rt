@@ -47,6 +47,11 @@ impl World {
                 incarnation,
                 given,
             } => self.judge_give(*pass, *incarnation, given),
+            Move::Decide {
+                pass,
+                incarnation,
+                decided,
+            } => self.answer_decide(*pass, *incarnation, decided),
         }
     }
 

@@ -249,6 +249,11 @@ impl World {
                 incarnation,
                 given,
             } => self.step_give(pass, incarnation, given),
+            Move::Decide {
+                pass,
+                incarnation,
+                decided,
+            } => self.step_decide(alloc, pass, incarnation, decided),
         }
     }
 
@@ -257,8 +262,9 @@ impl World {
     ///
     /// A move that is made adds one or two entries to the history, those of its kind (`Grows`): a step of the
     /// script its own and that of what it has happen, a delivery that of the delivery or of a list, a begin its
-    /// own, a pass that goes on its call or its end, and a value that is given its own. A question that is told
-    /// for the first time adds its entry (`LeavesAsked`). Any other answer leaves the world as it was.
+    /// own, a pass that goes on, by itself or by a decision, its call or its end, and a value that is given its own. A
+    /// question that is told for the first time adds its entry (`LeavesAsked`). Any other answer leaves the world as it
+    /// was.
     ///
     /// # Errors
     ///

@@ -5,6 +5,8 @@
 #[cfg(test)]
 mod audit;
 #[cfg(test)]
+mod deciding;
+#[cfg(test)]
 mod informer;
 #[cfg(test)]
 mod queue;

@@ -2,6 +2,7 @@
 // refused. Pseudo-random moves of all eight roles, mixed with plain ones, are made on a world of several
 // Certificates and Secrets, with lag, stops, starts, holds, faults, and values that answer another question.
 use crate::audit::audit;
+use crate::deciding::decision;
 use cmc_answers::{ScriptedSigner, Signer, judge};
 use cmc_history::History;
 use cmc_keys::{KeyMaker, ScriptedKeys, is_allowed_size};
@@ -15,11 +16,17 @@ use cmc_plain::plain;
 use cmc_policy_rules::Policies;
 use cmc_setup::{Roles, Scenario, Steps, is_setup};
 use cmc_tests::values::{key, least_spec, new_meta, text, texts};
-use cmc_world::{Lack, Move, Stepped, World};
+use cmc_world::{Decided, Lack, Move, Stepped, World};
 use std::alloc::Global;
+use std::mem;
 use std::test::Fail;
 
-fn certificate(alloc: Global, word: &str, secret: &str, host: &str) -> Result<Step, Fail> {
+pub(crate) fn certificate(
+    alloc: Global,
+    word: &str,
+    secret: &str,
+    host: &str,
+) -> Result<Step, Fail> {
     let meta = new_meta(alloc, word)?;
     let spec = least_spec(alloc, secret, host)?;
     let status = CertStatus {
@@ -256,12 +263,13 @@ fn some_move(alloc: Global, random: &mut u64, begun: u64) -> Result<Move, Fail> 
 /// Which answers came, in the order of their names below.
 #[derive(Drop)]
 struct Met {
-    answers: [bool; 18],
+    answers: [bool; 20],
 }
 
-const NAMES: [&str; 18] = [
+const NAMES: [&str; 20] = [
     "done", "over", "waits", "stopped", "informer", "held", "current", "write", "queued",
-    "process", "same", "own", "pass", "ended", "spent", "order", "asked", "mine",
+    "process", "same", "own", "pass", "ended", "spent", "order", "asked", "mine", "settled",
+    "views",
 ];
 
 fn note_lack(met: &mut Met, lack: &Lack) {
@@ -279,6 +287,7 @@ fn note_lack(met: &mut Met, lack: &Lack) {
         Lack::OwnWrite { .. } => met.answers[11] = true,
         Lack::NoPass { .. } => met.answers[12] = true,
         Lack::NotAsked => met.answers[16] = true,
+        Lack::Settled => met.answers[18] = true,
     }
 }
 
@@ -289,6 +298,7 @@ fn note(met: &mut Met, answer: &Stepped) {
         Stepped::NotNow(lack) => note_lack(met, lack),
         Stepped::Ended { .. } => met.answers[13] = true,
         Stepped::NotMine { .. } => met.answers[17] = true,
+        Stepped::OtherViews { .. } => met.answers[19] = true,
         Stepped::Spent { .. } => met.answers[14] = true,
     }
 }
@@ -329,6 +339,29 @@ fn some_gift(
     })
 }
 
+/// The decision that was kept, handed in for the newest pass: one on what this pass saw is kept in its place.
+fn some_decision(
+    alloc: Global,
+    world: &World,
+    random: &mut u64,
+    begun: u64,
+    kept: &mut Option<Decided>,
+) -> Result<Move, Fail> {
+    let old = match decision(alloc, world, begun)? {
+        Some(new) => mem::replace(kept, Some(new)),
+        None if pick(random, 4) == 0 => kept.take(),
+        None => None,
+    };
+    match old {
+        Some(decided) => Ok(Move::Decide {
+            pass: begun,
+            incarnation: 1 + pick(random, 3) / 2,
+            decided,
+        }),
+        None => some_move(alloc, random, begun),
+    }
+}
+
 /// What the entries of the history show: a list, and passes that wrote, had nothing to do and were refused.
 fn note_entries(shown: &mut [bool; 4], history: &History) {
     for entry in history.as_slice() {
@@ -358,16 +391,18 @@ fn steady_move(alloc: Global, world: &World, random: &mut u64, begun: u64) -> Re
     }
 }
 
-/// The next move: a plain one, a value of a question that was told, or any.
+/// The next move: a plain one, a value of a question that was told, a decision, or any.
 fn next_move(
     alloc: Global,
     world: &World,
     random: &mut u64,
     begun: u64,
     told: &Told,
+    kept: &mut Option<Decided>,
 ) -> Result<Move, Fail> {
-    match (pick(random, 6), &told.last, &told.before) {
+    match (pick(random, 7), &told.last, &told.before) {
         (0, _, _) => some_move(alloc, random, begun),
+        (6, _, _) => some_decision(alloc, world, random, begun, kept),
         (1, Some(order), _) => some_gift(alloc, random, told.pass, begun, order),
         (2, _, Some(order)) => some_gift(alloc, random, told.pass, begun, order),
         _ => steady_move(alloc, world, random, begun),
@@ -418,8 +453,9 @@ fn wander(
         last: None,
         before: None,
     };
+    let mut kept = None;
     for _ in 0..750 {
-        let step = next_move(alloc, &world, &mut random, begun, &told)?;
+        let step = next_move(alloc, &world, &mut random, begun, &told, &mut kept)?;
         let begins = matches!(step, Move::Begin { .. });
         let answer = world.step(alloc, step)?;
         if begins && answer.is_done() {
@@ -436,11 +472,11 @@ fn wander(
 fn each_answer_comes(rt: HostRuntime) -> Result<(), Fail> {
     let alloc = rt.alloc();
     let mut met = Met {
-        answers: [false; 18],
+        answers: [false; 20],
     };
     let mut shown = [false; 4];
     let mut issued = 0_u64;
-    for (seed, events) in [(20, 900), (7, 900), (1, 900), (99, 60)] {
+    for (seed, events) in [(20, 900), (7, 900), (1, 900), (8, 900), (99, 60)] {
         issued = issued.saturating_add(wander(alloc, &mut met, &mut shown, seed, events)?);
     }
     for (i, name) in NAMES.iter().enumerate() {
@@ -448,7 +484,7 @@ fn each_answer_comes(rt: HostRuntime) -> Result<(), Fail> {
             println!(rt; "{name} never came")?;
         }
     }
-    assert_eq!(rt; met.answers, [true; 18]);
+    assert_eq!(rt; met.answers, [true; 20]);
     assert_eq!(rt; shown, [true; 4]);
     assert!(rt; issued > 3);
     Ok(())

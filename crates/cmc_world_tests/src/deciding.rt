@@ -1,0 +1,326 @@
+// What no clause says: that a decision which is made outside of a world is taken by it, and that the run goes on as if the
+// pass had decided itself. The answers to decisions are those of the table, row by row, on the pass of one of two
+// Certificates.
+use crate::world::{ROLES, certificate, scenario_of, value_of};
+use cmc_history::History;
+use cmc_meta::{Key, Kind, Numbers, Texts};
+use cmc_objects::{Call, Entry, Material, Role, Rules, Step};
+use cmc_plain::{plain, question};
+use cmc_policy_rules::Policies;
+use cmc_setup::{Roles, Scenario, Steps};
+use cmc_tests::values::{key, texts};
+use cmc_world::{Decided, Lack, Move, Stepped, World, decide};
+use std::alloc::Global;
+use std::process::Abort;
+use std::test::Fail;
+
+/// Two Certificates, which all eight roles work on until nothing is left to do.
+fn scenario(alloc: Global) -> Result<Scenario, Fail> {
+    let mut steps = Steps::new(alloc);
+    steps.push(certificate(alloc, "web", "web-tls", "example.com")?)?;
+    steps.push(certificate(alloc, "api", "api-tls", "api.example.com")?)?;
+    steps.push(Step::Settle)?;
+    let mut roles = Roles::new(alloc);
+    for role in ROLES {
+        roles.add(role)?;
+    }
+    let approver = Rules {
+        issuers: texts(alloc, "*")?,
+        refuse: Texts::new(alloc),
+        policies: Policies::new(alloc),
+    };
+    let none = Numbers::new(alloc);
+    scenario_of(400, roles, none, approver, Material::new(alloc), steps)
+}
+
+/// A decision on what the pass of this number saw; none where no such pass is open, or its role does not decide alone.
+pub(crate) fn decision(alloc: Global, world: &World, pass: u64) -> Result<Option<Decided>, Fail> {
+    match world.begun(pass)? {
+        Some(begun) => Ok(decide(alloc, begun)?),
+        None => Ok(None),
+    }
+}
+
+/// What a step answers, in a word.
+fn word_of(answer: &Stepped) -> &'static str {
+    match answer {
+        Stepped::Done => "done",
+        Stepped::Order { .. } => "order",
+        Stepped::NotNow(Lack::Settled) => "settled",
+        Stepped::NotNow(Lack::NoPass { .. }) => "no pass",
+        Stepped::OtherViews { .. } => "other views",
+        Stepped::Ended { .. } => "ended",
+        Stepped::Spent { .. } => "spent",
+        _ => "another answer",
+    }
+}
+
+/// Makes the move, and tells the answer.
+fn make(alloc: Global, world: &mut World, step: Move) -> Result<&'static str, Fail> {
+    let answer = world.step(alloc, step)?;
+    Ok(word_of(&answer))
+}
+
+/// Has the pass go on: it is given the value that it waits for, or makes its next move.
+fn go_on(
+    alloc: Global,
+    world: &mut World,
+    pass: u64,
+    incarnation: u64,
+) -> Result<&'static str, Fail> {
+    match question(world, pass)? {
+        Some(order) => {
+            let given = value_of(alloc, &order)?;
+            make(
+                alloc,
+                world,
+                Move::Give {
+                    pass,
+                    incarnation,
+                    given,
+                },
+            )
+        }
+        None => make(alloc, world, Move::Next { pass, incarnation }),
+    }
+}
+
+/// Hands in a decision for the pass.
+fn hand_in(
+    alloc: Global,
+    world: &mut World,
+    pass: u64,
+    incarnation: u64,
+    decided: Decided,
+) -> Result<&'static str, Fail> {
+    make(
+        alloc,
+        world,
+        Move::Decide {
+            pass,
+            incarnation,
+            decided,
+        },
+    )
+}
+
+/// Has the pass take a decision where it can, and go on by itself where it cannot. It counts the decisions that were taken.
+fn go_on_decided(
+    alloc: Global,
+    world: &mut World,
+    pass: u64,
+    incarnation: u64,
+    taken: &mut u64,
+) -> Result<&'static str, Fail> {
+    let Some(decided) = decision(alloc, world, pass)? else {
+        return go_on(alloc, world, pass, incarnation);
+    };
+    match hand_in(alloc, world, pass, incarnation, decided)? {
+        "settled" => go_on(alloc, world, pass, incarnation),
+        answer => {
+            *taken = taken.saturating_add(1);
+            Ok(answer)
+        }
+    }
+}
+
+/// Runs the scenario by the plain order, up to its end. With decisions each pass takes one that can.
+fn run(alloc: Global, world: &mut World, decides: bool, taken: &mut u64) -> Result<(), Fail> {
+    for _ in 0..400 {
+        match plain(alloc, world)? {
+            Some(Move::Next { pass, incarnation }) => {
+                if decides {
+                    let _ = go_on_decided(alloc, world, pass, incarnation, taken)?;
+                } else {
+                    let _ = go_on(alloc, world, pass, incarnation)?;
+                }
+            }
+            Some(step) => {
+                let _ = make(alloc, world, step)?;
+            }
+            None => return Ok(()),
+        }
+    }
+    Err(Fail::from("the run does not end"))
+}
+
+/// Goes on by the plain order until the role begins a pass, and has it begin on this key: the number of that pass.
+fn begun_on(alloc: Global, world: &mut World, role: Role, word: &str) -> Result<u64, Fail> {
+    for _ in 0..400 {
+        match plain(alloc, world)? {
+            Some(
+                Move::Begin {
+                    role: next,
+                    key: first,
+                },
+            ) => {
+                if next.same(role) {
+                    return begin(alloc, world, role, word);
+                }
+                begin_at(alloc, world, next, first)?;
+            }
+            Some(Move::Next { pass, incarnation }) => {
+                let _ = go_on(alloc, world, pass, incarnation)?;
+            }
+            Some(step) => {
+                let _ = make(alloc, world, step)?;
+            }
+            None => return Err(Fail::from("the role never begins")),
+        }
+    }
+    Err(Fail::from("the run does not end"))
+}
+
+fn begin_at(alloc: Global, world: &mut World, role: Role, key: Key) -> Result<(), Fail> {
+    if make(alloc, world, Move::Begin { role, key })? == "done" {
+        return Ok(());
+    }
+    Err(Fail::from("the role does not begin"))
+}
+
+/// Has the role begin a pass on the Certificate of this name: the number of that pass.
+fn begin(alloc: Global, world: &mut World, role: Role, word: &str) -> Result<u64, Fail> {
+    let key = key(alloc, Kind::Certificate, word)?;
+    begin_at(alloc, world, role, key)?;
+    Ok(world.passes_begun())
+}
+
+fn are_same_calls(left: &Call, right: &Call) -> bool {
+    match (left, right) {
+        (Call::Create { object, .. }, Call::Create { object: other, .. }) => object.same(other),
+        (Call::Update { object, .. }, Call::Update { object: other, .. }) => object.same(other),
+        (Call::UpdateStatus { object, .. }, Call::UpdateStatus { object: other, .. }) => {
+            object.same(other)
+        }
+        (Call::Delete { key, .. }, Call::Delete { key: other, .. }) => *key == *other,
+        (Call::Get { key }, Call::Get { key: other }) => *key == *other,
+        _ => false,
+    }
+}
+
+/// The sort of the entry, and the pass that it is of.
+fn sort_of(entry: &Entry) -> (u8, u64) {
+    match entry {
+        Entry::Call { .. } => (1, 0),
+        Entry::Begin { pass, .. } => (2, *pass),
+        Entry::Ask { pass, .. } => (3, *pass),
+        Entry::Made { pass, .. } => (4, *pass),
+        Entry::Signed { pass, .. } => (5, *pass),
+        Entry::Answered { pass, .. } => (6, *pass),
+        Entry::Judged { pass, .. } => (7, *pass),
+        Entry::End { pass, .. } => (8, *pass),
+        Entry::Deliver { to, .. } => (9, *to),
+        _ => (10, 0),
+    }
+}
+
+fn are_same_entries(left: &Entry, right: &Entry) -> bool {
+    match (left, right) {
+        (Entry::Call { call, .. }, Entry::Call { call: other, .. }) => are_same_calls(call, other),
+        (Entry::Ask { order, .. }, Entry::Ask { order: other, .. }) => order.same(other),
+        _ => true,
+    }
+}
+
+/// Whether both have the same entries, one after another, as far as passes can differ in them.
+fn are_same(left: &History, right: &History) -> bool {
+    if left.len() != right.len() {
+        return false;
+    }
+    left.as_slice().iter().zip(right.as_slice()).all(|(entry, other)| sort_of(entry)
+        == sort_of(other)
+        && are_same_entries(entry, other))
+}
+
+/// A decision on the first pass or on the second, handed in for one of them or for none, with the answer that the table has.
+/// Each row stands behind those above it.
+static ROWS: [(&str, bool, u64, u64, &str); 5] = [
+    ("on another key", false, 0, 1, "other views"),
+    ("of another incarnation", true, 0, 2, "ended"),
+    ("for no pass", true, 100, 1, "no pass"),
+    ("on what it saw", true, 0, 1, "order"),
+    ("once more", true, 0, 1, "settled"),
+];
+
+fn decides_row(
+    alloc: Global,
+    world: &mut World,
+    on: u64,
+    pass: u64,
+    incarnation: u64,
+) -> Result<&'static str, Fail> {
+    match decision(alloc, world, on)? {
+        Some(decided) => hand_in(alloc, world, pass, incarnation, decided),
+        None => Ok("no decision"),
+    }
+}
+
+/// The row is answered so, and the history grows by an entry exactly where the decision is taken.
+fn answers(rt: &impl Abort, row: &str, world: &World, before: u64, told: &str, want: &str) {
+    let grown = u64::from(want == "order");
+    assert!(rt; told == want, "{row}: {told}");
+    assert!(rt;
+        world.history().len() == before.saturating_add(grown),
+        "{row}"
+    );
+}
+
+#[test]
+fn a_decision_is_answered_by_its_table(rt: HostRuntime) -> Result<(), Fail> {
+    let alloc = rt.alloc();
+    let mut world = World::new(alloc, scenario(alloc)?)?;
+    let pass = begun_on(alloc, &mut world, Role::RequestManager, "api")?;
+    let other = begin(alloc, &mut world, Role::RequestManager, "web")?;
+    for (row, own, further, incarnation, want) in &ROWS {
+        let before = world.history().len();
+        let on = if *own { pass } else { other };
+        let to = pass.saturating_add(*further);
+        let told = decides_row(alloc, &mut world, on, to, *incarnation)?;
+        answers(&rt, row, &world, before, told, want);
+    }
+    Ok(())
+}
+
+/// What a pass of the trigger is answered to a decision of the request manager.
+fn told_trigger(alloc: Global) -> Result<&'static str, Fail> {
+    let mut later = World::new(alloc, scenario(alloc)?)?;
+    let pass = begun_on(alloc, &mut later, Role::RequestManager, "api")?;
+    let Some(decided) = decision(alloc, &later, pass)? else {
+        return Ok("no decision");
+    };
+    let mut world = World::new(alloc, scenario(alloc)?)?;
+    let first = begun_on(alloc, &mut world, Role::Trigger, "api")?;
+    hand_in(alloc, &mut world, first, 1, decided)
+}
+
+/// Whether there is a decision on what a pass of the trigger saw.
+fn decides_for_trigger(alloc: Global) -> Result<bool, Fail> {
+    let mut world = World::new(alloc, scenario(alloc)?)?;
+    let first = begun_on(alloc, &mut world, Role::Trigger, "api")?;
+    Ok(decision(alloc, &world, first)?.is_some())
+}
+
+#[test]
+fn a_trigger_takes_no_decision(rt: HostRuntime) -> Result<(), Fail> {
+    let alloc = rt.alloc();
+    let told = told_trigger(alloc)?;
+    assert!(rt; told == "settled", "{told}");
+    assert!(rt; !decides_for_trigger(alloc)?);
+    Ok(())
+}
+
+/// Both Certificates have a request made, and are issued: four decisions at least are taken.
+#[test]
+fn a_run_by_decisions_is_the_plain_one(rt: HostRuntime) -> Result<(), Fail> {
+    let alloc = rt.alloc();
+    let mut taken = 0_u64;
+    let mut decided = World::new(alloc, scenario(alloc)?)?;
+    run(alloc, &mut decided, true, &mut taken)?;
+    let mut other = 0_u64;
+    let mut alone = World::new(alloc, scenario(alloc)?)?;
+    run(alloc, &mut alone, false, &mut other)?;
+    assert!(rt; taken >= 4, "{taken}");
+    assert!(rt; other == 0);
+    assert!(rt; are_same(decided.history(), alone.history()));
+    Ok(())
+}
