@@ -4,7 +4,7 @@ ghost use Rattle.cmc_rules.specs.Approving as table;
 
 use cmc_meta::Text;
 use cmc_next::{is_approved, is_denied};
-use cmc_objects::{CertificateRequest, IssuerRef, JudgeOrder, Order, Rules};
+use cmc_objects::{CertificateRequest, IssuerRef, JudgeOrder, Order, Rules, Shared};
 use cmc_pass::{Act, Desk, Views};
 use std::alloc::{AllocError, Global};
 
@@ -21,7 +21,7 @@ fn is_covered(rules: &Rules, issuer: &IssuerRef) -> bool
 }
 
 #[tactic(auto, unfolding(cmc_rules::specs::Approving::ask_judgement))]
-fn ask_judgement(request: &CertificateRequest, rules: &Rules) -> Result<Act, AllocError>
+fn ask_judgement(request: &Shared<CertificateRequest>, rules: &Rules) -> Result<Act, AllocError>
     ensures { IfOk result (λ a. a ≡ table.ask_judgement request.now rules.now) }
 {
     let rules = rules.copy()?;
@@ -29,7 +29,7 @@ fn ask_judgement(request: &CertificateRequest, rules: &Rules) -> Result<Act, All
     Ok(Act::Ask(Order::Judge(JudgeOrder { request, rules })))
 }
 
-fn judge_one(rules: &Rules, request: &CertificateRequest) -> Result<Act, AllocError>
+fn judge_one(rules: &Rules, request: &Shared<CertificateRequest>) -> Result<Act, AllocError>
     ensures { IfOk result (λ a. a ≡ table.judge_one rules.now request.now) }
 {
     if is_approved(request) || is_denied(request) {

@@ -4,7 +4,7 @@ ghost use Rattle.cmc_rules.specs.Approving as table;
 
 use cmc_meta::Condition;
 use cmc_objects::{Call, CertificateRequest, Object, RequestStatus};
-use std::alloc::AllocError;
+use std::alloc::{AllocError, Global};
 
 #[tactic(auto, unfolding(cmc_rules::specs::Approving::judged_status))]
 fn judged_status(verdict: Condition, status: &RequestStatus) -> Result<RequestStatus, AllocError>
@@ -35,10 +35,14 @@ fn with_verdict(
 ///
 /// Want of memory alone.
 #[tactic(auto, unfolding(cmc_rules::specs::Approving::judge_call))]
-pub fn judge_call(verdict: Condition, request: &CertificateRequest) -> Result<Call, AllocError>
+pub fn judge_call(
+    alloc: Global,
+    verdict: Condition,
+    request: &CertificateRequest,
+) -> Result<Call, AllocError>
     ensures { IfOk result (λ c. c ≡ table.judge_call verdict request.now) }
 {
-    let object = Object::Request(with_verdict(verdict, request)?);
+    let object = Object::of_request(alloc, with_verdict(verdict, request)?)?;
     Ok(Call::UpdateStatus {
         object,
         version: request.meta.version,

@@ -38,6 +38,7 @@ fn verdict_of(
 }
 
 fn judged_by(
+    alloc: Global,
     request: &CertificateRequest,
     verdict: Option<Condition>,
 ) -> Result<Option<Call>, AllocError>
@@ -45,16 +46,20 @@ fn judged_by(
 {
     match verdict {
         None => Ok(None),
-        Some(verdict) => Ok(Some(judge_call(verdict, request)?)),
+        Some(verdict) => Ok(Some(judge_call(alloc, verdict, request)?)),
     }
 }
 
-fn judged_for(views: &Views, verdict: Option<Condition>) -> Result<Option<Call>, AllocError>
+fn judged_for(
+    alloc: Global,
+    views: &Views,
+    verdict: Option<Condition>,
+) -> Result<Option<Call>, AllocError>
     ensures { IfOk result (λ c. c ≡ table.judged_for views.now.request verdict) }
 {
     match &views.request {
         None => Ok(None),
-        Some(request) => judged_by(request, verdict),
+        Some(request) => judged_by(alloc, request, verdict),
     }
 }
 
@@ -79,7 +84,7 @@ pub fn follow(
     ensures { IfOk result (λ c. table.judged_after views.now now order.now value.now ≡ Some c) }
 {
     let verdict = verdict_of(alloc, now, order, value)?;
-    match judged_for(views, verdict)? {
+    match judged_for(alloc, views, verdict)? {
         Some(call) => Ok(call),
         None => unreachable!(),
     }

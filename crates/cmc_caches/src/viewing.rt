@@ -8,13 +8,13 @@ ghost use Rattle.cmc_rules.specs.Viewing as seen;
 use cmc_informer::Cache;
 use cmc_meta::{Key, Kind, ObjectMeta, OwnerRef, Text};
 use cmc_objects::{
-    Certificate, CertificateRequest, Object, Role, Secret, looks_at_next, looks_at_requests,
-    looks_at_secret, works_on_requests,
+    Certificate, CertificateRequest, Object, Role, Secret, Shared, looks_at_next,
+    looks_at_requests, looks_at_secret, works_on_requests,
 };
 use cmc_pass::{Requests, Secrets, Views};
 use std::alloc::{AllocError, Global};
 
-fn certificate_in(object: &Object) -> Result<Option<Certificate>, AllocError>
+fn certificate_in(object: &Object) -> Result<Option<Shared<Certificate>>, AllocError>
     ensures { IfOk result (λ c. c ≡ seen.certificate_in object.now) }
 {
     match object {
@@ -24,7 +24,7 @@ fn certificate_in(object: &Object) -> Result<Option<Certificate>, AllocError>
     }
 }
 
-fn request_in(object: &Object) -> Result<Option<CertificateRequest>, AllocError>
+fn request_in(object: &Object) -> Result<Option<Shared<CertificateRequest>>, AllocError>
     ensures { IfOk result (λ r. r ≡ seen.request_in object.now) }
 {
     match object {
@@ -34,7 +34,7 @@ fn request_in(object: &Object) -> Result<Option<CertificateRequest>, AllocError>
     }
 }
 
-fn secret_in(object: &Object) -> Result<Option<Secret>, AllocError>
+fn secret_in(object: &Object) -> Result<Option<Shared<Secret>>, AllocError>
     ensures { IfOk result (λ s. s ≡ seen.secret_in object.now) }
 {
     match object {
@@ -44,7 +44,7 @@ fn secret_in(object: &Object) -> Result<Option<Secret>, AllocError>
     }
 }
 
-fn certificate_at(objects: &Cache, key: &Key) -> Result<Option<Certificate>, AllocError>
+fn certificate_at(objects: &Cache, key: &Key) -> Result<Option<Shared<Certificate>>, AllocError>
     ensures { IfOk result (λ c. c ≡ seen.certificate_at objects.now key.now) }
 {
     match objects.get(key) {
@@ -53,7 +53,7 @@ fn certificate_at(objects: &Cache, key: &Key) -> Result<Option<Certificate>, All
     }
 }
 
-fn request_at(objects: &Cache, key: &Key) -> Result<Option<CertificateRequest>, AllocError>
+fn request_at(objects: &Cache, key: &Key) -> Result<Option<Shared<CertificateRequest>>, AllocError>
     ensures { IfOk result (λ r. r ≡ seen.request_at objects.now key.now) }
 {
     match objects.get(key) {
@@ -72,7 +72,10 @@ fn target_key(certificate: &Certificate) -> Result<Key, AllocError>
     })
 }
 
-fn target_at(objects: &Cache, certificate: &Certificate) -> Result<Option<Secret>, AllocError>
+fn target_at(
+    objects: &Cache,
+    certificate: &Certificate,
+) -> Result<Option<Shared<Secret>>, AllocError>
     ensures { IfOk result (λ s. s ≡ seen.target_at objects.now certificate.now) }
 {
     let key = target_key(certificate)?;
@@ -108,8 +111,8 @@ fn has_next_label(label: &Text, meta: &ObjectMeta) -> bool
 fn next_secret(
     label: &Text,
     certificate: &Certificate,
-    secret: &Secret,
-) -> Result<Option<Secret>, AllocError>
+    secret: &Shared<Secret>,
+) -> Result<Option<Shared<Secret>>, AllocError>
     requires { label.now ≡ codes "cert-manager.io/next-private-key" }
     ensures { IfOk result (λ s. s ≡ (if seen.has_next_label secret.now.meta && seen.is_owned certificate.now secret.now.meta then Some secret.now else None)) }
 {
@@ -123,7 +126,7 @@ fn next_in(
     label: &Text,
     certificate: &Certificate,
     object: &Object,
-) -> Result<Option<Secret>, AllocError>
+) -> Result<Option<Shared<Secret>>, AllocError>
     requires { label.now ≡ codes "cert-manager.io/next-private-key" }
     ensures { IfOk result (λ s. s ≡ seen.next_in certificate.now object.now) }
 {
@@ -136,8 +139,8 @@ fn next_in(
 
 fn owned_request(
     certificate: &Certificate,
-    request: &CertificateRequest,
-) -> Result<Option<CertificateRequest>, AllocError>
+    request: &Shared<CertificateRequest>,
+) -> Result<Option<Shared<CertificateRequest>>, AllocError>
     ensures { IfOk result (λ r. r ≡ (if seen.is_owned certificate.now request.now.meta then Some request.now else None)) }
 {
     if is_owned(certificate, &request.meta) {
@@ -149,7 +152,7 @@ fn owned_request(
 fn owned_in(
     certificate: &Certificate,
     object: &Object,
-) -> Result<Option<CertificateRequest>, AllocError>
+) -> Result<Option<Shared<CertificateRequest>>, AllocError>
     ensures { IfOk result (λ r. r ≡ seen.owned_in certificate.now object.now) }
 {
     match object {
@@ -159,7 +162,7 @@ fn owned_in(
     }
 }
 
-fn push_secret(secrets: &mut Secrets, secret: Option<Secret>) -> Result<(), AllocError>
+fn push_secret(secrets: &mut Secrets, secret: Option<Shared<Secret>>) -> Result<(), AllocError>
     ensures ok { OnOk result (secrets.new ≡ secrets.old ++ option_to_list secret) }
     ensures err { OnErr result (secrets.new ≡ secrets.old) }
 {
@@ -171,7 +174,7 @@ fn push_secret(secrets: &mut Secrets, secret: Option<Secret>) -> Result<(), Allo
 
 fn push_request(
     requests: &mut Requests,
-    request: Option<CertificateRequest>,
+    request: Option<Shared<CertificateRequest>>,
 ) -> Result<(), AllocError>
     ensures ok { OnOk result (requests.new ≡ requests.old ++ option_to_list request) }
     ensures err { OnErr result (requests.new ≡ requests.old) }
@@ -188,7 +191,7 @@ fn next_at(
     certificate: &Certificate,
     objects: &Cache,
     key: &Key,
-) -> Result<Option<Secret>, AllocError>
+) -> Result<Option<Shared<Secret>>, AllocError>
     requires { label.now ≡ codes "cert-manager.io/next-private-key" }
     ensures { IfOk result (λ s. s ≡ option_and_then (seen.next_in certificate.now) (object_at objects.now key.now)) }
 {
@@ -203,7 +206,7 @@ fn owned_at(
     certificate: &Certificate,
     objects: &Cache,
     key: &Key,
-) -> Result<Option<CertificateRequest>, AllocError>
+) -> Result<Option<Shared<CertificateRequest>>, AllocError>
     ensures { IfOk result (λ r. r ≡ option_and_then (seen.owned_in certificate.now) (object_at objects.now key.now)) }
 {
     match objects.get(key) {
@@ -268,8 +271,8 @@ fn requests_of(
 fn secret_seen(
     role: Role,
     secrets: &Cache,
-    certificate: &Option<Certificate>,
-) -> Result<Option<Secret>, AllocError>
+    certificate: &Option<Shared<Certificate>>,
+) -> Result<Option<Shared<Secret>>, AllocError>
     ensures { IfOk result (λ s. s ≡ (if tables.looks_at_secret role then option_and_then (seen.target_at secrets.now) certificate.now else None)) }
 {
     if !looks_at_secret(role) {
@@ -285,7 +288,7 @@ fn next_seen(
     alloc: Global,
     role: Role,
     secrets: &Cache,
-    certificate: &Option<Certificate>,
+    certificate: &Option<Shared<Certificate>>,
 ) -> Result<Secrets, AllocError>
     ensures { IfOk result (λ s. s ≡ (if tables.looks_at_next role then seen.of_certificate (seen.next_of secrets.now) certificate.now else [])) }
 {
@@ -302,7 +305,7 @@ fn requests_seen(
     alloc: Global,
     role: Role,
     requests: &Cache,
-    certificate: &Option<Certificate>,
+    certificate: &Option<Shared<Certificate>>,
 ) -> Result<Requests, AllocError>
     ensures { IfOk result (λ r. r ≡ (if tables.looks_at_requests role then seen.of_certificate (seen.requests_of requests.now) certificate.now else [])) }
 {
@@ -319,7 +322,7 @@ fn certificate_seen(
     role: Role,
     certificates: &Cache,
     key: &Key,
-) -> Result<Option<Certificate>, AllocError>
+) -> Result<Option<Shared<Certificate>>, AllocError>
     ensures { IfOk result (λ c. c ≡ (if tables.works_on_requests role then None else seen.certificate_at certificates.now key.now)) }
 {
     if works_on_requests(role) {
@@ -332,7 +335,7 @@ fn request_seen(
     role: Role,
     requests: &Cache,
     key: &Key,
-) -> Result<Option<CertificateRequest>, AllocError>
+) -> Result<Option<Shared<CertificateRequest>>, AllocError>
     ensures { IfOk result (λ r. r ≡ (if tables.works_on_requests role then seen.request_at requests.now key.now else None)) }
 {
     if works_on_requests(role) {
@@ -347,8 +350,8 @@ fn views_of(
     role: Role,
     requests: &Cache,
     secrets: &Cache,
-    certificate: Option<Certificate>,
-    request: Option<CertificateRequest>,
+    certificate: Option<Shared<Certificate>>,
+    request: Option<Shared<CertificateRequest>>,
 ) -> Result<Views, AllocError>
     ensures { IfOk result (λ v. (any : Objects) → v ≡ seen.views_of role (record { certificates = any; requests = requests.now; secrets = secrets.now }) certificate request) }
 {

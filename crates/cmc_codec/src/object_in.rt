@@ -58,11 +58,14 @@ fn certificate(alloc: Global, rest: Fields<'_, '_>) -> Result<Applied, BadField>
     check_status_last(alloc, rest)?;
     let Head { meta, version } = head;
     Ok(Applied {
-        object: Object::Cert(Certificate {
-            meta,
-            spec,
-            status: CertStatus::new(alloc),
-        }),
+        object: Object::of_certificate(
+            alloc,
+            Certificate {
+                meta,
+                spec,
+                status: CertStatus::new(alloc),
+            },
+        )?,
         version,
     })
 }
@@ -79,11 +82,14 @@ fn request(alloc: Global, rest: Fields<'_, '_>) -> Result<Applied, BadField>
     check_status_last(alloc, rest)?;
     let Head { meta, version } = head;
     Ok(Applied {
-        object: Object::Request(CertificateRequest {
-            meta,
-            spec,
-            status: RequestStatus::new(alloc),
-        }),
+        object: Object::of_request(
+            alloc,
+            CertificateRequest {
+                meta,
+                spec,
+                status: RequestStatus::new(alloc),
+            },
+        )?,
         version,
     })
 }
@@ -127,11 +133,14 @@ fn secret(alloc: Global, rest: Fields<'_, '_>) -> Result<Applied, BadField>
     check_end(alloc, rest)?;
     let Head { meta, version } = head;
     Ok(Applied {
-        object: Object::Secret(Secret {
-            meta,
-            kind_text,
-            parts,
-        }),
+        object: Object::of_secret(
+            alloc,
+            Secret {
+                meta,
+                kind_text,
+                parts,
+            },
+        )?,
         version,
     })
 }

@@ -11,7 +11,7 @@ ghost use Rattle.cmc_held.specs.Questioned as spec;
 
 use cmc_match::text_under;
 use cmc_meta::{Name, Text};
-use cmc_objects::{Certificate, CertificateRequest, Order, Role};
+use cmc_objects::{Certificate, CertificateRequest, Order, Role, Shared};
 use cmc_pass::Views;
 use std::alloc::{AllocError, Global};
 use std::cmp::Ordering;
@@ -180,7 +180,7 @@ impl Questions {
         }
     }
 
-    fn keys_for(&self, certificate: &Option<Certificate>) -> Result<u64, AllocError>
+    fn keys_for(&self, certificate: &Option<Shared<Certificate>>) -> Result<u64, AllocError>
         ensures { IfOk result (λ n. n ≡ spec.keys_asked self.now certificate.now) }
     {
         match certificate {
@@ -196,7 +196,7 @@ impl Questions {
         }
     }
 
-    fn answers_for(&self, request: &Option<CertificateRequest>) -> Result<u64, AllocError>
+    fn answers_for(&self, request: &Option<Shared<CertificateRequest>>) -> Result<u64, AllocError>
         ensures { IfOk result (λ n. n ≡ spec.answers_asked self.now request.now) }
     {
         match request {

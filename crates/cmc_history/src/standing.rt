@@ -31,11 +31,11 @@ fn is_ok(reply: &Reply) -> bool
 }
 
 /// The call of an accepted write, under the name that its reply has. `Err` where there is no memory.
-fn call_of_write(entry: &Entry) -> Result<Option<Call>, AllocError>
+fn call_of_write(alloc: Global, entry: &Entry) -> Result<Option<Call>, AllocError>
     ensures { IfOk result (λ c. c ≡ written_call entry.now) }
 {
     match entry {
-        Entry::Call { call, reply, .. } if is_ok(reply) => Ok(Some(settled(call, reply)?)),
+        Entry::Call { call, reply, .. } if is_ok(reply) => Ok(Some(settled(alloc, call, reply)?)),
         _ => Ok(None),
     }
 }
@@ -74,20 +74,30 @@ fn is_spoken_of(key: &Key, call: &Call) -> bool
     }
 }
 
-fn revise(old: Option<Object>, object: &Object, version: u64) -> Result<Option<Object>, AllocError>
+fn revise(
+    alloc: Global,
+    old: Option<Object>,
+    object: &Object,
+    version: u64,
+) -> Result<Option<Object>, AllocError>
     ensures { IfOk result (λ o. o ≡ from_old (λ x. revised version x object.now) old) }
 {
     match old {
-        Some(old) => Ok(Some(revision(&old, object, version)?)),
+        Some(old) => Ok(Some(revision(alloc, &old, object, version)?)),
         None => Ok(None),
     }
 }
 
-fn restate(old: Option<Object>, object: &Object, version: u64) -> Result<Option<Object>, AllocError>
+fn restate(
+    alloc: Global,
+    old: Option<Object>,
+    object: &Object,
+    version: u64,
+) -> Result<Option<Object>, AllocError>
     ensures { IfOk result (λ o. o ≡ from_old (λ x. restated version x object.now) old) }
 {
     match old {
-        Some(old) => Ok(Some(restatement(&old, object, version)?)),
+        Some(old) => Ok(Some(restatement(alloc, &old, object, version)?)),
         None => Ok(None),
     }
 }
@@ -106,8 +116,8 @@ fn store(
             object,
             generate: _,
         } => Ok(Some(make(alloc, object, version, now)?)),
-        Call::Update { object, version: _ } => revise(old, object, version),
-        Call::UpdateStatus { object, version: _ } => restate(old, object, version),
+        Call::Update { object, version: _ } => revise(alloc, old, object, version),
+        Call::UpdateStatus { object, version: _ } => restate(alloc, old, object, version),
         Call::Delete { key: _, version: _ } => Ok(None),
         Call::Get { key: _ } => Ok(old),
     }
@@ -147,7 +157,7 @@ fn read(
         object,
     } = standing;
     let after = moment_after(entry, moment);
-    match call_of_write(entry)? {
+    match call_of_write(alloc, entry)? {
         Some(call) => {
             if accepted < position {
                 Ok(Standing {

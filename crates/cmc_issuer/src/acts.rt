@@ -9,7 +9,7 @@ use crate::calls::deny_call;
 use crate::questions::ask_issuer;
 use cmc_meta::{Condition, ConditionKind};
 use cmc_next::{is_approved, is_denied};
-use cmc_objects::{CertificateRequest, IssuerRef};
+use cmc_objects::{CertificateRequest, IssuerRef, Shared};
 use cmc_pass::{Act, Desk, Views};
 use std::alloc::{AllocError, Global};
 
@@ -80,7 +80,7 @@ fn deny(alloc: Global, request: &CertificateRequest, now: i64) -> Result<Act, Al
 
 fn grant(
     alloc: Global,
-    request: &CertificateRequest,
+    request: &Shared<CertificateRequest>,
     now: i64,
     desk: &Desk,
 ) -> Result<Act, AllocError>
@@ -99,7 +99,7 @@ fn grant(
 
 fn grant_one(
     alloc: Global,
-    request: &CertificateRequest,
+    request: &Shared<CertificateRequest>,
     now: i64,
     desk: &Desk,
 ) -> Result<Act, AllocError>

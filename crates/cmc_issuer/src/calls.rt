@@ -12,14 +12,19 @@ use std::alloc::{AllocError, Global};
 ///
 /// Want of memory alone.
 #[tactic(auto, unfolding(cmc_rules::specs::Granting::status_call))]
-pub fn status_call(status: RequestStatus, request: &CertificateRequest) -> Result<Call, AllocError>
+pub fn status_call(
+    alloc: Global,
+    status: RequestStatus,
+    request: &CertificateRequest,
+) -> Result<Call, AllocError>
     ensures { IfOk result (λ c. c ≡ table.status_call status request.now) }
 {
-    let object = Object::Request(CertificateRequest {
+    let changed = CertificateRequest {
         meta: request.meta.copy()?,
         spec: request.spec.copy()?,
         status,
-    });
+    };
+    let object = Object::of_request(alloc, changed)?;
     Ok(Call::UpdateStatus {
         object,
         version: request.meta.version,
@@ -68,5 +73,9 @@ pub fn deny_call(
 ) -> Result<Call, AllocError>
     ensures { IfOk result (λ c. c ≡ table.status_call (table.denied_status request.now.status moment) request.now) }
 {
-    status_call(denied_status(alloc, &request.status, moment)?, request)
+    status_call(
+        alloc,
+        denied_status(alloc, &request.status, moment)?,
+        request,
+    )
 }

@@ -6,7 +6,7 @@ ghost use Rattle.cmc_rules.specs.Granting as table;
 use crate::answering::status_of;
 use crate::calls::status_call;
 use cmc_next::value_in;
-use cmc_objects::{Call, CertificateRequest, Order};
+use cmc_objects::{Call, CertificateRequest, Order, Shared};
 use cmc_pass::{Given, Value, Views};
 use std::alloc::{AllocError, Global};
 
@@ -21,7 +21,7 @@ fn answered_with(
     match value {
         Value::Answered(answer) => {
             let status = status_of(alloc, request, answer, now)?;
-            Ok(Some(status_call(status, request)?))
+            Ok(Some(status_call(alloc, status, request)?))
         }
         _ => Ok(None),
     }
@@ -30,7 +30,7 @@ fn answered_with(
 fn answered_for(
     alloc: Global,
     now: i64,
-    request: &Option<CertificateRequest>,
+    request: &Option<Shared<CertificateRequest>>,
     value: &Value,
 ) -> Result<Option<Call>, AllocError>
     ensures { IfOk result (λ c. c ≡ table.answered_for now request.now value.now) }
@@ -44,7 +44,7 @@ fn answered_for(
 fn answered_to(
     alloc: Global,
     now: i64,
-    request: &Option<CertificateRequest>,
+    request: &Option<Shared<CertificateRequest>>,
     order: &Order,
     value: &Value,
 ) -> Result<Option<Call>, AllocError>

@@ -5,14 +5,14 @@ ghost use Rattle.cmc_rules.specs.Granting as table;
 ghost use Rattle.cmc_rules.specs.Orders.{reply_row as row_for};
 
 use crate::replies::reply_row;
-use cmc_objects::{CertificateRequest, Order, SignOrder};
+use cmc_objects::{CertificateRequest, Order, Shared, SignOrder};
 use cmc_pass::{Act, Desk};
 use std::alloc::{AllocError, Global};
 
 #[tactic(auto, unfolding(cmc_rules::specs::Granting::sign_order))]
 fn sign_order(
     alloc: Global,
-    request: &CertificateRequest,
+    request: &Shared<CertificateRequest>,
     now: i64,
     desk: &Desk,
 ) -> Result<SignOrder, AllocError>
@@ -38,7 +38,7 @@ fn sign_order(
 #[tactic(auto, unfolding(cmc_rules::specs::Granting::ask_issuer))]
 pub fn ask_issuer(
     alloc: Global,
-    request: &CertificateRequest,
+    request: &Shared<CertificateRequest>,
     now: i64,
     desk: &Desk,
 ) -> Result<Act, AllocError>

@@ -14,7 +14,7 @@ use cmc_answers::temporary;
 use cmc_match::{asks_for_temporary, key_fits, next_request};
 use cmc_meta::Bytes;
 use cmc_next::{is_denied, is_issuing, is_refused, is_wanted, key_in, named_key};
-use cmc_objects::{Certificate, CertificateRequest, Secret};
+use cmc_objects::{Certificate, CertificateRequest, Secret, Shared};
 use cmc_pass::{Act, Desk, Views};
 use std::alloc::{AllocError, Global};
 
@@ -25,7 +25,7 @@ fn stand_in_with(
     alloc: Global,
     certificate: &Certificate,
     file: &Bytes,
-    target: &Option<Secret>,
+    target: &Option<Shared<Secret>>,
     stand_in: Option<Bytes>,
 ) -> Result<Act, AllocError>
     ensures { IfOk result (λ a. a ≡ table.stand_in_with certificate.now file.now target.now stand_in) }
@@ -48,7 +48,7 @@ fn while_waiting(
     moment: i64,
     certificate: &Certificate,
     file: &Bytes,
-    target: &Option<Secret>,
+    target: &Option<Shared<Secret>>,
     request: &CertificateRequest,
 ) -> Result<Act, AllocError>
     requires { is_run_time moment ≡ true }
@@ -82,7 +82,7 @@ fn with_granted(
     moment: i64,
     certificate: &Certificate,
     file: &Bytes,
-    target: &Option<Secret>,
+    target: &Option<Shared<Secret>>,
     request: &CertificateRequest,
 ) -> Result<Act, AllocError>
     requires { HasNextRevision (Some certificate.now) }
@@ -103,7 +103,7 @@ fn with_wanted(
     moment: i64,
     certificate: &Certificate,
     file: &Bytes,
-    target: &Option<Secret>,
+    target: &Option<Shared<Secret>>,
     request: &CertificateRequest,
 ) -> Result<Act, AllocError>
     requires time { is_run_time moment ≡ true }
@@ -127,8 +127,8 @@ fn with_request(
     moment: i64,
     certificate: &Certificate,
     file: &Bytes,
-    target: &Option<Secret>,
-    request: Option<&CertificateRequest>,
+    target: &Option<Shared<Secret>>,
+    request: Option<&Shared<CertificateRequest>>,
 ) -> Result<Act, AllocError>
     requires time { is_run_time moment ≡ true }
     requires revision { HasNextRevision (Some certificate.now) }
@@ -150,8 +150,8 @@ fn with_file(
     alloc: Global,
     moment: i64,
     certificate: &Certificate,
-    target: &Option<Secret>,
-    requests: &[CertificateRequest],
+    target: &Option<Shared<Secret>>,
+    requests: &[Shared<CertificateRequest>],
     file: Option<&Bytes>,
 ) -> Result<Act, AllocError>
     requires time { is_run_time moment ≡ true }
@@ -175,9 +175,9 @@ fn with_key_of(
     alloc: Global,
     moment: i64,
     certificate: &Certificate,
-    target: &Option<Secret>,
-    requests: &[CertificateRequest],
-    key: Option<&Secret>,
+    target: &Option<Shared<Secret>>,
+    requests: &[Shared<CertificateRequest>],
+    key: Option<&Shared<Secret>>,
 ) -> Result<Act, AllocError>
     requires time { is_run_time moment ≡ true }
     requires revision { HasNextRevision (Some certificate.now) }

@@ -9,7 +9,7 @@ ghost use Rattle.cmc_rules.specs.Issuing as table;
 use cmc_match::{is_next_key, is_one_key, is_temporary, pair_in};
 use cmc_meta::{Condition, ConditionKind, Tri};
 use cmc_next::{failed_before, is_approved, is_denied};
-use cmc_objects::{Certificate, CertificateRequest, Secret};
+use cmc_objects::{Certificate, CertificateRequest, Secret, Shared};
 use cmc_x509::{Spki, read_cert, read_key};
 
 fn says_issued(ready: Option<&Condition>) -> bool
@@ -71,7 +71,7 @@ pub fn is_certified(file: &[u8], certificate: &[u8]) -> bool
 }
 
 /// Whether the Secret under the name of the Certificate's is one that holds a next key.
-pub fn is_kept_for_keys(target: &Option<Secret>) -> bool
+pub fn is_kept_for_keys(target: &Option<Shared<Secret>>) -> bool
     ensures { result ≡ table.is_kept_for_keys target.now }
 {
     match target {
@@ -99,7 +99,7 @@ fn lacks_pair(file: &[u8], secret: &Secret) -> bool
 }
 
 /// Whether the Secret has no key and certificate that are a pair, or a stand-in for another key than that of the file.
-pub fn lacks_certificate(file: &[u8], target: &Option<Secret>) -> bool
+pub fn lacks_certificate(file: &[u8], target: &Option<Shared<Secret>>) -> bool
     ensures { result ≡ table.lacks_certificate file.now target.now }
 {
     match target {

@@ -8,7 +8,7 @@ ghost use Rattle.cmc_rules.specs.NextRequests.{HasNextRevision};
 use crate::secrets::{Content, secret_call};
 use crate::statuses::issued_call;
 use cmc_meta::{Bytes, Key, Kind};
-use cmc_objects::{Certificate, CertificateRequest, Secret};
+use cmc_objects::{Certificate, CertificateRequest, Secret, Shared};
 use cmc_pass::{IssuePlan, TemporaryPlan};
 use std::alloc::{AllocError, Global};
 
@@ -30,7 +30,7 @@ pub fn issue_plan(
     certificate: &Certificate,
     file: &Bytes,
     request: &CertificateRequest,
-    target: &Option<Secret>,
+    target: &Option<Shared<Secret>>,
 ) -> Result<IssuePlan, AllocError>
     requires { HasNextRevision (Some certificate.now) }
     ensures { IfOk result (λ p. p ≡ table.issue_plan moment certificate.now file.now request.now target.now) }
@@ -59,7 +59,7 @@ pub fn temporary_plan(
     certificate: &Certificate,
     file: &Bytes,
     stand_in: &Bytes,
-    target: &Option<Secret>,
+    target: &Option<Shared<Secret>>,
 ) -> Result<TemporaryPlan, AllocError>
     ensures { IfOk result (λ p. p ≡ table.temporary_plan certificate.now file.now stand_in.now target.now) }
 {

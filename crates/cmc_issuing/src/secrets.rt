@@ -4,7 +4,7 @@ ghost use Rattle.cmc_meta.specs.PairLists.{with_text};
 ghost use Rattle.cmc_rules.specs.Issuing as table;
 
 use cmc_meta::{Bytes, ObjectMeta, Owners, Pairs, Text};
-use cmc_objects::{Call, Certificate, Object, Parts, Secret};
+use cmc_objects::{Call, Certificate, Object, Parts, Secret, Shared};
 use std::alloc::{AllocError, Global};
 
 /// What the target's Secret is given: a private key and a certificate, and the CA's, which is empty where there is
@@ -226,17 +226,17 @@ pub fn secret_call(
     alloc: Global,
     certificate: &Certificate,
     content: &Content<'_>,
-    target: &Option<Secret>,
+    target: &Option<Shared<Secret>>,
 ) -> Result<Call, AllocError>
     ensures { IfOk result (λ c. c ≡ table.secret_call content.now.stand_in certificate.now content.now.key.now content.now.certificate.now content.now.ca.now target.now) }
 {
     match target {
         None => Ok(Call::Create {
-            object: Object::Secret(new_target(alloc, certificate, content)?),
+            object: Object::of_secret(alloc, new_target(alloc, certificate, content)?)?,
             generate: false,
         }),
         Some(old) => Ok(Call::Update {
-            object: Object::Secret(old_target(alloc, certificate, content, old)?),
+            object: Object::of_secret(alloc, old_target(alloc, certificate, content, old)?)?,
             version: old.meta.version,
         }),
     }

@@ -87,14 +87,19 @@ fn failed_status(
 }
 
 #[tactic(auto, unfolding(cmc_rules::specs::Issuing::status_call))]
-fn status_call(status: CertStatus, certificate: &Certificate) -> Result<Call, AllocError>
+fn status_call(
+    alloc: Global,
+    status: CertStatus,
+    certificate: &Certificate,
+) -> Result<Call, AllocError>
     ensures { IfOk result (λ c. c ≡ table.status_call status certificate.now) }
 {
-    let object = Object::Cert(Certificate {
+    let changed = Certificate {
         meta: certificate.meta.copy()?,
         spec: certificate.spec.copy()?,
         status,
-    });
+    };
+    let object = Object::of_certificate(alloc, changed)?;
     Ok(Call::UpdateStatus {
         object,
         version: certificate.meta.version,
@@ -111,7 +116,7 @@ pub fn issued_call(
     ensures { IfOk result (λ c. c ≡ table.status_call (table.issued_status moment certificate.now.status) certificate.now) }
 {
     let status = issued_status(alloc, moment, &certificate.status)?;
-    status_call(status, certificate)
+    status_call(alloc, status, certificate)
 }
 
 /// The status update, at the version of the Certificate, that ends its issuance with a failure for this reason.
@@ -125,5 +130,5 @@ pub fn failure(
     ensures { IfOk result (λ a. a ≡ table.failure moment reason.now certificate.now) }
 {
     let status = failed_status(alloc, moment, reason, &certificate.status)?;
-    Ok(Act::Call(status_call(status, certificate)?))
+    Ok(Act::Call(status_call(alloc, status, certificate)?))
 }

@@ -10,7 +10,7 @@ use crate::questions::ask_key;
 use cmc_match::key_fits;
 use cmc_meta::{Bytes, Name};
 use cmc_next::{has_fitting_key, is_issuing, is_named, key_in};
-use cmc_objects::{Certificate, Rotation, Secret};
+use cmc_objects::{Certificate, Rotation, Secret, Shared};
 use cmc_pass::{Act, Desk, Views};
 use cmc_x509::read_key;
 use std::alloc::{AllocError, Global};
@@ -21,7 +21,7 @@ fn is_readable(file: &Bytes) -> bool
     read_key(file.as_slice()).is_ok()
 }
 
-fn target_key(target: &Option<Secret>) -> Option<&Bytes>
+fn target_key(target: &Option<Shared<Secret>>) -> Option<&Bytes>
     ensures { option_copied result ≡ table.target_key target.now }
 {
     match target {
@@ -68,7 +68,7 @@ fn rotated(
     }
 }
 
-fn only_key(certificate: &Certificate, secret: &Secret) -> Result<Act, AllocError>
+fn only_key(alloc: Global, certificate: &Certificate, secret: &Secret) -> Result<Act, AllocError>
     ensures { IfOk result (λ a. a ≡ table.only_key certificate.now secret.now) }
 {
     if !has_fitting_key(&certificate.spec.key, secret) {
@@ -78,16 +78,16 @@ fn only_key(certificate: &Certificate, secret: &Secret) -> Result<Act, AllocErro
         return Ok(Act::Nothing);
     }
     let name = secret.meta.name.copy()?;
-    name_call(Some(name), certificate)
+    name_call(alloc, Some(name), certificate)
 }
 
-fn other_key<'a>(name: &Option<Name>, secrets: &'a [Secret]) -> Option<&'a Secret>
+fn other_key<'a>(name: &Option<Name>, secrets: &'a [Shared<Secret>]) -> Option<&'a Shared<Secret>>
     ensures { option_copied result ≡ find (λ o. not (words.is_named name.now o)) secrets.now }
 {
     secrets.iter().find(|secret| !is_named(name, secret))
 }
 
-fn dropped(secret: Option<&Secret>) -> Result<Act, AllocError>
+fn dropped(secret: Option<&Shared<Secret>>) -> Result<Act, AllocError>
     ensures { IfOk result (λ a. a ≡ table.dropped (option_copied secret.entry)) }
 {
     match secret {
@@ -100,8 +100,8 @@ fn while_issuing(
     alloc: Global,
     certificate: &Certificate,
     desk: &Desk,
-    target: &Option<Secret>,
-    next: &[Secret],
+    target: &Option<Shared<Secret>>,
+    next: &[Shared<Secret>],
 ) -> Result<Act, AllocError>
     requires { desk.now.asked < 2 ^ 63 }
     ensures { IfOk result (λ a. a ≡ table.while_issuing certificate.now desk.now target.now next.now) }
@@ -114,25 +114,29 @@ fn while_issuing(
             target_key(target),
             certificate.spec.key.rotation_at_use(),
         ),
-        [secret] => only_key(certificate, secret),
+        [secret] => only_key(alloc, certificate, secret),
         _ => dropped(other_key(&certificate.status.next_key, next)),
     }
 }
 
-fn unnamed(certificate: &Certificate) -> Result<Act, AllocError>
+fn unnamed(alloc: Global, certificate: &Certificate) -> Result<Act, AllocError>
     ensures { IfOk result (λ a. a ≡ table.unnamed certificate.now certificate.now.status.next_key) }
 {
     match &certificate.status.next_key {
         None => Ok(Act::Nothing),
-        Some(_) => name_call(None, certificate),
+        Some(_) => name_call(alloc, None, certificate),
     }
 }
 
-fn while_idle(certificate: &Certificate, next: &[Secret]) -> Result<Act, AllocError>
+fn while_idle(
+    alloc: Global,
+    certificate: &Certificate,
+    next: &[Shared<Secret>],
+) -> Result<Act, AllocError>
     ensures { IfOk result (λ a. a ≡ table.while_idle certificate.now next.now) }
 {
     match next {
-        [] => unnamed(certificate),
+        [] => unnamed(alloc, certificate),
         [secret, ..] => drop_call(secret),
     }
 }
@@ -141,8 +145,8 @@ fn keys_for(
     alloc: Global,
     certificate: &Certificate,
     desk: &Desk,
-    target: &Option<Secret>,
-    next: &[Secret],
+    target: &Option<Shared<Secret>>,
+    next: &[Shared<Secret>],
 ) -> Result<Act, AllocError>
     requires { desk.now.asked < 2 ^ 63 }
     ensures { IfOk result (λ a. a ≡ table.keys_for certificate.now desk.now target.now next.now) }
@@ -150,7 +154,7 @@ fn keys_for(
     if is_issuing(certificate) {
         while_issuing(alloc, certificate, desk, target, next)
     } else {
-        while_idle(certificate, next)
+        while_idle(alloc, certificate, next)
     }
 }
 

@@ -37,10 +37,14 @@ fn with_next_key(name: Option<Name>, certificate: &Certificate) -> Result<Certif
 
 /// The status update, at the version of the Certificate, that names the next key, or none.
 #[tactic(auto, unfolding(cmc_rules::specs::KeyManaging::name_call))]
-pub fn name_call(name: Option<Name>, certificate: &Certificate) -> Result<Act, AllocError>
+pub fn name_call(
+    alloc: Global,
+    name: Option<Name>,
+    certificate: &Certificate,
+) -> Result<Act, AllocError>
     ensures { IfOk result (λ a. a ≡ table.name_call name certificate.now) }
 {
-    let object = Object::Cert(with_next_key(name, certificate)?);
+    let object = Object::of_certificate(alloc, with_next_key(name, certificate)?)?;
     Ok(Act::Call(Call::UpdateStatus {
         object,
         version: certificate.meta.version,
@@ -101,7 +105,7 @@ fn key_secret(alloc: Global, certificate: &Certificate, file: Bytes) -> Result<S
 pub fn make_call(alloc: Global, certificate: &Certificate, file: Bytes) -> Result<Call, AllocError>
     ensures { IfOk result (λ c. c ≡ table.make_call certificate.now file) }
 {
-    let object = Object::Secret(key_secret(alloc, certificate, file)?);
+    let object = Object::of_secret(alloc, key_secret(alloc, certificate, file)?)?;
     Ok(Call::Create {
         object,
         generate: true,

@@ -17,7 +17,7 @@ use crate::marks::{has_text, is_temporary, part_under, text_under};
 use crate::matching::{is_one_key, key_fits, request_has_key, request_matches};
 use crate::revisions::current_request;
 use cmc_meta::{Bytes, Name};
-use cmc_objects::{CertSpec, Certificate, CertificateRequest, IssuerRef, KeySpec, Secret};
+use cmc_objects::{CertSpec, Certificate, CertificateRequest, IssuerRef, KeySpec, Secret, Shared};
 use cmc_policies::Facts;
 use cmc_x509::{CertFields, read_cert, read_key};
 
@@ -153,7 +153,11 @@ fn names_owner(name: &Name, secret: &Secret) -> bool
     }
 }
 
-fn is_requested(spec: &KeySpec, key: Option<&Bytes>, current: Option<&CertificateRequest>) -> bool
+fn is_requested(
+    spec: &KeySpec,
+    key: Option<&Bytes>,
+    current: Option<&Shared<CertificateRequest>>,
+) -> bool
     ensures { result ≡ words.is_requested spec.now (option_copied key.entry) (option_copied current.entry) }
 {
     match key {
@@ -168,13 +172,17 @@ fn is_requested(spec: &KeySpec, key: Option<&Bytes>, current: Option<&Certificat
 }
 
 #[tactic(auto, unfolding(crate::specs::Facts::has_requested_key))]
-fn has_requested_key(spec: &KeySpec, secret: &Secret, current: Option<&CertificateRequest>) -> bool
+fn has_requested_key(
+    spec: &KeySpec,
+    secret: &Secret,
+    current: Option<&Shared<CertificateRequest>>,
+) -> bool
     ensures { result ≡ words.has_requested_key spec.now (Some secret.now) (option_copied current.entry) }
 {
     is_requested(spec, part_under(&secret.parts, "tls.key"), current)
 }
 
-fn is_unchanged(spec: &CertSpec, current: Option<&CertificateRequest>) -> bool
+fn is_unchanged(spec: &CertSpec, current: Option<&Shared<CertificateRequest>>) -> bool
     ensures { result ≡ words.is_unchanged spec.now (option_copied current.entry) }
 {
     match current {
@@ -214,7 +222,7 @@ fn facts_in(
     spec: &CertSpec,
     name: &Name,
     secret: &Secret,
-    current: Option<&CertificateRequest>,
+    current: Option<&Shared<CertificateRequest>>,
 ) -> Facts
     ensures { known result ≡ words.known_of spec.now name.now (Some secret.now) (option_copied current.entry) }
 {
@@ -239,8 +247,8 @@ fn facts_in(
 pub fn facts_of(
     spec: &CertSpec,
     name: &Name,
-    secret: Option<&Secret>,
-    current: Option<&CertificateRequest>,
+    secret: Option<&Shared<Secret>>,
+    current: Option<&Shared<CertificateRequest>>,
 ) -> Facts
     ensures { known result ≡ words.known_of spec.now name.now (option_copied secret.entry) (option_copied current.entry) }
 {
@@ -253,8 +261,8 @@ pub fn facts_of(
 /// What the checks of the Certificate look at: its Secret, and the current one of its requests.
 pub fn facts_for(
     certificate: &Certificate,
-    secret: Option<&Secret>,
-    requests: &[CertificateRequest],
+    secret: Option<&Shared<Secret>>,
+    requests: &[Shared<CertificateRequest>],
 ) -> Facts
     ensures { known result ≡ words.known_for certificate.now (option_copied secret.entry) requests.now }
 {

@@ -7,7 +7,7 @@ ghost use Rattle.cmc_match.specs.Revisions as words;
 
 use crate::marks::text_under;
 use cmc_meta::Text;
-use cmc_objects::CertificateRequest;
+use cmc_objects::{CertificateRequest, Shared};
 
 fn are_digits(text: &[u8]) -> bool
     ensures { result ≡ list_all is_ascii_digit text.now }
@@ -75,7 +75,7 @@ pub fn is_of(request: &CertificateRequest, revision: u64) -> bool
     }
 }
 
-fn count_of(requests: &[CertificateRequest], revision: u64) -> usize
+fn count_of(requests: &[Shared<CertificateRequest>], revision: u64) -> usize
     ensures { result ≡ length (filter (λ request. words.is_of revision request) requests.now) }
 {
     requests
@@ -84,14 +84,20 @@ fn count_of(requests: &[CertificateRequest], revision: u64) -> usize
         .count()
 }
 
-fn first_of(requests: &[CertificateRequest], revision: u64) -> Option<&CertificateRequest>
+fn first_of(
+    requests: &[Shared<CertificateRequest>],
+    revision: u64,
+) -> Option<&Shared<CertificateRequest>>
     ensures { option_copied result ≡ find (λ request. words.is_of revision request) requests.now }
 {
     requests.iter().find(|request| is_of(request, revision))
 }
 
 #[tactic(auto, unfolding(crate::specs::Revisions::only_of))]
-fn only_of(requests: &[CertificateRequest], revision: u64) -> Option<&CertificateRequest>
+fn only_of(
+    requests: &[Shared<CertificateRequest>],
+    revision: u64,
+) -> Option<&Shared<CertificateRequest>>
     ensures { option_copied result ≡ words.only_of revision requests.now }
 {
     if count_of(requests, revision) == 1 {
@@ -105,8 +111,8 @@ fn only_of(requests: &[CertificateRequest], revision: u64) -> Option<&Certificat
 /// status has none; `None` unless exactly one is of it.
 pub fn current_request(
     revision: Option<u64>,
-    requests: &[CertificateRequest],
-) -> Option<&CertificateRequest>
+    requests: &[Shared<CertificateRequest>],
+) -> Option<&Shared<CertificateRequest>>
     ensures { option_copied result ≡ words.current_request revision requests.now }
 {
     only_of(requests, revision.unwrap_or(0))
@@ -116,8 +122,8 @@ pub fn current_request(
 /// unless exactly one is of it.
 pub fn next_request(
     revision: Option<u64>,
-    requests: &[CertificateRequest],
-) -> Option<&CertificateRequest>
+    requests: &[Shared<CertificateRequest>],
+) -> Option<&Shared<CertificateRequest>>
     ensures { option_copied result ≡ words.next_request revision requests.now }
 {
     // No annotation writes a number above the greatest u64.

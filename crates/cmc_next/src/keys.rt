@@ -6,7 +6,7 @@ ghost use Rattle.cmc_rules.specs.NextKeys as words;
 
 use cmc_match::{key_fits, part_under};
 use cmc_meta::{Bytes, Name};
-use cmc_objects::{KeySpec, Secret};
+use cmc_objects::{KeySpec, Secret, Shared};
 
 /// The file of the Secret's private key, in DER (`tls.key`); `None` exactly where the Secret has none.
 pub fn key_in(secret: &Secret) -> Option<&Bytes>
@@ -26,7 +26,7 @@ pub fn is_named(name: &Option<Name>, secret: &Secret) -> bool
 }
 
 /// The Secret of this name among those with a next key; `None` exactly where none has it, or no name is given.
-pub fn named_key<'a>(name: &Option<Name>, next: &'a [Secret]) -> Option<&'a Secret>
+pub fn named_key<'a>(name: &Option<Name>, next: &'a [Shared<Secret>]) -> Option<&'a Shared<Secret>>
     ensures { option_copied result ≡ words.named_key name.now next.now }
 {
     next.iter().find(|secret| is_named(name, secret))

@@ -5,7 +5,7 @@ ghost use Rattle.cmc_rules.specs.NextRequests as words;
 
 use cmc_match::{is_of, request_has_key, request_matches};
 use cmc_meta::{Condition, ConditionKind, Tri};
-use cmc_objects::{Certificate, CertificateRequest};
+use cmc_objects::{Certificate, CertificateRequest, Shared};
 
 /// Whether the request is for the next revision of the Certificate: the one behind the revision that its status has,
 /// which is 0 where it has none.
@@ -17,7 +17,7 @@ pub fn is_next(certificate: &Certificate, request: &CertificateRequest) -> bool
 }
 
 /// How many of the requests are for the next revision of the Certificate.
-pub fn next_count(certificate: &Certificate, requests: &[CertificateRequest]) -> usize
+pub fn next_count(certificate: &Certificate, requests: &[Shared<CertificateRequest>]) -> usize
     requires { words.HasNextRevision (Some certificate.now) }
     ensures { result ≡ length (words.next_requests certificate.now requests.now) }
 {

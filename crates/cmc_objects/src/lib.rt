@@ -18,6 +18,7 @@ mod request;
 mod role;
 mod rows;
 mod secret;
+mod shared;
 mod watching;
 
 pub use call::{Call, Reply};
@@ -33,6 +34,7 @@ pub use request::{CertificateRequest, RequestSpec, RequestStatus};
 pub use role::Role;
 pub use rows::{KeyRow, KeyRows, Rows, SignRow, SignRows};
 pub use secret::Secret;
+pub use shared::Shared;
 pub use watching::{
     has_informer, kind_of_work, looks_at_next, looks_at_requests, looks_at_secret,
     works_on_requests,

@@ -3,19 +3,42 @@ ghost use Rattle.std.specs.Prelude.{◌≡◌, ◌↔◌, IsTrue, IfOk};
 use crate::certificate::Certificate;
 use crate::request::CertificateRequest;
 use crate::secret::Secret;
+use crate::shared::Shared;
 use cmc_meta::{Key, Kind, ObjectMeta};
-use std::alloc::AllocError;
+use std::alloc::{AllocError, Global};
 
-/// An object of the store.
+/// An object of the store. Its copies share it.
 #[derive(Drop)]
 pub enum Object {
-    Cert(Certificate),
-    Request(CertificateRequest),
-    Secret(Secret),
+    Cert(Shared<Certificate>),
+    Request(Shared<CertificateRequest>),
+    Secret(Shared<Secret>),
 }
 
 impl Object {
     ghost use Rattle.cmc_objects.specs.Objects.{key_of, kind_of, meta_of};
+    ghost use Rattle.cmc_objects.specs.declared.object.Object.TheVariants as variants;
+
+    /// The object that is this Certificate. An error is one of memory.
+    pub fn of_certificate(alloc: Global, certificate: Certificate) -> Result<Object, AllocError>
+        ensures { IfOk result (λ o. o ≡ variants.Cert certificate) }
+    {
+        Ok(Object::Cert(Shared::new(alloc, certificate)?))
+    }
+
+    /// The object that is this CertificateRequest. An error is one of memory.
+    pub fn of_request(alloc: Global, request: CertificateRequest) -> Result<Object, AllocError>
+        ensures { IfOk result (λ o. o ≡ variants.Request request) }
+    {
+        Ok(Object::Request(Shared::new(alloc, request)?))
+    }
+
+    /// The object that is this Secret. An error is one of memory.
+    pub fn of_secret(alloc: Global, secret: Secret) -> Result<Object, AllocError>
+        ensures { IfOk result (λ o. o ≡ variants.Secret secret) }
+    {
+        Ok(Object::Secret(Shared::new(alloc, secret)?))
+    }
 
     /// The object's metadata.
     pub fn meta(&self) -> &ObjectMeta
@@ -52,7 +75,7 @@ impl Object {
         })
     }
 
-    /// An equal object.
+    /// An equal object: the same one, shared.
     pub fn copy(&self) -> Result<Object, AllocError>
         ensures { IfOk result (λ o. o ≡ self.now) }
     {

@@ -3,6 +3,7 @@ ghost use Rattle.std.specs.Prelude.{◌≡◌, ◌↔◌, true, false, IsTrue, I
 use crate::key_spec::{Algorithm, Encoding};
 use crate::request::CertificateRequest;
 use crate::rows::{KeyRow, SignRow};
+use crate::shared::Shared;
 use cmc_meta::{Bytes, Key, Text, Texts};
 use cmc_policy_rules::Policies;
 use std::alloc::AllocError;
@@ -80,7 +81,7 @@ impl CsrOrder {
 /// A question to an issuer. Its request is approved and not denied: no other one can be asked about.
 pub struct SignOrder {
     number: u64,
-    request: CertificateRequest,
+    request: Shared<CertificateRequest>,
     moment: i64,
     row: SignRow,
 }
@@ -111,7 +112,12 @@ impl SignOrder {
 
     /// The question of this number about the request, at the moment `now` in seconds since
     /// 1970-01-01T00:00:00Z.
-    pub fn new(number: u64, request: CertificateRequest, now: i64, row: SignRow) -> SignOrder
+    pub fn new(
+        number: u64,
+        request: Shared<CertificateRequest>,
+        now: i64,
+        row: SignRow,
+    ) -> SignOrder
         requires { IsSignable request now row }
         ensures { result ≡ record { number = number; request = request; moment = now; row = row } }
     {
@@ -216,7 +222,7 @@ impl Rules {
 /// A question whether a request may be approved.
 #[derive(Drop)]
 pub struct JudgeOrder {
-    pub request: CertificateRequest,
+    pub request: Shared<CertificateRequest>,
     pub rules: Rules,
 }
 

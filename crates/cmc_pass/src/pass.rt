@@ -2,14 +2,14 @@
 ghost use Rattle.std.specs.Prelude.{◌≡◌, ◌↔◌, ◌++◌, ◌∷◌, [], None, IsTrue, IfOk, OnOk, OnErr};
 
 use cmc_meta::Key;
-use cmc_objects::{Call, Certificate, CertificateRequest, Material, Order, Rules, Secret};
+use cmc_objects::{Call, Certificate, CertificateRequest, Material, Order, Rules, Secret, Shared};
 use std::alloc::{AllocError, Global};
 use std::marker::Model;
 
 /// Secrets in order of name; contracts see the list.
 #[derive(Drop)]
 pub struct Secrets {
-    items: Vec<Secret>,
+    items: Vec<Shared<Secret>>,
 }
 
 impl Model for Secrets {
@@ -32,7 +32,7 @@ impl Secrets {
     }
 
     /// Adds a Secret at the end, where its name has to stand.
-    pub fn push(&mut self, secret: Secret) -> Result<(), AllocError>
+    pub fn push(&mut self, secret: Shared<Secret>) -> Result<(), AllocError>
         ensures ok { OnOk result (self.new ≡ self.old ++ secret ∷ []) }
         ensures err { OnErr result (self.new ≡ self.old) }
     {
@@ -41,7 +41,7 @@ impl Secrets {
     }
 
     /// The Secrets, as a slice.
-    pub fn as_slice(&self) -> &[Secret]
+    pub fn as_slice(&self) -> &[Shared<Secret>]
         ensures { result.now ≡ self.now }
     {
         self.items.as_slice()
@@ -64,7 +64,7 @@ impl Secrets {
     }
 }
 
-fn same_secrets(left: &[Secret], right: &[Secret]) -> bool
+fn same_secrets(left: &[Shared<Secret>], right: &[Shared<Secret>]) -> bool
     ensures { IsTrue result ↔ (left.now ≡ right.now) }
 {
     if left.len() != right.len() {
@@ -78,7 +78,10 @@ fn same_secrets(left: &[Secret], right: &[Secret]) -> bool
     true
 }
 
-fn copy_secrets(alloc: Global, secrets: &[Secret]) -> Result<Vec<Secret>, AllocError>
+fn copy_secrets(
+    alloc: Global,
+    secrets: &[Shared<Secret>],
+) -> Result<Vec<Shared<Secret>>, AllocError>
     ensures { IfOk result (λ v. v.items ≡ secrets.now) }
 {
     let mut items = Vec::new(alloc);
@@ -91,7 +94,7 @@ fn copy_secrets(alloc: Global, secrets: &[Secret]) -> Result<Vec<Secret>, AllocE
 /// CertificateRequests in order of name; contracts see the list.
 #[derive(Drop)]
 pub struct Requests {
-    items: Vec<CertificateRequest>,
+    items: Vec<Shared<CertificateRequest>>,
 }
 
 impl Model for Requests {
@@ -114,7 +117,7 @@ impl Requests {
     }
 
     /// Adds a CertificateRequest at the end, where its name has to stand.
-    pub fn push(&mut self, request: CertificateRequest) -> Result<(), AllocError>
+    pub fn push(&mut self, request: Shared<CertificateRequest>) -> Result<(), AllocError>
         ensures ok { OnOk result (self.new ≡ self.old ++ request ∷ []) }
         ensures err { OnErr result (self.new ≡ self.old) }
     {
@@ -123,7 +126,7 @@ impl Requests {
     }
 
     /// The CertificateRequests, as a slice.
-    pub fn as_slice(&self) -> &[CertificateRequest]
+    pub fn as_slice(&self) -> &[Shared<CertificateRequest>]
         ensures { result.now ≡ self.now }
     {
         self.items.as_slice()
@@ -146,7 +149,7 @@ impl Requests {
     }
 }
 
-fn same_requests(left: &[CertificateRequest], right: &[CertificateRequest]) -> bool
+fn same_requests(left: &[Shared<CertificateRequest>], right: &[Shared<CertificateRequest>]) -> bool
     ensures { IsTrue result ↔ (left.now ≡ right.now) }
 {
     if left.len() != right.len() {
@@ -162,8 +165,8 @@ fn same_requests(left: &[CertificateRequest], right: &[CertificateRequest]) -> b
 
 fn copy_requests(
     alloc: Global,
-    requests: &[CertificateRequest],
-) -> Result<Vec<CertificateRequest>, AllocError>
+    requests: &[Shared<CertificateRequest>],
+) -> Result<Vec<Shared<CertificateRequest>>, AllocError>
     ensures { IfOk result (λ v. v.items ≡ requests.now) }
 {
     let mut items = Vec::new(alloc);
@@ -176,15 +179,15 @@ fn copy_requests(
 /// What a controller sees of its key as a pass begins. A part that the controller does not look at is empty.
 pub struct Views {
     /// The Certificate of the key.
-    pub certificate: Option<Certificate>,
+    pub certificate: Option<Shared<Certificate>>,
     /// The Secret that the Certificate names for its key and its certificate.
-    pub secret: Option<Secret>,
+    pub secret: Option<Shared<Secret>>,
     /// The Secrets with a next private key of the Certificate, in order of name.
     pub next: Secrets,
     /// The CertificateRequests that the Certificate owns, in order of name.
     pub requests: Requests,
     /// The CertificateRequest of the key, for a controller of requests.
-    pub request: Option<CertificateRequest>,
+    pub request: Option<Shared<CertificateRequest>>,
 }
 
 impl Views {
@@ -229,7 +232,7 @@ impl Views {
     }
 }
 
-fn same_certificate(left: &Option<Certificate>, right: &Option<Certificate>) -> bool
+fn same_certificate(left: &Option<Shared<Certificate>>, right: &Option<Shared<Certificate>>) -> bool
     ensures { IsTrue result ↔ (left.now ≡ right.now) }
 {
     match (left, right) {
@@ -239,7 +242,7 @@ fn same_certificate(left: &Option<Certificate>, right: &Option<Certificate>) -> 
     }
 }
 
-fn same_secret(left: &Option<Secret>, right: &Option<Secret>) -> bool
+fn same_secret(left: &Option<Shared<Secret>>, right: &Option<Shared<Secret>>) -> bool
     ensures { IsTrue result ↔ (left.now ≡ right.now) }
 {
     match (left, right) {
@@ -249,7 +252,10 @@ fn same_secret(left: &Option<Secret>, right: &Option<Secret>) -> bool
     }
 }
 
-fn same_request(left: &Option<CertificateRequest>, right: &Option<CertificateRequest>) -> bool
+fn same_request(
+    left: &Option<Shared<CertificateRequest>>,
+    right: &Option<Shared<CertificateRequest>>,
+) -> bool
     ensures { IsTrue result ↔ (left.now ≡ right.now) }
 {
     match (left, right) {
@@ -259,7 +265,9 @@ fn same_request(left: &Option<CertificateRequest>, right: &Option<CertificateReq
     }
 }
 
-fn copy_certificate(certificate: &Option<Certificate>) -> Result<Option<Certificate>, AllocError>
+fn copy_certificate(
+    certificate: &Option<Shared<Certificate>>,
+) -> Result<Option<Shared<Certificate>>, AllocError>
     ensures { IfOk result (λ c. c ≡ certificate.now) }
 {
     match certificate {
@@ -268,7 +276,7 @@ fn copy_certificate(certificate: &Option<Certificate>) -> Result<Option<Certific
     }
 }
 
-fn copy_secret(secret: &Option<Secret>) -> Result<Option<Secret>, AllocError>
+fn copy_secret(secret: &Option<Shared<Secret>>) -> Result<Option<Shared<Secret>>, AllocError>
     ensures { IfOk result (λ s. s ≡ secret.now) }
 {
     match secret {
@@ -278,8 +286,8 @@ fn copy_secret(secret: &Option<Secret>) -> Result<Option<Secret>, AllocError>
 }
 
 fn copy_request(
-    request: &Option<CertificateRequest>,
-) -> Result<Option<CertificateRequest>, AllocError>
+    request: &Option<Shared<CertificateRequest>>,
+) -> Result<Option<Shared<CertificateRequest>>, AllocError>
     ensures { IfOk result (λ r. r ≡ request.now) }
 {
     match request {

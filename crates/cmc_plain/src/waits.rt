@@ -15,7 +15,7 @@ ghost use Rattle.cmc_plain.specs.Waits as words;
 use cmc_match::{is_next_key, next_request};
 use cmc_meta::{Condition, ConditionKind, Key, Kind, Tri};
 use cmc_next::{is_approved, is_denied, is_issuing};
-use cmc_objects::{CertStatus, Certificate, CertificateRequest, Role, Secret};
+use cmc_objects::{CertStatus, Certificate, CertificateRequest, Role, Secret, Shared};
 use cmc_pass::Views;
 use cmc_policies::backoff_until;
 use cmc_summary::WaitName;
@@ -52,7 +52,7 @@ fn is_unanswered(ready: Option<&Condition>) -> bool
     }
 }
 
-fn is_kept_for_keys(target: &Option<Secret>) -> bool
+fn is_kept_for_keys(target: &Option<Shared<Secret>>) -> bool
     ensures { result ≡ issuing.is_kept_for_keys target.now }
 {
     match target {
@@ -61,7 +61,10 @@ fn is_kept_for_keys(target: &Option<Secret>) -> bool
     }
 }
 
-fn wait_of_request(target: &Option<Secret>, request: &CertificateRequest) -> Option<WaitName>
+fn wait_of_request(
+    target: &Option<Shared<Secret>>,
+    request: &CertificateRequest,
+) -> Option<WaitName>
     ensures { result ≡ words.wait_of_request target.now request.now }
 {
     if !is_approved(request) && !is_denied(request) {
@@ -77,7 +80,10 @@ fn wait_of_request(target: &Option<Secret>, request: &CertificateRequest) -> Opt
     None
 }
 
-fn wait_of_next(target: &Option<Secret>, request: Option<&CertificateRequest>) -> Option<WaitName>
+fn wait_of_next(
+    target: &Option<Shared<Secret>>,
+    request: Option<&Shared<CertificateRequest>>,
+) -> Option<WaitName>
     ensures { result ≡ words.wait_of_next target.now (option_copied request.entry) }
 {
     match request {

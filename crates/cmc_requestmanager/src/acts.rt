@@ -14,7 +14,7 @@ use cmc_meta::Bytes;
 use cmc_next::{
     failed_before, is_issuing, is_next, is_refused, is_wanted, key_in, named_key, next_count,
 };
-use cmc_objects::{Certificate, CertificateRequest, Secret};
+use cmc_objects::{Certificate, CertificateRequest, Secret, Shared};
 use cmc_pass::{Act, Desk, Views};
 use cmc_x509::{Spki, key_public};
 use std::alloc::{AllocError, Global};
@@ -29,8 +29,8 @@ fn is_stale(certificate: &Certificate, file: &[u8], request: &CertificateRequest
 fn stale_request<'a>(
     certificate: &Certificate,
     file: &[u8],
-    requests: &'a [CertificateRequest],
-) -> Option<&'a CertificateRequest>
+    requests: &'a [Shared<CertificateRequest>],
+) -> Option<&'a Shared<CertificateRequest>>
     requires { next_words.HasNextRevision (Some certificate.now) }
     ensures { option_copied result ≡ table.stale_request certificate.now file.now requests.now }
 {
@@ -40,9 +40,9 @@ fn stale_request<'a>(
 
 fn last_with<'a>(
     certificate: &Certificate,
-    last: Option<&'a CertificateRequest>,
-    request: &'a CertificateRequest,
-) -> Option<&'a CertificateRequest>
+    last: Option<&'a Shared<CertificateRequest>>,
+    request: &'a Shared<CertificateRequest>,
+) -> Option<&'a Shared<CertificateRequest>>
     requires { next_words.HasNextRevision (Some certificate.now) }
     ensures { option_copied result ≡ (if next_words.is_next certificate.now request.now then Some request.now else option_copied last.entry) }
 {
@@ -55,19 +55,19 @@ fn last_with<'a>(
 
 fn last_next<'a>(
     certificate: &Certificate,
-    requests: &'a [CertificateRequest],
-) -> Option<&'a CertificateRequest>
+    requests: &'a [Shared<CertificateRequest>],
+) -> Option<&'a Shared<CertificateRequest>>
     requires { next_words.HasNextRevision (Some certificate.now) }
     ensures { option_copied result ≡ last_or None (next_words.next_requests certificate.now requests.now) }
 {
-    let mut last: Option<&CertificateRequest> = None;
+    let mut last: Option<&Shared<CertificateRequest>> = None;
     for request in requests {
         last = last_with(certificate, last, request);
     }
     last
 }
 
-fn delete_of(request: Option<&CertificateRequest>) -> Result<Act, AllocError>
+fn delete_of(request: Option<&Shared<CertificateRequest>>) -> Result<Act, AllocError>
     ensures { IfOk result (λ a. a ≡ revising.delete_of (option_copied request.entry)) }
 {
     match request {
@@ -94,7 +94,7 @@ fn by_count(
     alloc: Global,
     certificate: &Certificate,
     file: &Bytes,
-    requests: &[CertificateRequest],
+    requests: &[Shared<CertificateRequest>],
 ) -> Result<Act, AllocError>
     requires { next_words.HasNextRevision (Some certificate.now) }
     ensures { IfOk result (λ a. a ≡ table.by_count certificate.now file.now (next_words.next_requests certificate.now requests.now)) }
@@ -113,7 +113,7 @@ fn by_stale(
     alloc: Global,
     certificate: &Certificate,
     file: &Bytes,
-    requests: &[CertificateRequest],
+    requests: &[Shared<CertificateRequest>],
 ) -> Result<Act, AllocError>
     requires { next_words.HasNextRevision (Some certificate.now) }
     ensures { IfOk result (λ a. a ≡ table.by_stale certificate.now file.now requests.now (table.stale_request certificate.now file.now requests.now)) }
@@ -127,7 +127,7 @@ fn by_stale(
 fn with_file(
     alloc: Global,
     certificate: &Certificate,
-    requests: &[CertificateRequest],
+    requests: &[Shared<CertificateRequest>],
     file: Option<&Bytes>,
 ) -> Result<Act, AllocError>
     requires { next_words.HasNextRevision (Some certificate.now) }
@@ -144,8 +144,8 @@ fn with_file(
 fn with_key(
     alloc: Global,
     certificate: &Certificate,
-    requests: &[CertificateRequest],
-    secret: Option<&Secret>,
+    requests: &[Shared<CertificateRequest>],
+    secret: Option<&Shared<Secret>>,
 ) -> Result<Act, AllocError>
     requires { next_words.HasNextRevision (Some certificate.now) }
     ensures { IfOk result (λ a. a ≡ table.with_key certificate.now requests.now (option_copied secret.entry)) }
@@ -159,8 +159,8 @@ fn with_key(
 fn request_for(
     alloc: Global,
     certificate: &Certificate,
-    next: &[Secret],
-    requests: &[CertificateRequest],
+    next: &[Shared<Secret>],
+    requests: &[Shared<CertificateRequest>],
 ) -> Result<Act, AllocError>
     requires { next_words.HasNextRevision (Some certificate.now) }
     ensures { IfOk result (λ a. a ≡ table.request_for certificate.now next.now requests.now) }

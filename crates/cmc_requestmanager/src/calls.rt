@@ -125,7 +125,8 @@ pub fn make_request(
     requires { next.HasNextRevision (Some certificate.now) }
     ensures { IfOk result (λ c. c ≡ table.make_request certificate.now secret.now request) }
 {
-    let object = Object::Request(new_request(alloc, certificate, secret, request)?);
+    let made = new_request(alloc, certificate, secret, request)?;
+    let object = Object::of_request(alloc, made)?;
     Ok(Call::Create {
         object,
         generate: true,

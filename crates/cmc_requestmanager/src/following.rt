@@ -10,7 +10,7 @@ use crate::calls::make_request;
 use crate::questions::body_of;
 use cmc_meta::Bytes;
 use cmc_next::{key_in, named_key, value_in};
-use cmc_objects::{Call, Certificate, Order, Secret};
+use cmc_objects::{Call, Certificate, Order, Secret, Shared};
 use cmc_pass::{Given, Value, Views};
 use cmc_x509::{Spki, key_public};
 use cmc_x509_build::csr_whole;
@@ -59,7 +59,7 @@ fn signed_in(
 fn signed_with(
     alloc: Global,
     certificate: &Certificate,
-    secret: Option<&Secret>,
+    secret: Option<&Shared<Secret>>,
     signature: &[u8],
 ) -> Result<Option<Call>, AllocError>
     requires { next_words.HasNextRevision (Some certificate.now) }

@@ -13,7 +13,7 @@ use crate::trigger::{KEY, OTHER, OTHER_KEY, OTHER_NAME, REQUEST, desk};
 use cmc_keys::{KeyMaker, ScriptedKeys};
 use cmc_meta::{Bytes, ConditionKind, Tri};
 use cmc_next::{key_in, named_key};
-use cmc_objects::{Algorithm, Certificate, CsrOrder, Order, Secret};
+use cmc_objects::{Algorithm, Certificate, CsrOrder, Order, Secret, Shared};
 use cmc_pass::{Act, Given, Views};
 use cmc_requestmanager::{act, is_sound, then};
 use cmc_x509::{Spki, key_public};
@@ -390,7 +390,7 @@ fn follows_in(certificate: &Certificate, secret: &Secret, file: Option<&Bytes>) 
     }
 }
 
-fn follows_with(certificate: &Certificate, secret: Option<&Secret>) -> bool
+fn follows_with(certificate: &Certificate, secret: Option<&Shared<Secret>>) -> bool
     ensures { IsTrue result → (s : List ℕ) → IsSome (table.signed_with certificate.now (option_copied secret.entry) s) }
 {
     match secret {

@@ -161,7 +161,7 @@ fn load(alloc: Global, number: u32) -> Result<Step, AllocError>
     let spec = spec(alloc, number)?;
     let status = status(alloc);
     Ok(Step::Apply {
-        object: Object::Cert(Certificate { meta, spec, status }),
+        object: Object::of_certificate(alloc, Certificate { meta, spec, status })?,
         version: None,
     })
 }

@@ -15,7 +15,7 @@ ghost use Rattle.cmc_rules.specs.Readying as spec;
 use crate::reasons::reason_for;
 use cmc_match::pair_in;
 use cmc_meta::{Condition, ConditionKind, Text, Tri};
-use cmc_objects::{Call, CertStatus, Certificate, CertificateRequest, Object, Secret};
+use cmc_objects::{Call, CertStatus, Certificate, CertificateRequest, Object, Secret, Shared};
 use cmc_pass::{Act, Desk, Views};
 use cmc_policies::{Frame, Reason, Renew, renewal_time};
 use std::alloc::{AllocError, Global};
@@ -47,7 +47,7 @@ fn times_in(secret: &Secret, renew: Renew) -> Times
     }
 }
 
-fn times_of(secret: &Option<Secret>, renew: Renew) -> Times
+fn times_of(secret: &Option<Shared<Secret>>, renew: Renew) -> Times
     ensures before { result.not_before ≡ spec.begins_at (pair_at secret.now) }
     ensures after { result.not_after ≡ spec.ends_at (pair_at secret.now) }
     ensures renewal { result.renewal ≡ spec.renews_at renew (pair_at secret.now) }
@@ -145,14 +145,19 @@ fn status_with(
     Ok(changed)
 }
 
-fn with_status(certificate: &Certificate, status: CertStatus) -> Result<Act, AllocError>
+fn with_status(
+    alloc: Global,
+    certificate: &Certificate,
+    status: CertStatus,
+) -> Result<Act, AllocError>
     ensures { IfOk result (λ a. a ≡ Calls (UpdateStatus (Cert (record certificate.now { status = status })) certificate.now.meta.version)) }
 {
-    let object = Object::Cert(Certificate {
+    let changed = Certificate {
         meta: certificate.meta.copy()?,
         spec: certificate.spec.copy()?,
         status,
-    });
+    };
+    let object = Object::of_certificate(alloc, changed)?;
     Ok(Act::Call(Call::UpdateStatus {
         object,
         version: certificate.meta.version,
@@ -161,9 +166,10 @@ fn with_status(certificate: &Certificate, status: CertStatus) -> Result<Act, All
 
 #[tactic(auto, unfolding(cmc_rules::specs::Readying::is_settled, cmc_rules::specs::Readying::ready_call, cmc_rules::specs::Readying::ready_status))]
 fn ready_by(
+    alloc: Global,
     condition: Condition,
     renew: Renew,
-    secret: &Option<Secret>,
+    secret: &Option<Shared<Secret>>,
     certificate: &Certificate,
 ) -> Result<Act, AllocError>
     ensures { IfOk result (λ a. a ≡ spec.ready_by condition renew (pair_at secret.now) certificate.now) }
@@ -173,14 +179,14 @@ fn ready_by(
         return Ok(Act::Nothing);
     }
     let status = status_with(condition, times, &certificate.status)?;
-    with_status(certificate, status)
+    with_status(alloc, certificate, status)
 }
 
 fn ready_of(
     alloc: Global,
     moment: i64,
-    secret: &Option<Secret>,
-    requests: &[CertificateRequest],
+    secret: &Option<Shared<Secret>>,
+    requests: &[Shared<CertificateRequest>],
     certificate: &Certificate,
 ) -> Result<Act, AllocError>
     ensures { IfOk result (λ a. a ≡ spec.ready_of moment secret.now requests.now (Some certificate.now)) }
@@ -192,7 +198,7 @@ fn ready_of(
     let frame = Frame { now: moment, renew };
     let reason = reason_for(frame, certificate, secret, requests);
     let condition = condition(alloc, moment, reason)?;
-    ready_by(condition, renew, secret, certificate)
+    ready_by(alloc, condition, renew, secret, certificate)
 }
 
 /// What the readiness controller does on these views at the moment `now`, in seconds since 1970-01-01T00:00:00Z.

@@ -8,7 +8,7 @@ ghost use Rattle.cmc_rules.specs.Revising as spec;
 use crate::conditions::{is_issuing, is_ready};
 use cmc_match::revision_of;
 use cmc_meta::{Key, Kind};
-use cmc_objects::{Call, Certificate, CertificateRequest};
+use cmc_objects::{Call, Certificate, CertificateRequest, Shared};
 use cmc_pass::{Act, Desk, Views};
 use std::alloc::{AllocError, Global};
 
@@ -25,7 +25,7 @@ fn revision(request: &CertificateRequest) -> u64
     revision_of(request).unwrap_or(0)
 }
 
-fn count_of(requests: &[CertificateRequest]) -> usize
+fn count_of(requests: &[Shared<CertificateRequest>]) -> usize
     ensures { result ≡ length (filter spec.counts requests.now) }
 {
     let mut count = 0;
@@ -36,16 +36,16 @@ fn count_of(requests: &[CertificateRequest]) -> usize
 }
 
 /// Whether more requests count than the limit allows.
-fn is_above(limit: u32, requests: &[CertificateRequest]) -> bool
+fn is_above(limit: u32, requests: &[Shared<CertificateRequest>]) -> bool
     ensures { result ≡ nat_lt limit (length (filter spec.counts requests.now)) }
 {
     (limit as usize) < count_of(requests)
 }
 
 fn older_of<'a>(
-    oldest: Option<&'a CertificateRequest>,
-    request: &'a CertificateRequest,
-) -> Option<&'a CertificateRequest>
+    oldest: Option<&'a Shared<CertificateRequest>>,
+    request: &'a Shared<CertificateRequest>,
+) -> Option<&'a Shared<CertificateRequest>>
     ensures { option_copied result ≡ spec.older_of (option_copied oldest.entry) request.now }
 {
     match oldest {
@@ -55,9 +55,9 @@ fn older_of<'a>(
 }
 
 fn oldest_with<'a>(
-    oldest: Option<&'a CertificateRequest>,
-    request: &'a CertificateRequest,
-) -> Option<&'a CertificateRequest>
+    oldest: Option<&'a Shared<CertificateRequest>>,
+    request: &'a Shared<CertificateRequest>,
+) -> Option<&'a Shared<CertificateRequest>>
     ensures { option_copied result ≡ (if spec.counts request.now then spec.older_of (option_copied oldest.entry) request.now else option_copied oldest.entry) }
 {
     if counts(request) {
@@ -69,10 +69,10 @@ fn oldest_with<'a>(
 
 /// The request of least revision of those that count, of several the first; none where none counts.
 #[tactic(auto, unfolding(cmc_rules::specs::Revising::oldest_of))]
-fn oldest_in(requests: &[CertificateRequest]) -> Option<&CertificateRequest>
+fn oldest_in(requests: &[Shared<CertificateRequest>]) -> Option<&Shared<CertificateRequest>>
     ensures { option_copied result ≡ spec.oldest_of (filter spec.counts requests.now) }
 {
-    let mut oldest: Option<&CertificateRequest> = None;
+    let mut oldest: Option<&Shared<CertificateRequest>> = None;
     for request in requests {
         oldest = oldest_with(oldest, request);
     }
@@ -80,7 +80,7 @@ fn oldest_in(requests: &[CertificateRequest]) -> Option<&CertificateRequest>
 }
 
 #[tactic(auto, unfolding(cmc_rules::specs::Revising::delete_call))]
-fn delete_of(oldest: Option<&CertificateRequest>) -> Result<Act, AllocError>
+fn delete_of(oldest: Option<&Shared<CertificateRequest>>) -> Result<Act, AllocError>
     ensures { IfOk result (λ a. a ≡ spec.delete_of (option_copied oldest.entry)) }
 {
     match oldest {
@@ -96,7 +96,7 @@ fn delete_of(oldest: Option<&CertificateRequest>) -> Result<Act, AllocError>
     }
 }
 
-fn by_limit(limit: Option<u32>, requests: &[CertificateRequest]) -> Result<Act, AllocError>
+fn by_limit(limit: Option<u32>, requests: &[Shared<CertificateRequest>]) -> Result<Act, AllocError>
     ensures { IfOk result (λ a. a ≡ spec.by_limit limit requests.now) }
 {
     match limit {
@@ -105,7 +105,10 @@ fn by_limit(limit: Option<u32>, requests: &[CertificateRequest]) -> Result<Act, 
     }
 }
 
-fn revise_of(requests: &[CertificateRequest], certificate: &Certificate) -> Result<Act, AllocError>
+fn revise_of(
+    requests: &[Shared<CertificateRequest>],
+    certificate: &Certificate,
+) -> Result<Act, AllocError>
     ensures { IfOk result (λ a. a ≡ spec.revise_of requests.now (Some certificate.now)) }
 {
     if is_issuing(certificate.status.conditions.as_slice()) {

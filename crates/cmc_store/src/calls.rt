@@ -102,6 +102,7 @@ pub fn create(
 
 pub fn update(
     catalogue: &mut Catalogue,
+    alloc: Global,
     accepted: u64,
     object: &Object,
     named: u64,
@@ -121,7 +122,7 @@ pub fn update(
     }
     match refusal(Some(old), object, false, catalogue.has_taken(object)?) {
         Some(replied) => Ok(replied),
-        None => match revise(old, object, accepted + 1)? {
+        None => match revise(alloc, old, object, accepted + 1)? {
             None => Ok(refused(Reply::Unchanged { version: have })),
             Some(new) => write(catalogue, key, new, accepted + 1),
         },
@@ -130,6 +131,7 @@ pub fn update(
 
 pub fn update_status(
     catalogue: &mut Catalogue,
+    alloc: Global,
     accepted: u64,
     object: &Object,
     named: u64,
@@ -149,7 +151,7 @@ pub fn update_status(
     }
     match refusal(Some(old), object, true, false) {
         Some(replied) => Ok(replied),
-        None => match restate(old, object, accepted + 1)? {
+        None => match restate(alloc, old, object, accepted + 1)? {
             None => Ok(refused(Reply::Unchanged { version: have })),
             Some(new) => write(catalogue, key, new, accepted + 1),
         },

@@ -5,7 +5,9 @@ ghost use Rattle.cmc_store.specs.Changes.{IsRevision, IsRestatement};
 
 use cmc_admit::is_spec_kept;
 use cmc_meta::ObjectMeta;
-use cmc_objects::{CertStatus, Certificate, CertificateRequest, Object, RequestStatus, Secret};
+use cmc_objects::{
+    CertStatus, Certificate, CertificateRequest, Object, RequestStatus, Secret, Shared,
+};
 use std::alloc::{AllocError, Global};
 
 fn fresh_meta(
@@ -36,21 +38,30 @@ pub fn make(alloc: Global, object: &Object, version: u64, now: i64) -> Result<Ob
     ensures { IfOk result (λ o. o ≡ created version now object.now) }
 {
     match object {
-        Object::Cert(c) => Ok(Object::Cert(Certificate {
-            meta: fresh_meta(&c.meta, version, now, 1)?,
-            spec: c.spec.copy()?,
-            status: CertStatus::new(alloc),
-        })),
-        Object::Request(r) => Ok(Object::Request(CertificateRequest {
-            meta: fresh_meta(&r.meta, version, now, 1)?,
-            spec: r.spec.copy()?,
-            status: RequestStatus::new(alloc),
-        })),
-        Object::Secret(s) => Ok(Object::Secret(Secret {
-            meta: fresh_meta(&s.meta, version, now, 0)?,
-            kind_text: s.kind_text.copy()?,
-            parts: s.parts.copy()?,
-        })),
+        Object::Cert(c) => Object::of_certificate(
+            alloc,
+            Certificate {
+                meta: fresh_meta(&c.meta, version, now, 1)?,
+                spec: c.spec.copy()?,
+                status: CertStatus::new(alloc),
+            },
+        ),
+        Object::Request(r) => Object::of_request(
+            alloc,
+            CertificateRequest {
+                meta: fresh_meta(&r.meta, version, now, 1)?,
+                spec: r.spec.copy()?,
+                status: RequestStatus::new(alloc),
+            },
+        ),
+        Object::Secret(s) => Object::of_secret(
+            alloc,
+            Secret {
+                meta: fresh_meta(&s.meta, version, now, 0)?,
+                kind_text: s.kind_text.copy()?,
+                parts: s.parts.copy()?,
+            },
+        ),
     }
 }
 
@@ -72,45 +83,60 @@ fn merge_meta(old: &ObjectMeta, new: &ObjectMeta) -> Result<ObjectMeta, AllocErr
 
 /// The object after an update, under its old version.
 #[tactic(auto, unfolding(cmc_model::specs::Stored::updated))]
-fn merge(old: &Object, new: &Object) -> Result<Object, AllocError>
+fn merge(alloc: Global, old: &Object, new: &Object) -> Result<Object, AllocError>
     ensures { IfOk result (λ o. o ≡ updated old.now new.now) }
 {
     match (old, new) {
-        (Object::Cert(a), Object::Cert(b)) => Ok(Object::Cert(Certificate {
-            meta: merge_meta(&a.meta, &b.meta)?,
-            spec: b.spec.copy()?,
-            status: a.status.copy()?,
-        })),
-        (Object::Request(a), Object::Request(b)) => Ok(Object::Request(CertificateRequest {
-            meta: merge_meta(&a.meta, &b.meta)?,
-            spec: b.spec.copy()?,
-            status: a.status.copy()?,
-        })),
-        (Object::Secret(a), Object::Secret(b)) => Ok(Object::Secret(Secret {
-            meta: merge_meta(&a.meta, &b.meta)?,
-            kind_text: a.kind_text.copy()?,
-            parts: b.parts.copy()?,
-        })),
+        (Object::Cert(a), Object::Cert(b)) => Object::of_certificate(
+            alloc,
+            Certificate {
+                meta: merge_meta(&a.meta, &b.meta)?,
+                spec: b.spec.copy()?,
+                status: a.status.copy()?,
+            },
+        ),
+        (Object::Request(a), Object::Request(b)) => Object::of_request(
+            alloc,
+            CertificateRequest {
+                meta: merge_meta(&a.meta, &b.meta)?,
+                spec: b.spec.copy()?,
+                status: a.status.copy()?,
+            },
+        ),
+        (Object::Secret(a), Object::Secret(b)) => Object::of_secret(
+            alloc,
+            Secret {
+                meta: merge_meta(&a.meta, &b.meta)?,
+                kind_text: a.kind_text.copy()?,
+                parts: b.parts.copy()?,
+            },
+        ),
         _ => old.copy(),
     }
 }
 
 /// The object after a status update, under its old version.
 #[tactic(auto, unfolding(cmc_model::specs::Stored::with_status))]
-fn merge_status(old: &Object, new: &Object) -> Result<Object, AllocError>
+fn merge_status(alloc: Global, old: &Object, new: &Object) -> Result<Object, AllocError>
     ensures { IfOk result (λ o. o ≡ with_status old.now new.now) }
 {
     match (old, new) {
-        (Object::Cert(a), Object::Cert(b)) => Ok(Object::Cert(Certificate {
-            meta: a.meta.copy()?,
-            spec: a.spec.copy()?,
-            status: b.status.copy()?,
-        })),
-        (Object::Request(r), Object::Request(q)) => Ok(Object::Request(CertificateRequest {
-            meta: r.meta.copy()?,
-            spec: r.spec.copy()?,
-            status: q.status.copy()?,
-        })),
+        (Object::Cert(a), Object::Cert(b)) => Object::of_certificate(
+            alloc,
+            Certificate {
+                meta: a.meta.copy()?,
+                spec: a.spec.copy()?,
+                status: b.status.copy()?,
+            },
+        ),
+        (Object::Request(r), Object::Request(q)) => Object::of_request(
+            alloc,
+            CertificateRequest {
+                meta: r.meta.copy()?,
+                spec: r.spec.copy()?,
+                status: q.status.copy()?,
+            },
+        ),
         _ => old.copy(),
     }
 }
@@ -127,74 +153,129 @@ fn next_generation(old: &Object, new: &Object) -> u64
     }
 }
 
+// The Certificate by itself. It is copied only where someone else holds it too.
+fn own_certificate(certificate: Shared<Certificate>) -> Result<Certificate, AllocError>
+    ensures { IfOk result (λ c. c ≡ certificate) }
+{
+    match certificate.into_value() {
+        Ok(certificate) => Ok(certificate),
+        Err(certificate) => Certificate::copy(&certificate),
+    }
+}
+
+// The CertificateRequest by itself. It is copied only where someone else holds it too.
+fn own_request(request: Shared<CertificateRequest>) -> Result<CertificateRequest, AllocError>
+    ensures { IfOk result (λ r. r ≡ request) }
+{
+    match request.into_value() {
+        Ok(request) => Ok(request),
+        Err(request) => CertificateRequest::copy(&request),
+    }
+}
+
+// The Secret by itself. It is copied only where someone else holds it too.
+fn own_secret(secret: Shared<Secret>) -> Result<Secret, AllocError>
+    ensures { IfOk result (λ s. s ≡ secret) }
+{
+    match secret.into_value() {
+        Ok(secret) => Ok(secret),
+        Err(secret) => Secret::copy(&secret),
+    }
+}
+
 #[tactic(auto, unfolding(cmc_model::specs::Stored::numbered))]
-fn renumber(object: Object, version: u64, generation: u64) -> Object
-    ensures { result ≡ numbered version generation object }
+fn renumber(
+    alloc: Global,
+    object: Object,
+    version: u64,
+    generation: u64,
+) -> Result<Object, AllocError>
+    ensures { IfOk result (λ o. o ≡ numbered version generation object) }
 {
     match object {
         Object::Cert(c) => {
-            let mut c = c;
+            let mut c = own_certificate(c)?;
             c.meta.version = version;
             c.meta.generation = generation;
-            Object::Cert(c)
+            Object::of_certificate(alloc, c)
         }
         Object::Request(r) => {
-            let mut r = r;
+            let mut r = own_request(r)?;
             r.meta.version = version;
             r.meta.generation = generation;
-            Object::Request(r)
+            Object::of_request(alloc, r)
         }
         Object::Secret(s) => {
-            let mut s = s;
+            let mut s = own_secret(s)?;
             s.meta.version = version;
             s.meta.generation = generation;
-            Object::Secret(s)
+            Object::of_secret(alloc, s)
         }
     }
 }
 
 /// What an update of the object stores as this version; none where it would leave it as it is.
-pub fn revise(old: &Object, object: &Object, version: u64) -> Result<Option<Object>, AllocError>
+pub fn revise(
+    alloc: Global,
+    old: &Object,
+    object: &Object,
+    version: u64,
+) -> Result<Option<Object>, AllocError>
     ensures { IfOk result (λ o. IsRevision version old.now object.now o) }
 {
-    let new = merge(old, object)?;
+    let new = merge(alloc, old, object)?;
     if new.same(old) {
         Ok(None)
     } else {
         let generation = next_generation(old, &new);
-        Ok(Some(renumber(new, version, generation)))
+        Ok(Some(renumber(alloc, new, version, generation)?))
     }
 }
 
 /// What a status update of the object stores as this version; none where it would leave it as it is.
-pub fn restate(old: &Object, object: &Object, version: u64) -> Result<Option<Object>, AllocError>
+pub fn restate(
+    alloc: Global,
+    old: &Object,
+    object: &Object,
+    version: u64,
+) -> Result<Option<Object>, AllocError>
     ensures { IfOk result (λ o. IsRestatement version old.now object.now o) }
 {
-    let new = merge_status(old, object)?;
+    let new = merge_status(alloc, old, object)?;
     if new.same(old) {
         Ok(None)
     } else {
         let generation = old.meta().generation;
-        Ok(Some(renumber(new, version, generation)))
+        Ok(Some(renumber(alloc, new, version, generation)?))
     }
 }
 
 /// What an accepted update of the object that stands stores as this version, whether it changes the object or not.
 /// `Err` where there is no memory.
-pub fn revision(old: &Object, object: &Object, version: u64) -> Result<Object, AllocError>
+pub fn revision(
+    alloc: Global,
+    old: &Object,
+    object: &Object,
+    version: u64,
+) -> Result<Object, AllocError>
     ensures { IfOk result (λ o. o ≡ revised version old.now object.now) }
 {
-    let new = merge(old, object)?;
+    let new = merge(alloc, old, object)?;
     let generation = next_generation(old, &new);
-    Ok(renumber(new, version, generation))
+    renumber(alloc, new, version, generation)
 }
 
 /// What an accepted status update of the object that stands stores as this version, whether it changes the object
 /// or not. `Err` where there is no memory.
-pub fn restatement(old: &Object, object: &Object, version: u64) -> Result<Object, AllocError>
+pub fn restatement(
+    alloc: Global,
+    old: &Object,
+    object: &Object,
+    version: u64,
+) -> Result<Object, AllocError>
     ensures { IfOk result (λ o. o ≡ restated version old.now object.now) }
 {
-    let new = merge_status(old, object)?;
+    let new = merge_status(alloc, old, object)?;
     let generation = old.meta().generation;
-    Ok(renumber(new, version, generation))
+    renumber(alloc, new, version, generation)
 }

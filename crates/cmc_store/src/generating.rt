@@ -71,26 +71,35 @@ fn renamed(name: Name, meta: &ObjectMeta) -> Result<ObjectMeta, AllocError>
 }
 
 #[tactic(auto, unfolding(cmc_model::specs::Generated::named))]
-fn named(name: Name, object: &Object) -> Result<Object, AllocError>
+fn named(alloc: Global, name: Name, object: &Object) -> Result<Object, AllocError>
     ensures { IfOk result (λ o. o ≡ spec.named name object.now) }
 {
     let meta = renamed(name, object.meta())?;
     match object {
-        Object::Cert(c) => Ok(Object::Cert(Certificate {
-            meta,
-            spec: c.spec.copy()?,
-            status: c.status.copy()?,
-        })),
-        Object::Request(r) => Ok(Object::Request(CertificateRequest {
-            meta,
-            spec: r.spec.copy()?,
-            status: r.status.copy()?,
-        })),
-        Object::Secret(k) => Ok(Object::Secret(Secret {
-            meta,
-            kind_text: k.kind_text.copy()?,
-            parts: k.parts.copy()?,
-        })),
+        Object::Cert(c) => Object::of_certificate(
+            alloc,
+            Certificate {
+                meta,
+                spec: c.spec.copy()?,
+                status: c.status.copy()?,
+            },
+        ),
+        Object::Request(r) => Object::of_request(
+            alloc,
+            CertificateRequest {
+                meta,
+                spec: r.spec.copy()?,
+                status: r.status.copy()?,
+            },
+        ),
+        Object::Secret(k) => Object::of_secret(
+            alloc,
+            Secret {
+                meta,
+                kind_text: k.kind_text.copy()?,
+                parts: k.parts.copy()?,
+            },
+        ),
     }
 }
 
@@ -104,7 +113,7 @@ fn free_named(
     ensures { IfOk result (λ o. o ≡ spec.free_named version catalogue.now object.now) }
 {
     let name = free_name(alloc, catalogue, object, version)?;
-    named(name, object)
+    named(alloc, name, object)
 }
 
 /// Creates the object under its name, or with `generate` under the first generated name that is free.
@@ -129,11 +138,11 @@ pub fn create_named(
     create(catalogue, alloc, accepted, now, &object)
 }
 
-fn under_reply(object: &Object, reply: &Reply) -> Result<Object, AllocError>
+fn under_reply(alloc: Global, object: &Object, reply: &Reply) -> Result<Object, AllocError>
     ensures { IfOk result (λ o. o ≡ under_reply object.now reply.now) }
 {
     match reply {
-        Reply::Ok { version: _, name } => named(name.copy()?, object),
+        Reply::Ok { version: _, name } => named(alloc, name.copy()?, object),
         _ => object.copy(),
     }
 }
@@ -141,7 +150,7 @@ fn under_reply(object: &Object, reply: &Reply) -> Result<Object, AllocError>
 /// The call with the name that its reply has: what a create with a generated name comes to. `Err` where there is no
 /// memory.
 #[tactic(auto, unfolding(cmc_model::specs::Replies::settled))]
-pub fn settled(call: &Call, reply: &Reply) -> Result<Call, AllocError>
+pub fn settled(alloc: Global, call: &Call, reply: &Reply) -> Result<Call, AllocError>
     ensures { IfOk result (λ c. c ≡ settled call.now reply.now) }
 {
     match call {
@@ -149,7 +158,7 @@ pub fn settled(call: &Call, reply: &Reply) -> Result<Call, AllocError>
             object,
             generate: true,
         } => Ok(Call::Create {
-            object: under_reply(object, reply)?,
+            object: under_reply(alloc, object, reply)?,
             generate: false,
         }),
         _ => call.copy(),

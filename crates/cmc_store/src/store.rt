@@ -152,9 +152,9 @@ fn serve(
         Call::Create { object, generate } => {
             create_named(catalogue, alloc, accepted, now, object, *generate)
         }
-        Call::Update { object, version } => update(catalogue, accepted, object, *version),
+        Call::Update { object, version } => update(catalogue, alloc, accepted, object, *version),
         Call::UpdateStatus { object, version } => update_status(
-            catalogue, accepted, object, *version,
+            catalogue, alloc, accepted, object, *version,
         ),
         Call::Delete { key, version } => delete(catalogue, accepted, key, *version),
         Call::Get { key } => get(catalogue, accepted, key),

@@ -10,7 +10,7 @@ use cmc_match::{
 };
 use cmc_meta::{Bytes, Pairs, Text, Texts};
 use cmc_objects::{
-    Algorithm, CertSpec, Certificate, CertificateRequest, IssuerRef, KeySpec, Parts, Secret,
+    Algorithm, CertSpec, Certificate, CertificateRequest, IssuerRef, KeySpec, Parts, Secret, Shared,
 };
 use cmc_policies::Facts;
 use cmc_x509::{read_csr, read_key};
@@ -1398,7 +1398,7 @@ fn told(alloc: Global, facts: &Facts) -> Result<String, AllocError> {
     Ok(told)
 }
 
-fn current(alloc: Global, request: &str) -> Result<Option<CertificateRequest>, Fail> {
+fn current(alloc: Global, request: &str) -> Result<Option<Shared<CertificateRequest>>, Fail> {
     if request == "none" {
         return Ok(None);
     }
@@ -1434,7 +1434,7 @@ fn spec_of_size(alloc: Global, size: u32) -> Result<CertSpec, Fail> {
 fn facts_with(
     alloc: Global,
     spec: &CertSpec,
-    secret: Option<&Secret>,
+    secret: Option<&Shared<Secret>>,
     request: &str,
 ) -> Result<Facts, Fail> {
     let current = current(alloc, request)?;

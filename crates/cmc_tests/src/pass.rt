@@ -3,7 +3,7 @@ use crate::checks::{passes, tells};
 use crate::values::{key, new_meta};
 use crate::whole::{request, secret};
 use cmc_meta::{Bytes, Kind};
-use cmc_objects::{Call, CertificateRequest, CsrOrder, Order, Secret, Signing};
+use cmc_objects::{Call, CertificateRequest, CsrOrder, Order, Secret, Shared, Signing};
 use cmc_pass::{Act, IssuePlan, TemporaryPlan, Value, Views};
 use std::alloc::{AllocError, Global};
 use std::test::Fail;
@@ -24,14 +24,14 @@ fn views(alloc: Global) -> Result<Views, Fail> {
     Ok(views)
 }
 
-fn are_secrets(secrets: &[Secret]) -> bool {
+fn are_secrets(secrets: &[Shared<Secret>]) -> bool {
     match secrets {
         [_first, second] => second.meta.name.as_str() == "web-bbbbg",
         _ => false,
     }
 }
 
-fn are_requests(requests: &[CertificateRequest]) -> bool {
+fn are_requests(requests: &[Shared<CertificateRequest>]) -> bool {
     match requests {
         [request] => request.meta.name.as_str() == "web-1",
         _ => false,

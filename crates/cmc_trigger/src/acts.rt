@@ -9,7 +9,7 @@ ghost use Rattle.cmc_rules.specs.Dates.{IsDatedOption, HasDatedFailure};
 use crate::issuing::{is_issuing, issue_call};
 use crate::reasons::reason_for;
 use cmc_match::{next_request, request_matches};
-use cmc_objects::{CertSpec, CertStatus, Certificate, CertificateRequest, Secret};
+use cmc_objects::{CertSpec, CertStatus, Certificate, CertificateRequest, Secret, Shared};
 use cmc_pass::{Act, Desk, Views};
 use cmc_policies::{Frame, Reason, Renew, backoff_until};
 use std::alloc::{AllocError, Global};
@@ -24,7 +24,7 @@ fn is_backing_off(status: &CertStatus, moment: i64) -> bool
     }
 }
 
-fn is_outrun(wanted: &CertSpec, request: Option<&CertificateRequest>) -> bool
+fn is_outrun(wanted: &CertSpec, request: Option<&Shared<CertificateRequest>>) -> bool
     ensures { result ≡ spec.is_outrun wanted.now (option_copied request.entry) }
 {
     match request {
@@ -33,7 +33,11 @@ fn is_outrun(wanted: &CertSpec, request: Option<&CertificateRequest>) -> bool
     }
 }
 
-fn is_held_back(moment: i64, requests: &[CertificateRequest], certificate: &Certificate) -> bool
+fn is_held_back(
+    moment: i64,
+    requests: &[Shared<CertificateRequest>],
+    certificate: &Certificate,
+) -> bool
     requires { IsDatedOption certificate.now.status.last_failure }
     ensures { result ≡ spec.is_held_back moment requests.now certificate.now }
 {
@@ -44,7 +48,7 @@ fn is_held_back(moment: i64, requests: &[CertificateRequest], certificate: &Cert
 fn for_reason(
     alloc: Global,
     moment: i64,
-    requests: &[CertificateRequest],
+    requests: &[Shared<CertificateRequest>],
     certificate: &Certificate,
     reason: Option<Reason>,
 ) -> Result<Act, AllocError>
@@ -64,8 +68,8 @@ fn for_reason(
 fn for_certificate(
     alloc: Global,
     moment: i64,
-    secret: &Option<Secret>,
-    requests: &[CertificateRequest],
+    secret: &Option<Shared<Secret>>,
+    requests: &[Shared<CertificateRequest>],
     certificate: &Certificate,
 ) -> Result<Act, AllocError>
     requires { IsDatedOption certificate.now.status.last_failure }

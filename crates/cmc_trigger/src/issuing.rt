@@ -91,7 +91,8 @@ pub fn issue_call(
 ) -> Result<Act, AllocError>
     ensures { IfOk result (λ a. a ≡ spec.issue_call moment reason certificate.now) }
 {
-    let object = Object::Cert(with_issuing(alloc, moment, reason, certificate)?);
+    let changed = with_issuing(alloc, moment, reason, certificate)?;
+    let object = Object::of_certificate(alloc, changed)?;
     Ok(Act::Call(Call::UpdateStatus {
         object,
         version: certificate.meta.version,

@@ -4,7 +4,7 @@ ghost use Rattle.cmc_policies.specs.Reasons.{first_of, known};
 ghost use Rattle.cmc_rules.specs.Chains.{trigger_chain, trigger_reason};
 
 use cmc_match::facts_for;
-use cmc_objects::{Certificate, CertificateRequest, Secret};
+use cmc_objects::{Certificate, CertificateRequest, Secret, Shared};
 use cmc_policies::{Chain, Check, Empty, Facts, Frame, Link, Reason};
 
 // The row of checks. Each closure captures no more than the frame.
@@ -45,8 +45,8 @@ fn first_reason(frame: Frame, facts: &Facts) -> Option<Reason>
 pub fn reason_for(
     frame: Frame,
     certificate: &Certificate,
-    secret: &Option<Secret>,
-    requests: &[CertificateRequest],
+    secret: &Option<Shared<Secret>>,
+    requests: &[Shared<CertificateRequest>],
 ) -> Option<Reason>
     ensures { result ≡ trigger_reason frame certificate.now secret.now requests.now }
 {

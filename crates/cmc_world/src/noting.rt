@@ -19,7 +19,7 @@ use cmc_held::{Log, Passes, Pasts, Standing, Standings, with_written, written_of
 use cmc_match::is_temporary;
 use cmc_meta::{Key, Kind};
 use cmc_model::Write;
-use cmc_objects::{Call, Certificate, Object, Reply, Role};
+use cmc_objects::{Call, Certificate, Object, Reply, Role, Shared};
 use cmc_rules::{Obstacle, OpenPass, Stage};
 
 fn is_stand_in(object: &Object) -> bool
@@ -45,7 +45,7 @@ pub(crate) fn writes_stand_in(call: &Call) -> bool
     }
 }
 
-fn is_as_seen(certificate: &Option<Certificate>, object: &Object) -> bool
+fn is_as_seen(certificate: &Option<Shared<Certificate>>, object: &Object) -> bool
     ensures { result ≡ spec.is_as_seen certificate.now object.now }
 {
     match certificate {

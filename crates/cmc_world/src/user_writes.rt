@@ -11,7 +11,7 @@ use cmc_issuer::status_of;
 use cmc_match::{has_text, is_of};
 use cmc_meta::{Condition, ConditionKind, Key, Text, Tri};
 use cmc_objects::{
-    Call, CertStatus, Certificate, CertificateRequest, Object, RequestStatus, SignRow,
+    Call, CertStatus, Certificate, CertificateRequest, Object, RequestStatus, Shared, SignRow,
 };
 use cmc_store::Store;
 use std::alloc::{AllocError, Global};
@@ -41,7 +41,7 @@ fn is_object_for(certificate: &Key, revision: u64, object: &Object) -> bool
     }
 }
 
-fn as_request(object: &Object) -> Option<&CertificateRequest>
+fn as_request(object: &Object) -> Option<&Shared<CertificateRequest>>
     ensures { option_copied result ≡ spec.as_request object.now }
 {
     match object {
@@ -54,7 +54,7 @@ fn first_for<'a>(
     objects: &'a Objects,
     certificate: &Key,
     revision: u64,
-) -> Option<&'a CertificateRequest>
+) -> Option<&'a Shared<CertificateRequest>>
     ensures { option_copied result ≡ spec.first_for certificate.now revision objects.now.entries }
 {
     for (_, object) in objects.iter() {
@@ -70,22 +70,27 @@ pub(crate) fn request_for<'a>(
     store: &'a Store,
     certificate: &Key,
     revision: u64,
-) -> Option<&'a CertificateRequest>
+) -> Option<&'a Shared<CertificateRequest>>
     ensures { option_copied result ≡ spec.request_for store.now.state.objects certificate.now revision }
 {
     first_for(store.objects(), certificate, revision)
 }
 
 /// The write of this status of the request, at its version. An `Err` is want of memory.
-fn with_status(request: &CertificateRequest, status: RequestStatus) -> Result<Call, AllocError>
+fn with_status(
+    alloc: Global,
+    request: &CertificateRequest,
+    status: RequestStatus,
+) -> Result<Call, AllocError>
     ensures { IfOk result (λ c. c ≡ spec.with_status_of request.now status) }
 {
+    let changed = CertificateRequest {
+        meta: request.meta.copy()?,
+        spec: request.spec.copy()?,
+        status,
+    };
     Ok(Call::UpdateStatus {
-        object: Object::Request(CertificateRequest {
-            meta: request.meta.copy()?,
-            spec: request.spec.copy()?,
-            status,
-        }),
+        object: Object::of_request(alloc, changed)?,
         version: request.meta.version,
     })
 }
@@ -109,12 +114,16 @@ fn verdict(
 }
 
 #[tactic(auto, unfolding(cmc_rules::specs::UserWrites::judge_call))]
-fn judge_call(condition: Condition, request: &CertificateRequest) -> Result<Call, AllocError>
+fn judge_call(
+    alloc: Global,
+    condition: Condition,
+    request: &CertificateRequest,
+) -> Result<Call, AllocError>
     ensures { IfOk result (λ c. c ≡ spec.judge_call condition request.now) }
 {
     let mut status = request.status.copy()?;
     status.conditions.set(condition)?;
-    with_status(request, status)
+    with_status(alloc, request, status)
 }
 
 fn approve_call(
@@ -130,14 +139,14 @@ fn approve_call(
         "approved by the script",
         moment,
     )?;
-    judge_call(condition, request)
+    judge_call(alloc, condition, request)
 }
 
 /// The approval of the request by the script. An `Err` is want of memory.
 pub(crate) fn approve(
     alloc: Global,
     moment: i64,
-    request: Option<&CertificateRequest>,
+    request: Option<&Shared<CertificateRequest>>,
 ) -> Result<Option<Call>, AllocError>
     ensures { IfOk result (λ c. c ≡ option_map (spec.judge_call (spec.verdict kinds.Approved (codes "approved by the script") moment)) (option_copied request.entry)) }
 {
@@ -151,14 +160,14 @@ fn deny_call(alloc: Global, moment: i64, request: &CertificateRequest) -> Result
     ensures { IfOk result (λ c. c ≡ spec.judge_call (spec.verdict kinds.Denied (codes "denied by the script") moment) request.now) }
 {
     let condition = verdict(alloc, ConditionKind::Denied, "denied by the script", moment)?;
-    judge_call(condition, request)
+    judge_call(alloc, condition, request)
 }
 
 /// The denial of the request by the script. An `Err` is want of memory.
 pub(crate) fn deny(
     alloc: Global,
     moment: i64,
-    request: Option<&CertificateRequest>,
+    request: Option<&Shared<CertificateRequest>>,
 ) -> Result<Option<Call>, AllocError>
     ensures { IfOk result (λ c. c ≡ option_map (spec.judge_call (spec.verdict kinds.Denied (codes "denied by the script") moment)) (option_copied request.entry)) }
 {
@@ -181,7 +190,7 @@ fn answer_call(
 {
     let answer = signing_of(alloc, row, 1, request, moment)?;
     let status = status_of(alloc, request, &answer, moment)?;
-    with_status(request, status)
+    with_status(alloc, request, status)
 }
 
 /// The answer of the row to the request, as its issuer writes it. An `Err` is want of memory.
@@ -189,7 +198,7 @@ pub(crate) fn answer(
     alloc: Global,
     row: &SignRow,
     moment: i64,
-    request: Option<&CertificateRequest>,
+    request: Option<&Shared<CertificateRequest>>,
 ) -> Result<Option<Call>, AllocError>
     requires moment { is_run_time moment ≡ true }
     requires row_form { is_row_form row.now ≡ true }
@@ -220,12 +229,13 @@ fn renew_call(alloc: Global, moment: i64, certificate: &Certificate) -> Result<C
 {
     let mut status: CertStatus = certificate.status.copy()?;
     status.conditions.set(manual_condition(alloc, moment)?)?;
+    let changed = Certificate {
+        meta: certificate.meta.copy()?,
+        spec: certificate.spec.copy()?,
+        status,
+    };
     Ok(Call::UpdateStatus {
-        object: Object::Cert(Certificate {
-            meta: certificate.meta.copy()?,
-            spec: certificate.spec.copy()?,
-            status,
-        }),
+        object: Object::of_certificate(alloc, changed)?,
         version: certificate.meta.version,
     })
 }

@@ -3,7 +3,9 @@
 use cmc_history::History;
 use cmc_match::{pair_in, part_under};
 use cmc_meta::{Bytes, Condition, ConditionKind, Tri};
-use cmc_objects::{Call, Certificate, CertificateRequest, Entry, Object, Reply, Role, Secret, Who};
+use cmc_objects::{
+    Call, Certificate, CertificateRequest, Entry, Object, Reply, Role, Secret, Shared, Who,
+};
 use std::test::Fail;
 
 /// How many Secrets issuing wrote. Each has one public key in its key and its certificate, and that certificate stood
@@ -28,7 +30,7 @@ pub(crate) fn audit(history: &History) -> Result<u64, Fail> {
 }
 
 /// The Secret that a pass of issuing writes by this entry, where the store accepts it.
-fn issued_secret<'a>(entries: &[Entry], entry: &'a Entry) -> Option<&'a Secret> {
+fn issued_secret<'a>(entries: &[Entry], entry: &'a Entry) -> Option<&'a Shared<Secret>> {
     match entry {
         Entry::Call {
             who: Who::Pass(pass),
@@ -59,7 +61,7 @@ fn begins_issuing(entry: &Entry, number: u64) -> bool {
     }
 }
 
-fn written_secret(call: &Call) -> Option<&Secret> {
+fn written_secret(call: &Call) -> Option<&Shared<Secret>> {
     match call {
         Call::Create {
             object: Object::Secret(secret),
@@ -97,7 +99,7 @@ fn backs(entries: &[Entry], entry: &Entry, certificate: &Bytes) -> bool {
 }
 
 /// The request whose status the entry writes, where the store accepts it.
-fn judged_request(entry: &Entry) -> Option<&CertificateRequest> {
+fn judged_request(entry: &Entry) -> Option<&Shared<CertificateRequest>> {
     match entry {
         Entry::Call {
             call: Call::UpdateStatus {
@@ -158,7 +160,7 @@ pub(crate) fn raises(history: &History) -> Result<u64, Fail> {
 }
 
 /// The Certificate whose status the entry writes, where the store accepts it.
-fn judged_certificate(entry: &Entry) -> Option<&Certificate> {
+fn judged_certificate(entry: &Entry) -> Option<&Shared<Certificate>> {
     match entry {
         Entry::Call {
             call: Call::UpdateStatus {

@@ -1,0 +1,65 @@
+//! Values that several holders share.
+ghost use Rattle.std.specs.Prelude.{◌≡◌, IfOk, MatchResult};
+
+use std::alloc::{AllocError, Global};
+use std::marker::Model;
+use std::ops::Deref;
+use std::sync::Arc;
+
+/// A value that is never changed, held by as many as want it; contracts see the value.
+#[derive(Drop)]
+pub struct Shared<T> {
+    value: Arc<T, Global>,
+}
+
+impl<T> Model for Shared<T> {
+    ghost use Rattle.std.specs.Arc.{arc_value};
+
+    ghost Value = { T };
+
+    ghost coded = { T.code };
+
+    ghost view = { λ s. arc_value s.value };
+}
+
+impl<T: Drop> Shared<T> {
+    /// Makes the value one to be shared. An error is one of memory.
+    pub fn new(alloc: Global, value: T) -> Result<Shared<T>, AllocError>
+        ensures { IfOk result (λ s. s ≡ value) }
+    {
+        Ok(Shared {
+            value: Arc::new(alloc, value)?,
+        })
+    }
+
+    /// One holder more. It copies nothing; an error is one of memory.
+    pub fn copy(&self) -> Result<Shared<T>, AllocError>
+        ensures { IfOk result (λ s. s ≡ self.now) }
+    {
+        Ok(Shared {
+            value: Arc::try_clone(&self.value)?,
+        })
+    }
+
+    /// The value itself where no one else holds it, and else the same holder again.
+    pub fn into_value(self) -> Result<T, Shared<T>>
+        ensures { MatchResult result (λ v. v ≡ self) (λ s. s ≡ self) }
+    {
+        match Arc::try_unwrap(self.value) {
+            Ok(value) => Ok(value),
+            Err(value) => Err(Shared { value }),
+        }
+    }
+}
+
+impl<T> Deref for Shared<T> {
+    type Target = T;
+
+    ghost deref_gives = { λ s x. x ≡ s };
+
+    fn deref(&self) -> &T
+        ensures { result.now ≡ self.now }
+    {
+        self.value.as_ref()
+    }
+}
