@@ -1,5 +1,7 @@
 -- What many hands make of a scenario, and what a thread that leaves the lock takes along.
-use Rattle.std.specs.Prelude.{◌≡◌, true, Some, option_map}
+use Rattle.std.specs.Prelude.{◌≡◌, Bool, Option, true, false, Some, option_map}
+use Rattle.cmc_objects.specs.declared.entry.Step.{Step}
+use Rattle.cmc_objects.specs.declared.entry.Step.TheVariants as steps
 use Rattle.cmc_rules.specs.Passes.{open_pass}
 use Rattle.cmc_rules.specs.Runs.{IsFinished}
 use Rattle.cmc_setup.specs.Setups.{Setup}
@@ -15,6 +17,11 @@ use Rattle.cmc_workers.specs.declared.shared.Errand.{Errand}
 use Rattle.cmc_workers.specs.declared.shared.Errand.TheVariants.{Value, Decision}
 use Rattle.cmc_workers.specs.declared.shared.Question.{Question}
 use Rattle.cmc_workers.specs.declared.shared.Undecided.{Undecided}
+
+-- the step waits for a count of writes, which each move may reach
+abbrev pub waits_for_count : Option Step → Bool
+waits_for_count (Some (steps.Until role kind writes)) = true
+waits_for_count other = false
 
 -- the pass waits for the value of this question, which can be made, and its point says where it asked
 pub record IsAsked (world : Seen) (q : Question) : Type 0 where
