@@ -1,17 +1,20 @@
 #!/usr/bin/env python3
-"""Runs scenarios in threads, many times each, and checks how each run ends.
+"""Runs scenarios in threads, many times each, and checks how each run ends, and the history that it prints.
 
 usage: tools/many_runs.py [--runs N] [--workers 2,4,8] -- PROGRAM
 
 PROGRAM is the built program, as crates/cmrun/out/cmrun (`rt run` builds it). Each run has to end within 30 seconds with the
-exit status 0 and with the summary that the scenario has to have, whatever the order in which the threads came. A last line
-says how many runs there were and how many went wrong, and the exit status is 1 where one did. It is no part of the gate.
+exit status 0 and with the summary that the scenario has to have, whatever the order in which the threads came, and
+`scan_history.py` has to find nothing in its history that should not be there. A last line says how many runs there were and
+how many went wrong, and the exit status is 1 where one did. It is no part of the gate.
 """
 import argparse
 import json
 import subprocess
 import sys
 import time
+
+from scan_history import scan
 
 OBJECT = {
     "apiVersion": "cert-manager.io/v1",
@@ -80,7 +83,7 @@ def ends_well(program, words, scenario, count, workers):
     began = time.monotonic()
     try:
         run = subprocess.run(
-            [program, *words, "--summary", "--workers", str(workers)],
+            [program, *words, "--workers", str(workers)],
             input=json.dumps(scenario) if scenario else "",
             capture_output=True,
             text=True,
@@ -89,12 +92,21 @@ def ends_well(program, words, scenario, count, workers):
     except subprocess.TimeoutExpired:
         return "did not end within 30 seconds", 30.0
     took = time.monotonic() - began
-    wanted = {"summary": {"certificates": count, "ready": count, "secrets": count, "waiting": []}}
     if run.returncode:
         return f"status {run.returncode}: {run.stderr.strip()}", took
-    if json.loads(run.stdout) != wanted:
-        return f"another summary: {run.stdout.strip()}", took
-    return None, took
+    return why_wrong(run.stdout, count), took
+
+
+def why_wrong(history, count):
+    """What is wrong in a printed history of so many Certificates that are ready in the end; None where nothing is."""
+    wanted = {"summary": {"certificates": count, "ready": count, "secrets": count, "waiting": []}}
+    summary = history.splitlines()[-1]
+    if json.loads(summary) != wanted:
+        return f"another summary: {summary}"
+    found = scan(history)
+    if found.secrets < count or found.questions < 1:
+        return f"{found.secrets} Secrets and {found.questions} questions"
+    return found.wrong[0] if found.wrong else None
 
 
 def main():

@@ -1,15 +1,20 @@
 //! What lies under the lock, and what a thread does while it holds it.
 //!
 //! Each change is a step of the world, so whatever the threads do, the history is one of a run: the world's type keeps
-//! that. A thread does as much as it can in one hold, since to wake others is dearer than to take the lock.
-ghost use Rattle.std.specs.Prelude.{◌≡◌, ◌↔◌, IsTrue, IfOk, IfSome, length};
+//! that. A pass begins only where all that can be delivered was delivered: on old views it would come to nothing, or meet
+//! a conflict.
+ghost use Rattle.std.specs.Option.{option_copied};
+ghost use Rattle.std.specs.Prelude.{◌≡◌, ◌↔◌, IsTrue, IfOk, IfSome, length, false};
 ghost use Rattle.cmc_world.specs.Answers.{Answers, Leaves};
 ghost use Rattle.cmc_world.specs.Kept.{setting_of};
+ghost use Rattle.cmc_plain.specs.Plain.{HasNoDelivery};
 ghost use Rattle.cmc_plain.specs.Ready.{IsToNewest};
+ghost use Rattle.cmc_model.specs.Histories.{scripted, step_at};
+ghost use Rattle.cmc_workers.specs.Driving as spec;
 ghost use Rattle.cmc_workers.specs.Driving.{IsAsked, IsErrand, IsToDecide};
 
 use cmc_meta::Key;
-use cmc_objects::{Order, Role};
+use cmc_objects::{Order, Role, Step};
 use cmc_pass::Given;
 use cmc_plain::{Point, Waking, Work, point_of, question};
 use cmc_world::{Begun, Decided, Move, Stepped, decides_alone};
@@ -258,14 +263,31 @@ impl Shared {
         }
     }
 
+    /// Whether the next step of the script waits for a count of writes, which each move may reach.
+    pub(crate) fn waits_for_count(&self) -> bool
+        ensures { result ≡ spec.waits_for_count (step_at self.now.waking.scenario.script (scripted self.now.waking.history + 1)) }
+    {
+        matches!(self.waking.world().next_step(), Some(Step::Until { .. }))
+    }
+
+    /// Whether a role is to be told of something.
+    pub(crate) fn is_to_deliver(&self, alloc: Global) -> Result<bool, AllocError>
+        ensures { IfOk result (λ b. b ≡ false → HasNoDelivery (setting_of self.now.waking.scenario) self.now.waking.history) }
+    {
+        match self.waking.next_delivery(alloc)? {
+            Some(_) => Ok(true),
+            None => Ok(false),
+        }
+    }
+
     /// Begins passes, one after another, and has each go on, up to the first that asks or has to decide. `None` where no
-    /// pass can begin any more, or all is over.
+    /// pass can begin, something is to be delivered before, or all is over.
     fn take(&mut self, alloc: Global) -> Result<Option<Errand>, AllocError>
         ensures errand { IfOk result (λ e. IfSome e (λ errand. IsErrand self.new.waking errand)) }
         ensures scenario { self.new.waking.scenario ≡ self.old.waking.scenario }
     {
         for _pass in 0..=self.limit() {
-            if self.over {
+            if self.over || self.is_to_deliver(alloc)? {
                 return Ok(None);
             }
             let Some(taken) = self.begin(alloc)? else {
@@ -279,7 +301,7 @@ impl Shared {
     }
 
     /// What one hold of the lock does for a worker: goes on with the pass for which it comes back, and then with others, up
-    /// to the first that asks or has to decide. `None` where no pass can go on or begin.
+    /// to the first that asks or has to decide. `None` where no pass can go on or begin, or something is to be delivered.
     pub(crate) fn work(
         &mut self,
         alloc: Global,

@@ -30,7 +30,15 @@ fn scenario(alloc: Global) -> Result<Scenario, Fail> {
         policies: Policies::new(alloc),
     };
     let none = Numbers::new(alloc);
-    scenario_of(400, roles, none, approver, Material::new(alloc), steps)
+    scenario_of(
+        400,
+        1000,
+        roles,
+        none,
+        approver,
+        Material::new(alloc),
+        steps,
+    )
 }
 
 /// A decision on what the pass of this number saw; none where no such pass is open, or its role does not decide alone.

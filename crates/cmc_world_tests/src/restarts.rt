@@ -121,7 +121,7 @@ fn make(alloc: Global, world: &mut World, step: Move) -> Result<(), Fail> {
     }
 }
 
-/// An equal move. Moves of the plain order give no values.
+/// An equal move. Moves of the plain order give no values and hand in no decisions.
 fn again(step: &Move) -> Result<Move, Fail> {
     match step {
         Move::Script => Ok(Move::Script),
@@ -138,7 +138,7 @@ fn again(step: &Move) -> Result<Move, Fail> {
             pass: *pass,
             incarnation: *incarnation,
         }),
-        Move::Give { .. } => Err(Fail::from("a value")),
+        Move::Give { .. } | Move::Decide { .. } => Err(Fail::from("handed in")),
     }
 }
 

@@ -169,26 +169,9 @@ fn world_of_two<R: Threads + Wait + Sync>(
 }
 
 fn two_open<R: Threads + Wait + Abort + Sync>(rt: &R, alloc: Global) -> Result<(), Fail> {
-    let gate = Holding {
-        here: AtomicU64::new(0),
-        first: AtomicU64::new(0),
-        second: AtomicU64::new(0),
-    };
-    let scenario = generate(alloc, 2)?;
-    let driven = drive(
-        rt,
-        alloc,
-        scenario,
-        &ScriptedKeys,
-        &ScriptedSigner,
-        &gate,
-        2,
-    )?;
-    let Driven::Finished(world) = driven else {
-        return Err("spent".into());
-    };
-    let first = gate.first.load(Ordering::SeqCst);
-    let second = gate.second.load(Ordering::SeqCst);
+    let gate = Holding::new(false);
+    let world = world_of_two(rt, alloc, &gate)?;
+    let (first, second) = gate.entries();
     let (one, one_order) = asked(&world, first).ok_or("the first asks an issuer")?;
     let (other, other_order) = asked(&world, second).ok_or("the second asks an issuer")?;
     assert!(rt; one != other);
