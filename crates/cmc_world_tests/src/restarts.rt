@@ -36,11 +36,14 @@ fn apply(alloc: Global) -> Result<Step, Fail> {
     let mut spec = least_spec(alloc, "web-tls", "example.com")?;
     spec.key.algorithm = Some(Algorithm::Ecdsa);
     Ok(Step::Apply {
-        object: Object::Cert(Certificate {
-            meta,
-            spec,
-            status: no_status(alloc),
-        }),
+        object: Object::of_certificate(
+            alloc,
+            Certificate {
+                meta,
+                spec,
+                status: no_status(alloc),
+            },
+        )?,
         version: None,
     })
 }
@@ -139,6 +142,7 @@ fn again(step: &Move) -> Result<Move, Fail> {
             incarnation: *incarnation,
         }),
         Move::Give { .. } => Err(Fail::from("a value")),
+        Move::Decide { .. } => Err(Fail::from("a decision")),
     }
 }
 
