@@ -8,7 +8,7 @@ use crate::trigger::{OTHER_NAME, desk};
 use cmc_answers::judge;
 use cmc_approver::{act, is_sound, then};
 use cmc_meta::{ConditionKind, Tri};
-use cmc_objects::{JudgeOrder, Order, Rules};
+use cmc_objects::{JudgeOrder, Order, Rules, Shared};
 use cmc_pass::{Act, Desk, Given, Views};
 use cmc_policy_rules::{Pattern, Patterns, Policies, Policy};
 use cmc_tests::values::{text, texts};
@@ -157,7 +157,7 @@ fn views_of(alloc: Global, case: &Case) -> Result<Views, Fail> {
         if let Some(group) = case.group {
             request.spec.issuer.group = Some(text(alloc, group)?);
         }
-        views.request = Some(request);
+        views.request = Some(Shared::new(alloc, request)?);
     }
     Ok(views)
 }
@@ -372,7 +372,7 @@ fn views_with(alloc: Global, row: &RequestRow) -> Result<Views, Fail>
     ensures { IfOk result (λ v. IsSome v.request) }
 {
     let mut views = Views::new(alloc);
-    views.request = Some(request(alloc, row)?);
+    views.request = Some(Shared::new(alloc, request(alloc, row)?)?);
     Ok(views)
 }
 

@@ -5,7 +5,7 @@ ghost use Rattle.cmc_rules.specs.NextRequests.{HasNextRevision};
 use crate::trigger;
 use cmc_meta::{Bytes, Condition, ConditionKind, Conditions, ObjectMeta, Pairs, Text, Tri};
 use cmc_objects::{
-    Algorithm, CertStatus, Certificate, CertificateRequest, Parts, Rotation, Secret,
+    Algorithm, CertStatus, Certificate, CertificateRequest, Parts, Rotation, Secret, Shared,
 };
 use cmc_pass::{Requests, Secrets, Views};
 use cmc_tests::values::{least_spec, name, new_meta, octets, text};
@@ -114,7 +114,7 @@ fn secret(alloc: Global, row: &SecretRow) -> Result<Secret, Fail> {
 fn secrets(alloc: Global, rows: &[SecretRow]) -> Result<Secrets, Fail> {
     let mut secrets = Secrets::new(alloc);
     for row in rows {
-        secrets.push(secret(alloc, row)?)?;
+        secrets.push(Shared::new(alloc, secret(alloc, row)?)?)?;
     }
     Ok(secrets)
 }
@@ -133,7 +133,7 @@ pub(crate) fn request(alloc: Global, row: &RequestRow) -> Result<CertificateRequ
 fn requests(alloc: Global, rows: &[RequestRow]) -> Result<Requests, Fail> {
     let mut requests = Requests::new(alloc);
     for row in rows {
-        requests.push(request(alloc, row)?)?;
+        requests.push(Shared::new(alloc, request(alloc, row)?)?)?;
     }
     Ok(requests)
 }
@@ -180,7 +180,7 @@ pub(crate) fn certificate(alloc: Global, case: &Case) -> Result<Certificate, Fai
 fn belongings(alloc: Global, case: &Case) -> Result<Views, Fail> {
     let mut views = Views::new(alloc);
     if let Some(row) = &case.target {
-        views.secret = Some(secret(alloc, row)?);
+        views.secret = Some(Shared::new(alloc, secret(alloc, row)?)?);
     }
     views.next = secrets(alloc, case.next)?;
     views.requests = requests(alloc, case.requests)?;
@@ -193,7 +193,7 @@ pub(crate) fn views(alloc: Global, case: &Case) -> Result<Views, Fail>
     let mut views = belongings(alloc, case)?;
     views.certificate = None;
     if case.stands {
-        views.certificate = Some(certificate(alloc, case)?);
+        views.certificate = Some(Shared::new(alloc, certificate(alloc, case)?)?);
     }
     Ok(views)
 }

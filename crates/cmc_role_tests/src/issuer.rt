@@ -11,7 +11,7 @@ use crate::trigger::desk;
 use cmc_answers::{ScriptedSigner, Signer};
 use cmc_issuer::{act, follow, is_sound, then};
 use cmc_meta::{ConditionKind, Text, Tri};
-use cmc_objects::{CertificateRequest, Order, SignOrder, Signing};
+use cmc_objects::{CertificateRequest, Order, Shared, SignOrder, Signing};
 use cmc_pass::{Act, Desk, Given, Value, Views};
 use cmc_tests::values::text;
 use std::alloc::{AllocError, Global};
@@ -341,7 +341,7 @@ fn views_of(alloc: Global, case: &Case) -> Result<Views, Fail>
     let mut views = Views::new(alloc);
     views.request = None;
     if case.stands {
-        views.request = Some(request_of(alloc, case)?);
+        views.request = Some(Shared::new(alloc, request_of(alloc, case)?)?);
     }
     Ok(views)
 }
@@ -489,7 +489,7 @@ fn views_with(alloc: Global, case: &Case) -> Result<Views, Fail>
     ensures stands { IfOk result (λ v. IsSome v.request) }
 {
     let mut views = Views::new(alloc);
-    views.request = Some(request_of(alloc, case)?);
+    views.request = Some(Shared::new(alloc, request_of(alloc, case)?)?);
     Ok(views)
 }
 

@@ -7,7 +7,7 @@ use crate::trigger::{KEY, OTHER, desk};
 use cmc_keymanager::{act, is_sound, then};
 use cmc_keys::{KeyMaker, ScriptedKeys, is_allowed_size};
 use cmc_meta::{ConditionKind, Kind, Tri};
-use cmc_objects::{Algorithm, KeyOrder, KeyRow, KeyRows, Order, Rotation, Rows, SignRows};
+use cmc_objects::{Algorithm, KeyOrder, KeyRow, KeyRows, Order, Rotation, Rows, Shared, SignRows};
 use cmc_pass::{Act, Desk, Given, Views};
 use cmc_tests::values::key;
 use std::alloc::{AllocError, Global};
@@ -336,7 +336,7 @@ fn views_with(alloc: Global, case: &Case) -> Result<Views, Fail>
     ensures { IfOk result (λ v. IsSome v.certificate) }
 {
     let mut views = Views::new(alloc);
-    views.certificate = Some(certificate(alloc, case)?);
+    views.certificate = Some(Shared::new(alloc, certificate(alloc, case)?)?);
     Ok(views)
 }
 

@@ -4,7 +4,7 @@ ghost use Rattle.std.specs.Prelude.{◌≡◌, None};
 
 use crate::trigger::{Case, NONE, OTHER_NAME, REQUEST, WELL, desk, request, views};
 use cmc_meta::{Condition, ConditionKind, Text, Tri};
-use cmc_objects::{Call, CertStatus, CertificateRequest, Object};
+use cmc_objects::{Call, CertStatus, Certificate, CertificateRequest, Object, Shared};
 use cmc_pass::{Act, Requests, Views};
 use cmc_status::{act_readiness, act_revision, is_readiness_sound, is_revision_sound};
 use cmc_tests::values::{name as object_name, text};
@@ -171,7 +171,8 @@ type Row = (&'static str, &'static str, Tri);
 
 fn add(alloc: Global, requests: &mut Requests, row: &Row) -> Result<(), Fail> {
     let (name, number, status) = row;
-    requests.push(ready_request(alloc, name, number, *status)?)?;
+    let request = ready_request(alloc, name, number, *status)?;
+    requests.push(Shared::new(alloc, request)?)?;
     Ok(())
 }
 
@@ -188,8 +189,10 @@ fn limited(
     let mut views = views(alloc, case)?;
     add(alloc, &mut views.requests, first)?;
     add(alloc, &mut views.requests, second)?;
-    if let Some(certificate) = &mut views.certificate {
+    if let Some(certificate) = &views.certificate {
+        let mut certificate = Certificate::copy(certificate)?;
         certificate.spec.history_limit = limit;
+        views.certificate = Some(Shared::new(alloc, certificate)?);
     }
     Ok(views)
 }

@@ -5,7 +5,7 @@ ghost use Rattle.cmc_rules.specs.Dates.{IsDatedOption, HasDatedFailure};
 use cmc_meta::{Bytes, Condition, ConditionKind, Conditions, ObjectMeta, Pairs, Text, Texts, Tri};
 use cmc_objects::{
     Algorithm, Call, CertStatus, Certificate, CertificateRequest, IssuerRef, Material, Object,
-    Parts, RequestSpec, RequestStatus, Rules, Secret,
+    Parts, RequestSpec, RequestStatus, Rules, Secret, Shared,
 };
 use cmc_pass::{Act, Desk, Requests, Views};
 use cmc_policy_rules::Policies;
@@ -208,7 +208,7 @@ pub(crate) fn request(alloc: Global, number: &str, der: &str) -> Result<Certific
 fn requests(alloc: Global, rows: &[(&str, &str)]) -> Result<Requests, Fail> {
     let mut requests = Requests::new(alloc);
     for (revision, der) in rows {
-        requests.push(request(alloc, revision, der)?)?;
+        requests.push(Shared::new(alloc, request(alloc, revision, der)?)?)?;
     }
     Ok(requests)
 }
@@ -260,11 +260,14 @@ pub(crate) fn views(alloc: Global, case: &Case) -> Result<Views, Fail>
     )?;
     let secret = match case.parts {
         None => None,
-        Some((key, certificate)) => Some(secret(alloc, key, certificate, case.mark)?),
+        Some((key, certificate)) => {
+            let secret = secret(alloc, key, certificate, case.mark)?;
+            Some(Shared::new(alloc, secret)?)
+        }
     };
     let requests = requests(alloc, case.requests)?;
     let mut views = Views::new(alloc);
-    views.certificate = Some(certificate);
+    views.certificate = Some(Shared::new(alloc, certificate)?);
     views.secret = secret;
     views.requests = requests;
     Ok(views)

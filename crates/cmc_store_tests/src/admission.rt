@@ -204,11 +204,11 @@ fn each_rule_on_certificates_at_its_bound(rt: HostRuntime) -> Result<(), Fail> {
         let mut c = admitted(alloc, "web", "web-tls")?;
         change_texts(alloc, &mut c, change, number)?;
         change_numbers(&mut c, change, number);
-        let object = Object::Cert(c);
+        let object = Object::of_certificate(alloc, c)?;
         assert_eq!(rt; rule_of(admit(None, &object, false, false)), rule);
         assert_eq!(rt; rule_of(admit(Some(&object), &object, true, true)), 0);
     }
-    let web = Object::Cert(admitted(alloc, "web", "web-tls")?);
+    let web = Object::of_certificate(alloc, admitted(alloc, "web", "web-tls")?)?;
     assert_eq!(rt; rule_of(admit(Some(&web), &web, false, true)), 7);
     assert!(rt; is_spec_kept(&web, &web));
     Ok(())
@@ -341,15 +341,15 @@ fn judged(alloc: Global, verdicts: Verdicts) -> Result<CertificateRequest, Fail>
 fn rules_on_requests(rt: HostRuntime) -> Result<(), Fail> {
     let alloc = rt.alloc();
     for (old, new, rule) in CHANGES {
-        let old = Object::Request(judged(alloc, old)?);
-        let new = Object::Request(judged(alloc, new)?);
+        let old = Object::of_request(alloc, judged(alloc, old)?)?;
+        let new = Object::of_request(alloc, judged(alloc, new)?)?;
         assert_eq!(rt; rule_of(admit(Some(&old), &new, true, false)), rule);
         assert_eq!(rt; rule_of(admit(Some(&old), &new, false, false)), 0);
     }
     let mut other = judged(alloc, NONE)?;
     other.spec.is_ca = true;
-    let other = Object::Request(other);
-    let old = Object::Request(judged(alloc, NONE)?);
+    let other = Object::of_request(alloc, other)?;
+    let old = Object::of_request(alloc, judged(alloc, NONE)?)?;
     assert_eq!(rt; rule_of(admit(Some(&old), &other, false, false)), 8);
     assert_eq!(rt; rule_of(admit(Some(&old), &other, true, false)), 0);
     assert_eq!(rt; rule_of(admit(None, &other, false, false)), 0);
@@ -378,8 +378,8 @@ fn typed(alloc: Global, kind: &str, key: bool, certificate: bool) -> Result<Secr
 #[test]
 fn the_rule_on_secrets(rt: HostRuntime) -> Result<(), Fail> {
     let alloc = rt.alloc();
-    let opaque = Object::Secret(typed(alloc, "Opaque", false, false)?);
-    let tls = Object::Secret(typed(alloc, "kubernetes.io/tls", true, true)?);
+    let opaque = Object::of_secret(alloc, typed(alloc, "Opaque", false, false)?)?;
+    let tls = Object::of_secret(alloc, typed(alloc, "kubernetes.io/tls", true, true)?)?;
     assert_eq!(rt; rule_of(admit(None, &opaque, false, false)), 0);
     assert_eq!(rt; rule_of(admit(None, &tls, false, false)), 0);
     assert_eq!(rt; rule_of(admit(Some(&tls), &tls, false, false)), 0);
@@ -387,7 +387,7 @@ fn the_rule_on_secrets(rt: HostRuntime) -> Result<(), Fail> {
     assert_eq!(rt; rule_of(admit(Some(&tls), &opaque, false, false)), 14);
     assert_eq!(rt; rule_of(admit(Some(&opaque), &opaque, true, false)), 14);
     for (key, certificate) in [(false, false), (true, false), (false, true)] {
-        let part = Object::Secret(typed(alloc, "kubernetes.io/tls", key, certificate)?);
+        let part = Object::of_secret(alloc, typed(alloc, "kubernetes.io/tls", key, certificate)?)?;
         assert_eq!(rt; rule_of(admit(None, &part, false, false)), 14);
         assert_eq!(rt; rule_of(admit(Some(&tls), &part, false, false)), 14);
     }
@@ -396,14 +396,14 @@ fn the_rule_on_secrets(rt: HostRuntime) -> Result<(), Fail> {
 
 fn create(alloc: Global, word: &str, secret: &str) -> Result<Call, Fail> {
     Ok(Call::Create {
-        object: Object::Cert(admitted(alloc, word, secret)?),
+        object: Object::of_certificate(alloc, admitted(alloc, word, secret)?)?,
         generate: false,
     })
 }
 
 fn update(alloc: Global, word: &str, secret: &str, version: u64) -> Result<Call, Fail> {
     Ok(Call::Update {
-        object: Object::Cert(admitted(alloc, word, secret)?),
+        object: Object::of_certificate(alloc, admitted(alloc, word, secret)?)?,
         version,
     })
 }
@@ -470,7 +470,7 @@ fn the_store_refuses_by_each_kind(rt: HostRuntime) -> Result<(), Fail> {
     let alloc = rt.alloc();
     let mut store = Store::new(alloc, Numbers::new(alloc));
     let made_request = Call::Create {
-        object: Object::Request(judged(alloc, NONE)?),
+        object: Object::of_request(alloc, judged(alloc, NONE)?)?,
         generate: false,
     };
     assert!(rt;
@@ -480,7 +480,7 @@ fn the_store_refuses_by_each_kind(rt: HostRuntime) -> Result<(), Fail> {
         )
     );
     let denied = Call::UpdateStatus {
-        object: Object::Request(judged(alloc, DENIED)?),
+        object: Object::of_request(alloc, judged(alloc, DENIED)?)?,
         version: 1,
     };
     assert!(rt;
@@ -490,25 +490,28 @@ fn the_store_refuses_by_each_kind(rt: HostRuntime) -> Result<(), Fail> {
         )
     );
     let approved = Call::UpdateStatus {
-        object: Object::Request(judged(
+        object: Object::of_request(
             alloc,
-            Verdicts {
-                approved: Some(Tri::True),
-                ..DENIED
-            },
-        )?),
+            judged(
+                alloc,
+                Verdicts {
+                    approved: Some(Tri::True),
+                    ..DENIED
+                },
+            )?,
+        )?,
         version: 2,
     };
     assert_eq!(rt; refused(&made(&mut store, alloc, &approved)?), 10);
     let mut other = judged(alloc, NONE)?;
     other.spec.usages = texts(alloc, "client auth")?;
     let changed = Call::Update {
-        object: Object::Request(other),
+        object: Object::of_request(alloc, other)?,
         version: 2,
     };
     assert_eq!(rt; refused(&made(&mut store, alloc, &changed)?), 8);
     let tls = Call::Create {
-        object: Object::Secret(typed(alloc, "kubernetes.io/tls", true, false)?),
+        object: Object::of_secret(alloc, typed(alloc, "kubernetes.io/tls", true, false)?)?,
         generate: false,
     };
     assert_eq!(rt; refused(&made(&mut store, alloc, &tls)?), 14);

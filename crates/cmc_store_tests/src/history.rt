@@ -37,13 +37,13 @@ fn looks_at_each_version(rt: HostRuntime) -> Result<(), Fail> {
     let mut history = History::new(alloc);
     let web = key(alloc, Kind::Certificate, "web")?;
     let create = Call::Create {
-        object: Object::Cert(admitted_certificate(alloc)?),
+        object: Object::of_certificate(alloc, admitted_certificate(alloc)?)?,
         generate: false,
     };
     note(&mut history, &mut store, alloc, create.copy()?)?;
     note(&mut history, &mut store, alloc, create)?;
     let state = Call::UpdateStatus {
-        object: Object::Cert(admitted_certificate(alloc)?),
+        object: Object::of_certificate(alloc, admitted_certificate(alloc)?)?,
         version: 1,
     };
     note(&mut history, &mut store, alloc, state)?;

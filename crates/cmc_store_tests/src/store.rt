@@ -23,7 +23,7 @@ fn answers_each_call(rt: HostRuntime) -> Result<(), Fail> {
     let mut store = Store::new(alloc, faults);
     let web = key(alloc, Kind::Certificate, "web")?;
     let create = Call::Create {
-        object: Object::Cert(admitted_certificate(alloc)?),
+        object: Object::of_certificate(alloc, admitted_certificate(alloc)?)?,
         generate: false,
     };
     assert!(rt;
@@ -39,7 +39,7 @@ fn answers_each_call(rt: HostRuntime) -> Result<(), Fail> {
         )
     );
     let state = Call::UpdateStatus {
-        object: Object::Cert(admitted_certificate(alloc)?),
+        object: Object::of_certificate(alloc, admitted_certificate(alloc)?)?,
         version: 1,
     };
     assert!(rt;
@@ -55,7 +55,7 @@ fn answers_each_call(rt: HostRuntime) -> Result<(), Fail> {
         )
     );
     let again = Call::UpdateStatus {
-        object: Object::Cert(admitted_certificate(alloc)?),
+        object: Object::of_certificate(alloc, admitted_certificate(alloc)?)?,
         version: 2,
     };
     assert!(rt;

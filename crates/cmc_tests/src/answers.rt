@@ -12,7 +12,7 @@ use cmc_answers::{
     Denial, ScriptedSigner, Signer, judge, signing_of, temporary, temporary_is_read,
 };
 use cmc_meta::{Bytes, Texts};
-use cmc_objects::{CertificateRequest, JudgeOrder, Rules, SignRow, Signing};
+use cmc_objects::{CertificateRequest, JudgeOrder, Rules, Shared, SignRow, Signing};
 use cmc_policy_rules::{Field, Pattern, Patterns, Policies, Policy};
 use std::alloc::{AllocError, Global};
 use std::test::Fail;
@@ -170,7 +170,8 @@ fn answers_by_the_row(rt: HostRuntime) -> Result<(), Fail> {
 #[test]
 fn answers_a_question(rt: HostRuntime) -> Result<(), Fail> {
     let alloc = rt.alloc();
-    let order = question(asking(alloc, "P-384, no names")?).ok_or("not to be asked")?;
+    let request = Shared::new(alloc, asking(alloc, "P-384, no names")?)?;
+    let order = question(request).ok_or("not to be asked")?;
     let answered = ScriptedSigner.sign(alloc, &order)?;
     passes(
         &rt,
@@ -238,6 +239,7 @@ fn denial_word(denial: Option<&Denial>) -> &'static str {
 
 /// Why the request may not be approved, in a word.
 fn denial(alloc: Global, request: CertificateRequest, rules: Rules) -> Result<&'static str, Fail> {
+    let request = Shared::new(alloc, request)?;
     let judged = judge(alloc, JudgeOrder { request, rules })?;
     Ok(denial_word(judged.denial()))
 }

@@ -1402,7 +1402,7 @@ fn current(alloc: Global, request: &str) -> Result<Option<Shared<CertificateRequ
     if request == "none" {
         return Ok(None);
     }
-    Ok(Some(asking_called(alloc, request)?))
+    Ok(Some(Shared::new(alloc, asking_called(alloc, request)?)?))
 }
 
 /// The pair of the Secret is what the facts say.
@@ -1447,7 +1447,7 @@ fn knows_of_secrets(rt: HostRuntime) -> Result<(), Fail> {
     let alloc = rt.alloc();
     facts_mean();
     for (seen, want) in &FACTS {
-        let secret = secret_of(alloc, seen)?;
+        let secret = Shared::new(alloc, secret_of(alloc, seen)?)?;
         let spec = spec_of_size(alloc, seen.size)?;
         let facts = facts_with(alloc, &spec, Some(&secret), seen.request)?;
         tells(&rt, seen.key, told(alloc, &facts)?.as_str(), want);

@@ -5,7 +5,7 @@ use crate::whole::{bytes, certificate, request, secret};
 use cmc_meta::{Kind, Texts};
 use cmc_objects::{
     Algorithm, Call, CertSpec, CsrOrder, Encoding, JudgeOrder, KeyOrder, KeyRow, KeyRows, Material,
-    Object, Order, Role, Rotation, Rows, Rules, SignRow, SignRows, Signing, Step,
+    Object, Order, Role, Rotation, Rows, Rules, Shared, SignRow, SignRows, Signing, Step,
 };
 use cmc_policy_rules::Policies;
 use cmc_setup::Steps;
@@ -43,7 +43,7 @@ fn rules(alloc: Global) -> Result<Rules, Fail> {
 fn judgement(alloc: Global) -> Result<Order, Fail> {
     let rules = rules(alloc)?;
     Ok(Order::Judge(JudgeOrder {
-        request: request(alloc)?,
+        request: Shared::new(alloc, request(alloc)?)?,
         rules,
     }))
 }
@@ -250,7 +250,7 @@ fn called(step: &Step) -> &'static str {
 
 fn apply(alloc: Global) -> Result<Step, Fail> {
     Ok(Step::Apply {
-        object: Object::Cert(certificate(alloc)?),
+        object: Object::of_certificate(alloc, certificate(alloc)?)?,
         version: Some(1),
     })
 }
@@ -331,21 +331,21 @@ fn copies_each_step(rt: HostRuntime) -> Result<(), Fail> {
 
 fn create(alloc: Global) -> Result<Call, Fail> {
     Ok(Call::Create {
-        object: Object::Request(request(alloc)?),
+        object: Object::of_request(alloc, request(alloc)?)?,
         generate: true,
     })
 }
 
 fn update(alloc: Global) -> Result<Call, Fail> {
     Ok(Call::Update {
-        object: Object::Secret(secret(alloc)?),
+        object: Object::of_secret(alloc, secret(alloc)?)?,
         version: 2,
     })
 }
 
 fn update_status(alloc: Global) -> Result<Call, Fail> {
     Ok(Call::UpdateStatus {
-        object: Object::Cert(certificate(alloc)?),
+        object: Object::of_certificate(alloc, certificate(alloc)?)?,
         version: 2,
     })
 }

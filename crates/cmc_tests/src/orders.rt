@@ -6,7 +6,7 @@ ghost use Rattle.cmc_objects.specs.Requests.{is_stated, is_short_text, is_short_
 use crate::checks::passes;
 use crate::whole::request;
 use cmc_meta::{Condition, ConditionKind, Text, Tri};
-use cmc_objects::{CertificateRequest, Order, SignOrder, SignRow};
+use cmc_objects::{CertificateRequest, Order, Shared, SignOrder, SignRow};
 use std::alloc::AllocError;
 use std::test::Fail;
 
@@ -64,7 +64,7 @@ fn is_of_form(request: &CertificateRequest) -> bool
 }
 
 /// The first question about the request, where it may be asked; the issuer has not decided.
-pub fn question(request: CertificateRequest) -> Option<SignOrder> {
+pub fn question(request: Shared<CertificateRequest>) -> Option<SignOrder> {
     let conditions = request.status.conditions.as_slice();
     if stands(conditions, ConditionKind::Approved)
         && !stands(conditions, ConditionKind::Denied)
@@ -89,7 +89,8 @@ fn is_copied(order: &Order) -> Result<bool, AllocError> {
 
 #[test]
 fn copies_a_question_to_an_issuer(rt: HostRuntime) -> Result<(), Fail> {
-    let order = question(request(rt.alloc())?).ok_or("not to be asked")?;
+    let request = Shared::new(rt.alloc(), request(rt.alloc())?)?;
+    let order = question(request).ok_or("not to be asked")?;
     let copied = order.copy()?;
     passes(&rt, "the same", copied.same(&order));
     passes(&rt, "read", is_read(&copied));

@@ -9,17 +9,17 @@ use std::alloc::{AllocError, Global};
 use std::test::Fail;
 
 /// A Secret of that name.
-fn named(alloc: Global, word: &str) -> Result<Secret, Fail> {
+fn named(alloc: Global, word: &str) -> Result<Shared<Secret>, Fail> {
     let mut secret = secret(alloc)?;
     secret.meta = new_meta(alloc, word)?;
-    Ok(secret)
+    Ok(Shared::new(alloc, secret)?)
 }
 
 fn views(alloc: Global) -> Result<Views, Fail> {
     let mut views = Views::new(alloc);
     views.next.push(named(alloc, "web-bbbbf")?)?;
     views.next.push(named(alloc, "web-bbbbg")?)?;
-    views.requests.push(request(alloc)?)?;
+    views.requests.push(Shared::new(alloc, request(alloc)?)?)?;
     views.secret = Some(named(alloc, "web-tls")?);
     Ok(views)
 }

@@ -29,11 +29,14 @@ fn owned(alloc: Global, uids: &[u64]) -> Result<Option<Object>, Fail> {
     let mut meta = new_meta(alloc, "web-tls")?;
     meta.uid = 3;
     meta.owners = owners(alloc, uids)?;
-    Ok(Some(Object::Secret(Secret {
-        meta,
-        kind_text: text(alloc, "Opaque")?,
-        parts: Parts::new(alloc),
-    })))
+    Ok(Some(Object::of_secret(
+        alloc,
+        Secret {
+            meta,
+            kind_text: text(alloc, "Opaque")?,
+            parts: Parts::new(alloc),
+        },
+    )?))
 }
 
 /// A Certificate of the uid that names this Secret.
@@ -51,7 +54,7 @@ fn targeting(alloc: Global, uid: u64, word: &str) -> Result<Option<Object>, Fail
         revision: None,
         next_key: None,
     };
-    Ok(Some(Object::Cert(Certificate { meta, spec, status })))
+    Ok(Some(Object::of_certificate(alloc, Certificate { meta, spec, status })?))
 }
 
 fn accept(watch: &mut Watch, key: Key, object: Option<Object>) -> Result<(), Fail> {

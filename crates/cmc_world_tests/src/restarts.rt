@@ -36,11 +36,14 @@ fn apply(alloc: Global) -> Result<Step, Fail> {
     let mut spec = least_spec(alloc, "web-tls", "example.com")?;
     spec.key.algorithm = Some(Algorithm::Ecdsa);
     Ok(Step::Apply {
-        object: Object::Cert(Certificate {
-            meta,
-            spec,
-            status: no_status(alloc),
-        }),
+        object: Object::of_certificate(
+            alloc,
+            Certificate {
+                meta,
+                spec,
+                status: no_status(alloc),
+            },
+        )?,
         version: None,
     })
 }

@@ -40,7 +40,7 @@ pub(crate) fn certificate(
         next_key: None,
     };
     Ok(Step::Apply {
-        object: Object::Cert(Certificate { meta, spec, status }),
+        object: Object::of_certificate(alloc, Certificate { meta, spec, status })?,
         version: None,
     })
 }
@@ -52,11 +52,14 @@ fn secret(alloc: Global, word: &str) -> Result<Step, Fail> {
     let mut parts = Parts::new(alloc);
     parts.set(text(alloc, "tls.key")?, bytes)?;
     Ok(Step::Apply {
-        object: Object::Secret(Secret {
-            meta,
-            kind_text: text(alloc, "Opaque")?,
-            parts,
-        }),
+        object: Object::of_secret(
+            alloc,
+            Secret {
+                meta,
+                kind_text: text(alloc, "Opaque")?,
+                parts,
+            },
+        )?,
         version: None,
     })
 }
