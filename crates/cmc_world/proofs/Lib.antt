@@ -1,3 +1,4 @@
+pub mod Looked
 pub mod Tables
 pub mod Standings
 pub mod Origins

@@ -20,7 +20,7 @@ ghost use Rattle.cmc_model.specs.Writes.{writes};
 ghost use Rattle.cmc_held.specs.Remembered.{past_or_new};
 ghost use Rattle.cmc_world.specs.Answers.{AnswersScript, entries_of};
 ghost use Rattle.cmc_world.specs.Kept.{setting_of};
-ghost use Rattle.cmc_world.specs.Rest.{EachKind};
+ghost use Rattle.cmc_world.specs.Rest.{EachKind, RestsOnAll};
 ghost use Rattle.cmc_rules.specs.Resting.{IsToldAll, RestsIn};
 
 use crate::acts::act_of;
@@ -35,6 +35,7 @@ use cmc_pass::{Act, Desk, Views};
 use cmc_rules::Past;
 use cmc_store::Store;
 use std::alloc::{AllocError, Global};
+use std::collections::BTreeSet;
 
 /// Whether the role has nothing to do where it sees this and decides by this desk.
 fn has_nothing(
@@ -119,7 +120,33 @@ fn entries_needed(store: &Store, step: &Step) -> u64
     }
 }
 
-/// Whether the role, which was told of all that is not held from it, rests on the key of each of these writes.
+/// Whether the role, which was told of all that is not held from it, rests on the key. It is looked at only where it is none
+/// of the keys that were, on each of which the role rests; and is one of them then.
+fn rests_on_once(
+    world: &World,
+    alloc: Global,
+    role: Role,
+    key: &Key,
+    looked: &mut BTreeSet<Key>,
+) -> Result<bool, AllocError>
+    requires told { EachKind (IsToldAll (setting_of world.now.scenario) world.now.history role) }
+    requires before { RestsOnAll (setting_of world.now.scenario) world.now.history role looked.old }
+    ensures test { IfOk result (λ b. IsTrue b ↔ spec.RestsOn (setting_of world.now.scenario) world.now.history role key.now) }
+    ensures after { RestsOnAll (setting_of world.now.scenario) world.now.history role looked.new }
+{
+    if looked.contains(key) {
+        return Ok(true);
+    }
+    if !world.rests_on(alloc, role, key)? {
+        return Ok(false);
+    }
+    let key = key.copy()?;
+    looked.insert(key)?;
+    Ok(true)
+}
+
+/// Whether the role, which was told of all that is not held from it, rests on the key of each of these writes. Many writes
+/// name one key.
 fn rests_on_each(
     world: &World,
     alloc: Global,
@@ -129,8 +156,9 @@ fn rests_on_each(
     requires { EachKind (IsToldAll (setting_of world.now.scenario) world.now.history role) }
     ensures { IfOk result (λ b. IsTrue b ↔ All (λ (w : WriteValue). spec.RestsOn (setting_of world.now.scenario) world.now.history role w.key) writes.now) }
 {
+    let mut looked = BTreeSet::new(alloc);
     for write in writes {
-        if !world.rests_on(alloc, role, &write.key)? {
+        if !rests_on_once(world, alloc, role, &write.key, &mut looked)? {
             return Ok(false);
         }
     }
