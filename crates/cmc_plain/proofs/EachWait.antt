@@ -1,6 +1,6 @@
 -- Where no role has anything to do on what stands, each Certificate that is not Ready waits for something that has a name.
-use Rattle.std.proofs.Common.{◌≡◌, ◌⊎◌, ◌==◌, ◌&&◌, ℕ, ℤ, List, [], ◌∷◌, length, Option, Some, None, Bool, true, false, not, refl, sym, ap, subst, ◌∙◌, inl, inr, option_and_then}
-use Rattle.std.specs.Prelude.{IfSome, IsSome, filter_map, if◌then◌else◌}
+use Rattle.std.proofs.Common.{◌≡◌, ◌⊎◌, ◌==◌, ◌&&◌, ℕ, ℤ, List, length, Option, Some, None, Bool, true, false, not, refl, sym, ap, subst, ◌∙◌, inl, inr, option_and_then}
+use Rattle.std.specs.Prelude.{IfSome, IsSome, if◌then◌else◌}
 use Rattle.std.specs.FinMap as map
 use Rattle.cmc_meta.specs.declared.key.Key.{Key}
 use Rattle.cmc_meta.specs.declared.conditions.ConditionKind.TheVariants.{Ready}
@@ -15,14 +15,12 @@ use Rattle.cmc_objects.specs.declared.entry.Entry.{Entry}
 use Rattle.cmc_objects.specs.Requests.{is_stated}
 use Rattle.cmc_summary.specs.declared.summary.WaitName.{WaitName}
 use Rattle.cmc_summary.specs.declared.summary.WaitName.TheVariants as names
-use Rattle.cmc_match.specs.Facts.{key_in, fits}
+use Rattle.cmc_match.specs.Facts.{key_in}
 use Rattle.cmc_match.specs.Revisions.{next_request}
-use Rattle.cmc_pass.specs.declared.pass.Views.{Views}
 use Rattle.cmc_pass.specs.declared.pass.Desk.{Desk}
 use Rattle.cmc_pass.specs.declared.pass.Act.TheVariants.{Nothing}
 use Rattle.cmc_model.specs.Objects.{Objects, object_at}
 use Rattle.cmc_model.specs.Histories.{Setting, moment, objects}
-use Rattle.cmc_model.specs.Writes.{writes}
 use Rattle.cmc_rules.specs.Acts.{act}
 use Rattle.cmc_rules.specs.Causes.{IsCaused}
 use Rattle.cmc_rules.specs.Desks.{desk}
@@ -34,7 +32,6 @@ use Rattle.cmc_rules.specs.Viewing.{Caches, certificate_in, request_in, certific
 use Rattle.cmc_rules.specs.Triggering.{trigger, for_option, for_certificate, is_issuing, is_backing_off}
 use Rattle.cmc_rules.specs.KeyManaging.{key_manager, keys_of, while_issuing, while_idle}
 use Rattle.cmc_rules.specs.NextKeys.{named_key}
-use Rattle.cmc_rules.specs.NextRequests.{is_wanted}
 use Rattle.cmc_rules.specs.RequestManaging as managing
 use Rattle.cmc_rules.specs.RequestManaging.{request_manager}
 use Rattle.cmc_rules.specs.Granting.{issuer, grant_of, grant_one}
@@ -43,7 +40,7 @@ use Rattle.cmc_rules.specs.Issuing.{issuing}
 use Rattle.cmc_rules.specs.Readying.{readiness, ready_of}
 use Rattle.cmc_rules.proofs.Sighted.{stands_among, picked}
 use Rattle.cmc_plain.specs.Waits.{wait_of, wait_of_next, wait_of_request, wait_of_seen, wait_in}
-use Rattle.cmc_safety.proofs.Carried.{EachVersion, standing_has}
+use Rattle.cmc_safety.proofs.Carried.{standing_has}
 use Rattle.cmc_plain.proofs.Outcomes.{HasOutcome, IsAnswered}
 use Rattle.cmc_plain.proofs.OutcomesStand.{all_answered}
 use Rattle.cmc_plain.proofs.NextApart.{next_apart}

@@ -1,5 +1,5 @@
 -- No two next keys of a Certificate that stand have one name.
-use Rattle.std.proofs.Common.{◌≡◌, ◌&&◌, List, [], ◌∷◌, Option, Some, None, Bool, true, false, T, refl, sym, ap, subst, ◌∙◌, inl, inr, Ordering, Less, Equal, Greater, filter_map}
+use Rattle.std.proofs.Common.{◌≡◌, ◌&&◌, List, [], ◌∷◌, Option, Some, None, Bool, true, false, T, refl, sym, ap, subst, ◌∙◌, inl, inr, Ordering, filter_map}
 use Rattle.std.proofs.lemmas.Slice.Eq.{bytes_eq-Decides}
 use Rattle.std.specs.Prelude.{if◌then◌else◌}
 use Rattle.std.specs.Cmp.{tied_itself}

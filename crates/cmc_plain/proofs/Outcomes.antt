@@ -1,11 +1,10 @@
 -- What the condition Ready of a request may say: issued, or pending, or that the request has failed or was denied, at a moment that stands.
-use Rattle.std.proofs.Common.{◌≡◌, ◌==◌, ◌⊎◌, ℕ, ℤ, List, [], ◌∷◌, Option, Some, None, Bool, true, false, cond, refl, sym, ap, subst, ◌∙◌, inl, inr}
+use Rattle.std.proofs.Common.{◌≡◌, ◌==◌, ◌⊎◌, ℕ, ℤ, List, [], ◌∷◌, Option, Some, None, Bool, true, false, refl, sym, ap, subst, ◌∙◌, inl, inr}
 use Rattle.std.specs.Prelude.{IfSome, codes, find, is_some, if◌then◌else◌}
 use Rattle.std.specs.Ordering.{nat_cmp, match_ordering}
 use Rattle.cmc_meta.specs.declared.conditions.Condition.{Condition}
 use Rattle.cmc_meta.specs.declared.conditions.ConditionKind.{ConditionKind}
 use Rattle.cmc_meta.specs.declared.conditions.ConditionKind.TheVariants.{Ready, Issuing, Approved, Denied, InvalidRequest}
-use Rattle.cmc_meta.specs.declared.conditions.Tri.{Tri}
 use Rattle.cmc_meta.specs.declared.conditions.Tri.TheVariants.{True, False}
 use Rattle.cmc_meta.specs.ConditionLists.{condition_rank, condition_at, kept_since, renewed, transitioned}
 use Rattle.cmc_objects.specs.declared.orders.Signing.{Signing}
@@ -16,7 +15,7 @@ use Rattle.cmc_objects.specs.declared.object.Object.TheVariants.{Cert, Request, 
 use Rattle.cmc_objects.specs.declared.call.Call.{Call}
 use Rattle.cmc_objects.specs.declared.call.Call.TheVariants.{Create, Update, UpdateStatus, Delete, Get}
 use Rattle.cmc_objects.specs.declared.call.Reply.{Reply}
-use Rattle.cmc_objects.specs.Objects.{meta_of, key_of, no_request_status}
+use Rattle.cmc_objects.specs.Objects.{meta_of, key_of}
 use Rattle.cmc_model.specs.Admission.{is_of}
 use Rattle.cmc_model.specs.Objects.{Objects, object_at}
 use Rattle.cmc_model.specs.Stored.{created, updated, with_status, generation_after, numbered, revised, restated}

@@ -1,11 +1,10 @@
 -- No role writes another outcome to a request, where what it sees has one.
-use Rattle.std.proofs.Common.{◌≡◌, ◌==◌, ℕ, ℤ, List, [], ◌∷◌, Option, Some, None, Bool, true, false, refl, sym, ap, subst, ◌∙◌}
-use Rattle.std.specs.Prelude.{find, if◌then◌else◌}
+use Rattle.std.proofs.Common.{◌≡◌, ◌==◌, ℕ, ℤ, List, [], ◌∷◌, Option, Some, None, Bool, true, false, refl, subst}
+use Rattle.std.specs.Prelude.{if◌then◌else◌}
 use Rattle.cmc_der.specs.Keys.{PublicKey}
 use Rattle.cmc_objects.specs.declared.certificate.Certificate.{Certificate}
 use Rattle.cmc_objects.specs.declared.request.CertificateRequest.{CertificateRequest}
 use Rattle.cmc_objects.specs.declared.secret.Secret.{Secret as SecretObject}
-use Rattle.cmc_objects.specs.declared.object.Object.TheVariants.{Cert, Request, Secret}
 use Rattle.cmc_objects.specs.declared.key_spec.Rotation.TheVariants.{Always, Never}
 use Rattle.cmc_objects.specs.declared.key_spec.Rotation.{Rotation}
 use Rattle.cmc_objects.specs.declared.orders.Order.{Order}

@@ -1,10 +1,10 @@
 -- A Certificate on which no role has anything to do is Ready, or waits for something that has a name.
-use Rattle.std.proofs.Common.{◌≡◌, ◌⊎◌, ◌==◌, ◌&&◌, ◌||◌, ◌+◌, ℕ, suc, ℤ, pos, ◌-ℤ◌, List, [], ◌∷◌, length, Option, Some, None, Bool, true, false, not, cond, refl, sym, ap, subst, ◌∙◌, inl, inr, arith}
+use Rattle.std.proofs.Common.{◌≡◌, ◌⊎◌, ◌==◌, ◌&&◌, ◌||◌, ℕ, suc, ℤ, pos, ◌-ℤ◌, List, [], ◌∷◌, length, Option, Some, None, Bool, true, false, not, cond, refl, sym, ap, subst, ◌∙◌, inl, inr, arith}
 use Rattle.std.proofs.lemmas.Bool.Decides.{nat_tests}
 use Rattle.std.proofs.lemmas.Int.{ints}
 use Rattle.std.proofs.lemmas.Slice.Eq.{bytes_eq-Decides}
 use Rattle.std.specs.Prelude.{IfSome, IsSome, codes, find, filter, int_lt, is_some, if◌then◌else◌}
-use Rattle.std.specs.List.{last_or, list_any}
+use Rattle.std.specs.List.{last_or}
 use Rattle.std.specs.Str.{bytes_eq}
 use Rattle.cmc_meta.specs.declared.conditions.Condition.{Condition}
 use Rattle.cmc_meta.specs.declared.conditions.ConditionKind.TheVariants.{Ready}
@@ -19,7 +19,6 @@ use Rattle.cmc_objects.specs.declared.secret.Secret.{Secret as SecretObject}
 use Rattle.cmc_objects.specs.declared.key_spec.Algorithm.{Algorithm}
 use Rattle.cmc_objects.specs.declared.key_spec.KeySpec.{KeySpec}
 use Rattle.cmc_objects.specs.Requests.{is_stated, is_approved, is_denied}
-use Rattle.cmc_summary.specs.declared.summary.WaitName.{WaitName}
 use Rattle.cmc_summary.specs.declared.summary.WaitName.TheVariants as names
 use Rattle.cmc_policies.specs.declared.facts.Frame.{Frame}
 use Rattle.cmc_policies.specs.declared.facts.Reason.{Reason}
@@ -33,10 +32,10 @@ use Rattle.cmc_match.specs.Revisions.{is_of, only_of, next_request}
 use Rattle.cmc_pass.specs.declared.pass.Desk.{Desk}
 use Rattle.cmc_pass.specs.declared.pass.IssuePlan.{IssuePlan}
 use Rattle.cmc_pass.specs.declared.pass.Act.{Act}
-use Rattle.cmc_pass.specs.declared.pass.Act.TheVariants.{Nothing, Call as Calls, Ask as Asks, Issue, Temporary}
+use Rattle.cmc_pass.specs.declared.pass.Act.TheVariants.{Nothing, Call as Calls, Issue}
 use Rattle.cmc_rules.specs.Chains.{trigger_chain, readiness_chain, trigger_reason, readiness_reason}
-use Rattle.cmc_rules.specs.Triggering.{is_issuing, is_backing_off, is_outrun, issue_call, for_reason, for_certificate, frame_of}
-use Rattle.cmc_rules.specs.KeyManaging.{only_key, dropped, while_issuing, name_call, drop_call}
+use Rattle.cmc_rules.specs.Triggering.{is_issuing, is_backing_off, issue_call, for_reason, for_certificate, frame_of}
+use Rattle.cmc_rules.specs.KeyManaging.{dropped, while_issuing, name_call, drop_call}
 use Rattle.cmc_rules.specs.NextKeys.{is_named, named_key, is_fitting, has_fitting_key}
 use Rattle.cmc_rules.specs.NextRequests.{next_requests, is_next, is_wanted, says_refused, is_refused, failed_before}
 use Rattle.cmc_rules.specs.RequestManaging as managing
