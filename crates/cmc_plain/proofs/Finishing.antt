@@ -237,6 +237,18 @@ at_rest s h run shut no_delivery no_begin = record {
   rests = λ role running. (λ kind. told s h no_delivery role kind running, λ key known. rests s h role key run shut no_delivery no_begin running known);
 }
 
+-- ---- and the other way: a role that is told of all has nothing to do where it rests
+
+idle_by : (b : Bool) (s : Setting) (h : List Entry) (role : Role) (key : Key) → IsRun s h → IsToldOfAll s h role → MatchBool b (IsPaused s h role key) (IsIdle s h role (present_views s h role key))
+    → IsIdle s h role (present_views s h role key)
+idle_by true s h role key run all (inl idle) = served s h role key run all (λ busy due. busy idle) (inl idle)
+idle_by true s h role key run all (inr never) = served s h role key run all (λ busy due. never due) (is_idle s h role key)
+idle_by false s h role key run all idle = idle
+
+-- by what there is to see, even where informers are held: those that it has are not
+pub idle_at_rest : (s : Setting) (h : List Entry) (role : Role) (key : Key) → IsRun s h → IsToldOfAll s h role → RestsOn s h role key → IsIdle s h role (present_views s h role key)
+idle_at_rest s h role key run all rests = idle_by (has_held s h role) s h role key run all rests
+
 -- ---- all steps are made
 
 -- a step that waits is ready where all is at rest

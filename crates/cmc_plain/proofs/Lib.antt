@@ -27,3 +27,11 @@ pub mod ReadyRows
 pub mod Woken
 pub mod Resting
 pub mod Affecting
+pub mod Outcomes
+pub mod OutcomesWritten
+pub mod OutcomesStand
+pub mod NextApart
+pub mod Stuck
+pub mod EachWait
+pub mod EachNamed
+pub mod SummaryItems

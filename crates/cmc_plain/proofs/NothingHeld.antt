@@ -1,6 +1,7 @@
 -- Where each role runs and no informer is held, the end of a run is told to all.
-use Rattle.std.proofs.Common.{◌≡◌, ℕ, List, Bool, true, false, not, ◌&&◌, ◌||◌, refl, sym, ap, inl, inr}
+use Rattle.std.proofs.Common.{◌≡◌, ℕ, List, [], ◌∷◌, Bool, true, false, not, ◌&&◌, ◌||◌, refl, sym, ap, subst, inl, inr}
 use Rattle.std.proofs.lemmas.Bool.{or_parts}
+use Rattle.std.specs.List.{list_any}
 use Rattle.cmc_meta.specs.declared.key.Kind.{Kind}
 use Rattle.cmc_meta.specs.declared.key.Kind.TheVariants as kinds
 use Rattle.cmc_objects.specs.declared.role.Role.{Role}
@@ -9,13 +10,14 @@ use Rattle.cmc_objects.specs.declared.entry.Entry.{Entry}
 use Rattle.cmc_model.specs.Histories.{Setting, runs}
 use Rattle.cmc_objects.specs.Watching.{has_informer}
 use Rattle.cmc_rules.specs.Scripting.{held}
-use Rattle.cmc_rules.specs.Runs.{IsFinished}
+use Rattle.cmc_rules.specs.Resting.{IsAtRest}
+use Rattle.cmc_rules.specs.Sighting.{IsAmong}
 use Rattle.cmc_world.specs.declared.moves.Stepped.{Stepped}
 use Rattle.cmc_world.specs.declared.moves.Stepped.TheVariants.{NotNow, Done, Spent}
 use Rattle.cmc_world.specs.declared.moves.Lack.TheVariants.{Stopped, NoInformer, Held, Current, NotAWrite}
 use Rattle.cmc_world.specs.Answers.{Need, Bar, AnswersDelivery}
 use Rattle.cmc_world.proofs.Newest.{IsToldOfAll}
-use Rattle.cmc_plain.specs.Waits.{is_refusal, is_kept_from, is_hindered, is_stopped}
+use Rattle.cmc_plain.specs.Waits.{is_refusal, is_kept_from, is_hindered, all_roles, is_stopped}
 
 -- ---- the answer to a delivery tells whether the role runs and its informer is not held
 
@@ -45,30 +47,30 @@ pub kept_by : (s : Setting) (h : List Entry) (role : Role) (kind : Kind) (to : �
     → is_refusal answer ≡ is_kept_from s h role kind
 kept_by s h role kind to answer told = told_by (runs s h role) (has_informer role kind) (held s h role kind) answer _ (late_is_other answer _ _ _ _ _ _) told
 
--- ---- what that is for the end of a run
+-- ---- what that is for a run at rest
 
 kind_free : (s : Setting) (h : List Entry) (role : Role) (kind : Kind) → is_hindered s h role ≡ false → is_kept_from s h role kind ≡ false
 kind_free s h role kinds.Certificate free = (or_parts _ _ free).0
 kind_free s h role kinds.CertificateRequest free = (or_parts _ _ (or_parts _ _ free).1).0
 kind_free s h role kinds.Secret free = (or_parts _ _ (or_parts _ _ free).1).1
 
-among_eight : (a b c d e f g i : Bool) → (a || (b || (c || (d || (e || (f || (g || (i || false)))))))) ≡ false → f ≡ false
-among_eight a b c d e f g i none =
-    let later : (d || (e || (f || (g || (i || false))))) ≡ false = (or_parts c _ (or_parts b _ (or_parts a _ none).1).1).1 in
-    (or_parts f (g || (i || false)) (or_parts e (f || (g || (i || false))) (or_parts d (e || (f || (g || (i || false)))) later).1).1).0
+one_of_all : (role : Role) → IsAmong role all_roles
+one_of_all Trigger = inl refl
+one_of_all KeyManager = inr (inl refl)
+one_of_all RequestManager = inr (inr (inl refl))
+one_of_all Approver = inr (inr (inr (inl refl)))
+one_of_all Issuer = inr (inr (inr (inr (inl refl))))
+one_of_all Issuing = inr (inr (inr (inr (inr (inl refl)))))
+one_of_all Readiness = inr (inr (inr (inr (inr (inr (inl refl))))))
+one_of_all Revision = inr (inr (inr (inr (inr (inr (inr (inl refl)))))))
 
-issuing_free : (s : Setting) (h : List Entry) → is_stopped s h ≡ false → is_hindered s h Issuing ≡ false
-issuing_free s h free =
-    among_eight
-    (is_hindered s h Trigger)
-    (is_hindered s h KeyManager)
-    (is_hindered s h RequestManager)
-    (is_hindered s h Approver)
-    (is_hindered s h Issuer)
-    (is_hindered s h Issuing)
-    (is_hindered s h Readiness)
-    (is_hindered s h Revision)
-    free
+none_of : (test : Role → Bool) (roles : List Role) (role : Role) → list_any test roles ≡ false → IsAmong role roles → test role ≡ false
+none_of test [] role none among = absurd among
+none_of test (r ∷ roles) role none (inl is) = subst (λ (x : Role). test x ≡ false) is (or_parts (test r) (list_any test roles) none).0
+none_of test (r ∷ roles) role none (inr later) = none_of test roles role (or_parts (test r) (list_any test roles) none).1 later
+
+role_free : (s : Setting) (h : List Entry) (role : Role) → is_stopped s h ≡ false → is_hindered s h role ≡ false
+role_free s h role free = none_of (is_hindered s h) all_roles role free (one_of_all role)
 
 is_on : (b : Bool) → not b ≡ false → b ≡ true
 is_on true off = refl
@@ -78,14 +80,12 @@ is_off : (informed holding : Bool) → informed ≡ true → (informed && holdin
 is_off true holding informed off = off
 is_off false holding informed off = absurd (cc informed)
 
-told_of_kind : (s : Setting) (h : List Entry) (kind : Kind) → is_kept_from s h Issuing kind ≡ false → has_informer Issuing kind ≡ true
-    → (runs s h Issuing ≡ true) × (held s h Issuing kind ≡ false)
-told_of_kind s h kind free informed =
-    let parts = or_parts _ _ free in
-    (is_on (runs s h Issuing) parts.0, is_off (has_informer Issuing kind) (held s h Issuing kind) informed parts.1)
+-- each role runs
+pub runs_free : (s : Setting) (h : List Entry) (role : Role) → is_stopped s h ≡ false → runs s h role ≡ true
+runs_free s h role free = is_on (runs s h role) (or_parts _ _ (kind_free s h role kinds.Certificate (role_free s h role free))).0
 
--- it was told of all that there is to see
-pub told_of_all : (s : Setting) (h : List Entry) → IsFinished s h → is_stopped s h ≡ false → IsToldOfAll s h Issuing
-told_of_all s h finished free kind informed =
-    let on = told_of_kind s h kind (kind_free s h Issuing kind (issuing_free s h free)) informed in
-    (finished.rest.rests Issuing on.0).0 kind informed on.1
+-- and was told of all that there is to see
+pub told_of_all : (s : Setting) (h : List Entry) (role : Role) → IsAtRest s h → is_stopped s h ≡ false → IsToldOfAll s h role
+told_of_all s h role rest free kind informed =
+    let parts = or_parts _ _ (kind_free s h role kind (role_free s h role free)) in
+    (rest.rests role (runs_free s h role free)).0 kind informed (is_off (has_informer role kind) (held s h role kind) informed parts.1)

@@ -3,6 +3,7 @@ pub mod Searches
 pub mod Histories
 pub mod Driving
 pub mod Waits
+pub mod Named
 pub mod Ready
 pub mod Asking
 pub mod Next

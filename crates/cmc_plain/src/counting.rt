@@ -137,7 +137,8 @@ fn summarize(
 /// is held, that is what each waits for. Else it is the first of these that is so: its last issuance failed and the
 /// moment lies in the back-off; it is being issued and there is no next key; its one next request is neither approved
 /// nor denied; that is issued, and the Secret of the Certificate's name for it holds a next key itself; that is
-/// approved, and its issuer has not answered or was not ready. A Certificate of which none is so is left out.
+/// approved, and its issuer has not answered or was not ready. Of each one of these is so, and none is left out
+/// (`each_wait_is_named`).
 ///
 /// # Errors
 ///

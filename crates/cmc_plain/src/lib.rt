@@ -25,6 +25,6 @@ pub use counting::summary;
 pub use driving::{Driven, drain, drive_plain};
 pub use gate::{Gate, NoGate, Point, Work};
 pub use giving::value_for;
-pub use laws::{plain_ends_agree, plain_histories_agree};
+pub use laws::{each_wait_is_named, plain_ends_agree, plain_histories_agree};
 pub use questions::{point_of, question};
 pub use waking::Waking;

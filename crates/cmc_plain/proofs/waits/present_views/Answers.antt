@@ -12,5 +12,5 @@ returns-clause-same c =
     let s = setting_of c.args.world.now.scenario in
     let h = c.args.world.now.history in
     subst (λ (present : Views). IfOk c.views.result (λ seen. seen ≡ present))
-    (views_newest s h Issuing c.args.key.now c.is_run.ensures.run.legal (told_of_all s h c.requires.finished c.requires.free))
+    (views_newest s h Issuing c.args.key.now c.is_run.ensures.run.legal (told_of_all s h Issuing c.requires.finished.rest c.requires.free))
     c.views.ensures
