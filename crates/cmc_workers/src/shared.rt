@@ -1,18 +1,23 @@
 //! What lies under the lock, and what a thread does while it holds it.
 //!
 //! Each change is a step of the world, so whatever the threads do, the history is one of a run: the world's type keeps
-//! that. A thread does as much as it can in one hold, since to wake others is dearer than to take the lock.
-ghost use Rattle.std.specs.Prelude.{◌≡◌, ◌↔◌, IsTrue, IfOk, IfSome, length};
+//! that. A pass begins only where all that can be delivered was delivered: on old views it would come to nothing, or meet
+//! a conflict.
+ghost use Rattle.std.specs.Option.{option_copied};
+ghost use Rattle.std.specs.Prelude.{◌≡◌, ◌↔◌, IsTrue, IfOk, IfSome, length, false};
 ghost use Rattle.cmc_world.specs.Answers.{Answers, Leaves};
 ghost use Rattle.cmc_world.specs.Kept.{setting_of};
+ghost use Rattle.cmc_plain.specs.Plain.{HasNoDelivery};
 ghost use Rattle.cmc_plain.specs.Ready.{IsToNewest};
-ghost use Rattle.cmc_workers.specs.Driving.{IsAsked};
+ghost use Rattle.cmc_model.specs.Histories.{scripted, step_at};
+ghost use Rattle.cmc_workers.specs.Driving as spec;
+ghost use Rattle.cmc_workers.specs.Driving.{IsAsked, IsErrand, IsToDecide};
 
 use cmc_meta::Key;
-use cmc_objects::{Order, Role};
+use cmc_objects::{Order, Role, Step};
 use cmc_pass::Given;
-use cmc_plain::{Point, Waking, point_of, question};
-use cmc_world::{Move, Stepped};
+use cmc_plain::{Point, Waking, Work, point_of, question};
+use cmc_world::{Begun, Decided, Move, Stepped, decides_alone};
 use std::alloc::{AllocError, Global};
 
 /// What lies under the lock: a world with its ready keys, and whether all is over for the threads.
@@ -37,11 +42,32 @@ pub(crate) struct Question {
     pub point: Point,
 }
 
-/// A value for the question of a pass.
+/// A pass that has only begun, of a role that decides by what it saw alone.
 #[derive(Drop)]
-pub(crate) struct Answer {
+pub(crate) struct Undecided {
     pub taken: Taken,
-    pub given: Given,
+    pub begun: Begun,
+    pub point: Point,
+}
+
+/// What is done for a pass outside of the lock.
+#[derive(Drop)]
+pub(crate) enum Errand {
+    /// A value is made for its question.
+    Value(Question),
+    /// Its role decides.
+    Decision(Undecided),
+}
+
+/// What comes back.
+#[derive(Drop)]
+pub(crate) enum Outcome {
+    /// A value for the question of the pass.
+    Value { taken: Taken, given: Given },
+    /// What the role of the pass decided.
+    Decision { taken: Taken, decided: Decided },
+    /// The role of the pass decides in the world.
+    Nothing { taken: Taken },
 }
 
 impl Shared {
@@ -147,11 +173,15 @@ impl Shared {
 
     /// Gives a value to the pass that asked for it, and has it go on. The value is dropped where the role of the pass was
     /// stopped meanwhile.
-    fn give(&mut self, alloc: Global, answer: Answer) -> Result<Option<Question>, AllocError>
+    fn give(
+        &mut self,
+        alloc: Global,
+        taken: Taken,
+        given: Given,
+    ) -> Result<Option<Question>, AllocError>
         ensures asked { IfOk result (λ q. IfSome q (λ asked. IsAsked self.new.waking asked)) }
         ensures scenario { self.new.waking.scenario ≡ self.old.waking.scenario }
     {
-        let Answer { taken, given } = answer;
         let step = Move::Give {
             pass: taken.pass,
             incarnation: taken.incarnation,
@@ -163,39 +193,126 @@ impl Shared {
         }
     }
 
-    /// Begins passes, one after another, and has each go on, up to the first question. `None` where no pass can begin any
-    /// more, or all is over.
-    fn take(&mut self, alloc: Global) -> Result<Option<Question>, AllocError>
+    /// Hands a decision in for the pass, and has it go on. It is dropped where the role of the pass was stopped meanwhile.
+    fn decide(
+        &mut self,
+        alloc: Global,
+        taken: Taken,
+        decided: Decided,
+    ) -> Result<Option<Question>, AllocError>
         ensures asked { IfOk result (λ q. IfSome q (λ asked. IsAsked self.new.waking asked)) }
         ensures scenario { self.new.waking.scenario ≡ self.old.waking.scenario }
     {
+        let step = Move::Decide {
+            pass: taken.pass,
+            incarnation: taken.incarnation,
+            decided,
+        };
+        match self.make(alloc, step)? {
+            Stepped::Done => self.go_on(alloc, taken),
+            Stepped::Order { .. } => self.question_of(taken),
+            _ => Ok(None),
+        }
+    }
+
+    /// Goes on with the pass for which a thread comes back, up to a question or to its end.
+    fn go_back(&mut self, alloc: Global, outcome: Outcome) -> Result<Option<Question>, AllocError>
+        ensures asked { IfOk result (λ q. IfSome q (λ asked. IsAsked self.new.waking asked)) }
+        ensures scenario { self.new.waking.scenario ≡ self.old.waking.scenario }
+    {
+        match outcome {
+            Outcome::Value { taken, given } => self.give(alloc, taken, given),
+            Outcome::Decision { taken, decided } => self.decide(alloc, taken, decided),
+            Outcome::Nothing { taken } => self.go_on(alloc, taken),
+        }
+    }
+
+    /// What the pass saw, which has just begun, where its role decides by that alone.
+    fn undecided(&self, taken: Taken) -> Result<Option<Undecided>, AllocError>
+        ensures { IfOk result (λ u. IfSome u (λ undecided. IsToDecide self.now.waking undecided)) }
+    {
+        let world = self.waking.world();
+        match world.passes().get(taken.pass) {
+            Some(open) if decides_alone(open.role) => {}
+            _ => return Ok(None),
+        }
+        match world.begun(taken.pass)? {
+            Some(begun) => Ok(Some(Undecided {
+                taken,
+                begun,
+                point: Point {
+                    work: Work::Decide,
+                    entry: self.entries(),
+                },
+            })),
+            None => Ok(None),
+        }
+    }
+
+    /// Has the pass, which has just begun, go on in the world, unless its role decides outside of the lock.
+    fn start(&mut self, alloc: Global, taken: Taken) -> Result<Option<Errand>, AllocError>
+        ensures errand { IfOk result (λ e. IfSome e (λ errand. IsErrand self.new.waking errand)) }
+        ensures scenario { self.new.waking.scenario ≡ self.old.waking.scenario }
+    {
+        if let Some(undecided) = self.undecided(taken)? {
+            return Ok(Some(Errand::Decision(undecided)));
+        }
+        match self.go_on(alloc, taken)? {
+            Some(question) => Ok(Some(Errand::Value(question))),
+            None => Ok(None),
+        }
+    }
+
+    /// Whether the next step of the script waits for a count of writes, which each move may reach.
+    pub(crate) fn waits_for_count(&self) -> bool
+        ensures { result ≡ spec.waits_for_count (step_at self.now.waking.scenario.script (scripted self.now.waking.history + 1)) }
+    {
+        matches!(self.waking.world().next_step(), Some(Step::Until { .. }))
+    }
+
+    /// Whether a role is to be told of something.
+    pub(crate) fn is_to_deliver(&self, alloc: Global) -> Result<bool, AllocError>
+        ensures { IfOk result (λ b. b ≡ false → HasNoDelivery (setting_of self.now.waking.scenario) self.now.waking.history) }
+    {
+        match self.waking.next_delivery(alloc)? {
+            Some(_) => Ok(true),
+            None => Ok(false),
+        }
+    }
+
+    /// Begins passes, one after another, and has each go on, up to the first that asks or has to decide. `None` where no
+    /// pass can begin, something is to be delivered before, or all is over.
+    fn take(&mut self, alloc: Global) -> Result<Option<Errand>, AllocError>
+        ensures errand { IfOk result (λ e. IfSome e (λ errand. IsErrand self.new.waking errand)) }
+        ensures scenario { self.new.waking.scenario ≡ self.old.waking.scenario }
+    {
         for _pass in 0..=self.limit() {
-            if self.over {
+            if self.over || self.is_to_deliver(alloc)? {
                 return Ok(None);
             }
             let Some(taken) = self.begin(alloc)? else {
                 return Ok(None);
             };
-            if let Some(question) = self.go_on(alloc, taken)? {
-                return Ok(Some(question));
+            if let Some(errand) = self.start(alloc, taken)? {
+                return Ok(Some(errand));
             }
         }
         Ok(None)
     }
 
-    /// What one hold of the lock does for a worker: gives back the value that it brings, and goes on with that pass and
-    /// then with others, up to the first question. `None` where no pass can go on or begin.
+    /// What one hold of the lock does for a worker: goes on with the pass for which it comes back, and then with others, up
+    /// to the first that asks or has to decide. `None` where no pass can go on or begin, or something is to be delivered.
     pub(crate) fn work(
         &mut self,
         alloc: Global,
-        answer: Option<Answer>,
-    ) -> Result<Option<Question>, AllocError>
-        ensures asked { IfOk result (λ q. IfSome q (λ asked. IsAsked self.new.waking asked)) }
+        outcome: Option<Outcome>,
+    ) -> Result<Option<Errand>, AllocError>
+        ensures errand { IfOk result (λ e. IfSome e (λ errand. IsErrand self.new.waking errand)) }
         ensures scenario { self.new.waking.scenario ≡ self.old.waking.scenario }
     {
-        if let Some(answer) = answer {
-            if let Some(question) = self.give(alloc, answer)? {
-                return Ok(Some(question));
+        if let Some(outcome) = outcome {
+            if let Some(question) = self.go_back(alloc, outcome)? {
+                return Ok(Some(Errand::Value(question)));
             }
         }
         self.take(alloc)
