@@ -148,7 +148,7 @@ told_at true s h role kind to key same = ap (told_views s h role kind to key) (s
 told_at false s h role kind to key same = refl
 
 -- what one role is told of no other sees
-sees_told : (s : Setting) (h : List Entry) (who role : Role) (kind : Kind) (to : ℕ) (key : Key) → (role_eq who role ≡ true → SeesSame s h role kind to key)
+pub sees_told : (s : Setting) (h : List Entry) (who role : Role) (kind : Kind) (to : ℕ) (key : Key) → (role_eq who role ≡ true → SeesSame s h role kind to key)
     → views s (Deliver who kind to ∷ h) role key ≡ views s h role key
 sees_told s h who role kind to key same = told_at (role_eq who role) s h role kind to key same
 

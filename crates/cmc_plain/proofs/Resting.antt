@@ -40,7 +40,7 @@ abbrev pub RestsBut : Setting → List Entry → Role → List Key → Type 0
 RestsBut s h role rest = (k : Key) → k.kind ≡ kind_of_work role → list_any (is_at (key_cmp k)) rest ≡ false → RestsOn s h role k
 
 -- a role without a held informer was told of all
-told_free : (s : Setting) (h : List Entry) (role : Role) → EachKind (IsToldAll s h role) → has_held s h role ≡ false → IsToldOfAll s h role
+pub told_free : (s : Setting) (h : List Entry) (role : Role) → EachKind (IsToldAll s h role) → has_held s h role ≡ false → IsToldOfAll s h role
 told_free s h role all none kind informed = (each_kind (IsToldAll s h role)).0 all kind informed (none_held s h role none kind)
 
 pub rests_beside : (s : Setting) (h : List Entry) (role : Role) (keys : BTreeSet Key) → IsLegal s h → EachKind (IsToldAll s h role)

@@ -13,7 +13,7 @@ ghost use Rattle.cmc_held.specs.Remembered.{past_or_new};
 ghost use Rattle.cmc_world.specs.Kept.{setting_of};
 ghost use Rattle.cmc_objects.specs.Watching.{kind_of_work};
 ghost use Rattle.cmc_plain.specs.Plain as spec;
-ghost use Rattle.cmc_plain.specs.Ready.{Covers};
+ghost use Rattle.cmc_plain.specs.Ready.{Covers, Idles};
 ghost use Rattle.cmc_plain.specs.Searches.{FindsBegin, FindsKey, IsFree};
 
 use crate::ready::Ready;
@@ -75,13 +75,18 @@ fn is_quiet_seen(
     role: Role,
     key: &Key,
     seen: &Views,
+    idle: &Ready,
 ) -> Result<bool, AllocError>
-    requires { seen.now ≡ views (setting_of world.now.scenario) world.now.history role key.now }
+    requires idles { Idles (setting_of world.now.scenario) world.now.history idle.now }
+    requires sees { seen.now ≡ views (setting_of world.now.scenario) world.now.history role key.now }
     ensures { IfOk result (λ b. IsTrue b ↔ spec.IsQuiet (setting_of world.now.scenario) world.now.history role key.now) }
 {
     world.can_act();
     if !saw_last(alloc, world.past(role, key), seen) {
         return Ok(false);
+    }
+    if idle.keys(role).contains(key) {
+        return Ok(true);
     }
     world.is_idle(alloc, role, seen)
 }
@@ -96,11 +101,13 @@ pub(crate) fn is_quiet(
     world: &World,
     role: Role,
     key: &Key,
+    idle: &Ready,
 ) -> Result<bool, AllocError>
+    requires { Idles (setting_of world.now.scenario) world.now.history idle.now }
     ensures { IfOk result (λ b. IsTrue b ↔ spec.IsQuiet (setting_of world.now.scenario) world.now.history role key.now) }
 {
     let seen = world.views(alloc, role, key)?;
-    is_quiet_seen(alloc, world, role, key, &seen)
+    is_quiet_seen(alloc, world, role, key, &seen, idle)
 }
 
 /// Whether the key fits the role, which runs, sees it so and works on it in no pass.
@@ -110,7 +117,9 @@ fn fits_seen(
     role: Role,
     key: &Key,
     seen: &Views,
+    idle: &Ready,
 ) -> Result<bool, AllocError>
+    requires idles { Idles (setting_of world.now.scenario) world.now.history idle.now }
     requires sees { seen.now ≡ views (setting_of world.now.scenario) world.now.history role key.now }
     requires running { histories.runs (setting_of world.now.scenario) world.now.history role ≡ true }
     requires free { IsFree (setting_of world.now.scenario) world.now.history role key.now }
@@ -120,7 +129,7 @@ fn fits_seen(
     if !world.is_due(role, key, seen) {
         return Ok(false);
     }
-    let quiet = is_quiet_seen(alloc, world, role, key, seen)?;
+    let quiet = is_quiet_seen(alloc, world, role, key, seen, idle)?;
     Ok(!quiet)
 }
 
@@ -136,7 +145,14 @@ fn knows_own(world: &World, role: Role, key: &Key) -> bool
 }
 
 /// Whether the key fits the role, which runs.
-fn fits(alloc: Global, world: &World, role: Role, key: &Key) -> Result<bool, AllocError>
+fn fits(
+    alloc: Global,
+    world: &World,
+    role: Role,
+    key: &Key,
+    idle: &Ready,
+) -> Result<bool, AllocError>
+    requires idles { Idles (setting_of world.now.scenario) world.now.history idle.now }
     requires running { histories.runs (setting_of world.now.scenario) world.now.history role ≡ true }
     ensures { IfOk result (λ b. IsTrue b ↔ spec.Fits (setting_of world.now.scenario) world.now.history role key.now) }
 {
@@ -147,7 +163,7 @@ fn fits(alloc: Global, world: &World, role: Role, key: &Key) -> Result<bool, All
         return Ok(false);
     }
     let seen = world.views(alloc, role, key)?;
-    fits_seen(alloc, world, role, key, &seen)
+    fits_seen(alloc, world, role, key, &seen, idle)
 }
 
 /// The first of the keys that fits the role, which runs. Every key of its work beside them is quiet.
@@ -156,13 +172,15 @@ fn first_among(
     world: &World,
     role: Role,
     keys: &BTreeSet<Key>,
+    idle: &Ready,
 ) -> Result<Option<Key>, AllocError>
+    requires idles { Idles (setting_of world.now.scenario) world.now.history idle.now }
     requires running { histories.runs (setting_of world.now.scenario) world.now.history role ≡ true }
     requires others { (k : KeyValue) → k.kind ≡ kind_of_work role → contains key_cmp keys.now k ≡ false → spec.IsQuiet (setting_of world.now.scenario) world.now.history role k }
     ensures { IfOk result (λ k. FindsKey (setting_of world.now.scenario) world.now.history role k) }
 {
     for key in keys.iter() {
-        if fits(alloc, world, role, key)? {
+        if fits(alloc, world, role, key, idle)? {
             return Ok(Some(key.copy()?));
         }
     }
@@ -175,14 +193,16 @@ fn first_key(
     world: &World,
     role: Role,
     ready: &Ready,
+    idle: &Ready,
 ) -> Result<Option<Key>, AllocError>
-    requires { Covers (setting_of world.now.scenario) world.now.history ready.now }
+    requires idles { Idles (setting_of world.now.scenario) world.now.history idle.now }
+    requires covers { Covers (setting_of world.now.scenario) world.now.history ready.now }
     ensures { IfOk result (λ k. FindsKey (setting_of world.now.scenario) world.now.history role k) }
 {
     if !world.runs(role) {
         return Ok(None);
     }
-    first_among(alloc, world, role, ready.keys(role))
+    first_among(alloc, world, role, ready.keys(role), idle)
 }
 
 /// The first role that a key fits, with the first such key; `None` exactly where there is none.
@@ -194,13 +214,15 @@ pub(crate) fn first_begin(
     alloc: Global,
     world: &World,
     ready: &Ready,
+    idle: &Ready,
 ) -> Result<Option<Beginning>, AllocError>
-    requires { Covers (setting_of world.now.scenario) world.now.history ready.now }
+    requires idles { Idles (setting_of world.now.scenario) world.now.history idle.now }
+    requires covers { Covers (setting_of world.now.scenario) world.now.history ready.now }
     ensures { IfOk result (λ b. FindsBegin (setting_of world.now.scenario) world.now.history b) }
 {
     for place in 0..8 {
         let role = role_in(place);
-        if let Some(key) = first_key(alloc, world, role, ready)? {
+        if let Some(key) = first_key(alloc, world, role, ready, idle)? {
             return Ok(Some(Beginning { role, key }));
         }
     }

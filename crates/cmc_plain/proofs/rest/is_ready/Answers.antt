@@ -8,8 +8,8 @@ returns-else-has_written c =
     IfOk-weaker c.is_at_rest.result _ _
     (λ b rest.
     until_by (setting_of c.args.world.now.scenario) c.args.world.now.history c.args.step.now c.in-Until.role c.in-Until.kind c.in-Until.writes b c.in-Until.is c.has_written.result c.has_written.ensures c.if-has_written.false rest)
-    c.is_at_rest.ensures
+    c.is_at_rest.ensures.test
 
 pub returns-in-Settle : goal.returns-in-Settle
 returns-in-Settle c =
-    IfOk-weaker c.is_at_rest-in-Settle.result _ _ (λ b rest. settle_by (setting_of c.args.world.now.scenario) c.args.world.now.history c.args.step.now b c.in-Settle.is rest) c.is_at_rest-in-Settle.ensures
+    IfOk-weaker c.is_at_rest-in-Settle.result _ _ (λ b rest. settle_by (setting_of c.args.world.now.scenario) c.args.world.now.history c.args.step.now b c.in-Settle.is rest) c.is_at_rest-in-Settle.ensures.test
