@@ -5,7 +5,6 @@
 //! a conflict.
 ghost use Rattle.std.specs.Option.{option_copied};
 ghost use Rattle.std.specs.Prelude.{◌≡◌, ◌↔◌, IsTrue, IfOk, IfSome, length, false};
-ghost use Rattle.cmc_world.specs.Answers.{Answers, Leaves};
 ghost use Rattle.cmc_world.specs.Kept.{setting_of};
 ghost use Rattle.cmc_plain.specs.Plain.{HasNoDelivery};
 ghost use Rattle.cmc_plain.specs.Ready.{IsToNewest};
@@ -70,6 +69,31 @@ pub(crate) enum Outcome {
     Nothing { taken: Taken },
 }
 
+/// What came of a move.
+#[derive(Clone, Copy)]
+enum Went {
+    /// It was made.
+    On,
+    /// The pass asks, and waits for the value.
+    Asks,
+    /// It was not made.
+    Not,
+}
+
+/// An answer of the world has many shapes, and which of them it was is all that is needed.
+fn told(answer: Stepped) -> Went {
+    match answer {
+        Stepped::Done => Went::On,
+        Stepped::Order { .. } => Went::Asks,
+        _ => Went::Not,
+    }
+}
+
+/// A move has many shapes, and to let go of it is one thing for all of them.
+fn let_go<T: Drop>(value: T) {
+    let _value = value;
+}
+
 impl Shared {
     /// The world at its beginning, with all of its work to do.
     pub(crate) fn new(waking: Waking) -> Shared
@@ -96,17 +120,15 @@ impl Shared {
     }
 
     /// Makes a move. Where its entries do not fit, all is over.
-    fn make(&mut self, alloc: Global, step: Move) -> Result<Stepped, AllocError>
+    fn make(&mut self, alloc: Global, step: Move) -> Result<Went, AllocError>
         requires { IsToNewest (setting_of self.old.waking.scenario) self.old.waking.history step }
-        ensures answer { IfOk result (λ r. Answers (setting_of self.old.waking.scenario) self.old.waking.history step r) }
-        ensures leaves { IfOk result (λ r. Leaves (setting_of self.old.waking.scenario) self.old.waking.history step r self.new.waking.history) }
-        ensures scenario { self.new.waking.scenario ≡ self.old.waking.scenario }
+        ensures { self.new.waking.scenario ≡ self.old.waking.scenario }
     {
         let answer = self.waking.step(alloc, step)?;
         if matches!(answer, Stepped::Spent { .. }) {
             self.over = true;
         }
-        Ok(answer)
+        Ok(told(answer))
     }
 
     /// The question at which the pass waits, if it waits at one.
@@ -138,9 +160,9 @@ impl Shared {
                 incarnation: taken.incarnation,
             };
             match self.make(alloc, step)? {
-                Stepped::Done => {}
-                Stepped::Order { .. } => return self.question_of(taken),
-                _ => return Ok(None),
+                Went::On => {}
+                Went::Asks => return self.question_of(taken),
+                Went::Not => return Ok(None),
             }
         }
         Ok(None)
@@ -152,11 +174,11 @@ impl Shared {
     {
         let incarnation = self.waking.world().incarnation(role);
         match self.make(alloc, Move::Begin { role, key })? {
-            Stepped::Done => Ok(Some(Taken {
+            Went::On => Ok(Some(Taken {
                 pass: self.waking.world().passes_begun(),
                 incarnation,
             })),
-            _ => Ok(None),
+            Went::Asks | Went::Not => Ok(None),
         }
     }
 
@@ -167,7 +189,11 @@ impl Shared {
         self.waking.look(alloc)?;
         match self.waking.next_begin(alloc)? {
             Some(Move::Begin { role, key }) => self.begin_on(alloc, role, key),
-            _ => Ok(None),
+            Some(other) => {
+                let_go(other);
+                Ok(None)
+            }
+            None => Ok(None),
         }
     }
 
@@ -188,8 +214,8 @@ impl Shared {
             given,
         };
         match self.make(alloc, step)? {
-            Stepped::Done => self.go_on(alloc, taken),
-            _ => Ok(None),
+            Went::On => self.go_on(alloc, taken),
+            Went::Asks | Went::Not => Ok(None),
         }
     }
 
@@ -209,9 +235,9 @@ impl Shared {
             decided,
         };
         match self.make(alloc, step)? {
-            Stepped::Done => self.go_on(alloc, taken),
-            Stepped::Order { .. } => self.question_of(taken),
-            _ => Ok(None),
+            Went::On => self.go_on(alloc, taken),
+            Went::Asks => self.question_of(taken),
+            Went::Not => Ok(None),
         }
     }
 
@@ -275,7 +301,10 @@ impl Shared {
         ensures { IfOk result (λ b. b ≡ false → HasNoDelivery (setting_of self.now.waking.scenario) self.now.waking.history) }
     {
         match self.waking.next_delivery(alloc)? {
-            Some(_) => Ok(true),
+            Some(step) => {
+                let_go(step);
+                Ok(true)
+            }
             None => Ok(false),
         }
     }
@@ -326,7 +355,7 @@ impl Shared {
             let Some(step) = self.waking.next_delivery(alloc)? else {
                 return Ok(());
             };
-            if !self.make(alloc, step)?.is_done() {
+            if !matches!(self.make(alloc, step)?, Went::On) {
                 return Ok(());
             }
         }
@@ -342,7 +371,7 @@ impl Shared {
             let Some(step) = self.waking.next_script(alloc)? else {
                 break;
             };
-            if !self.make(alloc, step)?.is_done() {
+            if !matches!(self.make(alloc, step)?, Went::On) {
                 break;
             }
         }
