@@ -5,7 +5,7 @@ usage: tools/slow_issuer.py [--count 200] [--milliseconds 2] [--workers 0,8] [--
 
 It makes a copy of the repository, puts into its `main` a gate that sleeps for so long before each question to an issuer
 (the gate is called where the issuer is, outside of the lock), builds that program by `rt run`, which proves it once more
-(some minutes), and prints the best time of `cmrun load COUNT --summary` of so many, for each number of workers. It is no
+(some minutes where the repository's own `rt run` was made before, and all of it else), and prints the best time of `cmrun load COUNT --summary` of so many, for each number of workers. It is no
 part of the gate.
 """
 import argparse
@@ -39,7 +39,7 @@ def patched(main, milliseconds):
     main = main.replace("use std::process::ExitCode;", "use std::process::ExitCode;\nuse std::thread;\nuse std::time::{Clock, Duration};")
     main = main.replace("&NoGate,", "&Slow { clock: &rt },")
     main = main.replace("\nfn main(", GATE.replace("MILLISECONDS", str(milliseconds)), 1)
-    return main.split("#[cfg(test)]")[0]
+    return main
 
 
 def built(root, milliseconds):
@@ -49,9 +49,7 @@ def built(root, milliseconds):
     crate = copy / "crates" / "cmrun"
     main = crate / "src" / "main.rt"
     main.write_text(patched(main.read_text(), milliseconds))
-    for tests in crate.glob("src/tests*.rt"):
-        tests.unlink()
-    subprocess.run(["rt", "run"], cwd=crate, check=True, stdin=subprocess.DEVNULL)
+    subprocess.run(["rt", "run", "--", "load", "1", "--summary"], cwd=crate, check=True, stdin=subprocess.DEVNULL)
     return crate / "out" / "cmrun"
 
 
