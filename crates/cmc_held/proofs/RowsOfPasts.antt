@@ -11,7 +11,7 @@ use Rattle.cmc_objects.specs.Roles.{role_rank}
 use Rattle.cmc_rules.specs.declared.progress.Past.{Past}
 use Rattle.cmc_model.specs.Histories.{role_eq}
 use Rattle.cmc_rules.specs.Memory.{no_past}
-use Rattle.cmc_held.specs.Remembered.{Kept, memory_at, past_at, is_noted, is_ready}
+use Rattle.cmc_held.specs.Remembered.{Kept, KeepsNoted, KeepsReady, KeepsReadyOfOthers, memory_at, past_at, is_noted, is_ready}
 
 rank_low : (r : Role) → role_rank r < 8
 rank_low Trigger = omega arith
@@ -104,3 +104,35 @@ rows_empty a b c d e f g h p q s t u v w x Issuer k = u k
 rows_empty a b c d e f g h p q s t u v w x Issuing k = v k
 rows_empty a b c d e f g h p q s t u v w x Readiness k = w k
 rows_empty a b c d e f g h p q s t u v w x Revision k = x k
+
+-- ---- room
+
+room_in_row : (rows : List Kept) (place : ℕ) (role r : Role) (row new : Kept) (k : Key) → role_eq role r ≡ true → IsRow rows place role row → KeepsNoted row new
+    → is_ready rows r k ≡ true → is_ready (set rows place new) r k ≡ true
+unfolding is_ready
+room_in_row rows place role r row new k e is keeps has =
+    let ranked : place ≡ role_rank role = is.ranked in
+    let same : role_rank r ≡ place = grind (arith, nat_tests) in
+    let was : is_noted row k ≡ true = ap (λ (m : Kept). is_noted m k) is.stands ∙ ap (λ (j : ℕ). is_noted (get_or rows j []) k) (sym same) ∙ has in
+    ap (λ (j : ℕ). is_noted (get_or (set rows place new) j []) k) same ∙ ap (λ (m : Kept). is_noted m k) (get_or-set_same rows place new [] is.within) ∙ keeps k was
+
+room_elsewhere : (rows : List Kept) (place : ℕ) (role r : Role) (row new : Kept) (k : Key) → role_eq role r ≡ false → IsRow rows place role row
+    → is_ready rows r k ≡ true → is_ready (set rows place new) r k ≡ true
+unfolding is_ready
+room_elsewhere rows place role r row new k e is has =
+    let ranked : place ≡ role_rank role = is.ranked in
+    let other : role_rank r ≢ place = grind (arith, nat_tests) in
+    ap (λ (m : Kept). is_noted m k) (get_or-set_other rows place (role_rank r) new [] other) ∙ has
+
+room_either : (b : Bool) (rows : List Kept) (place : ℕ) (role r : Role) (row new : Kept) (k : Key) → role_eq role r ≡ b → IsRow rows place role row → KeepsNoted row new
+    → is_ready rows r k ≡ true → is_ready (set rows place new) r k ≡ true
+room_either true rows place role r row new k e is keeps has = room_in_row rows place role r row new k e is keeps has
+room_either false rows place role r row new k e is keeps has = room_elsewhere rows place role r row new k e is has
+
+-- the row loses no room
+pub room_kept : (rows : List Kept) (place : ℕ) (role : Role) (row new : Kept) → IsRow rows place role row → KeepsNoted row new → KeepsReady rows (set rows place new)
+room_kept rows place role row new is keeps r k has = room_either (role_eq role r) rows place role r row new k refl is keeps has
+
+-- the room of the other rows, whatever becomes of the row
+pub room_of_others : (rows : List Kept) (place : ℕ) (role : Role) (row new : Kept) → IsRow rows place role row → KeepsReadyOfOthers role rows (set rows place new)
+room_of_others rows place role row new is r k e has = room_elsewhere rows place role r row new k e is has

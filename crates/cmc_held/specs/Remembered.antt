@@ -1,5 +1,5 @@
 -- What each role remembers of each key.
-use Rattle.std.specs.Prelude.{Bool, List, [], Option, Some, None, is_some, slice_index_or}
+use Rattle.std.specs.Prelude.{◌≡◌, Bool, true, false, List, [], Option, Some, None, is_some, slice_index_or}
 use Rattle.std.specs.BTreeMap.{is_at}
 use Rattle.std.specs.Map.{lookup}
 use Rattle.cmc_meta.specs.declared.key.Key.{Key}
@@ -7,6 +7,7 @@ use Rattle.cmc_meta.specs.Keys.{key_cmp}
 use Rattle.cmc_objects.specs.declared.role.Role.{Role}
 use Rattle.cmc_objects.specs.Roles.{role_rank}
 use Rattle.cmc_rules.specs.declared.progress.Past.{Past}
+use Rattle.cmc_model.specs.Histories.{role_eq}
 use Rattle.cmc_rules.specs.Memory.{no_past}
 
 -- what is kept of one role, under the keys in order
@@ -32,3 +33,15 @@ past_at rows role key = memory_at (slice_index_or rows (role_rank role) []) key
 -- whether changes of what the role remembers of the key take no memory
 unfoldable pub is_ready : List Kept → Role → Key → Bool
 is_ready rows role key = is_noted (slice_index_or rows (role_rank role) []) key
+
+-- no key of one role loses its room
+abbrev pub KeepsNoted : Kept → Kept → Type 0
+KeepsNoted old new = (k : Key) → is_noted old k ≡ true → is_noted new k ≡ true
+
+-- no key of any role loses its room
+abbrev pub KeepsReady : List Kept → List Kept → Type 0
+KeepsReady old new = (r : Role) (k : Key) → is_ready old r k ≡ true → is_ready new r k ≡ true
+
+-- no key of another role loses its room
+abbrev pub KeepsReadyOfOthers : Role → List Kept → List Kept → Type 0
+KeepsReadyOfOthers role old new = (r : Role) (k : Key) → role_eq role r ≡ false → is_ready old r k ≡ true → is_ready new r k ≡ true

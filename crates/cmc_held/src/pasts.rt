@@ -6,7 +6,7 @@ ghost use Rattle.cmc_meta.specs.Keys.{key_eq};
 ghost use Rattle.cmc_objects.specs.declared.role.Role.{Role as RoleValue};
 ghost use Rattle.cmc_model.specs.Histories.{role_eq};
 ghost use Rattle.cmc_rules.specs.Memory.{no_past, with_begin, with_ending, with_own};
-ghost use Rattle.cmc_held.specs.Remembered.{is_noted, is_ready, memory_at, past_at, past_or_new};
+ghost use Rattle.cmc_held.specs.Remembered.{is_noted, is_ready, memory_at, past_at, past_or_new, KeepsNoted, KeepsReady, KeepsReadyOfOthers};
 
 use crate::standings::put_at_kind;
 use cmc_meta::{Key, Kind};
@@ -55,6 +55,7 @@ impl Memory {
     fn ready(&mut self, key: &Key) -> Result<(), AllocError>
         ensures room { OnOk result (is_noted self.new key.now ≡ true) }
         ensures same { (k : KeyValue) → memory_at self.new k ≡ memory_at self.old k }
+        ensures keeps { KeepsNoted self.old self.new }
     {
         if self.map.contains_key(key) {
             return Ok(());
@@ -68,7 +69,8 @@ impl Memory {
     #[tactic(auto, unfolding(crate::specs::Remembered::memory_at, crate::specs::Remembered::is_noted))]
     fn begin(&mut self, key: &Key, seen: Views, since: i64)
         requires { is_noted self.old key.now ≡ true }
-        ensures { (k : KeyValue) → memory_at self.new k ≡ (if key_eq key.now k then with_begin seen since (memory_at self.old k) else memory_at self.old k) }
+        ensures past { (k : KeyValue) → memory_at self.new k ≡ (if key_eq key.now k then with_begin seen since (memory_at self.old k) else memory_at self.old k) }
+        ensures room { KeepsNoted self.old self.new }
     {
         if let Some(past) = self.map.get_mut(key) {
             note_begin(past, seen, since);
@@ -79,7 +81,8 @@ impl Memory {
     #[tactic(auto, unfolding(crate::specs::Remembered::memory_at, crate::specs::Remembered::is_noted))]
     fn wrote(&mut self, key: &Key, kind: Kind, version: u64)
         requires { is_noted self.old key.now ≡ true }
-        ensures { (k : KeyValue) → memory_at self.new k ≡ (if key_eq key.now k then with_own kind version (memory_at self.old k) else memory_at self.old k) }
+        ensures past { (k : KeyValue) → memory_at self.new k ≡ (if key_eq key.now k then with_own kind version (memory_at self.old k) else memory_at self.old k) }
+        ensures room { KeepsNoted self.old self.new }
     {
         if let Some(past) = self.map.get_mut(key) {
             note_own(past, kind, version);
@@ -87,9 +90,10 @@ impl Memory {
     }
 
     /// Remembers how the last pass on the key ended.
-    #[tactic(auto, unfolding(crate::specs::Remembered::memory_at))]
+    #[tactic(auto, unfolding(crate::specs::Remembered::memory_at, crate::specs::Remembered::is_noted))]
     fn ended(&mut self, key: &Key, ending: Ending)
-        ensures { (k : KeyValue) → memory_at self.new k ≡ (if key_eq key.now k then with_ending ending (memory_at self.old k) else memory_at self.old k) }
+        ensures past { (k : KeyValue) → memory_at self.new k ≡ (if key_eq key.now k then with_ending ending (memory_at self.old k) else memory_at self.old k) }
+        ensures room { KeepsNoted self.old self.new }
     {
         if let Some(past) = self.map.get_mut(key) {
             note_ending(past, ending);
@@ -149,10 +153,11 @@ impl Pasts {
     }
 
     /// Makes room for what the role will remember of the key, and changes nothing of what it
-    /// remembers. An error is one of memory.
+    /// remembers; room that stands is kept. An error is one of memory.
     pub fn ready(&mut self, role: Role, key: &Key) -> Result<(), AllocError>
         ensures room { OnOk result (is_ready self.new role key.now ≡ true) }
         ensures same { (r : RoleValue) → (k : KeyValue) → past_at self.new r k ≡ past_at self.old r k }
+        ensures keeps { KeepsReady self.old self.new }
     {
         self.rows[role.rank() as usize].ready(key)
     }
@@ -160,7 +165,8 @@ impl Pasts {
     /// The role begins a pass on the key, of which it saw this at this moment. It takes no memory.
     pub fn begin(&mut self, role: Role, key: &Key, seen: Views, since: i64)
         requires { is_ready self.old role key.now ≡ true }
-        ensures { (r : RoleValue) → (k : KeyValue) → past_at self.new r k ≡ (if role_eq role r && key_eq key.now k then with_begin seen since (past_at self.old r k) else past_at self.old r k) }
+        ensures past { (r : RoleValue) → (k : KeyValue) → past_at self.new r k ≡ (if role_eq role r && key_eq key.now k then with_begin seen since (past_at self.old r k) else past_at self.old r k) }
+        ensures room { KeepsReady self.old self.new }
     {
         self.rows[role.rank() as usize].begin(key, seen, since);
     }
@@ -168,21 +174,25 @@ impl Pasts {
     /// A pass of the role on the key made this accepted write. It takes no memory.
     pub fn wrote(&mut self, role: Role, key: &Key, kind: Kind, version: u64)
         requires { is_ready self.old role key.now ≡ true }
-        ensures { (r : RoleValue) → (k : KeyValue) → past_at self.new r k ≡ (if role_eq role r && key_eq key.now k then with_own kind version (past_at self.old r k) else past_at self.old r k) }
+        ensures past { (r : RoleValue) → (k : KeyValue) → past_at self.new r k ≡ (if role_eq role r && key_eq key.now k then with_own kind version (past_at self.old r k) else past_at self.old r k) }
+        ensures room { KeepsReady self.old self.new }
     {
         self.rows[role.rank() as usize].wrote(key, kind, version);
     }
 
     /// The last pass of the role on the key ended so. It takes no memory.
     pub fn ended(&mut self, role: Role, key: &Key, ending: Ending)
-        ensures { (r : RoleValue) → (k : KeyValue) → past_at self.new r k ≡ (if role_eq role r && key_eq key.now k then with_ending ending (past_at self.old r k) else past_at self.old r k) }
+        ensures past { (r : RoleValue) → (k : KeyValue) → past_at self.new r k ≡ (if role_eq role r && key_eq key.now k then with_ending ending (past_at self.old r k) else past_at self.old r k) }
+        ensures room { KeepsReady self.old self.new }
     {
         self.rows[role.rank() as usize].ended(key, ending);
     }
 
-    /// The role starts, and remembers nothing of what was before. It takes no memory.
+    /// The role starts, and remembers nothing of what was before, nor has it room; the room of other roles is kept.
+    /// It takes no memory.
     pub fn start(&mut self, role: Role)
-        ensures { (r : RoleValue) → (k : KeyValue) → past_at self.new r k ≡ (if role_eq role r then no_past else past_at self.old r k) }
+        ensures past { (r : RoleValue) → (k : KeyValue) → past_at self.new r k ≡ (if role_eq role r then no_past else past_at self.old r k) }
+        ensures room { KeepsReadyOfOthers role self.old self.new }
     {
         self.rows[role.rank() as usize].clear();
     }

@@ -15,4 +15,4 @@ invariant_of-self-2 c =
     (subst (λ (v : Seen). IsClosing (setting_of v.scenario) v.history c.args.pass c.in_ok-closing.closing) (sym c.self.view_is) c.in_ok-closing.ensures)
     (subst (λ (v : Seen). MayEnd (setting_of v.scenario) v.history (open_pass (setting_of v.scenario) v.history c.args.pass) c.args.cause) (sym c.self.view_is) c.requires.may)
     (subst (λ (v : Seen). length v.history < v.scenario.events) (sym c.self.view_is) c.requires.room)
-    c.close.ensures c.ended.ensures)
+    c.close.ensures c.ended.ensures.past)

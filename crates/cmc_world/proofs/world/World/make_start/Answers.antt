@@ -36,5 +36,5 @@ invariant_of-self-2 c =
     start_kept (setting_of u) h c.push-2.new.self.entries _ made c.args.role c.args.at (λ r. standing_of c.note_start.new.standings r) (λ r. caches_of c.set.new.self r) (λ r key. past_at c.start.new.self r key) c.self.invariant may due refl
     c.note_start.ensures
     (λ r. c.set.ensures r ∙ ap (λ (x : Caches). if role_eq c.args.role r then x else caches_of c.self.inside.caches r) c.in_ok-caches.ensures)
-    c.start.ensures
+    c.start.ensures.past
     (c.push-2.ensures.entries ∙ ap (λ (l : List Entry). entries.Start c.args.role c.args.at ∷ l) (c.push.ensures.entries ∙ ap (λ (l : List Entry). entries.Script made ∷ l) c.reserve.ensures.same))

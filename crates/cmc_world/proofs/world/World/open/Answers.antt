@@ -23,4 +23,4 @@ invariant_of-self-2 c =
     (subst (λ (v : Seen). IsPrepared (setting_of v.scenario) v.history c.args.role c.args.prepared.key c.args.prepared) (sym c.self.view_is) c.requires.right)
     (c.push.ensures.origins ∙ ap (λ (l : List Origin). c.args.prepared.origin ∷ l) c.in_ok-reserve-2.ensures.same)
     c.in_ok-open.ensures.ok
-    (λ r k. c.begin.ensures r k ∙ ap (λ (p : Past). if role_eq c.args.role r && key_eq c.args.prepared.key k then with_begin c.args.prepared.seen (to_z w64 (of_z w64 c.self.inside.moment)) p else p) (c.in_ok-ready.ensures.same r k)))
+    (λ r k. c.begin.ensures.past r k ∙ ap (λ (p : Past). if role_eq c.args.role r && key_eq c.args.prepared.key k then with_begin c.args.prepared.seen (to_z w64 (of_z w64 c.self.inside.moment)) p else p) (c.in_ok-ready.ensures.same r k)))
