@@ -1,5 +1,5 @@
 -- What stands under one key as the entries of a run are read in order of time, up to a number of accepted writes.
-use Rattle.std.specs.Prelude.{ℕ, ℤ, ◌+◌, nat_lt, List, [], ◌∷◌, Option, Some, None, if◌then◌else◌}
+use Rattle.std.specs.Prelude.{ℕ, ℤ, ◌+◌, nat_lt, Bool, true, false, List, [], ◌∷◌, Option, Some, None, if◌then◌else◌}
 use Rattle.cmc_meta.specs.declared.key.Key.{Key}
 use Rattle.cmc_meta.specs.Keys.{key_eq}
 use Rattle.cmc_objects.specs.declared.object.Object.{Object}
@@ -11,6 +11,11 @@ use Rattle.cmc_model.specs.Stored.{created, revised, restated}
 use Rattle.cmc_model.specs.Replies.{is_accepted, key_of_call, settled, stored_over}
 use Rattle.cmc_model.specs.Histories.{moment_with}
 use Rattle.cmc_history.specs.declared.standing.Standing.{Standing}
+
+-- whether the entry is an accepted write
+abbrev pub is_written : Entry → Bool
+is_written (Called who call reply) = is_accepted reply
+is_written other = false
 
 -- the call of an entry that is an accepted write, under the name that its reply has
 abbrev pub written_call : Entry → Option Call

@@ -1,11 +1,11 @@
 ghost use Rattle.std.specs.Option.{option_copied};
 ghost use Rattle.std.specs.Prelude.{◌≡◌, ◌+◌, ◌-◌, ◌<◌, ◌≤◌, ◌∷◌, [], IfOk, OnOk, OnErr, None, length, reverse, slice_get, if◌then◌else◌, nat_eq};
-ghost use Rattle.cmc_model.specs.Histories.{Setting};
+ghost use Rattle.cmc_model.specs.Histories.{Setting, accepted};
 ghost use Rattle.cmc_model.specs.Objects.{object_at};
 ghost use Rattle.cmc_model.specs.Writes.{objects_at};
 ghost use Rattle.cmc_history.specs.Places.{entry_at};
 
-use crate::standing::{Standing, replay};
+use crate::standing::{Standing, count_written, replay};
 use cmc_meta::Key;
 use cmc_objects::{Entry, Object};
 use std::alloc::{AllocError, Global};
@@ -85,6 +85,13 @@ impl History {
         ensures { reverse result.now ≡ self.now.entries }
     {
         self.items.as_slice()
+    }
+
+    /// How many of the entries are accepted writes: the version of the newest of them. It takes no memory.
+    pub fn accepted(&self) -> u64
+        ensures { (s : Setting) → result ≡ accepted s self.now.entries }
+    {
+        count_written(self.as_slice())
     }
 
     /// The object under the key after the first `position` accepted writes; `None` where none stands there.

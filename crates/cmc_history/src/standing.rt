@@ -1,11 +1,11 @@
 // What stands under one key as the entries of a run are read in order of time.
-ghost use Rattle.std.specs.Prelude.{◌≡◌, reverse, IfOk};
+ghost use Rattle.std.specs.Prelude.{◌≡◌, reverse, IfOk, count_by};
 ghost use Rattle.cmc_meta.specs.Keys.{key_eq};
 ghost use Rattle.cmc_objects.specs.Objects.{key_of};
 ghost use Rattle.cmc_model.specs.Histories.{moment_with};
 ghost use Rattle.cmc_model.specs.Replies.{is_accepted, key_of_call, from_old};
 ghost use Rattle.cmc_model.specs.Stored.{revised, restated};
-ghost use Rattle.cmc_history.specs.Replaying.{written_call, written_over, standing_after, replayed};
+ghost use Rattle.cmc_history.specs.Replaying.{is_written, written_call, written_over, standing_after, replayed};
 ghost use Rattle.cmc_model.specs.Replies.{stored_over};
 
 use cmc_meta::Key;
@@ -28,6 +28,23 @@ fn is_ok(reply: &Reply) -> bool
     ensures { result ≡ is_accepted reply.now }
 {
     matches!(reply, Reply::Ok { .. })
+}
+
+/// Whether the entry is an accepted write.
+fn is_written(entry: &Entry) -> bool
+    ensures { result ≡ is_written entry.now }
+{
+    match entry {
+        Entry::Call { reply, .. } => is_ok(reply),
+        _ => false,
+    }
+}
+
+/// How many of the entries are accepted writes.
+pub fn count_written(entries: &[Entry]) -> u64
+    ensures { result ≡ count_by (λ e. is_written e) entries.now }
+{
+    entries.iter().filter(|entry| is_written(entry)).count() as u64
 }
 
 /// The call of an accepted write, under the name that its reply has. `Err` where there is no memory.

@@ -52,6 +52,9 @@ fn looks_at_each_version(rt: HostRuntime) -> Result<(), Fail> {
         version: None,
     };
     note(&mut history, &mut store, alloc, gone)?;
+    // the second create was refused
+    assert_eq!(rt; history.len(), 4);
+    assert_eq!(rt; history.accepted(), 3);
     let versions = [0, 1, 2, 0, 0];
     for position in 0..5 {
         assert_eq!(rt;
@@ -71,6 +74,7 @@ fn keeps_entries(rt: HostRuntime) -> Result<(), Fail> {
     history.reserve(1)?;
     history.push(Entry::Script { step: 1 });
     assert_eq!(rt; history.len(), 1);
+    assert_eq!(rt; history.accepted(), 0);
     assert!(rt; history.entry(0).is_none());
     assert!(rt; matches!(history.entry(1), Some(Entry::Script { step: 1 })));
     Ok(())
