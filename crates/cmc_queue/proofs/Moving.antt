@@ -7,7 +7,7 @@ use Rattle.cmc_meta.specs.Keys.{key_eq, kind_rank}
 use Rattle.cmc_queue.specs.declared.row.Parked.{Parked}
 use Rattle.cmc_queue.specs.declared.row.Row.{Row}
 use Rattle.cmc_queue.specs.Rows.{row_in, moved, is_reached}
-use Rattle.cmc_queue.specs.Queues.{is_listed, IsParked}
+use Rattle.cmc_queue.specs.Queues.{is_listed, IsParked, StayAbove}
 use Rattle.cmc_queue.proofs.Ticking.{equal_keys}
 
 same_twice : (b : Bool) (kind : Kind) (to : ℕ) (row : Row) → is_reached kind to row.parked ≡ b
@@ -91,3 +91,14 @@ come kind to before is none (inr done) = done
 pub moved_all : (kind : Kind) (to : ℕ) (old rows : List (Key × Row)) (versions : List (ℕ × Key)) → IsMoving kind to old rows versions → ((n : ℕ) (k : Key) → is_listed versions n k ≡ true → nat_le n to ≡ false)
     → (k : Key) → row_in rows k ≡ moved kind to (row_in old k)
 moved_all kind to old rows versions so none k = come kind to (row_in old k) (row_in rows k) (not_reached _ kind to (λ p is of_kind. none p.version k (so.parked k p is of_kind))) (so.each k)
+
+-- ---- places
+
+stays_left : (to n : ℕ) (q : ℕ × Key) (k : Key) (left : List (ℕ × Key)) → nat_le n to ≡ false → nat_le q.0 to ≡ true → (is_listed left n k ≡ true) ⊎ ((n ≡ q.0) × (k ≡ q.1)) → is_listed left n k ≡ true
+stays_left to n q k left high low (inl stays) = stays
+stays_left to n q k left high low (inr same) = let here : nat_le n to ≡ true = subst (λ (m : ℕ). nat_le m to ≡ true) (sym same.0) low in absurd (cc (here, high))
+
+-- one more key is taken out, and each place above the version stays
+pub above_stay : (to : ℕ) (first versions left : List (ℕ × Key)) (q : ℕ × Key) → StayAbove to first versions → nat_le q.0 to ≡ true
+    → ((n : ℕ) (k : Key) → is_listed versions n k ≡ true → (is_listed left n k ≡ true) ⊎ ((n ≡ q.0) × (k ≡ q.1))) → StayAbove to first left
+above_stay to first versions left q stay low others n k high listed = stays_left to n q k left high low (others n k (stay n k high listed))

@@ -7,7 +7,7 @@ use Rattle.cmc_meta.specs.declared.key.Key.{Key}
 use Rattle.cmc_meta.specs.Keys.{key_eq}
 use Rattle.cmc_queue.specs.declared.row.Row.{Row}
 use Rattle.cmc_queue.specs.Rows.{row_in, ticked, is_due}
-use Rattle.cmc_queue.specs.Queues.{is_noted, IsTimed}
+use Rattle.cmc_queue.specs.Queues.{is_noted, IsTimed, StayAfter}
 use Rattle.cmc_queue.proofs.Keys.{key_cmp-total}
 use Rattle.cmc_queue.proofs.OneRow.{key_tie}
 
@@ -84,3 +84,14 @@ come now before is none (inr done) = done
 pub ticked_all : (now : ℤ) (old rows : List (Key × Row)) (due : List (ℤ × Key)) → IsTicking now old rows due → ((at : ℤ) (k : Key) → is_noted due at k ≡ true → int_le at now ≡ false)
     → (k : Key) → row_in rows k ≡ ticked now (row_in old k)
 ticked_all now old rows due so none k = come now (row_in old k) (row_in rows k) (not_due _ now (λ at is. none at k (so.timed k at is))) (so.each k)
+
+-- ---- places
+
+stays_left : (now at : ℤ) (p : ℤ × Key) (k : Key) (left : List (ℤ × Key)) → int_le at now ≡ false → int_le p.0 now ≡ true → (is_noted left at k ≡ true) ⊎ ((at ≡ p.0) × (k ≡ p.1)) → is_noted left at k ≡ true
+stays_left now at p k left late low (inl stays) = stays
+stays_left now at p k left late low (inr same) = let here : int_le at now ≡ true = subst (λ (t : ℤ). int_le t now ≡ true) (sym same.0) low in absurd (cc (here, late))
+
+-- one more key is taken out, and each place behind the moment stays
+pub later_stay : (now : ℤ) (first due left : List (ℤ × Key)) (p : ℤ × Key) → StayAfter now first due → int_le p.0 now ≡ true
+    → ((at : ℤ) (k : Key) → is_noted due at k ≡ true → (is_noted left at k ≡ true) ⊎ ((at ≡ p.0) × (k ≡ p.1))) → StayAfter now first left
+later_stay now first due left p stay low others at k late noted = stays_left now at p k left late low (others at k (stay at k late noted))

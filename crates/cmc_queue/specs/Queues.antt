@@ -1,5 +1,5 @@
 -- What contracts see of a work queue.
-use Rattle.std.specs.Prelude.{◌≡◌, ℕ, ℤ, ◌==◌, Bool, true, false, List, [], ◌∷◌, ◌+◌, Option, Some, None, if◌then◌else◌}
+use Rattle.std.specs.Prelude.{◌≡◌, ℕ, ℤ, ◌==◌, Bool, true, false, List, [], ◌∷◌, ◌+◌, Option, Some, None, if◌then◌else◌, int_le, nat_le}
 use Rattle.std.specs.List.{list_any}
 use Rattle.std.specs.Ordering.{int_cmp, nat_cmp, is_eq, ordering_then}
 use Rattle.std.specs.declared.cmp.Ordering.TheVariants.{Less}
@@ -79,6 +79,26 @@ KeepsMoments old new = (at : ℤ) (k : Key) → has_room_at old at k ≡ true �
 -- no place at a version is lost
 abbrev pub KeepsVersions : Work → Work → Type 0
 KeepsVersions old new = (kind : Kind) (version : ℕ) (k : Key) → has_room_for old kind version k ≡ true → has_room_for new kind version k ≡ true
+
+-- no place at a moment behind this one is lost
+abbrev pub StayAfter : ℤ → List (ℤ × Key) → List (ℤ × Key) → Type 0
+StayAfter now old new = (at : ℤ) (k : Key) → int_le at now ≡ false → is_noted old at k ≡ true → is_noted new at k ≡ true
+
+-- each place is at a moment behind this one
+abbrev pub AreAfter : ℤ → List (ℤ × Key) → Type 0
+AreAfter now due = (at : ℤ) (k : Key) → is_noted due at k ≡ true → int_le at now ≡ false
+
+-- no place at a version above this one is lost
+abbrev pub StayAbove : ℕ → List (ℕ × Key) → List (ℕ × Key) → Type 0
+StayAbove to old new = (version : ℕ) (k : Key) → nat_le version to ≡ false → is_listed old version k ≡ true → is_listed new version k ≡ true
+
+-- each place is at a version above this one
+abbrev pub AreAbove : ℕ → List (ℕ × Key) → Type 0
+AreAbove to versions = (version : ℕ) (k : Key) → is_listed versions version k ≡ true → nat_le version to ≡ false
+
+-- no place at a version of another kind is lost
+abbrev pub KeepsVersionsOfOthers : Kind → Work → Work → Type 0
+KeepsVersionsOfOthers kind old new = (other : Kind) (version : ℕ) (k : Key) → (kind_rank other == kind_rank kind) ≡ false → has_room_for old other version k ≡ true → has_room_for new other version k ≡ true
 
 -- all room stays
 pub record KeepsRoom (old new : Work) : Type 0 where

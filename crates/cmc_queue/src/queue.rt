@@ -4,7 +4,7 @@ ghost use Rattle.std.specs.Ordering.{is_lt};
 ghost use Rattle.std.specs.Prelude.{◌≡◌, OnOk, ◌&&◌, true};
 ghost use Rattle.cmc_meta.specs.declared.key.Key.{Key as KeyValue};
 ghost use Rattle.cmc_meta.specs.Keys.{key_cmp};
-ghost use Rattle.cmc_queue.specs.Queues.{has_room, has_room_at, has_room_for, is_offered, row_of, ChangesRow, ChangesRows, FindsFirst, KeepsMoments, KeepsRoom, KeepsRows, KeepsVersions};
+ghost use Rattle.cmc_queue.specs.Queues.{has_room, has_room_at, has_room_for, is_offered, row_of, versions_of, AreAbove, AreAfter, ChangesRow, ChangesRows, FindsFirst, KeepsMoments, KeepsRoom, KeepsRows, KeepsVersions, KeepsVersionsOfOthers, StayAbove, StayAfter};
 ghost use Rattle.cmc_queue.specs.Rows.{added, ended, is_free, moved, no_row, parked_for, taken, ticked, timed_at};
 
 use crate::moments::Moments;
@@ -143,11 +143,14 @@ impl Queue {
         self.rows.put(key, row.timed_at(at));
     }
 
-    /// It is now this moment: each key whose moment is no later is ready, and timed no more. It takes no memory.
+    /// It is now this moment: each key whose moment is no later is ready, and timed no more. The places at moments no
+    /// later are given up, and no other. It takes no memory.
     pub fn tick(&mut self, now: i64)
         ensures rows { ChangesRows (ticked now) self.old self.new }
         ensures room { KeepsRows self.old self.new }
         ensures versions { KeepsVersions self.old self.new }
+        ensures later { StayAfter now self.old.moments self.new.moments }
+        ensures passed { AreAfter now self.new.moments }
     {
         tick_rows(&mut self.rows, &mut self.moments, now);
     }
@@ -180,11 +183,14 @@ impl Queue {
     }
 
     /// The controller was told of the kind up to this version: each key that waits for the kind and a version no later
-    /// is ready, and waits no more. It takes no memory.
+    /// is ready, and waits no more. The places at such versions are given up, and no other. It takes no memory.
     pub fn moved(&mut self, kind: Kind, version: u64)
         ensures rows { ChangesRows (moved kind version) self.old self.new }
         ensures room { KeepsRows self.old self.new }
         ensures moments { KeepsMoments self.old self.new }
+        ensures others { KeepsVersionsOfOthers kind self.old self.new }
+        ensures above { StayAbove version (versions_of self.old kind) (versions_of self.new kind) }
+        ensures reached { AreAbove version (versions_of self.new kind) }
     {
         match kind {
             Kind::Certificate => move_rows(&mut self.rows, &mut self.certificates, kind, version),

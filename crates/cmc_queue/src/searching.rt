@@ -4,7 +4,7 @@ ghost use Rattle.std.specs.Ordering.{is_lt};
 ghost use Rattle.std.specs.Prelude.{◌≡◌, ◌&&◌};
 ghost use Rattle.cmc_meta.specs.declared.key.Key.{Key as KeyValue};
 ghost use Rattle.cmc_meta.specs.Keys.{key_cmp};
-ghost use Rattle.cmc_queue.specs.Queues.{FindsFirst, IsParked, IsTimed};
+ghost use Rattle.cmc_queue.specs.Queues.{AreAbove, AreAfter, FindsFirst, IsParked, IsTimed, StayAbove, StayAfter};
 ghost use Rattle.cmc_queue.specs.Rows.{has_row, is_free, moved, row_in, ticked};
 
 use crate::moments::Moments;
@@ -20,6 +20,8 @@ pub fn tick_rows(rows: &mut Rows, moments: &mut Moments, now: i64)
     ensures rows { (k : KeyValue) → row_in rows.new k ≡ ticked now (row_in rows.old k) }
     ensures room { (k : KeyValue) → has_row rows.new k ≡ has_row rows.old k }
     ensures timed { IsTimed rows.new moments.new }
+    ensures later { StayAfter now moments.old moments.new }
+    ensures passed { AreAfter now moments.new }
 {
     while let Some((_at, key)) = moments.pop_until(now) {
         rows.tick(&key, now);
@@ -32,6 +34,8 @@ pub fn move_rows(rows: &mut Rows, versions: &mut Versions, kind: Kind, to: u64)
     ensures rows { (k : KeyValue) → row_in rows.new k ≡ moved kind to (row_in rows.old k) }
     ensures room { (k : KeyValue) → has_row rows.new k ≡ has_row rows.old k }
     ensures parked { IsParked kind rows.new versions.new }
+    ensures above { StayAbove to versions.old versions.new }
+    ensures reached { AreAbove to versions.new }
 {
     while let Some((_version, key)) = versions.pop_until(to) {
         rows.moved(&key, kind, to);
