@@ -1,16 +1,17 @@
 // JSON that is being written.
-ghost use Rattle.std.specs.Prelude.{◌≡◌, [], ◌∷◌, ◌++◌, Some, codes, string_bytes, IfOk, OnOk};
+ghost use Rattle.std.specs.Prelude.{◌≡◌, [], ◌∷◌, ◌++◌, Some, codes, string_bytes, IfOk, OnErr, OnOk};
 ghost use Rattle.json.specs.Token.{begin_object, end_object, begin_array, end_array, key};
 ghost use Rattle.json.specs.Print.{print};
 ghost use Rattle.serde_json.specs.Data.{string, number, unsigned, boolean};
-ghost use Rattle.cmc_writer.specs.Adding.{with_value, with_row};
+ghost use Rattle.cmc_writer.specs.Adding.{with_value, with_row, IsBegun};
 
 use json::Writer;
 use std::alloc::{AllocError, Global};
 use std::marker::Model;
 
 /// JSON that is being written; contracts see its tokens so far. It places the commas and colons, and
-/// escapes the texts.
+/// escapes the texts. An error is one of memory: what was written stands as it was, and of a member its
+/// name may stand alone.
 #[derive(Drop)]
 pub struct Printer {
     writer: Writer,
@@ -61,35 +62,40 @@ impl Printer {
 
     /// An object begins.
     pub fn begin_object(&mut self) -> Result<(), AllocError>
-        ensures { OnOk result (self.new ≡ self.old ++ begin_object ∷ []) }
+        ensures written { OnOk result (self.new ≡ self.old ++ begin_object ∷ []) }
+        ensures same { OnErr result (self.new ≡ self.old) }
     {
         self.writer.begin_object()
     }
 
     /// It ends.
     pub fn end_object(&mut self) -> Result<(), AllocError>
-        ensures { OnOk result (self.new ≡ self.old ++ end_object ∷ []) }
+        ensures written { OnOk result (self.new ≡ self.old ++ end_object ∷ []) }
+        ensures same { OnErr result (self.new ≡ self.old) }
     {
         self.writer.end_object()
     }
 
     /// A list begins.
     pub fn begin_array(&mut self) -> Result<(), AllocError>
-        ensures { OnOk result (self.new ≡ self.old ++ begin_array ∷ []) }
+        ensures written { OnOk result (self.new ≡ self.old ++ begin_array ∷ []) }
+        ensures same { OnErr result (self.new ≡ self.old) }
     {
         self.writer.begin_array()
     }
 
     /// It ends.
     pub fn end_array(&mut self) -> Result<(), AllocError>
-        ensures { OnOk result (self.new ≡ self.old ++ end_array ∷ []) }
+        ensures written { OnOk result (self.new ≡ self.old ++ end_array ∷ []) }
+        ensures same { OnErr result (self.new ≡ self.old) }
     {
         self.writer.end_array()
     }
 
     /// The name of the member whose value comes next.
     pub fn name(&mut self, name: &str) -> Result<(), AllocError>
-        ensures { OnOk result (self.new ≡ self.old ++ key name.now ∷ []) }
+        ensures written { OnOk result (self.new ≡ self.old ++ key name.now ∷ []) }
+        ensures same { OnErr result (self.new ≡ self.old) }
     {
         self.writer.key(name)
     }
@@ -97,7 +103,8 @@ impl Printer {
     /// A text.
     #[tactic(auto, unfolding(crate::specs::Adding::with_value))]
     pub fn text(&mut self, text: &str) -> Result<(), AllocError>
-        ensures { OnOk result (self.new ≡ with_value self.old (string text.now)) }
+        ensures written { OnOk result (self.new ≡ with_value self.old (string text.now)) }
+        ensures same { OnErr result (self.new ≡ self.old) }
     {
         self.writer.string(text)
     }
@@ -105,7 +112,8 @@ impl Printer {
     /// A number.
     #[tactic(auto, unfolding(crate::specs::Adding::with_value))]
     pub fn count(&mut self, count: u64) -> Result<(), AllocError>
-        ensures { OnOk result (self.new ≡ with_value self.old (number (unsigned count))) }
+        ensures written { OnOk result (self.new ≡ with_value self.old (number (unsigned count))) }
+        ensures same { OnErr result (self.new ≡ self.old) }
     {
         self.writer.u64(count)
     }
@@ -113,7 +121,8 @@ impl Printer {
     /// True or false.
     #[tactic(auto, unfolding(crate::specs::Adding::with_value))]
     pub fn flag(&mut self, flag: bool) -> Result<(), AllocError>
-        ensures { OnOk result (self.new ≡ with_value self.old (boolean flag)) }
+        ensures written { OnOk result (self.new ≡ with_value self.old (boolean flag)) }
+        ensures same { OnErr result (self.new ≡ self.old) }
     {
         self.writer.boolean(flag)
     }
@@ -121,7 +130,8 @@ impl Printer {
     /// A text of two parts with a slash between them.
     #[tactic(auto, unfolding(crate::specs::Adding::with_value))]
     pub fn pair(&mut self, first: &str, second: &str) -> Result<(), AllocError>
-        ensures { OnOk result (self.new ≡ with_value self.old (string (first.now ++ (codes "/" ++ second.now)))) }
+        ensures written { OnOk result (self.new ≡ with_value self.old (string (first.now ++ (codes "/" ++ second.now)))) }
+        ensures same { OnErr result (self.new ≡ self.old) }
     {
         self.scratch.clear();
         self.scratch.push_str(first)?;
@@ -133,7 +143,8 @@ impl Printer {
     /// A text of three parts with slashes between them.
     #[tactic(auto, unfolding(crate::specs::Adding::with_value))]
     pub fn triple(&mut self, first: &str, second: &str, third: &str) -> Result<(), AllocError>
-        ensures { OnOk result (self.new ≡ with_value self.old (string (first.now ++ (codes "/" ++ (second.now ++ (codes "/" ++ third.now)))))) }
+        ensures written { OnOk result (self.new ≡ with_value self.old (string (first.now ++ (codes "/" ++ (second.now ++ (codes "/" ++ third.now)))))) }
+        ensures same { OnErr result (self.new ≡ self.old) }
     {
         self.scratch.clear();
         self.scratch.push_str(first)?;
@@ -147,7 +158,8 @@ impl Printer {
     /// A text with an end behind it.
     #[tactic(auto, unfolding(crate::specs::Adding::with_value))]
     pub fn ended(&mut self, text: &str, end: &str) -> Result<(), AllocError>
-        ensures { OnOk result (self.new ≡ with_value self.old (string (text.now ++ end.now))) }
+        ensures written { OnOk result (self.new ≡ with_value self.old (string (text.now ++ end.now))) }
+        ensures same { OnErr result (self.new ≡ self.old) }
     {
         self.scratch.clear();
         self.scratch.push_str(text)?;
@@ -158,7 +170,8 @@ impl Printer {
     /// A member that is a text.
     #[tactic(auto, unfolding(crate::specs::Adding::with_row))]
     pub fn text_row(&mut self, name: &str, text: &str) -> Result<(), AllocError>
-        ensures { OnOk result (self.new ≡ with_row self.old name.now (Some (string text.now))) }
+        ensures written { OnOk result (self.new ≡ with_row self.old name.now (Some (string text.now))) }
+        ensures begun { OnErr result (IsBegun self.old self.new name.now) }
     {
         self.name(name)?;
         self.text(text)
@@ -167,7 +180,8 @@ impl Printer {
     /// A member that is a number.
     #[tactic(auto, unfolding(crate::specs::Adding::with_row))]
     pub fn count_row(&mut self, name: &str, count: u64) -> Result<(), AllocError>
-        ensures { OnOk result (self.new ≡ with_row self.old name.now (Some (number (unsigned count)))) }
+        ensures written { OnOk result (self.new ≡ with_row self.old name.now (Some (number (unsigned count)))) }
+        ensures begun { OnErr result (IsBegun self.old self.new name.now) }
     {
         self.name(name)?;
         self.count(count)
@@ -176,7 +190,8 @@ impl Printer {
     /// A member that is true or false.
     #[tactic(auto, unfolding(crate::specs::Adding::with_row))]
     pub fn flag_row(&mut self, name: &str, flag: bool) -> Result<(), AllocError>
-        ensures { OnOk result (self.new ≡ with_row self.old name.now (Some (boolean flag))) }
+        ensures written { OnOk result (self.new ≡ with_row self.old name.now (Some (boolean flag))) }
+        ensures begun { OnErr result (IsBegun self.old self.new name.now) }
     {
         self.name(name)?;
         self.flag(flag)
