@@ -11,7 +11,7 @@ ghost use Rattle.cmc_cursor.specs.Seen.{shown};
 ghost use Rattle.cmc_codec.specs.Given.{address_text_at, worded_at, list_from, list_at, plain_text_at, duration_at, choice_at, member_at, member_or, needed_at};
 
 use cmc_cursor::{
-    BadField, Fields, at, bytes, flag, name, optional, printable, required, short_text,
+    BadField, Fields, at, at_place, bytes, flag, name, optional, printable, required, short_text,
     small_count, text,
 };
 use cmc_meta::{Bytes, Name, Text, Texts};
@@ -64,11 +64,7 @@ fn worded_item(
 ) -> Result<Text, BadField>
     ensures { Gives (λ t. t) result (under (decimal place) (worded_at wording (view value.now))) }
 {
-    at(
-        alloc,
-        place.to_string(alloc)?.as_str(),
-        worded(alloc, wording, value),
-    )
+    at_place(alloc, place, worded(alloc, wording, value))
 }
 
 fn list_of(alloc: Global, wording: Wording, items: &[Value]) -> Result<Texts, BadField>

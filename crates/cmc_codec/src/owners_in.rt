@@ -6,7 +6,7 @@ ghost use Rattle.cmc_cursor.specs.Seen.{shown};
 ghost use Rattle.cmc_codec.specs.MetadataForm as forms;
 
 use crate::metadata_in::{found_flag, found_name};
-use cmc_cursor::{BadField, Fields, at, decimal_of, drop_rest, fields, member};
+use cmc_cursor::{BadField, Fields, at_place, decimal_of, drop_rest, fields, member};
 use cmc_meta::{Kind, OwnerRef, Owners, Text};
 use serde_json::Value;
 use std::alloc::Global;
@@ -102,7 +102,7 @@ fn owner(alloc: Global, value: &Value) -> Result<Option<OwnerRef>, BadField>
 fn owner_item(alloc: Global, place: usize, value: &Value) -> Result<Option<OwnerRef>, BadField>
     ensures { Gives (λ t. t) result (under (decimal place) (forms.owner_at (view value.now))) }
 {
-    at(alloc, place.to_string(alloc)?.as_str(), owner(alloc, value))
+    at_place(alloc, place, owner(alloc, value))
 }
 
 fn owners_of(alloc: Global, items: &[Value]) -> Result<Owners, BadField>

@@ -1,5 +1,5 @@
 // The members of an object, one after another.
-ghost use Rattle.std.specs.Prelude.{◌≡◌, IfOk, map};
+ghost use Rattle.std.specs.Prelude.{◌≡◌, IfOk, map, decimal};
 ghost use Rattle.std.specs.declared.result.Result.{Result};
 ghost use Rattle.serde_json.specs.View.{view, members_view};
 ghost use Rattle.cmc_cursor.specs.Reading.{Gives, Read, fields_of, fields_at, optional_at, required_at, at_end, join, under};
@@ -32,7 +32,7 @@ fn members_of(
 ) -> Result<Vec<(&str, &Value)>, AllocError>
     ensures { IfOk result (λ v. map shown v.items ≡ fields_of (members_view members.now.entries)) }
 {
-    let mut items = Vec::new(alloc);
+    let mut items = Vec::with_capacity(alloc, members.len())?;
     for (name, member) in members.iter() {
         items.push((name.as_str(), member))?;
     }
@@ -106,5 +106,28 @@ pub fn at<T: Drop>(alloc: Global, name: &str, found: Result<T, BadField>) -> Res
         Ok(value) => Ok(value),
         Err(BadField::NoMemory) => Err(BadField::NoMemory),
         Err(BadField::Path(path)) => Err(BadField::Path(joined(alloc, name, path)?)),
+    }
+}
+
+/// The path of a place in a list: its decimal digits.
+pub fn place_path(alloc: Global, place: usize) -> Result<Text, AllocError>
+    ensures { IfOk result (λ path. path ≡ decimal place) }
+{
+    let digits = place.to_string(alloc)?;
+    Text::from_str(alloc, digits.as_str())
+}
+
+/// What was read of the item at that place of a list: a failing path goes below the place, which is
+/// written only where something fails.
+pub fn at_place<T: Drop>(
+    alloc: Global,
+    place: usize,
+    found: Result<T, BadField>,
+) -> Result<T, BadField>
+    ensures { (read : Read T) → Gives (λ t. t) found read → Gives (λ t. t) result (under (decimal place) read) }
+{
+    match found {
+        Ok(value) => Ok(value),
+        Err(error) => at(alloc, place.to_string(alloc)?.as_str(), Err(error)),
     }
 }

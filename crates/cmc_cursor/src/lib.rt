@@ -14,7 +14,7 @@ mod values;
 mod wording;
 
 pub use contents::{bytes, pairs, parts};
-pub use cursor::{Fields, at, check_end, fields, optional, required};
+pub use cursor::{Fields, at, at_place, check_end, fields, optional, place_path, required};
 pub use dropping::{drop_rest, member, pass, seek};
 pub use error::BadField;
 pub use floats::check_floats;

@@ -4,7 +4,7 @@ ghost use Rattle.serde_json.specs.View.{view, items_view};
 ghost use Rattle.cmc_cursor.specs.Reading.{Gives, under};
 ghost use Rattle.cmc_cursor.specs.Readers.{text_at, word_at, flag_at, count_at, small_count_at, texts_at, texts_from};
 
-use crate::cursor::at;
+use crate::cursor::at_place;
 use crate::error::BadField;
 use cmc_meta::{Text, Texts};
 use serde_json::Value;
@@ -64,7 +64,7 @@ pub fn small_count(alloc: Global, value: &Value) -> Result<u32, BadField>
 fn text_in_list(alloc: Global, place: usize, value: &Value) -> Result<Text, BadField>
     ensures { Gives (λ t. t) result (under (decimal place) (text_at (view value.now))) }
 {
-    at(alloc, place.to_string(alloc)?.as_str(), text(alloc, value))
+    at_place(alloc, place, text(alloc, value))
 }
 
 /// A list of texts.

@@ -9,7 +9,8 @@ ghost use Rattle.cmc_material.specs.MaterialRows.{synthetic_in, key_row_in, key_
 
 use crate::optional::{bounded_option, bounded_or, count_option};
 use cmc_cursor::{
-    BadField, Fields, at, bytes, check_end, count, fields, member, optional, pass, required, text,
+    BadField, Fields, at, at_place, bytes, check_end, count, fields, member, optional, pass,
+    required, text,
 };
 use cmc_meta::{Bytes, Text};
 use cmc_objects::{KeyRow, KeyRows, SignRow, SignRows};
@@ -180,22 +181,14 @@ pub fn reply_row(alloc: Global, value: &Value) -> Result<SignRow, BadField>
 fn numbered_key_row(alloc: Global, place: usize, value: &Value) -> Result<KeyRow, BadField>
     ensures { Gives (λ t. t) result (numbered_at key_row_at place (view value.now)) }
 {
-    at(
-        alloc,
-        place.to_string(alloc)?.as_str(),
-        key_row(alloc, value),
-    )
+    at_place(alloc, place, key_row(alloc, value))
 }
 
 #[tactic(auto, unfolding(crate::specs::Lists::numbered_at))]
 fn numbered_reply_row(alloc: Global, place: usize, value: &Value) -> Result<SignRow, BadField>
     ensures { Gives (λ t. t) result (numbered_at reply_row_at place (view value.now)) }
 {
-    at(
-        alloc,
-        place.to_string(alloc)?.as_str(),
-        reply_row(alloc, value),
-    )
+    at_place(alloc, place, reply_row(alloc, value))
 }
 
 fn key_rows_of(alloc: Global, items: &[Value]) -> Result<KeyRows, BadField>

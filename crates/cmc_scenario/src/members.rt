@@ -9,7 +9,7 @@ ghost use Rattle.cmc_material.specs.Lists.{member_or};
 ghost use Rattle.cmc_scenario.specs.Scenarios.{beginning_in, faults_at, in_run, moment_at, moment_in, rising_at, rising_from, usual_moment, world_in};
 
 use crate::roles::given_roles;
-use cmc_cursor::{BadField, Fields, at, count, optional};
+use cmc_cursor::{BadField, Fields, at, at_place, count, optional};
 use cmc_material::{approver, bounded_or, material};
 use cmc_meta::{Numbers, Text};
 use cmc_objects::{Material, Rules};
@@ -58,11 +58,7 @@ fn rising(alloc: Global, last: u64, value: &Value) -> Result<u64, BadField>
 fn numbered_fault(alloc: Global, place: usize, last: u64, value: &Value) -> Result<u64, BadField>
     ensures { Gives (λ t. t) result (under (decimal place) (rising_at last (view value.now))) }
 {
-    at(
-        alloc,
-        place.to_string(alloc)?.as_str(),
-        rising(alloc, last, value),
-    )
+    at_place(alloc, place, rising(alloc, last, value))
 }
 
 fn faults_of(alloc: Global, items: &[Value]) -> Result<Numbers, BadField>

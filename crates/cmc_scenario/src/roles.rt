@@ -5,7 +5,7 @@ ghost use Rattle.cmc_cursor.specs.Reading.{Gives, under};
 ghost use Rattle.cmc_cursor.specs.Seen.{shown_option};
 ghost use Rattle.cmc_scenario.specs.Roles.{all_roles, kind_at, named_roles_at, role_at, role_in, roles_at, roles_with};
 
-use cmc_cursor::{BadField, at};
+use cmc_cursor::{BadField, at, at_place};
 use cmc_material::kind_of;
 use cmc_meta::{Kind, Text};
 use cmc_objects::Role;
@@ -52,7 +52,7 @@ pub fn kind(alloc: Global, value: &Value) -> Result<Kind, BadField>
 fn numbered_role(alloc: Global, place: usize, value: &Value) -> Result<Role, BadField>
     ensures { Gives (λ t. t) result (under (decimal place) (role_at (view value.now))) }
 {
-    at(alloc, place.to_string(alloc)?.as_str(), role(alloc, value))
+    at_place(alloc, place, role(alloc, value))
 }
 
 fn roles_of(alloc: Global, items: &[Value]) -> Result<Roles, BadField>

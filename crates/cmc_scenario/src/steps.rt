@@ -7,7 +7,7 @@ ghost use Rattle.cmc_cursor.specs.Seen.{shown_option};
 ghost use Rattle.cmc_scenario.specs.Scripts.{GivesStep, numbered_step_at, steps_from, steps_at, script_at};
 
 use crate::step::step;
-use cmc_cursor::{BadField, at};
+use cmc_cursor::{BadField, at, at_place, place_path};
 use cmc_meta::Text;
 use cmc_objects::{Role, Step};
 use cmc_setup::{Stage, Steps};
@@ -25,14 +25,13 @@ fn numbered_step(
 ) -> Result<(Step, Stage), BadField>
     ensures { (before : StageValue) → IsStage stage before → GivesStep before result (numbered_step_at place before (view value.now)) }
 {
-    let name = place.to_string(alloc)?;
     if place >= MOST_STEPS {
-        return Err(BadField::Path(Text::from_str(alloc, name.as_str())?));
+        return Err(BadField::Path(place_path(alloc, place)?));
     }
-    let step = at(alloc, name.as_str(), step(alloc, value))?;
+    let step = at_place(alloc, place, step(alloc, value))?;
     match stage.after(&step) {
         Some(next) => Ok((step, next)),
-        None => Err(BadField::Path(Text::from_str(alloc, name.as_str())?)),
+        None => Err(BadField::Path(place_path(alloc, place)?)),
     }
 }
 
