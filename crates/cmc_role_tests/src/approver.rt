@@ -1,19 +1,19 @@
 //! What no clause says: what the approver asks and writes, as texts, and that there is an answer where memory is ample.
 ghost use Rattle.std.specs.Prelude.{IfOk, IsSome};
 
+use crate::checks::{passes, tells_at};
 use crate::fixtures::{RequestRow, request};
 use crate::requestmanager::WANTED;
-use crate::telling::{call_told, told};
+use crate::telling::{call_told_then, told_then};
 use crate::trigger::{OTHER_NAME, desk};
 use cmc_answers::judge;
 use cmc_approver::{act, is_sound, then};
 use cmc_meta::{ConditionKind, Tri};
 use cmc_objects::{JudgeOrder, Order, Rules, Shared};
 use cmc_pass::{Act, Desk, Given, Views};
-use cmc_policy_rules::{Pattern, Patterns, Policies, Policy};
-use cmc_tests::values::{text, texts};
+use cmc_policy_rules::{Policies, Policy};
+use cmc_tests::values::{let_go, policy, text, texts};
 use std::alloc::{AllocError, Global};
-use std::process::Abort;
 use std::test::Fail;
 
 /// What the controller sees of the request, where one stands, and the group of its issuer `ca`; and the issuers that the
@@ -171,7 +171,7 @@ fn desk_of(alloc: Global, issuers: &[&str]) -> Result<Desk, Fail> {
 }
 
 fn told_on(alloc: Global, views: &Views, desk: &Desk) -> Result<String, AllocError> {
-    told(alloc, &act(alloc, views, 0, desk)?)
+    told_then(alloc, act(alloc, views, 0, desk)?)
 }
 
 fn told_by(alloc: Global, case: &Case, desk: &Desk) -> Result<String, Fail> {
@@ -187,8 +187,8 @@ fn told_of(alloc: Global, case: &Case) -> Result<String, Fail> {
 #[test]
 fn judges_open_requests(rt: HostRuntime) -> Result<(), Fail> {
     is_sound();
-    for (case, expected) in &CASES {
-        assert_eq!(rt; told_of(rt.alloc(), case)?.as_str(), *expected);
+    for (number, (case, expected)) in CASES.iter().enumerate() {
+        tells_at(&rt, number, told_of(rt.alloc(), case)?.as_str(), expected);
     }
     Ok(())
 }
@@ -309,39 +309,22 @@ static VERDICTS: [(Ruled, (&str, &str)); 12] = [
     ),
 ];
 
-fn patterns(alloc: Global, word: &str) -> Result<Patterns, AllocError> {
-    let mut patterns = Patterns::new(alloc);
-    patterns.push(Pattern::from_slice(alloc, word.as_bytes())?)?;
-    Ok(patterns)
+fn policy_of(alloc: Global, row: PolicyRow) -> Result<Policy, AllocError> {
+    let mut policy = policy(alloc, "web", row.0, row.1)?;
+    policy.max = row.2;
+    Ok(policy)
 }
 
-fn policy(alloc: Global, row: PolicyRow) -> Result<Policy, AllocError> {
-    let name = Pattern::from_slice(alloc, b"web")?;
-    let issuers = patterns(alloc, row.0)?;
-    let dns = patterns(alloc, row.1)?;
-    Ok(Policy {
-        name,
-        issuers,
-        common: None,
-        dns: Some(dns),
-        ips: None,
-        uris: None,
-        emails: None,
-        usages: Patterns::new(alloc),
-        ca: false,
-        min: None,
-        max: row.2,
-        algorithm: None,
-        min_size: None,
-        max_size: None,
-    })
+fn policies(alloc: Global, rows: &[PolicyRow]) -> Result<Policies, AllocError> {
+    let mut policies = Policies::new(alloc);
+    for row in rows {
+        policies.push(policy_of(alloc, *row)?)?;
+    }
+    Ok(policies)
 }
 
 fn rules(alloc: Global, ruled: &Ruled) -> Result<Rules, Fail> {
-    let mut policies = Policies::new(alloc);
-    for row in ruled.policies {
-        policies.push(policy(alloc, *row)?)?;
-    }
+    let policies = policies(alloc, ruled.policies)?;
     Ok(Rules {
         issuers: texts(alloc, "ca")?,
         refuse: texts(alloc, ruled.refuse)?,
@@ -354,7 +337,10 @@ fn question(alloc: Global, views: &Views, rules: Rules) -> Result<JudgeOrder, Fa
     desk.rules = rules;
     match act(alloc, views, 0, &desk)? {
         Act::Ask(Order::Judge(order)) => Ok(order),
-        _other => Err(Fail::from("no question")),
+        other => {
+            let_go(other);
+            Err(Fail::from("no question"))
+        }
     }
 }
 
@@ -364,8 +350,9 @@ fn written_on(alloc: Global, views: &Views, order: JudgeOrder) -> Result<String,
     requires { IsSome views.now.request }
 {
     let given = Given::Judged(judge(alloc, order)?);
-    let call = then(alloc, views, 1_893_456_060, &given)?;
-    call_told(alloc, &call)
+    let call = then(alloc, views, 1_893_456_060, &given);
+    let_go(given);
+    call_told_then(alloc, call?)
 }
 
 fn views_with(alloc: Global, row: &RequestRow) -> Result<Views, Fail>
@@ -393,14 +380,10 @@ fn writes_verdicts(rt: HostRuntime) -> Result<(), Fail> {
     let alloc = rt.alloc();
     for (ruled, (kind, message)) in &VERDICTS {
         let written = written(alloc, ruled)?;
-        assert!(rt; written.as_str().starts_with("status 9 "));
-        assert!(rt;
-            written
-                .as_str()
-                .ends_with(verdict(alloc, kind, message)?.as_str()),
-            "{}",
-            written.as_str()
-        );
+        let want = verdict(alloc, kind, message)?;
+        let told = written.as_str();
+        passes(&rt, told, told.starts_with("status 9 "));
+        passes(&rt, told, told.ends_with(want.as_str()));
     }
     Ok(())
 }

@@ -5,7 +5,8 @@ ghost use Rattle.cmc_rules.specs.NextRequests.{HasNextRevision};
 use crate::trigger;
 use cmc_meta::{Bytes, Condition, ConditionKind, Conditions, ObjectMeta, Pairs, Text, Tri};
 use cmc_objects::{
-    Algorithm, CertStatus, Certificate, CertificateRequest, Parts, Rotation, Secret, Shared,
+    Algorithm, CertSpec, CertStatus, Certificate, CertificateRequest, Parts, RequestStatus,
+    Rotation, Secret, Shared,
 };
 use cmc_pass::{Requests, Secrets, Views};
 use cmc_tests::values::{least_spec, name, new_meta, octets, text};
@@ -58,25 +59,39 @@ pub(crate) struct Case {
     pub(crate) requests: &'static [RequestRow],
 }
 
+fn condition(alloc: Global, row: &Stated) -> Result<Condition, Fail> {
+    let (kind, status, reason, since) = *row;
+    Ok(Condition {
+        kind,
+        status,
+        reason: text(alloc, reason)?,
+        message: Text::new(alloc),
+        since,
+    })
+}
+
 pub(crate) fn conditions(alloc: Global, rows: &[Stated]) -> Result<Conditions, Fail> {
     let mut conditions = Conditions::new(alloc);
-    for (kind, status, reason, since) in rows {
-        let reason = text(alloc, reason)?;
-        conditions.set(Condition {
-            kind: *kind,
-            status: *status,
-            reason,
-            message: Text::new(alloc),
-            since: *since,
-        })?;
+    for row in rows {
+        conditions.set(condition(alloc, row)?)?;
     }
     Ok(conditions)
 }
 
-fn pairs(alloc: Global, rows: &[(&str, &str)]) -> Result<Pairs, Fail> {
+pub(crate) fn set_pair(
+    alloc: Global,
+    pairs: &mut Pairs,
+    key: &str,
+    value: &str,
+) -> Result<(), AllocError> {
+    let key = Text::from_str(alloc, key)?;
+    pairs.set(key, Text::from_str(alloc, value)?)
+}
+
+pub(crate) fn pairs(alloc: Global, rows: &[(&str, &str)]) -> Result<Pairs, Fail> {
     let mut pairs = Pairs::new(alloc);
     for (key, value) in rows {
-        pairs.set(text(alloc, key)?, text(alloc, value)?)?;
+        set_pair(alloc, &mut pairs, key, value)?;
     }
     Ok(pairs)
 }
@@ -85,10 +100,24 @@ pub(crate) fn bytes(alloc: Global, file: &str) -> Result<Bytes, AllocError> {
     Bytes::from_slice(alloc, octets(alloc, file)?.as_slice())
 }
 
+/// Puts the part, in hexadecimal, where it is no empty text.
+pub(crate) fn put_part(
+    alloc: Global,
+    parts: &mut Parts,
+    key: &str,
+    file: &str,
+) -> Result<(), AllocError> {
+    if file.is_empty() {
+        return Ok(());
+    }
+    let key = Text::from_str(alloc, key)?;
+    parts.set(key, bytes(alloc, file)?)
+}
+
 fn parts(alloc: Global, rows: &[(&str, &str)]) -> Result<Parts, Fail> {
     let mut parts = Parts::new(alloc);
     for (key, file) in rows {
-        parts.set(text(alloc, key)?, bytes(alloc, file)?)?;
+        put_part(alloc, &mut parts, key, file)?;
     }
     Ok(parts)
 }
@@ -119,14 +148,22 @@ fn secrets(alloc: Global, rows: &[SecretRow]) -> Result<Secrets, Fail> {
     Ok(secrets)
 }
 
+fn request_status(alloc: Global, row: &RequestRow) -> Result<RequestStatus, Fail> {
+    let conditions = conditions(alloc, row.conditions)?;
+    let certificate = bytes(alloc, row.certificate)?;
+    Ok(RequestStatus {
+        conditions,
+        certificate,
+        ca: bytes(alloc, row.ca)?,
+        failure: row.failure,
+    })
+}
+
 pub(crate) fn request(alloc: Global, row: &RequestRow) -> Result<CertificateRequest, Fail> {
     let mut request = trigger::request(alloc, row.revision, row.der)?;
     request.meta.name = name(alloc, row.name)?;
     request.meta.version = 9;
-    request.status.conditions = conditions(alloc, row.conditions)?;
-    request.status.certificate = bytes(alloc, row.certificate)?;
-    request.status.ca = bytes(alloc, row.ca)?;
-    request.status.failure = row.failure;
+    request.status = request_status(alloc, row)?;
     Ok(request)
 }
 
@@ -163,18 +200,31 @@ fn status(alloc: Global, case: &Case) -> Result<CertStatus, Fail>
     Ok(status)
 }
 
-pub(crate) fn certificate(alloc: Global, case: &Case) -> Result<Certificate, Fail>
-    ensures { IfOk result (λ c. unwrap_or c.status.revision 0 < 2 ^ 63) }
-{
+fn meta(alloc: Global, marks: Words) -> Result<ObjectMeta, Fail> {
     let mut meta = new_meta(alloc, "web")?;
     meta.uid = 1;
     meta.version = 3;
-    meta.annotations = pairs(alloc, case.marks)?;
+    meta.annotations = pairs(alloc, marks)?;
+    Ok(meta)
+}
+
+fn spec(alloc: Global, case: &Case) -> Result<CertSpec, Fail> {
     let mut spec = least_spec(alloc, "web-tls", "example.com")?;
     spec.key.algorithm = case.algorithm;
     spec.key.rotation = case.rotation;
-    let status = status(alloc, case)?;
-    Ok(Certificate { meta, spec, status })
+    Ok(spec)
+}
+
+pub(crate) fn certificate(alloc: Global, case: &Case) -> Result<Certificate, Fail>
+    ensures { IfOk result (λ c. unwrap_or c.status.revision 0 < 2 ^ 63) }
+{
+    let meta = meta(alloc, case.marks)?;
+    let spec = spec(alloc, case)?;
+    Ok(Certificate {
+        meta,
+        spec,
+        status: status(alloc, case)?,
+    })
 }
 
 fn belongings(alloc: Global, case: &Case) -> Result<Views, Fail> {

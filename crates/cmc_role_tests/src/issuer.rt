@@ -4,16 +4,17 @@ ghost use Rattle.std.specs.Prelude.{◌≡◌, ◌<◌, ◌^◌, [], IfOk, IsSom
 ghost use Rattle.cmc_rules.specs.Granting.{HasForm};
 ghost use Rattle.cmc_objects.specs.Requests.{is_short_text, is_short_option, is_duration_form, is_request_form};
 
+use crate::checks::{tells, tells_at};
 use crate::fixtures::{RequestRow, Stated, bytes, request};
 use crate::requestmanager::WANTED;
-use crate::telling::{call_told, told};
+use crate::telling::{call_told_then, told_then};
 use crate::trigger::desk;
 use cmc_answers::{ScriptedSigner, Signer};
 use cmc_issuer::{act, follow, is_sound, then};
 use cmc_meta::{ConditionKind, Text, Tri};
 use cmc_objects::{CertificateRequest, Order, Shared, SignOrder, Signing};
 use cmc_pass::{Act, Desk, Given, Value, Views};
-use cmc_tests::values::text;
+use cmc_tests::values::{let_go, text};
 use std::alloc::{AllocError, Global};
 use std::process::Abort;
 use std::test::Fail;
@@ -359,7 +360,7 @@ fn asked(alloc: Global, count: u32) -> Desk
 fn told_on(alloc: Global, views: &Views, count: u32) -> Result<String, AllocError>
     requires { HasForm views.now.request }
 {
-    told(alloc, &act(alloc, views, NOW, &asked(alloc, count))?)
+    told_then(alloc, act(alloc, views, NOW, &asked(alloc, count))?)
 }
 
 fn told_of(alloc: Global, case: &Case) -> Result<String, Fail> {
@@ -368,8 +369,8 @@ fn told_of(alloc: Global, case: &Case) -> Result<String, Fail> {
 }
 
 fn meets(rt: &impl Abort, alloc: Global, rows: &[(Case, &str)]) -> Result<(), Fail> {
-    for (case, expected) in rows {
-        assert_eq!(rt; told_of(alloc, case)?.as_str(), *expected);
+    for (number, (case, expected)) in rows.iter().enumerate() {
+        tells_at(rt, number, told_of(alloc, case)?.as_str(), expected);
     }
     Ok(())
 }
@@ -466,7 +467,10 @@ fn question(alloc: Global, views: &Views) -> Result<SignOrder, Fail>
 {
     match act(alloc, views, NOW, &asked(alloc, 0))? {
         Act::Ask(Order::Sign(order)) => Ok(order),
-        _other => Err(Fail::from("no question")),
+        other => {
+            let_go(other);
+            Err(Fail::from("no question"))
+        }
     }
 }
 
@@ -479,9 +483,12 @@ fn written_on(
 ) -> Result<String, AllocError>
     requires { IsSome views.now.request }
 {
+    let order = Order::Sign(order);
     let value = Value::Answered(answer);
-    let call = follow(alloc, views, NOW, &Order::Sign(order), &value)?;
-    call_told(alloc, &call)
+    let call = follow(alloc, views, NOW, &order, &value);
+    let_go(order);
+    let_go(value);
+    call_told_then(alloc, call?)
 }
 
 fn views_with(alloc: Global, case: &Case) -> Result<Views, Fail>
@@ -508,7 +515,8 @@ fn writes_answers(rt: HostRuntime) -> Result<(), Fail> {
     let alloc = rt.alloc();
     for (case, answer, members) in &WRITTEN {
         let written = written(alloc, case, answer)?;
-        assert_eq!(rt; written.as_str(), status_told(alloc, members)?.as_str());
+        let want = status_told(alloc, members)?;
+        tells(&rt, members, written.as_str(), want.as_str());
     }
     Ok(())
 }
@@ -523,9 +531,11 @@ fn scripted(alloc: Global, views: &Views) -> Result<String, Fail>
     requires form { HasForm views.now.request }
     requires stands { IsSome views.now.request }
 {
-    let given = Given::Answered(ScriptedSigner.sign(alloc, &question(alloc, views)?)?);
-    let call = then(alloc, views, NOW, &given)?;
-    Ok(call_told(alloc, &call)?)
+    let order = question(alloc, views)?;
+    let given = Given::Answered(ScriptedSigner.sign(alloc, &order)?);
+    let call = then(alloc, views, NOW, &given);
+    let_go(given);
+    Ok(call_told_then(alloc, call?)?)
 }
 
 // A plain answer is a certificate for what the request asks for.
@@ -533,6 +543,7 @@ fn scripted(alloc: Global, views: &Views) -> Result<String, Fail>
 fn writes_the_certificate_that_was_issued(rt: HostRuntime) -> Result<(), Fail> {
     let alloc = rt.alloc();
     let written = scripted(alloc, &views_with(alloc, &ASKED_ONCE)?)?;
-    assert_eq!(rt; written.as_str(), status_told(alloc, BY_SCRIPT)?.as_str());
+    let want = status_told(alloc, BY_SCRIPT)?;
+    tells(&rt, "by script", written.as_str(), want.as_str());
     Ok(())
 }

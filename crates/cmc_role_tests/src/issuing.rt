@@ -1,10 +1,11 @@
 //! What no clause says: what the issuing controller does, as texts, and that there is an answer where memory is ample.
 ghost use Rattle.cmc_rules.specs.NextRequests.{HasNextRevision};
 
+use crate::checks::tells_at;
 use crate::fixtures::{Case, RequestRow, SecretRow, Stated, views};
 use crate::keymanager::WIDE;
 use crate::requestmanager::{KEYED, NEXT_KEY, WANTED};
-use crate::telling::told;
+use crate::telling::told_then;
 use crate::trigger::{CERTIFICATE, KEY, OTHER, OTHER_KEY, OTHER_NAME, desk};
 use cmc_issuing::{act, is_sound};
 use cmc_meta::{ConditionKind, Tri};
@@ -692,7 +693,7 @@ static PAIRED: [(Case, Outcome); 5] = [
 
 fn expected(alloc: Global, outcome: &Outcome) -> Result<String, AllocError> {
     match outcome {
-        Outcome::Nothing => format!(in alloc; "nothing"),
+        Outcome::Nothing => String::from_str(alloc, "nothing"),
         Outcome::Fails(reason, attempts) => format!(in alloc;
             r#"status 3 web {{"conditions":[{{"lastTransitionTime":"2030-01-01T00:01:00Z","message":"The certificate request has failed to complete and will be retried","reason":"{reason}","status":"False","type":"Issuing"}}],"failedIssuanceAttempts":{attempts},"lastFailureTime":"2030-01-01T00:01:00Z","nextPrivateKeySecretName":"web-bbbbf","revision":1}}}}"#
         ),
@@ -708,7 +709,7 @@ fn expected(alloc: Global, outcome: &Outcome) -> Result<String, AllocError> {
 fn told_on(alloc: Global, views: &Views) -> Result<String, AllocError>
     requires { HasNextRevision views.now.certificate }
 {
-    told(alloc, &act(alloc, views, NOW, &desk(alloc))?)
+    told_then(alloc, act(alloc, views, NOW, &desk(alloc))?)
 }
 
 fn told_of(alloc: Global, case: &Case) -> Result<String, Fail> {
@@ -717,9 +718,10 @@ fn told_of(alloc: Global, case: &Case) -> Result<String, Fail> {
 }
 
 fn meets(rt: &impl Abort, alloc: Global, rows: &[(Case, Outcome)]) -> Result<(), Fail> {
-    for (case, outcome) in rows {
+    for (number, (case, outcome)) in rows.iter().enumerate() {
         let told = told_of(alloc, case)?;
-        assert_eq!(rt; told.as_str(), expected(alloc, outcome)?.as_str());
+        let want = expected(alloc, outcome)?;
+        tells_at(rt, number, told.as_str(), want.as_str());
     }
     Ok(())
 }

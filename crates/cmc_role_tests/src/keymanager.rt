@@ -1,15 +1,18 @@
 //! What no clause says: what the key manager does, as texts, and that there is an answer where memory is ample.
 ghost use Rattle.std.specs.Prelude.{◌<◌, ◌^◌, IfOk, IsSome};
 
+use crate::checks::{passes, tells, tells_at};
 use crate::fixtures::{Case, SecretRow, Stated, bytes, certificate, views};
-use crate::telling::{call_told, told};
+use crate::telling::{call_told_then, told_then};
 use crate::trigger::{KEY, OTHER, desk};
 use cmc_keymanager::{act, is_sound, then};
 use cmc_keys::{KeyMaker, ScriptedKeys, is_allowed_size};
 use cmc_meta::{ConditionKind, Kind, Tri};
-use cmc_objects::{Algorithm, KeyOrder, KeyRow, KeyRows, Order, Rotation, Rows, Shared, SignRows};
+use cmc_objects::{
+    Algorithm, KeyOrder, KeyRow, KeyRows, Material, Order, Rotation, Rows, Shared, SignRows,
+};
 use cmc_pass::{Act, Desk, Given, Views};
-use cmc_tests::values::key;
+use cmc_tests::values::{key, let_go};
 use std::alloc::{AllocError, Global};
 use std::process::Abort;
 use std::test::Fail;
@@ -280,7 +283,7 @@ fn asked(alloc: Global) -> Desk
 }
 
 fn told_on(alloc: Global, views: &Views) -> Result<String, AllocError> {
-    told(alloc, &act(alloc, views, 0, &asked(alloc))?)
+    told_then(alloc, act(alloc, views, 0, &asked(alloc))?)
 }
 
 fn told_of(alloc: Global, case: &Case) -> Result<String, Fail> {
@@ -289,8 +292,8 @@ fn told_of(alloc: Global, case: &Case) -> Result<String, Fail> {
 }
 
 fn meets(rt: &impl Abort, alloc: Global, rows: &[(Case, &str)]) -> Result<(), Fail> {
-    for (case, expected) in rows {
-        assert_eq!(rt; told_of(alloc, case)?.as_str(), *expected);
+    for (number, (case, expected)) in rows.iter().enumerate() {
+        tells_at(rt, number, told_of(alloc, case)?.as_str(), expected);
     }
     Ok(())
 }
@@ -307,18 +310,26 @@ fn asks_or_takes_the_key_again(rt: HostRuntime) -> Result<(), Fail> {
     meets(&rt, rt.alloc(), &ASKED)
 }
 
+fn rows(alloc: Global) -> Result<Rows, Fail> {
+    let mut keys = KeyRows::new(alloc);
+    keys.push(KeyRow::Der(bytes(alloc, KEY)?))?;
+    let replies = SignRows::new(alloc);
+    Ok(Rows { keys, replies })
+}
+
+fn material(alloc: Global) -> Result<Material, Fail> {
+    let mut material = Material::new(alloc);
+    let web = key(alloc, Kind::Certificate, "web")?;
+    material.set(web, rows(alloc)?)?;
+    Ok(material)
+}
+
 /// The scenario's first key of the Certificate is the one that openssl made.
 fn scripted(alloc: Global) -> Result<Desk, Fail>
     ensures { IfOk result (λ d. d.asked < 2 ^ 63) }
 {
-    let mut keys = KeyRows::new(alloc);
-    keys.push(KeyRow::Der(bytes(alloc, KEY)?))?;
-    let replies = SignRows::new(alloc);
     let mut desk = desk(alloc);
-    desk.material.set(
-        key(alloc, Kind::Certificate, "web")?,
-        Rows { keys, replies },
-    )?;
+    desk.material = material(alloc)?;
     desk.asked = 0;
     Ok(desk)
 }
@@ -326,7 +337,10 @@ fn scripted(alloc: Global) -> Result<Desk, Fail>
 fn question(alloc: Global, views: &Views) -> Result<KeyOrder, Fail> {
     match act(alloc, views, 0, &scripted(alloc)?)? {
         Act::Ask(Order::Key(order)) => Ok(order),
-        _other => Err(Fail::from("no question")),
+        other => {
+            let_go(other);
+            Err(Fail::from("no question"))
+        }
     }
 }
 
@@ -345,11 +359,12 @@ fn kept(alloc: Global, views: &Views, order: &KeyOrder) -> Result<String, AllocE
     requires { IsSome views.now.certificate }
 {
     if !is_allowed_size(order.algorithm, order.size) {
-        return format!(in alloc; "another size");
+        return String::from_str(alloc, "another size");
     }
     let given = Given::Made(ScriptedKeys.make(alloc, order)?);
-    let call = then(alloc, views, 0, &given)?;
-    call_told(alloc, &call)
+    let call = then(alloc, views, 0, &given);
+    let_go(given);
+    call_told_then(alloc, call?)
 }
 
 // The key that was made, by the row of the first question, is kept in a new Secret.
@@ -358,7 +373,8 @@ fn keeps_the_key_that_was_made(rt: HostRuntime) -> Result<(), Fail> {
     let alloc = rt.alloc();
     let views = views_with(alloc, &BEGUN_ONCE)?;
     let order = question(alloc, &views)?;
-    assert_eq!(rt; order.number, 1);
-    assert_eq!(rt; kept(alloc, &views, &order)?.as_str(), CREATED);
+    passes(&rt, "the first", order.number == 1);
+    let kept = kept(alloc, &views, &order)?;
+    tells(&rt, "kept", kept.as_str(), CREATED);
     Ok(())
 }

@@ -8,7 +8,7 @@ ghost use Rattle.cmc_rules.specs.RequestManaging as table;
 use crate::checks::{tells, tells_at};
 use crate::fixtures::{Case, RequestRow, SecretRow, Stated, views};
 use crate::keymanager::WIDE;
-use crate::telling::{call_told, told};
+use crate::telling::{call_told_then, told_then};
 use crate::trigger::{KEY, OTHER, OTHER_KEY, OTHER_NAME, REQUEST, desk};
 use cmc_keys::{KeyMaker, ScriptedKeys};
 use cmc_meta::{Bytes, ConditionKind, Tri};
@@ -16,6 +16,7 @@ use cmc_next::{key_in, named_key};
 use cmc_objects::{Algorithm, Certificate, CsrOrder, Order, Secret, Shared};
 use cmc_pass::{Act, Given, Views};
 use cmc_requestmanager::{act, is_sound, then};
+use cmc_tests::values::let_go;
 use cmc_x509::{Spki, key_public};
 use std::alloc::{AllocError, Global};
 use std::process::Abort;
@@ -335,7 +336,7 @@ static REFUSED: [(Case, &str); 8] = [
 fn told_on(alloc: Global, views: &Views) -> Result<String, AllocError>
     requires { HasNextRevision views.now.certificate }
 {
-    told(alloc, &act(alloc, views, 0, &desk(alloc))?)
+    told_then(alloc, act(alloc, views, 0, &desk(alloc))?)
 }
 
 fn told_of(alloc: Global, case: &Case) -> Result<String, Fail> {
@@ -417,7 +418,10 @@ fn question(alloc: Global, views: &Views) -> Result<CsrOrder, Fail>
 {
     match act(alloc, views, 0, &desk(alloc))? {
         Act::Ask(Order::Csr(order)) => Ok(order),
-        _other => Err(Fail::from("no question")),
+        other => {
+            let_go(other);
+            Err(Fail::from("no question"))
+        }
     }
 }
 
@@ -429,8 +433,9 @@ fn made_on(alloc: Global, views: &Views, order: &CsrOrder) -> Result<String, All
         return String::from_str(alloc, "no readable key");
     }
     let given = Given::Signed(ScriptedKeys.sign(alloc, order)?);
-    let call = then(alloc, views, 0, &given)?;
-    call_told(alloc, &call)
+    let call = then(alloc, views, 0, &given);
+    let_go(given);
+    call_told_then(alloc, call?)
 }
 
 // The signature that was made stands in a new request.

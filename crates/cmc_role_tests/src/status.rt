@@ -2,12 +2,14 @@
 //! where memory is ample.
 ghost use Rattle.std.specs.Prelude.{◌≡◌, None};
 
+use crate::checks::{tells, tells_at};
+use crate::fixtures::conditions as stated;
 use crate::trigger::{Case, NONE, OTHER_NAME, REQUEST, WELL, desk, request, views};
-use cmc_meta::{Condition, ConditionKind, Text, Tri};
+use cmc_meta::{ConditionKind, Tri};
 use cmc_objects::{Call, CertStatus, Certificate, CertificateRequest, Object, Shared};
 use cmc_pass::{Act, Requests, Views};
 use cmc_status::{act_readiness, act_revision, is_readiness_sound, is_revision_sound};
-use cmc_tests::values::{name as object_name, text};
+use cmc_tests::values::{let_go, name as object_name};
 use std::alloc::{AllocError, Global};
 use std::test::Fail;
 
@@ -16,7 +18,7 @@ const TIMES: &str = "1795748973 1803524973 1800932973";
 
 fn moment(alloc: Global, at: Option<i64>) -> Result<String, AllocError> {
     match at {
-        None => format!(in alloc; "-"),
+        None => String::from_str(alloc, "-"),
         Some(at) => format!(in alloc; "{at}"),
     }
 }
@@ -30,36 +32,46 @@ fn times_of(alloc: Global, status: &CertStatus) -> Result<String, AllocError> {
 
 fn ready_of(alloc: Global, status: &CertStatus) -> Result<String, AllocError> {
     let Some(condition) = status.conditions.get(ConditionKind::Ready) else {
-        return format!(in alloc; "no condition");
+        return String::from_str(alloc, "no condition");
     };
     let reason = condition.reason.as_str();
     let message = condition.message.as_str();
     let since = condition.since;
-    if condition.status.same(Tri::True) {
-        format!(in alloc; "{since} True {reason}: {message}")
+    let word = if condition.status.same(Tri::True) {
+        "True"
     } else {
-        format!(in alloc; "{since} False {reason}: {message}")
-    }
+        "False"
+    };
+    format!(in alloc; "{since} {word} {reason}: {message}")
 }
 
 /// What the act writes: the version that it names, the condition Ready and the times.
-fn told(alloc: Global, act: &Act) -> Result<String, AllocError> {
-    let Act::Call(
-        Call::UpdateStatus {
-            object: Object::Cert(certificate),
-            version,
-        },
-    ) = act
-    else {
-        return format!(in alloc; "nothing");
-    };
-    let ready = ready_of(alloc, &certificate.status)?;
-    let times = times_of(alloc, &certificate.status)?;
+fn status_told(alloc: Global, version: u64, status: &CertStatus) -> Result<String, AllocError> {
+    let ready = ready_of(alloc, status)?;
+    let times = times_of(alloc, status)?;
     format!(in alloc; "{version} {ready} {times}")
 }
 
+fn told(alloc: Global, act: &Act) -> Result<String, AllocError> {
+    match act {
+        Act::Call(
+            Call::UpdateStatus {
+                object: Object::Cert(certificate),
+                version,
+            },
+        ) => status_told(alloc, *version, &certificate.status),
+        _ => String::from_str(alloc, "nothing"),
+    }
+}
+
+fn told_then(alloc: Global, act: Act) -> Result<String, AllocError> {
+    let told = told(alloc, &act);
+    let_go(act);
+    told
+}
+
 fn told_on(alloc: Global, views: &Views, now: i64) -> Result<String, AllocError> {
-    told(alloc, &act_readiness(alloc, views, now, &desk(alloc))?)
+    told_then(alloc, act_readiness(alloc, views, now, &desk(alloc))?)
 }
 
 fn told_of(alloc: Global, case: &Case) -> Result<String, Fail>
@@ -130,39 +142,37 @@ static READINESS: [(Case, &str, &str); 8] = [
     ),
 ];
 
+/// What is done where no attempt failed.
+fn told_at_first(alloc: Global, case: &Case) -> Result<String, Fail> {
+    let never_failed = Case {
+        failed: None,
+        ..*case
+    };
+    told_of(alloc, &never_failed)
+}
+
+fn expected(alloc: Global, now: i64, reason: &str, times: &str) -> Result<String, AllocError> {
+    format!(in alloc; "3 {now} {reason} {times}")
+}
+
 #[test]
 fn says_whether_a_certificate_is_ready(rt: HostRuntime) -> Result<(), Fail> {
     let alloc = rt.alloc();
     is_readiness_sound();
     for (case, reason, times) in &READINESS {
-        let never_failed = Case {
-            failed: None,
-            ..*case
-        };
-        let now = case.now;
-        let expected = format!(in alloc; "3 {now} {reason} {times}")?;
-        assert_eq!(rt; told_of(alloc, &never_failed)?.as_str(), expected.as_str());
+        let want = expected(alloc, case.now, reason, times)?;
+        let told = told_at_first(alloc, case)?;
+        tells(&rt, reason, told.as_str(), want.as_str());
     }
     Ok(())
 }
 
 /// A request of this name and revision that is Ready as the status says.
-fn ready_request(
-    alloc: Global,
-    name: &str,
-    number: &str,
-    status: Tri,
-) -> Result<CertificateRequest, Fail> {
+fn ready_request(alloc: Global, row: &Row) -> Result<CertificateRequest, Fail> {
+    let (name, number, status) = *row;
     let mut request = request(alloc, number, REQUEST)?;
     request.meta.name = object_name(alloc, name)?;
-    let reason = text(alloc, "Issued")?;
-    request.status.conditions.set(Condition {
-        kind: ConditionKind::Ready,
-        status,
-        reason,
-        message: Text::new(alloc),
-        since: 0,
-    })?;
+    request.status.conditions = stated(alloc, &[(ConditionKind::Ready, status, "Issued", 0)])?;
     Ok(request)
 }
 
@@ -170,9 +180,28 @@ fn ready_request(
 type Row = (&'static str, &'static str, Tri);
 
 fn add(alloc: Global, requests: &mut Requests, row: &Row) -> Result<(), Fail> {
-    let (name, number, status) = row;
-    let request = ready_request(alloc, name, number, *status)?;
+    let request = ready_request(alloc, row)?;
     requests.push(Shared::new(alloc, request)?)?;
+    Ok(())
+}
+
+/// The Certificate with this limit.
+fn with_limit(
+    alloc: Global,
+    certificate: &Certificate,
+    limit: Option<u32>,
+) -> Result<Shared<Certificate>, AllocError> {
+    let mut certificate = Certificate::copy(certificate)?;
+    certificate.spec.history_limit = limit;
+    Shared::new(alloc, certificate)
+}
+
+/// Limits the Certificate that is seen.
+fn set_limit(alloc: Global, views: &mut Views, limit: Option<u32>) -> Result<(), AllocError> {
+    if let Some(certificate) = &views.certificate {
+        let limited = with_limit(alloc, certificate, limit)?;
+        views.certificate = Some(limited);
+    }
     Ok(())
 }
 
@@ -189,25 +218,31 @@ fn limited(
     let mut views = views(alloc, case)?;
     add(alloc, &mut views.requests, first)?;
     add(alloc, &mut views.requests, second)?;
-    if let Some(certificate) = &views.certificate {
-        let mut certificate = Certificate::copy(certificate)?;
-        certificate.spec.history_limit = limit;
-        views.certificate = Some(Shared::new(alloc, certificate)?);
-    }
+    set_limit(alloc, &mut views, limit)?;
     Ok(views)
 }
 
 /// The name of the request that goes.
-fn gone_on(alloc: Global, views: &Views) -> Result<String, AllocError> {
-    match &act_revision(alloc, views, 0, &desk(alloc))? {
+fn gone_by(act: &Act) -> &str {
+    match act {
         Act::Call(
             Call::Delete {
                 key,
                 version: Some(_),
             },
-        ) => String::from_str(alloc, key.name.as_str()),
-        _ => String::from_str(alloc, "nothing"),
+        ) => key.name.as_str(),
+        _ => "nothing",
     }
+}
+
+fn gone_then(alloc: Global, act: Act) -> Result<String, AllocError> {
+    let gone = String::from_str(alloc, gone_by(&act));
+    let_go(act);
+    gone
+}
+
+fn gone_on(alloc: Global, views: &Views) -> Result<String, AllocError> {
+    gone_then(alloc, act_revision(alloc, views, 0, &desk(alloc))?)
 }
 
 const ISSUING: Case = Case {
@@ -275,17 +310,28 @@ static KEPT: [(Case, Option<u32>, Row, Row, &str); 8] = [
     ),
 ];
 
+/// The name of the request that goes where no attempt failed.
+fn gone(
+    alloc: Global,
+    case: &Case,
+    limit: Option<u32>,
+    first: &Row,
+    second: &Row,
+) -> Result<String, Fail> {
+    let never_failed = Case {
+        failed: None,
+        ..*case
+    };
+    let views = limited(alloc, &never_failed, limit, first, second)?;
+    Ok(gone_on(alloc, &views)?)
+}
+
 #[test]
 fn keeps_as_many_requests_as_the_limit(rt: HostRuntime) -> Result<(), Fail> {
-    let alloc = rt.alloc();
     is_revision_sound();
-    for (case, limit, first, second, gone) in &KEPT {
-        let never_failed = Case {
-            failed: None,
-            ..*case
-        };
-        let views = limited(alloc, &never_failed, *limit, first, second)?;
-        assert_eq!(rt; gone_on(alloc, &views)?.as_str(), *gone);
+    for (number, (case, limit, first, second, want)) in KEPT.iter().enumerate() {
+        let gone = gone(rt.alloc(), case, *limit, first, second)?;
+        tells_at(&rt, number, gone.as_str(), want);
     }
     Ok(())
 }

@@ -6,7 +6,7 @@ use cmc_objects::{
 };
 use cmc_pass::{Act, IssuePlan, TemporaryPlan};
 use cmc_print::{key_word, name_word, tree_of};
-use cmc_tests::values::octets;
+use cmc_tests::values::{let_go, octets};
 use std::alloc::{AllocError, Global};
 
 /// The body of the request that `openssl req -new` made, without its signature.
@@ -75,7 +75,7 @@ fn object_told(alloc: Global, object: &Object) -> Result<String, AllocError> {
 }
 
 /// The call, the version that it names, and the object.
-pub(crate) fn call_told(alloc: Global, call: &Call) -> Result<String, AllocError> {
+fn call_told(alloc: Global, call: &Call) -> Result<String, AllocError> {
     match call {
         Call::Create { object, generate } => {
             let word = if *generate { "generate" } else { "create" };
@@ -180,7 +180,7 @@ fn temporary_told(alloc: Global, plan: &TemporaryPlan) -> Result<String, AllocEr
 }
 
 /// What the controller does.
-pub(crate) fn told(alloc: Global, act: &Act) -> Result<String, AllocError> {
+fn told(alloc: Global, act: &Act) -> Result<String, AllocError> {
     match act {
         Act::Nothing => String::from_str(alloc, "nothing"),
         Act::Call(call) => call_told(alloc, call),
@@ -188,4 +188,18 @@ pub(crate) fn told(alloc: Global, act: &Act) -> Result<String, AllocError> {
         Act::Issue(plan) => issue_told(alloc, plan),
         Act::Temporary(plan) => temporary_told(alloc, plan),
     }
+}
+
+/// What the controller does; the act, a wide enum, is let go behind it.
+pub(crate) fn told_then(alloc: Global, act: Act) -> Result<String, AllocError> {
+    let told = told(alloc, &act);
+    let_go(act);
+    told
+}
+
+/// The call, which is let go behind it.
+pub(crate) fn call_told_then(alloc: Global, call: Call) -> Result<String, AllocError> {
+    let told = call_told(alloc, &call);
+    let_go(call);
+    told
 }

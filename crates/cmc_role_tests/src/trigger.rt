@@ -2,14 +2,16 @@
 ghost use Rattle.std.specs.Prelude.{◌≡◌, [], IfOk};
 ghost use Rattle.cmc_rules.specs.Dates.{IsDatedOption, HasDatedFailure};
 
-use cmc_meta::{Bytes, Condition, ConditionKind, Conditions, ObjectMeta, Pairs, Text, Texts, Tri};
+use crate::checks::{passes, tells};
+use crate::fixtures::{bytes, conditions as stated, pairs, put_part, set_pair};
+use cmc_meta::{Bytes, Condition, ConditionKind, Conditions, ObjectMeta, Pairs, Texts, Tri};
 use cmc_objects::{
-    Algorithm, Call, CertStatus, Certificate, CertificateRequest, IssuerRef, Material, Object,
-    Parts, RequestSpec, RequestStatus, Rules, Secret, Shared,
+    Algorithm, Call, CertSpec, CertStatus, Certificate, CertificateRequest, IssuerRef, Material,
+    Object, Parts, RequestSpec, RequestStatus, Rules, Secret, Shared,
 };
 use cmc_pass::{Act, Desk, Requests, Views};
 use cmc_policy_rules::Policies;
-use cmc_tests::values::{least_spec, new_meta, octets, text};
+use cmc_tests::values::{least_spec, let_go, new_meta, text};
 use cmc_trigger::{act, is_sound};
 use std::alloc::{AllocError, Global};
 use std::test::Fail;
@@ -74,77 +76,62 @@ pub(crate) const WELL: Case = Case {
     ..NONE
 };
 
-fn bytes(alloc: Global, text: &str) -> Result<Bytes, AllocError> {
-    Bytes::from_slice(alloc, octets(alloc, text)?.as_slice())
-}
-
 fn conditions(alloc: Global, issuing: Option<Tri>) -> Result<Conditions, Fail> {
-    let mut conditions = Conditions::new(alloc);
-    if let Some(status) = issuing {
-        let reason = text(alloc, "Failed")?;
-        conditions.set(Condition {
-            kind: ConditionKind::Issuing,
-            status,
-            reason,
-            message: Text::new(alloc),
-            since: 0,
-        })?;
+    match issuing {
+        None => Ok(Conditions::new(alloc)),
+        Some(status) => stated(alloc, &[(ConditionKind::Issuing, status, "Failed", 0)]),
     }
-    Ok(conditions)
 }
 
-fn certificate(
-    alloc: Global,
-    conditions: Conditions,
-    algorithm: Option<Algorithm>,
-    failed: Option<i64>,
-    attempts: Option<u32>,
-) -> Result<Certificate, Fail>
-    ensures { IfOk result (λ c. c.status.last_failure ≡ failed) }
+fn status(alloc: Global, case: &Case) -> Result<CertStatus, Fail>
+    ensures { IfOk result (λ s. s.last_failure ≡ case.now.failed) }
+{
+    let mut status = CertStatus::new(alloc);
+    status.conditions = conditions(alloc, case.issuing)?;
+    status.last_failure = case.failed;
+    status.attempts = case.attempts;
+    status.revision = Some(1);
+    Ok(status)
+}
+
+fn spec(alloc: Global, algorithm: Option<Algorithm>) -> Result<CertSpec, Fail> {
+    let mut spec = least_spec(alloc, "web-tls", "example.com")?;
+    spec.key.algorithm = algorithm;
+    Ok(spec)
+}
+
+fn certificate(alloc: Global, case: &Case) -> Result<Certificate, Fail>
+    ensures { IfOk result (λ c. c.status.last_failure ≡ case.now.failed) }
 {
     let mut meta = new_meta(alloc, "web")?;
     meta.version = 3;
-    let mut spec = least_spec(alloc, "web-tls", "example.com")?;
-    spec.key.algorithm = algorithm;
+    let spec = spec(alloc, case.algorithm)?;
     Ok(Certificate {
         meta,
         spec,
-        status: CertStatus {
-            conditions,
-            last_failure: failed,
-            attempts,
-            not_before: None,
-            not_after: None,
-            renewal: None,
-            revision: Some(1),
-            next_key: None,
-        },
+        status: status(alloc, case)?,
     })
 }
 
 /// The data of the Secret, without the parts that are empty texts.
 fn parts(alloc: Global, key: &str, certificate: &str) -> Result<Parts, Fail> {
     let mut parts = Parts::new(alloc);
-    if !key.is_empty() {
-        parts.set(text(alloc, "tls.key")?, bytes(alloc, key)?)?;
-    }
-    if !certificate.is_empty() {
-        parts.set(text(alloc, "tls.crt")?, bytes(alloc, certificate)?)?;
-    }
+    put_part(alloc, &mut parts, "tls.key", key)?;
+    put_part(alloc, &mut parts, "tls.crt", certificate)?;
     Ok(parts)
 }
 
+/// The annotations of the issuer.
+static ISSUER: [(&str, &str); 3] = [
+    ("cert-manager.io/issuer-name", "ca"),
+    ("cert-manager.io/issuer-kind", "Issuer"),
+    ("cert-manager.io/issuer-group", "cert-manager.io"),
+];
+
 /// The annotations of the issuer, and then the mark, which may change one of them.
 fn annotations(alloc: Global, mark: (&str, &str)) -> Result<Pairs, Fail> {
-    let mut annotations = Pairs::new(alloc);
-    for (key, value) in [
-        ("cert-manager.io/issuer-name", "ca"),
-        ("cert-manager.io/issuer-kind", "Issuer"),
-        ("cert-manager.io/issuer-group", "cert-manager.io"),
-        mark,
-    ] {
-        annotations.set(text(alloc, key)?, text(alloc, value)?)?;
-    }
+    let mut annotations = pairs(alloc, &ISSUER)?;
+    set_pair(alloc, &mut annotations, mark.0, mark.1)?;
     Ok(annotations)
 }
 
@@ -166,8 +153,8 @@ fn secret(alloc: Global, key: &str, certificate: &str, mark: (&str, &str)) -> Re
 
 fn revision(alloc: Global, number: &str) -> Result<Pairs, Fail> {
     let mut annotations = Pairs::new(alloc);
-    let key = text(alloc, "cert-manager.io/certificate-revision")?;
-    annotations.set(key, text(alloc, number)?)?;
+    let key = "cert-manager.io/certificate-revision";
+    set_pair(alloc, &mut annotations, key, number)?;
     Ok(annotations)
 }
 
@@ -213,23 +200,39 @@ fn requests(alloc: Global, rows: &[(&str, &str)]) -> Result<Requests, Fail> {
     Ok(requests)
 }
 
-fn told(alloc: Global, act: &Act) -> Result<String, AllocError> {
-    let Act::Call(
-        Call::UpdateStatus {
-            object: Object::Cert(certificate),
-            version,
-        },
-    ) = act
-    else {
-        return format!(in alloc; "nothing");
-    };
-    let Some(condition) = certificate.status.conditions.get(ConditionKind::Issuing) else {
-        return format!(in alloc; "no condition");
+fn condition_told(
+    alloc: Global,
+    version: u64,
+    condition: Option<&Condition>,
+) -> Result<String, AllocError> {
+    let Some(condition) = condition else {
+        return String::from_str(alloc, "no condition");
     };
     let reason = condition.reason.as_str();
     let message = condition.message.as_str();
     let since = condition.since;
     format!(in alloc; "{version} {since} {reason}: {message}")
+}
+
+fn told(alloc: Global, act: &Act) -> Result<String, AllocError> {
+    match act {
+        Act::Call(
+            Call::UpdateStatus {
+                object: Object::Cert(certificate),
+                version,
+            },
+        ) => {
+            let condition = certificate.status.conditions.get(ConditionKind::Issuing);
+            condition_told(alloc, *version, condition)
+        }
+        _ => String::from_str(alloc, "nothing"),
+    }
+}
+
+fn told_then(alloc: Global, act: Act) -> Result<String, AllocError> {
+    let told = told(alloc, &act);
+    let_go(act);
+    told
 }
 
 pub(crate) fn desk(alloc: Global) -> Desk
@@ -246,37 +249,30 @@ pub(crate) fn desk(alloc: Global) -> Desk
     }
 }
 
+/// The Secret and the requests.
+fn belongings(alloc: Global, case: &Case) -> Result<Views, Fail> {
+    let mut views = Views::new(alloc);
+    if let Some((key, certificate)) = case.parts {
+        let secret = secret(alloc, key, certificate, case.mark)?;
+        views.secret = Some(Shared::new(alloc, secret)?);
+    }
+    views.requests = requests(alloc, case.requests)?;
+    Ok(views)
+}
+
 pub(crate) fn views(alloc: Global, case: &Case) -> Result<Views, Fail>
     requires { IsDatedOption case.now.failed }
     ensures { IfOk result HasDatedFailure }
 {
-    let conditions = conditions(alloc, case.issuing)?;
-    let certificate = certificate(
-        alloc,
-        conditions,
-        case.algorithm,
-        case.failed,
-        case.attempts,
-    )?;
-    let secret = match case.parts {
-        None => None,
-        Some((key, certificate)) => {
-            let secret = secret(alloc, key, certificate, case.mark)?;
-            Some(Shared::new(alloc, secret)?)
-        }
-    };
-    let requests = requests(alloc, case.requests)?;
-    let mut views = Views::new(alloc);
-    views.certificate = Some(Shared::new(alloc, certificate)?);
-    views.secret = secret;
-    views.requests = requests;
+    let mut views = belongings(alloc, case)?;
+    views.certificate = Some(Shared::new(alloc, certificate(alloc, case)?)?);
     Ok(views)
 }
 
 fn told_on(alloc: Global, views: &Views, now: i64) -> Result<String, AllocError>
     requires { HasDatedFailure views.now }
 {
-    told(alloc, &act(alloc, views, now, &desk(alloc))?)
+    told_then(alloc, act(alloc, views, now, &desk(alloc))?)
 }
 
 fn told_of(alloc: Global, case: &Case) -> Result<String, Fail>
@@ -284,6 +280,15 @@ fn told_of(alloc: Global, case: &Case) -> Result<String, Fail>
 {
     let views = views(alloc, case)?;
     Ok(told_on(alloc, &views, case.now)?)
+}
+
+/// What is done where no attempt failed.
+fn told_at_first(alloc: Global, case: &Case) -> Result<String, Fail> {
+    let never_failed = Case {
+        failed: None,
+        ..*case
+    };
+    told_of(alloc, &never_failed)
 }
 
 const MISSING: &str = "3 1893456000 MissingData: Certificate must be issued: MissingData";
@@ -438,47 +443,65 @@ static CHECKS: [(Case, &str); 14] = [
 
 #[test]
 fn checks(rt: HostRuntime) -> Result<(), Fail> {
-    let alloc = rt.alloc();
     is_sound();
     for (case, reason) in &CHECKS {
-        let never_failed = Case {
-            failed: None,
-            ..*case
-        };
-        let told = told_of(alloc, &never_failed)?;
-        assert!(rt; told.as_str().ends_with(reason));
-    }
-    for (case, expected) in &SECRETS {
-        let never_failed = Case {
-            failed: None,
-            ..*case
-        };
-        assert_eq!(rt; told_of(alloc, &never_failed)?.as_str(), *expected);
+        let told = told_at_first(rt.alloc(), case)?;
+        passes(&rt, told.as_str(), told.as_str().ends_with(reason));
     }
     Ok(())
 }
 
 #[test]
-fn times(rt: HostRuntime) -> Result<(), Fail> {
-    let alloc = rt.alloc();
-    let absent = "3 1893456000 DoesNotExist: Certificate must be issued: DoesNotExist";
-    for (issuing, failed, attempts, told) in [
-        (Some(Tri::True), None, None, "nothing"),
-        (Some(Tri::False), None, None, absent),
-        (Some(Tri::Unknown), None, None, absent),
-        (Some(Tri::False), Some(1_893_452_401), Some(1), "nothing"),
-        (Some(Tri::False), Some(1_893_452_400), Some(1), absent),
-        (Some(Tri::False), Some(1_893_448_801), Some(2), "nothing"),
-        (Some(Tri::False), Some(1_893_448_800), Some(2), absent),
-    ] {
-        let case = Case {
-            issuing,
-            failed,
-            attempts,
-            ..NONE
-        };
-        assert_eq!(rt; told_of(alloc, &case)?.as_str(), told);
+fn checks_the_parts_of_the_secret(rt: HostRuntime) -> Result<(), Fail> {
+    for (case, want) in &SECRETS {
+        tells(&rt, want, told_at_first(rt.alloc(), case)?.as_str(), want);
     }
+    Ok(())
+}
+
+/// What is done where Issuing is so, and the last failure.
+fn told_after(
+    alloc: Global,
+    issuing: Tri,
+    failed: Option<i64>,
+    attempts: Option<u32>,
+) -> Result<String, Fail>
+    requires { IsDatedOption failed }
+{
+    let case = Case {
+        issuing: Some(issuing),
+        failed,
+        attempts,
+        ..NONE
+    };
+    told_of(alloc, &case)
+}
+
+static ABSENT: &str = "3 1893456000 DoesNotExist: Certificate must be issued: DoesNotExist";
+
+#[test]
+fn begins_where_nothing_is_being_issued(rt: HostRuntime) -> Result<(), Fail> {
+    let alloc = rt.alloc();
+    let told = told_after(alloc, Tri::True, None, None)?;
+    tells(&rt, "True", told.as_str(), "nothing");
+    let told = told_after(alloc, Tri::False, None, None)?;
+    tells(&rt, "False", told.as_str(), ABSENT);
+    let told = told_after(alloc, Tri::Unknown, None, None)?;
+    tells(&rt, "Unknown", told.as_str(), ABSENT);
+    Ok(())
+}
+
+#[test]
+fn begins_behind_the_back_off(rt: HostRuntime) -> Result<(), Fail> {
+    let alloc = rt.alloc();
+    let told = told_after(alloc, Tri::False, Some(1_893_452_401), Some(1))?;
+    tells(&rt, "one attempt, before", told.as_str(), "nothing");
+    let told = told_after(alloc, Tri::False, Some(1_893_452_400), Some(1))?;
+    tells(&rt, "one attempt", told.as_str(), ABSENT);
+    let told = told_after(alloc, Tri::False, Some(1_893_448_801), Some(2))?;
+    tells(&rt, "two attempts, before", told.as_str(), "nothing");
+    let told = told_after(alloc, Tri::False, Some(1_893_448_800), Some(2))?;
+    tells(&rt, "two attempts", told.as_str(), ABSENT);
     Ok(())
 }
 
@@ -527,16 +550,20 @@ const TRIED: Case = Case {
     ..NONE
 };
 
+/// What is done where the last attempt failed a second before the end of its back-off.
+fn told_in_back_off(alloc: Global, case: &Case) -> Result<String, Fail> {
+    let failed = Case {
+        failed: Some(1_893_452_401),
+        ..*case
+    };
+    told_of(alloc, &failed)
+}
+
 #[test]
 fn back_offs(rt: HostRuntime) -> Result<(), Fail> {
-    let alloc = rt.alloc();
     for (case, reason) in &BACK_OFFS {
-        let failed = Case {
-            failed: Some(1_893_452_401),
-            ..*case
-        };
-        let told = told_of(alloc, &failed)?;
-        assert!(rt; told.as_str().ends_with(reason));
+        let told = told_in_back_off(rt.alloc(), case)?;
+        passes(&rt, told.as_str(), told.as_str().ends_with(reason));
     }
     Ok(())
 }

@@ -1,14 +1,16 @@
 //! The admission rules at their bounds, and the store's refusals by them.
-use crate::store::made;
+use crate::checks::{counts, passes};
+use crate::store::{Replied, replies};
 use cmc_admit::{Invalid, admit, is_spec_kept};
-use cmc_meta::{Condition, ConditionKind, Conditions, Kind, Numbers, Text, Texts, Tri};
+use cmc_meta::{Bytes, Condition, ConditionKind, Conditions, Kind, Numbers, Text, Texts, Tri};
 use cmc_objects::{
-    Algorithm, Call, CertStatus, Certificate, CertificateRequest, Object, Parts, Reply, Secret,
+    Algorithm, Call, CertStatus, Certificate, CertificateRequest, Object, Parts, Secret,
 };
 use cmc_store::Store;
 use cmc_tests::values::{key, least_spec, name, new_meta, text, texts};
 use cmc_tests::whole::{request, secret};
-use std::alloc::Global;
+use std::alloc::{AllocError, Global};
+use std::process::Abort;
 use std::test::Fail;
 
 /// What is changed of a Certificate that each rule admits.
@@ -51,7 +53,7 @@ enum Change {
 }
 
 /// The change, its number, and the rule that refuses, 0 where none does.
-const ROWS: [(Change, u32, u32); 51] = [
+static ROWS: [(Change, u32, u32); 51] = [
     (Change::NoName, 0, 1),
     (Change::CommonName, 1, 0),
     (Change::CommonName, 64, 0),
@@ -197,20 +199,48 @@ fn rule_of(answer: Result<(), Invalid>) -> u32 {
     }
 }
 
+/// The rule that refuses the object as a new one, 0 where none does.
+fn rule_on(object: &Object) -> u32 {
+    rule_of(admit(None, object, false, false))
+}
+
+/// The rule that refuses the object in the place of the old one, with its spec or with its status alone.
+fn rule_after(old: &Object, object: &Object, is_status: bool) -> u32 {
+    rule_of(admit(Some(old), object, is_status, false))
+}
+
+/// The same, where the name of its Secret is another Certificate's.
+fn rule_where_taken(object: &Object, is_status: bool) -> u32 {
+    rule_of(admit(Some(object), object, is_status, true))
+}
+
+fn is_rule(rt: &impl Abort, row: &str, rule: u32, want: u32) {
+    counts(rt, row, u64::from(rule), u64::from(want));
+}
+
+fn changed(alloc: Global, change: Change, number: u32) -> Result<Object, Fail> {
+    let mut c = admitted(alloc, "web", "web-tls")?;
+    change_texts(alloc, &mut c, change, number)?;
+    change_numbers(&mut c, change, number);
+    Ok(Object::of_certificate(alloc, c)?)
+}
+
 #[test]
 fn each_rule_on_certificates_at_its_bound(rt: HostRuntime) -> Result<(), Fail> {
-    let alloc = rt.alloc();
-    for (change, number, rule) in ROWS {
-        let mut c = admitted(alloc, "web", "web-tls")?;
-        change_texts(alloc, &mut c, change, number)?;
-        change_numbers(&mut c, change, number);
-        let object = Object::of_certificate(alloc, c)?;
-        assert_eq!(rt; rule_of(admit(None, &object, false, false)), rule);
-        assert_eq!(rt; rule_of(admit(Some(&object), &object, true, true)), 0);
+    for (change, number, rule) in &ROWS {
+        let object = changed(rt.alloc(), *change, *number)?;
+        is_rule(&rt, "new", rule_on(&object), *rule);
+        is_rule(&rt, "status", rule_where_taken(&object, true), 0);
     }
+    Ok(())
+}
+
+#[test]
+fn the_rule_on_the_name_of_a_secret(rt: HostRuntime) -> Result<(), Fail> {
+    let alloc = rt.alloc();
     let web = Object::of_certificate(alloc, admitted(alloc, "web", "web-tls")?)?;
-    assert_eq!(rt; rule_of(admit(Some(&web), &web, false, true)), 7);
-    assert!(rt; is_spec_kept(&web, &web));
+    is_rule(&rt, "taken", rule_where_taken(&web, false), 7);
+    passes(&rt, "kept", is_spec_kept(&web, &web));
     Ok(())
 }
 
@@ -238,7 +268,7 @@ const DENIED: Verdicts = Verdicts {
     ..NONE
 };
 
-const CHANGES: [(Verdicts, Verdicts, u32); 14] = [
+static CHANGES: [(Verdicts, Verdicts, u32); 14] = [
     (NONE, NONE, 0),
     (NONE, APPROVED, 0),
     (NONE, DENIED, 0),
@@ -303,12 +333,12 @@ fn put(
     kind: ConditionKind,
     status: Option<Tri>,
     reason: &str,
-) -> Result<(), Fail> {
+) -> Result<(), AllocError> {
     if let Some(status) = status {
         conditions.set(Condition {
             kind,
             status,
-            reason: text(alloc, reason)?,
+            reason: Text::from_str(alloc, reason)?,
             message: Text::new(alloc),
             since: 1_893_456_000,
         })?;
@@ -316,205 +346,273 @@ fn put(
     Ok(())
 }
 
-fn judged(alloc: Global, verdicts: Verdicts) -> Result<CertificateRequest, Fail> {
-    let mut request = request(alloc)?;
-    request.status.conditions = Conditions::new(alloc);
-    let conditions = &mut request.status.conditions;
+fn conditions(alloc: Global, verdicts: &Verdicts) -> Result<Conditions, AllocError> {
+    let mut conditions = Conditions::new(alloc);
+    let reason = verdicts.reason;
     put(
         alloc,
-        conditions,
+        &mut conditions,
         ConditionKind::Approved,
         verdicts.approved,
-        verdicts.reason,
+        reason,
     )?;
     put(
         alloc,
-        conditions,
+        &mut conditions,
         ConditionKind::Denied,
         verdicts.denied,
-        verdicts.reason,
+        reason,
     )?;
+    Ok(conditions)
+}
+
+fn judged(alloc: Global, verdicts: &Verdicts) -> Result<CertificateRequest, Fail> {
+    let mut request = request(alloc)?;
+    request.status.conditions = conditions(alloc, verdicts)?;
     Ok(request)
 }
 
+fn judged_object(alloc: Global, verdicts: &Verdicts) -> Result<Object, Fail> {
+    Ok(Object::of_request(alloc, judged(alloc, verdicts)?)?)
+}
+
+/// The rule that refuses the verdicts after what stood, as a status and else.
+fn verdict_rules(alloc: Global, old: &Object, verdicts: &Verdicts) -> Result<(u32, u32), Fail> {
+    let new = judged_object(alloc, verdicts)?;
+    Ok((rule_after(old, &new, true), rule_after(old, &new, false)))
+}
+
 #[test]
-fn rules_on_requests(rt: HostRuntime) -> Result<(), Fail> {
+fn rules_on_verdicts(rt: HostRuntime) -> Result<(), Fail> {
     let alloc = rt.alloc();
-    for (old, new, rule) in CHANGES {
-        let old = Object::of_request(alloc, judged(alloc, old)?)?;
-        let new = Object::of_request(alloc, judged(alloc, new)?)?;
-        assert_eq!(rt; rule_of(admit(Some(&old), &new, true, false)), rule);
-        assert_eq!(rt; rule_of(admit(Some(&old), &new, false, false)), 0);
+    for (old, new, rule) in &CHANGES {
+        let old = judged_object(alloc, old)?;
+        let (as_status, else_rule) = verdict_rules(alloc, &old, new)?;
+        is_rule(&rt, "status", as_status, *rule);
+        is_rule(&rt, "spec", else_rule, 0);
     }
-    let mut other = judged(alloc, NONE)?;
-    other.spec.is_ca = true;
-    let other = Object::of_request(alloc, other)?;
-    let old = Object::of_request(alloc, judged(alloc, NONE)?)?;
-    assert_eq!(rt; rule_of(admit(Some(&old), &other, false, false)), 8);
-    assert_eq!(rt; rule_of(admit(Some(&old), &other, true, false)), 0);
-    assert_eq!(rt; rule_of(admit(None, &other, false, false)), 0);
-    assert!(rt; !is_spec_kept(&old, &other));
     Ok(())
+}
+
+static OPEN: Verdicts = NONE;
+
+/// A request for a certificate of a CA.
+fn of_authority(alloc: Global) -> Result<Object, Fail> {
+    let mut request = judged(alloc, &OPEN)?;
+    request.spec.is_ca = true;
+    Ok(Object::of_request(alloc, request)?)
+}
+
+#[test]
+fn the_rule_on_the_spec_of_requests(rt: HostRuntime) -> Result<(), Fail> {
+    let alloc = rt.alloc();
+    let old = judged_object(alloc, &OPEN)?;
+    let other = of_authority(alloc)?;
+    is_rule(&rt, "changed", rule_after(&old, &other, false), 8);
+    is_rule(&rt, "status", rule_after(&old, &other, true), 0);
+    is_rule(&rt, "new", rule_on(&other), 0);
+    passes(&rt, "not kept", !is_spec_kept(&old, &other));
+    Ok(())
+}
+
+fn put_part(alloc: Global, parts: &mut Parts, stands: bool, word: &str) -> Result<(), AllocError> {
+    if stands {
+        parts.set(Text::from_str(alloc, word)?, Bytes::new(alloc))?;
+    }
+    Ok(())
+}
+
+fn parts(alloc: Global, key: bool, certificate: bool) -> Result<Parts, AllocError> {
+    let mut parts = Parts::new(alloc);
+    put_part(alloc, &mut parts, key, "tls.key")?;
+    put_part(alloc, &mut parts, certificate, "tls.crt")?;
+    Ok(parts)
 }
 
 /// A Secret of the type, with those of the names that are given and no bytes under them.
-fn typed(alloc: Global, kind: &str, key: bool, certificate: bool) -> Result<Secret, Fail> {
+fn typed(alloc: Global, kind: &str, key: bool, certificate: bool) -> Result<Object, Fail> {
     let mut secret = secret(alloc)?;
     secret.kind_text = text(alloc, kind)?;
-    secret.parts = Parts::new(alloc);
-    if key {
-        secret
-            .parts
-            .set(text(alloc, "tls.key")?, cmc_meta::Bytes::new(alloc))?;
-    }
-    if certificate {
-        secret
-            .parts
-            .set(text(alloc, "tls.crt")?, cmc_meta::Bytes::new(alloc))?;
-    }
-    Ok(secret)
+    secret.parts = parts(alloc, key, certificate)?;
+    Ok(Object::of_secret(alloc, secret)?)
 }
 
 #[test]
-fn the_rule_on_secrets(rt: HostRuntime) -> Result<(), Fail> {
+fn the_rule_on_the_type_of_secrets(rt: HostRuntime) -> Result<(), Fail> {
     let alloc = rt.alloc();
-    let opaque = Object::of_secret(alloc, typed(alloc, "Opaque", false, false)?)?;
-    let tls = Object::of_secret(alloc, typed(alloc, "kubernetes.io/tls", true, true)?)?;
-    assert_eq!(rt; rule_of(admit(None, &opaque, false, false)), 0);
-    assert_eq!(rt; rule_of(admit(None, &tls, false, false)), 0);
-    assert_eq!(rt; rule_of(admit(Some(&tls), &tls, false, false)), 0);
-    assert_eq!(rt; rule_of(admit(Some(&opaque), &tls, false, false)), 14);
-    assert_eq!(rt; rule_of(admit(Some(&tls), &opaque, false, false)), 14);
-    assert_eq!(rt; rule_of(admit(Some(&opaque), &opaque, true, false)), 14);
-    for (key, certificate) in [(false, false), (true, false), (false, true)] {
-        let part = Object::of_secret(alloc, typed(alloc, "kubernetes.io/tls", key, certificate)?)?;
-        assert_eq!(rt; rule_of(admit(None, &part, false, false)), 14);
-        assert_eq!(rt; rule_of(admit(Some(&tls), &part, false, false)), 14);
+    let opaque = typed(alloc, "Opaque", false, false)?;
+    let tls = typed(alloc, "kubernetes.io/tls", true, true)?;
+    is_rule(&rt, "opaque", rule_on(&opaque), 0);
+    is_rule(&rt, "tls", rule_on(&tls), 0);
+    is_rule(&rt, "tls again", rule_after(&tls, &tls, false), 0);
+    is_rule(&rt, "now tls", rule_after(&opaque, &tls, false), 14);
+    is_rule(&rt, "now opaque", rule_after(&tls, &opaque, false), 14);
+    is_rule(&rt, "status", rule_after(&opaque, &opaque, true), 14);
+    Ok(())
+}
+
+/// Which of the key and the certificate stand, where not both do.
+static LACKING: [(bool, bool); 3] = [(false, false), (true, false), (false, true)];
+
+#[test]
+fn the_rule_on_the_parts_of_secrets(rt: HostRuntime) -> Result<(), Fail> {
+    let alloc = rt.alloc();
+    let tls = typed(alloc, "kubernetes.io/tls", true, true)?;
+    for (key, certificate) in &LACKING {
+        let part = typed(alloc, "kubernetes.io/tls", *key, *certificate)?;
+        is_rule(&rt, "new", rule_on(&part), 14);
+        is_rule(&rt, "changed", rule_after(&tls, &part, false), 14);
     }
     Ok(())
+}
+
+/// A Certificate of this name is created with a Secret of that name, or updated at this version, or deleted.
+#[derive(Clone, Copy)]
+enum Asked {
+    Create(&'static str, &'static str),
+    Update(&'static str, u64),
+    Delete(&'static str),
+}
+
+fn named(alloc: Global, word: &str, secret: &str) -> Result<Object, Fail> {
+    Ok(Object::of_certificate(alloc, admitted(alloc, word, secret)?)?)
 }
 
 fn create(alloc: Global, word: &str, secret: &str) -> Result<Call, Fail> {
     Ok(Call::Create {
-        object: Object::of_certificate(alloc, admitted(alloc, word, secret)?)?,
+        object: named(alloc, word, secret)?,
         generate: false,
     })
 }
 
-fn update(alloc: Global, word: &str, secret: &str, version: u64) -> Result<Call, Fail> {
+fn update(alloc: Global, secret: &str, version: u64) -> Result<Call, Fail> {
     Ok(Call::Update {
-        object: Object::of_certificate(alloc, admitted(alloc, word, secret)?)?,
+        object: named(alloc, "web", secret)?,
         version,
     })
 }
 
-/// The rule of a refusal, 0 for any other reply.
-fn refused(reply: &Reply) -> u32 {
-    match reply {
-        Reply::Invalid { rule } => *rule,
-        _ => 0,
+fn delete(alloc: Global, word: &str) -> Result<Call, Fail> {
+    Ok(Call::Delete {
+        key: key(alloc, Kind::Certificate, word)?,
+        version: None,
+    })
+}
+
+fn call_of(alloc: Global, asked: Asked) -> Result<Call, Fail> {
+    match asked {
+        Asked::Create(word, secret) => create(alloc, word, secret),
+        Asked::Update(secret, version) => update(alloc, secret, version),
+        Asked::Delete(word) => delete(alloc, word),
     }
+}
+
+/// A Secret has one Certificate.
+static TAKEN: [(Asked, Replied); 2] = [
+    (Asked::Create("web", "web-tls"), ("ok", 1)),
+    (Asked::Create("api", "web-tls"), ("invalid", 7)),
+];
+
+/// That may name it again, or another; then it is free, and so it is where its Certificate is gone.
+static FREED: [(Asked, Replied); 6] = [
+    (Asked::Update("web-tls", 1), ("unchanged", 1)),
+    (Asked::Update("other", 1), ("ok", 2)),
+    (Asked::Create("api", "web-tls"), ("ok", 3)),
+    (Asked::Update("web-tls", 2), ("invalid", 7)),
+    (Asked::Delete("api"), ("ok", 4)),
+    (Asked::Update("web-tls", 2), ("ok", 5)),
+];
+
+fn asks_all(
+    rt: &impl Abort,
+    alloc: Global,
+    store: &mut Store,
+    rows: &[(Asked, Replied)],
+) -> Result<(), Fail> {
+    for (asked, want) in rows {
+        let call = call_of(alloc, *asked)?;
+        replies(rt, alloc, store, call, want)?;
+    }
+    Ok(())
 }
 
 #[test]
 fn a_secret_has_one_certificate(rt: HostRuntime) -> Result<(), Fail> {
     let alloc = rt.alloc();
     let mut store = Store::new(alloc, Numbers::new(alloc));
-    let web = create(alloc, "web", "web-tls")?;
-    let api = create(alloc, "api", "web-tls")?;
-    assert_eq!(rt; refused(&made(&mut store, alloc, &web)?), 0);
-    assert_eq!(rt; refused(&made(&mut store, alloc, &api)?), 7);
-    assert_eq!(rt; store.accepted(), 1);
-    assert_eq!(rt; store.calls(), 2);
-    // its own Certificate may name it again, and another Secret
-    let same = update(alloc, "web", "web-tls", 1)?;
-    assert!(rt;
-        matches!(
-            made(&mut store, alloc, &same)?,
-            Reply::Unchanged { version: 1 }
-        )
-    );
-    let moved = update(alloc, "web", "other", 1)?;
-    assert!(rt;
-        matches!(
-            made(&mut store, alloc, &moved)?,
-            Reply::Ok { version: 2, .. }
-        )
-    );
-    // then the Secret is free
-    assert!(rt; matches!(made(&mut store, alloc, &api)?, Reply::Ok { version: 3, .. }));
-    let back = update(alloc, "web", "web-tls", 2)?;
-    assert_eq!(rt; refused(&made(&mut store, alloc, &back)?), 7);
-    // and so it is where its Certificate is gone
-    let gone = Call::Delete {
-        key: key(alloc, Kind::Certificate, "api")?,
-        version: None,
-    };
-    assert!(rt;
-        matches!(
-            made(&mut store, alloc, &gone)?,
-            Reply::Ok { version: 4, .. }
-        )
-    );
-    assert!(rt;
-        matches!(
-            made(&mut store, alloc, &back)?,
-            Reply::Ok { version: 5, .. }
-        )
-    );
+    asks_all(&rt, alloc, &mut store, &TAKEN)?;
+    counts(&rt, "accepted", store.accepted(), 1);
+    counts(&rt, "calls", store.calls(), 2);
+    asks_all(&rt, alloc, &mut store, &FREED)?;
+    counts(&rt, "calls in the end", store.calls(), 8);
     Ok(())
 }
+
+static STATUSES: [(Verdicts, u64, Replied); 2] = [
+    (DENIED, 1, ("ok", 2)),
+    (
+        Verdicts {
+            approved: Some(Tri::True),
+            ..DENIED
+        },
+        2,
+        ("invalid", 10),
+    ),
+];
+
+fn new_request(alloc: Global) -> Result<Call, Fail> {
+    Ok(Call::Create {
+        object: judged_object(alloc, &OPEN)?,
+        generate: false,
+    })
+}
+
+fn status(alloc: Global, verdicts: &Verdicts, version: u64) -> Result<Call, Fail> {
+    Ok(Call::UpdateStatus {
+        object: judged_object(alloc, verdicts)?,
+        version,
+    })
+}
+
+/// A request with other usages.
+fn other_usages(alloc: Global) -> Result<Object, Fail> {
+    let mut request = judged(alloc, &OPEN)?;
+    request.spec.usages = texts(alloc, "client auth")?;
+    Ok(Object::of_request(alloc, request)?)
+}
+
+fn changed_request(alloc: Global) -> Result<Call, Fail> {
+    Ok(Call::Update {
+        object: other_usages(alloc)?,
+        version: 2,
+    })
+}
+
+fn new_secret(alloc: Global) -> Result<Call, Fail> {
+    Ok(Call::Create {
+        object: typed(alloc, "kubernetes.io/tls", true, false)?,
+        generate: false,
+    })
+}
+
+static ACCEPTED: Replied = ("ok", 1);
+
+static CHANGED_SPEC: Replied = ("invalid", 8);
+
+static LACKING_PART: Replied = ("invalid", 14);
 
 #[test]
 fn the_store_refuses_by_each_kind(rt: HostRuntime) -> Result<(), Fail> {
     let alloc = rt.alloc();
     let mut store = Store::new(alloc, Numbers::new(alloc));
-    let made_request = Call::Create {
-        object: Object::of_request(alloc, judged(alloc, NONE)?)?,
-        generate: false,
-    };
-    assert!(rt;
-        matches!(
-            made(&mut store, alloc, &made_request)?,
-            Reply::Ok { version: 1, .. }
-        )
-    );
-    let denied = Call::UpdateStatus {
-        object: Object::of_request(alloc, judged(alloc, DENIED)?)?,
-        version: 1,
-    };
-    assert!(rt;
-        matches!(
-            made(&mut store, alloc, &denied)?,
-            Reply::Ok { version: 2, .. }
-        )
-    );
-    let approved = Call::UpdateStatus {
-        object: Object::of_request(
-            alloc,
-            judged(
-                alloc,
-                Verdicts {
-                    approved: Some(Tri::True),
-                    ..DENIED
-                },
-            )?,
-        )?,
-        version: 2,
-    };
-    assert_eq!(rt; refused(&made(&mut store, alloc, &approved)?), 10);
-    let mut other = judged(alloc, NONE)?;
-    other.spec.usages = texts(alloc, "client auth")?;
-    let changed = Call::Update {
-        object: Object::of_request(alloc, other)?,
-        version: 2,
-    };
-    assert_eq!(rt; refused(&made(&mut store, alloc, &changed)?), 8);
-    let tls = Call::Create {
-        object: Object::of_secret(alloc, typed(alloc, "kubernetes.io/tls", true, false)?)?,
-        generate: false,
-    };
-    assert_eq!(rt; refused(&made(&mut store, alloc, &tls)?), 14);
-    assert_eq!(rt; store.accepted(), 2);
+    replies(&rt, alloc, &mut store, new_request(alloc)?, &ACCEPTED)?;
+    for (verdicts, version, want) in &STATUSES {
+        let call = status(alloc, verdicts, *version)?;
+        replies(&rt, alloc, &mut store, call, want)?;
+    }
+    let call = changed_request(alloc)?;
+    replies(&rt, alloc, &mut store, call, &CHANGED_SPEC)?;
+    replies(&rt, alloc, &mut store, new_secret(alloc)?, &LACKING_PART)?;
+    counts(&rt, "accepted", store.accepted(), 2);
     Ok(())
 }

@@ -1,90 +1,134 @@
 //! What no clause says: that each reply comes, with ample memory.
+use crate::checks::{counts, passes, tells};
 use cmc_meta::{Kind, Numbers};
 use cmc_objects::{Call, Object, Reply};
 use cmc_store::Store;
-use cmc_tests::values::key;
+use cmc_tests::values::{key, let_go};
 use cmc_tests::whole::admitted_certificate;
-use std::alloc::Global;
+use std::alloc::{AllocError, Global};
+use std::process::Abort;
 use std::test::Fail;
 
 /// Makes a call on a store that has room for more.
-pub fn made(store: &mut Store, alloc: Global, call: &Call) -> Result<Reply, Fail> {
+pub(crate) fn made(store: &mut Store, alloc: Global, call: &Call) -> Result<Reply, Fail> {
     if store.calls() >= 1_000 {
         return Err(Fail::from("too many calls"));
     }
     Ok(store.call(alloc, 0, call)?.reply)
 }
 
+/// A reply as a word, and its number, or 0.
+pub(crate) type Replied = (&'static str, u64);
+
+fn replied(reply: &Reply) -> Replied {
+    match reply {
+        Reply::Ok { version, .. } => ("ok", *version),
+        Reply::Unchanged { version } => ("unchanged", *version),
+        Reply::Found { .. } => ("found", 0),
+        Reply::Conflict { named: 1, have } => ("conflict with 1", *have),
+        Reply::Conflict { have, .. } => ("another conflict", *have),
+        Reply::NotFound { at } => ("not found", *at),
+        Reply::AlreadyExists { have } => ("already exists", *have),
+        Reply::Invalid { rule } => ("invalid", u64::from(*rule)),
+        Reply::Unavailable { number } => ("unavailable", *number),
+    }
+}
+
+/// What the store replies to the call.
+fn replied_to(store: &mut Store, alloc: Global, call: &Call) -> Result<Replied, Fail> {
+    let reply = made(store, alloc, call)?;
+    let told = replied(&reply);
+    let_go(reply);
+    Ok(told)
+}
+
+/// The store replies to the call as is wanted; the call is let go behind it.
+pub(crate) fn replies(
+    rt: &impl Abort,
+    alloc: Global,
+    store: &mut Store,
+    call: Call,
+    want: &Replied,
+) -> Result<(), Fail> {
+    let replied = replied_to(store, alloc, &call);
+    let_go(call);
+    let (word, number) = replied?;
+    tells(rt, want.0, word, want.0);
+    counts(rt, want.0, number, want.1);
+    Ok(())
+}
+
+fn create(alloc: Global) -> Result<Call, Fail> {
+    Ok(Call::Create {
+        object: Object::of_certificate(alloc, admitted_certificate(alloc)?)?,
+        generate: false,
+    })
+}
+
+fn status(alloc: Global, version: u64) -> Result<Call, Fail> {
+    Ok(Call::UpdateStatus {
+        object: Object::of_certificate(alloc, admitted_certificate(alloc)?)?,
+        version,
+    })
+}
+
+fn get(alloc: Global) -> Result<Call, Fail> {
+    Ok(Call::Get {
+        key: key(alloc, Kind::Certificate, "web")?,
+    })
+}
+
+fn delete(alloc: Global, version: u64) -> Result<Call, Fail> {
+    Ok(Call::Delete {
+        key: key(alloc, Kind::Certificate, "web")?,
+        version: Some(version),
+    })
+}
+
+/// The call of this word, which names the version where it names one.
+fn call_of(alloc: Global, word: &str, version: u64) -> Result<Call, Fail> {
+    match word {
+        "create" => create(alloc),
+        "status" => status(alloc, version),
+        "get" => get(alloc),
+        _ => delete(alloc, version),
+    }
+}
+
+/// Calls one after the other, the versions that they name, and the replies. The seventh is made to fail.
+static CALLS: [(&str, u64, Replied); 9] = [
+    ("create", 0, ("ok", 1)),
+    ("create", 0, ("already exists", 1)),
+    ("status", 1, ("ok", 2)),
+    ("status", 1, ("conflict with 1", 2)),
+    ("status", 2, ("unchanged", 2)),
+    ("get", 0, ("found", 0)),
+    ("get", 0, ("unavailable", 7)),
+    ("delete", 2, ("ok", 3)),
+    ("get", 0, ("not found", 3)),
+];
+
+fn seventh(alloc: Global) -> Result<Numbers, AllocError> {
+    let mut faults = Numbers::new(alloc);
+    faults.push(7)?;
+    Ok(faults)
+}
+
+fn stands(alloc: Global, store: &Store) -> Result<bool, Fail> {
+    let web = key(alloc, Kind::Certificate, "web")?;
+    Ok(store.peek(&web).is_some())
+}
+
 #[test]
 fn answers_each_call(rt: HostRuntime) -> Result<(), Fail> {
     let alloc = rt.alloc();
-    let mut faults = Numbers::new(alloc);
-    faults.push(7)?;
-    let mut store = Store::new(alloc, faults);
-    let web = key(alloc, Kind::Certificate, "web")?;
-    let create = Call::Create {
-        object: Object::of_certificate(alloc, admitted_certificate(alloc)?)?,
-        generate: false,
-    };
-    assert!(rt;
-        matches!(
-            made(&mut store, alloc, &create)?,
-            Reply::Ok { version: 1, .. }
-        )
-    );
-    assert!(rt;
-        matches!(
-            made(&mut store, alloc, &create)?,
-            Reply::AlreadyExists { have: 1 }
-        )
-    );
-    let state = Call::UpdateStatus {
-        object: Object::of_certificate(alloc, admitted_certificate(alloc)?)?,
-        version: 1,
-    };
-    assert!(rt;
-        matches!(
-            made(&mut store, alloc, &state)?,
-            Reply::Ok { version: 2, .. }
-        )
-    );
-    assert!(rt;
-        matches!(
-            made(&mut store, alloc, &state)?,
-            Reply::Conflict { named: 1, have: 2 }
-        )
-    );
-    let again = Call::UpdateStatus {
-        object: Object::of_certificate(alloc, admitted_certificate(alloc)?)?,
-        version: 2,
-    };
-    assert!(rt;
-        matches!(
-            made(&mut store, alloc, &again)?,
-            Reply::Unchanged { version: 2 }
-        )
-    );
-    let get = Call::Get { key: web.copy()? };
-    assert!(rt; matches!(made(&mut store, alloc, &get)?, Reply::Found { .. }));
-    assert!(rt;
-        matches!(
-            made(&mut store, alloc, &get)?,
-            Reply::Unavailable { number: 7 }
-        )
-    );
-    let gone = Call::Delete {
-        key: web.copy()?,
-        version: Some(2),
-    };
-    assert!(rt;
-        matches!(
-            made(&mut store, alloc, &gone)?,
-            Reply::Ok { version: 3, .. }
-        )
-    );
-    assert!(rt; matches!(made(&mut store, alloc, &get)?, Reply::NotFound { at: 3 }));
-    assert!(rt; store.peek(&web).is_none());
-    assert_eq!(rt; store.accepted(), 3);
-    assert_eq!(rt; store.calls(), 9);
+    let mut store = Store::new(alloc, seventh(alloc)?);
+    for (word, version, want) in &CALLS {
+        let call = call_of(alloc, word, *version)?;
+        replies(&rt, alloc, &mut store, call, want)?;
+    }
+    passes(&rt, "gone", !stands(alloc, &store)?);
+    counts(&rt, "accepted", store.accepted(), 3);
+    counts(&rt, "calls", store.calls(), 9);
     Ok(())
 }

@@ -5,15 +5,15 @@ ghost use Rattle.cmc_objects.specs.Requests.{is_lifetime, is_row_form};
 
 use crate::checks::{passes, tells};
 use crate::orders::question;
-use crate::values::{made, octets, text, texts};
+use crate::values::{let_go, made, octets, patterns, policy, text, texts};
 use crate::whole::request;
 use crate::{made_keys, made_requests};
 use cmc_answers::{
-    Denial, ScriptedSigner, Signer, judge, signing_of, temporary, temporary_is_read,
+    Answered, Denial, ScriptedSigner, Signer, judge, signing_of, temporary, temporary_is_read,
 };
-use cmc_meta::{Bytes, Texts};
-use cmc_objects::{CertificateRequest, JudgeOrder, Rules, Shared, SignRow, Signing};
-use cmc_policy_rules::{Field, Pattern, Patterns, Policies, Policy};
+use cmc_meta::{Bytes, Text, Texts};
+use cmc_objects::{CertificateRequest, JudgeOrder, Rules, Shared, SignOrder, SignRow, Signing};
+use cmc_policy_rules::{Field, Policies, Policy};
 use std::alloc::{AllocError, Global};
 use std::test::Fail;
 
@@ -72,48 +72,56 @@ fn failure(answer: &Signing) -> &str {
     }
 }
 
-/// Of a text that is handed on by reference, so that it is not spelt in what is proved.
-fn octets_of(alloc: Global, text: &&str) -> Result<Vec<u8>, AllocError> {
-    octets(alloc, text)
+/// The answer by the row has these octets, of a text that is handed on by reference, so that it is not spelt in what is
+/// proved.
+fn is_issued(
+    alloc: Global,
+    row: &SignRow,
+    asked: &CertificateRequest,
+    want: &&str,
+) -> Result<bool, AllocError>
+    requires { is_row_form row.now ≡ true }
+{
+    let want = octets(alloc, want)?;
+    let answer = signing_of(alloc, row, 7, asked, NOW)?;
+    let is_same = issued(&answer) == want.as_slice();
+    let_go(answer);
+    Ok(is_same)
 }
 
-fn is_issued(alloc: Global, answer: &Signing, want: &&str) -> Result<bool, AllocError> {
-    Ok(issued(answer) == octets(alloc, want)?.as_slice())
+fn is_of_request(alloc: Global, asked: &CertificateRequest) -> Result<bool, AllocError> {
+    let row = issue(alloc, None, 60, Some(300), None);
+    let is_issued = is_issued(alloc, &row, asked, &OF_REQUEST);
+    let_go(row);
+    is_issued
+}
+
+fn is_of_stand_in(alloc: Global, asked: &CertificateRequest) -> Result<bool, AllocError> {
+    let row = issue(alloc, Some(86_400), 0, None, Some(1));
+    let is_issued = is_issued(alloc, &row, asked, &OF_STAND_IN);
+    let_go(row);
+    is_issued
 }
 
 #[test]
 fn issues_certificates(rt: HostRuntime) -> Result<(), Fail> {
     let alloc = rt.alloc();
     let asked = asking(alloc, "P-256, all names")?;
-    let row = issue(alloc, None, 60, Some(300), None);
-    let answer = signing_of(alloc, &row, 7, &asked, NOW)?;
-    passes(
-        &rt,
-        "of the request",
-        is_issued(alloc, &answer, &OF_REQUEST)?,
-    );
-    let row = issue(alloc, Some(86_400), 0, None, Some(1));
-    let answer = signing_of(alloc, &row, 7, &asked, NOW)?;
-    passes(
-        &rt,
-        "of a stand-in key",
-        is_issued(alloc, &answer, &OF_STAND_IN)?,
-    );
+    passes(&rt, "of the request", is_of_request(alloc, &asked)?);
+    passes(&rt, "of a stand-in key", is_of_stand_in(alloc, &asked)?);
     Ok(())
 }
 
-/// What stands in for the certificate of this request and this key is as wanted.
-fn stands_in(
-    alloc: Global,
-    request: &[u8],
-    key: &[u8],
-    want: Option<&[u8]>,
-) -> Result<bool, AllocError> {
-    match (temporary(alloc, request, key, NOW)?, want) {
-        (Some(certificate), Some(want)) => Ok(certificate.as_slice() == want),
-        (None, None) => Ok(true),
-        _ => Ok(false),
+/// What stands in for the certificate of this request and this key has these octets.
+fn stands_in(alloc: Global, request: &[u8], key: &[u8], want: &&str) -> Result<bool, AllocError> {
+    match temporary(alloc, request, key, NOW)? {
+        Some(certificate) => Ok(certificate.as_slice() == octets(alloc, want)?.as_slice()),
+        None => Ok(false),
     }
+}
+
+fn is_none(alloc: Global, request: &[u8], key: &[u8]) -> Result<bool, AllocError> {
+    Ok(temporary(alloc, request, key, NOW)?.is_none())
 }
 
 #[test]
@@ -122,102 +130,128 @@ fn stands_in_while_a_request_waits(rt: HostRuntime) -> Result<(), Fail> {
     temporary_is_read();
     let request = made(alloc, &[made_requests::made()], "P-256, all names")?;
     let key = made(alloc, &[made_keys::made()], "p256 as PrivateKeyInfo")?;
-    let expected = octets_of(alloc, &STANDING_IN)?;
     let (request, key) = (request.as_slice(), key.as_slice());
-    let is_made = stands_in(alloc, request, key, Some(expected.as_slice()))?;
+    let is_made = stands_in(alloc, request, key, &STANDING_IN)?;
     passes(&rt, "stands in", is_made);
-    passes(&rt, "no request", stands_in(alloc, key, key, None)?);
-    passes(&rt, "no key", stands_in(alloc, request, request, None)?);
+    passes(&rt, "no request", is_none(alloc, key, key)?);
+    passes(&rt, "no key", is_none(alloc, request, request)?);
     Ok(())
 }
 
 fn failure_of(alloc: Global, asked: &CertificateRequest) -> Result<Signing, AllocError> {
-    let row = issue(alloc, None, 0, None, None);
-    signing_of(alloc, &row, 1, asked, NOW)
+    answer_of(alloc, issue(alloc, None, 0, None, None), asked)
 }
+
+fn is_failure(alloc: Global, asked: &CertificateRequest, want: &str) -> Result<bool, AllocError> {
+    Ok(failure(&failure_of(alloc, asked)?) == want)
+}
+
+static NOT_READABLE: &str = "The request is not readable";
 
 #[test]
 fn fails_what_is_not_readable(rt: HostRuntime) -> Result<(), Fail> {
     let alloc = rt.alloc();
-    let want = "The request is not readable";
-    let answer = failure_of(alloc, &asking(alloc, "Ed25519")?)?;
-    tells(&rt, "Ed25519", failure(&answer), want);
-    let answer = failure_of(alloc, &request(alloc)?)?;
-    tells(&rt, "no request", failure(&answer), want);
+    let asked = asking(alloc, "Ed25519")?;
+    let is_refused = is_failure(alloc, &asked, NOT_READABLE)?;
+    passes(&rt, "Ed25519", is_refused);
+    let is_refused = is_failure(alloc, &request(alloc)?, NOT_READABLE)?;
+    passes(&rt, "no request", is_refused);
     Ok(())
 }
 
 fn answer_of(alloc: Global, row: SignRow, asked: &CertificateRequest) -> Result<Signing, AllocError>
     requires { is_row_form row ≡ true }
 {
-    signing_of(alloc, &row, 1, asked, NOW)
+    let answer = signing_of(alloc, &row, 1, asked, NOW);
+    let_go(row);
+    answer
+}
+
+fn is_raw(alloc: Global, asked: &CertificateRequest) -> Result<bool, AllocError> {
+    let der = Bytes::from_slice(alloc, &[1, 2])?;
+    let answer = answer_of(alloc, SignRow::Raw { der }, asked)?;
+    Ok(issued(&answer) == [1, 2].as_slice())
+}
+
+fn is_refusal(alloc: Global, asked: &CertificateRequest) -> Result<bool, AllocError> {
+    let message = Text::from_str(alloc, "no")?;
+    let answer = answer_of(alloc, SignRow::Fail { message }, asked)?;
+    Ok(failure(&answer) == "no")
 }
 
 #[test]
 fn answers_by_the_row(rt: HostRuntime) -> Result<(), Fail> {
     let alloc = rt.alloc();
     let asked = asking(alloc, "P-384, no names")?;
-    let der = Bytes::from_slice(alloc, &[1, 2])?;
-    let answer = answer_of(alloc, SignRow::Raw { der }, &asked)?;
-    passes(&rt, "raw", issued(&answer) == [1, 2].as_slice());
-    let message = text(alloc, "no")?;
-    let answer = answer_of(alloc, SignRow::Fail { message }, &asked)?;
-    tells(&rt, "fail", failure(&answer), "no");
+    passes(&rt, "raw", is_raw(alloc, &asked)?);
+    passes(&rt, "fail", is_refusal(alloc, &asked)?);
     Ok(())
+}
+
+fn order(alloc: Global) -> Result<SignOrder, Fail> {
+    let request = Shared::new(alloc, asking(alloc, "P-384, no names")?)?;
+    Ok(question(request).ok_or("not to be asked")?)
+}
+
+fn answered(alloc: Global) -> Result<Answered, Fail> {
+    Ok(ScriptedSigner.sign(alloc, &order(alloc)?)?)
+}
+
+/// The answer is a copy's, and its question is the order's.
+fn is_copied(answered: &Answered) -> Result<bool, AllocError> {
+    Ok(answered.copy()?.order().same(answered.order()))
+}
+
+fn number_in(answered: Answered) -> u64 {
+    let (order, _) = answered.into_parts();
+    order.number()
 }
 
 /// The answer to the first question about the request is that it waits, and so is its copy, and its parts.
 #[test]
 fn answers_a_question(rt: HostRuntime) -> Result<(), Fail> {
-    let alloc = rt.alloc();
-    let request = Shared::new(alloc, asking(alloc, "P-384, no names")?)?;
-    let order = question(request).ok_or("not to be asked")?;
-    let answered = ScriptedSigner.sign(alloc, &order)?;
-    passes(
-        &rt,
-        "pending",
-        matches!(answered.answer(), Signing::Pending),
-    );
-    passes(&rt, "copied", answered.copy()?.order().same(&order));
-    let (order, _) = answered.into_parts();
-    passes(&rt, "parts", order.number() == 1);
+    let answered = answered(rt.alloc())?;
+    let is_pending = matches!(answered.answer(), Signing::Pending);
+    passes(&rt, "pending", is_pending);
+    passes(&rt, "copied", is_copied(&answered)?);
+    passes(&rt, "parts", number_in(answered) == 1);
     Ok(())
 }
 
-fn patterns(alloc: Global, text: &str) -> Result<Patterns, Fail> {
-    let mut patterns = Patterns::new(alloc);
-    patterns.push(Pattern::from_slice(alloc, text.as_bytes())?)?;
-    Ok(patterns)
+fn allow_names(alloc: Global, policy: &mut Policy) -> Result<(), AllocError> {
+    policy.common = Some(patterns(alloc, "*")?);
+    policy.ips = Some(patterns(alloc, "*")?);
+    Ok(())
+}
+
+fn allow_uses(alloc: Global, policy: &mut Policy) -> Result<(), AllocError> {
+    policy.uris = Some(patterns(alloc, "https://*.com/*")?);
+    policy.emails = Some(patterns(alloc, "*@example.com")?);
+    policy.usages = patterns(alloc, "server auth")?;
+    Ok(())
+}
+
+fn allow_terms(policy: &mut Policy) {
+    policy.min = Some(3_600);
+    policy.max = Some(3_600);
+    policy.algorithm = Some(false);
+    policy.min_size = Some(256);
+    policy.max_size = Some(256);
 }
 
 /// A policy named `shops` for requests to these issuers, which allows these DNS names and all other names and usages
 /// of the request that openssl made with all names.
-fn policies(alloc: Global, issuers: &str, dns: &str) -> Result<Policies, Fail> {
-    let name = Pattern::from_slice(alloc, b"shops")?;
-    let issuers = patterns(alloc, issuers)?;
-    let common = Some(patterns(alloc, "*")?);
-    let dns = Some(patterns(alloc, dns)?);
-    let ips = Some(patterns(alloc, "*")?);
-    let uris = Some(patterns(alloc, "https://*.com/*")?);
-    let emails = Some(patterns(alloc, "*@example.com")?);
-    let usages = patterns(alloc, "server auth")?;
+fn shops(alloc: Global, issuers: &str, dns: &str) -> Result<Policy, AllocError> {
+    let mut policy = policy(alloc, "shops", issuers, dns)?;
+    allow_names(alloc, &mut policy)?;
+    allow_uses(alloc, &mut policy)?;
+    allow_terms(&mut policy);
+    Ok(policy)
+}
+
+fn policies(alloc: Global, issuers: &str, dns: &str) -> Result<Policies, AllocError> {
     let mut policies = Policies::new(alloc);
-    policies.push(Policy {
-        name,
-        issuers,
-        common,
-        dns,
-        ips,
-        uris,
-        emails,
-        usages,
-        ca: false,
-        min: Some(3_600),
-        max: Some(3_600),
-        algorithm: Some(false),
-        min_size: Some(256),
-        max_size: Some(256),
-    })?;
+    policies.push(shops(alloc, issuers, dns)?)?;
     Ok(policies)
 }
 
@@ -252,31 +286,38 @@ fn rules(alloc: Global, refuse: Texts, policies: Policies) -> Result<Rules, Fail
     })
 }
 
-fn without_policies(alloc: Global, refuse: Texts) -> Result<Rules, Fail> {
-    rules(alloc, refuse, Policies::new(alloc))
+/// The name that is refused, or none.
+fn refused(alloc: Global, word: &str) -> Result<Texts, Fail> {
+    match word {
+        "" => Ok(Texts::new(alloc)),
+        _ => texts(alloc, word),
+    }
+}
+
+fn without_policies(alloc: Global, word: &str) -> Result<Rules, Fail> {
+    rules(alloc, refused(alloc, word)?, Policies::new(alloc))
+}
+
+/// A name that is refused, and why a request for all names may then not be approved.
+static REFUSED: [(&str, &str); 2] = [("", "none"), ("www.example.com", "refused")];
+
+fn denial_where(
+    alloc: Global,
+    asked: CertificateRequest,
+    word: &str,
+) -> Result<&'static str, Fail> {
+    denial(alloc, asked, without_policies(alloc, word)?)
 }
 
 #[test]
 fn judges_by_names(rt: HostRuntime) -> Result<(), Fail> {
     let alloc = rt.alloc();
-    let rules = without_policies(alloc, Texts::new(alloc))?;
-    tells(
-        &rt,
-        "no request",
-        denial(alloc, request(alloc)?, rules)?,
-        "unreadable",
-    );
-    let named = asking(alloc, "P-256, all names")?;
-    let rules = without_policies(alloc, Texts::new(alloc))?;
-    tells(&rt, "all names", denial(alloc, named, rules)?, "none");
-    let named = asking(alloc, "P-256, all names")?;
-    let rules = without_policies(alloc, texts(alloc, "www.example.com")?)?;
-    tells(
-        &rt,
-        "a refused name",
-        denial(alloc, named, rules)?,
-        "refused",
-    );
+    let told = denial_where(alloc, request(alloc)?, "")?;
+    tells(&rt, "no request", told, "unreadable");
+    for (word, want) in &REFUSED {
+        let asked = asking(alloc, "P-256, all names")?;
+        tells(&rt, word, denial_where(alloc, asked, word)?, want);
+    }
     Ok(())
 }
 
@@ -287,13 +328,15 @@ static POLICIES: [(&str, &str, &str); 3] = [
     ("other", "*example.com", "unbound"),
 ];
 
+fn denial_by(alloc: Global, issuers: &str, dns: &str) -> Result<&'static str, Fail> {
+    let rules = rules(alloc, Texts::new(alloc), policies(alloc, issuers, dns)?)?;
+    denial(alloc, asking(alloc, "P-256, all names")?, rules)
+}
+
 #[test]
 fn judges_by_policies(rt: HostRuntime) -> Result<(), Fail> {
-    let alloc = rt.alloc();
     for (issuers, dns, want) in &POLICIES {
-        let rules = rules(alloc, Texts::new(alloc), policies(alloc, issuers, dns)?)?;
-        let named = asking(alloc, "P-256, all names")?;
-        tells(&rt, issuers, denial(alloc, named, rules)?, want);
+        tells(&rt, issuers, denial_by(rt.alloc(), issuers, dns)?, want);
     }
     Ok(())
 }

@@ -29,7 +29,47 @@ fn push_line(alloc: Global, lines: &mut String, line: &str) -> Result<(), AllocE
     lines.push_str(line)
 }
 
-/// The values of the input from the outside in: offset, header length, length and tag of each.
+/// A value: offset, header length, length and tag.
+fn value_told(
+    alloc: Global,
+    offset: usize,
+    header: usize,
+    value: &Tlv<'_>,
+) -> Result<String, AllocError> {
+    let length = value.body.len();
+    let tag = value.tag;
+    format!(in alloc; "{offset} {header} {length} {tag:02x}")
+}
+
+/// Tells the first value of the rest, and gives what stands behind it, or in it where it is constructed: the contents
+/// of such a value are values, and those of a primitive one are not.
+fn walk_on<'a>(
+    alloc: Global,
+    lines: &mut String,
+    whole: usize,
+    rest: &'a [u8],
+) -> Result<&'a [u8], AllocError> {
+    let Ok((value, after)) = read_one(rest) else {
+        push_line(alloc, lines, "no value")?;
+        return Ok(b"");
+    };
+    let header = rest
+        .len()
+        .wrapping_sub(value.body.len())
+        .wrapping_sub(after.len());
+    let offset = whole.wrapping_sub(rest.len());
+    push_line(
+        alloc,
+        lines,
+        value_told(alloc, offset, header, &value)?.as_str(),
+    )?;
+    if value.tag & 32 == 0 {
+        return Ok(after);
+    }
+    Ok(rest.get(header..).unwrap_or(b""))
+}
+
+/// The values of the input from the outside in.
 fn walk(alloc: Global, input: &[u8]) -> Result<String, AllocError> {
     let mut lines = String::new(alloc);
     let mut rest = input;
@@ -37,22 +77,7 @@ fn walk(alloc: Global, input: &[u8]) -> Result<String, AllocError> {
         if rest.is_empty() {
             break;
         }
-        let Ok((Tlv { tag, body }, after)) = read_one(rest) else {
-            return String::from_str(alloc, "no value");
-        };
-        let header = rest
-            .len()
-            .wrapping_sub(body.len())
-            .wrapping_sub(after.len());
-        let offset = input.len().wrapping_sub(rest.len());
-        let line = format!(in alloc; "{offset} {header} {} {tag:02x}", body.len())?;
-        push_line(alloc, &mut lines, &line)?;
-        // The contents of a constructed value are values, and those of a primitive one are not.
-        rest = if tag & 32 == 0 {
-            after
-        } else {
-            rest.get(header..).unwrap_or(b"")
-        };
+        rest = walk_on(alloc, &mut lines, input.len(), rest)?;
     }
     Ok(lines)
 }

@@ -1,7 +1,7 @@
 //! What no clause says: whether keys, requests and Secrets of openssl's making fit a Certificate, by what openssl
-//! prints of them.
+//! prints of them. A row of a table is a text with bars between its columns, which `column` takes apart.
 use crate::checks::{passes, tells};
-use crate::values::{least_spec, made, name, text};
+use crate::values::{column, least_spec, made, name, number, text};
 use crate::{made_certificates, made_keys, made_requests, whole};
 use cmc_match::{
     asks_for_temporary, facts_mean, facts_of, has_names, has_text, is_next_key, is_one_key,
@@ -20,835 +20,101 @@ use std::test::Fail;
 /// A file of no octets.
 static EMPTY: &str = "empty|";
 
-/// The common name, and the DNS names, IP addresses, URIs and email addresses with commas between them.
-struct Names {
-    common: &'static str,
-    dns: &'static str,
-    ips: &'static str,
-    uris: &'static str,
-    emails: &'static str,
+/// What a row wants in its last column.
+fn is_wanted(word: &str) -> bool {
+    word == "yes"
 }
 
-/// A request of openssl, the names of a Certificate, and whether they are one.
-static NAMES: [(&str, Names, bool); 24] = [
-    (
-        "P-256, all names",
-        Names {
-            common: "example.com",
-            dns: "example.com,www.example.com",
-            ips: "10.0.0.1",
-            uris: "https://example.com/x",
-            emails: "a@example.com",
-        },
-        true,
-    ),
-    (
-        "P-256, all names",
-        Names {
-            common: "example.com",
-            dns: "www.example.com,example.com,www.example.com",
-            ips: "10.0.0.1,10.0.0.1",
-            uris: "https://example.com/x",
-            emails: "a@example.com",
-        },
-        true,
-    ),
-    (
-        "P-256, all names",
-        Names {
-            common: "",
-            dns: "example.com,www.example.com",
-            ips: "10.0.0.1",
-            uris: "https://example.com/x",
-            emails: "a@example.com",
-        },
-        false,
-    ),
-    (
-        "P-256, all names",
-        Names {
-            common: "www.example.com",
-            dns: "example.com,www.example.com",
-            ips: "10.0.0.1",
-            uris: "https://example.com/x",
-            emails: "a@example.com",
-        },
-        false,
-    ),
-    (
-        "P-256, all names",
-        Names {
-            common: "example.com",
-            dns: "example.com",
-            ips: "10.0.0.1",
-            uris: "https://example.com/x",
-            emails: "a@example.com",
-        },
-        false,
-    ),
-    (
-        "P-256, all names",
-        Names {
-            common: "example.com",
-            dns: "example.com,www.example.com,c.example.com",
-            ips: "10.0.0.1",
-            uris: "https://example.com/x",
-            emails: "a@example.com",
-        },
-        false,
-    ),
-    (
-        "P-256, all names",
-        Names {
-            common: "example.com",
-            dns: "example.com,c.example.com",
-            ips: "10.0.0.1",
-            uris: "https://example.com/x",
-            emails: "a@example.com",
-        },
-        false,
-    ),
-    (
-        "P-256, all names",
-        Names {
-            common: "example.com",
-            dns: "example.com,www.example.com",
-            ips: "",
-            uris: "https://example.com/x",
-            emails: "a@example.com",
-        },
-        false,
-    ),
-    (
-        "P-256, all names",
-        Names {
-            common: "example.com",
-            dns: "example.com,www.example.com",
-            ips: "10.0.0.2",
-            uris: "https://example.com/x",
-            emails: "a@example.com",
-        },
-        false,
-    ),
-    (
-        "P-256, all names",
-        Names {
-            common: "example.com",
-            dns: "example.com,www.example.com",
-            ips: "10.0.0.1,::1",
-            uris: "https://example.com/x",
-            emails: "a@example.com",
-        },
-        false,
-    ),
-    (
-        "P-256, all names",
-        Names {
-            common: "example.com",
-            dns: "example.com,www.example.com",
-            ips: "::ffff:a00:1",
-            uris: "https://example.com/x",
-            emails: "a@example.com",
-        },
-        false,
-    ),
-    (
-        "P-256, all names",
-        Names {
-            common: "example.com",
-            dns: "example.com,www.example.com",
-            ips: "10.0.0.1,not an address",
-            uris: "https://example.com/x",
-            emails: "a@example.com",
-        },
-        true,
-    ),
-    (
-        "P-256, all names",
-        Names {
-            common: "example.com",
-            dns: "example.com,www.example.com",
-            ips: "10.0.0.1",
-            uris: "",
-            emails: "a@example.com",
-        },
-        false,
-    ),
-    (
-        "P-256, all names",
-        Names {
-            common: "example.com",
-            dns: "example.com,www.example.com",
-            ips: "10.0.0.1",
-            uris: "https://example.com/x",
-            emails: "",
-        },
-        false,
-    ),
-    (
-        "P-256, all names",
-        Names {
-            common: "example.com",
-            dns: "example.com,www.example.com",
-            ips: "10.0.0.1",
-            uris: "a@example.com",
-            emails: "https://example.com/x",
-        },
-        false,
-    ),
-    (
-        "addresses of 4, 16 and 5 octets",
-        Names {
-            common: "example.com",
-            dns: "",
-            ips: "10.0.0.1,::1",
-            uris: "",
-            emails: "",
-        },
-        true,
-    ),
-    (
-        "addresses of 4, 16 and 5 octets",
-        Names {
-            common: "example.com",
-            dns: "",
-            ips: "0:0:0:0:0:0:0:1,10.0.0.1",
-            uris: "",
-            emails: "",
-        },
-        true,
-    ),
-    (
-        "addresses of 4, 16 and 5 octets",
-        Names {
-            common: "example.com",
-            dns: "",
-            ips: "10.0.0.1",
-            uris: "",
-            emails: "",
-        },
-        false,
-    ),
-    (
-        "addresses of 4, 16 and 5 octets",
-        Names {
-            common: "example.com",
-            dns: "",
-            ips: "10.0.0.1,::2",
-            uris: "",
-            emails: "",
-        },
-        false,
-    ),
-    (
-        "P-384, no names",
-        Names {
-            common: "",
-            dns: "",
-            ips: "",
-            uris: "",
-            emails: "",
-        },
-        true,
-    ),
-    (
-        "P-384, no names",
-        Names {
-            common: "example.com",
-            dns: "",
-            ips: "",
-            uris: "",
-            emails: "",
-        },
-        false,
-    ),
-    (
-        "P-521, common name alone",
-        Names {
-            common: "only common",
-            dns: "",
-            ips: "",
-            uris: "",
-            emails: "",
-        },
-        true,
-    ),
-    (
-        "two alternative names, the first counts",
-        Names {
-            common: "example.com",
-            dns: "first",
-            ips: "",
-            uris: "",
-            emails: "",
-        },
-        true,
-    ),
-    (
-        "two alternative names, the first counts",
-        Names {
-            common: "example.com",
-            dns: "first,second",
-            ips: "",
-            uris: "",
-            emails: "",
-        },
-        false,
-    ),
+/// A request of openssl; the common name, and the DNS names, IP addresses, URIs and email addresses of a Certificate, with
+/// commas between them; and whether they are one.
+static NAMES: [&str; 24] = [
+    "P-256, all names|example.com|example.com,www.example.com|10.0.0.1|https://example.com/x|a@example.com|yes",
+    "P-256, all names|example.com|www.example.com,example.com,www.example.com|10.0.0.1,10.0.0.1|https://example.com/x|a@example.com|yes",
+    "P-256, all names||example.com,www.example.com|10.0.0.1|https://example.com/x|a@example.com|no",
+    "P-256, all names|www.example.com|example.com,www.example.com|10.0.0.1|https://example.com/x|a@example.com|no",
+    "P-256, all names|example.com|example.com|10.0.0.1|https://example.com/x|a@example.com|no",
+    "P-256, all names|example.com|example.com,www.example.com,c.example.com|10.0.0.1|https://example.com/x|a@example.com|no",
+    "P-256, all names|example.com|example.com,c.example.com|10.0.0.1|https://example.com/x|a@example.com|no",
+    "P-256, all names|example.com|example.com,www.example.com||https://example.com/x|a@example.com|no",
+    "P-256, all names|example.com|example.com,www.example.com|10.0.0.2|https://example.com/x|a@example.com|no",
+    "P-256, all names|example.com|example.com,www.example.com|10.0.0.1,::1|https://example.com/x|a@example.com|no",
+    "P-256, all names|example.com|example.com,www.example.com|::ffff:a00:1|https://example.com/x|a@example.com|no",
+    "P-256, all names|example.com|example.com,www.example.com|10.0.0.1,not an address|https://example.com/x|a@example.com|yes",
+    "P-256, all names|example.com|example.com,www.example.com|10.0.0.1||a@example.com|no",
+    "P-256, all names|example.com|example.com,www.example.com|10.0.0.1|https://example.com/x||no",
+    "P-256, all names|example.com|example.com,www.example.com|10.0.0.1|a@example.com|https://example.com/x|no",
+    "addresses of 4, 16 and 5 octets|example.com||10.0.0.1,::1|||yes",
+    "addresses of 4, 16 and 5 octets|example.com||0:0:0:0:0:0:0:1,10.0.0.1|||yes",
+    "addresses of 4, 16 and 5 octets|example.com||10.0.0.1|||no",
+    "addresses of 4, 16 and 5 octets|example.com||10.0.0.1,::2|||no",
+    "P-384, no names||||||yes",
+    "P-384, no names|example.com|||||no",
+    "P-521, common name alone|only common|||||yes",
+    "two alternative names, the first counts|example.com|first||||yes",
+    "two alternative names, the first counts|example.com|first,second||||no",
 ];
 
-/// The names that the request of openssl with all names asks for.
-static ALL_NAMES: Names = Names {
-    common: "example.com",
-    dns: "example.com,www.example.com",
-    ips: "10.0.0.1",
-    uris: "https://example.com/x",
-    emails: "a@example.com",
-};
+/// The names that the request of openssl with all names asks for, as a row of that table.
+static ALL_NAMES: &str =
+    "P-256, all names|example.com|example.com,www.example.com|10.0.0.1|https://example.com/x|a@example.com|yes";
 
 /// What a Certificate and a request have besides names: the issuer's name, kind and group, empty where absent, the
-/// duration, the mark of a CA, and the usages with commas between them.
-struct Terms {
-    issuer: &'static str,
-    kind: &'static str,
-    group: &'static str,
-    duration: Option<u64>,
-    is_ca: bool,
-    usages: &'static str,
-}
-
-/// The terms of a Certificate, those of a request, and whether they are one.
-static TERMS: [(Terms, Terms, bool); 15] = [
-    (
-        Terms {
-            issuer: "ca",
-            kind: "",
-            group: "",
-            duration: None,
-            is_ca: false,
-            usages: "client auth,server auth",
-        },
-        Terms {
-            issuer: "ca",
-            kind: "Issuer",
-            group: "cert-manager.io",
-            duration: Some(7_776_000),
-            is_ca: false,
-            usages: "server auth,client auth",
-        },
-        true,
-    ),
-    (
-        Terms {
-            issuer: "ca",
-            kind: "",
-            group: "",
-            duration: None,
-            is_ca: false,
-            usages: "client auth,server auth,client auth",
-        },
-        Terms {
-            issuer: "ca",
-            kind: "",
-            group: "",
-            duration: None,
-            is_ca: false,
-            usages: "server auth,client auth",
-        },
-        true,
-    ),
-    (
-        Terms {
-            issuer: "ca",
-            kind: "",
-            group: "",
-            duration: Some(7_776_000),
-            is_ca: false,
-            usages: "server auth",
-        },
-        Terms {
-            issuer: "ca",
-            kind: "",
-            group: "",
-            duration: None,
-            is_ca: false,
-            usages: "server auth",
-        },
-        true,
-    ),
-    (
-        Terms {
-            issuer: "ca",
-            kind: "",
-            group: "",
-            duration: Some(7_775_999),
-            is_ca: false,
-            usages: "server auth",
-        },
-        Terms {
-            issuer: "ca",
-            kind: "",
-            group: "",
-            duration: None,
-            is_ca: false,
-            usages: "server auth",
-        },
-        false,
-    ),
-    (
-        Terms {
-            issuer: "ca",
-            kind: "",
-            group: "",
-            duration: None,
-            is_ca: false,
-            usages: "server auth",
-        },
-        Terms {
-            issuer: "ca",
-            kind: "",
-            group: "",
-            duration: Some(0),
-            is_ca: false,
-            usages: "server auth",
-        },
-        false,
-    ),
-    (
-        Terms {
-            issuer: "ca",
-            kind: "",
-            group: "",
-            duration: None,
-            is_ca: false,
-            usages: "server auth",
-        },
-        Terms {
-            issuer: "other",
-            kind: "",
-            group: "",
-            duration: None,
-            is_ca: false,
-            usages: "server auth",
-        },
-        false,
-    ),
-    (
-        Terms {
-            issuer: "ca",
-            kind: "ClusterIssuer",
-            group: "",
-            duration: None,
-            is_ca: false,
-            usages: "server auth",
-        },
-        Terms {
-            issuer: "ca",
-            kind: "",
-            group: "",
-            duration: None,
-            is_ca: false,
-            usages: "server auth",
-        },
-        false,
-    ),
-    (
-        Terms {
-            issuer: "ca",
-            kind: "ClusterIssuer",
-            group: "",
-            duration: None,
-            is_ca: false,
-            usages: "server auth",
-        },
-        Terms {
-            issuer: "ca",
-            kind: "ClusterIssuer",
-            group: "",
-            duration: None,
-            is_ca: false,
-            usages: "server auth",
-        },
-        true,
-    ),
-    (
-        Terms {
-            issuer: "ca",
-            kind: "",
-            group: "",
-            duration: None,
-            is_ca: false,
-            usages: "server auth",
-        },
-        Terms {
-            issuer: "ca",
-            kind: "",
-            group: "example.com",
-            duration: None,
-            is_ca: false,
-            usages: "server auth",
-        },
-        false,
-    ),
-    (
-        Terms {
-            issuer: "ca",
-            kind: "",
-            group: "",
-            duration: None,
-            is_ca: true,
-            usages: "server auth",
-        },
-        Terms {
-            issuer: "ca",
-            kind: "",
-            group: "",
-            duration: None,
-            is_ca: false,
-            usages: "server auth",
-        },
-        false,
-    ),
-    (
-        Terms {
-            issuer: "ca",
-            kind: "",
-            group: "",
-            duration: None,
-            is_ca: false,
-            usages: "server auth",
-        },
-        Terms {
-            issuer: "ca",
-            kind: "",
-            group: "",
-            duration: None,
-            is_ca: true,
-            usages: "server auth",
-        },
-        false,
-    ),
-    (
-        Terms {
-            issuer: "ca",
-            kind: "",
-            group: "",
-            duration: None,
-            is_ca: true,
-            usages: "server auth",
-        },
-        Terms {
-            issuer: "ca",
-            kind: "",
-            group: "",
-            duration: None,
-            is_ca: true,
-            usages: "server auth",
-        },
-        true,
-    ),
-    (
-        Terms {
-            issuer: "ca",
-            kind: "",
-            group: "",
-            duration: None,
-            is_ca: false,
-            usages: "server auth",
-        },
-        Terms {
-            issuer: "ca",
-            kind: "",
-            group: "",
-            duration: None,
-            is_ca: false,
-            usages: "server auth,client auth",
-        },
-        false,
-    ),
-    (
-        Terms {
-            issuer: "ca",
-            kind: "",
-            group: "",
-            duration: None,
-            is_ca: false,
-            usages: "server auth,client auth",
-        },
-        Terms {
-            issuer: "ca",
-            kind: "",
-            group: "",
-            duration: None,
-            is_ca: false,
-            usages: "server auth",
-        },
-        false,
-    ),
-    (
-        Terms {
-            issuer: "ca",
-            kind: "",
-            group: "",
-            duration: None,
-            is_ca: false,
-            usages: "",
-        },
-        Terms {
-            issuer: "ca",
-            kind: "",
-            group: "",
-            duration: None,
-            is_ca: false,
-            usages: "",
-        },
-        true,
-    ),
+/// duration, the mark of a CA, and the usages with commas between them. The terms of a Certificate, and behind a slash
+/// those of a request, and whether they are one.
+static TERMS: [&str; 15] = [
+    "ca|||||client auth,server auth/ca|Issuer|cert-manager.io|7776000||server auth,client auth|yes",
+    "ca|||||client auth,server auth,client auth/ca|||||server auth,client auth|yes",
+    "ca|||7776000||server auth/ca|||||server auth|yes",
+    "ca|||7775999||server auth/ca|||||server auth|no",
+    "ca|||||server auth/ca|||0||server auth|no",
+    "ca|||||server auth/other|||||server auth|no",
+    "ca|ClusterIssuer||||server auth/ca|||||server auth|no",
+    "ca|ClusterIssuer||||server auth/ca|ClusterIssuer||||server auth|yes",
+    "ca|||||server auth/ca||example.com|||server auth|no",
+    "ca||||CA|server auth/ca|||||server auth|no",
+    "ca|||||server auth/ca||||CA|server auth|no",
+    "ca||||CA|server auth/ca||||CA|server auth|yes",
+    "ca|||||server auth/ca|||||server auth,client auth|no",
+    "ca|||||server auth,client auth/ca|||||server auth|no",
+    "ca|||||/ca||||||yes",
 ];
 
-/// The key and the certificate of a Secret, what its annotations have else than those of the Certificate's issuer,
-/// the size of key that is asked for, and the current request.
-struct Seen {
-    key: &'static str,
-    certificate: &'static str,
-    change: &'static str,
-    size: u32,
-    request: &'static str,
-}
-
-/// What is seen, and what is known then: the flags that are true, and the times of the certificate.
-static FACTS: [(Seen, &str); 23] = [
-    (
-        Seen {
-            key: "p256 as ECPrivateKey",
-            certificate: "P-256, all names",
-            change: "",
-            size: 256,
-            request: "P-256, all names",
-        },
-        "secret filled pair issuer owner kind request 1795748973 1803524973",
-    ),
-    (
-        Seen {
-            key: "p256 as PrivateKeyInfo",
-            certificate: "P-256, all names",
-            change: "",
-            size: 256,
-            request: "P-256, all names",
-        },
-        "secret filled pair issuer owner kind request 1795748973 1803524973",
-    ),
-    (
-        Seen {
-            key: "synthetic P-256 as ECPrivateKey",
-            certificate: "P-256, all names",
-            change: "",
-            size: 256,
-            request: "P-256, all names",
-        },
-        "secret filled issuer owner request 0 0",
-    ),
-    (
-        Seen {
-            key: "p256 as ECPrivateKey",
-            certificate: "P-256, all names",
-            change: "",
-            size: 256,
-            request: "none",
-        },
-        "secret filled pair issuer owner request 1795748973 1803524973",
-    ),
-    (
-        Seen {
-            key: "p256 as ECPrivateKey",
-            certificate: "P-256, all names",
-            change: "",
-            size: 384,
-            request: "P-256, all names",
-        },
-        "secret filled pair issuer owner request 1795748973 1803524973",
-    ),
-    (
-        Seen {
-            key: "p256 as ECPrivateKey",
-            certificate: "P-256, all names",
-            change: "",
-            size: 256,
-            request: "two alternative names, the first counts",
-        },
-        "secret filled pair issuer owner kind 1795748973 1803524973",
-    ),
-    (
-        Seen {
-            key: "p256 as ECPrivateKey",
-            certificate: "P-256, all names",
-            change: "",
-            size: 256,
-            request: "P-384, no names",
-        },
-        "secret filled pair issuer owner 1795748973 1803524973",
-    ),
-    (
-        Seen {
-            key: "p256 as ECPrivateKey",
-            certificate: "P-256, all names",
-            change: "",
-            size: 256,
-            request: "octet behind",
-        },
-        "secret filled pair issuer owner 1795748973 1803524973",
-    ),
-    (
-        Seen {
-            key: "p256 as ECPrivateKey",
-            certificate: "empty",
-            change: "",
-            size: 256,
-            request: "P-256, all names",
-        },
-        "secret issuer owner kind request 0 0",
-    ),
-    (
-        Seen {
-            key: "p256 as ECPrivateKey",
-            certificate: "none",
-            change: "",
-            size: 256,
-            request: "P-256, all names",
-        },
-        "secret issuer owner kind request 0 0",
-    ),
-    (
-        Seen {
-            key: "empty",
-            certificate: "P-256, all names",
-            change: "",
-            size: 256,
-            request: "P-256, all names",
-        },
-        "secret issuer owner request 0 0",
-    ),
-    (
-        Seen {
-            key: "none",
-            certificate: "P-256, all names",
-            change: "",
-            size: 256,
-            request: "P-256, all names",
-        },
-        "secret issuer owner request 0 0",
-    ),
-    (
-        Seen {
-            key: "none",
-            certificate: "none",
-            change: "",
-            size: 256,
-            request: "none",
-        },
-        "secret issuer owner request 0 0",
-    ),
-    (
-        Seen {
-            key: "p256 as ECPrivateKey",
-            certificate: "octet behind",
-            change: "",
-            size: 256,
-            request: "P-256, all names",
-        },
-        "secret filled issuer owner kind request 0 0",
-    ),
-    (
-        Seen {
-            key: "p256 as ECPrivateKey",
-            certificate: "P-256, all names",
-            change: "cert-manager.io/temporary-certificate=true",
-            size: 256,
-            request: "P-256, all names",
-        },
-        "secret pair issuer owner kind request 1795748973 1803524973",
-    ),
-    (
-        Seen {
-            key: "p256 as ECPrivateKey",
-            certificate: "P-256, all names",
-            change: "cert-manager.io/temporary-certificate=True",
-            size: 256,
-            request: "P-256, all names",
-        },
-        "secret filled pair issuer owner kind request 1795748973 1803524973",
-    ),
-    (
-        Seen {
-            key: "p256 as ECPrivateKey",
-            certificate: "P-256, all names",
-            change: "cert-manager.io/issuer-name=other",
-            size: 256,
-            request: "P-256, all names",
-        },
-        "secret filled pair owner kind request 1795748973 1803524973",
-    ),
-    (
-        Seen {
-            key: "p256 as ECPrivateKey",
-            certificate: "P-256, all names",
-            change: "cert-manager.io/issuer-kind=ClusterIssuer",
-            size: 256,
-            request: "P-256, all names",
-        },
-        "secret filled pair owner kind request 1795748973 1803524973",
-    ),
-    (
-        Seen {
-            key: "p256 as ECPrivateKey",
-            certificate: "P-256, all names",
-            change: "cert-manager.io/issuer-group=absent",
-            size: 256,
-            request: "P-256, all names",
-        },
-        "secret filled pair owner kind request 1795748973 1803524973",
-    ),
-    (
-        Seen {
-            key: "p256 as ECPrivateKey",
-            certificate: "P-256, all names",
-            change: "cert-manager.io/certificate-name=web",
-            size: 256,
-            request: "P-256, all names",
-        },
-        "secret filled pair issuer owner kind request 1795748973 1803524973",
-    ),
-    (
-        Seen {
-            key: "p256 as ECPrivateKey",
-            certificate: "P-256, all names",
-            change: "cert-manager.io/certificate-name=other",
-            size: 256,
-            request: "P-256, all names",
-        },
-        "secret filled pair issuer kind request 1795748973 1803524973",
-    ),
-    (
-        Seen {
-            key: "rsa as RSAPrivateKey",
-            certificate: "both forms of time",
-            change: "",
-            size: 256,
-            request: "P-256, all names",
-        },
-        "secret filled pair issuer owner request -631152000 2524608000",
-    ),
-    (
-        Seen {
-            key: "rsa as RSAPrivateKey",
-            certificate: "the same time twice",
-            change: "",
-            size: 256,
-            request: "P-256, all names",
-        },
-        "secret filled pair issuer owner request 1893456000 1893456000",
-    ),
+/// The key and the certificate of a Secret, what its annotations have else than those of the Certificate's issuer, the
+/// size of key that is asked for, and the current request; and what is known then: the flags that are true, and the
+/// times of the certificate.
+static FACTS: [&str; 23] = [
+    "p256 as ECPrivateKey|P-256, all names||256|P-256, all names|secret filled pair issuer owner kind request 1795748973 1803524973",
+    "p256 as PrivateKeyInfo|P-256, all names||256|P-256, all names|secret filled pair issuer owner kind request 1795748973 1803524973",
+    "synthetic P-256 as ECPrivateKey|P-256, all names||256|P-256, all names|secret filled issuer owner request 0 0",
+    "p256 as ECPrivateKey|P-256, all names||256|none|secret filled pair issuer owner request 1795748973 1803524973",
+    "p256 as ECPrivateKey|P-256, all names||384|P-256, all names|secret filled pair issuer owner request 1795748973 1803524973",
+    "p256 as ECPrivateKey|P-256, all names||256|two alternative names, the first counts|secret filled pair issuer owner kind 1795748973 1803524973",
+    "p256 as ECPrivateKey|P-256, all names||256|P-384, no names|secret filled pair issuer owner 1795748973 1803524973",
+    "p256 as ECPrivateKey|P-256, all names||256|octet behind|secret filled pair issuer owner 1795748973 1803524973",
+    "p256 as ECPrivateKey|empty||256|P-256, all names|secret issuer owner kind request 0 0",
+    "p256 as ECPrivateKey|none||256|P-256, all names|secret issuer owner kind request 0 0",
+    "empty|P-256, all names||256|P-256, all names|secret issuer owner request 0 0",
+    "none|P-256, all names||256|P-256, all names|secret issuer owner request 0 0",
+    "none|none||256|none|secret issuer owner request 0 0",
+    "p256 as ECPrivateKey|octet behind||256|P-256, all names|secret filled issuer owner kind request 0 0",
+    "p256 as ECPrivateKey|P-256, all names|cert-manager.io/temporary-certificate=true|256|P-256, all names|secret pair issuer owner kind request 1795748973 1803524973",
+    "p256 as ECPrivateKey|P-256, all names|cert-manager.io/temporary-certificate=True|256|P-256, all names|secret filled pair issuer owner kind request 1795748973 1803524973",
+    "p256 as ECPrivateKey|P-256, all names|cert-manager.io/issuer-name=other|256|P-256, all names|secret filled pair owner kind request 1795748973 1803524973",
+    "p256 as ECPrivateKey|P-256, all names|cert-manager.io/issuer-kind=ClusterIssuer|256|P-256, all names|secret filled pair owner kind request 1795748973 1803524973",
+    "p256 as ECPrivateKey|P-256, all names|cert-manager.io/issuer-group=absent|256|P-256, all names|secret filled pair owner kind request 1795748973 1803524973",
+    "p256 as ECPrivateKey|P-256, all names|cert-manager.io/certificate-name=web|256|P-256, all names|secret filled pair issuer owner kind request 1795748973 1803524973",
+    "p256 as ECPrivateKey|P-256, all names|cert-manager.io/certificate-name=other|256|P-256, all names|secret filled pair issuer kind request 1795748973 1803524973",
+    "rsa as RSAPrivateKey|both forms of time||256|P-256, all names|secret filled pair issuer owner request -631152000 2524608000",
+    "rsa as RSAPrivateKey|the same time twice||256|P-256, all names|secret filled pair issuer owner request 1893456000 1893456000",
 ];
+
+/// The size of key that the word spells, and none for any other word.
+fn size(word: &str) -> Option<u32> {
+    match word.parse::<u32>() {
+        Ok(size) => Some(size),
+        Err(_) => None,
+    }
+}
 
 /// The texts between the commas, and none in an empty text.
 fn list(alloc: Global, words: &str) -> Result<Texts, AllocError> {
@@ -884,54 +150,56 @@ fn optional(alloc: Global, word: &str) -> Result<Option<Text>, AllocError> {
     Ok(Some(Text::from_str(alloc, word)?))
 }
 
-fn issuer_of(alloc: Global, terms: &Terms) -> Result<IssuerRef, AllocError> {
-    let name = Text::from_str(alloc, terms.issuer)?;
-    let kind = optional(alloc, terms.kind)?;
+fn issuer_of(alloc: Global, terms: &str) -> Result<IssuerRef, AllocError> {
+    let name = Text::from_str(alloc, column(terms, 0))?;
+    let kind = optional(alloc, column(terms, 1))?;
     Ok(IssuerRef {
         name,
         kind,
-        group: optional(alloc, terms.group)?,
+        group: optional(alloc, column(terms, 2))?,
     })
 }
 
-/// What `asking` and `whole_spec` ask for.
-static USUAL: Terms = Terms {
-    issuer: "ca",
-    kind: "",
-    group: "",
-    duration: Some(7_776_000),
-    is_ca: false,
-    usages: "server auth,client auth",
-};
-
-/// A request with these terms and these octets.
-fn asking_for(alloc: Global, terms: &Terms, octets: Bytes) -> Result<CertificateRequest, Fail> {
+/// A request with these terms.
+fn asking_on(alloc: Global, terms: &str) -> Result<CertificateRequest, Fail> {
     let mut asking = whole::request(alloc)?;
     asking.spec.issuer = issuer_of(alloc, terms)?;
-    asking.spec.duration = terms.duration;
-    asking.spec.is_ca = terms.is_ca;
-    asking.spec.usages = list(alloc, terms.usages)?;
+    asking.spec.duration = number(column(terms, 3));
+    asking.spec.is_ca = column(terms, 4) == "CA";
+    asking.spec.usages = list(alloc, column(terms, 5))?;
+    Ok(asking)
+}
+
+/// A request with these terms and these octets.
+fn asking_for(alloc: Global, terms: &str, octets: Bytes) -> Result<CertificateRequest, Fail> {
+    let mut asking = asking_on(alloc, terms)?;
     asking.spec.request = octets;
     Ok(asking)
 }
 
 /// A request with these octets, to the issuer `ca` for 90 days.
 fn asking(alloc: Global, octets: Bytes) -> Result<CertificateRequest, Fail> {
-    asking_for(alloc, &USUAL, octets)
+    asking_for(alloc, "ca|||7776000||server auth,client auth", octets)
 }
 
 fn asking_called(alloc: Global, name: &str) -> Result<CertificateRequest, Fail> {
     asking(alloc, request_called(alloc, name)?)
 }
 
-/// A spec with these names, that asks for an ECDSA key and for what `asking` asks for.
-fn spec_of(alloc: Global, names: &Names) -> Result<CertSpec, Fail> {
+/// Gives the spec the names of the row.
+fn set_names(alloc: Global, spec: &mut CertSpec, row: &str) -> Result<(), AllocError> {
+    spec.common_name = Text::from_str(alloc, column(row, 1))?;
+    spec.dns_names = list(alloc, column(row, 2))?;
+    spec.ip_addresses = list(alloc, column(row, 3))?;
+    spec.uris = list(alloc, column(row, 4))?;
+    spec.emails = list(alloc, column(row, 5))?;
+    Ok(())
+}
+
+/// A spec with the names of the row, that asks for an ECDSA key and for what `asking` asks for.
+fn spec_of(alloc: Global, row: &str) -> Result<CertSpec, Fail> {
     let mut spec = least_spec(alloc, "web-tls", "example.com")?;
-    spec.common_name = Text::from_str(alloc, names.common)?;
-    spec.dns_names = list(alloc, names.dns)?;
-    spec.ip_addresses = list(alloc, names.ips)?;
-    spec.uris = list(alloc, names.uris)?;
-    spec.emails = list(alloc, names.emails)?;
+    set_names(alloc, &mut spec, row)?;
     spec.usages = list(alloc, "client auth,server auth")?;
     spec.key.algorithm = Some(Algorithm::Ecdsa);
     Ok(spec)
@@ -939,7 +207,7 @@ fn spec_of(alloc: Global, names: &Names) -> Result<CertSpec, Fail> {
 
 /// A spec that the request of openssl with all names matches.
 fn whole_spec(alloc: Global) -> Result<CertSpec, Fail> {
-    spec_of(alloc, &ALL_NAMES)
+    spec_of(alloc, ALL_NAMES)
 }
 
 fn names_fit(spec: &CertSpec, request: &[u8]) -> bool {
@@ -955,31 +223,32 @@ fn fits_on(spec: &CertSpec, request: &CertificateRequest) -> (bool, bool) {
     (names_fit(spec, octets), request_matches(spec, request))
 }
 
-fn fits(alloc: Global, request: &str, names: &Names) -> Result<(bool, bool), Fail> {
-    let request = asking_called(alloc, request)?;
-    Ok(fits_on(&spec_of(alloc, names)?, &request))
+fn fits(alloc: Global, row: &str) -> Result<(bool, bool), Fail> {
+    let request = asking_called(alloc, column(row, 0))?;
+    Ok(fits_on(&spec_of(alloc, row)?, &request))
 }
 
 #[test]
 fn matches_names(rt: HostRuntime) -> Result<(), Fail> {
-    for (request, names, want) in &NAMES {
-        let (by_names, by_all) = fits(rt.alloc(), request, names)?;
-        passes(&rt, request, by_names == *want);
-        passes(&rt, names.dns, by_all == *want);
+    for row in &NAMES {
+        let (by_names, by_all) = fits(rt.alloc(), row)?;
+        let want = is_wanted(column(row, 6));
+        passes(&rt, row, by_names == want);
+        passes(&rt, row, by_all == want);
     }
     Ok(())
 }
 
-fn spec_for(alloc: Global, terms: &Terms) -> Result<CertSpec, Fail> {
+fn spec_for(alloc: Global, terms: &str) -> Result<CertSpec, Fail> {
     let mut spec = whole_spec(alloc)?;
     spec.issuer = issuer_of(alloc, terms)?;
-    spec.duration = terms.duration;
-    spec.is_ca = terms.is_ca;
-    spec.usages = list(alloc, terms.usages)?;
+    spec.duration = number(column(terms, 3));
+    spec.is_ca = column(terms, 4) == "CA";
+    spec.usages = list(alloc, column(terms, 5))?;
     Ok(spec)
 }
 
-fn meets(alloc: Global, spec: &Terms, request: &Terms) -> Result<bool, Fail> {
+fn meets(alloc: Global, spec: &str, request: &str) -> Result<bool, Fail> {
     let octets = request_called(alloc, "P-256, all names")?;
     let request = asking_for(alloc, request, octets)?;
     Ok(request_matches(&spec_for(alloc, spec)?, &request))
@@ -987,8 +256,10 @@ fn meets(alloc: Global, spec: &Terms, request: &Terms) -> Result<bool, Fail> {
 
 #[test]
 fn matches_terms(rt: HostRuntime) -> Result<(), Fail> {
-    for (spec, request, want) in &TERMS {
-        passes(&rt, spec.usages, meets(rt.alloc(), spec, request)? == *want);
+    for row in &TERMS {
+        let (spec, request) = row.split_once('/').unwrap_or(("", ""));
+        let want = is_wanted(column(request, 6));
+        passes(&rt, row, meets(rt.alloc(), spec, request)? == want);
     }
     Ok(())
 }
@@ -996,9 +267,9 @@ fn matches_terms(rt: HostRuntime) -> Result<(), Fail> {
 /// A request that neither matches the whole spec nor has the key.
 fn is_refused(alloc: Global, octets: Bytes) -> Result<bool, Fail> {
     let request = asking(alloc, octets)?;
+    let matches = request_matches(&whole_spec(alloc)?, &request);
     let key = key_called(alloc, "p256 as ECPrivateKey")?;
-    let has_key = request_has_key(&request, key.as_slice());
-    Ok(!has_key && !request_matches(&whole_spec(alloc)?, &request))
+    Ok(!matches && !request_has_key(&request, key.as_slice()))
 }
 
 /// The first octets of the request with all names, so many of them.
@@ -1030,59 +301,50 @@ fn refuses_unreadable_requests(rt: HostRuntime) -> Result<(), Fail> {
 }
 
 /// The algorithm and the size that are asked for, a key file, and whether it fits.
-static KEYS: [(Option<Algorithm>, Option<u32>, &str, bool); 14] = [
-    (None, None, "rsa as RSAPrivateKey", true),
-    (None, None, "rsa as PrivateKeyInfo", true),
-    (
-        Some(Algorithm::Rsa),
-        Some(2048),
-        "rsa as RSAPrivateKey",
-        true,
-    ),
-    (None, Some(3072), "rsa as RSAPrivateKey", false),
-    (None, None, "rsa1 as RSAPrivateKey", false),
-    (None, None, "p256 as ECPrivateKey", false),
-    (Some(Algorithm::Ecdsa), None, "p256 as ECPrivateKey", true),
-    (
-        Some(Algorithm::Ecdsa),
-        Some(256),
-        "p256 as PrivateKeyInfo",
-        true,
-    ),
-    (
-        Some(Algorithm::Ecdsa),
-        Some(384),
-        "p256 as ECPrivateKey",
-        false,
-    ),
-    (
-        Some(Algorithm::Ecdsa),
-        Some(384),
-        "p384 as ECPrivateKey",
-        true,
-    ),
-    (
-        Some(Algorithm::Ecdsa),
-        Some(521),
-        "p521 as PrivateKeyInfo",
-        true,
-    ),
-    (Some(Algorithm::Ecdsa), None, "rsa as RSAPrivateKey", false),
-    (Some(Algorithm::Ecdsa), None, "EC, no public key", false),
-    (None, None, "empty", false),
+static KEYS: [&str; 14] = [
+    "||rsa as RSAPrivateKey|yes",
+    "||rsa as PrivateKeyInfo|yes",
+    "RSA|2048|rsa as RSAPrivateKey|yes",
+    "|3072|rsa as RSAPrivateKey|no",
+    "||rsa1 as RSAPrivateKey|no",
+    "||p256 as ECPrivateKey|no",
+    "ECDSA||p256 as ECPrivateKey|yes",
+    "ECDSA|256|p256 as PrivateKeyInfo|yes",
+    "ECDSA|384|p256 as ECPrivateKey|no",
+    "ECDSA|384|p384 as ECPrivateKey|yes",
+    "ECDSA|521|p521 as PrivateKeyInfo|yes",
+    "ECDSA||rsa as RSAPrivateKey|no",
+    "ECDSA||EC, no public key|no",
+    "||empty|no",
 ];
+
+fn algorithm(word: &str) -> Option<Algorithm> {
+    match word {
+        "RSA" => Some(Algorithm::Rsa),
+        "ECDSA" => Some(Algorithm::Ecdsa),
+        _ => None,
+    }
+}
+
+fn key_spec(row: &str) -> KeySpec {
+    KeySpec {
+        algorithm: algorithm(column(row, 0)),
+        size: size(column(row, 1)),
+        encoding: None,
+        rotation: None,
+    }
+}
+
+fn is_fitting(alloc: Global, row: &str) -> Result<bool, Fail> {
+    let file = key_called(alloc, column(row, 2))?;
+    Ok(key_fits(&key_spec(row), file.as_slice()))
+}
 
 #[test]
 fn fits_keys(rt: HostRuntime) -> Result<(), Fail> {
-    for (algorithm, size, name, want) in &KEYS {
-        let spec = KeySpec {
-            algorithm: *algorithm,
-            size: *size,
-            encoding: None,
-            rotation: None,
-        };
-        let file = key_called(rt.alloc(), name)?;
-        passes(&rt, name, key_fits(&spec, file.as_slice()) == *want);
+    for row in &KEYS {
+        let want = is_wanted(column(row, 3));
+        passes(&rt, row, is_fitting(rt.alloc(), row)? == want);
     }
     Ok(())
 }
@@ -1196,53 +458,17 @@ fn reads_revisions(rt: HostRuntime) -> Result<(), Fail> {
     Ok(())
 }
 
-/// A mark and its text; and whether it is, as a label, that of a next key, as an annotation, that of a certificate
-/// that stands in, and on a Certificate the wish for one.
-static MARKS: [(&str, &str, bool, bool, bool); 8] = [
-    (
-        "cert-manager.io/next-private-key",
-        "true",
-        true,
-        false,
-        false,
-    ),
-    (
-        "cert-manager.io/next-private-key",
-        "True",
-        false,
-        false,
-        false,
-    ),
-    ("cert-manager.io/next-private-key", "", false, false, false),
-    ("next-private-key", "true", false, false, false),
-    (
-        "cert-manager.io/temporary-certificate",
-        "true",
-        false,
-        true,
-        false,
-    ),
-    (
-        "cert-manager.io/temporary-certificate",
-        "false",
-        false,
-        false,
-        false,
-    ),
-    (
-        "cert-manager.io/issue-temporary-certificate",
-        "true",
-        false,
-        false,
-        true,
-    ),
-    (
-        "cert-manager.io/issue-temporary-certificate",
-        "yes",
-        false,
-        false,
-        false,
-    ),
+/// A mark and its text; and what it means: as a label, a next key; as an annotation, a certificate that stands in; and
+/// on a Certificate, that it asks for one.
+static MARKS: [&str; 8] = [
+    "cert-manager.io/next-private-key|true|next key",
+    "cert-manager.io/next-private-key|True|nothing",
+    "cert-manager.io/next-private-key||nothing",
+    "next-private-key|true|nothing",
+    "cert-manager.io/temporary-certificate|true|stands in",
+    "cert-manager.io/temporary-certificate|false|nothing",
+    "cert-manager.io/issue-temporary-certificate|true|asks",
+    "cert-manager.io/issue-temporary-certificate|yes|nothing",
 ];
 
 fn labelled(alloc: Global, key: &str, word: &str) -> Result<Secret, Fail> {
@@ -1263,20 +489,34 @@ fn wishing(alloc: Global, key: &str, word: &str) -> Result<Certificate, Fail> {
     Ok(certificate)
 }
 
+/// What the mark means as a label: whether the Secret holds a next key, or stands in.
+fn as_label(alloc: Global, row: &str) -> Result<(bool, bool), Fail> {
+    let secret = labelled(alloc, column(row, 0), column(row, 1))?;
+    Ok((is_next_key(&secret), is_temporary(&secret)))
+}
+
+fn as_annotation(alloc: Global, row: &str) -> Result<(bool, bool), Fail> {
+    let secret = annotated(alloc, column(row, 0), column(row, 1))?;
+    Ok((is_next_key(&secret), is_temporary(&secret)))
+}
+
+fn as_wish(alloc: Global, row: &str) -> Result<bool, Fail> {
+    let certificate = wishing(alloc, column(row, 0), column(row, 1))?;
+    Ok(asks_for_temporary(&certificate))
+}
+
 #[test]
 fn reads_marks(rt: HostRuntime) -> Result<(), Fail> {
-    let alloc = rt.alloc();
-    for (key, word, is_next, _temporary, _asks) in &MARKS {
-        let secret = labelled(alloc, key, word)?;
-        passes(&rt, key, is_next_key(&secret) == *is_next);
-        passes(&rt, key, !is_temporary(&secret));
-    }
-    for (key, word, _is_next, temporary, asks) in &MARKS {
-        let secret = annotated(alloc, key, word)?;
-        passes(&rt, key, is_temporary(&secret) == *temporary);
-        passes(&rt, key, !is_next_key(&secret));
-        let certificate = wishing(alloc, key, word)?;
-        passes(&rt, key, asks_for_temporary(&certificate) == *asks);
+    for row in &MARKS {
+        let meaning = column(row, 2);
+        let (is_next, stands_in) = as_label(rt.alloc(), row)?;
+        passes(&rt, row, is_next == (meaning == "next key"));
+        passes(&rt, row, !stands_in);
+        let (is_next, stands_in) = as_annotation(rt.alloc(), row)?;
+        passes(&rt, row, stands_in == (meaning == "stands in"));
+        passes(&rt, row, !is_next);
+        let asks = as_wish(rt.alloc(), row)?;
+        passes(&rt, row, asks == (meaning == "asks"));
     }
     Ok(())
 }
@@ -1326,36 +566,40 @@ fn certificate_called(alloc: Global, name: &str) -> Result<Bytes, Fail> {
     )
 }
 
-fn put(parts: &mut Parts, key: Text, file: Bytes) -> Result<(), AllocError> {
-    parts.set(key, file)
+fn put_key(alloc: Global, parts: &mut Parts, key: &str) -> Result<(), Fail> {
+    if key != "none" {
+        let name = text(alloc, "tls.key")?;
+        parts.set(name, key_called(alloc, key)?)?;
+    }
+    Ok(())
+}
+
+fn put_certificate(alloc: Global, parts: &mut Parts, certificate: &str) -> Result<(), Fail> {
+    if certificate != "none" {
+        let name = text(alloc, "tls.crt")?;
+        parts.set(name, certificate_called(alloc, certificate)?)?;
+    }
+    Ok(())
 }
 
 /// The parts of a Secret with this key and this certificate, where each is one.
 fn parts(alloc: Global, key: &str, certificate: &str) -> Result<Parts, Fail> {
     let mut parts = Parts::new(alloc);
-    if key != "none" {
-        let name = text(alloc, "tls.key")?;
-        put(&mut parts, name, key_called(alloc, key)?)?;
-    }
-    if certificate != "none" {
-        let name = text(alloc, "tls.crt")?;
-        put(&mut parts, name, certificate_called(alloc, certificate)?)?;
-    }
+    put_key(alloc, &mut parts, key)?;
+    put_certificate(alloc, &mut parts, certificate)?;
     Ok(parts)
 }
 
-/// Annotations that name the issuer `ca`.
-fn issuer_annotations(alloc: Global) -> Result<Pairs, AllocError> {
-    let mut pairs = Pairs::new(alloc);
-    set(alloc, &mut pairs, "cert-manager.io/issuer-name", "ca")?;
-    set(alloc, &mut pairs, "cert-manager.io/issuer-kind", "Issuer")?;
+/// Names the issuer `ca`.
+fn name_issuer(alloc: Global, pairs: &mut Pairs) -> Result<(), AllocError> {
+    set(alloc, pairs, "cert-manager.io/issuer-name", "ca")?;
+    set(alloc, pairs, "cert-manager.io/issuer-kind", "Issuer")?;
     set(
         alloc,
-        &mut pairs,
+        pairs,
         "cert-manager.io/issuer-group",
         "cert-manager.io",
-    )?;
-    Ok(pairs)
+    )
 }
 
 fn change(alloc: Global, pairs: &mut Pairs, key: &str, word: &str) -> Result<(), AllocError> {
@@ -1367,9 +611,10 @@ fn change(alloc: Global, pairs: &mut Pairs, key: &str, word: &str) -> Result<(),
     Ok(())
 }
 
-/// The same, with this change.
+/// Annotations that name the issuer, with this change.
 fn annotations(alloc: Global, words: &str) -> Result<Pairs, AllocError> {
-    let mut pairs = issuer_annotations(alloc)?;
+    let mut pairs = Pairs::new(alloc);
+    name_issuer(alloc, &mut pairs)?;
     if let Some((key, word)) = words.split_once('=') {
         change(alloc, &mut pairs, key, word)?;
     }
@@ -1383,18 +628,25 @@ fn flag_told(told: &mut String, flag: bool, word: &str) -> Result<(), AllocError
     Ok(())
 }
 
+fn flags_told(told: &mut String, facts: &Facts) -> Result<(), AllocError> {
+    flag_told(told, facts.secret, "secret ")?;
+    flag_told(told, facts.filled, "filled ")?;
+    flag_told(told, facts.pair, "pair ")?;
+    flag_told(told, facts.issuer, "issuer ")?;
+    flag_told(told, facts.owner, "owner ")?;
+    flag_told(told, facts.kind, "kind ")?;
+    flag_told(told, facts.request, "request ")
+}
+
+fn times_told(alloc: Global, facts: &Facts) -> Result<String, AllocError> {
+    format!(in alloc; "{} {}", facts.not_before, facts.not_after)
+}
+
 /// The flags that are true, and the times.
 fn told(alloc: Global, facts: &Facts) -> Result<String, AllocError> {
     let mut told = String::new(alloc);
-    flag_told(&mut told, facts.secret, "secret ")?;
-    flag_told(&mut told, facts.filled, "filled ")?;
-    flag_told(&mut told, facts.pair, "pair ")?;
-    flag_told(&mut told, facts.issuer, "issuer ")?;
-    flag_told(&mut told, facts.owner, "owner ")?;
-    flag_told(&mut told, facts.kind, "kind ")?;
-    flag_told(&mut told, facts.request, "request ")?;
-    let times = format!(in alloc; "{} {}", facts.not_before, facts.not_after)?;
-    told.push_str(&times)?;
+    flags_told(&mut told, facts)?;
+    told.push_str(times_told(alloc, facts)?.as_str())?;
     Ok(told)
 }
 
@@ -1417,16 +669,18 @@ fn is_pair(secret: &Secret, facts: &Facts) -> bool {
     }
 }
 
-fn secret_of(alloc: Global, seen: &Seen) -> Result<Secret, Fail> {
+/// The Secret of the row.
+fn secret_of(alloc: Global, row: &str) -> Result<Secret, Fail> {
     let mut secret = whole::secret(alloc)?;
-    secret.parts = parts(alloc, seen.key, seen.certificate)?;
-    secret.meta.annotations = annotations(alloc, seen.change)?;
+    secret.parts = parts(alloc, column(row, 0), column(row, 1))?;
+    secret.meta.annotations = annotations(alloc, column(row, 2))?;
     Ok(secret)
 }
 
-fn spec_of_size(alloc: Global, size: u32) -> Result<CertSpec, Fail> {
+/// The spec of the row.
+fn spec_of_size(alloc: Global, row: &str) -> Result<CertSpec, Fail> {
     let mut spec = whole_spec(alloc)?;
-    spec.key.size = Some(size);
+    spec.key.size = size(column(row, 3));
     Ok(spec)
 }
 
@@ -1442,16 +696,22 @@ fn facts_with(
     Ok(facts_of(spec, &web, secret, current.as_ref()))
 }
 
+/// What is known of the Secret of the row, and whether its pair is so.
+fn known_of(alloc: Global, row: &str, secret: &Shared<Secret>) -> Result<(Facts, bool), Fail> {
+    let spec = spec_of_size(alloc, row)?;
+    let facts = facts_with(alloc, &spec, Some(secret), column(row, 4))?;
+    Ok((facts, is_pair(secret, &facts)))
+}
+
 #[test]
 fn knows_of_secrets(rt: HostRuntime) -> Result<(), Fail> {
     let alloc = rt.alloc();
     facts_mean();
-    for (seen, want) in &FACTS {
-        let secret = Shared::new(alloc, secret_of(alloc, seen)?)?;
-        let spec = spec_of_size(alloc, seen.size)?;
-        let facts = facts_with(alloc, &spec, Some(&secret), seen.request)?;
-        tells(&rt, seen.key, told(alloc, &facts)?.as_str(), want);
-        passes(&rt, seen.key, is_pair(&secret, &facts));
+    for row in &FACTS {
+        let secret = Shared::new(alloc, secret_of(alloc, row)?)?;
+        let (facts, is_pair) = known_of(alloc, row, &secret)?;
+        tells(&rt, row, told(alloc, &facts)?.as_str(), column(row, 5));
+        passes(&rt, row, is_pair);
     }
     Ok(())
 }

@@ -1,8 +1,8 @@
 //! What no clause says: that keys and signatures are made where memory is ample, and that stand-in keys have the
 //! octets that another writer of DER gave. openssl reads each of those as DER.
-use crate::checks::passes;
+use crate::checks::{passes, tells};
 use crate::made_keys;
-use crate::values::{made, name, octets};
+use crate::values::{column, made, name, number, octets};
 use crate::whole::bytes;
 use cmc_keys::{
     KeyMaker, Made, ScriptedKeys, SignedCsr, is_allowed_size, is_key_of, one_key_value,
@@ -14,492 +14,104 @@ use sha2::{Digest, Sha256};
 use std::alloc::{AllocError, Global};
 use std::test::Fail;
 
-/// A sort of key, and what it is called.
+/// A sort of key.
 #[derive(Clone, Copy)]
 struct Sort {
-    called: &'static str,
     algorithm: Algorithm,
     size: u32,
     encoding: Encoding,
 }
 
-const RSA_2048_PKCS1: Sort = Sort {
-    called: "RSA 2048 PKCS1",
-    algorithm: Algorithm::Rsa,
-    size: 2048,
-    encoding: Encoding::Pkcs1,
-};
-
-const RSA_2048_PKCS8: Sort = Sort {
-    called: "RSA 2048 PKCS8",
-    algorithm: Algorithm::Rsa,
-    size: 2048,
-    encoding: Encoding::Pkcs8,
-};
-
-const RSA_3072_PKCS1: Sort = Sort {
-    called: "RSA 3072 PKCS1",
-    algorithm: Algorithm::Rsa,
-    size: 3072,
-    encoding: Encoding::Pkcs1,
-};
-
-const RSA_3072_PKCS8: Sort = Sort {
-    called: "RSA 3072 PKCS8",
-    algorithm: Algorithm::Rsa,
-    size: 3072,
-    encoding: Encoding::Pkcs8,
-};
-
-const RSA_4096_PKCS1: Sort = Sort {
-    called: "RSA 4096 PKCS1",
-    algorithm: Algorithm::Rsa,
-    size: 4096,
-    encoding: Encoding::Pkcs1,
-};
-
-const RSA_4096_PKCS8: Sort = Sort {
-    called: "RSA 4096 PKCS8",
-    algorithm: Algorithm::Rsa,
-    size: 4096,
-    encoding: Encoding::Pkcs8,
-};
-
-const RSA_8192_PKCS1: Sort = Sort {
-    called: "RSA 8192 PKCS1",
-    algorithm: Algorithm::Rsa,
-    size: 8192,
-    encoding: Encoding::Pkcs1,
-};
-
-const RSA_8192_PKCS8: Sort = Sort {
-    called: "RSA 8192 PKCS8",
-    algorithm: Algorithm::Rsa,
-    size: 8192,
-    encoding: Encoding::Pkcs8,
-};
-
-const ECDSA_256_PKCS1: Sort = Sort {
-    called: "ECDSA 256 PKCS1",
-    algorithm: Algorithm::Ecdsa,
-    size: 256,
-    encoding: Encoding::Pkcs1,
-};
-
-const ECDSA_256_PKCS8: Sort = Sort {
-    called: "ECDSA 256 PKCS8",
-    algorithm: Algorithm::Ecdsa,
-    size: 256,
-    encoding: Encoding::Pkcs8,
-};
-
-const ECDSA_384_PKCS1: Sort = Sort {
-    called: "ECDSA 384 PKCS1",
-    algorithm: Algorithm::Ecdsa,
-    size: 384,
-    encoding: Encoding::Pkcs1,
-};
-
-const ECDSA_384_PKCS8: Sort = Sort {
-    called: "ECDSA 384 PKCS8",
-    algorithm: Algorithm::Ecdsa,
-    size: 384,
-    encoding: Encoding::Pkcs8,
-};
-
-const ECDSA_521_PKCS1: Sort = Sort {
-    called: "ECDSA 521 PKCS1",
-    algorithm: Algorithm::Ecdsa,
-    size: 521,
-    encoding: Encoding::Pkcs1,
-};
-
-const ECDSA_521_PKCS8: Sort = Sort {
-    called: "ECDSA 521 PKCS8",
-    algorithm: Algorithm::Ecdsa,
-    size: 521,
-    encoding: Encoding::Pkcs8,
-};
-
-/// The sort of a key, its number, how many octets its file has, and their SHA-256 digest, as Python's hashlib gives it.
-static STAND_INS: [(Sort, u64, usize, &str); 30] = [
-    (
-        RSA_2048_PKCS1,
-        7,
-        291,
-        "7c4b046e70d48e5e7482a0d7cf9086a4e0d8642d68bd815e6e69904123df38f9",
-    ),
-    (
-        RSA_2048_PKCS8,
-        7,
-        317,
-        "016aaee68bee0616cd9f5f743b1de0011ff95fce16dac45801a30d092addbe34",
-    ),
-    (
-        RSA_3072_PKCS1,
-        7,
-        419,
-        "41560ea39eca9a20a78b704d61c24f9ed20fd7c1cd3cddf0faff22d9bec8cdcc",
-    ),
-    (
-        RSA_3072_PKCS8,
-        7,
-        445,
-        "e667ee856acd37616415a56b450a5a89ba24622bed26114b38cf9a20187f5d35",
-    ),
-    (
-        RSA_4096_PKCS1,
-        7,
-        547,
-        "8b4e23c1382a30152ebb8436dc62f36631bf46b78b3f5d0bcdc6b051a0be7e14",
-    ),
-    (
-        RSA_4096_PKCS8,
-        7,
-        573,
-        "d5c3e85dc80b2600a32521567dbed0e9fa369f9d7c98e5722acee365077d816e",
-    ),
-    (
-        RSA_8192_PKCS1,
-        7,
-        1059,
-        "ffddfe0a8bb2de5caea30867ceb40582bb62104cb2dac0ab0b5d3e5c031e3647",
-    ),
-    (
-        RSA_8192_PKCS8,
-        7,
-        1085,
-        "0347fe4b97982447fa7daf55b2b27ab991adcc3163c3c6230e7873642f2b4f67",
-    ),
-    (
-        ECDSA_256_PKCS1,
-        7,
-        121,
-        "6fde3bdc6b4dac1cd4da85e34aba81195dd8c8196914b7a8a9a8ac78caa202c2",
-    ),
-    (
-        ECDSA_256_PKCS8,
-        7,
-        138,
-        "0ac7f24191f9e6d9bee01ac42c6c7065db23eea6c442302614b5bb2fac76b873",
-    ),
-    (
-        ECDSA_384_PKCS1,
-        7,
-        167,
-        "7a8e0b69a9d35ecfe40dfff15da5e0d9b9ae571181b6f74594f1294ee05dab8a",
-    ),
-    (
-        ECDSA_384_PKCS8,
-        7,
-        185,
-        "c51d26f4740c44b83691f2f16143e5c7b05446599e9bbf30fdf29a26b32a14a9",
-    ),
-    (
-        ECDSA_521_PKCS1,
-        7,
-        223,
-        "b40e7ef39282da7ad69f37163fc8c79623b7f74fae43c0933d6811b9f70ed6f9",
-    ),
-    (
-        ECDSA_521_PKCS8,
-        7,
-        241,
-        "4b18797e2d9f155269eb2e66e265495762029804710217ef2f0697106753160c",
-    ),
-    (
-        RSA_2048_PKCS1,
-        0,
-        291,
-        "c86ae82f2a3fbea57659fff9b7ada5274a42ae57f6c04e13c674abfd3bb55449",
-    ),
-    (
-        RSA_2048_PKCS8,
-        0,
-        317,
-        "ab72fc133ba872dbdd4117bcd1fe2f03921a7921dc468e628ce2dcbb165eb157",
-    ),
-    (
-        ECDSA_256_PKCS1,
-        0,
-        121,
-        "010b64da8cb5af1a795b50d4e6e90a15b78c2a88c052dee294a96a2c72c99ec9",
-    ),
-    (
-        ECDSA_256_PKCS8,
-        0,
-        138,
-        "7464e6cdbcad33f935d3184c3294f31c445bcfa70a57a7678a5463733c14029c",
-    ),
-    (
-        ECDSA_384_PKCS1,
-        0,
-        167,
-        "797058660d96c3278930793b3f818a75a4cfac9fd67cd470aafbb8d918a95d86",
-    ),
-    (
-        ECDSA_384_PKCS8,
-        0,
-        185,
-        "47e3934f5e5066591bd8810b0f6cf3f4f1bf50a4b8439ee2a3167f0125e1063d",
-    ),
-    (
-        ECDSA_521_PKCS1,
-        0,
-        223,
-        "8cc0c235a6f3eecff729afece4d3bd28d733ac78388a214f4da731d76289e676",
-    ),
-    (
-        ECDSA_521_PKCS8,
-        0,
-        241,
-        "8cbf3d00a6bae3ce34e304e580b3628c710614d82fa4ac4361b70e4d14682e0e",
-    ),
-    (
-        RSA_2048_PKCS1,
-        18_446_744_073_709_551_615,
-        291,
-        "90f158e9caa2c8186503201058a2d073cd671951b2d1eb6083571f44bcf87735",
-    ),
-    (
-        RSA_2048_PKCS8,
-        18_446_744_073_709_551_615,
-        317,
-        "5c8f5cf00fd2ea92eef3d3fc5d20a9a8b7affb7c52cc199fde41989188c2bfbd",
-    ),
-    (
-        ECDSA_256_PKCS1,
-        18_446_744_073_709_551_615,
-        121,
-        "01ab95244165cc9b9ff081ce63cce0ab59b3acb7f0309dbf4b15e83caf1f84d6",
-    ),
-    (
-        ECDSA_256_PKCS8,
-        18_446_744_073_709_551_615,
-        138,
-        "a800b2688f79827c12874f32e0107450e0028ce22d397d7f796a012ecbc3eb6b",
-    ),
-    (
-        ECDSA_384_PKCS1,
-        18_446_744_073_709_551_615,
-        167,
-        "0fc8968db85b76afdaec5d82d0a744e90595b04c4462ebeda9a91997125c616a",
-    ),
-    (
-        ECDSA_384_PKCS8,
-        18_446_744_073_709_551_615,
-        185,
-        "09f373b8e2728a8333b5203586e86f5329cba790aa91c8b02827985b5c887ffa",
-    ),
-    (
-        ECDSA_521_PKCS1,
-        18_446_744_073_709_551_615,
-        223,
-        "81e789bebb05d98e1be354dc35fa2ea892a2e5113fb5fba16b04c83d66ef8f8a",
-    ),
-    (
-        ECDSA_521_PKCS8,
-        18_446_744_073_709_551_615,
-        241,
-        "51d8977a65cc03c82aee0d08b633210ba1e42bbd3b6b524ecc15d7bc14e507e9",
-    ),
-];
-
-/// What the question's row says, the Certificate's namespace and name, the number of the question and the sort of key
-/// that is asked for. A row is named `default`, `free`, `synthetic` (of the number 7) or by the file of openssl that it
-/// holds.
-struct Asked {
-    row: &'static str,
-    namespace: &'static str,
-    name: &'static str,
-    number: u64,
-    sort: Sort,
+fn algorithm(word: &str) -> Algorithm {
+    match word {
+        "RSA" => Algorithm::Rsa,
+        _ => Algorithm::Ecdsa,
+    }
 }
 
-/// A question, and the SHA-256 digest of the file that answers.
-static ANSWERS: [(Asked, &str); 17] = [
-    (
-        Asked {
-            row: "default",
-            namespace: "default",
-            name: "web",
-            number: 1,
-            sort: ECDSA_256_PKCS1,
-        },
-        "c9da66c2cec72a8251bd98c4184ede3aecb16aa01e7a381b51be84b3ad4b78f9",
-    ),
-    (
-        Asked {
-            row: "default",
-            namespace: "default",
-            name: "web",
-            number: 2,
-            sort: ECDSA_256_PKCS1,
-        },
-        "fc274567cd137459209cd1328882d67f710a176ec49797ecb3452180c7fed207",
-    ),
-    (
-        Asked {
-            row: "default",
-            namespace: "load",
-            name: "c0001",
-            number: 1,
-            sort: ECDSA_256_PKCS1,
-        },
-        "7edffc84fb64eb507d7bc55b33a07d907d7f1b31c919be79cf64a05dd9054263",
-    ),
-    (
-        Asked {
-            row: "default",
-            namespace: "default",
-            name: "web",
-            number: 1,
-            sort: ECDSA_521_PKCS8,
-        },
-        "2c42c737112eacfff1371544e27d0d925ec7364bca066ec14c6d41aa592f2dd1",
-    ),
-    (
-        Asked {
-            row: "default",
-            namespace: "default",
-            name: "web",
-            number: 1,
-            sort: RSA_2048_PKCS8,
-        },
-        "d953c260e1a96a0c0a0a31b35a7ff590507deaa6dd3548700acaaf7496f366a8",
-    ),
-    (
-        Asked {
-            row: "free",
-            namespace: "default",
-            name: "web",
-            number: 1,
-            sort: ECDSA_384_PKCS1,
-        },
-        "54d14bf38f296e0b5a7bce135860b501876d7517a11196b8cab2b42e283b6b0e",
-    ),
-    (
-        Asked {
-            row: "synthetic",
-            namespace: "default",
-            name: "web",
-            number: 1,
-            sort: ECDSA_256_PKCS1,
-        },
-        "6fde3bdc6b4dac1cd4da85e34aba81195dd8c8196914b7a8a9a8ac78caa202c2",
-    ),
-    (
-        Asked {
-            row: "synthetic",
-            namespace: "default",
-            name: "web",
-            number: 1,
-            sort: ECDSA_384_PKCS1,
-        },
-        "7a8e0b69a9d35ecfe40dfff15da5e0d9b9ae571181b6f74594f1294ee05dab8a",
-    ),
-    (
-        Asked {
-            row: "p256 as ECPrivateKey",
-            namespace: "default",
-            name: "web",
-            number: 1,
-            sort: ECDSA_256_PKCS1,
-        },
-        "984510c9b2630190408a2d44483c2c922f89033e735e09784e25c66a4f4dc478",
-    ),
-    (
-        Asked {
-            row: "p256 as ECPrivateKey",
-            namespace: "default",
-            name: "web",
-            number: 1,
-            sort: ECDSA_256_PKCS8,
-        },
-        "984510c9b2630190408a2d44483c2c922f89033e735e09784e25c66a4f4dc478",
-    ),
-    (
-        Asked {
-            row: "p256 as ECPrivateKey",
-            namespace: "default",
-            name: "web",
-            number: 1,
-            sort: ECDSA_384_PKCS1,
-        },
-        "54d14bf38f296e0b5a7bce135860b501876d7517a11196b8cab2b42e283b6b0e",
-    ),
-    (
-        Asked {
-            row: "p256 as ECPrivateKey",
-            namespace: "default",
-            name: "web",
-            number: 1,
-            sort: RSA_2048_PKCS1,
-        },
-        "438f4ac2e3f201da7e30eabad42ad32f7dfd6f31d897c20686e37313a438fdfe",
-    ),
-    (
-        Asked {
-            row: "rsa as RSAPrivateKey",
-            namespace: "default",
-            name: "web",
-            number: 1,
-            sort: RSA_2048_PKCS1,
-        },
-        "9c005e8ea16dab9be1a825fc2ff8129c82186a44088fed7ed7405d000056a7e9",
-    ),
-    (
-        Asked {
-            row: "rsa as RSAPrivateKey",
-            namespace: "default",
-            name: "web",
-            number: 1,
-            sort: RSA_3072_PKCS1,
-        },
-        "9527c4e81d84e0b79e94cae2f06d3ccb597b06ab997e8a377f8ca7ef9fb8c79e",
-    ),
-    (
-        Asked {
-            row: "rsa as RSAPrivateKey",
-            namespace: "default",
-            name: "web",
-            number: 1,
-            sort: ECDSA_256_PKCS1,
-        },
-        "c9da66c2cec72a8251bd98c4184ede3aecb16aa01e7a381b51be84b3ad4b78f9",
-    ),
-    (
-        Asked {
-            row: "empty",
-            namespace: "default",
-            name: "web",
-            number: 1,
-            sort: ECDSA_256_PKCS1,
-        },
-        "c9da66c2cec72a8251bd98c4184ede3aecb16aa01e7a381b51be84b3ad4b78f9",
-    ),
-    (
-        Asked {
-            row: "three zeros",
-            namespace: "default",
-            name: "web",
-            number: 1,
-            sort: ECDSA_256_PKCS1,
-        },
-        "c9da66c2cec72a8251bd98c4184ede3aecb16aa01e7a381b51be84b3ad4b78f9",
-    ),
+fn encoding(word: &str) -> Encoding {
+    match word {
+        "PKCS1" => Encoding::Pkcs1,
+        _ => Encoding::Pkcs8,
+    }
+}
+
+/// The sort that a row has in the columns from this place on: algorithm, size and encoding.
+fn sort_in(row: &str, algorithm_at: u32, size_at: u32, encoding_at: u32) -> Sort {
+    Sort {
+        algorithm: algorithm(column(row, algorithm_at)),
+        size: column(row, size_at).parse::<u32>().unwrap_or(0),
+        encoding: encoding(column(row, encoding_at)),
+    }
+}
+
+/// The sort of a key, its number, how many octets its file has, and their SHA-256 digest, as Python's hashlib gives it.
+static STAND_INS: [&str; 30] = [
+    "RSA|2048|PKCS1|7|291|7c4b046e70d48e5e7482a0d7cf9086a4e0d8642d68bd815e6e69904123df38f9",
+    "RSA|2048|PKCS8|7|317|016aaee68bee0616cd9f5f743b1de0011ff95fce16dac45801a30d092addbe34",
+    "RSA|3072|PKCS1|7|419|41560ea39eca9a20a78b704d61c24f9ed20fd7c1cd3cddf0faff22d9bec8cdcc",
+    "RSA|3072|PKCS8|7|445|e667ee856acd37616415a56b450a5a89ba24622bed26114b38cf9a20187f5d35",
+    "RSA|4096|PKCS1|7|547|8b4e23c1382a30152ebb8436dc62f36631bf46b78b3f5d0bcdc6b051a0be7e14",
+    "RSA|4096|PKCS8|7|573|d5c3e85dc80b2600a32521567dbed0e9fa369f9d7c98e5722acee365077d816e",
+    "RSA|8192|PKCS1|7|1059|ffddfe0a8bb2de5caea30867ceb40582bb62104cb2dac0ab0b5d3e5c031e3647",
+    "RSA|8192|PKCS8|7|1085|0347fe4b97982447fa7daf55b2b27ab991adcc3163c3c6230e7873642f2b4f67",
+    "ECDSA|256|PKCS1|7|121|6fde3bdc6b4dac1cd4da85e34aba81195dd8c8196914b7a8a9a8ac78caa202c2",
+    "ECDSA|256|PKCS8|7|138|0ac7f24191f9e6d9bee01ac42c6c7065db23eea6c442302614b5bb2fac76b873",
+    "ECDSA|384|PKCS1|7|167|7a8e0b69a9d35ecfe40dfff15da5e0d9b9ae571181b6f74594f1294ee05dab8a",
+    "ECDSA|384|PKCS8|7|185|c51d26f4740c44b83691f2f16143e5c7b05446599e9bbf30fdf29a26b32a14a9",
+    "ECDSA|521|PKCS1|7|223|b40e7ef39282da7ad69f37163fc8c79623b7f74fae43c0933d6811b9f70ed6f9",
+    "ECDSA|521|PKCS8|7|241|4b18797e2d9f155269eb2e66e265495762029804710217ef2f0697106753160c",
+    "RSA|2048|PKCS1|0|291|c86ae82f2a3fbea57659fff9b7ada5274a42ae57f6c04e13c674abfd3bb55449",
+    "RSA|2048|PKCS8|0|317|ab72fc133ba872dbdd4117bcd1fe2f03921a7921dc468e628ce2dcbb165eb157",
+    "ECDSA|256|PKCS1|0|121|010b64da8cb5af1a795b50d4e6e90a15b78c2a88c052dee294a96a2c72c99ec9",
+    "ECDSA|256|PKCS8|0|138|7464e6cdbcad33f935d3184c3294f31c445bcfa70a57a7678a5463733c14029c",
+    "ECDSA|384|PKCS1|0|167|797058660d96c3278930793b3f818a75a4cfac9fd67cd470aafbb8d918a95d86",
+    "ECDSA|384|PKCS8|0|185|47e3934f5e5066591bd8810b0f6cf3f4f1bf50a4b8439ee2a3167f0125e1063d",
+    "ECDSA|521|PKCS1|0|223|8cc0c235a6f3eecff729afece4d3bd28d733ac78388a214f4da731d76289e676",
+    "ECDSA|521|PKCS8|0|241|8cbf3d00a6bae3ce34e304e580b3628c710614d82fa4ac4361b70e4d14682e0e",
+    "RSA|2048|PKCS1|18446744073709551615|291|90f158e9caa2c8186503201058a2d073cd671951b2d1eb6083571f44bcf87735",
+    "RSA|2048|PKCS8|18446744073709551615|317|5c8f5cf00fd2ea92eef3d3fc5d20a9a8b7affb7c52cc199fde41989188c2bfbd",
+    "ECDSA|256|PKCS1|18446744073709551615|121|01ab95244165cc9b9ff081ce63cce0ab59b3acb7f0309dbf4b15e83caf1f84d6",
+    "ECDSA|256|PKCS8|18446744073709551615|138|a800b2688f79827c12874f32e0107450e0028ce22d397d7f796a012ecbc3eb6b",
+    "ECDSA|384|PKCS1|18446744073709551615|167|0fc8968db85b76afdaec5d82d0a744e90595b04c4462ebeda9a91997125c616a",
+    "ECDSA|384|PKCS8|18446744073709551615|185|09f373b8e2728a8333b5203586e86f5329cba790aa91c8b02827985b5c887ffa",
+    "ECDSA|521|PKCS1|18446744073709551615|223|81e789bebb05d98e1be354dc35fa2ea892a2e5113fb5fba16b04c83d66ef8f8a",
+    "ECDSA|521|PKCS8|18446744073709551615|241|51d8977a65cc03c82aee0d08b633210ba1e42bbd3b6b524ecc15d7bc14e507e9",
+];
+
+/// What the question's row says, the Certificate's namespace and name, the number of the question, the sort of key that is
+/// asked for, and the SHA-256 digest of the file that answers. A row is named `default`, `free`, `synthetic` (of the number
+/// 7) or by the file of openssl that it holds.
+static ANSWERS: [&str; 17] = [
+    "default|default|web|1|ECDSA|256|PKCS1|c9da66c2cec72a8251bd98c4184ede3aecb16aa01e7a381b51be84b3ad4b78f9",
+    "default|default|web|2|ECDSA|256|PKCS1|fc274567cd137459209cd1328882d67f710a176ec49797ecb3452180c7fed207",
+    "default|load|c0001|1|ECDSA|256|PKCS1|7edffc84fb64eb507d7bc55b33a07d907d7f1b31c919be79cf64a05dd9054263",
+    "default|default|web|1|ECDSA|521|PKCS8|2c42c737112eacfff1371544e27d0d925ec7364bca066ec14c6d41aa592f2dd1",
+    "default|default|web|1|RSA|2048|PKCS8|d953c260e1a96a0c0a0a31b35a7ff590507deaa6dd3548700acaaf7496f366a8",
+    "free|default|web|1|ECDSA|384|PKCS1|54d14bf38f296e0b5a7bce135860b501876d7517a11196b8cab2b42e283b6b0e",
+    "synthetic|default|web|1|ECDSA|256|PKCS1|6fde3bdc6b4dac1cd4da85e34aba81195dd8c8196914b7a8a9a8ac78caa202c2",
+    "synthetic|default|web|1|ECDSA|384|PKCS1|7a8e0b69a9d35ecfe40dfff15da5e0d9b9ae571181b6f74594f1294ee05dab8a",
+    "p256 as ECPrivateKey|default|web|1|ECDSA|256|PKCS1|984510c9b2630190408a2d44483c2c922f89033e735e09784e25c66a4f4dc478",
+    "p256 as ECPrivateKey|default|web|1|ECDSA|256|PKCS8|984510c9b2630190408a2d44483c2c922f89033e735e09784e25c66a4f4dc478",
+    "p256 as ECPrivateKey|default|web|1|ECDSA|384|PKCS1|54d14bf38f296e0b5a7bce135860b501876d7517a11196b8cab2b42e283b6b0e",
+    "p256 as ECPrivateKey|default|web|1|RSA|2048|PKCS1|438f4ac2e3f201da7e30eabad42ad32f7dfd6f31d897c20686e37313a438fdfe",
+    "rsa as RSAPrivateKey|default|web|1|RSA|2048|PKCS1|9c005e8ea16dab9be1a825fc2ff8129c82186a44088fed7ed7405d000056a7e9",
+    "rsa as RSAPrivateKey|default|web|1|RSA|3072|PKCS1|9527c4e81d84e0b79e94cae2f06d3ccb597b06ab997e8a377f8ca7ef9fb8c79e",
+    "rsa as RSAPrivateKey|default|web|1|ECDSA|256|PKCS1|c9da66c2cec72a8251bd98c4184ede3aecb16aa01e7a381b51be84b3ad4b78f9",
+    "empty|default|web|1|ECDSA|256|PKCS1|c9da66c2cec72a8251bd98c4184ede3aecb16aa01e7a381b51be84b3ad4b78f9",
+    "three zeros|default|web|1|ECDSA|256|PKCS1|c9da66c2cec72a8251bd98c4184ede3aecb16aa01e7a381b51be84b3ad4b78f9",
 ];
 
 /// The sorts of keys, each with how the file of its stand-in key of number 1 is called in `made_keys::built`.
-static SORTS: [(Sort, &str); 8] = [
-    (RSA_2048_PKCS1, "synthetic RSA as RSAPrivateKey"),
-    (RSA_2048_PKCS8, "synthetic RSA as PrivateKeyInfo"),
-    (ECDSA_256_PKCS1, "synthetic P-256 as ECPrivateKey"),
-    (ECDSA_256_PKCS8, "synthetic P-256 as PrivateKeyInfo"),
-    (ECDSA_384_PKCS1, "synthetic P-384 as ECPrivateKey"),
-    (ECDSA_384_PKCS8, "synthetic P-384 as PrivateKeyInfo"),
-    (ECDSA_521_PKCS1, "synthetic P-521 as ECPrivateKey"),
-    (ECDSA_521_PKCS8, "synthetic P-521 as PrivateKeyInfo"),
+static SORTS: [&str; 8] = [
+    "RSA|2048|PKCS1|synthetic RSA as RSAPrivateKey",
+    "RSA|2048|PKCS8|synthetic RSA as PrivateKeyInfo",
+    "ECDSA|256|PKCS1|synthetic P-256 as ECPrivateKey",
+    "ECDSA|256|PKCS8|synthetic P-256 as PrivateKeyInfo",
+    "ECDSA|384|PKCS1|synthetic P-384 as ECPrivateKey",
+    "ECDSA|384|PKCS8|synthetic P-384 as PrivateKeyInfo",
+    "ECDSA|521|PKCS1|synthetic P-521 as ECPrivateKey",
+    "ECDSA|521|PKCS8|synthetic P-521 as PrivateKeyInfo",
 ];
 
 fn digest(octets: &[u8]) -> [u8; 32] {
@@ -508,12 +120,16 @@ fn digest(octets: &[u8]) -> [u8; 32] {
     hasher.finalize()
 }
 
+fn has_octets(alloc: Global, file: &[u8], want: &str) -> Result<bool, AllocError> {
+    Ok(file == octets(alloc, want)?.as_slice())
+}
+
 fn has_digest(alloc: Global, file: &[u8], want: &str) -> Result<bool, AllocError> {
-    Ok(digest(file).as_slice() == octets(alloc, want)?.as_slice())
+    has_octets(alloc, &digest(file), want)
 }
 
 /// The stand-in key of this sort, where it is one that may be asked for.
-fn stand_in(alloc: Global, sort: &Sort, number: u64) -> Result<Bytes, Fail> {
+fn stand_in(alloc: Global, sort: Sort, number: u64) -> Result<Bytes, Fail> {
     if !is_allowed_size(sort.algorithm, sort.size) {
         return Err(Fail::from("another size"));
     }
@@ -523,7 +139,7 @@ fn stand_in(alloc: Global, sort: &Sort, number: u64) -> Result<Bytes, Fail> {
 static SIZES: [u32; 7] = [2048, 3072, 4096, 8192, 256, 384, 521];
 
 /// The file is a key of this sort, in whichever encoding, and of no other algorithm or size.
-fn is_of_sort(file: &[u8], sort: &Sort) -> bool {
+fn is_of_sort(file: &[u8], sort: Sort) -> bool {
     let is_rsa = matches!(sort.algorithm, Algorithm::Rsa);
     for size in &SIZES {
         let is_size = sort.size == *size;
@@ -536,26 +152,46 @@ fn is_of_sort(file: &[u8], sort: &Sort) -> bool {
     true
 }
 
+/// The number in this column, which has one.
+fn number_at(row: &str, place: u32) -> u64 {
+    number(column(row, place)).unwrap_or(0)
+}
+
+/// Whether the stand-in key of the row has so many octets, that digest, and is of the sort.
+fn stand_in_told(alloc: Global, row: &str) -> Result<&'static str, Fail> {
+    let sort = sort_in(row, 0, 1, 2);
+    let file = stand_in(alloc, sort, number_at(row, 3))?;
+    let octets = file.as_slice();
+    if octets.len() as u64 != number_at(row, 4) {
+        return Ok("another length");
+    }
+    if !is_of_sort(octets, sort) {
+        return Ok("another sort");
+    }
+    match has_digest(alloc, octets, column(row, 5))? {
+        true => Ok("as wanted"),
+        false => Ok("another digest"),
+    }
+}
+
 #[test]
 fn writes_stand_in_keys(rt: HostRuntime) -> Result<(), Fail> {
-    let alloc = rt.alloc();
     synthetic_keys_fit();
-    for (sort, number, length, want) in &STAND_INS {
-        let file = stand_in(alloc, sort, *number)?;
-        let octets = file.as_slice();
-        passes(&rt, sort.called, octets.len() == *length);
-        passes(&rt, want, has_digest(alloc, octets, want)?);
-        passes(&rt, sort.called, is_of_sort(octets, sort));
+    for row in &STAND_INS {
+        tells(&rt, row, stand_in_told(rt.alloc(), row)?, "as wanted");
     }
     Ok(())
 }
 
+fn is_whole_file(alloc: Global, row: &str) -> Result<bool, Fail> {
+    let want = made(alloc, &[made_keys::built()], column(row, 3))?;
+    Ok(stand_in(alloc, sort_in(row, 0, 1, 2), 1)?.same(&want))
+}
+
 #[test]
 fn writes_whole_files(rt: HostRuntime) -> Result<(), Fail> {
-    let alloc = rt.alloc();
-    for (sort, called) in &SORTS {
-        let want = made(alloc, &[made_keys::built()], called)?;
-        passes(&rt, called, stand_in(alloc, sort, 1)?.same(&want));
+    for row in &SORTS {
+        passes(&rt, row, is_whole_file(rt.alloc(), row)?);
     }
     Ok(())
 }
@@ -597,25 +233,25 @@ fn row_called(alloc: Global, word: &str) -> Result<KeyRow, Fail> {
     }
 }
 
-fn certificate_of(alloc: Global, asked: &Asked) -> Result<Key, Fail> {
-    let namespace = name(alloc, asked.namespace)?;
+fn certificate_of(alloc: Global, row: &str) -> Result<Key, Fail> {
+    let namespace = name(alloc, column(row, 1))?;
     Ok(Key {
         kind: Kind::Certificate,
         namespace,
-        name: name(alloc, asked.name)?,
+        name: name(alloc, column(row, 2))?,
     })
 }
 
-fn question(alloc: Global, asked: &Asked) -> Result<KeyOrder, Fail> {
-    let row = row_called(alloc, asked.row)?;
-    let sort = asked.sort;
+fn question(alloc: Global, row: &str) -> Result<KeyOrder, Fail> {
+    let certificate = certificate_of(alloc, row)?;
+    let sort = sort_in(row, 4, 5, 6);
     Ok(KeyOrder {
-        number: asked.number,
-        certificate: certificate_of(alloc, asked)?,
+        number: number_at(row, 3),
+        certificate,
         algorithm: sort.algorithm,
         size: sort.size,
         encoding: sort.encoding,
-        row,
+        row: row_called(alloc, column(row, 0))?,
     })
 }
 
@@ -626,26 +262,38 @@ fn is_made_again(made: Made, other: &Made) -> bool {
     again.order().same(other.order()) && again.bytes() == other.bytes()
 }
 
-/// What is read of an answer, of its copy and of its parts.
-fn is_answer(alloc: Global, order: &KeyOrder, want: &str) -> Result<bool, Fail> {
+fn made_for(alloc: Global, order: &KeyOrder) -> Result<Made, Fail> {
     if !is_allowed_size(order.algorithm, order.size) {
         return Err(Fail::from("another size"));
     }
-    let made = ScriptedKeys.make(alloc, order)?;
-    let is_read = made.order().same(order)
-        && is_key_of(order.algorithm, order.size, made.bytes())
-        && has_digest(alloc, made.bytes(), want)?;
-    let copied = made.copy()?;
-    Ok(is_read && is_made_again(made, &copied))
+    Ok(ScriptedKeys.make(alloc, order)?)
+}
+
+fn is_read(made: &Made, order: &KeyOrder) -> bool {
+    made.order().same(order) && is_key_of(order.algorithm, order.size, made.bytes())
+}
+
+/// The copy's parts make an answer that is read as the answer.
+fn is_copied(made: &Made) -> Result<bool, AllocError> {
+    Ok(is_made_again(made.copy()?, made))
+}
+
+/// What is read of an answer, of its copy and of its parts.
+fn is_answer(alloc: Global, order: &KeyOrder, want: &str) -> Result<bool, Fail> {
+    let made = made_for(alloc, order)?;
+    let is_file = has_digest(alloc, made.bytes(), want)?;
+    Ok(is_file && is_read(&made, order) && is_copied(&made)?)
+}
+
+fn is_answered(alloc: Global, row: &str) -> Result<bool, Fail> {
+    is_answer(alloc, &question(alloc, row)?, column(row, 7))
 }
 
 #[test]
 fn makes_keys_by_the_row(rt: HostRuntime) -> Result<(), Fail> {
-    let alloc = rt.alloc();
     one_key_value();
-    for (asked, want) in &ANSWERS {
-        let order = question(alloc, asked)?;
-        passes(&rt, want, is_answer(alloc, &order, want)?);
+    for row in &ANSWERS {
+        passes(&rt, row, is_answered(rt.alloc(), row)?);
     }
     Ok(())
 }
@@ -664,40 +312,33 @@ fn body_order(alloc: Global, file: &str, body: &str) -> Result<CsrOrder, Fail> {
     })
 }
 
+fn is_signature_copied(signed: &SignedCsr) -> Result<bool, AllocError> {
+    Ok(is_signed_again(signed.copy()?, signed))
+}
+
 /// What is read of a signature, of its copy and of its parts.
 fn is_signature(alloc: Global, order: &CsrOrder, want: &str) -> Result<bool, AllocError> {
     let signed = ScriptedKeys.sign(alloc, order)?;
-    let is_read = signed.order().same(order)
-        && signed.signature() == octets(alloc, want)?.as_slice();
-    let copied = signed.copy()?;
-    Ok(is_read && is_signed_again(signed, &copied))
+    let is_written = has_octets(alloc, signed.signature(), want)?;
+    Ok(is_written && signed.order().same(order) && is_signature_copied(&signed)?)
+}
+
+fn is_signed(alloc: Global, row: &str) -> Result<bool, Fail> {
+    let order = body_order(alloc, column(row, 0), column(row, 1))?;
+    Ok(is_signature(alloc, &order, column(row, 2))?)
 }
 
 /// A key file, a body, and its signature.
-static BODIES: [(&str, &str, &str); 3] = [
-    (
-        "p256 as ECPrivateKey",
-        "",
-        "e3b0c44298fc1c149afbf4c8996fb92427ae41e4649b934ca495991b7852b855",
-    ),
-    (
-        "rsa as RSAPrivateKey",
-        "",
-        "e3b0c44298fc1c149afbf4c8996fb92427ae41e4649b934ca495991b7852b855",
-    ),
-    (
-        "p256 as ECPrivateKey",
-        "abc",
-        "ba7816bf8f01cfea414140de5dae2223b00361a396177a9cb410ff61f20015ad",
-    ),
+static BODIES: [&str; 3] = [
+    "p256 as ECPrivateKey||e3b0c44298fc1c149afbf4c8996fb92427ae41e4649b934ca495991b7852b855",
+    "rsa as RSAPrivateKey||e3b0c44298fc1c149afbf4c8996fb92427ae41e4649b934ca495991b7852b855",
+    "p256 as ECPrivateKey|abc|ba7816bf8f01cfea414140de5dae2223b00361a396177a9cb410ff61f20015ad",
 ];
 
 #[test]
 fn signs_bodies(rt: HostRuntime) -> Result<(), Fail> {
-    let alloc = rt.alloc();
-    for (file, body, want) in &BODIES {
-        let order = body_order(alloc, file, body)?;
-        passes(&rt, file, is_signature(alloc, &order, want)?);
+    for row in &BODIES {
+        passes(&rt, row, is_signed(rt.alloc(), row)?);
     }
     Ok(())
 }

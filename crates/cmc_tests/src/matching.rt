@@ -1,9 +1,10 @@
 //! Patterns and policies: worked rows.
 use crate::checks::{passes, tells};
+use crate::values::{patterns, policy};
 use cmc_policy_rules::{
     Decision, Field, Pattern, Patterns, Policies, Policy, Wanted, allows, decide, matches,
 };
-use std::alloc::Global;
+use std::alloc::{AllocError, Global};
 use std::test::Fail;
 
 static PATTERNS: [(&str, &str, bool); 10] = [
@@ -45,36 +46,14 @@ fn matches_long_texts(rt: HostRuntime) -> Result<(), Fail> {
     Ok(())
 }
 
-fn patterns(alloc: Global, text: &str) -> Result<Patterns, Fail> {
-    let mut patterns = Patterns::new(alloc);
-    patterns.push(Pattern::from_slice(alloc, text.as_bytes())?)?;
-    Ok(patterns)
+fn policy_of(alloc: Global, issuers: &str, most: u64) -> Result<Policy, AllocError> {
+    let mut policy = policy(alloc, "shops", issuers, "*example.com")?;
+    policy.usages = patterns(alloc, "server auth")?;
+    policy.max = Some(most);
+    Ok(policy)
 }
 
-fn policy(alloc: Global, issuers: &str, most: u64) -> Result<Policy, Fail> {
-    let name = Pattern::from_slice(alloc, b"shops")?;
-    let issuers = patterns(alloc, issuers)?;
-    let dns = Some(patterns(alloc, "*example.com")?);
-    let usages = patterns(alloc, "server auth")?;
-    Ok(Policy {
-        name,
-        issuers,
-        common: None,
-        dns,
-        ips: None,
-        uris: None,
-        emails: None,
-        usages,
-        ca: false,
-        min: None,
-        max: Some(most),
-        algorithm: None,
-        min_size: None,
-        max_size: None,
-    })
-}
-
-fn wanted(alloc: Global) -> Result<Wanted, Fail> {
+fn wanted(alloc: Global) -> Result<Wanted, AllocError> {
     let issuer = Pattern::from_slice(alloc, b"ca")?;
     let dns = patterns(alloc, "www.example.com")?;
     let usages = patterns(alloc, "server auth")?;
@@ -93,8 +72,8 @@ fn wanted(alloc: Global) -> Result<Wanted, Fail> {
     })
 }
 
-fn refusal(alloc: Global, wanted: &Wanted, most: u64) -> Result<Option<Field>, Fail> {
-    Ok(allows(&policy(alloc, "*", most)?, wanted).err())
+fn refusal(alloc: Global, wanted: &Wanted, most: u64) -> Result<Option<Field>, AllocError> {
+    Ok(allows(&policy_of(alloc, "*", most)?, wanted).err())
 }
 
 #[test]
@@ -127,7 +106,7 @@ fn decides_by_the_first(rt: HostRuntime) -> Result<(), Fail> {
     let mut policies = Policies::new(alloc);
     tells(&rt, "none", told(decide(&policies, &wanted)), "unbound");
     for (issuers, most, want) in &DECISIONS {
-        policies.push(policy(alloc, issuers, *most)?)?;
+        policies.push(policy_of(alloc, issuers, *most)?)?;
         tells(&rt, issuers, told(decide(&policies, &wanted)), want);
     }
     Ok(())

@@ -1,6 +1,6 @@
 //! What no clause says: that copies are made where memory is ample, and are equal.
 use crate::checks::{passes, tells};
-use crate::values::{key, least_spec, text, texts};
+use crate::values::{key, least_spec, let_go, text, texts};
 use crate::whole::{bytes, certificate, request, secret};
 use cmc_meta::{Kind, Texts};
 use cmc_objects::{
@@ -48,23 +48,30 @@ fn judgement(alloc: Global) -> Result<Order, Fail> {
     }))
 }
 
+fn are_apart(copy: &Order, order: &Order, other: &Order) -> bool {
+    copy.same(order) && !copy.same(other)
+}
+
 /// The copy is the same question, and not the other one.
-fn is_copied(order: Order, other: &Order) -> Result<bool, AllocError> {
+fn is_copied(order: &Order, other: &Order) -> Result<bool, AllocError> {
     let copy = order.copy()?;
-    Ok(copy.same(&order) && !copy.same(other))
+    let are_apart = are_apart(&copy, order, other);
+    let_go(copy);
+    Ok(are_apart)
+}
+
+fn is_copied_then(order: Order, other: &Order) -> Result<bool, AllocError> {
+    let is_copied = is_copied(&order, other);
+    let_go(order);
+    is_copied
 }
 
 fn is_key_copied(alloc: Global, other: &Order) -> Result<bool, Fail> {
-    Ok(is_copied(key_question(alloc)?, other)?)
+    Ok(is_copied_then(key_question(alloc)?, other)?)
 }
 
 fn is_judgement_copied(alloc: Global, other: &Order) -> Result<bool, Fail> {
-    Ok(is_copied(judgement(alloc)?, other)?)
-}
-
-// The drop of a wide enum splits each goal behind it, so it stands here.
-fn let_go<T: Drop>(value: T) {
-    let _value = value;
+    Ok(is_copied_then(judgement(alloc)?, other)?)
 }
 
 fn are_copied(alloc: Global, other: &Order) -> Result<(bool, bool), Fail> {
@@ -154,29 +161,41 @@ fn are_keys(keys: &[KeyRow]) -> bool {
     )
 }
 
-fn are_replies(replies: &[SignRow]) -> bool {
-    matches!(
-        replies,
-        [
-            SignRow::Issue {
-                seconds: Some(3_600),
-                before: 60,
-                serial: Some(7),
-                key: None,
-                ..
-            },
-            SignRow::Pending,
-            SignRow::Fail { .. },
-            SignRow::Raw { .. },
-            SignRow::Free
-        ]
-    )
+/// The row, in a word.
+fn reply_word(row: &SignRow) -> &'static str {
+    match row {
+        SignRow::Issue {
+            seconds: Some(3_600),
+            before: 60,
+            serial: Some(7),
+            key: None,
+            ..
+        } => "issue",
+        SignRow::Issue { .. } => "another issue",
+        SignRow::Pending => "pending",
+        SignRow::Fail { .. } => "fail",
+        SignRow::Raw { .. } => "raw",
+        SignRow::Free => "free",
+    }
 }
 
-fn are_rows(rows: Option<&Rows>) -> bool {
+static REPLIES: [&str; 5] = ["issue", "pending", "fail", "raw", "free"];
+
+// A pattern over five rows at once is a tree of all their shapes.
+fn are_replies(rt: &impl Abort, replies: &[SignRow]) {
+    passes(rt, "5 replies", replies.len() == 5);
+    for (row, word) in replies.iter().zip(REPLIES.iter()) {
+        tells(rt, word, reply_word(row), word);
+    }
+}
+
+fn are_rows(rt: &impl Abort, rows: Option<&Rows>) {
     match rows {
-        Some(rows) => are_keys(rows.keys.as_slice()) && are_replies(rows.replies.as_slice()),
-        None => false,
+        Some(rows) => {
+            passes(rt, "keys", are_keys(rows.keys.as_slice()));
+            are_replies(rt, rows.replies.as_slice());
+        }
+        None => passes(rt, "rows", false),
     }
 }
 
@@ -192,8 +211,8 @@ fn keeps_material(rt: HostRuntime) -> Result<(), Fail> {
     let alloc = rt.alloc();
     let web = key(alloc, Kind::Certificate, "web")?;
     let mut material = material(alloc)?;
-    passes(&rt, "rows", are_rows(material.get(&web)));
-    passes(&rt, "copied", are_rows(material.copy()?.get(&web)));
+    are_rows(&rt, material.get(&web));
+    are_rows(&rt, material.copy()?.get(&web));
     material.remove(&web);
     passes(&rt, "removed", material.get(&web).is_none());
     Ok(())
@@ -217,14 +236,25 @@ fn is_answer_copied(answer: &Signing) -> Result<bool, AllocError> {
     Ok(answer.copy()?.same(answer))
 }
 
+fn is_copied_and_gone(answer: Signing) -> Result<bool, AllocError> {
+    let is_copied = is_answer_copied(&answer);
+    let_go(answer);
+    is_copied
+}
+
+fn is_pending(answer: Signing) -> bool {
+    let is_pending = answer.same(&Signing::Pending);
+    let_go(answer);
+    is_pending
+}
+
 #[test]
 fn copies_each_answer(rt: HostRuntime) -> Result<(), Fail> {
     let alloc = rt.alloc();
-    let failed = failed(alloc)?;
-    passes(&rt, "issued", is_answer_copied(&issued(alloc)?)?);
-    passes(&rt, "pending", is_answer_copied(&Signing::Pending)?);
-    passes(&rt, "failed", is_answer_copied(&failed)?);
-    passes(&rt, "not pending", !failed.same(&Signing::Pending));
+    passes(&rt, "issued", is_copied_and_gone(issued(alloc)?)?);
+    passes(&rt, "pending", is_copied_and_gone(Signing::Pending)?);
+    passes(&rt, "failed", is_copied_and_gone(failed(alloc)?)?);
+    passes(&rt, "not pending", !is_pending(failed(alloc)?));
     Ok(())
 }
 
@@ -381,9 +411,18 @@ fn word_of(call: &Call) -> &'static str {
     }
 }
 
+/// The call, in a word, and then let go.
+fn word_then(call: Call) -> &'static str {
+    let word = word_of(&call);
+    let_go(call);
+    word
+}
+
 /// The copy of the call, in a word.
 fn copied(call: Call) -> Result<&'static str, AllocError> {
-    Ok(word_of(&call.copy()?))
+    let copy = call.copy();
+    let_go(call);
+    Ok(word_then(copy?))
 }
 
 #[test]

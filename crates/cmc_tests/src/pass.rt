@@ -1,6 +1,6 @@
 //! What no clause says: that each call has an answer where memory is ample.
 use crate::checks::{passes, tells};
-use crate::values::{key, new_meta};
+use crate::values::{key, let_go, new_meta};
 use crate::whole::{request, secret};
 use cmc_meta::{Bytes, Kind};
 use cmc_objects::{Call, CertificateRequest, CsrOrder, Order, Secret, Shared, Signing};
@@ -66,8 +66,17 @@ fn told(act: &Act) -> &'static str {
     }
 }
 
+/// The act, in a word, and then let go.
+fn told_then(act: Act) -> &'static str {
+    let word = told(&act);
+    let_go(act);
+    word
+}
+
 fn copied(act: Act) -> Result<&'static str, AllocError> {
-    Ok(told(&act.copy()?))
+    let copy = act.copy();
+    let_go(act);
+    Ok(told_then(copy?))
 }
 
 fn get(alloc: Global) -> Result<Call, Fail> {
@@ -83,23 +92,26 @@ fn question(alloc: Global) -> Act {
     }))
 }
 
+// The keys first: a call that is alive at a `?` is a wide enum to let go there.
 fn plan(alloc: Global) -> Result<Act, Fail> {
-    let secret = get(alloc)?;
-    let status = get(alloc)?;
+    let secret = key(alloc, Kind::Secret, "web")?;
+    let status = key(alloc, Kind::Secret, "web")?;
+    let get = key(alloc, Kind::Secret, "web")?;
     Ok(Act::Issue(IssuePlan {
-        get: key(alloc, Kind::Secret, "web")?,
+        get,
         version: 1,
-        secret,
-        status,
+        secret: Call::Get { key: secret },
+        status: Call::Get { key: status },
     }))
 }
 
 fn temporary_plan(alloc: Global) -> Result<Act, Fail> {
-    let secret = get(alloc)?;
+    let secret = key(alloc, Kind::Secret, "web")?;
+    let get = key(alloc, Kind::Certificate, "web")?;
     Ok(Act::Temporary(TemporaryPlan {
-        get: key(alloc, Kind::Certificate, "web")?,
+        get,
         version: 1,
-        secret,
+        secret: Call::Get { key: secret },
     }))
 }
 
@@ -129,8 +141,17 @@ fn said(value: &Value) -> &'static str {
     }
 }
 
+/// The value, in a word, and then let go.
+fn said_then(value: Value) -> &'static str {
+    let word = said(&value);
+    let_go(value);
+    word
+}
+
 fn said_of_copy(value: Value) -> Result<&'static str, AllocError> {
-    Ok(said(&value.copy()?))
+    let copy = value.copy();
+    let_go(value);
+    Ok(said_then(copy?))
 }
 
 #[test]

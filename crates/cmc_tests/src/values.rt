@@ -1,6 +1,7 @@
 //! The small values that the tests build theirs of.
 use cmc_meta::{Bytes, Key, Kind, Name, ObjectMeta, Owners, Pairs, Text, Texts};
 use cmc_objects::{CertSpec, IssuerRef, KeySpec};
+use cmc_policy_rules::{Pattern, Patterns, Policy};
 use std::alloc::{AllocError, Global};
 use std::test::Fail;
 
@@ -10,6 +11,11 @@ fn digit(letter: u8) -> u8 {
         b'a'..=b'f' => letter - b'a' + 10,
         _ => 0,
     }
+}
+
+/// Lets the value go: the drop of a wide enum splits each goal behind it, so it stands here.
+pub fn let_go<T: Drop>(value: T) {
+    let _value = value;
 }
 
 /// The octets that a text of two hexadecimal digits each spells.
@@ -40,6 +46,23 @@ pub fn made(alloc: Global, tables: &[&str], name: &str) -> Result<Bytes, Fail> {
         }
     }
     Err(Fail::from("no row"))
+}
+
+/// The column of this place, from 0, of a row with bars between its columns; empty where it has none there.
+pub fn column(row: &str, place: u32) -> &str {
+    let mut columns = row.split('|');
+    for _ in 0..place {
+        columns.next();
+    }
+    columns.next().unwrap_or("")
+}
+
+/// The number that the word spells, and none for any other word.
+pub fn number(word: &str) -> Option<u64> {
+    match word.parse::<u64>() {
+        Ok(number) => Some(number),
+        Err(_) => None,
+    }
 }
 
 pub fn text(alloc: Global, text: &str) -> Result<Text, Fail> {
@@ -111,5 +134,36 @@ pub fn least_spec(alloc: Global, secret: &str, host: &str) -> Result<CertSpec, F
         },
         renew_percent: None,
         history_limit: None,
+    })
+}
+
+/// A list of one pattern.
+pub fn patterns(alloc: Global, word: &str) -> Result<Patterns, AllocError> {
+    let mut patterns = Patterns::new(alloc);
+    patterns.push(Pattern::from_slice(alloc, word.as_bytes())?)?;
+    Ok(patterns)
+}
+
+/// A policy of this name for requests to these issuers, which allows these DNS names and no others, no usage, and each
+/// duration and each key.
+pub fn policy(alloc: Global, name: &str, issuers: &str, dns: &str) -> Result<Policy, AllocError> {
+    let name = Pattern::from_slice(alloc, name.as_bytes())?;
+    let issuers = patterns(alloc, issuers)?;
+    let dns = patterns(alloc, dns)?;
+    Ok(Policy {
+        name,
+        issuers,
+        common: None,
+        dns: Some(dns),
+        ips: None,
+        uris: None,
+        emails: None,
+        usages: Patterns::new(alloc),
+        ca: false,
+        min: None,
+        max: None,
+        algorithm: None,
+        min_size: None,
+        max_size: None,
     })
 }

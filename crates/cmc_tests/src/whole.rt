@@ -1,5 +1,5 @@
 //! Objects whose every member is given.
-use crate::values::{name, text, texts};
+use crate::values::{least_spec, name, text, texts};
 use cmc_meta::{
     Bytes, Condition, ConditionKind, Conditions, Kind, ObjectMeta, OwnerRef, Owners, Pairs, Tri,
 };
@@ -10,12 +10,9 @@ use cmc_objects::{
 use std::alloc::Global;
 use std::test::Fail;
 
+/// Three zeros.
 pub fn bytes(alloc: Global) -> Result<Bytes, Fail> {
-    let mut bytes = Bytes::new(alloc);
-    bytes.push(0)?;
-    bytes.push(0)?;
-    bytes.push(0)?;
-    Ok(bytes)
+    Ok(Bytes::from_slice(alloc, &[0, 0, 0])?)
 }
 
 fn meta(alloc: Global, word: &str) -> Result<ObjectMeta, Fail> {
@@ -61,28 +58,41 @@ fn issuer(alloc: Global) -> Result<IssuerRef, Fail> {
     })
 }
 
+// The lists are filled where they stand: a spec in the making would hold one owned value more at each `?`.
+fn add_names(alloc: Global, spec: &mut CertSpec) -> Result<(), Fail> {
+    spec.ip_addresses.push(text(alloc, "192.0.2.1")?)?;
+    spec.uris.push(text(alloc, "spiffe://example.com/web")?)?;
+    spec.emails.push(text(alloc, "web@example.com")?)?;
+    spec.usages.push(text(alloc, "server auth")?)?;
+    Ok(())
+}
+
+fn add_terms(spec: &mut CertSpec) {
+    spec.is_ca = true;
+    spec.duration = Some(7_776_000);
+    spec.renew_before = Some(300);
+    spec.renew_percent = Some(25);
+    spec.key = KeySpec {
+        algorithm: Some(Algorithm::Ecdsa),
+        size: Some(384),
+        encoding: Some(Encoding::Pkcs8),
+        rotation: Some(Rotation::Never),
+    };
+    spec.history_limit = Some(1);
+}
+
+fn named_spec(alloc: Global) -> Result<CertSpec, Fail> {
+    let mut spec = least_spec(alloc, "web-tls", "example.com")?;
+    spec.issuer = issuer(alloc)?;
+    spec.common_name = text(alloc, "example.com")?;
+    Ok(spec)
+}
+
 fn cert_spec(alloc: Global) -> Result<CertSpec, Fail> {
-    Ok(CertSpec {
-        secret_name: name(alloc, "web-tls")?,
-        issuer: issuer(alloc)?,
-        common_name: text(alloc, "example.com")?,
-        dns_names: texts(alloc, "example.com")?,
-        ip_addresses: texts(alloc, "192.0.2.1")?,
-        uris: texts(alloc, "spiffe://example.com/web")?,
-        emails: texts(alloc, "web@example.com")?,
-        is_ca: true,
-        usages: texts(alloc, "server auth")?,
-        duration: Some(7_776_000),
-        renew_before: Some(300),
-        renew_percent: Some(25),
-        key: KeySpec {
-            algorithm: Some(Algorithm::Ecdsa),
-            size: Some(384),
-            encoding: Some(Encoding::Pkcs8),
-            rotation: Some(Rotation::Never),
-        },
-        history_limit: Some(1),
-    })
+    let mut spec = named_spec(alloc)?;
+    add_names(alloc, &mut spec)?;
+    add_terms(&mut spec);
+    Ok(spec)
 }
 
 pub fn certificate(alloc: Global) -> Result<Certificate, Fail> {

@@ -1,14 +1,17 @@
 //! Tests against what openssl 3.0.19 made: `openssl req -new` of the names below, and `openssl ca` of that request, with
 //! no other extension, from 2030-01-01 to 2050-01-01.
+ghost use Rattle.cmc_time.specs.Asn1.{IsCertificateTime};
+
 use crate::checks::passes;
+use crate::values::{text, texts};
 use cmc_der::{KeyKind, Spki};
-use cmc_meta::{Text, Texts};
-use cmc_x509::{Names, read_cert, read_csr};
+use cmc_meta::{Bytes, Text, Texts};
+use cmc_x509::{CsrFields, Names, read_cert, read_csr};
 use cmc_x509_build::{
     CertPlan, NameSet, address_at, cert_body, cert_whole, csr_body, csr_whole, key_file_serves,
     request_serves,
 };
-use std::alloc::{AllocError, Global};
+use std::alloc::Global;
 use std::test::Fail;
 
 // The point of a P-256 key.
@@ -51,71 +54,94 @@ static CERTIFICATE_BODY: [u8; 295] = [
     46, 99, 111, 109, 47, 120, 129, 13, 97, 64, 101, 120, 97, 109, 112, 108, 101, 46, 99, 111, 109,
 ];
 
-fn one(alloc: Global, text: &str) -> Result<Texts, AllocError> {
-    let mut texts = Texts::new(alloc);
-    texts.push(Text::from_str(alloc, text)?)?;
+fn two(alloc: Global, first: &str, second: &str) -> Result<Texts, Fail> {
+    let mut texts = texts(alloc, first)?;
+    texts.push(text(alloc, second)?)?;
     Ok(texts)
 }
 
-fn two(alloc: Global, first: &str, second: &str) -> Result<Texts, AllocError> {
-    let mut texts = one(alloc, first)?;
-    texts.push(Text::from_str(alloc, second)?)?;
-    Ok(texts)
-}
-
-fn names(alloc: Global) -> Result<NameSet, AllocError> {
+fn names(alloc: Global) -> Result<NameSet, Fail> {
     let dns = two(alloc, "example.com", "www.example.com")?;
     let ips = two(alloc, "10.0.0.1", "2001:db8::1")?;
     Ok(NameSet {
-        common: Text::from_str(alloc, "example.com")?,
+        common: text(alloc, "example.com")?,
         dns,
         ips,
-        uris: one(alloc, "https://example.com/x")?,
-        emails: one(alloc, "a@example.com")?,
+        uris: texts(alloc, "https://example.com/x")?,
+        emails: texts(alloc, "a@example.com")?,
     })
 }
 
-fn same_key(key: &Spki<'_>) -> bool {
-    key.same(&Spki::Ec {
+fn plan(issuer: Text) -> CertPlan
+    ensures begins { IsCertificateTime result.not_before }
+    ensures ends { IsCertificateTime result.not_after }
+{
+    CertPlan {
+        serial: 10,
+        issuer,
+        not_before: 1_893_456_000,
+        not_after: 2_524_608_000,
+    }
+}
+
+fn key() -> Spki<'static> {
+    Spki::Ec {
         curve: KeyKind::P256,
         point: &POINT,
-    })
+    }
+}
+
+fn written_request(alloc: Global) -> Result<Bytes, Fail> {
+    Ok(csr_body(alloc, &key(), &names(alloc)?)?)
+}
+
+fn whole_request(alloc: Global) -> Result<Bytes, Fail> {
+    let body = written_request(alloc)?;
+    Ok(csr_whole(alloc, body.as_slice(), &[7; 32])?)
+}
+
+/// The request is read with the key and with this common name.
+fn is_request(octets: &[u8]) -> bool {
+    match read_csr(octets) {
+        Ok(csr) => { csr.key.same(&key()) && csr.names.common == Some(b"example.com".as_slice()) }
+        Err(_) => false,
+    }
 }
 
 #[test]
-fn request_and_certificate(rt: HostRuntime) -> Result<(), Fail> {
-    let alloc = rt.alloc();
-    let key = Spki::Ec {
-        curve: KeyKind::P256,
-        point: &POINT,
-    };
-    let body = csr_body(alloc, &key, &names(alloc)?)?;
+fn writes_a_request(rt: HostRuntime) -> Result<(), Fail> {
+    let body = written_request(rt.alloc())?;
     passes(&rt, "request", body.as_slice() == REQUEST_BODY.as_slice());
-    let whole = csr_whole(alloc, body.as_slice(), &[7; 32])?;
-    let Ok(csr) = read_csr(whole.as_slice()) else {
+    let whole = whole_request(rt.alloc())?;
+    passes(&rt, "read again", is_request(whole.as_slice()));
+    Ok(())
+}
+
+/// The certificate that the plan and the request make.
+fn written_certificate(alloc: Global, request: &CsrFields<'_>) -> Result<Bytes, Fail> {
+    let plan = plan(text(alloc, "ca")?);
+    Ok(cert_body(alloc, &plan, request, &key())?)
+}
+
+/// The certificate, as it is and when it is signed and read again.
+fn are_written(alloc: Global, request: &CsrFields<'_>) -> Result<(bool, bool), Fail> {
+    let body = written_certificate(alloc, request)?;
+    let signed = cert_whole(alloc, body.as_slice(), &[7; 32])?;
+    Ok((
+        body.as_slice() == CERTIFICATE_BODY.as_slice(),
+        is_certificate(signed.as_slice(), &request.names),
+    ))
+}
+
+#[test]
+fn writes_a_certificate(rt: HostRuntime) -> Result<(), Fail> {
+    let whole = whole_request(rt.alloc())?;
+    let Ok(request) = read_csr(whole.as_slice()) else {
         return Err(Fail::from("no request"));
     };
-    passes(&rt, "request's key", same_key(&csr.key));
-    let is_common = csr.names.common == Some(b"example.com".as_slice());
-    passes(&rt, "request's name", is_common);
-    let plan = CertPlan {
-        serial: 10,
-        issuer: Text::from_str(alloc, "ca")?,
-        not_before: 1_893_456_000,
-        not_after: 2_524_608_000,
-    };
-    let certificate = cert_body(alloc, &plan, &csr, &key)?;
-    passes(
-        &rt,
-        "certificate",
-        certificate.as_slice() == CERTIFICATE_BODY.as_slice(),
-    );
-    let signed = cert_whole(alloc, certificate.as_slice(), &[7; 32])?;
-    passes(
-        &rt,
-        "read again",
-        is_certificate(signed.as_slice(), &csr.names),
-    );
+    let (is_written, is_read) = are_written(rt.alloc(), &request)?;
+    passes(&rt, "certificate", is_written);
+    passes(&rt, "read again", is_read);
     Ok(())
 }
 
@@ -124,7 +150,7 @@ fn is_certificate(octets: &[u8], names: &Names<'_>) -> bool {
     let Ok(read) = read_cert(octets) else {
         return false;
     };
-    same_key(&read.key)
+    read.key.same(&key())
         && read.serial == [10u8].as_slice()
         && read.not_before == 1_893_456_000
         && read.not_after == 2_524_608_000
@@ -165,20 +191,18 @@ fn addresses(rt: HostRuntime) {
 }
 
 #[test]
-fn copies_plans_and_names(rt: HostRuntime) -> Result<(), Fail> {
-    let alloc = rt.alloc();
-    key_file_serves();
+fn copies_names(rt: HostRuntime) -> Result<(), Fail> {
     request_serves();
-    let copied = names(alloc)?.copy()?;
+    let copied = names(rt.alloc())?.copy()?;
     passes(&rt, "common name", copied.common.as_str() == "example.com");
     passes(&rt, "addresses", copied.ips.as_slice().len() == 2);
-    let plan = CertPlan {
-        serial: 10,
-        issuer: Text::from_str(alloc, "ca")?,
-        not_before: 1_893_456_000,
-        not_after: 2_524_608_000,
-    };
-    let copied = plan.copy()?;
+    Ok(())
+}
+
+#[test]
+fn copies_plans(rt: HostRuntime) -> Result<(), Fail> {
+    key_file_serves();
+    let copied = plan(text(rt.alloc(), "ca")?).copy()?;
     passes(&rt, "issuer", copied.issuer.as_str() == "ca");
     passes(&rt, "end", copied.not_after == 2_524_608_000);
     Ok(())

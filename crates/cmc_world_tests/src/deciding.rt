@@ -1,44 +1,34 @@
 // What no clause says: that a decision which is made outside of a world is taken by it, and that the run goes on as if the
 // pass had decided itself. The answers to decisions are those of the table, row by row, on the pass of one of two
 // Certificates.
-use crate::world::{ROLES, certificate, scenario_of, value_of};
+use crate::checks::{passes, tells};
+use crate::fixtures::{all_roles, any_issuer, applied, scenario_of, value_then};
 use cmc_history::History;
-use cmc_meta::{Key, Kind, Numbers, Texts};
-use cmc_objects::{Call, Entry, Material, Role, Rules, Step};
+use cmc_meta::{Key, Kind, Numbers};
+use cmc_objects::{Call, Entry, Material, Role, Step};
 use cmc_plain::{plain, question};
-use cmc_policy_rules::Policies;
-use cmc_setup::{Roles, Scenario, Steps};
-use cmc_tests::values::{key, texts};
+use cmc_setup::{Scenario, Steps};
+use cmc_tests::values::{key, let_go};
 use cmc_world::{Decided, Lack, Move, Stepped, World, decide};
 use std::alloc::Global;
 use std::process::Abort;
 use std::test::Fail;
 
+fn script(alloc: Global) -> Result<Steps, Fail> {
+    let mut steps = Steps::new(alloc);
+    steps.push(applied(alloc, "web", "web-tls", "example.com")?)?;
+    steps.push(applied(alloc, "api", "api-tls", "api.example.com")?)?;
+    steps.push(Step::Settle)?;
+    Ok(steps)
+}
+
 /// Two Certificates, which all eight roles work on until nothing is left to do.
 fn scenario(alloc: Global) -> Result<Scenario, Fail> {
-    let mut steps = Steps::new(alloc);
-    steps.push(certificate(alloc, "web", "web-tls", "example.com")?)?;
-    steps.push(certificate(alloc, "api", "api-tls", "api.example.com")?)?;
-    steps.push(Step::Settle)?;
-    let mut roles = Roles::new(alloc);
-    for role in ROLES {
-        roles.add(role)?;
-    }
-    let approver = Rules {
-        issuers: texts(alloc, "*")?,
-        refuse: Texts::new(alloc),
-        policies: Policies::new(alloc),
-    };
-    let none = Numbers::new(alloc);
-    scenario_of(
-        400,
-        1000,
-        roles,
-        none,
-        approver,
-        Material::new(alloc),
-        steps,
-    )
+    let roles = all_roles(alloc)?;
+    let approver = any_issuer(alloc)?;
+    let none = Material::new(alloc);
+    let no_faults = Numbers::new(alloc);
+    scenario_of(400, 1000, roles, no_faults, approver, none, script(alloc)?)
 }
 
 /// A decision on what the pass of this number saw; none where no such pass is open, or its role does not decide alone.
@@ -63,10 +53,16 @@ fn word_of(answer: &Stepped) -> &'static str {
     }
 }
 
+/// The answer in a word; it is let go behind that.
+fn word_then(answer: Stepped) -> &'static str {
+    let word = word_of(&answer);
+    let_go(answer);
+    word
+}
+
 /// Makes the move, and tells the answer.
 fn make(alloc: Global, world: &mut World, step: Move) -> Result<&'static str, Fail> {
-    let answer = world.step(alloc, step)?;
-    Ok(word_of(&answer))
+    Ok(word_then(world.step(alloc, step)?))
 }
 
 /// Has the pass go on: it is given the value that it waits for, or makes its next move.
@@ -78,16 +74,13 @@ fn go_on(
 ) -> Result<&'static str, Fail> {
     match question(world, pass)? {
         Some(order) => {
-            let given = value_of(alloc, &order)?;
-            make(
-                alloc,
-                world,
-                Move::Give {
-                    pass,
-                    incarnation,
-                    given,
-                },
-            )
+            let given = value_then(alloc, order)?;
+            let step = Move::Give {
+                pass,
+                incarnation,
+                given,
+            };
+            make(alloc, world, step)
         }
         None => make(alloc, world, Move::Next { pass, incarnation }),
     }
@@ -266,11 +259,9 @@ fn decides_row(
 /// The row is answered so, and the history grows by an entry exactly where the decision is taken.
 fn answers(rt: &impl Abort, row: &str, world: &World, before: u64, told: &str, want: &str) {
     let grown = u64::from(want == "order");
-    assert!(rt; told == want, "{row}: {told}");
-    assert!(rt;
-        world.history().len() == before.saturating_add(grown),
-        "{row}"
-    );
+    tells(rt, row, told, want);
+    let is_grown = world.history().len() == before.saturating_add(grown);
+    passes(rt, row, is_grown);
 }
 
 #[test]
@@ -289,16 +280,26 @@ fn a_decision_is_answered_by_its_table(rt: HostRuntime) -> Result<(), Fail> {
     Ok(())
 }
 
-/// What a pass of the trigger is answered to a decision of the request manager.
-fn told_trigger(alloc: Global) -> Result<&'static str, Fail> {
-    let mut later = World::new(alloc, scenario(alloc)?)?;
-    let pass = begun_on(alloc, &mut later, Role::RequestManager, "api")?;
-    let Some(decided) = decision(alloc, &later, pass)? else {
-        return Ok("no decision");
-    };
+/// A decision of the request manager.
+fn decided_once(alloc: Global) -> Result<Option<Decided>, Fail> {
+    let mut world = World::new(alloc, scenario(alloc)?)?;
+    let pass = begun_on(alloc, &mut world, Role::RequestManager, "api")?;
+    decision(alloc, &world, pass)
+}
+
+/// What a pass of the trigger is answered to the decision.
+fn told_of(alloc: Global, decided: Decided) -> Result<&'static str, Fail> {
     let mut world = World::new(alloc, scenario(alloc)?)?;
     let first = begun_on(alloc, &mut world, Role::Trigger, "api")?;
     hand_in(alloc, &mut world, first, 1, decided)
+}
+
+/// What a pass of the trigger is answered to a decision of the request manager.
+fn told_trigger(alloc: Global) -> Result<&'static str, Fail> {
+    match decided_once(alloc)? {
+        Some(decided) => told_of(alloc, decided),
+        None => Ok("no decision"),
+    }
 }
 
 /// Whether there is a decision on what a pass of the trigger saw.
@@ -311,24 +312,27 @@ fn decides_for_trigger(alloc: Global) -> Result<bool, Fail> {
 #[test]
 fn a_trigger_takes_no_decision(rt: HostRuntime) -> Result<(), Fail> {
     let alloc = rt.alloc();
-    let told = told_trigger(alloc)?;
-    assert!(rt; told == "settled", "{told}");
-    assert!(rt; !decides_for_trigger(alloc)?);
+    tells(&rt, "trigger", told_trigger(alloc)?, "settled");
+    passes(&rt, "no decision", !decides_for_trigger(alloc)?);
     Ok(())
+}
+
+/// A run of the scenario, with decisions or without, and how many of them were taken.
+fn whole_run(alloc: Global, decides: bool) -> Result<(World, u64), Fail> {
+    let mut taken = 0_u64;
+    let mut world = World::new(alloc, scenario(alloc)?)?;
+    run(alloc, &mut world, decides, &mut taken)?;
+    Ok((world, taken))
 }
 
 /// Both Certificates have a request made, and are issued: four decisions at least are taken.
 #[test]
 fn a_run_by_decisions_is_the_plain_one(rt: HostRuntime) -> Result<(), Fail> {
-    let alloc = rt.alloc();
-    let mut taken = 0_u64;
-    let mut decided = World::new(alloc, scenario(alloc)?)?;
-    run(alloc, &mut decided, true, &mut taken)?;
-    let mut other = 0_u64;
-    let mut alone = World::new(alloc, scenario(alloc)?)?;
-    run(alloc, &mut alone, false, &mut other)?;
-    assert!(rt; taken >= 4, "{taken}");
-    assert!(rt; other == 0);
-    assert!(rt; are_same(decided.history(), alone.history()));
+    let (decided, taken) = whole_run(rt.alloc(), true)?;
+    let (alone, none) = whole_run(rt.alloc(), false)?;
+    passes(&rt, "four decisions", taken >= 4);
+    passes(&rt, "no decision", none == 0);
+    let are_same = are_same(decided.history(), alone.history());
+    passes(&rt, "the same", are_same);
     Ok(())
 }

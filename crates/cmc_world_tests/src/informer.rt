@@ -1,9 +1,11 @@
 //! What no clause says: that an informer is told, is listed anew, and finds objects by each index, with ample
 //! memory.
+use crate::checks::{passes, passes_at, tells};
+use crate::fixtures::certificate;
 use cmc_informer::{Cache, Informer, Keys, Undelivered, Watch};
-use cmc_meta::{Conditions, Key, Kind, OwnerRef, Owners};
-use cmc_objects::{CertStatus, Certificate, Object, Parts, Secret};
-use cmc_tests::values::{key, least_spec, name, new_meta, text};
+use cmc_meta::{Key, Kind, OwnerRef, Owners};
+use cmc_objects::{Object, Parts, Secret};
+use cmc_tests::values::{key, name, new_meta, text};
 use std::alloc::Global;
 use std::test::Fail;
 
@@ -24,37 +26,27 @@ fn owners(alloc: Global, uids: &[u64]) -> Result<Owners, Fail> {
     Ok(owners)
 }
 
-/// The Secret `web-tls` of uid 3 with these owners.
-fn owned(alloc: Global, uids: &[u64]) -> Result<Option<Object>, Fail> {
+fn secret(alloc: Global, uids: &[u64]) -> Result<Secret, Fail> {
     let mut meta = new_meta(alloc, "web-tls")?;
     meta.uid = 3;
     meta.owners = owners(alloc, uids)?;
-    Ok(Some(Object::of_secret(
-        alloc,
-        Secret {
-            meta,
-            kind_text: text(alloc, "Opaque")?,
-            parts: Parts::new(alloc),
-        },
-    )?))
+    Ok(Secret {
+        meta,
+        kind_text: text(alloc, "Opaque")?,
+        parts: Parts::new(alloc),
+    })
+}
+
+/// The Secret `web-tls` of uid 3 with these owners.
+fn owned(alloc: Global, uids: &[u64]) -> Result<Option<Object>, Fail> {
+    Ok(Some(Object::of_secret(alloc, secret(alloc, uids)?)?))
 }
 
 /// A Certificate of the uid that names this Secret.
 fn targeting(alloc: Global, uid: u64, word: &str) -> Result<Option<Object>, Fail> {
-    let mut meta = new_meta(alloc, "web")?;
-    meta.uid = uid;
-    let spec = least_spec(alloc, word, "example.com")?;
-    let status = CertStatus {
-        conditions: Conditions::new(alloc),
-        last_failure: None,
-        attempts: None,
-        not_before: None,
-        not_after: None,
-        renewal: None,
-        revision: None,
-        next_key: None,
-    };
-    Ok(Some(Object::of_certificate(alloc, Certificate { meta, spec, status })?))
+    let mut certificate = certificate(alloc, "web", word, "example.com")?;
+    certificate.meta.uid = uid;
+    Ok(Some(Object::of_certificate(alloc, certificate)?))
 }
 
 fn accept(watch: &mut Watch, key: Key, object: Option<Object>) -> Result<(), Fail> {
@@ -67,17 +59,38 @@ fn accept(watch: &mut Watch, key: Key, object: Option<Object>) -> Result<(), Fai
     Ok(())
 }
 
+fn accept_certificate(
+    alloc: Global,
+    watch: &mut Watch,
+    uid: u64,
+    word: &str,
+    secret: &str,
+) -> Result<(), Fail> {
+    let key = key(alloc, Kind::Certificate, word)?;
+    accept(watch, key, targeting(alloc, uid, secret)?)
+}
+
+fn accept_secret(alloc: Global, watch: &mut Watch, uids: &[u64]) -> Result<(), Fail> {
+    let key = key(alloc, Kind::Secret, "web-tls")?;
+    accept(watch, key, owned(alloc, uids)?)
+}
+
+fn accept_delete(alloc: Global, watch: &mut Watch) -> Result<(), Fail> {
+    accept(watch, key(alloc, Kind::Secret, "web-tls")?, None)
+}
+
+fn accept_five(alloc: Global, watch: &mut Watch) -> Result<(), Fail> {
+    accept_certificate(alloc, watch, 1, "web", "web-tls")?;
+    accept_certificate(alloc, watch, 2, "api", "api-tls")?;
+    accept_secret(alloc, watch, &[1, 2])?;
+    accept_secret(alloc, watch, &[2])?;
+    accept_delete(alloc, watch)
+}
+
 /// Two Certificates, then a Secret of both, of the second alone, and deleted.
 fn five_writes(alloc: Global, window: u64) -> Result<Watch, Fail> {
     let mut watch = Watch::new(alloc, window);
-    let web = key(alloc, Kind::Certificate, "web")?;
-    accept(&mut watch, web, targeting(alloc, 1, "web-tls")?)?;
-    let api = key(alloc, Kind::Certificate, "api")?;
-    accept(&mut watch, api, targeting(alloc, 2, "api-tls")?)?;
-    let tls = key(alloc, Kind::Secret, "web-tls")?;
-    accept(&mut watch, tls.copy()?, owned(alloc, &[1, 2])?)?;
-    accept(&mut watch, tls.copy()?, owned(alloc, &[2])?)?;
-    accept(&mut watch, tls, None)?;
+    accept_five(alloc, &mut watch)?;
     Ok(watch)
 }
 
@@ -115,77 +128,134 @@ fn names(alloc: Global, keys: &Keys) -> Result<String, Fail> {
     Ok(names)
 }
 
+fn owned_told(alloc: Global, informer: &Informer, uid: u64) -> Result<String, Fail> {
+    names(alloc, &informer.owned_by(alloc, uid)?)
+}
+
+/// The names of the Secrets that the owner of this uid has, where an informer was listed at the one position and told up
+/// to the other; nothing where it is elsewhere.
+fn owned_after(alloc: Global, watch: &Watch, from: u64, to: u64, uid: u64) -> Result<String, Fail> {
+    let (informer, _) = told(alloc, watch, Kind::Secret, from, to)?;
+    if informer.position() != to {
+        return Err(Fail::from("another position"));
+    }
+    owned_told(alloc, &informer, uid)
+}
+
+/// Where an informer is listed, up to where it is told, the uid of an owner, and the names of what that owns.
+static OWNED: [(u64, u64, u64, &str); 6] = [
+    (2, 3, 1, "web-tls "),
+    (2, 3, 2, "web-tls "),
+    (0, 4, 1, ""),
+    (3, 4, 1, ""),
+    (3, 4, 2, "web-tls "),
+    (3, 5, 2, ""),
+];
+
 #[test]
 fn finds_what_is_owned(rt: HostRuntime) -> Result<(), Fail> {
-    let alloc = rt.alloc();
-    let watch = five_writes(alloc, 9)?;
-    let rows = [
-        (2, 3, 1, "web-tls "),
-        (2, 3, 2, "web-tls "),
-        (0, 4, 1, ""),
-        (3, 4, 1, ""),
-        (3, 4, 2, "web-tls "),
-        (3, 5, 2, ""),
-    ];
-    for (from, to, uid, wanted) in rows {
-        let (informer, _) = told(alloc, &watch, Kind::Secret, from, to)?;
-        assert_eq!(rt; informer.position(), to);
-        let keys = informer.owned_by(alloc, uid)?;
-        assert_eq!(rt; names(alloc, &keys)?.as_str(), wanted);
+    let watch = five_writes(rt.alloc(), 9)?;
+    for (number, (from, to, uid, want)) in OWNED.iter().enumerate() {
+        let told = owned_after(rt.alloc(), &watch, *from, *to, *uid)?;
+        passes_at(&rt, number, told.as_str(), told.as_str() == *want);
     }
-    let (mut informer, _) = told(alloc, &watch, Kind::Secret, 3, 4)?;
-    informer.relist(3, listed(alloc, &watch, Kind::Secret, 3)?);
-    for uid in 1..3 {
-        let keys = informer.owned_by(alloc, uid)?;
-        assert_eq!(rt; names(alloc, &keys)?.as_str(), "web-tls ");
-    }
-    assert!(rt; informer.by_uid(3).is_some());
-    assert!(rt; informer.by_uid(1).is_none());
     Ok(())
 }
+
+/// An informer that was told up to the fourth write, and is then listed at the third.
+fn listed_anew(alloc: Global, watch: &Watch) -> Result<Informer, Fail> {
+    let (mut informer, _) = told(alloc, watch, Kind::Secret, 3, 4)?;
+    informer.relist(3, listed(alloc, watch, Kind::Secret, 3)?);
+    Ok(informer)
+}
+
+#[test]
+fn finds_what_is_owned_after_a_list(rt: HostRuntime) -> Result<(), Fail> {
+    let alloc = rt.alloc();
+    let informer = listed_anew(alloc, &five_writes(alloc, 9)?)?;
+    tells(
+        &rt,
+        "first",
+        owned_told(alloc, &informer, 1)?.as_str(),
+        "web-tls ",
+    );
+    tells(
+        &rt,
+        "second",
+        owned_told(alloc, &informer, 2)?.as_str(),
+        "web-tls ",
+    );
+    passes(&rt, "by its uid", informer.by_uid(3).is_some());
+    passes(&rt, "by another uid", informer.by_uid(1).is_none());
+    Ok(())
+}
+
+/// The names of the Certificates that name this Secret.
+fn naming(alloc: Global, informer: &Informer, namespace: &str, word: &str) -> Result<String, Fail> {
+    let namespace = name(alloc, namespace)?;
+    let keys = informer.by_secret(alloc, &namespace, &name(alloc, word)?)?;
+    names(alloc, &keys)
+}
+
+fn holds(alloc: Global, informer: &Informer, word: &str) -> Result<bool, Fail> {
+    let key = key(alloc, Kind::Certificate, word)?;
+    Ok(informer.get(&key).is_some())
+}
+
+/// The namespace and the name of a Secret, and the Certificates that name it.
+static NAMING: [(&str, &str, &str); 4] = [
+    ("default", "web-tls", "web "),
+    ("default", "api-tls", "api "),
+    ("default", "tls", ""),
+    ("other", "web-tls", ""),
+];
 
 #[test]
 fn finds_certificates_by_their_secret(rt: HostRuntime) -> Result<(), Fail> {
     let alloc = rt.alloc();
-    let watch = five_writes(alloc, 9)?;
-    let (informer, _) = told(alloc, &watch, Kind::Certificate, 0, 5)?;
-    let rows = [
-        ("default", "web-tls", "web "),
-        ("default", "api-tls", "api "),
-        ("default", "tls", ""),
-        ("other", "web-tls", ""),
-    ];
-    for (namespace, word, wanted) in rows {
-        let keys = informer.by_secret(alloc, &name(alloc, namespace)?, &name(alloc, word)?)?;
-        assert_eq!(rt; names(alloc, &keys)?.as_str(), wanted);
+    let (informer, _) = told(alloc, &five_writes(alloc, 9)?, Kind::Certificate, 0, 5)?;
+    for (namespace, word, want) in &NAMING {
+        let told = naming(alloc, &informer, namespace, word)?;
+        tells(&rt, word, told.as_str(), want);
     }
-    assert!(rt;
-        informer
-            .get(&key(alloc, Kind::Certificate, "api")?)
-            .is_some()
-    );
+    passes(&rt, "by its key", holds(alloc, &informer, "api")?);
     Ok(())
 }
+
+/// The position of the informer, and where the delivery is refused the start of what the watch still has.
+fn delivered(alloc: Global, watch: &Watch, from: u64) -> Result<(u64, Option<u64>), Fail> {
+    let (informer, answer) = told(alloc, watch, Kind::Secret, from, 5)?;
+    match answer {
+        Ok(()) => Ok((informer.position(), None)),
+        Err(Undelivered::Gone { start }) => Ok((informer.position(), Some(start))),
+        Err(_) => Err(Fail::from("another answer")),
+    }
+}
+
+fn changed(alloc: Global, watch: &Watch, from: u64, to: u64) -> Result<String, Fail> {
+    names(alloc, &watch.changed(alloc, Kind::Certificate, from, to)?)
+}
+
+/// From where, up to where, and the Certificates that changed.
+static CHANGED: [(u64, u64, &str); 4] = [
+    (0, 5, "api web "),
+    (1, 5, "api "),
+    (2, 5, ""),
+    (0, 1, "web "),
+];
 
 #[test]
 fn delivers_within_the_window(rt: HostRuntime) -> Result<(), Fail> {
     let alloc = rt.alloc();
     let watch = five_writes(alloc, 2)?;
-    assert_eq!(rt; watch.start(), 3);
-    let (late, refused) = told(alloc, &watch, Kind::Secret, 2, 5)?;
-    assert!(rt; matches!(refused, Err(Undelivered::Gone { start: 3 })));
-    assert_eq!(rt; late.position(), 2);
-    let (_, answered) = told(alloc, &watch, Kind::Secret, 3, 5)?;
-    assert!(rt; answered.is_ok());
-    let rows = [
-        (0, 5, "api web "),
-        (1, 5, "api "),
-        (2, 5, ""),
-        (0, 1, "web "),
-    ];
-    for (from, to, wanted) in rows {
-        let keys = watch.changed(alloc, Kind::Certificate, from, to)?;
-        assert_eq!(rt; names(alloc, &keys)?.as_str(), wanted);
+    passes(&rt, "start", watch.start() == 3);
+    let late = delivered(alloc, &watch, 2)?;
+    passes(&rt, "too late", late.0 == 2 && late.1 == Some(3));
+    let in_time = delivered(alloc, &watch, 3)?;
+    passes(&rt, "in time", in_time.0 == 5 && in_time.1.is_none());
+    for (number, (from, to, want)) in CHANGED.iter().enumerate() {
+        let told = changed(alloc, &watch, *from, *to)?;
+        passes_at(&rt, number, told.as_str(), told.as_str() == *want);
     }
     Ok(())
 }

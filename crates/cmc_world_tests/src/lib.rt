@@ -5,7 +5,11 @@
 #[cfg(test)]
 mod audit;
 #[cfg(test)]
+mod checks;
+#[cfg(test)]
 mod deciding;
+#[cfg(test)]
+mod fixtures;
 #[cfg(test)]
 mod informer;
 #[cfg(test)]

@@ -1,7 +1,9 @@
 //! What no clause says: that a work queue makes its room where memory is ample, and one run of each call.
+use crate::checks::{passes, passes_at, tells};
 use cmc_meta::{Key, Kind};
 use cmc_queue::Queue;
 use cmc_tests::values::key;
+use std::alloc::AllocError;
 use std::test::Fail;
 
 /// A call of the queue.
@@ -39,7 +41,7 @@ fn made(queue: &mut Queue, key: &Key, step: &Step) -> Result<bool, Fail> {
 }
 
 /// Calls, what each answers, and then whether the key is ready, in process and parked, and its moment (0 for none).
-const STEPS: [(Step, bool, bool, bool, bool, i64); 19] = [
+static STEPS: [(Step, bool, bool, bool, bool, i64); 19] = [
     (Step::Take, false, false, false, false, 0),
     (Step::Add, true, true, false, false, 0),
     (Step::Take, true, false, true, false, 0),
@@ -70,16 +72,16 @@ const STEPS: [(Step, bool, bool, bool, bool, i64); 19] = [
 
 #[test]
 fn keys_come_and_go(rt: HostRuntime) -> Result<(), Fail> {
-    let alloc = rt.alloc();
-    let mut queue = Queue::new(alloc);
-    let web = key(alloc, Kind::Certificate, "web")?;
-    for (step, answer, ready, working, parked, timed) in STEPS.iter() {
-        assert_eq!(rt; made(&mut queue, &web, step)?, *answer);
+    let mut queue = Queue::new(rt.alloc());
+    let web = key(rt.alloc(), Kind::Certificate, "web")?;
+    for (number, (step, answer, ready, working, parked, timed)) in STEPS.iter().enumerate() {
+        let made = made(&mut queue, &web, step)?;
+        passes_at(&rt, number, "answer", made == *answer);
         let row = queue.row(&web);
-        assert_eq!(rt; row.ready, *ready);
-        assert_eq!(rt; row.working, *working);
-        assert_eq!(rt; row.parked.is_some(), *parked);
-        assert_eq!(rt; row.timed.unwrap_or(0), *timed);
+        passes_at(&rt, number, "ready", row.ready == *ready);
+        passes_at(&rt, number, "working", row.working == *working);
+        passes_at(&rt, number, "parked", row.parked.is_some() == *parked);
+        passes_at(&rt, number, "timed", row.timed.unwrap_or(0) == *timed);
     }
     Ok(())
 }
@@ -92,21 +94,24 @@ fn named(key: Option<&Key>) -> &str {
     }
 }
 
+fn add(queue: &mut Queue, key: &Key) -> Result<(), AllocError> {
+    queue.room(key)?;
+    queue.add(key);
+    Ok(())
+}
+
 #[test]
 fn keys_are_given_in_order(rt: HostRuntime) -> Result<(), Fail> {
-    let alloc = rt.alloc();
-    let mut queue = Queue::new(alloc);
-    let web = key(alloc, Kind::Certificate, "web")?;
-    let api = key(alloc, Kind::Certificate, "api")?;
-    assert_eq!(rt; named(queue.first()), "");
-    queue.room(&web)?;
-    queue.add(&web);
-    queue.room(&api)?;
-    queue.add(&api);
-    assert_eq!(rt; named(queue.first()), "api");
-    assert_eq!(rt; named(queue.following(&api)), "web");
-    assert_eq!(rt; named(queue.following(&web)), "");
-    assert!(rt; queue.take(&api));
-    assert_eq!(rt; named(queue.first()), "web");
+    let mut queue = Queue::new(rt.alloc());
+    let web = key(rt.alloc(), Kind::Certificate, "web")?;
+    let api = key(rt.alloc(), Kind::Certificate, "api")?;
+    tells(&rt, "none", named(queue.first()), "");
+    add(&mut queue, &web)?;
+    add(&mut queue, &api)?;
+    tells(&rt, "first", named(queue.first()), "api");
+    tells(&rt, "following", named(queue.following(&api)), "web");
+    tells(&rt, "at the end", named(queue.following(&web)), "");
+    passes(&rt, "taken", queue.take(&api));
+    tells(&rt, "first then", named(queue.first()), "web");
     Ok(())
 }

@@ -1,78 +1,58 @@
 //! A controller that stops after any move of a run and starts again: the run still ends, and with one issuance.
 use crate::audit::{audit, raises, stands_true};
-use crate::world::{ROLES, all_roles, any_issuer, scenario_of, value_of};
+use crate::fixtures::{
+    ROLES, all_roles, any_issuer, apply, certificate, is_done, scenario_of, value_then,
+};
 use cmc_history::History;
-use cmc_meta::{ConditionKind, Conditions, Kind, Numbers};
+use cmc_meta::{ConditionKind, Kind, Numbers};
 use cmc_objects::{
-    Algorithm, CertStatus, Certificate, Entry, KeyRow, KeyRows, Material, Object, Order, Role,
-    Rows, SignRows, Step, Who,
+    Algorithm, Entry, KeyRow, KeyRows, Material, Object, Order, Role, Rows, SignRows, Step, Who,
 };
 use cmc_plain::plain;
 use cmc_setup::{Scenario, Steps};
-use cmc_tests::values::{key, least_spec, new_meta};
+use cmc_tests::values::{key, let_go};
 use cmc_world::{Move, Stepped, World};
-use std::alloc::Global;
+use std::alloc::{AllocError, Global};
 use std::process::Abort;
 use std::test::Fail;
 
-const KINDS: [Kind; 3] = [Kind::Certificate, Kind::CertificateRequest, Kind::Secret];
-
-fn no_status(alloc: Global) -> CertStatus {
-    CertStatus {
-        conditions: Conditions::new(alloc),
-        last_failure: None,
-        attempts: None,
-        not_before: None,
-        not_after: None,
-        renewal: None,
-        revision: None,
-        next_key: None,
-    }
-}
+static KINDS: [Kind; 3] = [Kind::Certificate, Kind::CertificateRequest, Kind::Secret];
 
 /// The step that applies the Certificate.
-fn apply(alloc: Global) -> Result<Step, Fail> {
-    let meta = new_meta(alloc, "web")?;
-    let mut spec = least_spec(alloc, "web-tls", "example.com")?;
-    spec.key.algorithm = Some(Algorithm::Ecdsa);
-    Ok(Step::Apply {
-        object: Object::of_certificate(
-            alloc,
-            Certificate {
-                meta,
-                spec,
-                status: no_status(alloc),
-            },
-        )?,
-        version: None,
-    })
+fn applied(alloc: Global) -> Result<Step, Fail> {
+    let mut certificate = certificate(alloc, "web", "web-tls", "example.com")?;
+    certificate.spec.key.algorithm = Some(Algorithm::Ecdsa);
+    apply(alloc, certificate)
 }
 
-fn no_replies(alloc: Global, keys: KeyRows) -> Rows {
-    Rows {
+fn rows(alloc: Global) -> Result<Rows, AllocError> {
+    let mut keys = KeyRows::new(alloc);
+    keys.push(KeyRow::Synthetic(1))?;
+    Ok(Rows {
         keys,
         replies: SignRows::new(alloc),
-    }
+    })
 }
 
 /// The stand-in key 1 for the Certificate.
 fn material(alloc: Global) -> Result<Material, Fail> {
-    let web = key(alloc, Kind::Certificate, "web")?;
-    let mut keys = KeyRows::new(alloc);
-    keys.push(KeyRow::Synthetic(1))?;
     let mut material = Material::new(alloc);
-    material.set(web, no_replies(alloc, keys))?;
+    let web = key(alloc, Kind::Certificate, "web")?;
+    material.set(web, rows(alloc)?)?;
     Ok(material)
 }
 
 /// The scenario of this script, with all roles and no faults.
 fn scenario(alloc: Global, script: Steps) -> Result<Scenario, Fail> {
+    let roles = all_roles(alloc)?;
+    let approver = any_issuer(alloc)?;
+    let none = Numbers::new(alloc);
     scenario_of(
         100_000,
         1000,
-        all_roles(alloc)?,
-        Numbers::new(alloc),
-        any_issuer(alloc)?,
+        roles,
+        none,
+        approver,
         material(alloc)?,
         script,
     )
@@ -84,15 +64,15 @@ fn give(
     world: &mut World,
     pass: u64,
     incarnation: u64,
-    order: &Order,
+    order: Order,
 ) -> Result<(), Fail> {
-    let given = value_of(alloc, order)?;
+    let given = value_then(alloc, order)?;
     let step = Move::Give {
         pass,
         incarnation,
         given,
     };
-    if world.step(alloc, step)?.is_done() {
+    if is_done(world.step(alloc, step)?) {
         return Ok(());
     }
     Err(Fail::from("not given"))
@@ -116,11 +96,15 @@ fn make(alloc: Global, world: &mut World, step: Move) -> Result<(), Fail> {
         Stepped::Done => Ok(()),
         Stepped::Order { pass, order } => {
             if world.history().as_slice().len() == before {
-                return give(alloc, world, pass, incarnation, &order);
+                return give(alloc, world, pass, incarnation, order);
             }
+            let_go(order);
             Ok(())
         }
-        _ => Err(Fail::from("not made")),
+        other => {
+            let_go(other);
+            Err(Fail::from("not made"))
+        }
     }
 }
 
@@ -192,16 +176,19 @@ fn make_whole(alloc: Global, world: &mut World, step: Move) -> Result<(), Fail> 
     Err(Fail::from("no end of a pass"))
 }
 
+/// Tells the role of the newest write of the kind; false where it is not behind.
+fn is_told(alloc: Global, world: &mut World, role: Role, kind: Kind) -> Result<bool, Fail> {
+    let to = world.log().last_of_kind(kind);
+    let answer = world.step(alloc, Move::Deliver { role, kind, to })?;
+    Ok(is_done(answer))
+}
+
 /// Tells the first role that is behind in a kind of its newest write, as the plain order has it where no pass is open;
 /// false where no role is behind.
 fn deliver(alloc: Global, world: &mut World) -> Result<bool, Fail> {
-    for role in ROLES {
-        for kind in KINDS {
-            let to = world.log().last_of_kind(kind);
-            if world
-                .step(alloc, Move::Deliver { role, kind, to })?
-                .is_done()
-            {
+    for role in &ROLES {
+        for kind in &KINDS {
+            if is_told(alloc, world, *role, *kind)? {
                 return Ok(true);
             }
         }
@@ -235,7 +222,7 @@ fn finish(alloc: Global, world: &mut World) -> Result<(), Fail> {
 /// The moves of the run that nothing disturbs, after the step that applies the Certificate.
 fn undisturbed(alloc: Global) -> Result<Vec<Move>, Fail> {
     let mut script = Steps::new(alloc);
-    script.push(apply(alloc)?)?;
+    script.push(applied(alloc)?)?;
     let mut world = World::new(alloc, scenario(alloc, script)?)?;
     make(alloc, &mut world, Move::Script)?;
     plain_moves(alloc, &mut world)
@@ -244,7 +231,7 @@ fn undisturbed(alloc: Global) -> Result<Vec<Move>, Fail> {
 /// The scenario in which the role stops and starts again, behind by so many writes.
 fn restarted(alloc: Global, role: Role, behind: u64) -> Result<Scenario, Fail> {
     let mut script = Steps::new(alloc);
-    script.push(apply(alloc)?)?;
+    script.push(applied(alloc)?)?;
     script.push(Step::Stop { role })?;
     script.push(Step::Start { role, behind })?;
     script.push(Step::Settle)?;
@@ -264,21 +251,32 @@ fn is_issued_once(alloc: Global, world: &World) -> Result<bool, Fail> {
     Ok(is_ready && world.finished(alloc)?)
 }
 
+/// Makes equal moves.
+fn make_all(alloc: Global, world: &mut World, moves: &[Move]) -> Result<(), Fail> {
+    for step in moves {
+        make(alloc, world, again(step)?)?;
+    }
+    Ok(())
+}
+
+/// Makes the first step of the script, these moves, the next two steps, and the plain moves to the end.
+fn run(alloc: Global, world: &mut World, moves: &[Move]) -> Result<(), Fail> {
+    make(alloc, world, Move::Script)?;
+    make_all(alloc, world, moves)?;
+    make(alloc, world, Move::Script)?;
+    make(alloc, world, Move::Script)?;
+    finish(alloc, world)
+}
+
 /// Whether the run ends well in which the role stops after these moves and starts again.
 fn ends_well(alloc: Global, moves: &[Move], role: Role, behind: u64) -> Result<bool, Fail> {
     let mut world = World::new(alloc, restarted(alloc, role, behind)?)?;
-    make(alloc, &mut world, Move::Script)?;
-    for step in moves {
-        make(alloc, &mut world, again(step)?)?;
-    }
-    make(alloc, &mut world, Move::Script)?;
-    make(alloc, &mut world, Move::Script)?;
-    finish(alloc, &mut world)?;
+    run(alloc, &mut world, moves)?;
     let is_issued_once = is_issued_once(alloc, &world)?;
     Ok(is_issued_once && raises(world.history())? == 1 && audit(world.history())? >= 1)
 }
 
-fn passes(rt: &impl Abort, behind: u64, moves: usize, passed: bool) {
+fn ends(rt: &impl Abort, behind: u64, moves: usize, passed: bool) {
     assert!(rt; passed, "behind {behind} after {moves} moves");
 }
 
@@ -288,10 +286,10 @@ const STRIDE: usize = 1;
 
 /// Stops the role behind these moves, and starts it told of everything, and of nothing.
 fn stops_behind(rt: &impl Abort, alloc: Global, moves: &[Move], role: Role) -> Result<(), Fail> {
-    for behind in [0, 12] {
-        let passed = ends_well(alloc, moves, role, behind)?;
-        passes(rt, behind, moves.len(), passed);
-    }
+    let passed = ends_well(alloc, moves, role, 0)?;
+    ends(rt, 0, moves.len(), passed);
+    let passed = ends_well(alloc, moves, role, 12)?;
+    ends(rt, 12, moves.len(), passed);
     Ok(())
 }
 

@@ -2,64 +2,41 @@
 // refused. Pseudo-random moves of all eight roles, mixed with plain ones, are made on a world of several
 // Certificates and Secrets, with lag, stops, starts, holds, faults, and values that answer another question.
 use crate::audit::audit;
+use crate::checks::{passes, tells};
 use crate::deciding::decision;
-use cmc_answers::{ScriptedSigner, Signer, judge};
+use crate::fixtures::{all_roles, any_issuer, applied, scenario_of, value_of};
 use cmc_history::History;
-use cmc_keys::{KeyMaker, ScriptedKeys, is_allowed_size};
-use cmc_meta::{Bytes, Conditions, Key, Kind, Numbers, Texts};
-use cmc_objects::{
-    Cause, CertStatus, Certificate, Entry, Material, Object, Order, Parts, Role, Rules, Secret,
-    Step,
-};
-use cmc_pass::Given;
+use cmc_meta::{Bytes, Key, Kind, Numbers};
+use cmc_objects::{Cause, Entry, Material, Object, Order, Parts, Role, Secret, Step};
 use cmc_plain::plain;
-use cmc_policy_rules::Policies;
-use cmc_setup::{Roles, Scenario, Steps, is_setup};
-use cmc_tests::values::{key, least_spec, new_meta, text, texts};
+use cmc_setup::{Scenario, Steps};
+use cmc_tests::values::{key, new_meta, text};
 use cmc_world::{Decided, Lack, Move, Stepped, World};
 use std::alloc::Global;
 use std::mem;
 use std::test::Fail;
 
-pub(crate) fn certificate(
-    alloc: Global,
-    word: &str,
-    secret: &str,
-    host: &str,
-) -> Result<Step, Fail> {
+/// A part with one octet, 0.
+fn parts(alloc: Global) -> Result<Parts, Fail> {
+    let mut parts = Parts::new(alloc);
+    let key = text(alloc, "tls.key")?;
+    parts.set(key, Bytes::from_slice(alloc, &[0])?)?;
+    Ok(parts)
+}
+
+fn secret_of(alloc: Global, word: &str) -> Result<Secret, Fail> {
     let meta = new_meta(alloc, word)?;
-    let spec = least_spec(alloc, secret, host)?;
-    let status = CertStatus {
-        conditions: Conditions::new(alloc),
-        last_failure: None,
-        attempts: None,
-        not_before: None,
-        not_after: None,
-        renewal: None,
-        revision: None,
-        next_key: None,
-    };
-    Ok(Step::Apply {
-        object: Object::of_certificate(alloc, Certificate { meta, spec, status })?,
-        version: None,
+    let kind_text = text(alloc, "Opaque")?;
+    Ok(Secret {
+        meta,
+        kind_text,
+        parts: parts(alloc)?,
     })
 }
 
 fn secret(alloc: Global, word: &str) -> Result<Step, Fail> {
-    let meta = new_meta(alloc, word)?;
-    let mut bytes = Bytes::new(alloc);
-    bytes.push(0)?;
-    let mut parts = Parts::new(alloc);
-    parts.set(text(alloc, "tls.key")?, bytes)?;
     Ok(Step::Apply {
-        object: Object::of_secret(
-            alloc,
-            Secret {
-                meta,
-                kind_text: text(alloc, "Opaque")?,
-                parts,
-            },
-        )?,
+        object: Object::of_secret(alloc, secret_of(alloc, word)?)?,
         version: None,
     })
 }
@@ -81,8 +58,8 @@ fn release(role: Role, kind: Kind) -> Step {
 
 fn first_steps(alloc: Global, steps: &mut Steps) -> Result<(), Fail> {
     steps.push(Step::Settle)?;
-    steps.push(certificate(alloc, "web", "web-tls", "example.com")?)?;
-    steps.push(certificate(alloc, "api", "api-tls", "api.example.com")?)?;
+    steps.push(applied(alloc, "web", "web-tls", "example.com")?)?;
+    steps.push(applied(alloc, "api", "api-tls", "api.example.com")?)?;
     steps.push(Step::Until {
         role: Role::Issuing,
         kind: Kind::Secret,
@@ -97,7 +74,7 @@ fn first_steps(alloc: Global, steps: &mut Steps) -> Result<(), Fail> {
         behind: 3,
     })?;
     steps.push(hold(Role::Trigger, Kind::Secret))?;
-    steps.push(certificate(alloc, "web", "web-tls", "www.example.com")?)?;
+    steps.push(applied(alloc, "web", "web-tls", "www.example.com")?)?;
     steps.push(Step::Tick { seconds: 5 })?;
     Ok(())
 }
@@ -108,94 +85,36 @@ fn last_steps(alloc: Global, steps: &mut Steps) -> Result<(), Fail> {
     steps.push(Step::Stop {
         role: Role::KeyManager,
     })?;
-    steps.push(certificate(alloc, "shop", "shop-tls", "shop.example.com")?)?;
+    steps.push(applied(alloc, "shop", "shop-tls", "shop.example.com")?)?;
     steps.push(Step::Start {
         role: Role::KeyManager,
         behind: 0,
     })?;
     steps.push(delete(alloc, Kind::Certificate, "web")?)?;
-    steps.push(certificate(alloc, "web", "web-tls", "example.com")?)?;
+    steps.push(applied(alloc, "web", "web-tls", "example.com")?)?;
     Ok(())
 }
 
-pub(crate) fn scenario_of(
-    events: u64,
-    window: u64,
-    roles: Roles,
-    faults: Numbers,
-    approver: Rules,
-    material: Material,
-    script: Steps,
-) -> Result<Scenario, Fail> {
-    if is_setup(
-        events,
-        window,
-        1_893_456_000,
-        &roles,
-        &faults,
-        &approver,
-        &material,
-        &script,
-    ) {
-        return Ok(Scenario::new(
-            events,
-            window,
-            1_893_456_000,
-            roles,
-            faults,
-            approver,
-            material,
-            script,
-        ));
-    }
-    Err(Fail::from("no scenario"))
-}
-
-/// The eight roles in their order.
-pub(crate) const ROLES: [Role; 8] = [
-    Role::Trigger,
-    Role::KeyManager,
-    Role::RequestManager,
-    Role::Approver,
-    Role::Issuer,
-    Role::Issuing,
-    Role::Readiness,
-    Role::Revision,
-];
-
-pub(crate) fn all_roles(alloc: Global) -> Result<Roles, Fail> {
-    let mut roles = Roles::new(alloc);
-    for role in ROLES {
-        roles.add(role)?;
-    }
-    Ok(roles)
-}
-
-/// An approver that judges the requests of every issuer, and refuses none.
-pub(crate) fn any_issuer(alloc: Global) -> Result<Rules, Fail> {
-    Ok(Rules {
-        issuers: texts(alloc, "*")?,
-        refuse: Texts::new(alloc),
-        policies: Policies::new(alloc),
-    })
-}
-
-fn scenario(alloc: Global, events: u64) -> Result<Scenario, Fail> {
+fn script(alloc: Global) -> Result<Steps, Fail> {
     let mut steps = Steps::new(alloc);
     first_steps(alloc, &mut steps)?;
     last_steps(alloc, &mut steps)?;
+    Ok(steps)
+}
+
+fn faults(alloc: Global) -> Result<Numbers, Fail> {
     let mut faults = Numbers::new(alloc);
     faults.push(4)?;
     faults.push(31)?;
-    scenario_of(
-        events,
-        2,
-        all_roles(alloc)?,
-        faults,
-        any_issuer(alloc)?,
-        Material::new(alloc),
-        steps,
-    )
+    Ok(faults)
+}
+
+fn scenario(alloc: Global, events: u64) -> Result<Scenario, Fail> {
+    let faults = faults(alloc)?;
+    let roles = all_roles(alloc)?;
+    let approver = any_issuer(alloc)?;
+    let none = Material::new(alloc);
+    scenario_of(events, 2, roles, faults, approver, none, script(alloc)?)
 }
 
 /// A number below `bound`, of a linear congruential generator.
@@ -269,7 +188,7 @@ struct Met {
     answers: [bool; 20],
 }
 
-const NAMES: [&str; 20] = [
+static NAMES: [&str; 20] = [
     "done", "over", "waits", "stopped", "informer", "held", "current", "write", "queued",
     "process", "same", "own", "pass", "ended", "spent", "order", "asked", "mine", "settled",
     "views",
@@ -303,21 +222,6 @@ fn note(met: &mut Met, answer: &Stepped) {
         Stepped::NotMine { .. } => met.answers[17] = true,
         Stepped::OtherViews { .. } => met.answers[19] = true,
         Stepped::Spent { .. } => met.answers[14] = true,
-    }
-}
-
-/// The value of the question, as the scenario's own maker and signer have it.
-pub(crate) fn value_of(alloc: Global, order: &Order) -> Result<Given, Fail> {
-    match order {
-        Order::Key(asked) => {
-            if is_allowed_size(asked.algorithm, asked.size) {
-                return Ok(Given::Made(ScriptedKeys.make(alloc, asked)?));
-            }
-            Err(Fail::from("no size"))
-        }
-        Order::Csr(asked) => Ok(Given::Signed(ScriptedKeys.sign(alloc, asked)?)),
-        Order::Sign(asked) => Ok(Given::Answered(ScriptedSigner.sign(alloc, asked)?)),
-        Order::Judge(asked) => Ok(Given::Judged(judge(alloc, asked.copy()?)?)),
     }
 }
 
@@ -395,20 +299,15 @@ fn steady_move(alloc: Global, world: &World, random: &mut u64, begun: u64) -> Re
 }
 
 /// The next move: a plain one, a value of a question that was told, a decision, or any.
-fn next_move(
-    alloc: Global,
-    world: &World,
-    random: &mut u64,
-    begun: u64,
-    told: &Told,
-    kept: &mut Option<Decided>,
-) -> Result<Move, Fail> {
-    match (pick(random, 7), &told.last, &told.before) {
-        (0, _, _) => some_move(alloc, random, begun),
-        (6, _, _) => some_decision(alloc, world, random, begun, kept),
-        (1, Some(order), _) => some_gift(alloc, random, told.pass, begun, order),
-        (2, _, Some(order)) => some_gift(alloc, random, told.pass, begun, order),
-        _ => steady_move(alloc, world, random, begun),
+fn next_move(alloc: Global, world: &World, walk: &mut Walk) -> Result<Move, Fail> {
+    let begun = walk.begun;
+    let told = &walk.told;
+    match (pick(&mut walk.random, 7), &told.last, &told.before) {
+        (0, _, _) => some_move(alloc, &mut walk.random, begun),
+        (6, _, _) => some_decision(alloc, world, &mut walk.random, begun, &mut walk.kept),
+        (1, Some(order), _) => some_gift(alloc, &mut walk.random, told.pass, begun, order),
+        (2, _, Some(order)) => some_gift(alloc, &mut walk.random, told.pass, begun, order),
+        _ => steady_move(alloc, world, &mut walk.random, begun),
     }
 }
 
@@ -420,25 +319,73 @@ struct Told {
     before: Option<Order>,
 }
 
-fn tell(told: Told, pass: u64, order: Order) -> Told {
-    let Told {
-        pass: other,
-        last,
-        before,
-    } = told;
-    Told {
-        pass,
-        last: Some(order),
-        before: if other == pass { before } else { last },
+fn tell(told: &mut Told, pass: u64, order: Order) {
+    let last = mem::replace(&mut told.last, Some(order));
+    if told.pass != pass {
+        told.before = last;
+    }
+    told.pass = pass;
+}
+
+/// Keeps the question that a step has told.
+fn hear(told: &mut Told, answer: Stepped) {
+    if let Stepped::Order { pass, order } = answer {
+        tell(told, pass, order);
     }
 }
 
-/// What was told, once a step has answered so.
-fn heard(told: Told, answer: Stepped) -> Told {
-    match answer {
-        Stepped::Order { pass, order } => tell(told, pass, order),
-        _other => told,
+/// What a walk keeps: its number, how many passes have begun, what was told, and a decision.
+#[derive(Drop)]
+struct Walk {
+    random: u64,
+    begun: u64,
+    told: Told,
+    kept: Option<Decided>,
+}
+
+/// Makes a move, and notes its answer.
+fn make(
+    alloc: Global,
+    world: &mut World,
+    walk: &mut Walk,
+    met: &mut Met,
+    step: Move,
+) -> Result<(), Fail> {
+    let begins = matches!(step, Move::Begin { .. });
+    let answer = world.step(alloc, step)?;
+    if begins && answer.is_done() {
+        walk.begun = walk.begun.saturating_add(1);
     }
+    note(met, &answer);
+    hear(&mut walk.told, answer);
+    Ok(())
+}
+
+fn go_on(alloc: Global, world: &mut World, walk: &mut Walk, met: &mut Met) -> Result<(), Fail> {
+    let step = next_move(alloc, world, walk)?;
+    make(alloc, world, walk, met, step)
+}
+
+fn set_out(seed: u64) -> Walk {
+    Walk {
+        random: seed,
+        begun: 0,
+        told: Told {
+            pass: 0,
+            last: None,
+            before: None,
+        },
+        kept: None,
+    }
+}
+
+/// Makes so many moves.
+fn walk_on(alloc: Global, world: &mut World, met: &mut Met, seed: u64) -> Result<(), Fail> {
+    let mut walk = set_out(seed);
+    for _ in 0..750 {
+        go_on(alloc, world, &mut walk, met)?;
+    }
+    Ok(())
 }
 
 fn wander(
@@ -449,27 +396,25 @@ fn wander(
     events: u64,
 ) -> Result<u64, Fail> {
     let mut world = World::new(alloc, scenario(alloc, events)?)?;
-    let mut random = seed;
-    let mut begun = 0_u64;
-    let mut told = Told {
-        pass: 0,
-        last: None,
-        before: None,
-    };
-    let mut kept = None;
-    for _ in 0..750 {
-        let step = next_move(alloc, &world, &mut random, begun, &told, &mut kept)?;
-        let begins = matches!(step, Move::Begin { .. });
-        let answer = world.step(alloc, step)?;
-        if begins && answer.is_done() {
-            begun = begun.saturating_add(1);
-        }
-        note(met, &answer);
-        told = heard(told, answer);
-    }
+    walk_on(alloc, &mut world, met, seed)?;
     note_entries(shown, world.history());
     audit(world.history())
 }
+
+/// The names of those that did not come, with a blank after each.
+fn missed(alloc: Global, met: &Met) -> Result<String, Fail> {
+    let mut missed = String::new(alloc);
+    for (name, came) in NAMES.iter().zip(met.answers.iter()) {
+        if !*came {
+            missed.push_str(name)?;
+            missed.push(' ')?;
+        }
+    }
+    Ok(missed)
+}
+
+/// The numbers that walks begin with, and how many entries their histories may have.
+static WALKS: [(u64, u64); 5] = [(20, 900), (7, 900), (1, 900), (8, 900), (99, 60)];
 
 #[test]
 fn each_answer_comes(rt: HostRuntime) -> Result<(), Fail> {
@@ -479,16 +424,11 @@ fn each_answer_comes(rt: HostRuntime) -> Result<(), Fail> {
     };
     let mut shown = [false; 4];
     let mut issued = 0_u64;
-    for (seed, events) in [(20, 900), (7, 900), (1, 900), (8, 900), (99, 60)] {
-        issued = issued.saturating_add(wander(alloc, &mut met, &mut shown, seed, events)?);
+    for (seed, events) in &WALKS {
+        issued = issued.saturating_add(wander(alloc, &mut met, &mut shown, *seed, *events)?);
     }
-    for (i, name) in NAMES.iter().enumerate() {
-        if !met.answers[i] {
-            println!(rt; "{name} never came")?;
-        }
-    }
-    assert_eq!(rt; met.answers, [true; 20]);
-    assert_eq!(rt; shown, [true; 4]);
-    assert!(rt; issued > 3);
+    tells(&rt, "never came", missed(alloc, &met)?.as_str(), "");
+    passes(&rt, "entries", shown == [true; 4]);
+    passes(&rt, "issued", issued > 3);
     Ok(())
 }

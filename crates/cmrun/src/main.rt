@@ -64,6 +64,8 @@ fn main(rt: HostRuntime) -> ExitCode {
 }
 
 #[cfg(test)]
+mod checks;
+#[cfg(test)]
 mod tests;
 #[cfg(test)]
 mod tests_of_hostile_input;

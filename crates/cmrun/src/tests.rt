@@ -1,5 +1,6 @@
 // What no clause shows: the worked rows, the paths of bad inputs, and runs with faults, all with ample
 // memory. Expected values come from the store's table of replies and the form of scenarios.
+use crate::checks::{passes, passes_at, tells};
 use crate::memory::{MemSink, MemSource};
 use crate::sink::{Sink, StdSink};
 use crate::source::Source;
@@ -18,8 +19,13 @@ use std::thread::Threads;
 pub(crate) const WEB: &str =
     r#"{"apiVersion":"cert-manager.io/v1","kind":"Certificate","metadata":{"name":"web","namespace":"default"},"spec":{"dnsNames":["example.com"],"issuerRef":{"name":"ca"},"privateKey":{"algorithm":"ECDSA"},"secretName":"web-tls"}}"#;
 
+/// The same, as functions read it: a text that is named in a function is spelt in each goal of it.
+pub(crate) fn web() -> &'static str {
+    WEB
+}
+
 /// A scenario that is read.
-const GOOD: &str = r#"{"roles":[],"script":[{"do":"apply","object":@}]}"#;
+static GOOD: &str = r#"{"roles":[],"script":[{"do":"apply","object":@}]}"#;
 
 /// How a run of some bytes ended, and what it wrote.
 #[derive(Drop)]
@@ -69,6 +75,20 @@ fn run_over<R: Threads + Wait + Sync, S: Source, K: Sink>(
     ))
 }
 
+fn source_of(alloc: Global, input: &[u8], failing_reads: &[u64]) -> Result<MemSource, AllocError> {
+    let bytes = Bytes::from_slice(alloc, input)?;
+    MemSource::new(alloc, bytes, numbers(alloc, failing_reads)?)
+}
+
+fn sink_of(alloc: Global, failing_writes: &[u64]) -> Result<MemSink, AllocError> {
+    MemSink::new(alloc, numbers(alloc, failing_writes)?)
+}
+
+fn ended_so(alloc: Global, status: Status, sink: &MemSink) -> Result<Ended, AllocError> {
+    let written = sink.bytes().to_vec(alloc)?;
+    Ok(Ended { status, written })
+}
+
 pub(crate) fn run_with<R: Threads + Wait + Sync>(
     rt: &R,
     alloc: Global,
@@ -77,14 +97,10 @@ pub(crate) fn run_with<R: Threads + Wait + Sync>(
     failing_reads: &[u64],
     failing_writes: &[u64],
 ) -> Result<Ended, AllocError> {
-    let bytes = Bytes::from_slice(alloc, input)?;
-    let mut source = MemSource::new(alloc, bytes, numbers(alloc, failing_reads)?)?;
-    let mut sink = MemSink::new(alloc, numbers(alloc, failing_writes)?)?;
+    let mut source = source_of(alloc, input, failing_reads)?;
+    let mut sink = sink_of(alloc, failing_writes)?;
     let status = run_over(rt, alloc, words, &mut source, &mut sink)?;
-    Ok(Ended {
-        status,
-        written: sink.bytes().to_vec(alloc)?,
-    })
+    ended_so(alloc, status, &sink)
 }
 
 /// A run by one hand, whose text is a function of the input.
@@ -103,32 +119,37 @@ pub(crate) fn run_into<R: Threads + Wait + Sync>(
     input: &str,
     room: &mut [u8],
 ) -> Result<Status, AllocError> {
-    let bytes = Bytes::from_slice(alloc, input.as_bytes())?;
-    let mut source = MemSource::new(alloc, bytes, Numbers::new(alloc))?;
+    let mut source = source_of(alloc, input.as_bytes(), &[])?;
     let mut sink = StdSink::new(room);
     run_over(rt, alloc, "run --workers 0", &mut source, &mut sink)
 }
 
-/// The path that a run of the input fails at, or its end in words.
+/// The path that a run failed at, or its end in words.
+fn end_told(status: &Status) -> &str {
+    match status {
+        Status::BadScenario(path) => path.as_str(),
+        Status::Done => "done",
+        Status::NotJson => "not JSON",
+        Status::TooLong => "too long",
+        Status::ReadFault => "read fault",
+        Status::WriteFault => "write fault",
+        Status::Usage => "usage",
+        _ => "another end",
+    }
+}
+
+/// How the run of the input ends.
 fn end_of<R: Threads + Wait + Sync>(
     rt: &R,
     alloc: Global,
     input: &str,
 ) -> Result<String, AllocError> {
-    let Ended {
-        status,
-        written: _written,
-    } = run_on(rt, alloc, input)?;
-    match status {
-        Status::BadScenario(path) => String::from_str(alloc, path.as_str()),
-        Status::Done => String::from_str(alloc, "done"),
-        Status::NotJson => String::from_str(alloc, "not JSON"),
-        _ => String::from_str(alloc, "another end"),
-    }
+    let ended = run_on(rt, alloc, input)?;
+    String::from_str(alloc, end_told(&ended.status))
 }
 
 /// What stands behind the spec of the Certificate once an issuance was asked for.
-const ASKED: &str =
+static ASKED: &str =
     r#","status":{"conditions":[{"lastTransitionTime":"2030-01-01T00:00:00Z","message":"Certificate must be issued: ?","reason":"?","status":"True","type":"Issuing"}]}}"#;
 
 /// The Secret that `$` stands for in the rows, and the same as it is printed.
@@ -138,51 +159,74 @@ const KEYED: &str =
 const PRINTED: &str =
     r#"{"apiVersion":"v1","data":{"tls.key":"AAAA"},"kind":"Secret","metadata":{"name":"web-tls","namespace":"default"},"type":"Opaque"}"#;
 
+/// What stands for what in the rows.
+static STAND_INS: [(&str, &str); 3] = [("@", WEB), ("$", KEYED), ("%", PRINTED)];
+
+fn with_objects(alloc: Global, row: &str) -> Result<String, AllocError> {
+    let mut text = String::from_str(alloc, row)?;
+    for (name, object) in &STAND_INS {
+        text = text.as_str().replace(alloc, name, object)?;
+    }
+    Ok(text)
+}
+
 /// The Certificate of the rows, asked to be issued for this reason.
 fn asked(alloc: Global, reason: &str) -> Result<String, AllocError> {
-    let status = ASKED.replace(alloc, "?", reason)?;
-    let mut object = String::from_str(alloc, WEB)?;
+    let mut object = String::from_str(alloc, web())?;
     let _ = object.pop();
-    object.push_str(status.as_str())?;
+    object.push_str(ASKED.replace(alloc, "?", reason)?.as_str())?;
     Ok(object)
+}
+
+fn with_asked(alloc: Global, row: &str, name: &str, reason: &str) -> Result<String, AllocError> {
+    let object = asked(alloc, reason)?;
+    row.replace(alloc, name, object.as_str())
 }
 
 /// The input of a row: `@` stands for the Certificate of the rows, `$` and `%` for its Secret, and
 /// `#REASON#` for the Certificate that is asked to be issued.
 fn filled(alloc: Global, row: &str) -> Result<String, AllocError> {
-    let row = row.replace(alloc, "@", WEB)?;
-    let row = row.as_str().replace(alloc, "$", KEYED)?;
-    let row = row.as_str().replace(alloc, "%", PRINTED)?;
-    let absent = asked(alloc, "DoesNotExist")?;
-    let row = row
-        .as_str()
-        .replace(alloc, "#DoesNotExist#", absent.as_str())?;
-    let missing = asked(alloc, "MissingData")?;
-    row.as_str()
-        .replace(alloc, "#MissingData#", missing.as_str())
+    let row = with_objects(alloc, row)?;
+    let row = with_asked(alloc, row.as_str(), "#DoesNotExist#", "DoesNotExist")?;
+    with_asked(alloc, row.as_str(), "#MissingData#", "MissingData")
 }
 
-fn assert_written<R: Abort + Threads + Wait + Sync>(
+fn run_filled<R: Threads + Wait + Sync>(
     rt: &R,
     alloc: Global,
     input: &str,
-    expected: &str,
-) -> Result<(), AllocError> {
+) -> Result<Ended, AllocError> {
     let input = filled(alloc, input)?;
-    let expected = filled(alloc, expected)?;
-    let ended = run_on(rt, alloc, input.as_str())?;
-    assert!(rt; matches!(ended.status, Status::Done));
-    assert!(rt; ended.written.as_slice() == expected.as_bytes());
+    run_on(rt, alloc, input.as_str())
+}
+
+/// What is done with the input of a row, and whether that is written which the row wants.
+fn is_written<R: Threads + Wait + Sync>(
+    rt: &R,
+    alloc: Global,
+    input: &str,
+    want: &str,
+) -> Result<bool, AllocError> {
+    let ended = run_filled(rt, alloc, input)?;
+    let is_done = matches!(ended.status, Status::Done);
+    Ok(is_done && ended.written.as_slice() == filled(alloc, want)?.as_bytes())
+}
+
+fn writes<R: Abort + Threads + Wait + Sync>(
+    rt: &R,
+    alloc: Global,
+    rows: &[(&str, &str)],
+) -> Result<(), AllocError> {
+    for (input, want) in rows {
+        passes(rt, input, is_written(rt, alloc, input, want)?);
+    }
     Ok(())
 }
 
-#[test]
-fn writes_the_rows_of_the_trigger(rt: HostRuntime) -> Result<(), Fail> {
-    let alloc = rt.alloc();
+/// Inputs, and all that is written of the runs of the trigger.
+static TRIGGER: [(&str, &str); 3] = [
     // A Certificate whose Secret does not stand is asked to be issued, once.
-    assert_written(
-        &rt,
-        alloc,
+    (
         r#"{"roles":["trigger"],"script":[{"do":"apply","object":@}]}"#,
         r#"{"scenario":{"roles":["trigger"],"script":[{"do":"apply","object":@}]}}
 {"is":"script","n":1,"step":1}
@@ -194,11 +238,9 @@ fn writes_the_rows_of_the_trigger(rt: HostRuntime) -> Result<(), Fail> {
 {"is":"deliver","kind":"Certificate","n":7,"role":"trigger","to":2}
 {"summary":{"certificates":1,"ready":0,"secrets":0,"waiting":[{"certificate":"default/web","wait":"stopped"}]}}
 "#,
-    )?;
+    ),
     // With a Secret that has a key alone, the reason is another.
-    assert_written(
-        &rt,
-        alloc,
+    (
         r#"{"roles":["trigger"],"script":[{"do":"apply","object":$},{"do":"apply","object":@}]}"#,
         r#"{"scenario":{"roles":["trigger"],"script":[{"do":"apply","object":$},{"do":"apply","object":@}]}}
 {"is":"script","n":1,"step":1}
@@ -213,11 +255,9 @@ fn writes_the_rows_of_the_trigger(rt: HostRuntime) -> Result<(), Fail> {
 {"is":"deliver","kind":"Certificate","n":10,"role":"trigger","to":3}
 {"summary":{"certificates":1,"ready":0,"secrets":1,"waiting":[{"certificate":"default/web","wait":"stopped"}]}}
 "#,
-    )?;
+    ),
     // A script that settles goes on when the trigger has nothing to do any more.
-    assert_written(
-        &rt,
-        alloc,
+    (
         r#"{"roles":["trigger","trigger"],"script":[{"do":"apply","object":@},{"do":"settle"},{"do":"delete","key":"Certificate/default/web"}]}"#,
         r#"{"scenario":{"roles":["trigger","trigger"],"script":[{"do":"apply","object":@},{"do":"settle"},{"do":"delete","key":"Certificate/default/web"}]}}
 {"is":"script","n":1,"step":1}
@@ -233,24 +273,23 @@ fn writes_the_rows_of_the_trigger(rt: HostRuntime) -> Result<(), Fail> {
 {"is":"deliver","kind":"Certificate","n":11,"role":"trigger","to":3}
 {"summary":{"certificates":0,"ready":0,"secrets":0,"waiting":[]}}
 "#,
-    )?;
-    Ok(())
-}
+    ),
+];
 
 #[test]
-fn writes_the_worked_rows(rt: HostRuntime) -> Result<(), Fail> {
-    let alloc = rt.alloc();
+fn writes_the_rows_of_the_trigger(rt: HostRuntime) -> Result<(), Fail> {
+    Ok(writes(&rt, rt.alloc(), &TRIGGER)?)
+}
+
+/// Inputs, and all that is written where no role runs.
+static WORKED: [(&str, &str); 4] = [
     // No step.
-    assert_written(
-        &rt,
-        alloc,
+    (
         r#"{"roles":[]}"#,
         "{\"scenario\":{\"roles\":[]}}\n{\"summary\":{\"certificates\":0,\"ready\":0,\"secrets\":0,\"waiting\":[]}}\n",
-    )?;
+    ),
     // An object that is applied twice is created once, and then left as it is.
-    assert_written(
-        &rt,
-        alloc,
+    (
         r#"{"roles":[],"script":[{"do":"apply","object":@},{"do":"apply","object":@}]}"#,
         r#"{"scenario":{"roles":[],"script":[{"do":"apply","object":@},{"do":"apply","object":@}]}}
 {"is":"script","n":1,"step":1}
@@ -259,22 +298,18 @@ fn writes_the_worked_rows(rt: HostRuntime) -> Result<(), Fail> {
 {"call":"update","is":"call","key":"Certificate/default/web","n":4,"object":@,"reply":{"unchanged":1},"version":1,"who":"user"}
 {"summary":{"certificates":1,"ready":0,"secrets":0,"waiting":[{"certificate":"default/web","wait":"stopped"}]}}
 "#,
-    )?;
+    ),
     // A delete of an object that does not stand.
-    assert_written(
-        &rt,
-        alloc,
+    (
         r#"{"roles":[],"script":[{"do":"delete","key":"Certificate/default/web"}]}"#,
         r#"{"scenario":{"roles":[],"script":[{"do":"delete","key":"Certificate/default/web"}]}}
 {"is":"script","n":1,"step":1}
 {"call":"delete","is":"call","key":"Certificate/default/web","n":2,"reply":{"notFound":0},"who":"user"}
 {"summary":{"certificates":0,"ready":0,"secrets":0,"waiting":[]}}
 "#,
-    )?;
+    ),
     // A delete counts as a write.
-    assert_written(
-        &rt,
-        alloc,
+    (
         r#"{"roles":[],"script":[{"do":"apply","object":@},{"do":"apply","object":@},{"do":"delete","key":"Certificate/default/web"}]}"#,
         r#"{"scenario":{"roles":[],"script":[{"do":"apply","object":@},{"do":"apply","object":@},{"do":"delete","key":"Certificate/default/web"}]}}
 {"is":"script","n":1,"step":1}
@@ -285,16 +320,18 @@ fn writes_the_worked_rows(rt: HostRuntime) -> Result<(), Fail> {
 {"call":"delete","is":"call","key":"Certificate/default/web","n":6,"reply":{"ok":2},"who":"user"}
 {"summary":{"certificates":0,"ready":0,"secrets":0,"waiting":[]}}
 "#,
-    )?;
-    Ok(())
-}
+    ),
+];
 
 #[test]
-fn writes_a_run_of_secrets(rt: HostRuntime) -> Result<(), Fail> {
+fn writes_the_worked_rows(rt: HostRuntime) -> Result<(), Fail> {
+    Ok(writes(&rt, rt.alloc(), &WORKED)?)
+}
+
+/// The same of Secrets.
+static SECRETS: [(&str, &str); 1] = [
     // The type of an applied Secret is Opaque, and its namespace the default one.
-    assert_written(
-        &rt,
-        rt.alloc(),
+    (
         r#"{"roles":[],"script":[{"do":"apply","object":{"apiVersion":"v1","data":{"tls.key":"AAAA"},"kind":"Secret","metadata":{"name":"web-tls"}}},{"do":"delete","key":"Secret/default/web-tls","version":2}]}"#,
         r#"{"scenario":{"roles":[],"script":[{"do":"apply","object":{"apiVersion":"v1","data":{"tls.key":"AAAA"},"kind":"Secret","metadata":{"name":"web-tls"}}},{"do":"delete","key":"Secret/default/web-tls","version":2}]}}
 {"is":"script","n":1,"step":1}
@@ -303,32 +340,43 @@ fn writes_a_run_of_secrets(rt: HostRuntime) -> Result<(), Fail> {
 {"call":"delete","is":"call","key":"Secret/default/web-tls","n":4,"reply":{"conflict":{"have":1,"named":2}},"version":2,"who":"user"}
 {"summary":{"certificates":0,"ready":0,"secrets":1,"waiting":[]}}
 "#,
-    )?;
-    Ok(())
+    ),
+];
+
+#[test]
+fn writes_a_run_of_secrets(rt: HostRuntime) -> Result<(), Fail> {
+    Ok(writes(&rt, rt.alloc(), &SECRETS)?)
+}
+
+/// The Certificate is applied, and then at another version.
+static OLD_VERSION: &str =
+    r#"{"roles":[],"script":[{"do":"apply","object":@},{"do":"apply","object":{"apiVersion":"cert-manager.io/v1","kind":"Certificate","metadata":{"name":"web","namespace":"default","resourceVersion":"7"},"spec":{"dnsNames":["example.com"],"issuerRef":{"name":"ca"},"privateKey":{"algorithm":"ECDSA"},"secretName":"web-tls"}}}]}"#;
+
+/// The end of what is written then.
+static CONFLICT: &str =
+    r#"{"call":"update","is":"call","key":"Certificate/default/web","n":4,"object":@,"reply":{"conflict":{"have":1,"named":7}},"version":7,"who":"user"}
+{"summary":{"certificates":1,"ready":0,"secrets":0,"waiting":[{"certificate":"default/web","wait":"stopped"}]}}
+"#;
+
+fn ends_so<R: Threads + Wait + Sync>(
+    rt: &R,
+    alloc: Global,
+    input: &str,
+    want: &str,
+) -> Result<bool, AllocError> {
+    let ended = run_filled(rt, alloc, input)?;
+    Ok(ended.written.ends_with(filled(alloc, want)?.as_bytes()))
 }
 
 #[test]
 fn answers_an_old_version_with_a_conflict(rt: HostRuntime) -> Result<(), Fail> {
-    let alloc = rt.alloc();
-    let versioned =
-        r#"{"apiVersion":"cert-manager.io/v1","kind":"Certificate","metadata":{"name":"web","namespace":"default","resourceVersion":"7"},"spec":{"dnsNames":["example.com"],"issuerRef":{"name":"ca"},"privateKey":{"algorithm":"ECDSA"},"secretName":"web-tls"}}"#;
-    let input = format!(in alloc;
-        "{{\"roles\":[],\"script\":[{{\"do\":\"apply\",\"object\":@}},{{\"do\":\"apply\",\"object\":{versioned}}}]}}"
-    )?;
-    let input = filled(alloc, input.as_str())?;
-    let ended = run_on(&rt, alloc, input.as_str())?;
-    let conflict = filled(
-        alloc,
-        r#"{"call":"update","is":"call","key":"Certificate/default/web","n":4,"object":@,"reply":{"conflict":{"have":1,"named":7}},"version":7,"who":"user"}
-{"summary":{"certificates":1,"ready":0,"secrets":0,"waiting":[{"certificate":"default/web","wait":"stopped"}]}}
-"#,
-    )?;
-    assert!(rt; ended.written.as_slice().ends_with(conflict.as_bytes()));
+    let ends = ends_so(&rt, rt.alloc(), OLD_VERSION, CONFLICT)?;
+    passes(&rt, "conflict", ends);
     Ok(())
 }
 
 /// Whole inputs, each with the path that fails first, or its end.
-const WHOLE: [(&str, &str); 27] = [
+static WHOLE: [(&str, &str); 27] = [
     (
         r#"{"roles":[],"script":[{"do":"apply","object":{"apiVersion":"v1","data":{"a":"AAA"},"kind":"Secret","metadata":{"name":"s"}}}]}"#,
         "script.0.object.data.a",
@@ -393,7 +441,7 @@ const WHOLE: [(&str, &str); 27] = [
 
 /// Edits of the good scenario: what is replaced, by what, and which path of the object then fails
 /// first.
-const EDITS: [(&str, &str, &str); 17] = [
+static EDITS: [(&str, &str, &str); 17] = [
     (r#""cert-manager.io/v1""#, r#""v1""#, "apiVersion"),
     (r#""Certificate""#, r#""Issuer""#, "kind"),
     (r#""Certificate""#, r#""Secret""#, "apiVersion"),
@@ -423,27 +471,37 @@ const EDITS: [(&str, &str, &str); 17] = [
 
 #[test]
 fn fails_at_the_first_path(rt: HostRuntime) -> Result<(), Fail> {
-    let alloc = rt.alloc();
-    for (input, path) in WHOLE {
-        let end = end_of(&rt, alloc, input)?;
-        assert_eq!(rt; end.as_str(), path, "at {input}");
+    for (input, want) in &WHOLE {
+        tells(&rt, input, end_of(&rt, rt.alloc(), input)?.as_str(), want);
     }
-    let good = filled(alloc, GOOD)?;
-    let end = end_of(&rt, alloc, good.as_str())?;
-    assert_eq!(rt; end.as_str(), "done");
     Ok(())
+}
+
+/// How the good scenario ends in which the one text stands for the other.
+fn end_of_edit<R: Threads + Wait + Sync>(
+    rt: &R,
+    alloc: Global,
+    old: &str,
+    new: &str,
+) -> Result<String, AllocError> {
+    let good = filled(alloc, GOOD)?;
+    let input = good.as_str().replace(alloc, old, new)?;
+    end_of(rt, alloc, input.as_str())
+}
+
+fn path_of(alloc: Global, path: &str) -> Result<String, AllocError> {
+    format!(in alloc; "script.0.object.{path}")
 }
 
 #[test]
 fn fails_at_the_path_of_an_edit(rt: HostRuntime) -> Result<(), Fail> {
     let alloc = rt.alloc();
-    let good = filled(alloc, GOOD)?;
-    for (old, new, path) in EDITS {
-        let input = good.replace(alloc, old, new)?;
-        let end = end_of(&rt, alloc, input.as_str())?;
-        let expected = format!(in alloc; "script.0.object.{path}")?;
-        assert_eq!(rt; end.as_str(), expected.as_str(), "at {new}");
+    for (old, new, path) in &EDITS {
+        let end = end_of_edit(&rt, alloc, old, new)?;
+        tells(&rt, new, end.as_str(), path_of(alloc, path)?.as_str());
     }
+    let end = end_of_edit(&rt, alloc, "none", "none")?;
+    tells(&rt, "no edit", end.as_str(), "done");
     Ok(())
 }
 
@@ -452,38 +510,68 @@ fn blanks(alloc: Global, count: usize) -> Result<Vec<u8>, AllocError> {
     vec![in alloc; b' '; count]
 }
 
+static NO_JSON: [&str; 5] = ["", "{", "1e400", "{\"roles\":[]} x", "[1,]"];
+
 #[test]
 fn refuses_what_is_no_json(rt: HostRuntime) -> Result<(), Fail> {
-    let alloc = rt.alloc();
-    for input in ["", "{", "1e400", "{\"roles\":[]} x", "[1,]"] {
-        let end = end_of(&rt, alloc, input)?;
-        assert_eq!(rt; end.as_str(), "not JSON", "at {input}");
+    for input in &NO_JSON {
+        let end = end_of(&rt, rt.alloc(), input)?;
+        tells(&rt, input, end.as_str(), "not JSON");
     }
-    let ended = run_with(&rt, alloc, "run", &[0xff, 0xfe], &[], &[])?;
-    assert!(rt; matches!(ended.status, Status::NotJson));
-    assert_eq!(rt; ended.written.len(), 0);
-    let too_many = blanks(alloc, 16_777_217)?;
-    let ended = run_with(&rt, alloc, "run", too_many.as_slice(), &[], &[])?;
-    assert!(rt; matches!(ended.status, Status::TooLong));
-    let as_many = blanks(alloc, 16_777_216)?;
-    let ended = run_with(&rt, alloc, "run", as_many.as_slice(), &[], &[])?;
-    assert!(rt; matches!(ended.status, Status::NotJson));
+    Ok(())
+}
+
+/// How a run ended, and the bytes that it wrote as a text.
+fn end_and_text<R: Threads + Wait + Sync>(
+    rt: &R,
+    alloc: Global,
+    words: &str,
+    input: &[u8],
+    failing: (&[u64], &[u64]),
+) -> Result<String, AllocError> {
+    let ended = run_with(rt, alloc, words, input, failing.0, failing.1)?;
+    let end = end_told(&ended.status);
+    let written = str::from_utf8(ended.written.as_slice()).unwrap_or("no text");
+    format!(in alloc; "{end} {written}")
+}
+
+/// How a run on so many blanks ends, in which the read of this number fails, 0 for none.
+fn end_on_blanks<R: Threads + Wait + Sync>(
+    rt: &R,
+    alloc: Global,
+    count: usize,
+    failing_read: u64,
+) -> Result<String, AllocError> {
+    let blanks = blanks(alloc, count)?;
+    end_and_text(rt, alloc, "run", blanks.as_slice(), (&[failing_read], &[]))
+}
+
+/// How many blanks, and how the run ends.
+static BLANKS: [(usize, &str); 2] = [(16_777_217, "too long "), (16_777_216, "not JSON ")];
+
+#[test]
+fn reads_as_much_as_it_may(rt: HostRuntime) -> Result<(), Fail> {
+    let alloc = rt.alloc();
+    let told = end_and_text(&rt, alloc, "run", &[0xff, 0xfe], (&[], &[]))?;
+    tells(&rt, "no UTF-8", told.as_str(), "not JSON ");
+    for (count, want) in &BLANKS {
+        let told = end_on_blanks(&rt, alloc, *count, 0)?;
+        tells(&rt, "blanks", told.as_str(), want);
+    }
     Ok(())
 }
 
 #[test]
 fn ends_at_a_fault(rt: HostRuntime) -> Result<(), Fail> {
     let alloc = rt.alloc();
-    let blanks = blanks(alloc, 8_193)?;
-    let ended = run_with(&rt, alloc, "run", blanks.as_slice(), &[3], &[])?;
-    assert!(rt; matches!(ended.status, Status::ReadFault));
-    assert_eq!(rt; ended.written.len(), 0);
-    let ended = run_with(&rt, alloc, "run", b"{\"roles\":[]}", &[], &[2])?;
-    assert!(rt; matches!(ended.status, Status::WriteFault));
-    assert!(rt; ended.written.as_slice() == b"{\"scenario\":{\"roles\":[]}}\n".as_slice());
-    let ended = run_with(&rt, alloc, "load", b"{\"roles\":[]}", &[], &[])?;
-    assert!(rt; matches!(ended.status, Status::Usage));
-    assert_eq!(rt; ended.written.len(), 0);
+    let told = end_on_blanks(&rt, alloc, 8_193, 3)?;
+    tells(&rt, "read", told.as_str(), "read fault ");
+    let input = b"{\"roles\":[]}";
+    let told = end_and_text(&rt, alloc, "run", input, (&[], &[2]))?;
+    let want = "write fault {\"scenario\":{\"roles\":[]}}\n";
+    tells(&rt, "write", told.as_str(), want);
+    let told = end_and_text(&rt, alloc, "load", input, (&[], &[]))?;
+    tells(&rt, "usage", told.as_str(), "usage ");
     Ok(())
 }
 
@@ -492,37 +580,47 @@ fn line_of(alloc: Global, status: &Status) -> Result<String, AllocError> {
     format!(in alloc; "cmrun: {}{}", message(status), failing_path(status))
 }
 
+/// The line of the status, if its exit status is this.
+fn is_told(
+    rt: &impl Abort,
+    alloc: Global,
+    status: Status,
+    number: u8,
+    want: &str,
+) -> Result<(), AllocError> {
+    passes(rt, want, code(&status) == number);
+    tells(rt, want, line_of(alloc, &status)?.as_str(), want);
+    Ok(())
+}
+
+fn bad_at(alloc: Global, path: &str) -> Result<Status, AllocError> {
+    Ok(Status::BadScenario(Text::from_str(alloc, path)?))
+}
+
+static USAGE: &str = "cmrun: usage: cmrun run|load COUNT [--workers N] [--summary]";
+
 #[test]
 fn tells_each_status(rt: HostRuntime) -> Result<(), Fail> {
     let alloc = rt.alloc();
-    assert_eq!(rt; code(&Status::Done), 0);
-    assert_eq!(rt; message(&Status::Done), "");
-    for (status, number, line) in [
-        (Status::TooLong, 1, "cmrun: input too long"),
-        (Status::NotJson, 1, "cmrun: not JSON"),
-        (
-            Status::BadScenario(Text::from_str(alloc, "roles.0")?),
-            1,
-            "cmrun: bad scenario at roles.0",
-        ),
-        (
-            Status::BadScenario(Text::new(alloc)),
-            1,
-            "cmrun: bad scenario at ",
-        ),
-        (
-            Status::Usage,
-            2,
-            "cmrun: usage: cmrun run|load COUNT [--workers N] [--summary]",
-        ),
-        (Status::ReadFault, 3, "cmrun: read failed"),
-        (Status::WriteFault, 4, "cmrun: write failed"),
-        (Status::NoMemory, 5, "cmrun: out of memory"),
-        (Status::Spent, 6, "cmrun: history is full"),
-    ] {
-        assert_eq!(rt; code(&status), number, "at {line}");
-        assert_eq!(rt; line_of(alloc, &status)?.as_str(), line);
-    }
+    passes(&rt, "done", code(&Status::Done) == 0);
+    tells(&rt, "done", message(&Status::Done), "");
+    is_told(&rt, alloc, Status::TooLong, 1, "cmrun: input too long")?;
+    is_told(&rt, alloc, Status::NotJson, 1, "cmrun: not JSON")?;
+    is_told(&rt, alloc, Status::Usage, 2, USAGE)?;
+    is_told(&rt, alloc, Status::ReadFault, 3, "cmrun: read failed")?;
+    is_told(&rt, alloc, Status::WriteFault, 4, "cmrun: write failed")?;
+    is_told(&rt, alloc, Status::NoMemory, 5, "cmrun: out of memory")?;
+    is_told(&rt, alloc, Status::Spent, 6, "cmrun: history is full")?;
+    Ok(())
+}
+
+#[test]
+fn tells_the_path_of_a_bad_scenario(rt: HostRuntime) -> Result<(), Fail> {
+    let alloc = rt.alloc();
+    let want = "cmrun: bad scenario at roles.0";
+    is_told(&rt, alloc, bad_at(alloc, "roles.0")?, 1, want)?;
+    let want = "cmrun: bad scenario at ";
+    is_told(&rt, alloc, bad_at(alloc, "")?, 1, want)?;
     Ok(())
 }
 
@@ -531,63 +629,109 @@ pub(crate) fn line_count(bytes: &[u8]) -> usize {
     bytes.iter().filter(|byte| **byte == b'\n').count()
 }
 
+/// Whether the bytes are so many whole lines, the first ones of the text.
+pub(crate) fn is_first_lines(whole: &[u8], bytes: &[u8], count: usize) -> bool {
+    let is_whole = bytes.is_empty() || bytes.ends_with(b"\n");
+    is_whole && whole.starts_with(bytes) && line_count(bytes) == count
+}
+
+/// Whether the run in which the write of this number fails has written so many lines, and is told so.
+fn fails_behind<R: Threads + Wait + Sync>(
+    rt: &R,
+    alloc: Global,
+    input: &[u8],
+    whole: &[u8],
+    lines: usize,
+) -> Result<bool, AllocError> {
+    let number = (lines as u64).saturating_add(1);
+    let ended = run_with(rt, alloc, "run", input, &[], &[number])?;
+    let is_failed = matches!(ended.status, Status::WriteFault);
+    Ok(is_failed && is_first_lines(whole, ended.written.as_slice(), lines))
+}
+
+/// Whether the run in which only a fifth write would fail is done, and writes the whole.
+fn is_done<R: Threads + Wait + Sync>(
+    rt: &R,
+    alloc: Global,
+    input: &[u8],
+    whole: &[u8],
+) -> Result<bool, AllocError> {
+    let ended = run_with(rt, alloc, "run", input, &[], &[5])?;
+    Ok(matches!(ended.status, Status::Done) && ended.written.as_slice() == whole)
+}
+
+static LINES: [usize; 4] = [0, 1, 2, 3];
+
 #[test]
 fn writes_each_line_as_one_piece(rt: HostRuntime) -> Result<(), Fail> {
     let alloc = rt.alloc();
     let input = filled(alloc, GOOD)?;
     let whole = run_on(&rt, alloc, input.as_str())?.written;
-    assert_eq!(rt; line_count(whole.as_slice()), 4);
-    for (lines, failing) in [(0, 1), (1, 2), (2, 3), (3, 4)] {
-        let ended = run_with(&rt, alloc, "run", input.as_bytes(), &[], &[failing])?;
-        assert!(rt; matches!(ended.status, Status::WriteFault));
-        assert_eq!(rt; line_count(ended.written.as_slice()), lines);
-        assert!(rt; ended.written.is_empty() || ended.written.ends_with(b"\n"));
-        assert!(rt; whole.starts_with(ended.written.as_slice()));
+    let (input, whole) = (input.as_bytes(), whole.as_slice());
+    passes(&rt, "four lines", line_count(whole) == 4);
+    for lines in &LINES {
+        let passed = fails_behind(&rt, alloc, input, whole, *lines)?;
+        passes_at(&rt, "lines", *lines as u64, passed);
     }
-    let ended = run_with(&rt, alloc, "run", input.as_bytes(), &[], &[5])?;
-    assert!(rt; matches!(ended.status, Status::Done));
-    assert!(rt; ended.written.as_slice() == whole.as_slice());
+    passes(&rt, "all lines", is_done(&rt, alloc, input, whole)?);
     Ok(())
 }
 
-/// How a run ended, and how many of the next eight bytes its source still has.
+/// How many of the next eight bytes the source still has.
+fn left_in(source: &mut MemSource) -> Result<usize, Fail> {
+    let mut next = [0; 8];
+    match source.read(&mut next) {
+        Ok(count) => Ok(count),
+        Err(_) => Err(Fail::from("failed again")),
+    }
+}
+
+/// How a run ended, in words, and how many of the next eight bytes its source still has.
 fn left_by<R: Threads + Wait + Sync>(
     rt: &R,
     alloc: Global,
     words: &str,
     input: &[u8],
     failing_reads: &[u64],
-) -> Result<(Status, usize), Fail> {
-    let bytes = Bytes::from_slice(alloc, input)?;
-    let mut source = MemSource::new(alloc, bytes, numbers(alloc, failing_reads)?)?;
-    let mut sink = MemSink::new(alloc, Numbers::new(alloc))?;
+) -> Result<String, Fail> {
+    let mut source = source_of(alloc, input, failing_reads)?;
+    let mut sink = sink_of(alloc, &[])?;
     let status = run_over(rt, alloc, words, &mut source, &mut sink)?;
-    let mut next = [0; 8];
-    match source.read(&mut next) {
-        Ok(count) => Ok((status, count)),
-        Err(_) => Err(Fail::from("failed again")),
-    }
+    let left = left_in(&mut source)?;
+    left_told(alloc, &status, left)
+}
+
+fn left_told(alloc: Global, status: &Status, left: usize) -> Result<String, Fail> {
+    let end = match status {
+        Status::BadScenario(_) => "bad scenario",
+        other => end_told(other),
+    };
+    Ok(format!(in alloc; "{end} {left}")?)
+}
+
+/// The same of so many blanks.
+fn left_of_blanks<R: Threads + Wait + Sync>(
+    rt: &R,
+    alloc: Global,
+    count: usize,
+    failing_read: u64,
+) -> Result<String, Fail> {
+    let blanks = blanks(alloc, count)?;
+    left_by(rt, alloc, "run", blanks.as_slice(), &[failing_read])
 }
 
 #[test]
 fn stops_reading_where_a_run_ends(rt: HostRuntime) -> Result<(), Fail> {
     let alloc = rt.alloc();
-    let (status, left) = left_by(&rt, alloc, "load", b"{}", &[])?;
-    assert!(rt; matches!(status, Status::Usage));
-    assert_eq!(rt; left, 2);
-    let (status, left) = left_by(&rt, alloc, "load 1 --summary", b"{}", &[])?;
-    assert!(rt; matches!(status, Status::Done));
-    assert_eq!(rt; left, 2);
-    let (status, left) = left_by(&rt, alloc, "run", b"[]", &[])?;
-    assert!(rt; matches!(status, Status::BadScenario(_)));
-    assert_eq!(rt; left, 0);
-    let some = blanks(alloc, 8_195)?;
-    let (status, left) = left_by(&rt, alloc, "run", some.as_slice(), &[3])?;
-    assert!(rt; matches!(status, Status::ReadFault));
-    assert_eq!(rt; left, 3);
-    let too_many = blanks(alloc, 16_777_219)?;
-    let (status, left) = left_by(&rt, alloc, "run", too_many.as_slice(), &[])?;
-    assert!(rt; matches!(status, Status::TooLong));
-    assert_eq!(rt; left, 2);
+    let told = left_by(&rt, alloc, "load", b"{}", &[])?;
+    tells(&rt, "usage", told.as_str(), "usage 2");
+    let told = left_by(&rt, alloc, "load 1 --summary", b"{}", &[])?;
+    tells(&rt, "load", told.as_str(), "done 2");
+    let told = left_by(&rt, alloc, "run", b"[]", &[])?;
+    tells(&rt, "no scenario", told.as_str(), "bad scenario 0");
+    let told = left_of_blanks(&rt, alloc, 8_195, 3)?;
+    tells(&rt, "fault", told.as_str(), "read fault 3");
+    let told = left_of_blanks(&rt, alloc, 16_777_219, 0)?;
+    tells(&rt, "too long", told.as_str(), "too long 2");
     Ok(())
 }

@@ -1,6 +1,7 @@
 // Hostile use of the whole program: cut and malicious input, reads, writes and calls that fail, sinks that are full, and
 // material that is no key and no certificate. What is expected comes from the table of replies and the form of scenarios.
-use crate::tests::{WEB, line_count, run_into, run_on, run_with};
+use crate::checks::passes_at;
+use crate::tests::{is_first_lines, line_count, run_into, run_on, run_with, web};
 use crate::tests_of_rows::{BACKOFF, READY};
 use crate::top::{Status, failing_path, message};
 use std::alloc::{AllocError, Global};
@@ -9,11 +10,6 @@ use std::sync::Wait;
 use std::test::Fail;
 use std::thread::Threads;
 
-/// The assertion of all rows.
-fn passes(rt: &impl Abort, row: &str, number: u64, passed: bool) {
-    assert!(rt; passed, "{row} {number}");
-}
-
 /// A scenario in which a Certificate is issued: `FAULTS` stands for members in front, `ROWS` for its material.
 static ISSUANCE: &str =
     r#"{FAULTS"material":{"default/web":{ROWS}},"script":[{"do":"apply","object":@}]}"#;
@@ -21,7 +17,7 @@ static ISSUANCE: &str =
 fn issuance(alloc: Global, faults: &str, rows: &str) -> Result<String, AllocError> {
     let text = ISSUANCE.replace(alloc, "FAULTS", faults)?;
     let text = text.as_str().replace(alloc, "ROWS", rows)?;
-    text.as_str().replace(alloc, "@", WEB)
+    text.as_str().replace(alloc, "@", web())
 }
 
 /// The scenario whose run every reader of these tests knows: 13 calls, 12 writes, and one Secret at the end.
@@ -50,7 +46,7 @@ fn takes_no_first_part_for_the_whole(rt: HostRuntime) -> Result<(), Fail> {
     let input = first(alloc)?;
     let bytes = input.as_bytes();
     for count in 0..bytes.len() {
-        passes(
+        passes_at(
             &rt,
             "octets",
             count as u64,
@@ -128,7 +124,7 @@ static CLOSED: &str =
 
 /// The Certificate with a member that its spec does not have.
 fn with_other_names(alloc: Global) -> Result<String, AllocError> {
-    WEB.replace(alloc, "\"dnsNames\"", "\"otherNames\":[],\"dnsNames\"")
+    web().replace(alloc, "\"dnsNames\"", "\"otherNames\":[],\"dnsNames\"")
 }
 
 /// The text with what its stand-ins stand for.
@@ -153,7 +149,7 @@ fn is_refused<R: Threads + Wait + Sync>(
 fn refuses_at_the_path(rt: HostRuntime) -> Result<(), Fail> {
     let alloc = rt.alloc();
     for (input, want) in &REFUSED {
-        passes(&rt, input, 0, is_refused(&rt, alloc, input, want)?);
+        passes_at(&rt, input, 0, is_refused(&rt, alloc, input, want)?);
     }
     Ok(())
 }
@@ -201,7 +197,7 @@ fn fails_at_read<R: Threads + Wait + Sync>(
 fn ends_at_each_read_that_fails(rt: HostRuntime) -> Result<(), Fail> {
     let alloc = rt.alloc();
     for (blanks, number) in &READS {
-        passes(
+        passes_at(
             &rt,
             "read",
             *number,
@@ -209,12 +205,6 @@ fn ends_at_each_read_that_fails(rt: HostRuntime) -> Result<(), Fail> {
         );
     }
     Ok(())
-}
-
-/// Whether the bytes are so many whole lines, the first ones of the text.
-fn is_first_lines(whole: &[u8], bytes: &[u8], count: usize) -> bool {
-    let is_whole = bytes.is_empty() || bytes.ends_with(b"\n");
-    is_whole && whole.starts_with(bytes) && line_count(bytes) == count
 }
 
 /// The run in which the write behind so many lines fails is told so, and has written these lines.
@@ -249,7 +239,7 @@ fn fails_at_writes<R: Abort + Threads + Wait + Sync>(
     let whole = run_on(rt, alloc, input.as_str())?.written;
     for lines in 0..line_count(whole.as_slice()) {
         let passed = fails_behind(rt, alloc, input.as_str(), whole.as_slice(), lines)?;
-        passes(rt, "lines", lines as u64, passed);
+        passes_at(rt, "lines", lines as u64, passed);
     }
     Ok(())
 }
@@ -283,11 +273,11 @@ fn ends_where_a_sink_takes_nothing(rt: HostRuntime) -> Result<(), Fail> {
     let whole = run_on(&rt, alloc, input.as_str())?.written;
     for size in &ROOMS {
         let passed = fills(&rt, alloc, input.as_str(), whole.as_slice(), *size)?;
-        passes(&rt, "room", *size as u64, passed);
+        passes_at(&rt, "room", *size as u64, passed);
     }
     let last = whole.len().saturating_sub(1);
     let passed = fills(&rt, alloc, input.as_str(), whole.as_slice(), last)?;
-    passes(&rt, "all but one", 0, passed);
+    passes_at(&rt, "all but one", 0, passed);
     Ok(())
 }
 
@@ -335,7 +325,7 @@ fn ends_with_raw_material_of_any_size(rt: HostRuntime) -> Result<(), Fail> {
     let alloc = rt.alloc();
     for (rows, end) in &RAW {
         for size in &SIZES {
-            passes(&rt, rows, *size, ends_with(&rt, alloc, rows, *size, end)?);
+            passes_at(&rt, rows, *size, ends_with(&rt, alloc, rows, *size, end)?);
         }
     }
     Ok(())
@@ -413,7 +403,7 @@ fn survives_a_fault_at_each_call(rt: HostRuntime) -> Result<(), Fail> {
     let alloc = rt.alloc();
     for (fault, calls, writes) in &FAULTS {
         let passed = survives(&rt, alloc, *fault, *calls, *writes)?;
-        passes(&rt, "fault", *fault, passed);
+        passes_at(&rt, "fault", *fault, passed);
     }
     Ok(())
 }

@@ -1,5 +1,6 @@
 // Whole runs of all controllers: who writes what, in which order, and how each run ends. The rows come from the tables of
 // the controllers, of temporary certificates and of approval policies.
+use crate::checks::{passes, tells};
 use crate::tests::{WEB, run_on};
 use crate::top::Status;
 use std::alloc::{AllocError, Global};
@@ -38,7 +39,7 @@ const KEY: &str = "[{\"certificate\":\"default/web\",\"wait\":\"key\"}]}}\n";
 
 /// The stand-ins: steps of scripts, writes that many runs make, and beginnings of calls. Later ones may stand in the text
 /// of earlier ones.
-const STAND_INS: [(&str, &str); 23] = [
+static STAND_INS: [(&str, &str); 23] = [
     ("APPLY", r#"{"do":"apply","object":@}"#),
     (
         "OTHER",
@@ -140,7 +141,7 @@ keymanager STATUS .. !"nextPrivateKeySecretName""#,
 ];
 
 /// Runs that issue, or wait for something else than a verdict.
-const ISSUING: [Row; 11] = [
+static ISSUING: [Row; 11] = [
     Row {
         scenario: r#""material":{"default/web":{"keys":[{"synthetic":1}]}},"script":[APPLY]"#,
         writes: "ISSUED",
@@ -266,7 +267,7 @@ VALID"#,
 ];
 
 /// Runs with denials, failures, policies and temporary certificates.
-const REFUSING: [Row; 13] = [
+static REFUSING: [Row; 13] = [
     // A denied request is not answered. It is tried again an hour later, and not before.
     Row {
         scenario: r#""approver":{"issuers":[]},"script":[APPLY,SETTLE,DENY,SETTLE,{"do":"tick","seconds":3599},SETTLE,{"do":"tick","seconds":1},SETTLE]"#,
@@ -463,7 +464,7 @@ user REQUEST .. "reason":"Issued","status":"True","type":"Ready"} .. "reply":{"o
 /// The text with what its stand-ins stand for.
 fn filled(alloc: Global, text: &str) -> Result<String, AllocError> {
     let mut text = String::from_str(alloc, text)?;
-    for (name, meaning) in STAND_INS {
+    for (name, meaning) in &STAND_INS {
         text = text.as_str().replace(alloc, name, meaning)?;
     }
     Ok(text)
@@ -513,8 +514,31 @@ fn is_line_of(alloc: Global, written: &str, line: &str, write: &str) -> Result<b
     }
 }
 
+/// The line tells an accepted write.
+fn is_accepted(line: &str) -> bool {
+    line.contains("\"reply\":{\"ok\":") || line.contains("\"reply\":{\"name\":")
+}
+
+/// The line is that of the write, where one is left.
+fn is_write(
+    rt: &impl Abort,
+    alloc: Global,
+    written: &str,
+    line: &str,
+    write: Option<&str>,
+) -> Result<(), AllocError> {
+    match write {
+        Some(write) => {
+            let is_line = is_line_of(alloc, written, line, write)?;
+            tells(rt, write, if is_line { write } else { line }, write);
+        }
+        None => tells(rt, "one more", line, ""),
+    }
+    Ok(())
+}
+
 /// The accepted writes of the run are these, in order, and there are no others.
-fn assert_writes(
+fn are_writes(
     rt: &impl Abort,
     alloc: Global,
     written: &str,
@@ -522,75 +546,78 @@ fn assert_writes(
 ) -> Result<(), AllocError> {
     let mut left = writes.lines();
     for line in written.lines() {
-        if line.contains("\"reply\":{\"ok\":") || line.contains("\"reply\":{\"name\":") {
-            let Some(write) = left.next() else {
-                assert!(rt; false, "one more: {line}");
-                return Ok(());
-            };
-            assert!(rt;
-                is_line_of(alloc, written, line, write)?,
-                "not {write}: {line}"
-            );
+        if is_accepted(line) {
+            is_write(rt, alloc, written, line, left.next())?;
         }
     }
-    assert!(rt; left.next().is_none());
+    passes(rt, writes, left.next().is_none());
     Ok(())
 }
 
-fn assert_row<R: Abort + Threads + Wait + Sync>(
+/// The scenario of the row.
+fn input_of(alloc: Global, row: &Row) -> Result<String, AllocError> {
+    let scenario = row.scenario;
+    let scenario = format!(in alloc; "{{{scenario}}}")?;
+    filled(alloc, scenario.as_str())
+}
+
+fn calls_in(written: &str) -> usize {
+    written
+        .lines()
+        .filter(|line| line.contains("\"is\":\"call\""))
+        .count()
+}
+
+/// What was written is what the row tells, but for its writes.
+fn is_as_told(row: &Row, written: &str) -> bool {
+    (row.told.is_empty() || has_pieces(written, row.told))
+        && (row.calls == 0 || calls_in(written) == row.calls)
+        && written.ends_with(row.end)
+}
+
+fn has_writes(rt: &impl Abort, alloc: Global, row: &Row, written: &str) -> Result<(), AllocError> {
+    if !row.writes.is_empty() {
+        let writes = filled(alloc, row.writes)?;
+        are_writes(rt, alloc, written, writes.as_str())?;
+    }
+    Ok(())
+}
+
+fn meets<R: Abort + Threads + Wait + Sync>(
     rt: &R,
     alloc: Global,
     row: &Row,
 ) -> Result<(), AllocError> {
-    let scenario = row.scenario;
-    let scenario = format!(in alloc; "{{{scenario}}}")?;
-    let input = filled(alloc, scenario.as_str())?;
+    let input = input_of(alloc, row)?;
     let ended = run_on(rt, alloc, input.as_str())?;
-    assert!(rt; matches!(ended.status, Status::Done), "at {input}");
-    let Ok(written) = str::from_utf8(ended.written.as_slice()) else {
-        assert!(rt; false);
-        return Ok(());
-    };
-    if !row.writes.is_empty() {
-        let writes = filled(alloc, row.writes)?;
-        assert_writes(rt, alloc, written, writes.as_str())?;
-    }
-    assert!(rt;
-        row.told.is_empty() || has_pieces(written, row.told),
-        "at {input}"
-    );
-    let calls = written
-        .lines()
-        .filter(|line| line.contains("\"is\":\"call\""))
-        .count();
-    assert!(rt; row.calls == 0 || calls == row.calls, "at {input}");
-    assert!(rt; written.ends_with(row.end), "at {input}");
+    let is_done = matches!(ended.status, Status::Done);
+    passes(rt, input.as_str(), is_done);
+    let written = str::from_utf8(ended.written.as_slice()).unwrap_or("");
+    has_writes(rt, alloc, row, written)?;
+    passes(rt, input.as_str(), is_as_told(row, written));
     Ok(())
 }
 
 #[test]
 fn issues_in_order(rt: HostRuntime) -> Result<(), Fail> {
-    let alloc = rt.alloc();
-    for row in ISSUING {
-        assert_row(&rt, alloc, &row)?;
+    for row in &ISSUING {
+        meets(&rt, rt.alloc(), row)?;
     }
     Ok(())
 }
 
 #[test]
 fn refuses_and_tries_again(rt: HostRuntime) -> Result<(), Fail> {
-    let alloc = rt.alloc();
-    for row in REFUSING {
-        assert_row(&rt, alloc, &row)?;
+    for row in &REFUSING {
+        meets(&rt, rt.alloc(), row)?;
     }
     Ok(())
 }
 
 #[test]
 fn stores_nothing_for_an_issuer_that_lies(rt: HostRuntime) -> Result<(), Fail> {
-    let alloc = rt.alloc();
     for row in &LIES {
-        assert_row(&rt, alloc, row)?;
+        meets(&rt, rt.alloc(), row)?;
     }
     Ok(())
 }

@@ -1,5 +1,6 @@
 // Runs in threads: they end as runs by one hand end, and two workers are at an issuer at once.
-use crate::tests::{WEB, run_with};
+use crate::checks::passes;
+use crate::tests::{run_with, web};
 use crate::top::Status;
 use cmc_answers::ScriptedSigner;
 use cmc_keys::ScriptedKeys;
@@ -16,7 +17,8 @@ use std::thread;
 use std::thread::Threads;
 
 /// What the summary begins with where the one Certificate is ready.
-const READY: &str = "{\"summary\":{\"certificates\":1,\"ready\":1,\"secrets\":1,\"waiting\":[]}}\n";
+static READY: &str =
+    "{\"summary\":{\"certificates\":1,\"ready\":1,\"secrets\":1,\"waiting\":[]}}\n";
 
 /// Scenarios of one Certificate that is ready in the end, whoever comes first; `@` stands for it, `#` for the same with an
 /// issuer of another group.
@@ -28,39 +30,41 @@ static READY_IN_THE_END: [&str; 4] = [
 ];
 
 /// The Certificate with an issuer that no controller here answers for.
-const OTHER: &str =
+static OTHER: &str =
     r#"{"apiVersion":"cert-manager.io/v1","kind":"Certificate","metadata":{"name":"web","namespace":"default"},"spec":{"dnsNames":["example.com"],"issuerRef":{"group":"example.org","name":"ca"},"privateKey":{"algorithm":"ECDSA"},"secretName":"web-tls"}}"#;
 
-fn assert_ready<R: Abort + Threads + Wait + Sync>(
+fn filled(alloc: Global, row: &str) -> Result<String, AllocError> {
+    let text = row.replace(alloc, "@", web())?;
+    text.as_str().replace(alloc, "#", OTHER)
+}
+
+fn is_ready<R: Threads + Wait + Sync>(
     rt: &R,
     alloc: Global,
-    rows: &[&str],
+    row: &str,
     words: &str,
-) -> Result<(), AllocError> {
-    for row in rows {
-        let input = row.replace(alloc, "@", WEB)?;
-        let input = input.as_str().replace(alloc, "#", OTHER)?;
-        let ended = run_with(rt, alloc, words, input.as_bytes(), &[], &[])?;
-        assert!(rt; matches!(ended.status, Status::Done), "at {row}");
-        assert!(rt; ended.written.as_slice() == READY.as_bytes(), "at {row}");
-    }
-    Ok(())
+) -> Result<bool, AllocError> {
+    let input = filled(alloc, row)?;
+    let ended = run_with(rt, alloc, words, input.as_bytes(), &[], &[])?;
+    let is_done = matches!(ended.status, Status::Done);
+    Ok(is_done && ended.written.as_slice() == READY.as_bytes())
 }
 
 #[test]
 fn finishes_in_threads(rt: HostRuntime) -> Result<(), Fail> {
-    assert_ready(
-        &rt,
-        rt.alloc(),
-        &READY_IN_THE_END,
-        "run --workers 4 --summary",
-    )?;
-    assert_ready(
-        &rt,
-        rt.alloc(),
-        &READY_IN_THE_END,
-        "run --summary --workers=1",
-    )?;
+    let alloc = rt.alloc();
+    for row in &READY_IN_THE_END {
+        passes(
+            &rt,
+            row,
+            is_ready(&rt, alloc, row, "run --workers 4 --summary")?,
+        );
+        passes(
+            &rt,
+            row,
+            is_ready(&rt, alloc, row, "run --summary --workers=1")?,
+        );
+    }
     Ok(())
 }
 
@@ -150,14 +154,16 @@ fn two_open<R: Threads + Wait + Abort + Sync>(rt: &R, alloc: Global) -> Result<(
     let second = gate.second.load(Ordering::SeqCst);
     let (one, one_order) = asked(&world, first).ok_or("the first asks an issuer")?;
     let (other, other_order) = asked(&world, second).ok_or("the second asks an issuer")?;
-    assert!(rt; one != other);
+    passes(rt, "two passes", one != other);
     let one_owners = &one_order.request().meta.owners;
     let other_owners = &other_order.request().meta.owners;
-    assert!(rt; !one_owners.same(other_owners), "for two Certificates");
+    let is_one = one_owners.same(other_owners);
+    passes(rt, "for two Certificates", !is_one);
     let one_done = answered_at(&world, one).ok_or("the first is answered")?;
     let other_done = answered_at(&world, other).ok_or("the second is answered")?;
     let done = one_done.min(other_done);
-    assert!(rt; first < done && second < done, "both stand open at once");
+    let are_open = first < done && second < done;
+    passes(rt, "both stand open at once", are_open);
     Ok(())
 }
 

@@ -1,6 +1,7 @@
 // The command line: which words are taken, and what `load` and `--summary` print. The rows come from the rules of the
 // command line and of the generated scenario.
-use crate::tests::{WEB, run_with, words_of};
+use crate::checks::passes;
+use crate::tests::{run_with, web, words_of};
 use crate::top::Status;
 use crate::words::{Command, read_words};
 use std::alloc::{AllocError, Global};
@@ -66,7 +67,7 @@ fn read_from(alloc: Global, text: &str) -> Result<Option<Command>, AllocError> {
 
 fn assert_refused(rt: &impl Abort, alloc: Global, rows: &[&str]) -> Result<(), AllocError> {
     for text in rows {
-        assert!(rt; read_from(alloc, *text)?.is_none(), "at {text}");
+        passes(rt, text, read_from(alloc, *text)?.is_none());
     }
     Ok(())
 }
@@ -100,7 +101,7 @@ fn assert_runs(
 ) -> Result<(), AllocError> {
     for (text, workers, summary) in rows {
         let command = read_from(alloc, *text)?;
-        assert!(rt; command == run_by(*workers, *summary), "at {text}");
+        passes(rt, text, command == run_by(*workers, *summary));
     }
     Ok(())
 }
@@ -112,7 +113,7 @@ fn assert_loads(
 ) -> Result<(), AllocError> {
     for (text, count, workers, summary) in rows {
         let command = read_from(alloc, *text)?;
-        assert!(rt; command == load_by(*count, *workers, *summary), "at {text}");
+        passes(rt, text, command == load_by(*count, *workers, *summary));
     }
     Ok(())
 }
@@ -150,48 +151,64 @@ fn failing_reads(words: &str) -> &'static [u64] {
     if words.starts_with("load") { &[1] } else { &[] }
 }
 
-fn assert_written<R: Abort + Threads + Wait + Sync>(
+/// The run with these words is done, and writes this.
+fn is_written<R: Threads + Wait + Sync>(
     rt: &R,
     alloc: Global,
     input: &str,
-    rows: &[(&str, &str)],
-) -> Result<(), AllocError> {
-    for (words, expected) in rows {
-        let ended = run_with(
-            rt,
-            alloc,
-            *words,
-            input.as_bytes(),
-            failing_reads(*words),
-            &[],
-        )?;
-        assert!(rt; matches!(ended.status, Status::Done), "at {words}");
-        assert!(rt;
-            ended.written.as_slice() == expected.as_bytes(),
-            "at {words}"
-        );
-    }
-    Ok(())
+    words: &str,
+    want: &str,
+) -> Result<bool, AllocError> {
+    let failing = failing_reads(words);
+    let ended = run_with(rt, alloc, words, input.as_bytes(), failing, &[])?;
+    let is_done = matches!(ended.status, Status::Done);
+    Ok(is_done && ended.written.as_slice() == want.as_bytes())
 }
 
 /// The scenario of one Certificate.
-const LOAD_OF_ONE: &str =
+static LOAD_OF_ONE: &str =
     r#"{"scenario":{"events":2000,"script":[{"do":"apply","object":{"apiVersion":"cert-manager.io/v1","kind":"Certificate","metadata":{"name":"c0001","namespace":"load"},"spec":{"dnsNames":["c0001.example"],"issuerRef":{"name":"ca"},"privateKey":{"algorithm":"ECDSA"},"revisionHistoryLimit":1,"secretName":"c0001-tls"}}},{"do":"settle"},{"do":"tick","seconds":5184000},{"do":"settle"}]}}
 {"is":"script","n":1,"step":1}
 "#;
 
+fn applying(alloc: Global) -> Result<String, AllocError> {
+    let web = web();
+    format!(in alloc; "{{\"roles\":[],\"script\":[{{\"do\":\"apply\",\"object\":{web}}}]}}")
+}
+
 #[test]
 fn writes_loads_and_summaries(rt: HostRuntime) -> Result<(), Fail> {
     let alloc = rt.alloc();
-    let input = format!(in alloc;
-        "{{\"roles\":[],\"script\":[{{\"do\":\"apply\",\"object\":{WEB}}}]}}"
-    )?;
-    assert_written(&rt, alloc, input.as_str(), &WRITTEN)?;
-    let ended = run_with(&rt, alloc, "load 1 --workers 0", b"", &[1], &[])?;
-    assert!(rt; matches!(ended.status, Status::Done));
-    assert!(rt; ended.written.starts_with(LOAD_OF_ONE.as_bytes()));
-    let ended = run_with(&rt, alloc, "load 1 --summary", b"", &[], &[1])?;
-    assert!(rt; matches!(ended.status, Status::WriteFault));
-    assert!(rt; ended.written.is_empty());
+    let input = applying(alloc)?;
+    for (words, want) in &WRITTEN {
+        let passed = is_written(&rt, alloc, input.as_str(), words, want)?;
+        passes(&rt, words, passed);
+    }
+    Ok(())
+}
+
+/// The load of one Certificate, whose reads fail, begins so.
+fn begins_so<R: Threads + Wait + Sync>(
+    rt: &R,
+    alloc: Global,
+    want: &&str,
+) -> Result<bool, AllocError> {
+    let ended = run_with(rt, alloc, "load 1 --workers 0", b"", &[1], &[])?;
+    let is_done = matches!(ended.status, Status::Done);
+    Ok(is_done && ended.written.starts_with(want.as_bytes()))
+}
+
+/// The summary whose write fails is told so, and nothing is written.
+fn fails_to_write<R: Threads + Wait + Sync>(rt: &R, alloc: Global) -> Result<bool, AllocError> {
+    let ended = run_with(rt, alloc, "load 1 --summary", b"", &[], &[1])?;
+    Ok(matches!(ended.status, Status::WriteFault) && ended.written.is_empty())
+}
+
+#[test]
+fn writes_a_load(rt: HostRuntime) -> Result<(), Fail> {
+    let begins = begins_so(&rt, rt.alloc(), &LOAD_OF_ONE)?;
+    passes(&rt, "load of one", begins);
+    let fails = fails_to_write(&rt, rt.alloc())?;
+    passes(&rt, "no summary", fails);
     Ok(())
 }

@@ -1,0 +1,131 @@
+//! Scenarios and the values that their passes wait for.
+use cmc_answers::{ScriptedSigner, Signer, judge};
+use cmc_keys::{KeyMaker, ScriptedKeys, is_allowed_size};
+use cmc_meta::{Numbers, Texts};
+use cmc_objects::{CertStatus, Certificate, Material, Object, Order, Role, Rules, Step};
+use cmc_pass::Given;
+use cmc_policy_rules::Policies;
+use cmc_setup::{Roles, Scenario, Steps, is_setup};
+use cmc_tests::values::{least_spec, let_go, new_meta, texts};
+use cmc_world::Stepped;
+use std::alloc::Global;
+use std::test::Fail;
+
+/// A Certificate that was not stored yet, with this name, Secret and DNS name.
+pub(crate) fn certificate(
+    alloc: Global,
+    word: &str,
+    secret: &str,
+    host: &str,
+) -> Result<Certificate, Fail> {
+    let meta = new_meta(alloc, word)?;
+    Ok(Certificate {
+        meta,
+        spec: least_spec(alloc, secret, host)?,
+        status: CertStatus::new(alloc),
+    })
+}
+
+/// The step that applies the Certificate.
+pub(crate) fn apply(alloc: Global, certificate: Certificate) -> Result<Step, Fail> {
+    Ok(Step::Apply {
+        object: Object::of_certificate(alloc, certificate)?,
+        version: None,
+    })
+}
+
+/// The step that applies such a Certificate.
+pub(crate) fn applied(alloc: Global, word: &str, secret: &str, host: &str) -> Result<Step, Fail> {
+    apply(alloc, certificate(alloc, word, secret, host)?)
+}
+
+pub(crate) fn scenario_of(
+    events: u64,
+    window: u64,
+    roles: Roles,
+    faults: Numbers,
+    approver: Rules,
+    material: Material,
+    script: Steps,
+) -> Result<Scenario, Fail> {
+    if is_setup(
+        events,
+        window,
+        1_893_456_000,
+        &roles,
+        &faults,
+        &approver,
+        &material,
+        &script,
+    ) {
+        return Ok(Scenario::new(
+            events,
+            window,
+            1_893_456_000,
+            roles,
+            faults,
+            approver,
+            material,
+            script,
+        ));
+    }
+    Err(Fail::from("no scenario"))
+}
+
+/// The eight roles in their order.
+pub(crate) static ROLES: [Role; 8] = [
+    Role::Trigger,
+    Role::KeyManager,
+    Role::RequestManager,
+    Role::Approver,
+    Role::Issuer,
+    Role::Issuing,
+    Role::Readiness,
+    Role::Revision,
+];
+
+pub(crate) fn all_roles(alloc: Global) -> Result<Roles, Fail> {
+    let mut roles = Roles::new(alloc);
+    for role in &ROLES {
+        roles.add(*role)?;
+    }
+    Ok(roles)
+}
+
+/// An approver that judges the requests of every issuer, and refuses none.
+pub(crate) fn any_issuer(alloc: Global) -> Result<Rules, Fail> {
+    Ok(Rules {
+        issuers: texts(alloc, "*")?,
+        refuse: Texts::new(alloc),
+        policies: Policies::new(alloc),
+    })
+}
+
+/// The value of the question, as the scenario's own maker and signer have it.
+pub(crate) fn value_of(alloc: Global, order: &Order) -> Result<Given, Fail> {
+    match order {
+        Order::Key(asked) => {
+            if is_allowed_size(asked.algorithm, asked.size) {
+                return Ok(Given::Made(ScriptedKeys.make(alloc, asked)?));
+            }
+            Err(Fail::from("no size"))
+        }
+        Order::Csr(asked) => Ok(Given::Signed(ScriptedKeys.sign(alloc, asked)?)),
+        Order::Sign(asked) => Ok(Given::Answered(ScriptedSigner.sign(alloc, asked)?)),
+        Order::Judge(asked) => Ok(Given::Judged(judge(alloc, asked.copy()?)?)),
+    }
+}
+
+/// The same; the question is let go behind it.
+pub(crate) fn value_then(alloc: Global, order: Order) -> Result<Given, Fail> {
+    let value = value_of(alloc, &order);
+    let_go(order);
+    value
+}
+
+/// Whether the move was made; the answer is let go behind it.
+pub(crate) fn is_done(answer: Stepped) -> bool {
+    let is_done = answer.is_done();
+    let_go(answer);
+    is_done
+}
