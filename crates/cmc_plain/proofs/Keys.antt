@@ -1,5 +1,5 @@
 -- A search over keys, in their order.
-use Rattle.std.proofs.Common.{◌≡◌, List, [], ◌∷◌, Some, Bool, true, false, refl, subst, ap, ◌∙◌, Less}
+use Rattle.std.proofs.Common.{◌≡◌, List, [], ◌∷◌, Some, None, Bool, true, false, refl, subst, ap, ◌∙◌, Less}
 use Rattle.std.proofs.lemmas.Bool.Decides.{same_from_decides}
 use Rattle.std.proofs.lemmas.Map.Keys.{sorted_head, sorted_tail}
 use Rattle.std.specs.Prelude.{◌↔◌, ◌||◌, IsTrue}
@@ -18,8 +18,9 @@ use Rattle.cmc_model.specs.Histories.{Setting}
 use Rattle.cmc_model.proofs.Keys.{key_cmp-total, key_cmp-IsAntisymmetric}
 use Rattle.cmc_objects.specs.Watching.{kind_of_work}
 use Rattle.cmc_world.proofs.Rest.{key_eq-Decides}
-use Rattle.cmc_plain.specs.Plain.{IsQuiet, Fits}
-use Rattle.cmc_plain.specs.Searches.{FindsKey}
+use Rattle.cmc_world.specs.Quiet.{IsQuiet}
+use Rattle.cmc_plain.specs.Plain.{Fits}
+use Rattle.cmc_plain.specs.Searches.{FindsFirst}
 
 pub tied_is_same : (a b : Key) → is_eq (key_cmp a b) ≡ true → a ≡ b
 tied_is_same a b e = key_cmp-IsAntisymmetric a b ((Equal-is (key_cmp a b)).0 e)
@@ -31,32 +32,32 @@ tied-Decides a b = (tied_is_same a b, λ same. subst (λ (k : Key). is_eq (key_c
 pub one_test : (a b : Key) → is_at (key_cmp a) b ≡ key_eq a b
 one_test a b = same_from_decides _ _ (tied-Decides a b) (key_eq-Decides a b)
 
--- the keys that are left to look at, after keys that do not fit
-pub record KeysLeft (s : Setting) (h : List Entry) (role : Role) (rest : List Key) : Type 0 where
+-- the keys that are left to look at, after keys of which it is not so
+pub record KeysLeft (P : Key → Type 0) (rest : List Key) : Type 0 where
   pub ordered : IsStrictlySortedBy key_cmp rest
-  pub left : (k : Key) → Fits s h role k → list_any (is_at (key_cmp k)) rest ≡ true
+  pub left : (k : Key) → P k → list_any (is_at (key_cmp k)) rest ≡ true
 
 among : (b : Bool) (s : Setting) (h : List Entry) (role : Role) (k : Key) → (b ≡ false → IsQuiet s h role k) → Fits s h role k → b ≡ true
 among true s h role k other f = refl
 among false s h role k other f = absurd (f.worth (other refl))
 
 -- a key that fits is not quiet, and so one of them
-pub all_keys_left : (s : Setting) (h : List Entry) (role : Role) (keys : BTreeSet Key) → IsStrictlySortedBy key_cmp keys.keys
-    → ((k : Key) → k.kind ≡ kind_of_work role → contains key_cmp keys k ≡ false → IsQuiet s h role k) → KeysLeft s h role keys.keys
-all_keys_left s h role keys ordered others = record {
+pub all_keys_left : (P : Key → Type 0) (s : Setting) (h : List Entry) (role : Role) (keys : BTreeSet Key) → ((k : Key) → P k → Fits s h role k) → IsStrictlySortedBy key_cmp keys.keys
+    → ((k : Key) → k.kind ≡ kind_of_work role → contains key_cmp keys k ≡ false → IsQuiet s h role k) → KeysLeft P keys.keys
+all_keys_left P s h role keys fit ordered others = record {
   ordered = ordered;
-  left = λ k f. among (contains key_cmp keys k) s h role k (others k f.may.work) f;
+  left = λ k is. let f = fit k is in among (contains key_cmp keys k) s h role k (others k f.may.work) f;
 }
 
 left_beyond : (b : Bool) (k key : Key) (rest : List Key) → is_eq (key_cmp k key) ≡ b → (k ≡ key → ⊥) → (b || list_any (is_at (key_cmp k)) rest) ≡ true → list_any (is_at (key_cmp k)) rest ≡ true
 left_beyond true k key rest e apart any = absurd (apart (tied_is_same k key e))
 left_beyond false k key rest e apart any = any
 
--- one more does not fit
-pub fewer_keys_left : (s : Setting) (h : List Entry) (role : Role) (key : Key) (rest : List Key) (b : Bool) → (IsTrue b ↔ Fits s h role key) → b ≡ false → KeysLeft s h role (key ∷ rest) → KeysLeft s h role rest
-fewer_keys_left s h role key rest b fits off l = record {
+-- of one more it is not so
+pub fewer_keys_left : (P : Key → Type 0) (key : Key) (rest : List Key) (b : Bool) → (IsTrue b ↔ P key) → b ≡ false → KeysLeft P (key ∷ rest) → KeysLeft P rest
+fewer_keys_left P key rest b is off l = record {
   ordered = sorted_tail key_cmp key rest l.ordered;
-  left = λ k f. left_beyond (is_eq (key_cmp k key)) k key rest refl (λ same. let on = fits.1 (subst (Fits s h role) same f) in absurd (cc (on, off))) (l.left k f);
+  left = λ k f. left_beyond (is_eq (key_cmp k key)) k key rest refl (λ same. let on = is.1 (subst P same f) in absurd (cc (on, off))) (l.left k f);
 }
 
 none_at : (k key : Key) (rest : List Key) → key_cmp k key ≡ Less → AllByRecursion (λ y. key_cmp key y ≡ Less) rest → list_any (is_at (key_cmp k)) rest ≡ false
@@ -64,12 +65,16 @@ none_at k key [] low above = refl
 none_at k key (y ∷ rest) low above =
     ap (λ r. is_eq r || list_any (is_at (key_cmp k)) rest) (key_cmp-total.trans k key y low above.0) ∙ none_at k key rest low above.1
 
--- the first one that fits
-pub key_found : (s : Setting) (h : List Entry) (role : Role) (key : Key) (rest : List Key) → Fits s h role key → KeysLeft s h role (key ∷ rest) → FindsKey s h role (Some key)
-key_found s h role key rest fits l = (fits, below) where
-  below : (k : Key) → key_cmp k key ≡ Less → Fits s h role k → ⊥
+-- the first one of which it is so
+pub key_found : (P : Key → Type 0) (key : Key) (rest : List Key) → P key → KeysLeft P (key ∷ rest) → FindsFirst P (Some key)
+key_found P key rest is l = (is, below) where
+  below : (k : Key) → key_cmp k key ≡ Less → P k → ⊥
   below k low f =
       let some : (is_eq (key_cmp k key) || list_any (is_at (key_cmp k)) rest) ≡ true = l.left k f in
       let none : (is_eq (key_cmp k key) || list_any (is_at (key_cmp k)) rest) ≡ false =
       ap (λ r. is_eq r || list_any (is_at (key_cmp k)) rest) low ∙ none_at k key rest low (sorted_head key_cmp key rest l.ordered) in
       absurd (cc (some, none))
+
+-- there is none
+pub none_found : (P : Key → Type 0) → KeysLeft P [] → FindsFirst P None
+none_found P l = λ k is. let some = l.left k is in absurd (cc some)

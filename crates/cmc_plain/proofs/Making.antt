@@ -30,7 +30,7 @@ use Rattle.cmc_world.specs.declared.moves.Lack.TheVariants.{ScriptOver, ScriptWa
 use Rattle.cmc_world.specs.Answers.{Need, Bar, BarOf, Fits as HasRoom, outdated, entries_of, next_effect, kept_of, new_of, next_answer, asked_once, value_entry, AnswersScript, AnswersDelivery, AnswersBegin, AnswersOpen, AnswersGoing, AnswersGiven, Answers, Leaves}
 use Rattle.cmc_world.proofs.Leading.{new_may}
 use Rattle.cmc_world.proofs.Rest.{same_kind}
-use Rattle.cmc_plain.specs.Plain.{IsStepReady, IsBehind, IsOfPresent, MayBegin, IsChosen}
+use Rattle.cmc_plain.specs.Plain.{IsStepReady, IsBehind, IsOfPresent, Fits, IsChosen}
 use Rattle.cmc_plain.specs.Driving.{IsNextWith, IsMadeFor, goes_on}
 use Rattle.cmc_plain.specs.Histories.{GrowsPlainly, entries_for}
 use Rattle.cmc_plain.specs.Searches.{IsAccepted}
@@ -95,10 +95,11 @@ delivery_made s h role kind answer c a =
     (clear (NotNow (Current (position h role kind))) answer (λ le. absurd (omega (arith, above, le)))
     (met (NotNow Held) answer c.free (met (NotNow NoInformer) answer c.informed (met (NotNow Stopped) answer c.running a)))))
 
-begin_made : (s : Setting) (h : List Entry) (role : Role) (key : Key) (answer : Stepped) → MayBegin s h role key → AnswersBegin s h role key answer → IsMade s h 1 answer
-begin_made s h role key answer m a =
+begin_made : (s : Setting) (h : List Entry) (role : Role) (key : Key) (answer : Stepped) → Fits s h role key → AnswersBegin s h role key answer → IsMade s h 1 answer
+begin_made s h role key answer f a =
+    let m = f.may in
     fitted s h 1 answer
-    (met (NotNow NotQueued) answer (m.work, m.known)
+    (met (NotNow NotQueued) answer (record { work = m.work; known = m.known; worth = f.worth })
     (clear (NotNow SameViews) answer m.due.other
     (clear_of _ (λ version. NotNow (OwnWrite version)) answer m.due.told (clear (NotNow InProcess) answer m.idle (met (NotNow Stopped) answer m.running a)))))
 
@@ -188,7 +189,7 @@ chosen_comes s h Script step answer k present c is run a left = other_comes s h 
 chosen_comes s h (Next n named) step answer k present c is run a left = phase_comes s h n named (kept_of (open_pass s h n)) step answer k refl present c.2 is run a left
 chosen_comes s h (Deliver role kind to) step answer k present c is run a left =
     other_comes s h (Deliver role kind to) step answer k (λ grown. grown) is (λ asks. delivery_made s h role kind answer c.2.behind (subst (λ (m : ℕ). AnswersDelivery s h role kind m answer) c.3 asks)) a left
-chosen_comes s h (Begin role key) step answer k present c is run a left = other_comes s h (Begin role key) step answer k (λ grown. grown) is (begin_made s h role key answer c.3.fits.may) a left
+chosen_comes s h (Begin role key) step answer k present c is run a left = other_comes s h (Begin role key) step answer k (λ grown. grown) is (begin_made s h role key answer c.3.fits) a left
 chosen_comes s h (Give n named given) step answer k present c is run a left = absurd c
 chosen_comes s h (Decide n named d) step answer k present c is run a left = absurd c
 

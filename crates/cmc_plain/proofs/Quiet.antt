@@ -47,7 +47,8 @@ use Rattle.cmc_world.proofs.Newest.{IsToldOfAll, views_newest}
 use Rattle.cmc_world.proofs.Rest.{same_key}
 use Rattle.cmc_world.proofs.Sounds.{any_desk}
 use Rattle.cmc_world.proofs.Standings.{same_role}
-use Rattle.cmc_plain.specs.Plain.{IsQuiet, Fits, seen_last}
+use Rattle.cmc_world.specs.Quiet.{IsQuiet, seen_last}
+use Rattle.cmc_plain.specs.Plain.{Fits}
 use Rattle.cmc_plain.specs.Ready.{is_ready, Keeps, HasKnown, Covers, WakesAll, SeesSame, WakesTold, Wakes}
 use Rattle.cmc_plain.proofs.Remembering.{last_called}
 use Rattle.cmc_plain.proofs.Unknown.{unknown_quiet}
@@ -148,7 +149,7 @@ told_at true s h role kind to key same = ap (told_views s h role kind to key) (s
 told_at false s h role kind to key same = refl
 
 -- what one role is told of no other sees
-sees_told : (s : Setting) (h : List Entry) (who role : Role) (kind : Kind) (to : ℕ) (key : Key) → (role_eq who role ≡ true → SeesSame s h role kind to key)
+pub sees_told : (s : Setting) (h : List Entry) (who role : Role) (kind : Kind) (to : ℕ) (key : Key) → (role_eq who role ≡ true → SeesSame s h role kind to key)
     → views s (Deliver who kind to ∷ h) role key ≡ views s h role key
 sees_told s h who role kind to key same = told_at (role_eq who role) s h role kind to key same
 

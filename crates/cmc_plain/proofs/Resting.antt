@@ -26,7 +26,8 @@ use Rattle.cmc_world.proofs.Newest.{IsToldOfAll}
 use Rattle.cmc_world.proofs.Rest.{each_kind, same_kind}
 use Rattle.cmc_plain.specs.declared.passes.Going.{Going}
 use Rattle.cmc_plain.specs.declared.deliveries.Delivery.{Delivery}
-use Rattle.cmc_plain.specs.Plain.{IsQuiet, IsStepReady, HasNoPass, HasNoDelivery, IsBehind}
+use Rattle.cmc_world.specs.Quiet.{IsQuiet}
+use Rattle.cmc_plain.specs.Plain.{IsStepReady, HasNoPass, HasNoDelivery, IsBehind}
 use Rattle.cmc_plain.specs.Searches.{FindsPass, FindsDelivery, RestsWhereRunning}
 use Rattle.cmc_plain.proofs.Finishing.{closed, told, none_held, idle_elsewhere}
 use Rattle.cmc_plain.proofs.Keys.{tied_is_same}
@@ -40,7 +41,7 @@ abbrev pub RestsBut : Setting → List Entry → Role → List Key → Type 0
 RestsBut s h role rest = (k : Key) → k.kind ≡ kind_of_work role → list_any (is_at (key_cmp k)) rest ≡ false → RestsOn s h role k
 
 -- a role without a held informer was told of all
-told_free : (s : Setting) (h : List Entry) (role : Role) → EachKind (IsToldAll s h role) → has_held s h role ≡ false → IsToldOfAll s h role
+pub told_free : (s : Setting) (h : List Entry) (role : Role) → EachKind (IsToldAll s h role) → has_held s h role ≡ false → IsToldOfAll s h role
 told_free s h role all none kind informed = (each_kind (IsToldAll s h role)).0 all kind informed (none_held s h role none kind)
 
 pub rests_beside : (s : Setting) (h : List Entry) (role : Role) (keys : BTreeSet Key) → IsLegal s h → EachKind (IsToldAll s h role)

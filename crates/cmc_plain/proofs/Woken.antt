@@ -31,7 +31,7 @@ use Rattle.cmc_world.specs.declared.moves.Move.{Move}
 use Rattle.cmc_world.specs.declared.moves.Stepped.{Stepped}
 use Rattle.cmc_world.proofs.Rest.{same_key}
 use Rattle.cmc_world.proofs.Standings.{same_role}
-use Rattle.cmc_plain.specs.Plain.{IsQuiet}
+use Rattle.cmc_world.specs.Quiet.{IsQuiet}
 use Rattle.cmc_plain.specs.Ready.{is_ready, Keeps, HasKnown, HasAllKnown, Covers, is_alarm, WakesAll, Wakes}
 use Rattle.cmc_plain.specs.Searches.{EachBefore}
 use Rattle.cmc_plain.proofs.Ordering.{rank_low}

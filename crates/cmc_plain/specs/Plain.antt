@@ -7,8 +7,6 @@ use Rattle.cmc_meta.specs.Keys.{key_cmp, kind_rank}
 use Rattle.cmc_objects.specs.declared.role.Role.{Role}
 use Rattle.cmc_objects.specs.declared.entry.Entry.{Entry}
 use Rattle.cmc_objects.specs.Roles.{role_rank}
-use Rattle.cmc_pass.specs.declared.pass.Views.{Views}
-use Rattle.cmc_rules.specs.declared.progress.LastPass.{LastPass}
 use Rattle.cmc_rules.specs.declared.progress.OpenPass.{OpenPass}
 use Rattle.cmc_model.specs.Histories.{Setting, runs, moment, incarnation}
 use Rattle.cmc_model.specs.Writes.{writes, last_of_kind, is_known}
@@ -20,9 +18,9 @@ use Rattle.cmc_rules.specs.Memory.{past}
 use Rattle.cmc_rules.specs.Sameness.{IsDue}
 use Rattle.cmc_rules.specs.Legality.{IsOpen}
 use Rattle.cmc_rules.specs.Scripting.{scripted, step_at, held}
-use Rattle.cmc_rules.specs.Resting.{IsIdle}
 use Rattle.cmc_rules.specs.Following.{IsReady}
 use Rattle.cmc_rules.specs.Runs.{IsFinished}
+use Rattle.cmc_world.specs.Quiet.{IsQuiet}
 use Rattle.cmc_world.specs.declared.moves.Move.{Move}
 use Rattle.cmc_world.specs.declared.moves.Move.TheVariants.{Script, Deliver, Begin, Next, Give, Decide}
 
@@ -63,19 +61,6 @@ pub record IsFirstDelivery (s : Setting) (h : List Entry) (role : Role) (kind : 
   pub first : (r : Role) (k : Kind) → IsBefore (role_rank r) (kind_rank k) (role_rank role) (kind_rank kind) → IsBehind s h r k → ⊥
 
 -- ---- begins
-
--- views of no object
-abbrev pub no_views : Views
-no_views = record { certificate = None; secret = None; next = []; requests = []; request = None }
-
-abbrev pub seen_last : Option LastPass → Views
-seen_last None = no_views
-seen_last (Some last) = last.seen
-
--- the role has nothing to do on the key, and sees what it saw as it last began a pass on it
-pub record IsQuiet (s : Setting) (h : List Entry) (role : Role) (key : Key) : Type 0 where
-  pub idle : IsIdle s h role (views s h role key)
-  pub same : views s h role key ≡ seen_last (past s h role key).last
 
 -- a pass of the role on the key may begin: it runs, works on the key in no pass, is due, and the key is one of its work that an accepted write named
 pub record MayBegin (s : Setting) (h : List Entry) (role : Role) (key : Key) : Type 0 where

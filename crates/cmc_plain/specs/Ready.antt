@@ -15,11 +15,12 @@ use Rattle.cmc_model.specs.Writes.{writes, is_known, last_of_kind}
 use Rattle.cmc_rules.specs.declared.effect.Effect.{Effect}
 use Rattle.cmc_rules.specs.declared.effect.Effect.TheVariants as effects
 use Rattle.cmc_objects.specs.Watching.{has_informer, kind_of_work}
+use Rattle.cmc_rules.specs.Resting.{IsIdle}
 use Rattle.cmc_rules.specs.Viewing.{views}
 use Rattle.cmc_world.specs.Answers.{next_effect}
 use Rattle.cmc_world.specs.declared.moves.Move.{Move}
 use Rattle.cmc_world.specs.declared.moves.Move.TheVariants as moves
-use Rattle.cmc_plain.specs.Plain.{IsQuiet}
+use Rattle.cmc_world.specs.Quiet.{IsQuiet}
 
 -- ---- sets of keys, one a role
 
@@ -48,6 +49,10 @@ HasAllKnown s h rows = (role : Role) → HasKnown s h role rows
 abbrev pub Covers : Setting → List Entry → List (BTreeSet Key) → Type 0
 Covers s h rows = (role : Role) (key : Key) → key.kind ≡ kind_of_work role → is_ready rows role key ≡ false → IsQuiet s h role key
 
+-- on each of these keys the role has nothing to do by what it sees
+abbrev pub Idles : Setting → List Entry → List (BTreeSet Key) → Type 0
+Idles s h rows = (role : Role) (key : Key) → is_ready rows role key ≡ true → IsIdle s h role (views s h role key)
+
 -- ---- what a move may wake
 
 -- at another moment, and for a role that starts, there may be something to do on any key
@@ -75,6 +80,12 @@ abbrev pub Wakes : Setting → List Entry → Move → List (BTreeSet Key) → T
 Wakes s h moves.Script rows = WakesAll s h (next_effect s h) rows
 Wakes s h (moves.Deliver role kind to) rows = WakesTold s h role kind to rows
 Wakes s h other rows = Unit {0}
+
+-- none is left of a role that the move may give something to do
+abbrev pub Forgets : Move → List (BTreeSet Key) → Type 0
+Forgets moves.Script rows = (role : Role) (key : Key) → is_ready rows role key ≡ false
+Forgets (moves.Deliver role kind to) rows = (key : Key) → is_ready rows role key ≡ false
+Forgets other rows = Unit {0}
 
 -- a role is told of all writes of a kind that it looks at
 abbrev pub IsToNewest : Setting → List Entry → Move → Type 0

@@ -62,6 +62,16 @@ pub record IsFree (s : Setting) (h : List Entry) (role : Role) (key : Key) : Typ
 abbrev pub FitsSome : Setting → List Entry → Role → Type 0
 FitsSome s h role = (key : Key) × Fits s h role key
 
+-- the first key of which it is so
+abbrev pub FindsFirst : (Key → Type 0) → Option Key → Type 0
+FindsFirst P None = (key : Key) → P key → ⊥
+FindsFirst P (Some key) = P key × ((k : Key) → key_cmp k key ≡ Less → P k → ⊥)
+
+-- the key fits the role, and stands above this one
+pub record FitsAbove (s : Setting) (h : List Entry) (role : Role) (below : Key) (key : Key) : Type 0 where
+  pub above : key_cmp below key ≡ Less
+  pub fits : Fits s h role key
+
 -- the first key that fits the role
 abbrev pub FindsKey : Setting → List Entry → Role → Option Key → Type 0
 FindsKey s h role None = FitsSome s h role → ⊥

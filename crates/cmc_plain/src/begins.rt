@@ -1,5 +1,4 @@
 //! The first begin that is worth it.
-ghost use Rattle.std.specs.Option.{option_copied};
 ghost use Rattle.std.specs.Prelude.{◌≡◌, ◌↔◌, ℕ, None, IsTrue, IfOk, true, false};
 ghost use Rattle.std.specs.BTreeSet.{contains};
 ghost use Rattle.cmc_meta.specs.declared.key.Key.{Key as KeyValue};
@@ -9,12 +8,12 @@ ghost use Rattle.cmc_rules.specs.Memory.{past};
 ghost use Rattle.cmc_rules.specs.Positions.{positions};
 ghost use Rattle.cmc_rules.specs.Sameness as sameness;
 ghost use Rattle.cmc_rules.specs.Viewing.{views};
-ghost use Rattle.cmc_held.specs.Remembered.{past_or_new};
 ghost use Rattle.cmc_world.specs.Kept.{setting_of};
+ghost use Rattle.cmc_world.specs.Quiet.{IsQuiet};
 ghost use Rattle.cmc_objects.specs.Watching.{kind_of_work};
 ghost use Rattle.cmc_plain.specs.Plain as spec;
-ghost use Rattle.cmc_plain.specs.Ready.{Covers};
-ghost use Rattle.cmc_plain.specs.Searches.{FindsBegin, FindsKey, IsFree};
+ghost use Rattle.cmc_plain.specs.Ready.{Covers, Idles};
+ghost use Rattle.cmc_plain.specs.Searches.{FindsBegin, FindsFirst, FindsKey, FitsAbove, IsFree};
 
 use crate::ready::Ready;
 use crate::roles::role_in;
@@ -22,7 +21,6 @@ use cmc_held::own_above;
 use cmc_meta::Key;
 use cmc_objects::{Role, kind_of_work};
 use cmc_pass::Views;
-use cmc_rules::{LastPass, Past};
 use cmc_world::World;
 use std::alloc::{AllocError, Global};
 use std::collections::BTreeSet;
@@ -41,33 +39,6 @@ fn is_free(world: &World, role: Role, key: &Key) -> bool
     key.kind.same(kind_of_work(role)) && !world.passes().is_on(role, key)
 }
 
-/// Whether this is no object.
-fn is_nothing(alloc: Global, seen: &Views) -> bool
-    ensures { IsTrue result ↔ (seen.now ≡ spec.no_views) }
-{
-    seen.same(&Views::new(alloc))
-}
-
-/// Whether a last pass saw this; where there was none, whether this is no object.
-fn saw(alloc: Global, last: &Option<LastPass>, seen: &Views) -> bool
-    ensures { IsTrue result ↔ (seen.now ≡ spec.seen_last last.now) }
-{
-    match last {
-        Some(last) => seen.same(&last.seen),
-        None => is_nothing(alloc, seen),
-    }
-}
-
-/// Whether the role saw this as it last began on the key.
-fn saw_last(alloc: Global, before: Option<&Past>, seen: &Views) -> bool
-    ensures { IsTrue result ↔ (seen.now ≡ spec.seen_last (past_or_new (option_copied before.entry)).last) }
-{
-    match before {
-        Some(past) => saw(alloc, &past.last, seen),
-        None => is_nothing(alloc, seen),
-    }
-}
-
 /// Whether the role, which sees this of the key, has nothing to do there and sees what it saw as it last began.
 fn is_quiet_seen(
     alloc: Global,
@@ -75,13 +46,18 @@ fn is_quiet_seen(
     role: Role,
     key: &Key,
     seen: &Views,
+    idle: &Ready,
 ) -> Result<bool, AllocError>
-    requires { seen.now ≡ views (setting_of world.now.scenario) world.now.history role key.now }
-    ensures { IfOk result (λ b. IsTrue b ↔ spec.IsQuiet (setting_of world.now.scenario) world.now.history role key.now) }
+    requires idles { Idles (setting_of world.now.scenario) world.now.history idle.now }
+    requires sees { seen.now ≡ views (setting_of world.now.scenario) world.now.history role key.now }
+    ensures { IfOk result (λ b. IsTrue b ↔ IsQuiet (setting_of world.now.scenario) world.now.history role key.now) }
 {
-    world.can_act();
-    if !saw_last(alloc, world.past(role, key), seen) {
+    if !world.saw_last(alloc, role, key, seen) {
         return Ok(false);
+    }
+    world.can_act();
+    if idle.keys(role).contains(key) {
+        return Ok(true);
     }
     world.is_idle(alloc, role, seen)
 }
@@ -96,11 +72,13 @@ pub(crate) fn is_quiet(
     world: &World,
     role: Role,
     key: &Key,
+    idle: &Ready,
 ) -> Result<bool, AllocError>
-    ensures { IfOk result (λ b. IsTrue b ↔ spec.IsQuiet (setting_of world.now.scenario) world.now.history role key.now) }
+    requires { Idles (setting_of world.now.scenario) world.now.history idle.now }
+    ensures { IfOk result (λ b. IsTrue b ↔ IsQuiet (setting_of world.now.scenario) world.now.history role key.now) }
 {
     let seen = world.views(alloc, role, key)?;
-    is_quiet_seen(alloc, world, role, key, &seen)
+    is_quiet_seen(alloc, world, role, key, &seen, idle)
 }
 
 /// Whether the key fits the role, which runs, sees it so and works on it in no pass.
@@ -110,7 +88,9 @@ fn fits_seen(
     role: Role,
     key: &Key,
     seen: &Views,
+    idle: &Ready,
 ) -> Result<bool, AllocError>
+    requires idles { Idles (setting_of world.now.scenario) world.now.history idle.now }
     requires sees { seen.now ≡ views (setting_of world.now.scenario) world.now.history role key.now }
     requires running { histories.runs (setting_of world.now.scenario) world.now.history role ≡ true }
     requires free { IsFree (setting_of world.now.scenario) world.now.history role key.now }
@@ -120,7 +100,7 @@ fn fits_seen(
     if !world.is_due(role, key, seen) {
         return Ok(false);
     }
-    let quiet = is_quiet_seen(alloc, world, role, key, seen)?;
+    let quiet = is_quiet_seen(alloc, world, role, key, seen, idle)?;
     Ok(!quiet)
 }
 
@@ -136,7 +116,14 @@ fn knows_own(world: &World, role: Role, key: &Key) -> bool
 }
 
 /// Whether the key fits the role, which runs.
-fn fits(alloc: Global, world: &World, role: Role, key: &Key) -> Result<bool, AllocError>
+fn fits(
+    alloc: Global,
+    world: &World,
+    role: Role,
+    key: &Key,
+    idle: &Ready,
+) -> Result<bool, AllocError>
+    requires idles { Idles (setting_of world.now.scenario) world.now.history idle.now }
     requires running { histories.runs (setting_of world.now.scenario) world.now.history role ≡ true }
     ensures { IfOk result (λ b. IsTrue b ↔ spec.Fits (setting_of world.now.scenario) world.now.history role key.now) }
 {
@@ -147,7 +134,7 @@ fn fits(alloc: Global, world: &World, role: Role, key: &Key) -> Result<bool, All
         return Ok(false);
     }
     let seen = world.views(alloc, role, key)?;
-    fits_seen(alloc, world, role, key, &seen)
+    fits_seen(alloc, world, role, key, &seen, idle)
 }
 
 /// The first of the keys that fits the role, which runs. Every key of its work beside them is quiet.
@@ -156,17 +143,83 @@ fn first_among(
     world: &World,
     role: Role,
     keys: &BTreeSet<Key>,
+    idle: &Ready,
 ) -> Result<Option<Key>, AllocError>
+    requires idles { Idles (setting_of world.now.scenario) world.now.history idle.now }
     requires running { histories.runs (setting_of world.now.scenario) world.now.history role ≡ true }
-    requires others { (k : KeyValue) → k.kind ≡ kind_of_work role → contains key_cmp keys.now k ≡ false → spec.IsQuiet (setting_of world.now.scenario) world.now.history role k }
+    requires others { (k : KeyValue) → k.kind ≡ kind_of_work role → contains key_cmp keys.now k ≡ false → IsQuiet (setting_of world.now.scenario) world.now.history role k }
     ensures { IfOk result (λ k. FindsKey (setting_of world.now.scenario) world.now.history role k) }
 {
     for key in keys.iter() {
-        if fits(alloc, world, role, key)? {
+        if fits(alloc, world, role, key, idle)? {
             return Ok(Some(key.copy()?));
         }
     }
     Ok(None)
+}
+
+/// Whether the key fits the role, which runs, and stands above this one.
+fn fits_above(
+    alloc: Global,
+    world: &World,
+    role: Role,
+    below: &Key,
+    key: &Key,
+    idle: &Ready,
+) -> Result<bool, AllocError>
+    requires idles { Idles (setting_of world.now.scenario) world.now.history idle.now }
+    requires running { histories.runs (setting_of world.now.scenario) world.now.history role ≡ true }
+    ensures { IfOk result (λ b. IsTrue b ↔ FitsAbove (setting_of world.now.scenario) world.now.history role below.now key.now) }
+{
+    if *below < *key {
+        return fits(alloc, world, role, key, idle);
+    }
+    Ok(false)
+}
+
+/// The first of the keys above this one that fits the role, which runs. Every key of its work beside them is quiet.
+fn next_among(
+    alloc: Global,
+    world: &World,
+    role: Role,
+    below: &Key,
+    keys: &BTreeSet<Key>,
+    idle: &Ready,
+) -> Result<Option<Key>, AllocError>
+    requires idles { Idles (setting_of world.now.scenario) world.now.history idle.now }
+    requires running { histories.runs (setting_of world.now.scenario) world.now.history role ≡ true }
+    requires others { (k : KeyValue) → k.kind ≡ kind_of_work role → contains key_cmp keys.now k ≡ false → IsQuiet (setting_of world.now.scenario) world.now.history role k }
+    ensures { IfOk result (λ k. FindsFirst (FitsAbove (setting_of world.now.scenario) world.now.history role below.now) k) }
+{
+    for key in keys.iter() {
+        if fits_above(alloc, world, role, below, key, idle)? {
+            return Ok(Some(key.copy()?));
+        }
+    }
+    Ok(None)
+}
+
+/// The first of the keys above this one that are ready for the role, and fit it.
+///
+/// # Errors
+///
+/// Want of memory alone.
+pub(crate) fn key_above(
+    alloc: Global,
+    world: &World,
+    role: Role,
+    below: &Key,
+    ready: &Ready,
+    idle: &Ready,
+) -> Result<Option<Key>, AllocError>
+    requires idles { Idles (setting_of world.now.scenario) world.now.history idle.now }
+    requires covers { Covers (setting_of world.now.scenario) world.now.history ready.now }
+    ensures { IfOk result (λ k. FindsFirst (FitsAbove (setting_of world.now.scenario) world.now.history role below.now) k) }
+{
+    if !world.runs(role) {
+        return Ok(None);
+    }
+    next_among(alloc, world, role, below, ready.keys(role), idle)
 }
 
 /// The first of the keys that are ready for the role, and fit it.
@@ -175,14 +228,16 @@ fn first_key(
     world: &World,
     role: Role,
     ready: &Ready,
+    idle: &Ready,
 ) -> Result<Option<Key>, AllocError>
-    requires { Covers (setting_of world.now.scenario) world.now.history ready.now }
+    requires idles { Idles (setting_of world.now.scenario) world.now.history idle.now }
+    requires covers { Covers (setting_of world.now.scenario) world.now.history ready.now }
     ensures { IfOk result (λ k. FindsKey (setting_of world.now.scenario) world.now.history role k) }
 {
     if !world.runs(role) {
         return Ok(None);
     }
-    first_among(alloc, world, role, ready.keys(role))
+    first_among(alloc, world, role, ready.keys(role), idle)
 }
 
 /// The first role that a key fits, with the first such key; `None` exactly where there is none.
@@ -194,13 +249,15 @@ pub(crate) fn first_begin(
     alloc: Global,
     world: &World,
     ready: &Ready,
+    idle: &Ready,
 ) -> Result<Option<Beginning>, AllocError>
-    requires { Covers (setting_of world.now.scenario) world.now.history ready.now }
+    requires idles { Idles (setting_of world.now.scenario) world.now.history idle.now }
+    requires covers { Covers (setting_of world.now.scenario) world.now.history ready.now }
     ensures { IfOk result (λ b. FindsBegin (setting_of world.now.scenario) world.now.history b) }
 {
     for place in 0..8 {
         let role = role_in(place);
-        if let Some(key) = first_key(alloc, world, role, ready)? {
+        if let Some(key) = first_key(alloc, world, role, ready, idle)? {
             return Ok(Some(Beginning { role, key }));
         }
     }

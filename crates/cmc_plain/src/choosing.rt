@@ -2,7 +2,7 @@
 ghost use Rattle.std.specs.Prelude.{IfOk};
 ghost use Rattle.cmc_world.specs.Kept.{setting_of};
 ghost use Rattle.cmc_plain.specs.Plain.{IsPlainMove};
-ghost use Rattle.cmc_plain.specs.Ready.{Covers};
+ghost use Rattle.cmc_plain.specs.Ready.{Covers, Idles};
 ghost use Rattle.cmc_plain.specs.Searches.{FindsMove};
 
 use crate::begins::{Beginning, first_begin};
@@ -15,11 +15,18 @@ use cmc_world::{Move, World};
 use std::alloc::{AllocError, Global};
 
 /// The first move that is possible, and a begin only where it is worth it.
-fn first_move(alloc: Global, world: &World, ready: &Ready) -> Result<Option<Move>, AllocError>
-    requires { Covers (setting_of world.now.scenario) world.now.history ready.now }
-    ensures { IfOk result (λ m. FindsMove (setting_of world.now.scenario) world.now.history m) }
+fn first_move(
+    alloc: Global,
+    world: &World,
+    ready: &Ready,
+    idle: &mut Ready,
+) -> Result<Option<Move>, AllocError>
+    requires covers { Covers (setting_of world.now.scenario) world.now.history ready.now }
+    requires before { Idles (setting_of world.now.scenario) world.now.history idle.old }
+    ensures finds { IfOk result (λ m. FindsMove (setting_of world.now.scenario) world.now.history m) }
+    ensures after { Idles (setting_of world.now.scenario) world.now.history idle.new }
 {
-    if is_step_ready(alloc, world, ready)? {
+    if is_step_ready(alloc, world, ready, idle)? {
         return Ok(Some(Move::Script));
     }
     if let Some(going) = first_pass(world) {
@@ -35,7 +42,7 @@ fn first_move(alloc: Global, world: &World, ready: &Ready) -> Result<Option<Move
             to: world.log().last_of_kind(delivery.kind),
         }));
     }
-    match first_begin(alloc, world, ready)? {
+    match first_begin(alloc, world, ready, idle)? {
         Some(Beginning { role, key }) => Ok(Some(Move::Begin { role, key })),
         None => Ok(None),
     }
@@ -50,14 +57,17 @@ pub(crate) fn plain_by(
     alloc: Global,
     world: &World,
     ready: &Ready,
+    idle: &mut Ready,
 ) -> Result<Option<Move>, AllocError>
-    requires { Covers (setting_of world.now.scenario) world.now.history ready.now }
-    ensures { IfOk result (λ m. IsPlainMove (setting_of world.now.scenario) world.now.history m) }
+    requires covers { Covers (setting_of world.now.scenario) world.now.history ready.now }
+    requires before { Idles (setting_of world.now.scenario) world.now.history idle.old }
+    ensures after { Idles (setting_of world.now.scenario) world.now.history idle.new }
+    ensures plain { IfOk result (λ m. IsPlainMove (setting_of world.now.scenario) world.now.history m) }
 {
-    if is_finished(alloc, world, ready)? {
+    if is_finished(alloc, world, ready, idle)? {
         return Ok(None);
     }
-    match first_move(alloc, world, ready)? {
+    match first_move(alloc, world, ready, idle)? {
         Some(step) => Ok(Some(step)),
         None => {
             world.is_run();
@@ -80,5 +90,6 @@ pub fn plain(alloc: Global, world: &World) -> Result<Option<Move>, AllocError>
     ensures { IfOk result (λ m. IsPlainMove (setting_of world.now.scenario) world.now.history m) }
 {
     let ready = all_ready(alloc, world)?;
-    plain_by(alloc, world, &ready)
+    let mut idle = Ready::new(alloc)?;
+    plain_by(alloc, world, &ready, &mut idle)
 }

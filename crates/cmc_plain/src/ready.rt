@@ -1,4 +1,4 @@
-//! The keys that each role has to look at.
+//! Sets of keys, one for each role: those at which it has to look, and those where it is known to have nothing to do.
 ghost use Rattle.std.specs.BTreeSet.{contains};
 ghost use Rattle.std.specs.Prelude.{◌≡◌, ◌&&◌, ◌||◌, IfOk, OnOk, OnErr, false, not};
 ghost use Rattle.cmc_meta.specs.declared.key.Key.{Key as KeyValue};
@@ -74,5 +74,13 @@ impl Ready {
         ensures { (r : RoleValue) → (k : KeyValue) → is_ready self.new r k ≡ (not (role_eq role r && key_eq key.now k) && is_ready self.old r k) }
     {
         self.rows[role.rank() as usize].remove(key);
+    }
+
+    /// Lets no key be ready for the role any more.
+    #[tactic(auto, unfolding(crate::specs::Ready::is_ready))]
+    pub(crate) fn clear(&mut self, role: Role)
+        ensures { (r : RoleValue) → (k : KeyValue) → is_ready self.new r k ≡ (not (role_eq role r) && is_ready self.old r k) }
+    {
+        self.rows[role.rank() as usize].clear();
     }
 }

@@ -17,9 +17,10 @@ ghost use Rattle.cmc_world.specs.declared.moves.Move.TheVariants as moves;
 ghost use Rattle.cmc_plain.specs.Next.{IsNextBegin, IsNextDelivery, IsNextScript};
 ghost use Rattle.cmc_plain.specs.Plain.{IsPlainMove};
 ghost use Rattle.cmc_plain.specs.Ready as spec;
-ghost use Rattle.cmc_plain.specs.Ready.{Covers, HasKnown, IsToNewest, Keeps, SeesSame, Wakes, WakesTold, is_ready};
+ghost use Rattle.cmc_plain.specs.Searches.{FindsFirst, FitsAbove};
+ghost use Rattle.cmc_plain.specs.Ready.{Covers, Forgets, HasKnown, Idles, IsToNewest, Keeps, SeesSame, Wakes, WakesTold, is_ready};
 
-use crate::begins::{Beginning, first_begin, is_quiet};
+use crate::begins::{Beginning, first_begin, is_quiet, key_above};
 use crate::choosing::plain_by;
 use crate::deliveries::{Delivery, first_delivery};
 use crate::ready::Ready;
@@ -49,17 +50,19 @@ pub struct Waking {
     world: World,
     ready: Ready,
     looks: Vec<Look>,
+    /// Keys on which the role is known to have nothing to do, by what it sees now.
+    idle: Ready,
 }
 
 impl Model for Waking {
     ghost use Rattle.cmc_world.specs.Kept.{Seen, setting_of};
-    ghost use Rattle.cmc_plain.specs.Ready.{Covers};
+    ghost use Rattle.cmc_plain.specs.Ready.{Covers, Idles};
 
     ghost Value = { Seen };
 
     ghost view = { λ w. w.world };
 
-    ghost invariant = { λ w. Covers (setting_of w.world.scenario) w.world.history w.ready };
+    ghost invariant = { λ w. Covers (setting_of w.world.scenario) w.world.history w.ready × Idles (setting_of w.world.scenario) w.world.history w.idle };
 }
 
 /// Makes the key ready for the role, and has it looked at.
@@ -242,11 +245,18 @@ fn wake_for(
 }
 
 /// Looks at the key: it is ready no more where it is quiet.
-fn look_at(alloc: Global, world: &World, ready: &mut Ready, look: &Look) -> Result<(), AllocError>
-    requires { Covers (setting_of world.now.scenario) world.now.history ready.old }
+fn look_at(
+    alloc: Global,
+    world: &World,
+    ready: &mut Ready,
+    look: &Look,
+    idle: &Ready,
+) -> Result<(), AllocError>
+    requires idles { Idles (setting_of world.now.scenario) world.now.history idle.now }
+    requires covers { Covers (setting_of world.now.scenario) world.now.history ready.old }
     ensures { Covers (setting_of world.now.scenario) world.now.history ready.new }
 {
-    if is_quiet(alloc, world, look.role, &look.key)? {
+    if is_quiet(alloc, world, look.role, &look.key, idle)? {
         ready.remove(look.role, &look.key);
     }
     Ok(())
@@ -258,16 +268,37 @@ fn look_at_all(
     world: &World,
     ready: &mut Ready,
     looks: &mut Vec<Look>,
+    idle: &Ready,
 ) -> Result<(), AllocError>
-    requires { Covers (setting_of world.now.scenario) world.now.history ready.old }
+    requires idles { Idles (setting_of world.now.scenario) world.now.history idle.now }
+    requires covers { Covers (setting_of world.now.scenario) world.now.history ready.old }
     ensures { Covers (setting_of world.now.scenario) world.now.history ready.new }
 {
     for _look in 0..looks.len() {
         if let Some(look) = looks.pop() {
-            look_at(alloc, world, ready, &look)?;
+            look_at(alloc, world, ready, &look, idle)?;
         }
     }
     Ok(())
+}
+
+/// What is known of idle keys is known no more where the move may give the role something to do: at each step of the
+/// script, and for a role that is told of something.
+fn forget_for(alloc: Global, idle: &mut Ready, step: &Move) -> Result<(), AllocError>
+    ensures forgets { OnOk result (Forgets step.now idle.new) }
+    ensures fewer { Keeps idle.new idle.old }
+{
+    match step {
+        Move::Script => {
+            *idle = Ready::new(alloc)?;
+            Ok(())
+        }
+        Move::Deliver { role, .. } => {
+            idle.clear(*role);
+            Ok(())
+        }
+        Move::Begin { .. } | Move::Next { .. } | Move::Give { .. } | Move::Decide { .. } => Ok(()),
+    }
 }
 
 /// The keys that accepted writes named, all of them ready.
@@ -296,10 +327,12 @@ impl Waking {
     {
         let world = World::new(alloc, scenario)?;
         let ready = all_ready(alloc, &world)?;
+        let idle = Ready::new(alloc)?;
         Ok(Waking {
             world,
             ready,
             looks: Vec::new(alloc),
+            idle,
         })
     }
 
@@ -325,29 +358,38 @@ impl Waking {
     pub fn look(&mut self, alloc: Global) -> Result<(), AllocError>
         ensures { self.new ≡ self.old }
     {
-        look_at_all(alloc, &self.world, &mut self.ready, &mut self.looks)
+        look_at_all(
+            alloc,
+            &self.world,
+            &mut self.ready,
+            &mut self.looks,
+            &self.idle,
+        )
     }
 
-    /// The move that a run by one hand makes next, as `plain` has it.
+    /// The move that a run by one hand makes next, as `plain` has it. Nothing of the world changes.
     ///
     /// # Errors
     ///
     /// Want of memory alone.
-    pub fn plain(&self, alloc: Global) -> Result<Option<Move>, AllocError>
-        ensures { IfOk result (λ m. IsPlainMove (setting_of self.now.scenario) self.now.history m) }
+    pub fn plain(&mut self, alloc: Global) -> Result<Option<Move>, AllocError>
+        ensures plain { IfOk result (λ m. IsPlainMove (setting_of self.old.scenario) self.old.history m) }
+        ensures same { self.new ≡ self.old }
     {
-        plain_by(alloc, &self.world, &self.ready)
+        plain_by(alloc, &self.world, &self.ready, &mut self.idle)
     }
 
-    /// The next step of the script, where one is left and does not wait; `None` exactly where it is not so.
+    /// The next step of the script, where one is left and does not wait; `None` exactly where it is not so. Nothing of the
+    /// world changes.
     ///
     /// # Errors
     ///
     /// Want of memory alone.
-    pub fn next_script(&self, alloc: Global) -> Result<Option<Move>, AllocError>
-        ensures { IfOk result (λ m. IsNextScript (setting_of self.now.scenario) self.now.history m) }
+    pub fn next_script(&mut self, alloc: Global) -> Result<Option<Move>, AllocError>
+        ensures next { IfOk result (λ m. IsNextScript (setting_of self.old.scenario) self.old.history m) }
+        ensures same { self.new ≡ self.old }
     {
-        if is_step_ready(alloc, &self.world, &self.ready)? {
+        if is_step_ready(alloc, &self.world, &self.ready, &mut self.idle)? {
             return Ok(Some(Move::Script));
         }
         Ok(None)
@@ -380,22 +422,41 @@ impl Waking {
     pub fn next_begin(&self, alloc: Global) -> Result<Option<Move>, AllocError>
         ensures { IfOk result (λ m. IsNextBegin (setting_of self.now.scenario) self.now.history m) }
     {
-        match first_begin(alloc, &self.world, &self.ready)? {
+        match first_begin(alloc, &self.world, &self.ready, &self.idle)? {
             Some(Beginning { role, key }) => Ok(Some(Move::Begin { role, key })),
             None => Ok(None),
         }
     }
 
-    /// Whether the run is finished: all steps of the script were made, with all that they have happen, and nothing is left
-    /// to do.
+    /// The first key above this one on which a pass of the role may begin, and is worth it: the role has something to do
+    /// there or sees something new. `None` exactly where there is none. Who begins passes of one role on one key after
+    /// another does not look at the same keys again.
     ///
     /// # Errors
     ///
     /// Want of memory alone.
-    pub fn is_finished(&self, alloc: Global) -> Result<bool, AllocError>
-        ensures { IfOk result (λ b. IsTrue b ↔ IsFinished (setting_of self.now.scenario) self.now.history) }
+    pub fn key_above(
+        &self,
+        alloc: Global,
+        role: Role,
+        below: &Key,
+    ) -> Result<Option<Key>, AllocError>
+        ensures { IfOk result (λ k. FindsFirst (FitsAbove (setting_of self.now.scenario) self.now.history role below.now) k) }
     {
-        is_finished(alloc, &self.world, &self.ready)
+        key_above(alloc, &self.world, role, below, &self.ready, &self.idle)
+    }
+
+    /// Whether the run is finished: all steps of the script were made, with all that they have happen, and nothing is left
+    /// to do. Nothing of the world changes.
+    ///
+    /// # Errors
+    ///
+    /// Want of memory alone.
+    pub fn is_finished(&mut self, alloc: Global) -> Result<bool, AllocError>
+        ensures finished { IfOk result (λ b. IsTrue b ↔ IsFinished (setting_of self.old.scenario) self.old.history) }
+        ensures same { self.new ≡ self.old }
+    {
+        is_finished(alloc, &self.world, &self.ready, &mut self.idle)
     }
 
     /// Makes one move, as `World::step` does. Of a kind the role is told of all writes.
@@ -413,6 +474,7 @@ impl Waking {
     {
         self.world.is_run();
         wake_for(alloc, &self.world, &mut self.ready, &mut self.looks, &step)?;
+        forget_for(alloc, &mut self.idle, &step)?;
         self.world.step(alloc, step)
     }
 }

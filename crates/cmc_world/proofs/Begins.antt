@@ -69,8 +69,8 @@ kept_open s h w role p now later os opened pasts k m1 m2 a is came put noted =
     record {
       running = may.running;
       numbered = refl;
-      work = may.queued.0;
-      known = may.queued.1;
+      work = may.queued.work;
+      known = may.queued.known;
       free = may.idle;
       told = refl;
       present = refl;

@@ -1,7 +1,7 @@
 -- What a world judges by what it holds is what the history says.
 use Rattle.std.proofs.Common.{◌≡◌, ℕ, ℤ, ◌+◌, ◌<◌, ◌≤◌, Bool, true, false, Option, Some, None, List, length, refl, sym, ap, subst, ◌∙◌, arith}
 use Rattle.std.proofs.lemmas.Bool.Decides.{nat_tests}
-use Rattle.std.specs.Prelude.{◌↔◌, IsTrue, is_some, nat_le, if◌then◌else◌}
+use Rattle.std.specs.Prelude.{◌↔◌, ◌&&◌, not, IsTrue, is_some, nat_le, if◌then◌else◌}
 use Rattle.cmc_meta.specs.declared.key.Key.{Key}
 use Rattle.cmc_meta.specs.declared.key.Kind.{Kind}
 use Rattle.cmc_meta.specs.declared.key.Kind.TheVariants as kinds
@@ -32,6 +32,7 @@ use Rattle.cmc_model.proofs.Writes.{writes_count}
 use Rattle.cmc_world.specs.declared.moves.Stepped.{Stepped}
 use Rattle.cmc_world.specs.declared.moves.Stepped.TheVariants.{Done}
 use Rattle.cmc_world.specs.Kept.{standing, Holdings, IsKept}
+use Rattle.cmc_world.specs.Quiet.{IsQuiet}
 use Rattle.cmc_world.specs.Answers.{IsNews, delivered, IsQueued, AnswersDelivery, AnswersBegin}
 use Rattle.cmc_rules.specs.Passes.{IsWorking}
 use Rattle.cmc_world.specs.Tables.{delivery_answer, begin_answer}
@@ -73,13 +74,20 @@ judged_delivery s h w role kind to t place newest entries events informed kept n
     ∙ ap (λ (m : ℕ). delivery_answer t.running informed kept (position h role kind) m to news entries room) newest_is
     ∙ ap (λ (m : ℕ). delivery_answer t.running informed kept (position h role kind) (last_of_kind kind (writes s h)) to news m room) e)
 
-pub judged_begin : (s : Setting) (h : List Entry) (w : Holdings) (role : Role) (key : Key) (t : Standing) (at : Positions) (seen : Views) (before : Past) (now : ℤ) (own : Option ℕ) (entries events : ℕ) (working same is_queued room : Bool) (answer : Stepped)
+-- a key of the role's work that is not quiet
+queued_by : (s : Setting) (h : List Entry) (role : Role) (key : Key) (of_work quiet : Bool) → (IsTrue of_work ↔ ((key.kind ≡ kind_of_work role) × (is_known key (writes s h) ≡ true))) → (IsTrue quiet ↔ IsQuiet s h role key)
+    → IsTrue (of_work && not quiet) ↔ IsQueued s h role key
+queued_by s h role key true false q z = (λ on. let of = q.0 refl in record { work = of.0; known = of.1; worth = λ is. let bad = z.1 is in absurd (cc bad) }, λ is. refl)
+queued_by s h role key true true q z = (λ on. absurd (cc on), λ is. absurd (is.worth (z.0 refl)))
+queued_by s h role key false quiet q z = (λ on. absurd (cc on), λ is. let bad = q.1 (is.work, is.known) in absurd (cc bad))
+
+pub judged_begin : (s : Setting) (h : List Entry) (w : Holdings) (role : Role) (key : Key) (t : Standing) (at : Positions) (seen : Views) (before : Past) (now : ℤ) (own : Option ℕ) (entries events : ℕ) (working same of_work quiet room : Bool) (answer : Stepped)
     → IsKept s h w → t ≡ w.standing role → at ≡ shown_positions role t.told → seen ≡ views s h role key → before ≡ w.past role key → now ≡ w.moment
     → (IsTrue working ↔ ((n : ℕ) × (is_pass_of role key (w.opened n) ≡ true))) → own ≡ own_above before.own at → (IsTrue same ↔ IsSame before.last seen now at)
-    → (IsTrue is_queued ↔ ((key.kind ≡ kind_of_work role) × (is_known key w.log ≡ true))) → entries ≡ length h → events ≡ s.events → (IsTrue room ↔ (entries + 1 ≤ events))
-    → answer ≡ begin_answer t.running working own same is_queued entries room
+    → (IsTrue of_work ↔ ((key.kind ≡ kind_of_work role) × (is_known key w.log ≡ true))) → (IsTrue quiet ↔ IsQuiet s h role key) → entries ≡ length h → events ≡ s.events → (IsTrue room ↔ (entries + 1 ≤ events))
+    → answer ≡ begin_answer t.running working own same (of_work && not quiet) entries room
     → AnswersBegin s h role key answer
-judged_begin s h w role key t at seen before now own entries events working same is_queued room answer k stood shown saw b m busy o same_as q e g r a =
+judged_begin s h w role key t at seen before now own entries events working same of_work quiet room answer k stood shown saw b m busy o same_as q z e g r a =
     let stands : t ≡ standing s h role = stood ∙ k.held.standing role in
     let at_is : at ≡ positions h role = shown ∙ ap (λ (x : Standing). shown_positions role x.told) stands in
     let before_is : before ≡ past s h role key = b ∙ k.held.past role key in
@@ -92,13 +100,14 @@ judged_begin s h w role key t at seen before now own entries events working same
     (subst (λ (x : Views). IsTrue same ↔ IsSame before.last x (moment s h) (positions h role)) saw
     (subst (λ (x : ℤ). IsTrue same ↔ IsSame before.last seen x (positions h role)) now_is
     (subst (λ (x : Positions). IsTrue same ↔ IsSame before.last seen now x) at_is same_as))) in
-    let queued_is : IsTrue is_queued ↔ IsQueued s h role key = subst (λ (ws : List Write). IsTrue is_queued ↔ ((key.kind ≡ kind_of_work role) × (is_known key ws ≡ true))) k.held.log q in
-    begin_answers s h role key answer t.running working same is_queued room
+    let queued_is : IsTrue (of_work && not quiet) ↔ IsQueued s h role key =
+    queued_by s h role key of_work quiet (subst (λ (ws : List Write). IsTrue of_work ↔ ((key.kind ≡ kind_of_work role) × (is_known key ws ≡ true))) k.held.log q) z in
+    begin_answers s h role key answer t.running working same (of_work && not quiet) room
     (sym (ap (λ (x : Standing). x.running) stands)) (decided (IsWorking s h role key) working working_is)
     (decided (IsSame (past s h role key).last (views s h role key) (moment s h) (positions h role)) same same_is)
-    (decided (IsQueued s h role key) is_queued queued_is) (fits_by s h 1 entries events room e g r)
-    (a ∙ ap (λ (x : Option ℕ). begin_answer t.running working x same is_queued entries room) own_is
-    ∙ ap (λ (n : ℕ). begin_answer t.running working (own_above (past s h role key).own (positions h role)) same is_queued n room) e)
+    (decided (IsQueued s h role key) (of_work && not quiet) queued_is) (fits_by s h 1 entries events room e g r)
+    (a ∙ ap (λ (x : Option ℕ). begin_answer t.running working x same (of_work && not quiet) entries room) own_is
+    ∙ ap (λ (n : ℕ). begin_answer t.running working (own_above (past s h role key).own (positions h role)) same (of_work && not quiet) n room) e)
 
 open_by : (p : Option OpenPass) → IsTrue (is_some p) ↔ IsOpen p
 open_by None = (λ e. absurd (cc e), λ e. absurd e)

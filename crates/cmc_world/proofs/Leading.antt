@@ -213,7 +213,7 @@ by_move s h (moves.Begin role key) k right so a grown =
     (record {
       run = one_more s h (beginning s h role key) so.run
           (record {
-            legal = record { running = may.running; numbered = refl; work = may.queued.0; known = may.queued.1; free = may.idle; told = refl; present = refl };
+            legal = record { running = may.running; numbered = refl; work = may.queued.work; known = may.queued.known; free = may.idle; told = refl; present = refl };
             caused = record { told = may.own; other = may.other };
             follows = so.settled;
             short = omega (arith, room);

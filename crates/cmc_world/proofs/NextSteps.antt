@@ -42,7 +42,7 @@ use Rattle.cmc_world.specs.declared.moves.Move.TheVariants.{Next}
 use Rattle.cmc_world.specs.declared.moves.Stepped.{Stepped}
 use Rattle.cmc_world.specs.declared.moves.Stepped.TheVariants.{Done, Order as Tells, Spent}
 use Rattle.cmc_world.specs.Answers.{kept_at, kept_of, new_at, new_of, next_answer, AnswersGoing, AnswersNext, Leaves, asked_once}
-use Rattle.cmc_world.specs.Acting.{HasSecret, HasStatus, HasNext, IsDoingBy, IsDoing, IsDone, IsGoing, IsGoingOn, IsJudged, IsQuiet, asked_in}
+use Rattle.cmc_world.specs.Acting.{HasSecret, HasStatus, HasNext, IsDoingBy, IsDoing, IsDone, IsGoing, IsGoingOn, IsJudged, IsNoMove, asked_in}
 use Rattle.cmc_world.specs.Kept.{first_desk}
 use Rattle.cmc_world.proofs.Sounds.{each_sound}
 
@@ -188,13 +188,13 @@ answer_by s h pass named j d r judged is answers =
 
 -- ---- what is left
 
-quiet_left : (s : Setting) (h : List Entry) (pass named : ℕ) (answer : Stepped) → IsQuiet (kept_of (open_pass s h pass)) answer → Leaves s h (Next pass named) answer h
+quiet_left : (s : Setting) (h : List Entry) (pass named : ℕ) (answer : Stepped) → IsNoMove (kept_of (open_pass s h pass)) answer → Leaves s h (Next pass named) answer h
 quiet_left s h pass named Done quiet = absurd quiet
 quiet_left s h pass named (Tells number order) quiet = sym (ap (λ (o : Option Order). asked_once o pass order h) quiet)
 quiet_left s h pass named other quiet = refl
 
 -- an answer that leaves all as it was
-pub leaves_quiet : (s : Setting) (h k : List Entry) (pass named : ℕ) (answer : Stepped) → IsQuiet (kept_of (open_pass s h pass)) answer → k ≡ h → Leaves s h (Next pass named) answer k
+pub leaves_quiet : (s : Setting) (h k : List Entry) (pass named : ℕ) (answer : Stepped) → IsNoMove (kept_of (open_pass s h pass)) answer → k ≡ h → Leaves s h (Next pass named) answer k
 leaves_quiet s h k pass named answer quiet same = subst (λ (l : List Entry). Leaves s h (Next pass named) answer l) (sym same) (quiet_left s h pass named answer quiet)
 
 -- what a pass has done is what its move leaves

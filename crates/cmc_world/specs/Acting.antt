@@ -73,29 +73,29 @@ pub record IsGoing (s : Setting) (h : List Entry) (pass : ℕ) (d : Doing) : Typ
   pub room : length h < s.events
 
 -- the answer leaves the history as it was: a question is told again, or the move is not made
-abbrev pub IsQuiet : Option Order → Stepped → Type 0
-IsQuiet kept Done = ⊥
-IsQuiet kept (Tells pass order) = kept ≡ Some order
-IsQuiet kept other = Unit {0}
+abbrev pub IsNoMove : Option Order → Stepped → Type 0
+IsNoMove kept Done = ⊥
+IsNoMove kept (Tells pass order) = kept ≡ Some order
+IsNoMove kept other = Unit {0}
 
 -- an answer that leaves all as it was, or what the move has the open pass do
 abbrev pub IsGoingOn : Setting → List Entry → ℕ → Judged → Type 0
-IsGoingOn s h pass (Answer answer) = AnswersGoing s h pass (kept_of (open_pass s h pass)) (new_of s h (open_pass s h pass)) answer × IsQuiet (kept_of (open_pass s h pass)) answer
+IsGoingOn s h pass (Answer answer) = AnswersGoing s h pass (kept_of (open_pass s h pass)) (new_of s h (open_pass s h pass)) answer × IsNoMove (kept_of (open_pass s h pass)) answer
 IsGoingOn s h pass (Does d) = AnswersGoing s h pass (kept_of (open_pass s h pass)) (new_of s h (open_pass s h pass)) (next_answer pass (asked_in d)) × IsGoing s h pass d
 
 -- the same of the pass of this number, which need not be open
 abbrev pub IsJudged : Setting → List Entry → ℕ → ℕ → Judged → Type 0
-IsJudged s h pass named (Answer answer) = AnswersNext s h pass named answer × IsQuiet (kept_of (open_pass s h pass)) answer
+IsJudged s h pass named (Answer answer) = AnswersNext s h pass named answer × IsNoMove (kept_of (open_pass s h pass)) answer
 IsJudged s h pass named (Does d) = AnswersNext s h pass named (next_answer pass (asked_in d)) × (IsOpen (open_pass s h pass) × IsGoing s h pass d)
 
 -- what a decision for the open pass comes to
 abbrev pub IsTaking : Setting → List Entry → ℕ → Decision → Judged → Type 0
-IsTaking s h pass d (Answer answer) = AnswersDecided s h pass d answer × IsQuiet (kept_of (open_pass s h pass)) answer
+IsTaking s h pass d (Answer answer) = AnswersDecided s h pass d answer × IsNoMove (kept_of (open_pass s h pass)) answer
 IsTaking s h pass d (Does doing) = AnswersDecided s h pass d (next_answer pass (asked_in doing)) × IsGoing s h pass doing
 
 -- the same of the pass of this number, which need not be open
 abbrev pub IsTaken : Setting → List Entry → ℕ → ℕ → Decision → Judged → Type 0
-IsTaken s h pass named d (Answer answer) = AnswersDecide s h pass named d answer × IsQuiet (kept_of (open_pass s h pass)) answer
+IsTaken s h pass named d (Answer answer) = AnswersDecide s h pass named d answer × IsNoMove (kept_of (open_pass s h pass)) answer
 IsTaken s h pass named d (Does doing) = AnswersDecide s h pass named d (next_answer pass (asked_in doing)) × (IsOpen (open_pass s h pass) × IsGoing s h pass doing)
 
 -- ---- what is known as a pass goes on

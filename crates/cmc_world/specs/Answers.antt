@@ -45,6 +45,7 @@ use Rattle.cmc_world.specs.declared.moves.Move.TheVariants.{Script, Deliver, Beg
 use Rattle.cmc_world.specs.declared.moves.Lack.TheVariants.{ScriptOver, ScriptWaits, Stopped, NoInformer, Held, Current, NotAWrite, NotQueued, InProcess, SameViews, OwnWrite, NoPass, NotAsked, Settled}
 use Rattle.cmc_world.specs.declared.moves.Stepped.{Stepped}
 use Rattle.cmc_world.specs.declared.moves.Stepped.TheVariants.{Done, Order as Asks, NotNow, Ended, NotMine, OtherViews, Spent}
+use Rattle.cmc_world.specs.Quiet.{IsQuiet}
 use Rattle.cmc_world.specs.Decisions.{Decision, IsUndecided, SawSame}
 
 abbrev pub is_done : Stepped → Bool
@@ -127,9 +128,12 @@ delivered s h role kind to =
 
 -- ---- begins
 
--- the key is one of the role's kind of work, and an accepted write named it
-abbrev pub IsQueued : Setting → List Entry → Role → Key → Type 0
-IsQueued s h role key = (key.kind ≡ kind_of_work role) × (is_known key (writes s h) ≡ true)
+-- The key is in the role's work queue: it is one of its kind of work, an accepted write named it, and the role has something to do there, or
+-- sees something new. So no wake-up is lost: a key leaves the queue where there is nothing to do, and comes back with whatever gives something.
+pub record IsQueued (s : Setting) (h : List Entry) (role : Role) (key : Key) : Type 0 where
+  pub work : key.kind ≡ kind_of_work role
+  pub known : is_known key (writes s h) ≡ true
+  pub worth : IsQuiet s h role key → ⊥
 
 abbrev pub AnswersBegin : Setting → List Entry → Role → Key → Stepped → Type 0
 AnswersBegin s h role key answer =

@@ -1,5 +1,6 @@
 pub mod Rest
 pub mod Decisions
+pub mod Quiet
 pub mod Answers
 pub mod Tables
 pub mod Acting

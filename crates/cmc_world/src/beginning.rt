@@ -1,6 +1,6 @@
 //! Roles begin passes.
 ghost use Rattle.std.specs.Option.{option_copied};
-ghost use Rattle.std.specs.Prelude.{◌≡◌, ◌↔◌, ◌<◌, ◌∷◌, IsTrue, IfOk, OnOk, OnErr, true, length, is_some};
+ghost use Rattle.std.specs.Prelude.{◌≡◌, ◌↔◌, ◌<◌, ◌∷◌, ◌&&◌, not, IsTrue, IfOk, OnOk, OnErr, true, length, is_some};
 ghost use Rattle.cmc_rules.specs.Sameness as sameness;
 ghost use Rattle.cmc_held.specs.Remembered.{past_or_new};
 ghost use Rattle.cmc_rules.specs.Passes.{new_pass};
@@ -80,11 +80,18 @@ fn is_named(stands: bool, log: &Log, key: &Key) -> bool
 }
 
 /// Whether the key is one of the role's kind of work, and an accepted write named it.
-fn is_queued(stands: bool, log: &Log, role: Role, key: &Key) -> bool
+fn is_of_work(stands: bool, log: &Log, role: Role, key: &Key) -> bool
     requires { stands ≡ true → is_known key.now log.now.writes ≡ true }
     ensures { IsTrue result ↔ ((key.now.kind ≡ spec.kind_of_work role) × (is_known key.now log.now.writes ≡ true)) }
 {
     key.kind.same(kind_of_work(role)) && is_named(stands, log, key)
+}
+
+/// Whether a key of the role's work is in its queue.
+fn is_queued(of_work: bool, quiet: bool) -> bool
+    ensures { result ≡ (of_work && not quiet) }
+{
+    of_work && !quiet
 }
 
 fn opened(role: Role, key: Key, seen: Views, since: i64) -> OpenPass
@@ -115,7 +122,9 @@ impl World {
         let past = self.pasts.get(role, key);
         let own = own_write(past, at);
         let same = is_again(past, &seen, self.moment, at);
-        let queued = is_queued(stands(&self.store, key), &self.log, role, key);
+        let of_work = is_of_work(stands(&self.store, key), &self.log, role, key);
+        let quiet = self.is_quiet(alloc, role, key, &seen)?;
+        let queued = is_queued(of_work, quiet);
         let entries = self.history.len();
         let room = has_room(entries, self.scenario.events(), 1);
         Ok(answer_begin(standing.running, working, own, same, queued, entries, room))

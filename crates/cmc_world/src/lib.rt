@@ -10,6 +10,7 @@ mod deciding;
 mod going;
 mod moves;
 mod noting;
+mod quiet;
 mod readers;
 mod resting;
 mod scripting;

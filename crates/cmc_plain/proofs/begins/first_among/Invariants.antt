@@ -1,6 +1,7 @@
 use Rattle.cmc_world.specs.Kept.{setting_of}
+use Rattle.cmc_plain.specs.Plain.{Fits}
 use Rattle.cmc_plain.proofs.Keys.{KeysLeft}
 use Rattle.cmc_plain.proofs.begins.first_among.Given as goal
 
 abbrev pub invariant-loop-key : goal.invariant-loop-key
-invariant-loop-key l = KeysLeft (setting_of l.world.scenario) l.world.history l.role l.key-iterator
+invariant-loop-key l = KeysLeft (Fits (setting_of l.world.scenario) l.world.history l.role) l.key-iterator

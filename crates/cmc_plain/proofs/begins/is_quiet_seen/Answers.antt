@@ -10,4 +10,4 @@ pub is_idle-requires : goal.is_idle-requires
 is_idle-requires c =
     let s = setting_of c.args.world.now.scenario in
     let h = c.args.world.now.history in
-    subst (λ (v : Views). MayAct v (moment s h) (desk s h c.args.role v)) (sym c.requires) (c.can_act.ensures c.args.role c.args.key.now)
+    subst (λ (v : Views). MayAct v (moment s h) (desk s h c.args.role v)) (sym c.requires.sees) (c.can_act.ensures c.args.role c.args.key.now)
