@@ -2,6 +2,7 @@
 #![tactic(auto)]
 
 mod driving;
+mod errands;
 mod shared;
 mod threads;
 

@@ -1,47 +1,66 @@
 //! What lies under the lock, and what a thread does while it holds it.
 //!
 //! Each change is a step of the world, so whatever the threads do, the history is one of a run: the world's type keeps
-//! that. A thread does as much as it can in one hold, since to wake others is dearer than to take the lock.
-ghost use Rattle.std.specs.Prelude.{◌≡◌, ◌↔◌, IsTrue, IfOk, IfSome, length};
-ghost use Rattle.cmc_world.specs.Answers.{Answers, Leaves};
-ghost use Rattle.cmc_world.specs.Kept.{setting_of};
+//! that. Once a role has begun a pass, only passes of this role begin until all is delivered: each of them is on a key of
+//! its own, whereas another role would begin on views that are old by then, and come to nothing or meet a conflict.
+ghost use Rattle.std.specs.Option.{option_copied};
+ghost use Rattle.std.specs.Prelude.{◌≡◌, ◌+◌, IfOk, IfSome, length, false};
+ghost use Rattle.cmc_rules.specs.Scripting.{scripted, step_at};
+ghost use Rattle.cmc_plain.specs.Plain.{HasNoDelivery};
 ghost use Rattle.cmc_plain.specs.Ready.{IsToNewest};
-ghost use Rattle.cmc_workers.specs.Driving.{IsAsked};
+ghost use Rattle.cmc_world.specs.Kept.{setting_of};
+ghost use Rattle.cmc_workers.specs.Driving as spec;
+ghost use Rattle.cmc_workers.specs.Driving.{IsErrand};
 
+use crate::errands::{Answer, Errand, Outcome, Taken, Task};
 use cmc_meta::Key;
-use cmc_objects::{Order, Role};
+use cmc_objects::{Role, Step};
 use cmc_pass::Given;
-use cmc_plain::{Point, Waking, point_of, question};
-use cmc_world::{Move, Stepped};
+use cmc_plain::{Point, Waking, Work, point_of, question};
+use cmc_world::{Decided, Move, Stepped, decides_alone};
 use std::alloc::{AllocError, Global};
 
-/// What lies under the lock: a world with its ready keys, and whether all is over for the threads.
+/// A role whose passes have begun since all was delivered, and the last key on which one has.
+#[derive(Drop)]
+struct Turn {
+    role: Role,
+    key: Key,
+}
+
+/// What lies under the lock.
 #[derive(Drop)]
 pub(crate) struct Shared {
+    /// A world with its ready keys.
     pub waking: Waking,
+    /// Whose turn it is; nobody's where something was delivered since.
+    turn: Option<Turn>,
+    /// Whether all is over for the threads.
     pub over: bool,
 }
 
-/// A pass that a thread has begun, and alone goes on with.
+/// What came of a move.
 #[derive(Clone, Copy)]
-pub(crate) struct Taken {
-    pub pass: u64,
-    pub incarnation: u64,
+enum Went {
+    /// It was made.
+    On,
+    /// The pass asks, and waits for the value.
+    Asks,
+    /// It was not made.
+    Not,
 }
 
-/// A question at which a pass waits.
-#[derive(Drop)]
-pub(crate) struct Question {
-    pub taken: Taken,
-    pub order: Order,
-    pub point: Point,
+/// An answer of the world has many shapes, and which of them it was is all that is needed.
+fn told(answer: Stepped) -> Went {
+    match answer {
+        Stepped::Done => Went::On,
+        Stepped::Order { .. } => Went::Asks,
+        _ => Went::Not,
+    }
 }
 
-/// A value for the question of a pass.
-#[derive(Drop)]
-pub(crate) struct Answer {
-    pub taken: Taken,
-    pub given: Given,
+/// A move has many shapes, and to let go of it is one thing for all of them.
+fn let_go<T: Drop>(value: T) {
+    let _value = value;
 }
 
 impl Shared {
@@ -51,6 +70,7 @@ impl Shared {
     {
         Shared {
             waking,
+            turn: None,
             over: false,
         }
     }
@@ -70,40 +90,34 @@ impl Shared {
     }
 
     /// Makes a move. Where its entries do not fit, all is over.
-    fn make(&mut self, alloc: Global, step: Move) -> Result<Stepped, AllocError>
+    fn make(&mut self, alloc: Global, step: Move) -> Result<Went, AllocError>
         requires { IsToNewest (setting_of self.old.waking.scenario) self.old.waking.history step }
-        ensures answer { IfOk result (λ r. Answers (setting_of self.old.waking.scenario) self.old.waking.history step r) }
-        ensures leaves { IfOk result (λ r. Leaves (setting_of self.old.waking.scenario) self.old.waking.history step r self.new.waking.history) }
-        ensures scenario { self.new.waking.scenario ≡ self.old.waking.scenario }
+        ensures { self.new.waking.scenario ≡ self.old.waking.scenario }
     {
         let answer = self.waking.step(alloc, step)?;
         if matches!(answer, Stepped::Spent { .. }) {
             self.over = true;
         }
-        Ok(answer)
+        Ok(told(answer))
     }
 
     /// The question at which the pass waits, if it waits at one.
-    fn question_of(&self, taken: Taken) -> Result<Option<Question>, AllocError>
-        ensures { IfOk result (λ q. IfSome q (λ asked. IsAsked self.now.waking asked)) }
+    fn question_of(&self, taken: Taken) -> Result<Option<Errand>, AllocError>
+        ensures { IfOk result (λ e. IfSome e (λ errand. IsErrand self.now.waking errand)) }
     {
         let world = self.waking.world();
         match question(world, taken.pass)? {
             Some(order) => {
                 let point = point_of(world.history(), taken.pass, &order);
-                Ok(Some(Question {
-                    taken,
-                    order,
-                    point,
-                }))
+                Ok(Some(Errand::new(taken, point, Task::Value(order))))
             }
             None => Ok(None),
         }
     }
 
     /// Has the pass go on, up to a question or to its end. A pass whose role was stopped meanwhile is let go.
-    fn go_on(&mut self, alloc: Global, taken: Taken) -> Result<Option<Question>, AllocError>
-        ensures asked { IfOk result (λ q. IfSome q (λ asked. IsAsked self.new.waking asked)) }
+    fn go_on(&mut self, alloc: Global, taken: Taken) -> Result<Option<Errand>, AllocError>
+        ensures errand { IfOk result (λ e. IfSome e (λ errand. IsErrand self.new.waking errand)) }
         ensures scenario { self.new.waking.scenario ≡ self.old.waking.scenario }
     {
         for _move in 0..=self.limit() {
@@ -112,61 +126,191 @@ impl Shared {
                 incarnation: taken.incarnation,
             };
             match self.make(alloc, step)? {
-                Stepped::Done => {}
-                Stepped::Order { .. } => return self.question_of(taken),
-                _ => return Ok(None),
+                Went::On => {}
+                Went::Asks => return self.question_of(taken),
+                Went::Not => return Ok(None),
             }
         }
         Ok(None)
     }
 
-    /// Begins a pass of the role on the key; `None` where it is not begun.
-    fn begin_on(&mut self, alloc: Global, role: Role, key: Key) -> Result<Option<Taken>, AllocError>
-        ensures { self.new.waking.scenario ≡ self.old.waking.scenario }
-    {
-        let incarnation = self.waking.world().incarnation(role);
-        match self.make(alloc, Move::Begin { role, key })? {
-            Stepped::Done => Ok(Some(Taken {
-                pass: self.waking.world().passes_begun(),
-                incarnation,
-            })),
-            _ => Ok(None),
-        }
-    }
-
-    /// Begins the first pass that is worth it; `None` where there is none.
-    fn begin(&mut self, alloc: Global) -> Result<Option<Taken>, AllocError>
-        ensures { self.new.waking.scenario ≡ self.old.waking.scenario }
-    {
-        self.waking.look(alloc)?;
-        match self.waking.next_begin(alloc)? {
-            Some(Move::Begin { role, key }) => self.begin_on(alloc, role, key),
-            _ => Ok(None),
-        }
-    }
-
     /// Gives a value to the pass that asked for it, and has it go on. The value is dropped where the role of the pass was
     /// stopped meanwhile.
-    fn give(&mut self, alloc: Global, answer: Answer) -> Result<Option<Question>, AllocError>
-        ensures asked { IfOk result (λ q. IfSome q (λ asked. IsAsked self.new.waking asked)) }
+    fn give(
+        &mut self,
+        alloc: Global,
+        taken: Taken,
+        given: Given,
+    ) -> Result<Option<Errand>, AllocError>
+        ensures errand { IfOk result (λ e. IfSome e (λ errand. IsErrand self.new.waking errand)) }
         ensures scenario { self.new.waking.scenario ≡ self.old.waking.scenario }
     {
-        let Answer { taken, given } = answer;
         let step = Move::Give {
             pass: taken.pass,
             incarnation: taken.incarnation,
             given,
         };
         match self.make(alloc, step)? {
-            Stepped::Done => self.go_on(alloc, taken),
-            _ => Ok(None),
+            Went::On => self.go_on(alloc, taken),
+            Went::Asks | Went::Not => Ok(None),
         }
     }
 
-    /// Begins passes, one after another, and has each go on, up to the first question. `None` where no pass can begin any
-    /// more, or all is over.
-    fn take(&mut self, alloc: Global) -> Result<Option<Question>, AllocError>
-        ensures asked { IfOk result (λ q. IfSome q (λ asked. IsAsked self.new.waking asked)) }
+    /// Hands a decision in for the pass, and has it go on. It is dropped where the role of the pass was stopped meanwhile.
+    fn decide(
+        &mut self,
+        alloc: Global,
+        taken: Taken,
+        decided: Decided,
+    ) -> Result<Option<Errand>, AllocError>
+        ensures errand { IfOk result (λ e. IfSome e (λ errand. IsErrand self.new.waking errand)) }
+        ensures scenario { self.new.waking.scenario ≡ self.old.waking.scenario }
+    {
+        let step = Move::Decide {
+            pass: taken.pass,
+            incarnation: taken.incarnation,
+            decided,
+        };
+        match self.make(alloc, step)? {
+            Went::On => self.go_on(alloc, taken),
+            Went::Asks => self.question_of(taken),
+            Went::Not => Ok(None),
+        }
+    }
+
+    /// Goes on with the pass for which a thread comes back, up to a question or to its end.
+    fn go_back(&mut self, alloc: Global, outcome: Outcome) -> Result<Option<Errand>, AllocError>
+        ensures errand { IfOk result (λ e. IfSome e (λ errand. IsErrand self.new.waking errand)) }
+        ensures scenario { self.new.waking.scenario ≡ self.old.waking.scenario }
+    {
+        let (taken, answer) = outcome.into_parts();
+        match answer {
+            Answer::Value(given) => self.give(alloc, taken, given),
+            Answer::Decision(decided) => self.decide(alloc, taken, decided),
+            Answer::Nothing => self.go_on(alloc, taken),
+        }
+    }
+
+    /// What the pass saw, which has just begun, where its role decides by that alone.
+    fn undecided(&self, taken: Taken) -> Result<Option<Errand>, AllocError>
+        ensures { IfOk result (λ e. IfSome e (λ errand. IsErrand self.now.waking errand)) }
+    {
+        let world = self.waking.world();
+        match world.passes().get(taken.pass) {
+            Some(open) if decides_alone(open.role) => {}
+            _ => return Ok(None),
+        }
+        let point = Point {
+            work: Work::Decide,
+            entry: self.entries(),
+        };
+        match world.begun(taken.pass)? {
+            Some(begun) => Ok(Some(Errand::new(taken, point, Task::Decision(begun)))),
+            None => Ok(None),
+        }
+    }
+
+    /// Has the pass, which has just begun, go on in the world, unless its role decides outside of the lock.
+    fn start(&mut self, alloc: Global, taken: Taken) -> Result<Option<Errand>, AllocError>
+        ensures errand { IfOk result (λ e. IfSome e (λ errand. IsErrand self.new.waking errand)) }
+        ensures scenario { self.new.waking.scenario ≡ self.old.waking.scenario }
+    {
+        if let Some(errand) = self.undecided(taken)? {
+            return Ok(Some(errand));
+        }
+        self.go_on(alloc, taken)
+    }
+
+    /// Whether the next step of the script waits for a count of writes, which each move may reach.
+    pub(crate) fn waits_for_count(&self) -> bool
+        ensures { result ≡ spec.waits_for_count (step_at self.now.waking.scenario.script (scripted self.now.waking.history + 1)) }
+    {
+        matches!(self.waking.world().next_step(), Some(Step::Until { .. }))
+    }
+
+    /// Whether a role is to be told of something.
+    pub(crate) fn is_to_deliver(&self, alloc: Global) -> Result<bool, AllocError>
+        ensures { IfOk result (λ b. b ≡ false → HasNoDelivery (setting_of self.now.waking.scenario) self.now.waking.history) }
+    {
+        match self.waking.next_delivery(alloc)? {
+            Some(step) => {
+                let_go(step);
+                Ok(true)
+            }
+            None => Ok(false),
+        }
+    }
+
+    /// The next key of the role whose turn it is; `None` where it is nobody's, or no further key is left.
+    fn next_in_turn(&self, alloc: Global) -> Result<Option<Turn>, AllocError> {
+        let Some(turn) = &self.turn else {
+            return Ok(None);
+        };
+        match self.waking.key_above(alloc, turn.role, &turn.key)? {
+            Some(key) => Ok(Some(Turn {
+                role: turn.role,
+                key,
+            })),
+            None => Ok(None),
+        }
+    }
+
+    /// The key of the first pass that is worth it.
+    fn first_turn(&self, alloc: Global) -> Result<Option<Turn>, AllocError> {
+        match self.waking.next_begin(alloc)? {
+            Some(Move::Begin { role, key }) => Ok(Some(Turn { role, key })),
+            Some(other) => {
+                let_go(other);
+                Ok(None)
+            }
+            None => Ok(None),
+        }
+    }
+
+    /// Where the next pass may begin: on a further key of the role whose turn it is, or, where all is delivered, on the
+    /// first key on which it is worth it. `None` where nothing can begin, or not before something is delivered.
+    fn next_turn(&self, alloc: Global) -> Result<Option<Turn>, AllocError> {
+        if let Some(turn) = self.next_in_turn(alloc)? {
+            return Ok(Some(turn));
+        }
+        if self.is_to_deliver(alloc)? {
+            return Ok(None);
+        }
+        self.first_turn(alloc)
+    }
+
+    /// Begins a pass, and notes whose turn it is; `None` where it is not begun.
+    fn begin_on(&mut self, alloc: Global, turn: Turn) -> Result<Option<Taken>, AllocError>
+        ensures { self.new.waking.scenario ≡ self.old.waking.scenario }
+    {
+        let role = turn.role;
+        let key = turn.key.copy()?;
+        self.turn = Some(turn);
+        let incarnation = self.waking.world().incarnation(role);
+        match self.make(alloc, Move::Begin { role, key })? {
+            Went::On => Ok(Some(Taken {
+                pass: self.waking.world().passes_begun(),
+                incarnation,
+            })),
+            Went::Asks | Went::Not => Ok(None),
+        }
+    }
+
+    /// Begins the next pass; `None` where none can begin, or not before something is delivered.
+    fn begin(&mut self, alloc: Global) -> Result<Option<Taken>, AllocError>
+        ensures { self.new.waking.scenario ≡ self.old.waking.scenario }
+    {
+        self.waking.look(alloc)?;
+        match self.next_turn(alloc)? {
+            Some(turn) => self.begin_on(alloc, turn),
+            None => Ok(None),
+        }
+    }
+
+    /// Begins passes, one after another, and has each go on, up to the first that asks or has to decide. `None` where no
+    /// pass can begin before something is delivered, or all is over.
+    pub(crate) fn take(&mut self, alloc: Global) -> Result<Option<Errand>, AllocError>
+        ensures errand { IfOk result (λ e. IfSome e (λ errand. IsErrand self.new.waking errand)) }
         ensures scenario { self.new.waking.scenario ≡ self.old.waking.scenario }
     {
         for _pass in 0..=self.limit() {
@@ -176,27 +320,25 @@ impl Shared {
             let Some(taken) = self.begin(alloc)? else {
                 return Ok(None);
             };
-            if let Some(question) = self.go_on(alloc, taken)? {
-                return Ok(Some(question));
+            if let Some(errand) = self.start(alloc, taken)? {
+                return Ok(Some(errand));
             }
         }
         Ok(None)
     }
 
-    /// What one hold of the lock does for a worker: gives back the value that it brings, and goes on with that pass and
-    /// then with others, up to the first question. `None` where no pass can go on or begin.
-    pub(crate) fn work(
+    /// Goes on with the pass for which a thread comes back, and then with others, up to the first that asks or has to
+    /// decide. `None` where no pass can go on, or begin before something is delivered.
+    pub(crate) fn come_back(
         &mut self,
         alloc: Global,
-        answer: Option<Answer>,
-    ) -> Result<Option<Question>, AllocError>
-        ensures asked { IfOk result (λ q. IfSome q (λ asked. IsAsked self.new.waking asked)) }
+        outcome: Outcome,
+    ) -> Result<Option<Errand>, AllocError>
+        ensures errand { IfOk result (λ e. IfSome e (λ errand. IsErrand self.new.waking errand)) }
         ensures scenario { self.new.waking.scenario ≡ self.old.waking.scenario }
     {
-        if let Some(answer) = answer {
-            if let Some(question) = self.give(alloc, answer)? {
-                return Ok(Some(question));
-            }
+        if let Some(errand) = self.go_back(alloc, outcome)? {
+            return Ok(Some(errand));
         }
         self.take(alloc)
     }
@@ -205,11 +347,12 @@ impl Shared {
     pub(crate) fn deliver(&mut self, alloc: Global) -> Result<(), AllocError>
         ensures { self.new.waking.scenario ≡ self.old.waking.scenario }
     {
+        self.turn = None;
         for _delivery in 0..=self.limit() {
             let Some(step) = self.waking.next_delivery(alloc)? else {
                 return Ok(());
             };
-            if !self.make(alloc, step)?.is_done() {
+            if !matches!(self.make(alloc, step)?, Went::On) {
                 return Ok(());
             }
         }
@@ -225,7 +368,7 @@ impl Shared {
             let Some(step) = self.waking.next_script(alloc)? else {
                 break;
             };
-            if !self.make(alloc, step)?.is_done() {
+            if !matches!(self.make(alloc, step)?, Went::On) {
                 break;
             }
         }

@@ -1,62 +1,165 @@
 //! The threads: workers that take passes, one that delivers, and one that performs the script.
 //!
-//! They meet at one lock and one condition variable. A thread that changed something wakes the others before it waits
-//! itself, and one that changed nothing does not, so that idle threads do not wake each other for ever. What is handed
-//! out (keys, signatures, issuers' answers, judgements) is made outside the lock, behind the gate.
+//! They meet at one lock, and each sort sleeps at a condition variable of its own, so that whoever moved wakes one thread
+//! that may go on with it, and not all. They wake each other in a ring: a worker or the script that moved wakes the thread
+//! that delivers, this wakes a worker, and a worker that finds nothing to do wakes the script. The script wakes nobody
+//! unless it moved, so idle threads do not wake each other for ever. What is handed out (keys, signatures, issuers'
+//! answers, judgements) is made outside the lock, behind the gate, and there issuing and the request manager decide, which
+//! read certificates and keys for it.
 ghost use Rattle.std.specs.Prelude.{IfOk, IfSome};
-ghost use Rattle.cmc_plain.specs.Driving.{CanBeMade};
+ghost use Rattle.cmc_workers.specs.Driving.{CanBeDone};
 
-use crate::shared::{Answer, Question, Shared};
+use crate::errands::{Answer, Errand, Outcome, Task};
+use crate::shared::Shared;
 use cmc_answers::Signer;
 use cmc_keys::KeyMaker;
 use cmc_plain::{Gate, Waking, value_for};
+use cmc_world::{Begun, decide};
 use std::alloc::{AllocError, Global};
 use std::sync::{Condvar, Mutex, Wait};
 use std::thread;
 use std::thread::Threads;
 
+/// Has the role of the pass decide on what the pass saw.
+fn decided(alloc: Global, begun: Begun) -> Result<Answer, AllocError> {
+    match decide(alloc, begun)? {
+        Some(decided) => Ok(Answer::Decision(decided)),
+        None => Ok(Answer::Nothing),
+    }
+}
+
+/// Makes what the pass waits for.
+fn made<M: KeyMaker, N: Signer>(
+    alloc: Global,
+    task: Task,
+    keys: &M,
+    signer: &N,
+) -> Result<Answer, AllocError>
+    requires { CanBeDone task }
+{
+    match task {
+        Task::Value(order) => Ok(Answer::Value(value_for(alloc, &order, keys, signer)?)),
+        Task::Decision(begun) => decided(alloc, begun),
+    }
+}
+
+/// Does the errand, behind the gate.
+fn done<M: KeyMaker, N: Signer, G: Gate>(
+    alloc: Global,
+    errand: Errand,
+    keys: &M,
+    signer: &N,
+    gate: &G,
+) -> Result<Outcome, AllocError>
+    requires { CanBeDone errand.task }
+{
+    let (taken, point, task) = errand.into_parts();
+    gate.at(point);
+    let answer = made(alloc, task, keys, signer)?;
+    Ok(Outcome::new(taken, answer))
+}
+
 /// What the threads share.
 struct Hall {
     shared: Mutex<Shared>,
-    moved: Condvar,
+    /// Where workers sleep while no pass can go on or begin.
+    to_work: Condvar,
+    /// Where the thread that delivers sleeps.
+    to_deliver: Condvar,
+    /// Where the thread that performs the script sleeps.
+    to_perform: Condvar,
 }
 
 impl Hall {
+    /// Wakes all threads.
+    fn wake_all(&self) {
+        self.to_work.notify_all();
+        self.to_deliver.notify_all();
+        self.to_perform.notify_all();
+    }
+
     /// Ends the work of all threads.
     fn stop<R: Wait>(&self, rt: &R) {
         self.shared.lock(rt).over = true;
-        self.moved.notify_all();
+        self.wake_all();
     }
 
-    /// Gives a value back, and goes on with passes up to the next question. Waits while no pass can go on or begin. `None`
-    /// where all is over.
-    fn next<R: Wait>(
-        &self,
-        rt: &R,
-        alloc: Global,
-        given: Option<Answer>,
-    ) -> Result<Option<Question>, AllocError>
-        ensures { IfOk result (λ q. IfSome q (λ asked. CanBeMade asked.order)) }
+    /// Wakes the thread that has to go on where a worker finds nothing more to do: that of the script where all is
+    /// delivered, or where what the worker did may be what the script waits for.
+    fn pass_on(&self, alloc: Global, shared: &Shared, moved: bool) -> Result<(), AllocError> {
+        let delivers = shared.is_to_deliver(alloc)?;
+        if moved || delivers {
+            self.to_deliver.notify_one();
+        }
+        if !moved && !delivers || shared.waits_for_count() {
+            self.to_perform.notify_one();
+        }
+        Ok(())
+    }
+
+    /// The next errand of a worker. Waits while no pass can begin. `None` where all is over.
+    fn next<R: Wait>(&self, rt: &R, alloc: Global) -> Result<Option<Errand>, AllocError>
+        ensures { IfOk result (λ e. IfSome e (λ errand. CanBeDone errand.task)) }
     {
         let mut shared = self.shared.lock(rt);
-        let mut answer = given;
         for _ in rt.forever() {
             if shared.over {
-                self.moved.notify_all();
+                self.wake_all();
                 return Ok(None);
             }
             let before = shared.entries();
-            if let Some(question) = shared.work(alloc, answer.take())? {
-                // This thread may stay away for long, while others sleep.
+            if let Some(errand) = shared.take(alloc)? {
+                // This thread may stay away for long, and others may find more to do.
                 drop(shared);
-                self.moved.notify_all();
-                return Ok(Some(question));
-            }
-            if before < shared.entries() || shared.over {
-                self.moved.notify_all();
+                self.to_work.notify_one();
+                return Ok(Some(errand));
             }
             if !shared.over {
-                shared = self.moved.wait(rt, shared);
+                self.pass_on(alloc, &shared, before < shared.entries())?;
+                shared = self.to_work.wait(rt, shared);
+            }
+        }
+        unreachable!()
+    }
+
+    /// Goes on with the pass for which the worker comes back, and then with others, up to the next errand; `None` where there
+    /// is none without waiting for it.
+    fn come_back<R: Wait>(
+        &self,
+        rt: &R,
+        alloc: Global,
+        outcome: Outcome,
+    ) -> Result<Option<Errand>, AllocError>
+        ensures { IfOk result (λ e. IfSome e (λ errand. CanBeDone errand.task)) }
+    {
+        let mut shared = self.shared.lock(rt);
+        if let Some(errand) = shared.come_back(alloc, outcome)? {
+            drop(shared);
+            self.to_work.notify_one();
+            return Ok(Some(errand));
+        }
+        self.pass_on(alloc, &shared, true)?;
+        Ok(None)
+    }
+
+    /// Does errands one after another until none is left without waiting for it.
+    fn do_errands<R: Wait, M: KeyMaker, N: Signer, G: Gate>(
+        &self,
+        rt: &R,
+        alloc: Global,
+        first: Errand,
+        keys: &M,
+        signer: &N,
+        gate: &G,
+    ) -> Result<(), AllocError>
+        requires { CanBeDone first.task }
+    {
+        let mut errand = first;
+        for _round in rt.forever() {
+            let outcome = done(alloc, errand, keys, signer, gate)?;
+            match self.come_back(rt, alloc, outcome)? {
+                Some(next) => errand = next,
+                None => return Ok(()),
             }
         }
         unreachable!()
@@ -71,16 +174,11 @@ impl Hall {
         signer: &N,
         gate: &G,
     ) -> Result<(), AllocError> {
-        let mut given = None;
         for _ in rt.forever() {
-            let Some(question) = self.next(rt, alloc, given)? else {
+            let Some(errand) = self.next(rt, alloc)? else {
                 return Ok(());
             };
-            gate.at(question.point);
-            given = Some(Answer {
-                taken: question.taken,
-                given: value_for(alloc, &question.order, keys, signer)?,
-            });
+            self.do_errands(rt, alloc, errand, keys, signer, gate)?;
         }
         unreachable!()
     }
@@ -99,19 +197,17 @@ impl Hall {
         }
     }
 
-    /// Delivers until all is over.
+    /// Delivers until all is over, and wakes a worker each time.
     fn deliver_all<R: Wait>(&self, rt: &R, alloc: Global) -> Result<(), AllocError> {
         let mut shared = self.shared.lock(rt);
         for _ in rt.forever() {
-            let before = shared.entries();
             shared.deliver(alloc)?;
-            if before < shared.entries() || shared.over {
-                self.moved.notify_all();
-            }
             if shared.over {
+                self.wake_all();
                 return Ok(());
             }
-            shared = self.moved.wait(rt, shared);
+            self.to_work.notify_one();
+            shared = self.to_deliver.wait(rt, shared);
         }
         unreachable!()
     }
@@ -123,19 +219,20 @@ impl Hall {
         }
     }
 
-    /// Performs the script until all is over.
+    /// Performs the script until all is over, and wakes the thread that delivers where it moved.
     fn perform_all<R: Wait>(&self, rt: &R, alloc: Global) -> Result<(), AllocError> {
         let mut shared = self.shared.lock(rt);
         for _ in rt.forever() {
             let before = shared.entries();
             shared.perform(alloc)?;
-            if before < shared.entries() || shared.over {
-                self.moved.notify_all();
-            }
             if shared.over {
+                self.wake_all();
                 return Ok(());
             }
-            shared = self.moved.wait(rt, shared);
+            if before < shared.entries() {
+                self.to_deliver.notify_one();
+            }
+            shared = self.to_perform.wait(rt, shared);
         }
         unreachable!()
     }
@@ -160,7 +257,9 @@ pub(crate) fn in_threads<R: Threads + Wait + Sync, M: KeyMaker, N: Signer, G: Ga
 ) -> Waking {
     let hall = Hall {
         shared: Mutex::new(Shared::new(waking)),
-        moved: Condvar::new(),
+        to_work: Condvar::new(),
+        to_deliver: Condvar::new(),
+        to_perform: Condvar::new(),
     };
     let at = &hall;
     thread::scope(thread::scope_env(), rt, |scope| {
@@ -179,6 +278,11 @@ pub(crate) fn in_threads<R: Threads + Wait + Sync, M: KeyMaker, N: Signer, G: Ga
             at.stop(rt);
         }
     });
-    let Hall { shared, moved: _ } = hall;
+    let Hall {
+        shared,
+        to_work: _,
+        to_deliver: _,
+        to_perform: _,
+    } = hall;
     shared.into_inner().waking
 }

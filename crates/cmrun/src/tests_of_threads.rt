@@ -4,7 +4,7 @@ use crate::tests::{run_with, web};
 use crate::top::Status;
 use cmc_answers::ScriptedSigner;
 use cmc_keys::ScriptedKeys;
-use cmc_objects::{Entry, Order, SignOrder};
+use cmc_objects::{Entry, Order, SignOrder, Who};
 use cmc_scenario::generate;
 use cmc_workers::{Driven, Gate, Point, Work, drive};
 use cmc_world::World;
@@ -68,15 +68,42 @@ fn finishes_in_threads(rt: HostRuntime) -> Result<(), Fail> {
     Ok(())
 }
 
-/// Holds the first question to an issuer until a second one is at the gate.
+/// Holds the first work of its sort until a second one is at the gate.
 #[derive(Drop)]
 struct Holding {
+    /// Decisions are held, else questions to issuers.
+    decisions: bool,
     here: AtomicU64,
     first: AtomicU64,
     second: AtomicU64,
 }
 
 impl Holding {
+    fn new(decisions: bool) -> Holding {
+        Holding {
+            decisions,
+            here: AtomicU64::new(0),
+            first: AtomicU64::new(0),
+            second: AtomicU64::new(0),
+        }
+    }
+
+    fn is_held(&self, work: Work) -> bool {
+        match work {
+            Work::Decide => self.decisions,
+            Work::Sign => !self.decisions,
+            _ => false,
+        }
+    }
+
+    /// The entries of the first and the second work.
+    fn entries(&self) -> (u64, u64) {
+        (
+            self.first.load(Ordering::SeqCst),
+            self.second.load(Ordering::SeqCst),
+        )
+    }
+
     fn hold(&self) {
         for _turn in 0..1_000_000u32 {
             if self.here.load(Ordering::SeqCst) > 1 {
@@ -86,7 +113,7 @@ impl Holding {
         }
     }
 
-    fn sign(&self, entry: u64) {
+    fn hold_first(&self, entry: u64) {
         match self.here.fetch_add(1, Ordering::SeqCst) {
             0 => {
                 self.first.store(entry, Ordering::SeqCst);
@@ -100,8 +127,8 @@ impl Holding {
 
 impl Gate for Holding {
     fn at(&self, point: Point) {
-        if matches!(point.work, Work::Sign) {
-            self.sign(point.entry);
+        if self.is_held(point.work) {
+            self.hold_first(point.entry);
         }
     }
 }
@@ -131,27 +158,24 @@ fn answered_at(world: &World, asking: u64) -> Option<u64> {
     None
 }
 
-fn two_open<R: Threads + Wait + Abort + Sync>(rt: &R, alloc: Global) -> Result<(), Fail> {
-    let gate = Holding {
-        here: AtomicU64::new(0),
-        first: AtomicU64::new(0),
-        second: AtomicU64::new(0),
-    };
+/// The world of two Certificates as two workers leave it.
+fn world_of_two<R: Threads + Wait + Sync>(
+    rt: &R,
+    alloc: Global,
+    gate: &Holding,
+) -> Result<World, Fail> {
     let scenario = generate(alloc, 2)?;
-    let driven = drive(
-        rt,
-        alloc,
-        scenario,
-        &ScriptedKeys,
-        &ScriptedSigner,
-        &gate,
-        2,
-    )?;
-    let Driven::Finished(world) = driven else {
-        return Err("spent".into());
-    };
-    let first = gate.first.load(Ordering::SeqCst);
-    let second = gate.second.load(Ordering::SeqCst);
+    let driven = drive(rt, alloc, scenario, &ScriptedKeys, &ScriptedSigner, gate, 2)?;
+    match driven {
+        Driven::Finished(world) => Ok(world),
+        Driven::Spent(_) => Err("spent".into()),
+    }
+}
+
+fn two_open<R: Threads + Wait + Abort + Sync>(rt: &R, alloc: Global) -> Result<(), Fail> {
+    let gate = Holding::new(false);
+    let world = world_of_two(rt, alloc, &gate)?;
+    let (first, second) = gate.entries();
     let (one, one_order) = asked(&world, first).ok_or("the first asks an issuer")?;
     let (other, other_order) = asked(&world, second).ok_or("the second asks an issuer")?;
     passes(rt, "two passes", one != other);
@@ -170,4 +194,63 @@ fn two_open<R: Threads + Wait + Abort + Sync>(rt: &R, alloc: Global) -> Result<(
 #[test]
 fn two_signings_open(rt: HostRuntime) -> Result<(), Fail> {
     two_open(&rt, rt.alloc())
+}
+
+/// The pass that begins in the entry of this number.
+fn begun(world: &World, number: u64) -> Option<u64> {
+    match world.history().entry(number)? {
+        Entry::Begin { pass, .. } => Some(*pass),
+        _ => None,
+    }
+}
+
+/// Whether the entry is one of the pass, behind its begin.
+fn is_of(entry: &Entry, number: u64) -> bool {
+    match entry {
+        Entry::Call {
+            who: Who::Pass(pass),
+            ..
+        }
+        | Entry::Ask { pass, .. }
+        | Entry::Made { pass, .. }
+        | Entry::Signed { pass, .. }
+        | Entry::Answered { pass, .. }
+        | Entry::Judged { pass, .. }
+        | Entry::End { pass, .. } => *pass == number,
+        _ => false,
+    }
+}
+
+/// The number of the first entry of the pass behind its begin.
+fn next_of(world: &World, pass: u64) -> Option<u64> {
+    let mut number = 0u64;
+    for entry in world.history().as_slice() {
+        number = number.saturating_add(1);
+        if is_of(entry, pass) {
+            return Some(number);
+        }
+    }
+    None
+}
+
+fn two_undecided<R: Threads + Wait + Abort + Sync>(rt: &R, alloc: Global) -> Result<(), Fail> {
+    let gate = Holding::new(true);
+    let world = world_of_two(rt, alloc, &gate)?;
+    let (first, second) = gate.entries();
+    let one = begun(&world, first).ok_or("the first begins a pass")?;
+    let other = begun(&world, second).ok_or("the second begins a pass")?;
+    assert!(rt; one != other);
+    let later = first.max(second);
+    let one_next = next_of(&world, one).ok_or("the first goes on")?;
+    let other_next = next_of(&world, other).ok_or("the second goes on")?;
+    assert!(rt;
+        later < one_next && later < other_next,
+        "both stand undecided at once"
+    );
+    Ok(())
+}
+
+#[test]
+fn two_decisions_open(rt: HostRuntime) -> Result<(), Fail> {
+    two_undecided(&rt, rt.alloc())
 }
