@@ -83,12 +83,12 @@ fn conditions(alloc: Global, issuing: Option<Tri>) -> Result<Conditions, Fail> {
     }
 }
 
-fn status(alloc: Global, case: &Case) -> Result<CertStatus, Fail>
-    ensures { IfOk result (λ s. s.last_failure ≡ case.now.failed) }
+fn status(alloc: Global, case: &Case, failed: Option<i64>) -> Result<CertStatus, Fail>
+    ensures { IfOk result (λ s. s.last_failure ≡ failed) }
 {
     let mut status = CertStatus::new(alloc);
     status.conditions = conditions(alloc, case.issuing)?;
-    status.last_failure = case.failed;
+    status.last_failure = failed;
     status.attempts = case.attempts;
     status.revision = Some(1);
     Ok(status)
@@ -100,8 +100,8 @@ fn spec(alloc: Global, algorithm: Option<Algorithm>) -> Result<CertSpec, Fail> {
     Ok(spec)
 }
 
-fn certificate(alloc: Global, case: &Case) -> Result<Certificate, Fail>
-    ensures { IfOk result (λ c. c.status.last_failure ≡ case.now.failed) }
+fn certificate(alloc: Global, case: &Case, failed: Option<i64>) -> Result<Certificate, Fail>
+    ensures { IfOk result (λ c. c.status.last_failure ≡ failed) }
 {
     let mut meta = new_meta(alloc, "web")?;
     meta.version = 3;
@@ -109,7 +109,7 @@ fn certificate(alloc: Global, case: &Case) -> Result<Certificate, Fail>
     Ok(Certificate {
         meta,
         spec,
-        status: status(alloc, case)?,
+        status: status(alloc, case, failed)?,
     })
 }
 
@@ -265,7 +265,8 @@ pub(crate) fn views(alloc: Global, case: &Case) -> Result<Views, Fail>
     ensures { IfOk result HasDatedFailure }
 {
     let mut views = belongings(alloc, case)?;
-    views.certificate = Some(Shared::new(alloc, certificate(alloc, case)?)?);
+    let certificate = certificate(alloc, case, case.failed)?;
+    views.certificate = Some(Shared::new(alloc, certificate)?);
     Ok(views)
 }
 

@@ -17,4 +17,6 @@ mod queue;
 #[cfg(test)]
 mod restarts;
 #[cfg(test)]
+mod work_queues;
+#[cfg(test)]
 mod world;
