@@ -94,8 +94,10 @@ def main():
         whole = run(given, made, 0)
         if whole[0] != 0:
             sys.exit(f"with ample memory the run ends with status {whole[0]}")
+        # (what threads leave for want of memory is gone on with, so their runs do not tell how many allocations there are)
+        alone = argparse.Namespace(**dict(vars(given), workers=0))
         most = 64
-        while any(run(given, made, most + more)[0] == 5 for more in range(8)):
+        while any(run(alone, made, most + more)[0] == 5 for more in range(8)):
             most *= 2
         for number in range(1, most, given.step):
             status, text = run(given, made, number)
