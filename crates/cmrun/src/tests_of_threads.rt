@@ -76,6 +76,8 @@ struct Holding {
     here: AtomicU64,
     first: AtomicU64,
     second: AtomicU64,
+    /// 1 once the second has come while the first was held.
+    met: AtomicU64,
 }
 
 impl Holding {
@@ -85,6 +87,7 @@ impl Holding {
             here: AtomicU64::new(0),
             first: AtomicU64::new(0),
             second: AtomicU64::new(0),
+            met: AtomicU64::new(0),
         }
     }
 
@@ -104,9 +107,15 @@ impl Holding {
         )
     }
 
+    /// Whether the second came to the gate while the first was held there.
+    fn have_met(&self) -> bool {
+        self.met.load(Ordering::SeqCst) == 1
+    }
+
     fn hold(&self) {
         for _turn in 0..1_000_000u32 {
             if self.here.load(Ordering::SeqCst) > 1 {
+                self.met.store(1, Ordering::SeqCst);
                 break;
             }
             thread::yield_now();
@@ -175,6 +184,7 @@ fn world_of_two<R: Threads + Wait + Sync>(
 fn two_open<R: Threads + Wait + Abort + Sync>(rt: &R, alloc: Global) -> Result<(), Fail> {
     let gate = Holding::new(false);
     let world = world_of_two(rt, alloc, &gate)?;
+    passes(rt, "both are at the gate", gate.have_met());
     let (first, second) = gate.entries();
     let (one, one_order) = asked(&world, first).ok_or("the first asks an issuer")?;
     let (other, other_order) = asked(&world, second).ok_or("the second asks an issuer")?;
@@ -236,6 +246,7 @@ fn next_of(world: &World, pass: u64) -> Option<u64> {
 fn two_undecided<R: Threads + Wait + Abort + Sync>(rt: &R, alloc: Global) -> Result<(), Fail> {
     let gate = Holding::new(true);
     let world = world_of_two(rt, alloc, &gate)?;
+    passes(rt, "both are at the gate", gate.have_met());
     let (first, second) = gate.entries();
     let one = begun(&world, first).ok_or("the first begins a pass")?;
     let other = begun(&world, second).ok_or("the second begins a pass")?;
