@@ -1,5 +1,5 @@
 -- The form of names: DNS subdomains of RFC 1123, as Kubernetes asks of object names.
-use Rattle.std.specs.Prelude.{ℕ, List, [], ◌∷◌, ◌++◌, Bool, ◌&&◌, ◌||◌, ◌==◌, ◌-◌, nat_le, nat_lt, if◌then◌else◌, length, slice_index}
+use Rattle.std.specs.Prelude.{◌≡◌, ◌<◌, ℕ, zero, suc, ◌+◌, ◌*◌, List, [], ◌∷◌, ◌++◌, Bool, true, ◌&&◌, ◌||◌, ◌==◌, ◌-◌, nat_le, nat_lt, if◌then◌else◌, length, slice_index}
 use Rattle.std.specs.List.{list_all}
 
 -- a lower-case letter or a digit
@@ -25,3 +25,20 @@ has_labels bytes = list_all is_label (labels_from [] bytes)
 
 abbrev pub is_subdomain : List ℕ → Bool
 is_subdomain bytes = nat_le (length bytes) 253 && has_labels bytes
+
+-- ---- the number by which names are told apart before their texts are
+
+-- the first n bytes as a number, the first one counting most; 0 for each that is not there
+abbrev pub leading : ℕ → List ℕ → ℕ
+leading zero bytes = 0
+leading (suc n) bytes = leading n bytes * 256 + slice_index bytes n
+
+-- a name's text, and its first eight bytes as a number
+pub record IsNamed (number : ℕ) (text : List ℕ) : Type 0 where
+  pub form : is_subdomain text ≡ true
+  pub bytes : (i : ℕ) → slice_index text i < 256
+  pub number_is : number ≡ leading 8 text
+
+-- both texts are of one length, and so short that the number has all of their bytes
+abbrev pub are_short : List ℕ → List ℕ → Bool
+are_short xs ys = nat_le (length xs) 8 && (length xs == length ys)

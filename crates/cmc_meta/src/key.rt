@@ -152,9 +152,12 @@ impl Ord for Key {
     ghost matches_eq = { Prim.search (comparing, rules) };
 
     fn cmp(&self, other: &Key) -> Ordering {
-        self.kind
-            .cmp(&other.kind)
-            .then(self.namespace.cmp(&other.namespace))
-            .then(self.name.cmp(&other.name))
+        match self.kind.cmp(&other.kind) {
+            Ordering::Equal => match self.namespace.cmp(&other.namespace) {
+                Ordering::Equal => self.name.cmp(&other.name),
+                unequal => unequal,
+            },
+            unequal => unequal,
+        }
     }
 }

@@ -4,8 +4,8 @@ ghost use Rattle.std.specs.Cmp.Lexicographic.{slice_cmp, pointwise};
 ghost use Rattle.std.specs.Cmp.Rules.{comparing};
 ghost use Rattle.std.specs.List.{list_all};
 ghost use Rattle.std.specs.Ordering.{nat_cmp, as_partial_cmp};
-ghost use Rattle.std.specs.Prelude.{◌≡◌, ◌↔◌, true, false, IsTrue, IfOk, IsErrOf, nat_eq};
-ghost use Rattle.cmc_meta.specs.Names.{is_alphanumeric, is_label_byte, is_label, has_labels, is_subdomain};
+ghost use Rattle.std.specs.Prelude.{◌≡◌, ◌↔◌, ◌<◌, ℕ, true, false, IsTrue, IfOk, IsErrOf, nat_eq, slice_index};
+ghost use Rattle.cmc_meta.specs.Names.{is_alphanumeric, is_label_byte, is_label, has_labels, is_subdomain, leading, are_short};
 
 use std::alloc::{AllocError, Global};
 use std::cmp::Ordering;
@@ -13,21 +13,23 @@ use std::marker::Model;
 
 /// The name of an object or of a namespace: a DNS subdomain of 1 to 253 bytes, as RFC 1123 has it and
 /// the Kubernetes API conventions ask of object names. Contracts see the list of its bytes.
-#[derive(Clone, Drop)]
+#[derive(Drop)]
 pub struct Name {
+    /// The first eight bytes as a number: it decides most comparisons without a look at the text.
+    first: u64,
     text: String,
 }
 
 impl Model for Name {
-    ghost use Rattle.std.specs.Prelude.{◌≡◌, List, ℕ, true};
     ghost use Rattle.std.specs.String.{string_bytes};
-    ghost use Rattle.cmc_meta.specs.Names.{is_subdomain};
+    ghost use Rattle.std.specs.Prelude.{List, ℕ};
+    ghost use Rattle.cmc_meta.specs.Names.{IsNamed};
 
     ghost Value = { List ℕ };
 
     ghost view = { λ n. string_bytes n.text };
 
-    ghost invariant = { λ n. is_subdomain (string_bytes n.text) ≡ true };
+    ghost invariant = { λ n. IsNamed n.first (string_bytes n.text) };
 }
 
 /// Why a text gave no `Name`.
@@ -94,6 +96,25 @@ fn all_labels(bytes: &[u8]) -> bool
     is_one_label(&bytes[start..])
 }
 
+/// The byte at the place, and 0 behind the last one.
+fn byte_at(bytes: &[u8], place: usize) -> u8
+    ensures { result ≡ slice_index bytes.now place }
+{
+    if place < bytes.len() { bytes[place] } else { 0 }
+}
+
+/// The first eight bytes as a number, the first one counting most; 0 for each that is not there.
+fn leading_bytes(bytes: &[u8]) -> u64
+    ensures number { result ≡ leading 8 bytes.now }
+    ensures bytes { (i : ℕ) → slice_index bytes.now i < 256 }
+{
+    let mut number = 0;
+    for place in 0..8 {
+        number = number * 256 + u64::from(byte_at(bytes, place));
+    }
+    number
+}
+
 impl Name {
     /// The name that `text` spells.
     ///
@@ -110,6 +131,7 @@ impl Name {
             return Err(BadName::NotSubdomain);
         }
         Ok(Name {
+            first: leading_bytes(text.as_bytes()),
             text: String::from_str(alloc, text)?,
         })
     }
@@ -134,6 +156,7 @@ impl Name {
         ensures { IfOk result (λ n. n ≡ self.now) }
     {
         Ok(Name {
+            first: self.first,
             text: self.text.clone()?,
         })
     }
@@ -142,7 +165,27 @@ impl Name {
     pub fn same(&self, other: &Name) -> bool
         ensures { IsTrue result ↔ (self.now ≡ other.now) }
     {
-        self.text.as_str() == other.text.as_str()
+        self.first == other.first
+            && (self.is_short_as(other) || self.text.as_str() == other.text.as_str())
+    }
+
+    /// Whether both texts have one length of at most eight bytes, so that the numbers hold all of them.
+    fn is_short_as(&self, other: &Name) -> bool
+        ensures { result ≡ are_short self.now other.now }
+    {
+        self.text.len() <= 8 && self.text.len() == other.text.len()
+    }
+
+    /// The order of the texts. Most are told apart by their numbers alone.
+    fn compare(&self, other: &Name) -> Ordering
+        ensures { result ≡ slice_cmp nat_cmp self.now other.now }
+    {
+        match self.first.cmp(&other.first) {
+            Ordering::Less => Ordering::Less,
+            Ordering::Greater => Ordering::Greater,
+            Ordering::Equal if self.is_short_as(other) => Ordering::Equal,
+            Ordering::Equal => self.text.as_str().cmp(other.text.as_str()),
+        }
     }
 }
 
@@ -152,7 +195,7 @@ impl PartialEq for Name {
     ghost laws = { Prim.search (comparing, rules) };
 
     fn eq(&self, other: &Name) -> bool {
-        self.text.as_str() == other.text.as_str()
+        self.same(other)
     }
 }
 
@@ -180,6 +223,6 @@ impl Ord for Name {
     ghost matches_eq = { Prim.search (comparing, rules) };
 
     fn cmp(&self, other: &Name) -> Ordering {
-        self.text.as_str().cmp(other.text.as_str())
+        self.compare(other)
     }
 }
