@@ -1,7 +1,9 @@
 pub mod OneMark
 pub mod OneSlot
+pub mod Leading
 pub mod Exchanging
 pub mod Changing
+pub mod Targeting
 pub mod Rooms
 pub mod Preparing
 pub mod Changes

@@ -1,16 +1,14 @@
 -- The slot of one key changes, and no other.
-use Rattle.std.proofs.Common.{◌≡◌, Option, Some, None, Bool, true, false, cond, refl, sym, ap, ◌∙◌, subst, List, [], ◌∷◌}
+use Rattle.std.proofs.Common.{◌≡◌, Option, Some, None, Bool, true, false, cond, refl, sym, ap, ◌∙◌, subst}
 use Rattle.std.specs.BTreeMap.{BTreeMap, WritesThrough, get_by, is_at}
-use Rattle.std.specs.Map.{lookup, keys_of}
-use Rattle.std.specs.List.Sorted.{IsStrictlySortedBy}
+use Rattle.std.specs.Map.{lookup}
 use Rattle.std.specs.Ordering.{is_eq}
 use Rattle.std.specs.Prelude.{IsSome, if◌then◌else◌, is_some}
 use Rattle.cmc_meta.specs.declared.key.Key.{Key}
 use Rattle.cmc_meta.specs.Keys.{key_cmp, key_eq}
 use Rattle.cmc_objects.specs.declared.object.Object.{Object}
-use Rattle.cmc_informer.specs.Caches.{Slotted, held_in, marked, slot_at, has_slot}
-use Rattle.cmc_informer.specs.Indexes.{AreKeys, is_on, mark_in, on_keys}
-use Rattle.cmc_informer.proofs.OneMark.{key_tie, keys_are, same_key}
+use Rattle.cmc_informer.specs.Caches.{Slotted, held_in, slot_at, has_slot}
+use Rattle.cmc_informer.proofs.OneMark.{key_tie, same_key}
 
 moved : (b : Bool) (on : Option Object) (es new : Slotted) (key k : Key) → is_eq (key_cmp key k) ≡ b
     → lookup (is_at (key_cmp k)) new ≡ cond b (Some on) (lookup (is_at (key_cmp k)) es) → slot_at new k ≡ (if b then on else slot_at es k)
@@ -68,24 +66,3 @@ pub slots_stay : (m n : BTreeMap Key (Option Object)) (key : Key) (old on : Opti
 slots_stay m n key old on found through k has =
     let some : IsSome (get_by (key_cmp key) m) = rw found refl in
     stays (is_eq (key_cmp key k)) m.entries n.entries key k on refl ((through.3 some).0 k) has
-
--- ---- the keys whose slots pass a test
-
-marked_keys : (test : Option Object → Bool) (es : Slotted) → keys_of (marked test es) ≡ keys_of es
-marked_keys test [] = refl
-marked_keys test (e ∷ es) = ap (λ (ks : List Key). e.0 ∷ ks) (marked_keys test es)
-
-marked_by : (b : Bool) (test : Option Object → Bool) (o : Option Object) (rest : Option Bool) (held : Option (Option Object)) → is_on rest ≡ test (held_in held) → is_on (cond b (Some (test o)) rest) ≡ test (held_in (cond b (Some o) held))
-marked_by true test o rest held below = refl
-marked_by false test o rest held below = below
-
-marked_at : (test : Option Object → Bool) → test None ≡ false → (es : Slotted) (k : Key) → is_on (lookup (is_at (key_cmp k)) (marked test es)) ≡ test (held_in (lookup (is_at (key_cmp k)) es))
-marked_at test none [] k = sym none
-marked_at test none (e ∷ es) k = marked_by (is_eq (key_cmp k e.0)) test e.1 (lookup (is_at (key_cmp k)) (marked test es)) (lookup (is_at (key_cmp k)) es) (marked_at test none es k)
-
--- they are those of the objects that pass it, in order
-pub marked_are : (test : Option Object → Bool) → test None ≡ false → (es : Slotted) → IsStrictlySortedBy key_cmp (keys_of es) → AreKeys (on_keys (marked test es)) (λ k. test (slot_at es k))
-unfolding slot_at mark_in
-marked_are test none es sorted =
-    let are = keys_are (marked test es) (subst (λ (ks : List Key). IsStrictlySortedBy key_cmp ks) (sym (marked_keys test es)) sorted) in
-    record { ordered = are.ordered; exact = λ k. are.exact k ∙ marked_at test none es k }

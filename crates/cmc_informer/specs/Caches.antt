@@ -4,6 +4,7 @@ use Rattle.std.specs.BTreeMap.{is_at}
 use Rattle.std.specs.List.{list_any}
 use Rattle.std.specs.Map.{lookup}
 use Rattle.cmc_meta.specs.declared.key.Key.{Key}
+use Rattle.cmc_meta.specs.declared.key.Kind.TheVariants.{Secret}
 use Rattle.cmc_meta.specs.Keys.{key_cmp}
 use Rattle.cmc_meta.specs.declared.owners.OwnerRef.{OwnerRef}
 use Rattle.cmc_objects.specs.declared.object.Object.{Object}
@@ -13,7 +14,7 @@ use Rattle.cmc_model.specs.Objects.{Objects, no_objects}
 use Rattle.cmc_model.specs.Replies.{put_at}
 use Rattle.std.specs.Str.{bytes_eq}
 use Rattle.cmc_model.specs.declared.write.Write.{Write}
-use Rattle.cmc_informer.specs.Indexes.{Index, Marked, has_room}
+use Rattle.cmc_informer.specs.Indexes.{Index, Targeted, has_room, points}
 
 -- keys, in order, each with its object; one without is room alone
 abbrev pub Slotted : Type 0
@@ -61,11 +62,14 @@ abbrev pub is_targeting : List ℕ → List ℕ → Option Object → Bool
 is_targeting namespace name (Some (Cert c)) = bytes_eq c.meta.namespace namespace && bytes_eq c.spec.secret_name name
 is_targeting namespace name other = false
 
--- keys, in order, each with whether its slot passes the test
-abbrev pub marked : (Option Object → Bool) → Slotted → Marked
-marked test [] = []
-marked test (e ∷ es) = (e.0, test e.1) ∷ marked test es
+-- the key of the Secret of this namespace and this name
+abbrev pub secret_key : List ℕ → List ℕ → Key
+secret_key namespace name = record { kind = Secret; namespace = namespace; name = name }
 
 -- under each uid that the object is to be found by, there is room for the key
 abbrev pub HasRooms : (ℕ → Option Object → Bool) → Index → Option Object → Key → Type 0
 HasRooms finds index object key = (uid : ℕ) → finds uid object ≡ true → has_room index uid key ≡ true
+
+-- the Secret that the object names, where it names one, leads to the key
+abbrev pub IsLedTo : Targeted → Option Object → Key → Type 0
+IsLedTo index object key = (namespace name : List ℕ) → is_targeting namespace name object ≡ true → points index (secret_key namespace name) key ≡ true

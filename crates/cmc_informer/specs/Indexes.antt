@@ -1,4 +1,4 @@
--- What contracts see of an index from uids to keys.
+-- What contracts see of the indexes: from uids to keys, and from Secrets to keys.
 use Rattle.std.specs.Prelude.{◌≡◌, ℕ, Bool, true, false, List, [], ◌∷◌, Option, Some, None, is_some, if◌then◌else◌}
 use Rattle.std.specs.BTreeMap.{is_at}
 use Rattle.std.specs.List.{list_any}
@@ -49,6 +49,18 @@ has_room index uid key = place_of (lookup (is_at (nat_cmp uid)) index) key
 -- no room is lost
 abbrev pub KeepsRooms : Index → Index → Type 0
 KeepsRooms old new = (uid : ℕ) (key : Key) → has_room old uid key ≡ true → has_room new uid key ≡ true
+
+-- the keys by the key of a Secret
+abbrev pub Targeted : Type 0
+Targeted = List (Key × Marked)
+
+-- whether the Secret leads to the key
+unfoldable pub points : Targeted → Key → Key → Bool
+points index secret key = mark_of (lookup (is_at (key_cmp secret)) index) key
+
+-- where a Secret led, it leads still
+abbrev pub KeepsPoints : Targeted → Targeted → Type 0
+KeepsPoints old new = (secret key : Key) → points old secret key ≡ true → points new secret key ≡ true
 
 -- the keys are these, in order
 pub record AreKeys (keys : List Key) (P : Key → Bool) : Type 0 where

@@ -8,14 +8,15 @@ ghost use Rattle.cmc_informer.specs.Indexes.{AreKeys, Finds};
 
 use crate::keys::Keys;
 use crate::rows::{Rows, change, make, make_room, no_rows, prepare};
+use crate::targets::key_of_secret;
 use cmc_meta::{Key, Kind, Name};
 use cmc_model::Write;
 use cmc_objects::Object;
 use std::alloc::{AllocError, Global};
 use std::marker::Model;
 
-/// Objects under their keys, with indexes by the uids of their owners and by their own. Contracts see the
-/// objects alone, as a finite map.
+/// Objects under their keys, with indexes by the uids of their owners, by their own, and by the Secrets that
+/// Certificates name. Contracts see the objects alone, as a finite map.
 #[derive(Drop)]
 pub struct Cache {
     rows: Rows,
@@ -74,7 +75,12 @@ impl Cache {
     ) -> Result<Keys, AllocError>
         ensures { IfOk result (λ keys. AreKeys keys (λ k. is_targeting namespace.now name.now (object_at self.now k))) }
     {
-        let keys = self.rows.slots.targeting(alloc, namespace, name)?;
+        let secret = key_of_secret(namespace, name)?;
+        let held = self.rows.targets.keys(alloc, &secret)?;
+        let keys = self
+            .rows
+            .slots
+            .targeting_among(alloc, held, namespace, name)?;
         Ok(keys)
     }
 

@@ -12,6 +12,7 @@ mod marks;
 mod owners;
 mod rows;
 mod slots;
+mod targets;
 mod uids;
 mod watch;
 

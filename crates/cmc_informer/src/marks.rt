@@ -1,6 +1,6 @@
 //! Keys that count, and room for more.
 ghost use Rattle.std.specs.Option.{option_copied};
-ghost use Rattle.std.specs.Prelude.{◌≡◌, IfOk, OnOk, if◌then◌else◌, true, false};
+ghost use Rattle.std.specs.Prelude.{◌≡◌, IfOk, OnErr, OnOk, if◌then◌else◌, true, false};
 ghost use Rattle.cmc_meta.specs.declared.key.Key.{Key as KeyValue};
 ghost use Rattle.cmc_meta.specs.Keys.{key_eq};
 ghost use Rattle.cmc_informer.specs.Indexes.{AreKeys, Finds, has_place, mark_in};
@@ -60,6 +60,16 @@ impl Marks {
         if let Some(place) = self.map.get_mut(key) {
             *place = true;
         }
+    }
+
+    /// The key counts, and what it takes for that is made. An error is one of memory.
+    pub(crate) fn add(&mut self, key: &Key) -> Result<(), AllocError>
+        ensures ok { OnOk result ((k : KeyValue) → mark_in self.new k ≡ (if key_eq key.now k then true else mark_in self.old k)) }
+        ensures err { OnErr result ((k : KeyValue) → mark_in self.new k ≡ mark_in self.old k) }
+    {
+        self.room(key)?;
+        self.put(key);
+        Ok(())
     }
 
     /// The key counts no more, and its room is kept. It takes no memory.

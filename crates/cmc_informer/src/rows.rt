@@ -9,18 +9,21 @@ ghost use Rattle.cmc_informer.specs.Indexed.{HasRoom, HasRoomFor, IsIndexed, Kee
 use crate::index::Index;
 use crate::owners::{move_owners, room_for_owners};
 use crate::slots::Slots;
+use crate::targets::{Targets, room_for_target};
 use crate::uids::{move_uid, room_for_uid};
 use cmc_meta::{Key, Kind};
 use cmc_model::Write;
 use cmc_objects::Object;
 use std::alloc::{AllocError, Global};
 
-/// The slots of objects, under each uid the keys of what it owns, and the key of the object that has it.
+/// The slots of objects, under each uid the keys of what it owns and the key of the object that has it, and
+/// under each Secret the keys of the Certificates that may name it.
 #[derive(Drop)]
 pub(crate) struct Rows {
     pub(crate) slots: Slots,
     pub(crate) owners: Index,
     pub(crate) uids: Index,
+    pub(crate) targets: Targets,
 }
 
 /// No objects. It takes no memory.
@@ -33,6 +36,7 @@ pub(crate) fn no_rows(alloc: Global) -> Rows
         slots: Slots::new(alloc),
         owners: Index::new(alloc),
         uids: Index::new(alloc),
+        targets: Targets::new(alloc),
     }
 }
 
@@ -52,6 +56,7 @@ pub(crate) fn make_room(
     rows.slots.room(key)?;
     room_for_owners(alloc, &mut rows.owners, object, key)?;
     room_for_uid(alloc, &mut rows.uids, object, key)?;
+    room_for_target(alloc, &mut rows.targets, object, key)?;
     Ok(())
 }
 

@@ -1,10 +1,10 @@
 //! Objects under their keys, and room for more.
+ghost use Rattle.std.specs.List.{filter};
 ghost use Rattle.std.specs.Option.{option_copied};
 ghost use Rattle.std.specs.Prelude.{◌≡◌, None, IfOk, OnOk, if◌then◌else◌, true};
 ghost use Rattle.cmc_meta.specs.declared.key.Key.{Key as KeyValue};
 ghost use Rattle.cmc_meta.specs.Keys.{key_eq};
 ghost use Rattle.cmc_informer.specs.Caches.{has_slot, is_targeting, slot_at};
-ghost use Rattle.cmc_informer.specs.Indexes.{AreKeys};
 
 use crate::keys::Keys;
 use cmc_meta::{Key, Name};
@@ -79,31 +79,31 @@ impl Slots {
         }
     }
 
-    /// The keys, in order, of the Certificates of the namespace that name this Secret. An error is one of
-    /// memory.
-    #[tactic(auto, unfolding(crate::specs::Caches::slot_at))]
-    pub(crate) fn targeting(
+    /// Of the keys, in their order, those of the Certificates of the namespace that name this Secret. An
+    /// error is one of memory.
+    pub(crate) fn targeting_among(
         &self,
         alloc: Global,
+        keys: Keys,
         namespace: &Name,
         name: &Name,
     ) -> Result<Keys, AllocError>
-        ensures { IfOk result (λ keys. AreKeys keys (λ k. is_targeting namespace.now name.now (slot_at self.now k))) }
+        ensures { IfOk result (λ kept. kept ≡ filter (λ k. is_targeting namespace.now name.now (slot_at self.now k)) keys) }
     {
-        let mut keys = Keys::new(alloc);
-        for (key, slot) in self.map.iter() {
-            if targets(slot, namespace, name) {
-                keys.push(key.copy()?)?;
+        let mut kept = Keys::new(alloc);
+        for key in keys.into_items() {
+            if targets(self.get(&key), namespace, name) {
+                kept.push(key)?;
             }
         }
-        Ok(keys)
+        Ok(kept)
     }
 }
 
-fn targets(slot: &Option<Object>, namespace: &Name, name: &Name) -> bool
-    ensures { result ≡ is_targeting namespace.now name.now slot.now }
+fn targets(object: Option<&Object>, namespace: &Name, name: &Name) -> bool
+    ensures { result ≡ is_targeting namespace.now name.now (option_copied object.entry) }
 {
-    match slot {
+    match object {
         Some(Object::Cert(c)) => c.meta.namespace == *namespace && c.spec.secret_name == *name,
         _ => false,
     }

@@ -122,8 +122,7 @@ fn mark_one(marks: &mut Marks, write: &Write, kind: Kind) -> Result<(), AllocErr
     ensures { OnOk result ((k : KeyValue) → mark_in marks.new k ≡ (if spec.kind_eq write.now.key.kind kind && key_eq write.now.key k then true else mark_in marks.old k)) }
 {
     if write.key.kind == kind {
-        marks.room(&write.key)?;
-        marks.put(&write.key);
+        marks.add(&write.key)?;
     }
     Ok(())
 }
