@@ -5,7 +5,7 @@ ghost use Rattle.cmc_objects.specs.Objects.{key_of};
 ghost use Rattle.cmc_model.specs.Histories.{moment_with};
 ghost use Rattle.cmc_model.specs.Replies.{is_accepted, key_of_call, from_old};
 ghost use Rattle.cmc_model.specs.Stored.{revised, restated};
-ghost use Rattle.cmc_history.specs.Replaying.{is_written, written_call, written_over, standing_after, replayed};
+ghost use Rattle.cmc_history.specs.Replaying.{is_written, written_call, written_over, count_after, object_after, standing_after, replayed};
 ghost use Rattle.cmc_model.specs.Replies.{stored_over};
 
 use cmc_meta::Key;
@@ -157,6 +157,45 @@ fn write(
     }
 }
 
+/// How many of the first accepted writes were read where this call is one, and only the first `position` count.
+fn count_after(position: u64, accepted: u64, call: &Option<Call>) -> u64
+    ensures { result ≡ count_after position accepted call.now }
+{
+    match call {
+        Some(_) if accepted < position => accepted + 1,
+        _ => accepted,
+    }
+}
+
+/// The object under the key where this call is an accepted write, and only the first `position` count. `Err` where there
+/// is no memory.
+fn object_after(
+    alloc: Global,
+    position: u64,
+    key: &Key,
+    standing: Standing,
+    call: &Option<Call>,
+) -> Result<Option<Object>, AllocError>
+    ensures { IfOk result (λ o. o ≡ object_after position key.now standing call.now) }
+{
+    let Standing {
+        moment,
+        accepted,
+        object,
+    } = standing;
+    match call {
+        Some(call) if accepted < position => {
+            write(alloc, moment, accepted + 1, key, object, call)
+        }
+        _ => Ok(object),
+    }
+}
+
+/// A call has many shapes, and to let go of it is one thing for all of them.
+fn let_go<T: Drop>(value: T) {
+    let _value = value;
+}
+
 /// The standing after one entry more, where only the first `position` accepted writes count.
 /// `Err` where there is no memory.
 fn read(
@@ -168,34 +207,16 @@ fn read(
 ) -> Result<Standing, AllocError>
     ensures { IfOk result (λ s. s ≡ standing_after position key.now standing entry.now) }
 {
-    let Standing {
+    let call = call_of_write(alloc, entry)?;
+    let moment = moment_after(entry, standing.moment);
+    let accepted = count_after(position, standing.accepted, &call);
+    let object = object_after(alloc, position, key, standing, &call)?;
+    let_go(call);
+    Ok(Standing {
         moment,
         accepted,
         object,
-    } = standing;
-    let after = moment_after(entry, moment);
-    match call_of_write(alloc, entry)? {
-        Some(call) => {
-            if accepted < position {
-                Ok(Standing {
-                    moment: after,
-                    accepted: accepted + 1,
-                    object: write(alloc, moment, accepted + 1, key, object, &call)?,
-                })
-            } else {
-                Ok(Standing {
-                    moment: after,
-                    accepted,
-                    object,
-                })
-            }
-        }
-        None => Ok(Standing {
-            moment: after,
-            accepted,
-            object,
-        }),
-    }
+    })
 }
 
 /// What the entries, the oldest first, come to for the key, where the run began at the moment `now` and
