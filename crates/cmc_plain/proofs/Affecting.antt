@@ -1,14 +1,16 @@
 -- Of which keys a role that is told of all writes of a kind may see something new.
 use Rattle.std.proofs.Common.{◌≡◌, ℕ, ◌≤◌, List, [], ◌∷◌, ◌++◌, length, Bool, true, false, refl, sym, ap, subst, ◌∙◌, arith}
 use Rattle.std.proofs.lemmas.List.Folds.{list_any-append}
-use Rattle.std.specs.Prelude.{◌||◌, if◌then◌else◌, reverse}
+use Rattle.std.proofs.lemmas.Bool.{and_parts}
+use Rattle.std.specs.Prelude.{◌&&◌, ◌||◌, not, if◌then◌else◌, reverse}
 use Rattle.std.specs.BTreeMap.{is_at}
 use Rattle.std.specs.BTreeSet.{BTreeSet}
 use Rattle.std.specs.Ordering.{is_eq}
+use Rattle.std.specs.declared.cmp.Ordering.{Ordering}
 use Rattle.cmc_meta.specs.declared.key.Key.{Key}
 use Rattle.cmc_meta.specs.declared.key.Kind.{Kind}
 use Rattle.cmc_meta.specs.declared.key.Kind.TheVariants as kinds
-use Rattle.cmc_meta.specs.Keys.{key_cmp}
+use Rattle.cmc_meta.specs.Keys.{key_cmp, key_eq}
 use Rattle.cmc_objects.specs.declared.role.Role.{Role}
 use Rattle.cmc_objects.specs.declared.entry.Entry.{Entry}
 use Rattle.cmc_objects.specs.declared.entry.Entry.TheVariants.{Deliver}
@@ -27,8 +29,9 @@ use Rattle.cmc_caches.specs.Told.{caches_at, with_cached}
 use Rattle.cmc_caches.proofs.Births.{legal_uids}
 use Rattle.cmc_caches.proofs.Shown.{views-told}
 use Rattle.cmc_world.proofs.Caching.{told_at, told_low}
+use Rattle.cmc_world.proofs.Rest.{key_eq-Decides}
 use Rattle.cmc_world.proofs.OneKind.{last_low, of_kind-oldest}
-use Rattle.cmc_plain.specs.Ready.{is_ready, Keeps, SeesSame, WakesTold}
+use Rattle.cmc_plain.specs.Ready.{is_ready, Keeps, SeesSame, StaysTold, WakesTold}
 use Rattle.cmc_plain.proofs.Keys.{tied_is_same}
 use Rattle.cmc_plain.proofs.Quiet.{role_itself}
 
@@ -112,3 +115,32 @@ told_ready s h role kind keys rows same ready to low = record {
   told = λ key work off. same key (unready (is_among keys key) role keys rows key refl ready off) to low;
   listed = λ key work off. same key (unready (is_among keys key) role keys rows key refl ready off) (accepted s h) (let high = last_low kind (writes s h) in let all = writes_count s h in omega (arith, high, all));
 }
+
+-- ---- what is known of others stays
+
+-- on keys that are none of these the role sees what it saw
+pub told_stays : (s : Setting) (h : List Entry) (role : Role) (kind : Kind) (keys : List Key) (rows : List (BTreeSet Key))
+    → ((key : Key) → is_among keys key ≡ false → (to : ℕ) → last_of_kind kind (writes s h) ≤ to → SeesSame s h role kind to key) → ((key : Key) → is_ready rows role key ≡ true → is_among keys key ≡ false)
+    → (to : ℕ) → last_of_kind kind (writes s h) ≤ to → StaysTold s h role kind to rows
+told_stays s h role kind keys rows same others to low = record {
+  told = λ key on. same key (others key on) to low;
+  listed = λ key on. same key (others key on) (accepted s h) (let high = last_low kind (writes s h) in let all = writes_count s h in omega (arith, high, all));
+}
+
+-- of one more key it is known no more
+pub keys_fewer : (role : Role) (keys more : List Key) (key : Key) (old new : List (BTreeSet Key)) → more ≡ keys ++ key ∷ [] → ((k : Key) → is_ready new role k ≡ (not (role_eq role role && key_eq key k) && is_ready old role k))
+    → ((k : Key) → is_ready old role k ≡ true → is_among keys k ≡ false) → (k : Key) → is_ready new role k ≡ true → is_among more k ≡ false
+keys_fewer role keys more key old new is each before k on =
+    let parts = and_parts (not (role_eq role role && key_eq key k)) (is_ready old role k) (sym (each k) ∙ on) in
+    ap (λ (l : List Key). is_among l k) is ∙ list_any-append (is_at (key_cmp k)) keys (key ∷ [])
+    ∙ none_of (is_among keys k) (key_cmp k key) (before k parts.1) (apart (is_eq (key_cmp k key)) role key k refl parts.0) where
+      none_of : (b : Bool) (o : Ordering) → b ≡ false → is_eq o ≡ false → (b || (is_eq o || false)) ≡ false
+      none_of true o off away = absurd (cc off)
+      none_of false o off away = ap (λ (x : Bool). x || false) away
+
+      apart : (b : Bool) (role : Role) (key k : Key) → is_eq (key_cmp k key) ≡ b → not (role_eq role role && key_eq key k) ≡ true → is_eq (key_cmp k key) ≡ false
+      apart false role key k at off = at
+      apart true role key k at off =
+          let one : key_eq key k ≡ true = (key_eq-Decides key k).1 (sym (tied_is_same k key at)) in
+          let both : (role_eq role role && key_eq key k) ≡ true = ap (λ (x : Bool). x && key_eq key k) (role_itself role) ∙ one in
+          absurd (cc (ap not both, off))

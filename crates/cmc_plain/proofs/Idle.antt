@@ -42,7 +42,7 @@ use Rattle.cmc_world.proofs.Rest.{same_key}
 use Rattle.cmc_world.proofs.Newest.{IsToldOfAll, views_newest}
 use Rattle.cmc_world.proofs.Sounds.{any_desk}
 use Rattle.cmc_world.proofs.Standings.{same_role}
-use Rattle.cmc_plain.specs.Ready.{is_ready, Keeps, Idles, Forgets}
+use Rattle.cmc_plain.specs.Ready.{is_ready, Keeps, Idles, Forgets, SeesSame, StaysTold}
 use Rattle.cmc_plain.proofs.Quiet.{idle_rests, sees_told}
 use Rattle.cmc_plain.proofs.Resting.{told_free}
 
@@ -65,16 +65,15 @@ none_left s k rows none role key on = let off = none role key in absurd (cc (on,
 
 -- ---- moves
 
-sees_besides : (s : Setting) (h : List Entry) (who : Role) (kind : Kind) (to : ℕ) (rows : List (BTreeSet Key)) → ((key : Key) → is_ready rows who key ≡ false)
+sees_besides : (s : Setting) (h : List Entry) (who : Role) (kind : Kind) (to : ℕ) (rows : List (BTreeSet Key)) → ((key : Key) → is_ready rows who key ≡ true → SeesSame s h who kind to key)
     → (role : Role) (key : Key) → is_ready rows role key ≡ true → views s (Deliver who kind to ∷ h) role key ≡ views s h role key
-sees_besides s h who kind to rows none role key on = sees_told s h who role kind to key (λ is. absurd (clash is)) where
-  clash : role_eq who role ≡ true → ⊥
-  clash is = let off = subst (λ (r : Role). is_ready rows r key ≡ false) (same_role who role is) (none key) in cc (on, off)
+sees_besides s h who kind to rows same role key on =
+    sees_told s h who role kind to key (λ is. subst (λ (r : Role). is_ready rows r key ≡ true → views s (Deliver who kind to ∷ h) r key ≡ views s h r key) (same_role who role is) (same key) on)
 
-idles_told : (b : Bool) (s : Setting) (h : List Entry) (who : Role) (kind : Kind) (to : ℕ) (rows : List (BTreeSet Key)) → ((key : Key) → is_ready rows who key ≡ false) → Idles s h rows
+idles_told : (b : Bool) (s : Setting) (h : List Entry) (who : Role) (kind : Kind) (to : ℕ) (rows : List (BTreeSet Key)) → StaysTold s h who kind to rows → Idles s h rows
     → Idles s ((if b then Deliver who kind to else Listed who kind (accepted s h)) ∷ h) rows
-idles_told true s h who kind to rows none idles = idles_by s h (Deliver who kind to) rows refl (sees_besides s h who kind to rows none) idles
-idles_told false s h who kind to rows none idles = idles_by s h (Listed who kind (accepted s h)) rows refl (sees_besides s h who kind (accepted s h) rows none) idles
+idles_told true s h who kind to rows stays idles = idles_by s h (Deliver who kind to) rows refl (sees_besides s h who kind to rows stays.told) idles
+idles_told false s h who kind to rows stays idles = idles_by s h (Listed who kind (accepted s h)) rows refl (sees_besides s h who kind (accepted s h) rows stays.listed) idles
 
 idles_pass : (s : Setting) (h : List Entry) (pass : ℕ) (e : Entry) (rows : List (BTreeSet Key)) → IsLegal s h → IsOfPass s h pass e → Idles s h rows → Idles s (e ∷ h) rows
 idles_pass s h pass e rows legal (inl (call, may, (reply, right, is))) idles =
@@ -87,7 +86,7 @@ idles_value (values.Signed signature) s h pass rows idles = idles_by s h (Signed
 idles_value (values.Answered answer) s h pass rows idles = idles_by s h (Answered pass answer) rows refl (λ role k on. refl) idles
 idles_value (values.Judged approved) s h pass rows idles = idles_by s h (Judged pass approved) rows refl (λ role k on. refl) idles
 
-idles_made : (s : Setting) (h : List Entry) (move : Move) (k : List Entry) (rows : List (BTreeSet Key)) → IsLegal s h → Forgets move rows → Grows s h move k → Idles s h rows → Idles s k rows
+idles_made : (s : Setting) (h : List Entry) (move : Move) (k : List Entry) (rows : List (BTreeSet Key)) → IsLegal s h → Forgets s h move rows → Grows s h move k → Idles s h rows → Idles s k rows
 idles_made s h moves.Script k rows legal forgets grown idles = none_left s k rows forgets
 idles_made s h (moves.Deliver role kind to) k rows legal forgets grown idles =
     subst (λ (l : List Entry). Idles s l rows) (sym grown) (idles_told (nat_le (accepted s h) (position h role kind + s.window)) s h role kind to rows forgets idles)
@@ -105,7 +104,7 @@ idles_asked s h (moves.Next pass named) order k rows is idles = subst (λ (l : L
 idles_asked s h (moves.Decide pass named d) order k rows is idles = subst (λ (l : List Entry). Idles s l rows) (sym is) (idles_once (kept_of (open_pass s h pass)) s h pass order rows idles)
 idles_asked s h other order k rows is idles = subst (λ (l : List Entry). Idles s l rows) (sym is) idles
 
-idles_after : (s : Setting) (h : List Entry) (move : Move) (answer : Stepped) (k : List Entry) (rows : List (BTreeSet Key)) → IsLegal s h → Forgets move rows → Leaves s h move answer k → Idles s h rows → Idles s k rows
+idles_after : (s : Setting) (h : List Entry) (move : Move) (answer : Stepped) (k : List Entry) (rows : List (BTreeSet Key)) → IsLegal s h → Forgets s h move rows → Leaves s h move answer k → Idles s h rows → Idles s k rows
 idles_after s h move answers.Done k rows legal forgets grown idles = idles_made s h move k rows legal forgets grown idles
 idles_after s h move (answers.Order pass order) k rows legal forgets is idles = idles_asked s h move order k rows is idles
 idles_after s h move other k rows legal forgets is idles = subst (λ (l : List Entry). Idles s l rows) (sym is) idles
@@ -116,7 +115,7 @@ idles_fewer s h old new fewer idles role key on = idles role key (fewer role key
 
 -- after a step that is answered, and where memory ran out
 pub idles_step : (old new : Seen) (move : Move) (r : Result Stepped AllocError) (before rows : List (BTreeSet Key)) → IsRun (setting_of old.scenario) old.history
-    → Keeps rows before → Forgets move rows → new.scenario ≡ old.scenario → IfOk r (λ answer. Leaves (setting_of old.scenario) old.history move answer new.history) → OnErr r (new ≡ old)
+    → Keeps rows before → Forgets (setting_of old.scenario) old.history move rows → new.scenario ≡ old.scenario → IfOk r (λ answer. Leaves (setting_of old.scenario) old.history move answer new.history) → OnErr r (new ≡ old)
     → Idles (setting_of old.scenario) old.history before → Idles (setting_of new.scenario) new.history rows
 idles_step old new move (Ok answer) before rows was fewer forgets same leaves failed idles =
     subst (λ (u : Setup). Idles (setting_of u) new.history rows) (sym same)

@@ -36,3 +36,4 @@ pub mod Stuck
 pub mod EachWait
 pub mod EachNamed
 pub mod SummaryItems
+pub mod Working

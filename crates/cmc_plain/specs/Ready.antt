@@ -81,11 +81,16 @@ Wakes s h moves.Script rows = WakesAll s h (next_effect s h) rows
 Wakes s h (moves.Deliver role kind to) rows = WakesTold s h role kind to rows
 Wakes s h other rows = Unit {0}
 
--- none is left of a role that the move may give something to do
-abbrev pub Forgets : Move → List (BTreeSet Key) → Type 0
-Forgets moves.Script rows = (role : Role) (key : Key) → is_ready rows role key ≡ false
-Forgets (moves.Deliver role kind to) rows = (key : Key) → is_ready rows role key ≡ false
-Forgets other rows = Unit {0}
+-- on these keys a role that is told of the kind sees what it saw
+pub record StaysTold (s : Setting) (h : List Entry) (role : Role) (kind : Kind) (to : ℕ) (rows : List (BTreeSet Key)) : Type 0 where
+  pub told : (key : Key) → is_ready rows role key ≡ true → SeesSame s h role kind to key
+  pub listed : (key : Key) → is_ready rows role key ≡ true → SeesSame s h role kind (accepted s h) key
+
+-- none is left on which the move may give a role something to do
+abbrev pub Forgets : Setting → List Entry → Move → List (BTreeSet Key) → Type 0
+Forgets s h moves.Script rows = (role : Role) (key : Key) → is_ready rows role key ≡ false
+Forgets s h (moves.Deliver role kind to) rows = StaysTold s h role kind to rows
+Forgets s h other rows = Unit {0}
 
 -- a role is told of all writes of a kind that it looks at
 abbrev pub IsToNewest : Setting → List Entry → Move → Type 0

@@ -1,13 +1,16 @@
 -- What the searches for the plain move find.
-use Rattle.std.specs.Prelude.{◌≡◌, ℕ, ◌<◌, true, List, Option, Some, None}
+use Rattle.std.specs.Prelude.{◌≡◌, ℕ, ◌<◌, Bool, true, List, Option, Some, None}
+use Rattle.std.specs.Ordering.{is_lt}
 use Rattle.std.specs.declared.cmp.Ordering.TheVariants.{Less}
 use Rattle.cmc_meta.specs.declared.key.Key.{Key}
 use Rattle.cmc_meta.specs.declared.key.Kind.{Kind}
+use Rattle.cmc_meta.specs.declared.key.Kind.TheVariants.{Certificate, CertificateRequest, Secret}
 use Rattle.cmc_meta.specs.Keys.{kind_rank, key_cmp}
 use Rattle.cmc_objects.specs.Roles.{role_rank}
 use Rattle.cmc_objects.specs.declared.role.Role.{Role}
 use Rattle.cmc_objects.specs.declared.entry.Entry.{Entry}
 use Rattle.cmc_model.specs.Histories.{Setting, runs}
+use Rattle.cmc_model.specs.Writes.{last_of_kind, writes}
 use Rattle.cmc_objects.specs.Watching.{kind_of_work}
 use Rattle.cmc_world.specs.declared.moves.Move.{Move}
 use Rattle.cmc_world.specs.declared.moves.Stepped.{Stepped}
@@ -16,8 +19,11 @@ use Rattle.cmc_rules.specs.Resting.{RestsOnKnown}
 use Rattle.cmc_rules.specs.Passes.{open_pass, IsWorking}
 use Rattle.cmc_plain.specs.declared.passes.Going.{Going}
 use Rattle.cmc_plain.specs.declared.deliveries.Delivery.{Delivery}
+use Rattle.cmc_plain.specs.declared.deliveries.Newest.{Newest}
 use Rattle.cmc_plain.specs.declared.begins.Beginning.{Beginning}
-use Rattle.cmc_plain.specs.Plain.{IsBehind, Fits, HasNoScript, HasNoPass, HasNoDelivery, IsFirstPass, IsOfPresent, IsFirstDelivery, IsFirstBegin, IsChosen}
+use Rattle.cmc_rules.specs.Resting.{IsIdle}
+use Rattle.cmc_rules.specs.Viewing.{views}
+use Rattle.cmc_plain.specs.Plain.{IsBehind, Fits, MayBegin, HasNoScript, HasNoPass, HasNoDelivery, IsFirstPass, IsOfPresent, IsFirstDelivery, IsFirstBegin, IsChosen}
 
 -- want of room does not make a move impossible
 abbrev pub IsAccepted : Stepped → Type 0
@@ -37,6 +43,12 @@ FindsPass s h None = HasNoPass s h
 FindsPass s h (Some g) = IsFirstPass s h g.pass × IsOfPresent s h g.incarnation (open_pass s h g.pass)
 
 -- ---- deliveries
+
+-- the newest accepted write of each kind
+pub record IsNewest (s : Setting) (h : List Entry) (newest : Newest) : Type 0 where
+  pub certificate : newest.certificate ≡ last_of_kind Certificate (writes s h)
+  pub request : newest.request ≡ last_of_kind CertificateRequest (writes s h)
+  pub secret : newest.secret ≡ last_of_kind Secret (writes s h)
 
 -- the role is behind in some kind
 abbrev pub IsBehindInSome : Setting → List Entry → Role → Type 0
@@ -67,10 +79,19 @@ abbrev pub FindsFirst : (Key → Type 0) → Option Key → Type 0
 FindsFirst P None = (key : Key) → P key → ⊥
 FindsFirst P (Some key) = P key × ((k : Key) → key_cmp k key ≡ Less → P k → ⊥)
 
--- the key fits the role, and stands above this one
-pub record FitsAbove (s : Setting) (h : List Entry) (role : Role) (below : Key) (key : Key) : Type 0 where
-  pub above : key_cmp below key ≡ Less
-  pub fits : Fits s h role key
+-- a pass of the role on the key may begin, and the role has something to do there by what it sees
+pub record HasWork (s : Setting) (h : List Entry) (role : Role) (key : Key) : Type 0 where
+  pub may : MayBegin s h role key
+  pub busy : IsIdle s h role (views s h role key) → ⊥
+
+abbrev pub is_above : Option Key → Key → Bool
+is_above None key = true
+is_above (Some below) key = is_lt (key_cmp below key)
+
+-- and the key stands above this one, if there is one
+pub record HasWorkAbove (s : Setting) (h : List Entry) (role : Role) (below : Option Key) (key : Key) : Type 0 where
+  pub above : is_above below key ≡ true
+  pub work : HasWork s h role key
 
 -- the first key that fits the role
 abbrev pub FindsKey : Setting → List Entry → Role → Option Key → Type 0

@@ -13,7 +13,7 @@ ghost use Rattle.cmc_world.specs.Quiet.{IsQuiet};
 ghost use Rattle.cmc_objects.specs.Watching.{kind_of_work};
 ghost use Rattle.cmc_plain.specs.Plain as spec;
 ghost use Rattle.cmc_plain.specs.Ready.{Covers, Idles};
-ghost use Rattle.cmc_plain.specs.Searches.{FindsBegin, FindsFirst, FindsKey, FitsAbove, IsFree};
+ghost use Rattle.cmc_plain.specs.Searches.{FindsBegin, FindsKey, IsFree};
 
 use crate::ready::Ready;
 use crate::roles::role_in;
@@ -33,7 +33,7 @@ pub(crate) struct Beginning {
 }
 
 /// Whether the key is one of the role's kind of work, and no pass of it on the key is open.
-fn is_free(world: &World, role: Role, key: &Key) -> bool
+pub(crate) fn is_free(world: &World, role: Role, key: &Key) -> bool
     ensures { IsTrue result ↔ IsFree (setting_of world.now.scenario) world.now.history role key.now }
 {
     key.kind.same(kind_of_work(role)) && !world.passes().is_on(role, key)
@@ -106,7 +106,7 @@ fn fits_seen(
 
 /// Whether the role was told of its own writes on the key. While it was not, no pass is due there, whatever it would see:
 /// so this is asked before views are made.
-fn knows_own(world: &World, role: Role, key: &Key) -> bool
+pub(crate) fn knows_own(world: &World, role: Role, key: &Key) -> bool
     ensures { result ≡ false → sameness.own_above (past (setting_of world.now.scenario) world.now.history role key.now).own (positions world.now.history role) ≡ None → ⊥ }
 {
     match world.past(role, key) {
@@ -156,70 +156,6 @@ fn first_among(
         }
     }
     Ok(None)
-}
-
-/// Whether the key fits the role, which runs, and stands above this one.
-fn fits_above(
-    alloc: Global,
-    world: &World,
-    role: Role,
-    below: &Key,
-    key: &Key,
-    idle: &Ready,
-) -> Result<bool, AllocError>
-    requires idles { Idles (setting_of world.now.scenario) world.now.history idle.now }
-    requires running { histories.runs (setting_of world.now.scenario) world.now.history role ≡ true }
-    ensures { IfOk result (λ b. IsTrue b ↔ FitsAbove (setting_of world.now.scenario) world.now.history role below.now key.now) }
-{
-    if *below < *key {
-        return fits(alloc, world, role, key, idle);
-    }
-    Ok(false)
-}
-
-/// The first of the keys above this one that fits the role, which runs. Every key of its work beside them is quiet.
-fn next_among(
-    alloc: Global,
-    world: &World,
-    role: Role,
-    below: &Key,
-    keys: &BTreeSet<Key>,
-    idle: &Ready,
-) -> Result<Option<Key>, AllocError>
-    requires idles { Idles (setting_of world.now.scenario) world.now.history idle.now }
-    requires running { histories.runs (setting_of world.now.scenario) world.now.history role ≡ true }
-    requires others { (k : KeyValue) → k.kind ≡ kind_of_work role → contains key_cmp keys.now k ≡ false → IsQuiet (setting_of world.now.scenario) world.now.history role k }
-    ensures { IfOk result (λ k. FindsFirst (FitsAbove (setting_of world.now.scenario) world.now.history role below.now) k) }
-{
-    for key in keys.iter() {
-        if fits_above(alloc, world, role, below, key, idle)? {
-            return Ok(Some(key.copy()?));
-        }
-    }
-    Ok(None)
-}
-
-/// The first of the keys above this one that are ready for the role, and fit it.
-///
-/// # Errors
-///
-/// Want of memory alone.
-pub(crate) fn key_above(
-    alloc: Global,
-    world: &World,
-    role: Role,
-    below: &Key,
-    ready: &Ready,
-    idle: &Ready,
-) -> Result<Option<Key>, AllocError>
-    requires idles { Idles (setting_of world.now.scenario) world.now.history idle.now }
-    requires covers { Covers (setting_of world.now.scenario) world.now.history ready.now }
-    ensures { IfOk result (λ k. FindsFirst (FitsAbove (setting_of world.now.scenario) world.now.history role below.now) k) }
-{
-    if !world.runs(role) {
-        return Ok(None);
-    }
-    next_among(alloc, world, role, below, ready.keys(role), idle)
 }
 
 /// The first of the keys that are ready for the role, and fit it.

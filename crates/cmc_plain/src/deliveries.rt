@@ -3,7 +3,7 @@ ghost use Rattle.std.specs.Prelude.{◌≡◌, ◌↔◌, IsTrue, IfOk, false};
 ghost use Rattle.cmc_model.specs.Writes.{last_of_kind, writes};
 ghost use Rattle.cmc_world.specs.Kept.{setting_of};
 ghost use Rattle.cmc_plain.specs.Plain.{IsBehind};
-ghost use Rattle.cmc_plain.specs.Searches.{FindsKind, FindsDelivery};
+ghost use Rattle.cmc_plain.specs.Searches.{FindsKind, FindsDelivery, IsNewest};
 
 use crate::roles::role_in;
 use crate::scripts::is_accepted;
@@ -20,20 +20,46 @@ pub(crate) struct Delivery {
     pub kind: Kind,
 }
 
+/// The newest accepted write of each kind.
+#[derive(Clone, Copy)]
+struct Newest {
+    certificate: u64,
+    request: u64,
+    secret: u64,
+}
+
+/// The newest accepted write of each kind. It is asked once for all roles.
+fn newest_of(world: &World) -> Newest
+    ensures { IsNewest (setting_of world.now.scenario) world.now.history result }
+{
+    let log = world.log();
+    Newest {
+        certificate: log.last_of_kind(Kind::Certificate),
+        request: log.last_of_kind(Kind::CertificateRequest),
+        secret: log.last_of_kind(Kind::Secret),
+    }
+}
+
 /// Whether the role is told of the kind, and has not been told of its newest write, `to`. It asks little, and is asked of
 /// every role and kind before most moves.
 fn has_news(world: &World, role: Role, kind: Kind, to: u64) -> bool
     requires { to ≡ last_of_kind kind (writes (setting_of world.now.scenario) world.now.history) }
     ensures { result ≡ false → IsBehind (setting_of world.now.scenario) world.now.history role kind → ⊥ }
 {
-    has_informer(role, kind) && at_kind(world.told(role), kind) < to
+    at_kind(world.told(role), kind) < to && has_informer(role, kind)
 }
 
-/// Whether the role runs, and can be told of an accepted write of the kind that it was not told of.
-fn is_behind(alloc: Global, world: &World, role: Role, kind: Kind) -> Result<bool, AllocError>
+/// Whether the role runs, and can be told of the newest write of the kind, `to`, of which it was not told.
+fn is_behind(
+    alloc: Global,
+    world: &World,
+    role: Role,
+    kind: Kind,
+    to: u64,
+) -> Result<bool, AllocError>
+    requires { to ≡ last_of_kind kind (writes (setting_of world.now.scenario) world.now.history) }
     ensures { IfOk result (λ b. IsTrue b ↔ IsBehind (setting_of world.now.scenario) world.now.history role kind) }
 {
-    let to = world.log().last_of_kind(kind);
     if !has_news(world, role, kind, to) {
         return Ok(false);
     }
@@ -41,16 +67,22 @@ fn is_behind(alloc: Global, world: &World, role: Role, kind: Kind) -> Result<boo
 }
 
 /// The first kind in which the role is behind.
-fn first_kind(alloc: Global, world: &World, role: Role) -> Result<Option<Kind>, AllocError>
+fn first_kind(
+    alloc: Global,
+    world: &World,
+    role: Role,
+    newest: Newest,
+) -> Result<Option<Kind>, AllocError>
+    requires { IsNewest (setting_of world.now.scenario) world.now.history newest }
     ensures { IfOk result (λ k. FindsKind (setting_of world.now.scenario) world.now.history role k) }
 {
-    if is_behind(alloc, world, role, Kind::Certificate)? {
+    if is_behind(alloc, world, role, Kind::Certificate, newest.certificate)? {
         return Ok(Some(Kind::Certificate));
     }
-    if is_behind(alloc, world, role, Kind::CertificateRequest)? {
+    if is_behind(alloc, world, role, Kind::CertificateRequest, newest.request)? {
         return Ok(Some(Kind::CertificateRequest));
     }
-    if is_behind(alloc, world, role, Kind::Secret)? {
+    if is_behind(alloc, world, role, Kind::Secret, newest.secret)? {
         return Ok(Some(Kind::Secret));
     }
     Ok(None)
@@ -65,9 +97,10 @@ fn first_kind(alloc: Global, world: &World, role: Role) -> Result<Option<Kind>, 
 pub(crate) fn first_delivery(alloc: Global, world: &World) -> Result<Option<Delivery>, AllocError>
     ensures { IfOk result (λ d. FindsDelivery (setting_of world.now.scenario) world.now.history d) }
 {
+    let newest = newest_of(world);
     for place in 0..8 {
         let role = role_in(place);
-        if let Some(kind) = first_kind(alloc, world, role)? {
+        if let Some(kind) = first_kind(alloc, world, role, newest)? {
             return Ok(Some(Delivery { role, kind }));
         }
     }

@@ -18,6 +18,7 @@ mod roles;
 mod scripts;
 mod waits;
 mod waking;
+mod work;
 
 pub use all_moves::make_all;
 pub use choosing::plain;

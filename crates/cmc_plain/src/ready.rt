@@ -75,12 +75,4 @@ impl Ready {
     {
         self.rows[role.rank() as usize].remove(key);
     }
-
-    /// Lets no key be ready for the role any more.
-    #[tactic(auto, unfolding(crate::specs::Ready::is_ready))]
-    pub(crate) fn clear(&mut self, role: Role)
-        ensures { (r : RoleValue) → (k : KeyValue) → is_ready self.new r k ≡ (not (role_eq role r) && is_ready self.old r k) }
-    {
-        self.rows[role.rank() as usize].clear();
-    }
 }

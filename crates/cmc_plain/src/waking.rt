@@ -9,6 +9,7 @@ ghost use Rattle.std.specs.Prelude.{◌≡◌, ◌≤◌, ◌↔◌, ℕ, IsTrue
 ghost use Rattle.cmc_meta.specs.declared.key.Key.{Key as KeyValue};
 ghost use Rattle.cmc_model.specs.Writes.{is_known, last_of_kind, writes};
 ghost use Rattle.cmc_caches.specs.Affected.{is_among};
+ghost use Rattle.cmc_objects.specs.declared.role.Role.{Role as RoleValue};
 ghost use Rattle.cmc_objects.specs.Watching.{has_informer, kind_of_work};
 ghost use Rattle.cmc_rules.specs.Runs.{IsRun, IsFinished};
 ghost use Rattle.cmc_world.specs.Answers.{Answers, Leaves};
@@ -17,15 +18,16 @@ ghost use Rattle.cmc_world.specs.declared.moves.Move.TheVariants as moves;
 ghost use Rattle.cmc_plain.specs.Next.{IsNextBegin, IsNextDelivery, IsNextScript};
 ghost use Rattle.cmc_plain.specs.Plain.{IsPlainMove};
 ghost use Rattle.cmc_plain.specs.Ready as spec;
-ghost use Rattle.cmc_plain.specs.Searches.{FindsFirst, FitsAbove};
-ghost use Rattle.cmc_plain.specs.Ready.{Covers, Forgets, HasKnown, Idles, IsToNewest, Keeps, SeesSame, Wakes, WakesTold, is_ready};
+ghost use Rattle.cmc_plain.specs.Searches.{FindsFirst, HasWorkAbove};
+ghost use Rattle.cmc_plain.specs.Ready.{Covers, Forgets, HasKnown, Idles, IsToNewest, Keeps, SeesSame, StaysTold, Wakes, WakesTold, is_ready};
 
-use crate::begins::{Beginning, first_begin, is_quiet, key_above};
+use crate::begins::{Beginning, first_begin, is_quiet};
 use crate::choosing::plain_by;
 use crate::deliveries::{Delivery, first_delivery};
 use crate::ready::Ready;
 use crate::rest::{is_finished, is_step_ready};
 use crate::roles::role_in;
+use crate::work::next_work;
 use cmc_held::at_kind;
 use cmc_meta::{Key, Kind};
 use cmc_model::Write;
@@ -201,38 +203,72 @@ fn wake_keys(
     Ok(())
 }
 
-/// Makes those keys ready of which the role may see something new once it is told of all writes of the kind.
+/// Of none of the keys it is known any more that the role has nothing to do there.
+fn forget_keys(idle: &mut Ready, role: Role, keys: &[Key])
+    ensures fewer { Keeps idle.new idle.old }
+    ensures forgets { (k : KeyValue) → is_ready idle.new role k ≡ true → is_among keys.now k ≡ false }
+{
+    for key in keys {
+        idle.remove(role, key);
+    }
+}
+
+/// Makes those keys ready of which the role may see something new once it is told of all writes of the kind; and it is
+/// known of none of them any more that the role has nothing to do there.
 fn wake_told(
     alloc: Global,
     world: &World,
     ready: &mut Ready,
     looks: &mut Vec<Look>,
+    idle: &mut Ready,
     role: Role,
     kind: Kind,
 ) -> Result<(), AllocError>
     requires { has_informer role kind ≡ true }
     ensures keeps { Keeps ready.old ready.new }
     ensures wakes { OnOk result ((to : ℕ) → last_of_kind kind (writes (setting_of world.now.scenario) world.now.history) ≤ to → WakesTold (setting_of world.now.scenario) world.now.history role kind to ready.new) }
+    ensures fewer { Keeps idle.new idle.old }
+    ensures forgets { OnOk result ((to : ℕ) → last_of_kind kind (writes (setting_of world.now.scenario) world.now.history) ≤ to → StaysTold (setting_of world.now.scenario) world.now.history role kind to idle.new) }
 {
     let keys = affected(alloc, world, role, kind)?;
+    forget_keys(idle, role, &keys);
     wake_keys(ready, looks, role, &keys)
 }
 
-/// Makes those keys ready that the move may wake, and has the key of a begin looked at.
+/// It is known of no key any more that a role has nothing to do there. An error is one of memory.
+fn forget_all(alloc: Global, idle: &mut Ready) -> Result<(), AllocError>
+    ensures fewer { Keeps idle.new idle.old }
+    ensures forgets { OnOk result ((role : RoleValue) → (k : KeyValue) → is_ready idle.new role k ≡ false) }
+{
+    *idle = Ready::new(alloc)?;
+    Ok(())
+}
+
+/// Makes those keys ready that the move may wake, and has the key of a begin looked at. What is known of idle keys is known
+/// no more where the move may give the role something to do: at each step of the script, and on keys of which a role that
+/// is told of something may see something new.
 fn wake_for(
     alloc: Global,
     world: &World,
     ready: &mut Ready,
     looks: &mut Vec<Look>,
+    idle: &mut Ready,
     step: &Move,
 ) -> Result<(), AllocError>
     requires { IsToNewest (setting_of world.now.scenario) world.now.history step.now }
     ensures keeps { Keeps ready.old ready.new }
     ensures wakes { OnOk result (Wakes (setting_of world.now.scenario) world.now.history step.now ready.new) }
+    ensures fewer { Keeps idle.new idle.old }
+    ensures forgets { OnOk result (Forgets (setting_of world.now.scenario) world.now.history step.now idle.new) }
 {
     match step {
-        Move::Script => wake_for_script(world, ready, looks),
-        Move::Deliver { role, kind, to: _ } => wake_told(alloc, world, ready, looks, *role, *kind),
+        Move::Script => {
+            forget_all(alloc, idle)?;
+            wake_for_script(world, ready, looks)
+        }
+        Move::Deliver { role, kind, to: _ } => {
+            wake_told(alloc, world, ready, looks, idle, *role, *kind)
+        }
         Move::Begin { role, key } => {
             looks.push(Look {
                 role: *role,
@@ -280,25 +316,6 @@ fn look_at_all(
         }
     }
     Ok(())
-}
-
-/// What is known of idle keys is known no more where the move may give the role something to do: at each step of the
-/// script, and for a role that is told of something.
-fn forget_for(alloc: Global, idle: &mut Ready, step: &Move) -> Result<(), AllocError>
-    ensures forgets { OnOk result (Forgets step.now idle.new) }
-    ensures fewer { Keeps idle.new idle.old }
-{
-    match step {
-        Move::Script => {
-            *idle = Ready::new(alloc)?;
-            Ok(())
-        }
-        Move::Deliver { role, .. } => {
-            idle.clear(*role);
-            Ok(())
-        }
-        Move::Begin { .. } | Move::Next { .. } | Move::Give { .. } | Move::Decide { .. } => Ok(()),
-    }
 }
 
 /// The keys that accepted writes named, all of them ready.
@@ -428,22 +445,23 @@ impl Waking {
         }
     }
 
-    /// The first key above this one on which a pass of the role may begin, and is worth it: the role has something to do
-    /// there or sees something new. `None` exactly where there is none. Who begins passes of one role on one key after
-    /// another does not look at the same keys again.
+    /// The first key on which a pass of the role may begin, and the role has something to do by what it sees; where a key is
+    /// given, the first such key above it. `None` exactly where there is none. Who begins passes of one role on one key after
+    /// another does not look at the same keys again. Nothing of the world changes.
     ///
     /// # Errors
     ///
     /// Want of memory alone.
-    pub fn key_above(
-        &self,
+    pub fn next_work(
+        &mut self,
         alloc: Global,
         role: Role,
-        below: &Key,
+        below: Option<&Key>,
     ) -> Result<Option<Key>, AllocError>
-        ensures { IfOk result (λ k. FindsFirst (FitsAbove (setting_of self.now.scenario) self.now.history role below.now) k) }
+        ensures work { IfOk result (λ k. FindsFirst (HasWorkAbove (setting_of self.old.scenario) self.old.history role (option_copied below.entry)) k) }
+        ensures same { self.new ≡ self.old }
     {
-        key_above(alloc, &self.world, role, below, &self.ready, &self.idle)
+        next_work(alloc, &self.world, role, below, &self.ready, &mut self.idle)
     }
 
     /// Whether the run is finished: all steps of the script were made, with all that they have happen, and nothing is left
@@ -473,8 +491,8 @@ impl Waking {
         ensures err { OnErr result (self.new ≡ self.old) }
     {
         self.world.is_run();
-        wake_for(alloc, &self.world, &mut self.ready, &mut self.looks, &step)?;
-        forget_for(alloc, &mut self.idle, &step)?;
+        let (ready, looks, idle) = (&mut self.ready, &mut self.looks, &mut self.idle);
+        wake_for(alloc, &self.world, ready, looks, idle, &step)?;
         self.world.step(alloc, step)
     }
 }

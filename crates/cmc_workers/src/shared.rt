@@ -1,8 +1,12 @@
 //! What lies under the lock, and what a thread does while it holds it.
 //!
 //! Each change is a step of the world, so whatever the threads do, the history is one of a run: the world's type keeps
-//! that. Once a role has begun a pass, only passes of this role begin until all is delivered: each of them is on a key of
-//! its own, whereas another role would begin on views that are old by then, and come to nothing or meet a conflict.
+//! that. A pass begins only where its role has something to do, and roles take turns: once a role has begun a pass it goes
+//! on with its further keys, and another begins only once all is delivered, since it would begin on views that are old by
+//! then, and come to nothing or meet a conflict.
+//!
+//! While all other workers are away with questions, the one that is left would be the last to go, and nobody would use the
+//! lock. So it turns to roles that ask nobody first, and takes a question along only where these have nothing to do.
 ghost use Rattle.std.specs.Option.{option_copied};
 ghost use Rattle.std.specs.Prelude.{◌≡◌, ◌+◌, IfOk, IfSome, length, false};
 ghost use Rattle.cmc_rules.specs.Scripting.{scripted, step_at};
@@ -20,20 +24,55 @@ use cmc_plain::{Point, Waking, Work, point_of, question};
 use cmc_world::{Decided, Move, Stepped, decides_alone};
 use std::alloc::{AllocError, Global};
 
-/// A role whose passes have begun since all was delivered, and the last key on which one has.
+/// A role that has begun a pass, and the key on which it has.
 #[derive(Drop)]
 struct Turn {
     role: Role,
     key: Key,
 }
 
+impl Turn {
+    fn copy(&self) -> Result<Turn, AllocError> {
+        Ok(Turn {
+            role: self.role,
+            key: self.key.copy()?,
+        })
+    }
+}
+
+/// The roles that ask nobody: they decide, and write.
+const ASKING_NOBODY: [Role; 4] = [
+    Role::Trigger,
+    Role::Issuing,
+    Role::Readiness,
+    Role::Revision,
+];
+
+/// The roles, in their order.
+const ROLES: [Role; 8] = [
+    Role::Trigger,
+    Role::KeyManager,
+    Role::RequestManager,
+    Role::Approver,
+    Role::Issuer,
+    Role::Issuing,
+    Role::Readiness,
+    Role::Revision,
+];
+
 /// What lies under the lock.
 #[derive(Drop)]
 pub(crate) struct Shared {
     /// A world with its ready keys.
     pub waking: Waking,
-    /// Whose turn it is; nobody's where something was delivered since.
+    /// Whose turn it is.
     turn: Option<Turn>,
+    /// Whose turn it is for a worker that is left alone.
+    aside: Option<Turn>,
+    /// How many workers there are.
+    workers: u32,
+    /// How many of them are away with a question.
+    away: u32,
     /// Whether all is over for the threads.
     pub over: bool,
 }
@@ -58,6 +97,36 @@ fn told(answer: Stepped) -> Went {
     }
 }
 
+/// The next key above that of the turn on which its role has something to do; `None` where it is nobody's turn, or there is no
+/// such key.
+fn next_in(
+    alloc: Global,
+    waking: &mut Waking,
+    turn: &Option<Turn>,
+) -> Result<Option<Turn>, AllocError>
+    ensures { waking.new ≡ waking.old }
+{
+    let Some(Turn { role, key }) = turn else {
+        return Ok(None);
+    };
+    match waking.next_work(alloc, *role, Some(key))? {
+        Some(key) => Ok(Some(Turn { role: *role, key })),
+        None => Ok(None),
+    }
+}
+
+/// The first key of the first of the roles that has something to do.
+fn first_of(alloc: Global, waking: &mut Waking, roles: &[Role]) -> Result<Option<Turn>, AllocError>
+    ensures { waking.new ≡ waking.old }
+{
+    for role in roles {
+        if let Some(key) = waking.next_work(alloc, *role, None)? {
+            return Ok(Some(Turn { role: *role, key }));
+        }
+    }
+    Ok(None)
+}
+
 /// A move has many shapes, and to let go of it is one thing for all of them.
 fn let_go<T: Drop>(value: T) {
     let _value = value;
@@ -65,12 +134,15 @@ fn let_go<T: Drop>(value: T) {
 
 impl Shared {
     /// The world at its beginning, with all of its work to do.
-    pub(crate) fn new(waking: Waking) -> Shared
+    pub(crate) fn new(waking: Waking, workers: u32) -> Shared
         ensures { result.waking ≡ waking }
     {
         Shared {
             waking,
             turn: None,
+            aside: None,
+            workers,
+            away: 0,
             over: false,
         }
     }
@@ -115,6 +187,18 @@ impl Shared {
         }
     }
 
+    /// Goes away with the question at which the pass waits, if it waits at one.
+    fn ask(&mut self, taken: Taken) -> Result<Option<Errand>, AllocError>
+        ensures errand { IfOk result (λ e. IfSome e (λ errand. IsErrand self.new.waking errand)) }
+        ensures same { self.new.waking ≡ self.old.waking }
+    {
+        let errand = self.question_of(taken)?;
+        if errand.is_some() {
+            self.away = self.away.saturating_add(1);
+        }
+        Ok(errand)
+    }
+
     /// Has the pass go on, up to a question or to its end. A pass whose role was stopped meanwhile is let go.
     fn go_on(&mut self, alloc: Global, taken: Taken) -> Result<Option<Errand>, AllocError>
         ensures errand { IfOk result (λ e. IfSome e (λ errand. IsErrand self.new.waking errand)) }
@@ -127,7 +211,7 @@ impl Shared {
             };
             match self.make(alloc, step)? {
                 Went::On => {}
-                Went::Asks => return self.question_of(taken),
+                Went::Asks => return self.ask(taken),
                 Went::Not => return Ok(None),
             }
         }
@@ -173,7 +257,7 @@ impl Shared {
         };
         match self.make(alloc, step)? {
             Went::On => self.go_on(alloc, taken),
-            Went::Asks => self.question_of(taken),
+            Went::Asks => self.ask(taken),
             Went::Not => Ok(None),
         }
     }
@@ -185,7 +269,10 @@ impl Shared {
     {
         let (taken, answer) = outcome.into_parts();
         match answer {
-            Answer::Value(given) => self.give(alloc, taken, given),
+            Answer::Value(given) => {
+                self.away = self.away.saturating_sub(1);
+                self.give(alloc, taken, given)
+            }
             Answer::Decision(decided) => self.decide(alloc, taken, decided),
             Answer::Nothing => self.go_on(alloc, taken),
         }
@@ -241,51 +328,64 @@ impl Shared {
         }
     }
 
-    /// The next key of the role whose turn it is; `None` where it is nobody's, or no further key is left.
-    fn next_in_turn(&self, alloc: Global) -> Result<Option<Turn>, AllocError> {
-        let Some(turn) = &self.turn else {
-            return Ok(None);
-        };
-        match self.waking.key_above(alloc, turn.role, &turn.key)? {
-            Some(key) => Ok(Some(Turn {
-                role: turn.role,
-                key,
-            })),
-            None => Ok(None),
-        }
+    /// Whether all other workers are away with questions.
+    fn is_alone(&self) -> bool {
+        self.away > 0 && self.away.saturating_add(1) >= self.workers
     }
 
-    /// The key of the first pass that is worth it.
-    fn first_turn(&self, alloc: Global) -> Result<Option<Turn>, AllocError> {
-        match self.waking.next_begin(alloc)? {
-            Some(Move::Begin { role, key }) => Ok(Some(Turn { role, key })),
-            Some(other) => {
-                let_go(other);
-                Ok(None)
-            }
-            None => Ok(None),
-        }
-    }
-
-    /// Where the next pass may begin: on a further key of the role whose turn it is, or, where all is delivered, on the
-    /// first key on which it is worth it. `None` where nothing can begin, or not before something is delivered.
-    fn next_turn(&self, alloc: Global) -> Result<Option<Turn>, AllocError> {
-        if let Some(turn) = self.next_in_turn(alloc)? {
+    /// Where a pass may begin of a role that asks nobody; `None` where none of them has something to do, or not before
+    /// something is delivered.
+    fn next_aside(&mut self, alloc: Global) -> Result<Option<Turn>, AllocError>
+        ensures { self.new.waking ≡ self.old.waking }
+    {
+        if let Some(turn) = next_in(alloc, &mut self.waking, &self.aside)? {
             return Ok(Some(turn));
         }
         if self.is_to_deliver(alloc)? {
             return Ok(None);
         }
-        self.first_turn(alloc)
+        first_of(alloc, &mut self.waking, &ASKING_NOBODY)
     }
 
-    /// Begins a pass, and notes whose turn it is; `None` where it is not begun.
+    /// Where the next pass may begin: on a further key of the role whose turn it is, or, where all is delivered, on the
+    /// first key of the first role that has something to do. `None` where no role has, or not before something is delivered.
+    fn next_in_line(&mut self, alloc: Global) -> Result<Option<Turn>, AllocError>
+        ensures { self.new.waking ≡ self.old.waking }
+    {
+        if let Some(turn) = next_in(alloc, &mut self.waking, &self.turn)? {
+            return Ok(Some(turn));
+        }
+        if self.is_to_deliver(alloc)? {
+            return Ok(None);
+        }
+        first_of(alloc, &mut self.waking, &ROLES)
+    }
+
+    /// Where the next pass may begin, and notes whose turn it is by that.
+    fn next_turn(&mut self, alloc: Global) -> Result<Option<Turn>, AllocError>
+        ensures { self.new.waking ≡ self.old.waking }
+    {
+        if self.is_alone() {
+            if let Some(turn) = self.next_aside(alloc)? {
+                self.aside = Some(turn.copy()?);
+                return Ok(Some(turn));
+            }
+            if self.is_to_deliver(alloc)? {
+                return Ok(None);
+            }
+        }
+        let Some(turn) = self.next_in_line(alloc)? else {
+            return Ok(None);
+        };
+        self.turn = Some(turn.copy()?);
+        Ok(Some(turn))
+    }
+
+    /// Begins a pass; `None` where it is not begun.
     fn begin_on(&mut self, alloc: Global, turn: Turn) -> Result<Option<Taken>, AllocError>
         ensures { self.new.waking.scenario ≡ self.old.waking.scenario }
     {
-        let role = turn.role;
-        let key = turn.key.copy()?;
-        self.turn = Some(turn);
+        let Turn { role, key } = turn;
         let incarnation = self.waking.world().incarnation(role);
         match self.make(alloc, Move::Begin { role, key })? {
             Went::On => Ok(Some(Taken {
@@ -347,7 +447,6 @@ impl Shared {
     pub(crate) fn deliver(&mut self, alloc: Global) -> Result<(), AllocError>
         ensures { self.new.waking.scenario ≡ self.old.waking.scenario }
     {
-        self.turn = None;
         for _delivery in 0..=self.limit() {
             let Some(step) = self.waking.next_delivery(alloc)? else {
                 return Ok(());

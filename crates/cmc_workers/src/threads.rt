@@ -256,7 +256,7 @@ pub(crate) fn in_threads<R: Threads + Wait + Sync, M: KeyMaker, N: Signer, G: Ga
     workers: u32,
 ) -> Waking {
     let hall = Hall {
-        shared: Mutex::new(Shared::new(waking)),
+        shared: Mutex::new(Shared::new(waking, workers)),
         to_work: Condvar::new(),
         to_deliver: Condvar::new(),
         to_perform: Condvar::new(),

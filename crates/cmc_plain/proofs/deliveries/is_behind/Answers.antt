@@ -11,5 +11,5 @@ returns c =
     let s = setting_of c.args.world.now.scenario in
     let h = c.args.world.now.history in
     behind_by s h c.args.role c.args.kind c.in_ok-answer.field-0 c.is_accepted.result
-    (subst (λ (to : ℕ). AnswersDelivery s h c.args.role c.args.kind to c.in_ok-answer.field-0) (c.last_of_kind-to.ensures ∙ ap (λ (ws : List Write). last_of_kind c.args.kind ws) c.log.ensures) c.in_ok-answer.ensures)
+    (subst (λ (to : ℕ). AnswersDelivery s h c.args.role c.args.kind to c.in_ok-answer.field-0) c.requires c.in_ok-answer.ensures)
     c.is_accepted.ensures

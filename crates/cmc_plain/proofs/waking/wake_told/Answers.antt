@@ -1,7 +1,9 @@
-use Rattle.std.proofs.Common.{List, subst}
+use Rattle.std.proofs.Common.{◌≡◌, List, subst, true, false}
+use Rattle.cmc_caches.specs.Affected.{is_among}
+use Rattle.cmc_plain.specs.Ready.{is_ready}
 use Rattle.cmc_meta.specs.declared.key.Key.{Key}
 use Rattle.cmc_world.specs.Kept.{setting_of}
-use Rattle.cmc_plain.proofs.Affecting.{AreReady, told_ready}
+use Rattle.cmc_plain.proofs.Affecting.{AreReady, told_ready, told_stays}
 use Rattle.cmc_plain.proofs.Woken.{on_ok}
 use Rattle.cmc_plain.proofs.waking.wake_told.Goals as goal
 
@@ -11,4 +13,12 @@ returns-clause-wakes c =
     (λ ready.
     told_ready (setting_of c.args.world.now.scenario) c.args.world.now.history c.args.role c.args.kind c.in_ok-keys.keys.items c.wake_keys.new.ready c.in_ok-keys.ensures
     (subst (λ (keys : List Key). AreReady c.args.role keys c.wake_keys.new.ready) c.deref.ensures.value ready))
+    c.wake_keys.ensures.wakes
+
+pub returns-clause-forgets : goal.returns-clause-forgets
+returns-clause-forgets c =
+    on_ok c.wake_keys.result
+    (λ ready.
+    told_stays (setting_of c.args.world.now.scenario) c.args.world.now.history c.args.role c.args.kind c.in_ok-keys.keys.items c.forget_keys.new.idle c.in_ok-keys.ensures
+    (subst (λ (keys : List Key). (k : Key) → is_ready c.forget_keys.new.idle c.args.role k ≡ true → is_among keys k ≡ false) c.deref.ensures.value c.forget_keys.ensures.forgets))
     c.wake_keys.ensures.wakes

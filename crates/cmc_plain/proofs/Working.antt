@@ -1,0 +1,70 @@
+-- When a role has something to do on a key.
+use Rattle.std.proofs.Common.{◌≡◌, Bool, true, false, List, None, refl, sym, subst}
+use Rattle.std.specs.BTreeSet.{BTreeSet}
+use Rattle.std.specs.Prelude.{◌↔◌, IsTrue}
+use Rattle.cmc_meta.specs.declared.key.Key.{Key}
+use Rattle.cmc_objects.specs.declared.role.Role.{Role}
+use Rattle.cmc_objects.specs.declared.entry.Entry.{Entry}
+use Rattle.cmc_pass.specs.declared.pass.Views.{Views}
+use Rattle.cmc_model.specs.Histories.{Setting, moment, runs}
+use Rattle.cmc_model.specs.Writes.{writes, is_known}
+use Rattle.cmc_rules.specs.Positions.{positions}
+use Rattle.cmc_rules.specs.Resting.{IsIdle}
+use Rattle.cmc_rules.specs.Viewing.{views}
+use Rattle.cmc_rules.specs.Memory.{past}
+use Rattle.cmc_rules.specs.Sameness.{IsDue, own_above}
+use Rattle.cmc_rules.specs.Legality.{IsLegal}
+use Rattle.cmc_plain.specs.Plain.{Fits}
+use Rattle.cmc_plain.specs.Ready.{Idles, is_ready}
+use Rattle.cmc_plain.specs.Searches.{HasWork, IsFree}
+use Rattle.cmc_plain.proofs.Unknown.{unknown_quiet}
+
+-- a key on which there is something to do fits
+pub work_fits : (s : Setting) (h : List Entry) (role : Role) (key : Key) → HasWork s h role key → Fits s h role key
+work_fits s h role key w = record { may = w.may; worth = λ quiet. w.busy quiet.idle }
+
+-- on a key that is known to be idle there is nothing to do
+pub idle_known : (s : Setting) (h : List Entry) (role : Role) (key : Key) (rows : List (BTreeSet Key)) → Idles s h rows → is_ready rows role key ≡ true → IsTrue false ↔ HasWork s h role key
+idle_known s h role key rows idles on = (λ bad. absurd (cc), λ w. absurd (w.busy (idles role key on)))
+
+-- nor where it is so by what the role sees
+pub idle_is : (s : Setting) (h : List Entry) (role : Role) (key : Key) → IsIdle s h role (views s h role key) → IsTrue false ↔ HasWork s h role key
+idle_is s h role key idle = (λ bad. absurd (cc), λ w. absurd (w.busy idle))
+
+-- nor on one that is none of its work, or is worked on
+pub not_free : (s : Setting) (h : List Entry) (role : Role) (key : Key) (b : Bool) → (IsTrue b ↔ IsFree s h role key) → b ≡ false → IsTrue false ↔ HasWork s h role key
+not_free s h role key b free off = (
+  λ bad. absurd (cc),
+  λ w. let on = free.1 (record { kind = w.may.work; idle = w.may.idle }) in absurd (cc (on, off)),
+)
+
+-- nor where the role was not told of its own write
+pub untold : (s : Setting) (h : List Entry) (role : Role) (key : Key) (b : Bool) → (b ≡ false → own_above (past s h role key).own (positions h role) ≡ None → ⊥) → b ≡ false
+    → IsTrue false ↔ HasWork s h role key
+untold s h role key b told off = (λ bad. absurd (cc), λ w. absurd (told off w.may.due.told))
+
+known_by : (b : Bool) (s : Setting) (h : List Entry) (role : Role) (key : Key) → is_known key (writes s h) ≡ b → IsLegal s h → (IsIdle s h role (views s h role key) → ⊥) → is_known key (writes s h) ≡ true
+known_by true s h role key is legal busy = is
+known_by false s h role key is legal busy = let quiet = unknown_quiet s h role key legal is in absurd (busy quiet.idle)
+
+-- where it is not so by what the role sees, there is something to do exactly where the role is due
+pub work_where_due : (s : Setting) (h : List Entry) (role : Role) (key : Key) (seen : Views) (due idle : Bool) → IsLegal s h → seen ≡ views s h role key → runs s h role ≡ true → IsFree s h role key
+    → (IsTrue idle ↔ IsIdle s h role seen) → idle ≡ false → (IsTrue due ↔ IsDue (past s h role key) seen (moment s h) (positions h role)) → IsTrue due ↔ HasWork s h role key
+work_where_due s h role key seen due idle legal is running free idle_tells off due_tells = (λ on. work (due_tells.0 on), λ w. due_tells.1 (subst IsDueWith (sym is) w.may.due)) where
+  IsDueWith : Views → Type 0
+  IsDueWith v = IsDue (past s h role key) v (moment s h) (positions h role)
+
+  busy : IsIdle s h role (views s h role key) → ⊥
+  busy quiet = let on = idle_tells.1 (subst (IsIdle s h role) (sym is) quiet) in absurd (cc (on, off))
+
+  work : IsDueWith seen → HasWork s h role key
+  work now = record {
+    may = record {
+      running = running;
+      idle = free.idle;
+      due = subst IsDueWith is now;
+      work = free.kind;
+      known = known_by (is_known key (writes s h)) s h role key refl legal busy;
+    };
+    busy = busy;
+  }

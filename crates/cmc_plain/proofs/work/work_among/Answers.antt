@@ -1,0 +1,15 @@
+use Rattle.std.proofs.Common.{List, Some, sym, subst}
+use Rattle.std.specs.Option.{option_copied}
+use Rattle.cmc_meta.specs.declared.key.Key.{Key}
+use Rattle.cmc_world.specs.Kept.{setting_of}
+use Rattle.cmc_plain.specs.Searches.{FindsFirst, HasWorkAbove}
+use Rattle.cmc_plain.proofs.Keys.{KeysLeft, all_keys_left, fewer_keys_left, key_found, none_found}
+use Rattle.cmc_plain.proofs.Working.{work_fits}
+use Rattle.cmc_plain.proofs.work.work_among.Goals as goal
+
+pub loop-key-init : goal.loop-key-init
+loop-key-init c =
+    let s = setting_of c.args.world.now.scenario in
+    let h = c.args.world.now.history in
+    rw (c.into_iter-key-iterator.ensures.into_iter_gives, c.iter-key-items.ensures.rest)
+    ((all_keys_left (HasWorkAbove s h c.args.role (option_copied c.args.below.entry)) s h c.args.role c.args.keys.now (λ k w. work_fits s h c.args.role k w.work) c.iter-key-items.ensures.ordered c.requires.others, c.requires.before))
