@@ -23,3 +23,4 @@ pub mod Idling
 pub mod Waiting
 pub mod Leading
 pub mod Ending
+pub mod Spare

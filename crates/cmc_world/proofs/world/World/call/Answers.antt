@@ -1,4 +1,4 @@
-use Rattle.std.proofs.Common.{◌∙◌, ◌<◌, ◌≤◌, ◌+◌, ◌&&◌, ap, sym, subst, length, arith, rules, w64, to_z, of_z, List, Option, ℕ}
+use Rattle.std.proofs.Common.{◌∙◌, ◌<◌, ◌≤◌, ◌+◌, ◌&&◌, ap, refl, sym, subst, length, arith, rules, w64, to_z, of_z, List, Option, ℕ}
 use Rattle.std.proofs.lemmas.Int.{to_z-of_z}
 use Rattle.cmc_meta.specs.declared.key.Kind.{Kind}
 use Rattle.cmc_meta.specs.Keys.{key_eq}
@@ -17,7 +17,25 @@ use Rattle.cmc_world.specs.Acting.{IsCalling}
 use Rattle.cmc_world.specs.Kept.{Seen, setting_of}
 use Rattle.cmc_world.specs.Noting.{logged, counted, noted}
 use Rattle.cmc_world.proofs.Calls.{kept_call, calls_fit, counts_fit, log_fits}
+use Rattle.cmc_world.proofs.Spare.{kept_spare}
 use Rattle.cmc_world.proofs.world.World.call.Goals as goal
+
+pub invariant_of-self : goal.invariant_of-self
+invariant_of-self c = rw (c.reserve.ensures.same) c.self.invariant
+
+pub invariant_of-self-in_err-reserve-2 : goal.invariant_of-self-in_err-reserve-2
+invariant_of-self-in_err-reserve-2 c = rw (c.in_ok-reserve.ensures.same, c.in_err-reserve-2.ensures.same) c.self.invariant
+
+pub invariant_of-self-in_err-ready : goal.invariant_of-self-in_err-ready
+invariant_of-self-in_err-ready c =
+    kept_spare _ _ c.reserve.new.self.entries _ c.self.inside.store.faults c.self.inside.store.state c.reserve-2.new.self.writes c.self.inside.origins.origins (λ n. pass_at c.self.inside.passes n) (λ r k. past_at c.ready.new.self r k)
+    c.self.invariant c.in_ok-reserve.ensures.same refl refl c.in_ok-reserve-2.ensures.same refl (λ n. refl) (λ r k. c.in_err-ready.ensures.same r k)
+
+pub invariant_of-self-in_err-replied : goal.invariant_of-self-in_err-replied
+invariant_of-self-in_err-replied c =
+    kept_spare _ _ c.reserve.new.self.entries _ c.call.new.self.faults c.call.new.self.state c.reserve-2.new.self.writes c.self.inside.origins.origins (λ n. pass_at c.self.inside.passes n) (λ r k. past_at c.ready.new.self r k)
+    c.self.invariant c.in_ok-reserve.ensures.same (ap (λ (k : Kept). k.faults) c.in_err-replied.ensures.err) (ap (λ (k : Kept). k.state) c.in_err-replied.ensures.err)
+    c.in_ok-reserve-2.ensures.same refl (λ n. refl) (λ r k. c.in_ok-ready.ensures.same r k)
 
 pub call-requires : goal.call-requires
 call-requires c = record { room = calls_fit _ _ _ c.self.invariant (subst (λ (v : Seen). length v.history ≤ 250000) (sym c.self.view_is) c.is_short.ensures) }

@@ -1,4 +1,4 @@
-use Rattle.std.proofs.Common.{◌∙◌, ◌∷◌, ◌&&◌, ap, sym, subst, List, rules, w64, to_z, of_z}
+use Rattle.std.proofs.Common.{◌∙◌, ◌∷◌, ◌&&◌, ap, refl, sym, subst, List, rules, w64, to_z, of_z}
 use Rattle.std.proofs.lemmas.Int.{to_z-of_z}
 use Rattle.std.specs.Prelude.{if◌then◌else◌}
 use Rattle.cmc_meta.specs.Keys.{key_eq}
@@ -13,7 +13,24 @@ use Rattle.cmc_world.specs.Answers.{AnswersBegin}
 use Rattle.cmc_world.specs.Kept.{Seen, setting_of}
 use Rattle.cmc_world.specs.Prepared.{IsPrepared}
 use Rattle.cmc_world.proofs.Begins.{kept_open}
+use Rattle.cmc_world.proofs.Spare.{kept_spare}
 use Rattle.cmc_world.proofs.world.World.open.Goals as goal
+
+pub invariant_of-self : goal.invariant_of-self
+invariant_of-self c = rw (c.reserve.ensures.same) c.self.invariant
+
+pub invariant_of-self-in_err-reserve-2 : goal.invariant_of-self-in_err-reserve-2
+invariant_of-self-in_err-reserve-2 c = rw (c.in_ok-reserve.ensures.same, c.in_err-reserve-2.ensures.same) c.self.invariant
+
+pub invariant_of-self-in_err-ready : goal.invariant_of-self-in_err-ready
+invariant_of-self-in_err-ready c =
+    kept_spare _ _ c.reserve.new.self.entries _ c.self.inside.store.faults c.self.inside.store.state c.self.inside.log.writes c.reserve-2.new.self.origins (λ n. pass_at c.self.inside.passes n) (λ r k. past_at c.ready.new.self r k)
+    c.self.invariant c.in_ok-reserve.ensures.same refl refl refl c.in_ok-reserve-2.ensures.same (λ n. refl) (λ r k. c.in_err-ready.ensures.same r k)
+
+pub invariant_of-self-in_err-open : goal.invariant_of-self-in_err-open
+invariant_of-self-in_err-open c =
+    kept_spare _ _ c.reserve.new.self.entries _ c.self.inside.store.faults c.self.inside.store.state c.self.inside.log.writes c.reserve-2.new.self.origins (λ n. pass_at c.open.new.self n) (λ r k. past_at c.ready.new.self r k)
+    c.self.invariant c.in_ok-reserve.ensures.same refl refl refl c.in_ok-reserve-2.ensures.same (λ n. ap (λ x. pass_at x n) c.in_err-open.ensures.err) (λ r k. c.in_ok-ready.ensures.same r k)
 
 pub invariant_of-self-2 : goal.invariant_of-self-2
 invariant_of-self-2 c =
