@@ -25,6 +25,7 @@ use cmc_workers::{Driven, Gate, drive};
 use cmc_world::World;
 use serde_json::{Category, Value};
 use std::alloc::{AllocError, Global};
+use std::mem;
 use std::str;
 use std::sync::Wait;
 use std::thread::Threads;
@@ -83,6 +84,12 @@ fn lines_of(
     history_text(alloc, value, world.history(), &counts)
 }
 
+/// Leaves the value to the system, which takes all memory back at once when the program ends, soon after this. To let go of
+/// a world and of a tree of JSON piece by piece would be a sixth of the work of a run.
+fn leave<T>(value: T) {
+    mem::forget(value);
+}
+
 /// The lines of the run of a scenario, which the value is.
 fn run_of<R: Threads + Wait + Sync, M: KeyMaker, N: Signer, G: Gate>(
     rt: &R,
@@ -100,7 +107,11 @@ fn run_of<R: Threads + Wait + Sync, M: KeyMaker, N: Signer, G: Gate>(
     ensures err { IfErr result (λ status. SpendsOn scenario status) }
 {
     match drive(rt, alloc, scenario, keys, signer, gate, workers)? {
-        Driven::Finished(world) => Ok(lines_of(alloc, workers, alone, value, &world)?),
+        Driven::Finished(world) => {
+            let lines = lines_of(alloc, workers, alone, value, &world)?;
+            leave(world);
+            Ok(lines)
+        }
         Driven::Spent(_) => Err(Status::Spent),
     }
 }
@@ -144,7 +155,11 @@ fn answer_text<R: Threads + Wait + Sync, M: KeyMaker, N: Signer, G: Gate>(
     ensures err { IfErr result (λ status. Refuses text.now status) }
 {
     match Value::from_str(alloc, text) {
-        Ok(value) => answer(rt, alloc, workers, alone, &value, keys, signer, gate),
+        Ok(value) => {
+            let lines = answer(rt, alloc, workers, alone, &value, keys, signer, gate);
+            leave(value);
+            lines
+        }
         Err(error) => match error.classify() {
             Category::Memory => Err(Status::NoMemory),
             _ => Err(Status::NotJson),
