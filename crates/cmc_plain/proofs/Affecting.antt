@@ -144,3 +144,6 @@ keys_fewer role keys more key old new is each before k on =
           let one : key_eq key k ≡ true = (key_eq-Decides key k).1 (sym (tied_is_same k key at)) in
           let both : (role_eq role role && key_eq key k) ≡ true = ap (λ (x : Bool). x && key_eq key k) (role_itself role) ∙ one in
           absurd (cc (ap not both, off))
+
+pub keeps_fewer : (role : Role) (key : Key) (old new base : List (BTreeSet Key)) → ((r : Role) (k : Key) → is_ready new r k ≡ (not (role_eq role r && key_eq key k) && is_ready old r k)) → Keeps old base → Keeps new base
+keeps_fewer role key old new base each kept r k on = kept r k (and_parts (not (role_eq role r && key_eq key k)) (is_ready old r k) (sym (each r k) ∙ on)).1

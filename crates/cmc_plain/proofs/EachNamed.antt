@@ -1,5 +1,5 @@
 -- At rest each Certificate that is not Ready waits for something that has a name.
-use Rattle.std.proofs.Common.{◌≡◌, List, Option, Some, None, Bool, true, false, not, refl, sym, ap, ◌∙◌}
+use Rattle.std.proofs.Common.{◌≡◌, List, Some, None, Bool, true, false, not, refl, sym, ap, ◌∙◌}
 use Rattle.std.specs.Prelude.{IsSome, if◌then◌else◌}
 use Rattle.cmc_meta.specs.declared.key.Key.{Key}
 use Rattle.cmc_meta.specs.declared.conditions.ConditionKind.TheVariants.{Ready}
@@ -12,7 +12,7 @@ use Rattle.cmc_objects.specs.Requests.{is_stated}
 use Rattle.cmc_summary.specs.declared.summary.WaitName.TheVariants.{Stopped}
 use Rattle.cmc_model.specs.Objects.{Objects, object_at}
 use Rattle.cmc_model.specs.Histories.{Setting, moment, objects}
-use Rattle.cmc_model.specs.Writes.{writes, contents, is_known}
+use Rattle.cmc_model.specs.Writes.{writes, is_known}
 use Rattle.cmc_model.proofs.Writes.{writes_leave}
 use Rattle.cmc_rules.specs.Resting.{IsAtRest}
 use Rattle.cmc_rules.specs.Runs.{IsRun}

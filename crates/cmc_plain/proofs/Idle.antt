@@ -1,5 +1,5 @@
 -- Which moves leave a role with nothing to do on a key.
-use Rattle.std.proofs.Common.{◌≡◌, ℕ, ℤ, List, ◌∷◌, Option, Some, None, Bool, true, false, refl, sym, ap, subst, ◌∙◌, inl, inr}
+use Rattle.std.proofs.Common.{◌≡◌, ℕ, ℤ, List, ◌∷◌, Option, Some, None, Bool, true, false, refl, sym, subst, ◌∙◌, inl, inr}
 use Rattle.std.proofs.lemmas.Bool.{and_parts}
 use Rattle.std.specs.Prelude.{◌&&◌, ◌||◌, ◌+◌, ◌↔◌, IsTrue, Result, Ok, Err, IfOk, OnErr, MatchBool, if◌then◌else◌, nat_le}
 use Rattle.std.specs.declared.alloc.AllocError.{AllocError}
@@ -9,7 +9,7 @@ use Rattle.cmc_meta.specs.declared.key.Kind.{Kind}
 use Rattle.cmc_meta.specs.Keys.{key_eq}
 use Rattle.cmc_objects.specs.declared.role.Role.{Role}
 use Rattle.cmc_objects.specs.declared.entry.Entry.{Entry}
-use Rattle.cmc_objects.specs.declared.entry.Entry.TheVariants.{Call as Called, Deliver, List as Listed, Begin, Ask, Made, Signed, Answered, Judged, End}
+use Rattle.cmc_objects.specs.declared.entry.Entry.TheVariants.{Call as Called, Deliver, List as Listed, Ask, Made, Signed, Answered, Judged, End}
 use Rattle.cmc_objects.specs.declared.entry.Who.TheVariants.{Pass}
 use Rattle.cmc_objects.specs.declared.orders.Order.{Order}
 use Rattle.cmc_pass.specs.declared.pass.Views.{Views}
@@ -68,7 +68,7 @@ none_left s k rows none role key on = let off = none role key in absurd (cc (on,
 sees_besides : (s : Setting) (h : List Entry) (who : Role) (kind : Kind) (to : ℕ) (rows : List (BTreeSet Key)) → ((key : Key) → is_ready rows who key ≡ true → SeesSame s h who kind to key)
     → (role : Role) (key : Key) → is_ready rows role key ≡ true → views s (Deliver who kind to ∷ h) role key ≡ views s h role key
 sees_besides s h who kind to rows same role key on =
-    sees_told s h who role kind to key (λ is. subst (λ (r : Role). is_ready rows r key ≡ true → views s (Deliver who kind to ∷ h) r key ≡ views s h r key) (same_role who role is) (same key) on)
+    sees_told s h who role kind to key (λ is. subst (λ (r : Role). is_ready rows r key ≡ true → SeesSame s h r kind to key) (same_role who role is) (same key) on)
 
 idles_told : (b : Bool) (s : Setting) (h : List Entry) (who : Role) (kind : Kind) (to : ℕ) (rows : List (BTreeSet Key)) → StaysTold s h who kind to rows → Idles s h rows
     → Idles s ((if b then Deliver who kind to else Listed who kind (accepted s h)) ∷ h) rows

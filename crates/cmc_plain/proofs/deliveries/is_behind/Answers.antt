@@ -1,6 +1,4 @@
-use Rattle.std.proofs.Common.{ℕ, List, subst, ap, ◌∙◌}
-use Rattle.cmc_model.specs.declared.write.Write.{Write}
-use Rattle.cmc_model.specs.Writes.{last_of_kind}
+use Rattle.std.proofs.Common.{ℕ, subst}
 use Rattle.cmc_world.specs.Kept.{setting_of}
 use Rattle.cmc_world.specs.Answers.{AnswersDelivery}
 use Rattle.cmc_plain.proofs.Making.{behind_by}

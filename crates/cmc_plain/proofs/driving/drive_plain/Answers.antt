@@ -1,7 +1,6 @@
 use Rattle.std.proofs.Common.{subst}
 use Rattle.std.proofs.lemmas.Result.{IfOk-weaker}
 use Rattle.cmc_world.specs.Kept.{Seen}
-use Rattle.cmc_plain.specs.declared.driving.Driven.{Driven}
 use Rattle.cmc_plain.specs.Driving.{IsDrained}
 use Rattle.cmc_plain.proofs.Turns.{driven_by}
 use Rattle.cmc_plain.proofs.driving.drive_plain.Goals as goal

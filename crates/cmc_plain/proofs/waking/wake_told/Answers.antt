@@ -12,7 +12,7 @@ returns-clause-wakes c =
     on_ok c.wake_keys.result
     (λ ready.
     told_ready (setting_of c.args.world.now.scenario) c.args.world.now.history c.args.role c.args.kind c.in_ok-keys.keys.items c.wake_keys.new.ready c.in_ok-keys.ensures
-    (subst (λ (keys : List Key). AreReady c.args.role keys c.wake_keys.new.ready) c.deref.ensures.value ready))
+    (subst (λ (keys : List Key). AreReady c.args.role keys c.wake_keys.new.ready) c.deref-2.ensures.value ready))
     c.wake_keys.ensures.wakes
 
 pub returns-clause-forgets : goal.returns-clause-forgets
