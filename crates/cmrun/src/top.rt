@@ -25,10 +25,9 @@ use cmc_workers::{Driven, Gate, drive};
 use cmc_world::World;
 use serde_json::{Category, Value};
 use std::alloc::{AllocError, Global};
-use std::mem;
-use std::str;
 use std::sync::Wait;
 use std::thread::Threads;
+use std::{mem, str};
 
 /// How a run ended.
 #[derive(Drop)]
