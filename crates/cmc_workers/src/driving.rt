@@ -1,5 +1,5 @@
 //! Runs by threads, and what they leave by one hand.
-ghost use Rattle.std.specs.Prelude.{◌≡◌, IfOk};
+ghost use Rattle.std.specs.Prelude.{◌≡◌, ◌/◌, IfOk, length, nat_le};
 ghost use Rattle.cmc_plain.specs.Driving.{IsDriven};
 ghost use Rattle.cmc_workers.specs.Driving.{Drives};
 
@@ -8,9 +8,18 @@ use cmc_answers::Signer;
 use cmc_keys::KeyMaker;
 use cmc_plain::{Driven, Gate, Waking, drain, drive_plain};
 use cmc_setup::Scenario;
+use cmc_world::World;
 use std::alloc::{AllocError, Global};
 use std::sync::Wait;
 use std::thread::Threads;
+
+/// Whether no more than a quarter of the history is full. The plain order takes up to some three times the entries that
+/// threads do, so with less room than this it may need more than there is.
+fn is_roomy(world: &World) -> bool
+    ensures { result ≡ nat_le (length world.now.history) (world.now.scenario.events / 4) }
+{
+    world.history().len() <= world.scenario().events() / 4
+}
 
 /// Runs the scenario in threads: so many workers take passes, one thread delivers and one performs the script, all round
 /// one lock; keys, signatures, answers and judgements are made outside of it, by `keys` and `signer`, behind the gate.
@@ -18,7 +27,8 @@ use std::thread::Threads;
 /// with by the plain order. With 0 workers it is `drive_plain`, and no thread is started.
 ///
 /// A finished world is one of this scenario, whatever the order in which the threads came. Where the threads' history
-/// came to be full, the scenario is run anew by the plain order; so `Spent` has always a plain history that is full.
+/// came to be full, or more than a quarter of it is, the scenario is run anew by the plain order, which may need more
+/// entries; so `Spent` has always a plain history that is full, and where room is short comes whatever the workers.
 ///
 /// # Errors
 ///
@@ -41,6 +51,9 @@ pub fn drive<R: Threads + Wait + Sync, M: KeyMaker, N: Signer, G: Gate>(
     let begun = Waking::new(alloc, scenario.copy()?)?;
     let left = in_threads(rt, alloc, begun, keys, signer, gate, workers);
     if let Driven::Finished(world) = drain(alloc, left, keys, signer, gate)? {
+        if !is_roomy(&world) {
+            return drive_plain(alloc, scenario, keys, signer, gate);
+        }
         let same = world.scenario().same(&scenario);
         if same {
             return Ok(Driven::Finished(world));
