@@ -13,7 +13,7 @@ use Rattle.base64.specs.GeneralPurpose.{decode_of}
 use Rattle.base64.specs.declared.decode.DecodeError.{DecodeError}
 use Rattle.serde_json.specs.Data.{Data, null, boolean, number, string, array, object, Items, no_items, item, Members, no_members, member}
 use Rattle.serde_json.specs.Find.{get, as_bool, as_number, as_str, as_u64, is_float}
-use Rattle.cmc_meta.specs.Names.{is_subdomain}
+use Rattle.cmc_meta.specs.Names.{is_subdomain, is_printable_name}
 use Rattle.cmc_meta.specs.PairLists.{with_text}
 use Rattle.cmc_cursor.specs.Reading.{Read, Check, ◌>>=◌, under, Field}
 
@@ -33,14 +33,7 @@ word_at word d = text_at d >>= (λ t. if bytes_eq t word then Ok tt else Err [])
 abbrev pub short_text_at : ℕ → Data → Read (List ℕ)
 short_text_at n d = text_at d >>= (λ t. if nat_le (length t) n then Ok t else Err [])
 
--- A printable character of ASCII, the blank included.
-abbrev pub is_printable : ℕ → Bool
-is_printable c = nat_le 0x20 c && nat_le c 0x7E
-
--- 1 to 253 printable characters of ASCII: what a name in a certificate may be.
-abbrev pub is_printable_name : List ℕ → Bool
-is_printable_name t = nat_le 1 (length t) && (nat_le (length t) 253 && list_all is_printable t)
-
+-- What a name in a certificate may be.
 abbrev pub printable_at : Data → Read (List ℕ)
 printable_at d = text_at d >>= (λ t. if is_printable_name t then Ok t else Err [])
 

@@ -4,7 +4,8 @@ ghost use Rattle.std.specs.List.{list_all};
 ghost use Rattle.std.specs.Prelude.{◌≡◌};
 ghost use Rattle.serde_json.specs.View.{view};
 ghost use Rattle.cmc_cursor.specs.Reading.{Gives};
-ghost use Rattle.cmc_cursor.specs.Readers.{short_text_at, is_printable, is_printable_name, printable_at, name_in, name_at, is_decimal, decimal_in, decimal_at};
+ghost use Rattle.cmc_meta.specs.Names.{is_printable, is_printable_name};
+ghost use Rattle.cmc_cursor.specs.Readers.{short_text_at, printable_at, name_in, name_at, is_decimal, decimal_in, decimal_at};
 
 use crate::error::BadField;
 use cmc_meta::{BadName, Name, Text};

@@ -62,7 +62,7 @@ pub record HasValidity (not_before not_after : ℤ) : Type 0 where
   pub begins : IsCertificateTime not_before
   pub ends : IsCertificateTime not_after
 
-pair_validity : (secret : Secret) (fields : CertificateFields) → IsPair secret fields → HasValidity fields.not_before fields.not_after
+pub pair_validity : (secret : Secret) (fields : CertificateFields) → IsPair secret fields → HasValidity fields.not_before fields.not_after
 pair_validity secret fields h =
     let validity = h.certificate_is.is.validity_is in
     let first = validity.first in

@@ -7,7 +7,7 @@ use Rattle.std.specs.Ordering.{nat_cmp, ordering_then, ordering_reverse, MatchOr
 use Rattle.std.proofs.Math.Nat.{mul-le-mul_left, mul_left_comm, pow-le-pow_right, pow-suc, pow-succ'}
 use Rattle.std.proofs.lemmas.Cmp.{nat_list_cmp_total}
 use Rattle.std.proofs.lemmas.Bool.{cases_lt}
-use Rattle.cmc_meta.specs.Names.{IsNamed, are_short, leading}
+use Rattle.cmc_meta.specs.Names.{IsName, IsNamed, are_short, leading}
 
 abbrev AreBytes : List ℕ → Type 0
 AreBytes bs = (i : ℕ) → slice_index bs i < 256
@@ -104,10 +104,11 @@ same_short (suc n) (x ∷ xs) (y ∷ ys) all every short long e =
 
 -- ---- the same of names
 
-pub named_lower : (m n : ℕ) (xs ys : List ℕ) → IsNamed m xs → IsNamed n ys → m < n → slice_cmp nat_cmp xs ys ≡ Less
+pub named_lower : (m n : ℕ) (xs ys : List ℕ) → IsName m xs → IsName n ys → m < n → slice_cmp nat_cmp xs ys ≡ Less
+unfolding IsName
 named_lower m n xs ys left right low = lower_first 8 xs ys left.bytes right.bytes (let a = left.number_is in let b = right.number_is in omega (arith, a, b, low))
 
-pub named_higher : (m n : ℕ) (xs ys : List ℕ) → IsNamed m xs → IsNamed n ys → n < m → slice_cmp nat_cmp xs ys ≡ Greater
+pub named_higher : (m n : ℕ) (xs ys : List ℕ) → IsName m xs → IsName n ys → n < m → slice_cmp nat_cmp xs ys ≡ Greater
 named_higher m n xs ys left right high = nat_list_cmp_total.antisymm xs ys ∙ ap ordering_reverse (named_lower n m ys xs right left high)
 
 mirrored : (xs ys : List ℕ) → xs ≡ ys → slice_cmp nat_cmp ys xs ≡ slice_cmp nat_cmp xs ys
@@ -118,7 +119,8 @@ told_same xs ys Less e is = absurd (cc (is ∙ nat_list_cmp_total.antisymm xs ys
 told_same xs ys Equal e is = refl
 told_same xs ys Greater e is = absurd (cc (is ∙ nat_list_cmp_total.antisymm xs ys ∙ ap ordering_reverse (mirrored xs ys e ∙ sym is)))
 
-pub named_same : (m n : ℕ) (xs ys : List ℕ) → IsNamed m xs → IsNamed n ys → m ≡ n → are_short xs ys ≡ true → slice_cmp nat_cmp xs ys ≡ Equal
+pub named_same : (m n : ℕ) (xs ys : List ℕ) → IsName m xs → IsName n ys → m ≡ n → are_short xs ys ≡ true → slice_cmp nat_cmp xs ys ≡ Equal
+unfolding IsName
 named_same m n xs ys left right same short =
     let e : xs ≡ ys = same_short 8 xs ys left.bytes right.bytes (grind (arith, short)) (grind (arith, short)) (sym left.number_is ∙ same ∙ right.number_is) in
     told_same xs ys (slice_cmp nat_cmp xs ys) e refl

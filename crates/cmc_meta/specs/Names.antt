@@ -26,6 +26,14 @@ has_labels bytes = list_all is_label (labels_from [] bytes)
 abbrev pub is_subdomain : List ℕ → Bool
 is_subdomain bytes = nat_le (length bytes) 253 && has_labels bytes
 
+-- a printable character of ASCII, the blank included
+abbrev pub is_printable : ℕ → Bool
+is_printable c = nat_le 0x20 c && nat_le c 0x7E
+
+-- 1 to 253 printable characters of ASCII: what a name in a certificate may be
+abbrev pub is_printable_name : List ℕ → Bool
+is_printable_name t = nat_le 1 (length t) && (nat_le (length t) 253 && list_all is_printable t)
+
 -- ---- the number by which names are told apart before their texts are
 
 -- the first n bytes as a number, the first one counting most; 0 for each that is not there
@@ -38,6 +46,10 @@ pub record IsNamed (number : ℕ) (text : List ℕ) : Type 0 where
   pub form : is_subdomain text ≡ true
   pub bytes : (i : ℕ) → slice_index text i < 256
   pub number_is : number ≡ leading 8 text
+
+-- what the type of names keeps; closed, since each value that a crate above lets go has it
+unfoldable pub IsName : ℕ → List ℕ → Type 0
+IsName number text = IsNamed number text
 
 -- both texts are of one length, and so short that the number has all of their bytes
 abbrev pub are_short : List ℕ → List ℕ → Bool

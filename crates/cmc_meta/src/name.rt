@@ -1,35 +1,40 @@
 ghost use Rattle.std.proofs.Common.{rules};
+ghost use Rattle.std.specs.Arc.{arc_value};
 ghost use Rattle.std.specs.Cmp.{partial_order_from_own_ties};
 ghost use Rattle.std.specs.Cmp.Lexicographic.{slice_cmp, pointwise};
 ghost use Rattle.std.specs.Cmp.Rules.{comparing};
 ghost use Rattle.std.specs.List.{list_all};
 ghost use Rattle.std.specs.Ordering.{nat_cmp, as_partial_cmp};
 ghost use Rattle.std.specs.Prelude.{◌≡◌, ◌↔◌, ◌<◌, ℕ, true, false, IsTrue, IfOk, IsErrOf, nat_eq, slice_index};
+ghost use Rattle.std.specs.String.{string_bytes};
 ghost use Rattle.cmc_meta.specs.Names.{is_alphanumeric, is_label_byte, is_label, has_labels, is_subdomain, leading, are_short};
 
 use std::alloc::{AllocError, Global};
 use std::cmp::Ordering;
 use std::marker::Model;
+use std::sync::Arc;
 
 /// The name of an object or of a namespace: a DNS subdomain of 1 to 253 bytes, as RFC 1123 has it and
-/// the Kubernetes API conventions ask of object names. Contracts see the list of its bytes.
+/// the Kubernetes API conventions ask of object names. Contracts see the list of its bytes. Copies
+/// share one text.
 #[derive(Drop)]
 pub struct Name {
     /// The first eight bytes as a number: it decides most comparisons without a look at the text.
     first: u64,
-    text: String,
+    text: Arc<String, Global>,
 }
 
 impl Model for Name {
+    ghost use Rattle.std.specs.Arc.{arc_value};
     ghost use Rattle.std.specs.String.{string_bytes};
     ghost use Rattle.std.specs.Prelude.{List, ℕ};
-    ghost use Rattle.cmc_meta.specs.Names.{IsNamed};
+    ghost use Rattle.cmc_meta.specs.Names.{IsName};
 
     ghost Value = { List ℕ };
 
-    ghost view = { λ n. string_bytes n.text };
+    ghost view = { λ n. string_bytes (arc_value n.text) };
 
-    ghost invariant = { λ n. IsNamed n.first (string_bytes n.text) };
+    ghost invariant = { λ n. IsName n.first (string_bytes (arc_value n.text)) };
 }
 
 /// Why a text gave no `Name`.
@@ -115,6 +120,13 @@ fn leading_bytes(bytes: &[u8]) -> u64
     number
 }
 
+/// The text, made to be shared.
+fn shared_text(alloc: Global, text: &str) -> Result<Arc<String, Global>, AllocError>
+    ensures { IfOk result (λ t. string_bytes (arc_value t) ≡ text.now) }
+{
+    Ok(Arc::new(alloc, String::from_str(alloc, text)?)?)
+}
+
 impl Name {
     /// The name that `text` spells.
     ///
@@ -122,6 +134,7 @@ impl Name {
     ///
     /// `NotSubdomain` exactly where the text is not one to 253 bytes of labels joined by single dots,
     /// each label of lower-case letters, digits and `-`, with a letter or digit at both ends.
+    #[tactic(auto, unfolding(crate::specs::Names::IsName))]
     pub fn read(alloc: Global, text: &str) -> Result<Name, BadName>
         ensures read { IfOk result (λ n. n ≡ text.now) }
         ensures form { IfOk result (λ _. is_subdomain text.now ≡ true) }
@@ -132,11 +145,12 @@ impl Name {
         }
         Ok(Name {
             first: leading_bytes(text.as_bytes()),
-            text: String::from_str(alloc, text)?,
+            text: shared_text(alloc, text)?,
         })
     }
 
     /// The same bytes, as a `str`.
+    #[tactic(auto, unfolding(crate::specs::Names::IsName))]
     pub fn as_str(&self) -> &str
         ensures value { result.now ≡ self.now }
         ensures form { is_subdomain self.now ≡ true }
@@ -151,17 +165,19 @@ impl Name {
         self.text.as_bytes()
     }
 
-    /// An equal name.
+    /// An equal name, which shares the text. An error is one of memory.
+    #[tactic(auto, unfolding(crate::specs::Names::IsName))]
     pub fn copy(&self) -> Result<Name, AllocError>
         ensures { IfOk result (λ n. n ≡ self.now) }
     {
         Ok(Name {
             first: self.first,
-            text: self.text.clone()?,
+            text: Arc::try_clone(&self.text)?,
         })
     }
 
     /// Whether both names have the same bytes.
+    #[tactic(auto, unfolding(crate::specs::Names::IsName))]
     pub fn same(&self, other: &Name) -> bool
         ensures { IsTrue result ↔ (self.now ≡ other.now) }
     {
@@ -177,6 +193,7 @@ impl Name {
     }
 
     /// The order of the texts. Most are told apart by their numbers alone.
+    #[tactic(auto, unfolding(crate::specs::Names::IsName))]
     fn compare(&self, other: &Name) -> Ordering
         ensures { result ≡ slice_cmp nat_cmp self.now other.now }
     {

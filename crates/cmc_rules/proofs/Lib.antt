@@ -13,3 +13,4 @@ pub mod Admitted
 pub mod OwnSecrets
 pub mod WellSeen
 pub mod Replies
+pub mod Dating
