@@ -1,10 +1,9 @@
 -- Values of a certain form, and members that may be left out.
 use Rattle.std.specs.Prelude.{ℕ, List, [], ◌∷◌, ◌+◌, decimal, if◌then◌else◌, Ok, Err, Some, None, is_some}
 use Rattle.std.specs.declared.option.Option.{Option}
-use Rattle.std.specs.Char.{is_control}
-use Rattle.std.specs.List.{list_any}
-use Rattle.std.specs.Str.{bytes_eq, chars}
+use Rattle.std.specs.Str.{bytes_eq}
 use Rattle.serde_json.specs.Data.{Data, null, boolean, number, string, array, object, Items, no_items, item}
+use Rattle.cmc_meta.specs.Wordings.{is_plain}
 use Rattle.cmc_time.specs.DurationReading.{duration_seconds}
 use Rattle.cmc_x509_build.specs.Addresses.{address_at}
 use Rattle.cmc_cursor.specs.Reading.{Read, ◌>>=◌, under, Field, optional_at, required_at}
@@ -39,7 +38,7 @@ list_at wording (object ms) = Err []
 
 -- A text without a control character.
 abbrev pub plain_text_at : Data → Read (List ℕ)
-plain_text_at d = text_at d >>= (λ t. if list_any is_control (chars t) then Err [] else Ok t)
+plain_text_at d = text_at d >>= (λ t. if is_plain t then Ok t else Err [])
 
 -- A duration as Go's time.Duration is written, in seconds.
 abbrev pub duration_at : Data → Read ℕ

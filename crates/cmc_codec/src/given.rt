@@ -1,8 +1,5 @@
 // Values of a certain form, and members that may be left out.
-ghost use Rattle.std.specs.Char.{is_control};
-ghost use Rattle.std.specs.List.{list_any};
 ghost use Rattle.std.specs.Prelude.{◌≡◌, [], None, decimal, false, is_some, map};
-ghost use Rattle.std.specs.Str.{chars};
 ghost use Rattle.serde_json.specs.View.{view, items_view};
 ghost use Rattle.cmc_x509_build.specs.Addresses as addresses;
 ghost use Rattle.cmc_cursor.specs.Reading.{Gives, under};
@@ -14,7 +11,7 @@ use cmc_cursor::{
     BadField, Fields, at, at_place, bytes, flag, name, optional, printable, required, short_text,
     small_count, text,
 };
-use cmc_meta::{Bytes, Name, Text, Texts};
+use cmc_meta::{Bytes, Name, Text, Texts, is_plain};
 use cmc_time::read_duration;
 use cmc_x509_build::address_at;
 use serde_json::Value;
@@ -89,17 +86,11 @@ fn list(alloc: Global, wording: Wording, value: &Value) -> Result<Texts, BadFiel
     }
 }
 
-fn has_control(text: &str) -> bool
-    ensures { result ≡ list_any is_control (chars text.now) }
-{
-    text.chars().any(|character| character.is_control())
-}
-
 fn plain_text(alloc: Global, value: &Value) -> Result<Text, BadField>
     ensures { Gives (λ t. t) result (plain_text_at (view value.now)) }
 {
     match value.as_str() {
-        Some(text) if !has_control(text) => Ok(Text::from_str(alloc, text)?),
+        Some(text) if is_plain(text) => Ok(Text::from_str(alloc, text)?),
         _ => Err(BadField::Path(Text::new(alloc))),
     }
 }

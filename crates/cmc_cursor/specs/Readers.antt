@@ -13,7 +13,8 @@ use Rattle.base64.specs.GeneralPurpose.{decode_of}
 use Rattle.base64.specs.declared.decode.DecodeError.{DecodeError}
 use Rattle.serde_json.specs.Data.{Data, null, boolean, number, string, array, object, Items, no_items, item, Members, no_members, member}
 use Rattle.serde_json.specs.Find.{get, as_bool, as_number, as_str, as_u64, is_float}
-use Rattle.cmc_meta.specs.Names.{is_subdomain, is_printable_name}
+use Rattle.cmc_meta.specs.Names.{is_subdomain}
+use Rattle.cmc_meta.specs.Wordings.{is_printable_name}
 use Rattle.cmc_meta.specs.PairLists.{with_text}
 use Rattle.cmc_cursor.specs.Reading.{Read, Check, ◌>>=◌, under, Field}
 

@@ -4,11 +4,10 @@ ghost use Rattle.std.specs.List.{list_all};
 ghost use Rattle.std.specs.Prelude.{◌≡◌};
 ghost use Rattle.serde_json.specs.View.{view};
 ghost use Rattle.cmc_cursor.specs.Reading.{Gives};
-ghost use Rattle.cmc_meta.specs.Names.{is_printable, is_printable_name};
 ghost use Rattle.cmc_cursor.specs.Readers.{short_text_at, printable_at, name_in, name_at, is_decimal, decimal_in, decimal_at};
 
 use crate::error::BadField;
-use cmc_meta::{BadName, Name, Text};
+use cmc_meta::{BadName, Name, Text, is_printable_name};
 use serde_json::Value;
 use std::alloc::Global;
 
@@ -22,24 +21,12 @@ pub fn short_text(alloc: Global, value: &Value, most: usize) -> Result<Text, Bad
     }
 }
 
-fn are_printable(bytes: &[u8]) -> bool
-    ensures { result ≡ list_all is_printable bytes.now }
-{
-    bytes.iter().all(|byte| (0x20..=0x7E).contains(byte))
-}
-
-fn is_printable_text(text: &str) -> bool
-    ensures { result ≡ is_printable_name text.now }
-{
-    1 <= text.len() && text.len() <= 253 && are_printable(text.as_bytes())
-}
-
 /// A text of 1 to 253 printable characters of ASCII, the blank included.
 pub fn printable(alloc: Global, value: &Value) -> Result<Text, BadField>
     ensures { Gives (λ t. t) result (printable_at (view value.now)) }
 {
     match value.as_str() {
-        Some(text) if is_printable_text(text) => Ok(Text::from_str(alloc, text)?),
+        Some(text) if is_printable_name(text) => Ok(Text::from_str(alloc, text)?),
         _ => Err(BadField::Path(Text::new(alloc))),
     }
 }

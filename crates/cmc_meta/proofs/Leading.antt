@@ -7,7 +7,7 @@ use Rattle.std.specs.Ordering.{nat_cmp, ordering_then, ordering_reverse, MatchOr
 use Rattle.std.proofs.Math.Nat.{mul-le-mul_left, mul_left_comm, pow-le-pow_right, pow-suc, pow-succ'}
 use Rattle.std.proofs.lemmas.Cmp.{nat_list_cmp_total}
 use Rattle.std.proofs.lemmas.Bool.{cases_lt}
-use Rattle.cmc_meta.specs.Names.{IsName, IsNamed, are_short, leading}
+use Rattle.cmc_meta.specs.Names.{IsName, are_short, leading}
 
 abbrev AreBytes : List ℕ → Type 0
 AreBytes bs = (i : ℕ) → slice_index bs i < 256

@@ -2,3 +2,4 @@ pub mod Keys
 pub mod Names
 pub mod PairLists
 pub mod ConditionLists
+pub mod Wordings

@@ -26,14 +26,6 @@ has_labels bytes = list_all is_label (labels_from [] bytes)
 abbrev pub is_subdomain : List ℕ → Bool
 is_subdomain bytes = nat_le (length bytes) 253 && has_labels bytes
 
--- a printable character of ASCII, the blank included
-abbrev pub is_printable : ℕ → Bool
-is_printable c = nat_le 0x20 c && nat_le c 0x7E
-
--- 1 to 253 printable characters of ASCII: what a name in a certificate may be
-abbrev pub is_printable_name : List ℕ → Bool
-is_printable_name t = nat_le 1 (length t) && (nat_le (length t) 253 && list_all is_printable t)
-
 -- ---- the number by which names are told apart before their texts are
 
 -- the first n bytes as a number, the first one counting most; 0 for each that is not there

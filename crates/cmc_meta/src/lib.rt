@@ -14,6 +14,7 @@ mod owners;
 mod pairs;
 mod text;
 mod texts;
+mod wording;
 
 pub use bytes::Bytes;
 pub use conditions::{Condition, ConditionKind, Conditions, Tri};
@@ -25,3 +26,4 @@ pub use owners::{OwnerRef, Owners};
 pub use pairs::Pairs;
 pub use text::Text;
 pub use texts::Texts;
+pub use wording::{is_plain, is_printable_name};
