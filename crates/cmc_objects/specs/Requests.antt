@@ -6,10 +6,7 @@ use Rattle.cmc_meta.specs.declared.conditions.ConditionKind.{ConditionKind}
 use Rattle.cmc_meta.specs.declared.conditions.ConditionKind.TheVariants.{Approved, Denied}
 use Rattle.cmc_meta.specs.declared.conditions.Tri.TheVariants.{True}
 use Rattle.cmc_meta.specs.ConditionLists.{condition_rank, tri_eq}
-use Rattle.cmc_objects.specs.declared.certificate.Certificate.{Certificate}
 use Rattle.cmc_objects.specs.declared.issuer.IssuerRef.{IssuerRef}
-use Rattle.cmc_objects.specs.declared.object.Object.{Object}
-use Rattle.cmc_objects.specs.declared.object.Object.TheVariants as objects
 use Rattle.cmc_objects.specs.declared.request.CertificateRequest.{CertificateRequest}
 use Rattle.cmc_objects.specs.declared.rows.SignRow.{SignRow}
 use Rattle.cmc_objects.specs.declared.rows.SignRow.TheVariants.{Issue, Pending, Fail, Raw, Free}
@@ -40,19 +37,9 @@ abbrev pub is_duration_form : Option ℕ → Bool
 is_duration_form None = true
 is_duration_form (Some seconds) = nat_le seconds 3599999996400
 
--- what reading gives of a Certificate
-abbrev pub is_certificate_form : Certificate → Bool
-is_certificate_form certificate = is_issuer_form certificate.spec.issuer && is_duration_form certificate.spec.duration
-
 -- what reading gives of a request
 abbrev pub is_request_form : CertificateRequest → Bool
 is_request_form request = is_issuer_form request.spec.issuer && is_duration_form request.spec.duration
-
--- what reading gives of an object
-abbrev pub is_object_form : Object → Bool
-is_object_form (objects.Cert certificate) = is_certificate_form certificate
-is_object_form (objects.Request request) = is_request_form request
-is_object_form (objects.Secret secret) = true
 
 -- from 1951-01-01T00:00:00Z to 9900-01-01T00:00:00Z, where a run's moments lie
 abbrev pub is_run_time : ℤ → Bool

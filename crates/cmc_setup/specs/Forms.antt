@@ -14,7 +14,8 @@ use Rattle.cmc_objects.specs.declared.rows.KeyRow.{KeyRow}
 use Rattle.cmc_objects.specs.declared.rows.KeyRow.TheVariants as key_rows
 use Rattle.cmc_objects.specs.declared.rows.SignRow.{SignRow}
 use Rattle.cmc_objects.specs.declared.rows.SignRow.TheVariants as sign_rows
-use Rattle.cmc_objects.specs.Requests.{is_duration_form, is_object_form, is_row_form}
+use Rattle.cmc_objects.specs.Requests.{is_duration_form, is_row_form}
+use Rattle.cmc_setup.specs.ObjectForms.{is_object_form}
 
 -- ---- the approver
 

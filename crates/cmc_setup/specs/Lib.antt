@@ -4,3 +4,4 @@ pub mod Setups
 pub mod Flags
 pub mod Holding
 pub mod Stages
+pub mod ObjectForms

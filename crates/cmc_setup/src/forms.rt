@@ -1,23 +1,17 @@
 // The forms of what a scenario says of its approver, of keys and issuers, and in a step.
 ghost use Rattle.std.specs.List.{list_all};
 ghost use Rattle.std.specs.Prelude.{◌≡◌, not};
-ghost use Rattle.cmc_objects.specs.Requests.{is_certificate_form, is_duration_form, is_issuer_form, is_lifetime, is_object_form, is_request_form, is_row_form, is_short_text, is_short_option};
+ghost use Rattle.cmc_objects.specs.Requests.{is_duration_form, is_lifetime, is_row_form};
 ghost use Rattle.cmc_setup.specs.Forms as spec;
+ghost use Rattle.cmc_setup.specs.ObjectForms.{is_object_form};
 
-use cmc_meta::{Key, Kind, Text};
-use cmc_objects::{
-    Certificate, CertificateRequest, IssuerRef, KeyRow, Material, Object, Rows, Rules, SignRow,
-    Step,
-};
+use crate::object_forms::{is_duration, is_object};
+use cmc_meta::{Key, Kind};
+use cmc_objects::{KeyRow, Material, Rows, Rules, SignRow, Step};
 use cmc_policy_rules::{Pattern, Patterns, Policy};
 use std::collections::BTreeMap;
 
 const LONGEST_LIST: usize = 100;
-
-const LONGEST_TEXT: usize = 253;
-
-// 999,999,999 hours.
-const LONGEST_DURATION: u64 = 3_599_999_996_400;
 
 const LONGEST_LIFETIME: u64 = 3_153_600_000;
 
@@ -78,15 +72,6 @@ fn may_be_addresses(patterns: &Option<Patterns>) -> bool
     match patterns {
         None => true,
         Some(patterns) => are_addresses(patterns),
-    }
-}
-
-fn is_duration(seconds: Option<u64>) -> bool
-    ensures { result ≡ is_duration_form seconds }
-{
-    match seconds {
-        None => true,
-        Some(seconds) => seconds <= LONGEST_DURATION,
     }
 }
 
@@ -201,51 +186,6 @@ pub fn is_material(material: &Material) -> bool
     ensures { result ≡ spec.is_material_form material.now }
 {
     are_entries(material.as_map())
-}
-
-fn is_short(text: &Text) -> bool
-    ensures { result ≡ is_short_text text.now }
-{
-    text.as_str().len() <= LONGEST_TEXT
-}
-
-fn may_be_short(text: &Option<Text>) -> bool
-    ensures { result ≡ is_short_option text.now }
-{
-    match text {
-        None => true,
-        Some(text) => is_short(text),
-    }
-}
-
-fn is_issuer(issuer: &IssuerRef) -> bool
-    ensures { result ≡ is_issuer_form issuer.now }
-{
-    is_short(&issuer.name) && may_be_short(&issuer.kind) && may_be_short(&issuer.group)
-}
-
-fn is_certificate_object(certificate: &Certificate) -> bool
-    ensures { result ≡ is_certificate_form certificate.now }
-{
-    is_issuer(&certificate.spec.issuer) && is_duration(certificate.spec.duration)
-}
-
-fn is_request(request: &CertificateRequest) -> bool
-    ensures { result ≡ is_request_form request.now }
-{
-    is_issuer(&request.spec.issuer) && is_duration(request.spec.duration)
-}
-
-// Whether a scenario can apply this object: the name, kind and group of an issuer have at most 253 bytes
-// each, and a duration has at most 999,999,999 hours.
-fn is_object(object: &Object) -> bool
-    ensures { result ≡ is_object_form object.now }
-{
-    match object {
-        Object::Cert(certificate) => is_certificate_object(certificate),
-        Object::Request(request) => is_request(request),
-        Object::Secret(_) => true,
-    }
 }
 
 fn is_free(row: &SignRow) -> bool

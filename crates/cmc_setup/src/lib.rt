@@ -7,6 +7,7 @@ mod fitting;
 mod flags;
 mod forms;
 mod holding;
+mod object_forms;
 mod roles;
 mod running;
 mod sameness;
