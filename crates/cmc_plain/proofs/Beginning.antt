@@ -15,7 +15,7 @@ use Rattle.cmc_rules.specs.Legality.{IsLegal}
 use Rattle.cmc_world.specs.Quiet.{IsQuiet}
 use Rattle.cmc_plain.specs.Plain.{Fits}
 use Rattle.cmc_plain.specs.Searches.{IsFree}
-use Rattle.cmc_plain.proofs.Unknown.{unknown_quiet}
+use Rattle.cmc_plain.proofs.Unknown.{known_unless_quiet}
 
 -- ---- when a key fits
 
@@ -33,10 +33,6 @@ unfit_untold s h role key b untold off = (
   λ bad. absurd (cc),
   λ f. absurd (untold off f.may.due.told),
 )
-
-known_by : (b : Bool) (s : Setting) (h : List Entry) (role : Role) (key : Key) → is_known key (writes s h) ≡ b → IsLegal s h → (IsQuiet s h role key → ⊥) → is_known key (writes s h) ≡ true
-known_by true s h role key is legal worth = is
-known_by false s h role key is legal worth = absurd (worth (unknown_quiet s h role key legal is))
 
 -- a key on which the role is due fits where it is not quiet: one that no write named is quiet
 pub fit_unless_quiet : (s : Setting) (h : List Entry) (role : Role) (key : Key) (seen : Views) (due quiet : Bool) → IsLegal s h → seen ≡ views s h role key
@@ -58,7 +54,7 @@ fit_unless_quiet s h role key seen due quiet legal is running free due_is on qui
       idle = free.idle;
       due = subst (λ (v : Views). IsDue (past s h role key) v (moment s h) (positions h role)) is (due_is.0 on);
       work = free.kind;
-      known = known_by (is_known key (writes s h)) s h role key refl legal worth;
+      known = known_unless_quiet (is_known key (writes s h)) s h role key refl legal worth;
     };
     worth = worth;
   }

@@ -129,3 +129,8 @@ unknown_quiet s h role key legal none =
           (record { certificate = ap (λ (v : Views). v.certificate) seen; request = ap (λ (v : Views). v.request) seen });
       same = seen ∙ ap seen_last (sym (no_pass_on s h role key legal none));
     }
+
+-- so a key on which there is something to do or to see is one that a write named
+pub known_unless_quiet : (b : Bool) (s : Setting) (h : List Entry) (role : Role) (key : Key) → is_known key (writes s h) ≡ b → IsLegal s h → (IsQuiet s h role key → ⊥) → is_known key (writes s h) ≡ true
+known_unless_quiet true s h role key is legal worth = is
+known_unless_quiet false s h role key is legal worth = absurd (worth (unknown_quiet s h role key legal is))

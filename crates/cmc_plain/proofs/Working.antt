@@ -17,7 +17,7 @@ use Rattle.cmc_rules.specs.Legality.{IsLegal}
 use Rattle.cmc_plain.specs.Plain.{Fits}
 use Rattle.cmc_plain.specs.Ready.{Idles, is_ready}
 use Rattle.cmc_plain.specs.Searches.{HasWork, IsFree}
-use Rattle.cmc_plain.proofs.Unknown.{unknown_quiet}
+use Rattle.cmc_plain.proofs.Unknown.{known_unless_quiet}
 
 -- a key on which there is something to do fits
 pub work_fits : (s : Setting) (h : List Entry) (role : Role) (key : Key) → HasWork s h role key → Fits s h role key
@@ -43,10 +43,6 @@ pub untold : (s : Setting) (h : List Entry) (role : Role) (key : Key) (b : Bool)
     → IsTrue false ↔ HasWork s h role key
 untold s h role key b told off = (λ bad. absurd (cc), λ w. absurd (told off w.may.due.told))
 
-known_by : (b : Bool) (s : Setting) (h : List Entry) (role : Role) (key : Key) → is_known key (writes s h) ≡ b → IsLegal s h → (IsIdle s h role (views s h role key) → ⊥) → is_known key (writes s h) ≡ true
-known_by true s h role key is legal busy = is
-known_by false s h role key is legal busy = let quiet = unknown_quiet s h role key legal is in absurd (busy quiet.idle)
-
 -- where it is not so by what the role sees, there is something to do exactly where the role is due
 pub work_where_due : (s : Setting) (h : List Entry) (role : Role) (key : Key) (seen : Views) (due idle : Bool) → IsLegal s h → seen ≡ views s h role key → runs s h role ≡ true → IsFree s h role key
     → (IsTrue idle ↔ IsIdle s h role seen) → idle ≡ false → (IsTrue due ↔ IsDue (past s h role key) seen (moment s h) (positions h role)) → IsTrue due ↔ HasWork s h role key
@@ -64,7 +60,7 @@ work_where_due s h role key seen due idle legal is running free idle_tells off d
       idle = free.idle;
       due = subst IsDueWith is now;
       work = free.kind;
-      known = known_by (is_known key (writes s h)) s h role key refl legal busy;
+      known = known_unless_quiet (is_known key (writes s h)) s h role key refl legal (λ quiet. busy quiet.idle);
     };
     busy = busy;
   }

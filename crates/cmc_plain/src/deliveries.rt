@@ -49,7 +49,22 @@ fn has_news(world: &World, role: Role, kind: Kind, to: u64) -> bool
     at_kind(world.told(role), kind) < to && has_informer(role, kind)
 }
 
-/// Whether the role runs, and can be told of the newest write of the kind, `to`, of which it was not told.
+/// Whether the role runs, and can be told of the newest write of the kind, `to`, of which it was not told. A function clears
+/// room for all of its locals as it begins, and a move and its answer are large: so the question to the world stands alone.
+fn takes_delivery(
+    alloc: Global,
+    world: &World,
+    role: Role,
+    kind: Kind,
+    to: u64,
+) -> Result<bool, AllocError>
+    requires { to ≡ last_of_kind kind (writes (setting_of world.now.scenario) world.now.history) }
+    ensures { IfOk result (λ b. IsTrue b ↔ IsBehind (setting_of world.now.scenario) world.now.history role kind) }
+{
+    Ok(is_accepted(world.answer(alloc, &Move::Deliver { role, kind, to })?))
+}
+
+/// The same, where most are told apart without a question to the world.
 fn is_behind(
     alloc: Global,
     world: &World,
@@ -63,7 +78,7 @@ fn is_behind(
     if !has_news(world, role, kind, to) {
         return Ok(false);
     }
-    Ok(is_accepted(world.answer(alloc, &Move::Deliver { role, kind, to })?))
+    takes_delivery(alloc, world, role, kind, to)
 }
 
 /// The first kind in which the role is behind.
