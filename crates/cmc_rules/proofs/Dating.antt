@@ -1,12 +1,11 @@
 -- What a new condition, and the renewal of a certificate, leave of it that moments lie in the years 1950 to 9999.
-use Rattle.std.proofs.Common.{◌≡◌, ◌≤◌, ◌<◌, ◌*◌, ◌+◌, ◌/◌, ◌==◌, ℕ, ℤ, List, [], ◌∷◌, Bool, true, false, Option, Some, None, refl, sym, subst, arith, Ordering, Less, Equal, Greater}
-use Rattle.std.specs.Prelude.{IfSome, if◌then◌else◌, ◌&&◌, find, pos, nat_lt, ◌≤ℤ◌}
+use Rattle.std.proofs.Common.{◌≡◌, ◌≤◌, ◌<◌, ◌*◌, ◌+◌, ◌/◌, ◌==◌, ℕ, ℤ, List, [], ◌∷◌, Bool, true, false, Option, Some, None, refl, arith, Ordering, Less, Equal, Greater}
+use Rattle.std.specs.Prelude.{IfSome, if◌then◌else◌, ◌&&◌, find, nat_lt, ◌≤ℤ◌}
 use Rattle.std.specs.Ordering.{nat_cmp, match_ordering}
 use Rattle.std.proofs.Math.Nat.{mul-le-mul_left}
 use Rattle.std.proofs.lemmas.Bool.Decides.{nat_tests}
 use Rattle.std.proofs.lemmas.Int.{ints}
 use Rattle.cmc_meta.specs.declared.conditions.Condition.{Condition}
-use Rattle.cmc_meta.specs.declared.conditions.ConditionKind.{ConditionKind}
 use Rattle.cmc_meta.specs.ConditionLists.{condition_rank, condition_at, kept_since, renewed, transitioned, tri_eq}
 use Rattle.cmc_policies.specs.declared.renewal.Renew.{Renew}
 use Rattle.cmc_policies.specs.declared.renewal.Renew.TheVariants.{Default, Before, Percent}
@@ -40,7 +39,8 @@ dated_by Less new c cs later is dated after = (is, dated)
 dated_by Equal new c cs later is dated after = (is, dated.1)
 dated_by Greater new c cs later is dated after = (dated.0, after)
 
-dated_renewed : (cs : List Condition) (new : Condition) → AreDated cs → IsDatedCondition new → AreDated (renewed cs new)
+-- a condition that is set anew, with its moment
+pub dated_renewed : (cs : List Condition) (new : Condition) → AreDated cs → IsCertificateTime new.since → AreDated (renewed cs new)
 dated_renewed [] new dated is = (is, tt)
 dated_renewed (c ∷ cs) new dated is = dated_by (nat_cmp (condition_rank new.kind) (condition_rank c.kind)) new c cs (renewed cs new) is dated (dated_renewed cs new dated.1 is)
 
