@@ -143,6 +143,10 @@ fn fit(now: i64, steps: &[Step]) -> bool
 /// 3,153,600,000 seconds that begin at most 86,400 seconds early; so has each step that answers, which
 /// has no free row. Steps that approve, deny, answer or renew name a Certificate. `Roles` are always in
 /// their order.
+///
+/// An object that is applied names its issuer by texts of at most 253 bytes, and each of its durations is
+/// at most 999,999,999 hours. A Certificate's common name has no control character, its DNS names, URIs
+/// and emails have 1 to 253 printable characters of ASCII, and its IP addresses are texts of addresses.
 pub fn is_setup(
     events: u64,
     window: u64,

@@ -2,7 +2,6 @@
 ghost use Rattle.std.specs.List.{list_all};
 ghost use Rattle.std.specs.Prelude.{◌≡◌, is_some};
 ghost use Rattle.cmc_meta.specs.Wordings as wordings;
-ghost use Rattle.cmc_x509_build.specs.Addresses as addresses;
 ghost use Rattle.cmc_objects.specs.Requests.{is_duration_form, is_issuer_form, is_request_form, is_short_text, is_short_option};
 ghost use Rattle.cmc_setup.specs.ObjectForms as spec;
 
@@ -95,8 +94,9 @@ fn is_request(request: &CertificateRequest) -> bool
 }
 
 /// Whether a scenario can apply this object: the name, kind and group of an issuer have at most 253 bytes
-/// each, a duration has at most 999,999,999 hours, a common name has no control character, DNS names, URIs
-/// and emails have 1 to 253 printable characters of ASCII, and IP addresses are ones.
+/// each, and a duration has at most 999,999,999 hours. Of a Certificate the time before its end at which it
+/// is renewed has no more either, the common name has no control character, DNS names, URIs and emails have
+/// 1 to 253 printable characters of ASCII, and each IP address is the text of one.
 pub fn is_object(object: &Object) -> bool
     ensures { result ≡ spec.is_object_form object.now }
 {
