@@ -16,9 +16,9 @@ use Rattle.cmc_rules.specs.Passes.{open_pass}
 use Rattle.cmc_rules.specs.Runs.{IsRun}
 use Rattle.cmc_rules.specs.Sound.{IsQuestion}
 use Rattle.cmc_safety.proofs.Course.{HasCome, HasComeTo, has_come, of_open}
-use Rattle.cmc_world.specs.Answers.{kept_at}
-use Rattle.cmc_world.specs.declared.moves.Move.TheVariants.{Give}
-use Rattle.cmc_world.proofs.Sounds.{each_sound}
+use Rattle.cmc_moves.specs.Answers.{kept_at}
+use Rattle.cmc_moves.specs.declared.moves.Move.TheVariants.{Give}
+use Rattle.cmc_moves.proofs.Sounds.{each_sound}
 use Rattle.cmc_plain.specs.Driving.{CanBeMade, CanBeKept, IsNextWith}
 
 -- ---- keys that are asked for can be made

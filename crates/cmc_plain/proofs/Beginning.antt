@@ -12,7 +12,7 @@ use Rattle.cmc_rules.specs.Viewing.{views}
 use Rattle.cmc_rules.specs.Memory.{past}
 use Rattle.cmc_rules.specs.Sameness.{IsDue, own_above}
 use Rattle.cmc_rules.specs.Legality.{IsLegal}
-use Rattle.cmc_world.specs.Quiet.{IsQuiet}
+use Rattle.cmc_moves.specs.Quiet.{IsQuiet}
 use Rattle.cmc_plain.specs.Plain.{Fits}
 use Rattle.cmc_plain.specs.Searches.{IsFree}
 use Rattle.cmc_plain.proofs.Unknown.{known_unless_quiet}

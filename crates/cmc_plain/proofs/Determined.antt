@@ -9,9 +9,9 @@ use Rattle.cmc_rules.specs.Following.{Follows}
 use Rattle.cmc_rules.specs.Legality.{IsLegal}
 use Rattle.cmc_rules.specs.Scripting.{scripted}
 use Rattle.cmc_rules.specs.Runs.{IsRun, IsFinished}
-use Rattle.cmc_world.specs.declared.moves.Move.{Move}
-use Rattle.cmc_world.specs.declared.moves.Move.TheVariants as moves
-use Rattle.cmc_world.specs.Answers.{entries_of, GrowsBy, next_effect}
+use Rattle.cmc_moves.specs.declared.moves.Move.{Move}
+use Rattle.cmc_moves.specs.declared.moves.Move.TheVariants as moves
+use Rattle.cmc_moves.specs.Answers.{entries_of, GrowsBy, next_effect}
 use Rattle.cmc_world.proofs.Leading.{extends_by, extends_on}
 use Rattle.cmc_world.specs.Leading.{Extends}
 use Rattle.cmc_plain.specs.Histories.{entries_for, IsFull, IsEnd, GrowsPlainly, HasNoFree, IsPlainStep, LeadsPlainly, IsPlain}

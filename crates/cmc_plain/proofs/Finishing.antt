@@ -44,7 +44,7 @@ use Rattle.cmc_rules.specs.Following.{owed, IsReady}
 use Rattle.cmc_rules.specs.Resting.{IsIdle, IsPaused, RestsOn, IsAtRest}
 use Rattle.cmc_rules.specs.Runs.{IsRun, IsFinished}
 use Rattle.cmc_rules.specs.Sameness.{own_above}
-use Rattle.cmc_world.proofs.Sounds.{each_sound}
+use Rattle.cmc_moves.proofs.Sounds.{each_sound}
 use Rattle.cmc_rules.specs.Passes.{IsWorking}
 use Rattle.cmc_safety.proofs.Moments.{scripted_low}
 use Rattle.cmc_world.proofs.Rest.{same_kind}

@@ -7,7 +7,7 @@ use Rattle.cmc_model.specs.Histories.{incarnation}
 use Rattle.cmc_rules.specs.Runs.{IsRun}
 use Rattle.cmc_setup.specs.Setups.{Setup, IsOrderlyFrom}
 use Rattle.cmc_world.specs.Kept.{setting_of}
-use Rattle.cmc_world.specs.Answers.{outdated, outdated_at}
+use Rattle.cmc_moves.specs.Answers.{outdated, outdated_at}
 use Rattle.cmc_plain.proofs.Starting.{present_origin_stands}
 use Rattle.cmc_plain.proofs.Switches.{starts_stopped}
 use Rattle.cmc_plain.proofs.Making.{ArePresent}

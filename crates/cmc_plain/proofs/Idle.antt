@@ -31,16 +31,16 @@ use Rattle.cmc_rules.specs.Scripting.{has_held}
 use Rattle.cmc_rules.specs.Viewing.{views, present_views}
 use Rattle.cmc_rules.proofs.Positions.{views_called}
 use Rattle.cmc_setup.specs.Setups.{Setup}
-use Rattle.cmc_world.specs.Answers.{Grows, Leaves, LeavesAsked, IsOfPass, beginning, value_entry, kept_of, asked_once}
+use Rattle.cmc_moves.specs.Answers.{Grows, Leaves, LeavesAsked, IsOfPass, beginning, value_entry, kept_of, asked_once}
 use Rattle.cmc_world.specs.Kept.{Seen, setting_of}
 use Rattle.cmc_world.specs.Rest.{EachKind}
-use Rattle.cmc_world.specs.declared.moves.Move.{Move}
-use Rattle.cmc_world.specs.declared.moves.Move.TheVariants as moves
-use Rattle.cmc_world.specs.declared.moves.Stepped.{Stepped}
-use Rattle.cmc_world.specs.declared.moves.Stepped.TheVariants as answers
+use Rattle.cmc_moves.specs.declared.moves.Move.{Move}
+use Rattle.cmc_moves.specs.declared.moves.Move.TheVariants as moves
+use Rattle.cmc_moves.specs.declared.moves.Stepped.{Stepped}
+use Rattle.cmc_moves.specs.declared.moves.Stepped.TheVariants as answers
 use Rattle.cmc_world.proofs.Rest.{same_key}
 use Rattle.cmc_world.proofs.Newest.{IsToldOfAll, views_newest}
-use Rattle.cmc_world.proofs.Sounds.{any_desk}
+use Rattle.cmc_moves.proofs.Sounds.{any_desk}
 use Rattle.cmc_world.proofs.Standings.{same_role}
 use Rattle.cmc_plain.specs.Ready.{is_ready, Keeps, Idles, Forgets, SeesSame, StaysTold}
 use Rattle.cmc_plain.proofs.Quiet.{idle_rests, sees_told}

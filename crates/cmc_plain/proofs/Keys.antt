@@ -18,7 +18,7 @@ use Rattle.cmc_model.specs.Histories.{Setting}
 use Rattle.cmc_model.proofs.Keys.{key_cmp-total, key_cmp-IsAntisymmetric}
 use Rattle.cmc_objects.specs.Watching.{kind_of_work}
 use Rattle.cmc_world.proofs.Rest.{key_eq-Decides}
-use Rattle.cmc_world.specs.Quiet.{IsQuiet}
+use Rattle.cmc_moves.specs.Quiet.{IsQuiet}
 use Rattle.cmc_plain.specs.Plain.{Fits}
 use Rattle.cmc_plain.specs.Searches.{FindsFirst}
 

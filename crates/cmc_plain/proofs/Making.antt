@@ -22,12 +22,12 @@ use Rattle.cmc_rules.specs.Origins.{origins, origin_at}
 use Rattle.cmc_rules.specs.Causes.{IsCausedEntry, IsCaused, MayGive}
 use Rattle.cmc_rules.specs.Legality.{IsOfKind, IsOpen}
 use Rattle.cmc_rules.specs.Runs.{IsRun}
-use Rattle.cmc_world.specs.declared.moves.Move.{Move}
-use Rattle.cmc_world.specs.declared.moves.Move.TheVariants.{Script, Deliver, Begin, Next, Give, Decide}
-use Rattle.cmc_world.specs.declared.moves.Stepped.{Stepped}
-use Rattle.cmc_world.specs.declared.moves.Stepped.TheVariants.{Done, NotNow, Ended, NotMine, Spent}
-use Rattle.cmc_world.specs.declared.moves.Lack.TheVariants.{ScriptOver, ScriptWaits, Stopped, NoInformer, Held, Current, NotAWrite, InProcess, OwnWrite, SameViews, NotQueued, NoPass}
-use Rattle.cmc_world.specs.Answers.{Need, Bar, BarOf, Fits as HasRoom, outdated, entries_of, next_effect, kept_of, new_of, next_answer, asked_once, value_entry, AnswersScript, AnswersDelivery, AnswersBegin, AnswersOpen, AnswersGoing, AnswersGiven, Answers, Leaves}
+use Rattle.cmc_moves.specs.declared.moves.Move.{Move}
+use Rattle.cmc_moves.specs.declared.moves.Move.TheVariants.{Script, Deliver, Begin, Next, Give, Decide}
+use Rattle.cmc_moves.specs.declared.moves.Stepped.{Stepped}
+use Rattle.cmc_moves.specs.declared.moves.Stepped.TheVariants.{Done, NotNow, Ended, NotMine, Spent}
+use Rattle.cmc_moves.specs.declared.moves.Lack.TheVariants.{ScriptOver, ScriptWaits, Stopped, NoInformer, Held, Current, NotAWrite, InProcess, OwnWrite, SameViews, NotQueued, NoPass}
+use Rattle.cmc_moves.specs.Answers.{Need, Bar, BarOf, Fits as HasRoom, outdated, entries_of, next_effect, kept_of, new_of, next_answer, asked_once, value_entry, AnswersScript, AnswersDelivery, AnswersBegin, AnswersOpen, AnswersGoing, AnswersGiven, Answers, Leaves}
 use Rattle.cmc_world.proofs.Leading.{new_may}
 use Rattle.cmc_world.proofs.Rest.{same_kind}
 use Rattle.cmc_plain.specs.Plain.{IsStepReady, IsBehind, IsOfPresent, Fits, IsChosen}

@@ -12,10 +12,10 @@ use Rattle.cmc_objects.specs.Watching.{has_informer}
 use Rattle.cmc_rules.specs.Scripting.{held}
 use Rattle.cmc_rules.specs.Resting.{IsAtRest}
 use Rattle.cmc_rules.specs.Sighting.{IsAmong}
-use Rattle.cmc_world.specs.declared.moves.Stepped.{Stepped}
-use Rattle.cmc_world.specs.declared.moves.Stepped.TheVariants.{NotNow, Done, Spent}
-use Rattle.cmc_world.specs.declared.moves.Lack.TheVariants.{Stopped, NoInformer, Held, Current, NotAWrite}
-use Rattle.cmc_world.specs.Answers.{Need, Bar, AnswersDelivery}
+use Rattle.cmc_moves.specs.declared.moves.Stepped.{Stepped}
+use Rattle.cmc_moves.specs.declared.moves.Stepped.TheVariants.{NotNow, Done, Spent}
+use Rattle.cmc_moves.specs.declared.moves.Lack.TheVariants.{Stopped, NoInformer, Held, Current, NotAWrite}
+use Rattle.cmc_moves.specs.Answers.{Need, Bar, AnswersDelivery}
 use Rattle.cmc_world.proofs.Newest.{IsToldOfAll}
 use Rattle.cmc_plain.specs.Waits.{is_refusal, is_kept_from, is_hindered, all_roles, is_stopped}
 

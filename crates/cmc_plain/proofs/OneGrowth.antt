@@ -25,10 +25,10 @@ use Rattle.cmc_rules.specs.Causes.{act_of, after_of, IsFirstCall, IsSecretCall, 
 use Rattle.cmc_rules.specs.Runs.{IsRun}
 use Rattle.cmc_rules.specs.Scripting.{scripted}
 use Rattle.cmc_safety.proofs.Course.{HasCome, HasComeTo, has_come}
-use Rattle.cmc_world.specs.declared.moves.Move.{Move}
-use Rattle.cmc_world.specs.declared.moves.Move.TheVariants as moves
-use Rattle.cmc_world.specs.Answers.{IsCalled, IsEffect, IsOfPass, GrowsBy, next_effect, value_entry, kept_at}
-use Rattle.cmc_world.proofs.Sounds.{each_sound}
+use Rattle.cmc_moves.specs.declared.moves.Move.{Move}
+use Rattle.cmc_moves.specs.declared.moves.Move.TheVariants as moves
+use Rattle.cmc_moves.specs.Answers.{IsCalled, IsEffect, IsOfPass, GrowsBy, next_effect, value_entry, kept_at}
+use Rattle.cmc_moves.proofs.Sounds.{each_sound}
 use Rattle.cmc_plain.specs.Histories.{IsBound, HasNoFree, IsOfCourse, GrowsPlainly}
 use Rattle.cmc_plain.proofs.OneReply.{one_reply}
 use Rattle.cmc_plain.proofs.OneValue.{one_value, bound_in}

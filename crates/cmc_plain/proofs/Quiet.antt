@@ -38,16 +38,16 @@ use Rattle.cmc_rules.specs.Resting.{IsIdle, IsPaused, RestsOn}
 use Rattle.cmc_rules.specs.Scripting.{scripted, has_held}
 use Rattle.cmc_rules.specs.Legality.{IsLegal}
 use Rattle.cmc_rules.proofs.Positions.{views_called}
-use Rattle.cmc_world.specs.Answers.{Grows, GrowsBy, Leaves, LeavesAsked, IsOfPass, next_effect, beginning, value_entry, kept_of, asked_once}
-use Rattle.cmc_world.specs.declared.moves.Move.{Move}
-use Rattle.cmc_world.specs.declared.moves.Move.TheVariants as moves
-use Rattle.cmc_world.specs.declared.moves.Stepped.{Stepped}
-use Rattle.cmc_world.specs.declared.moves.Stepped.TheVariants as answers
+use Rattle.cmc_moves.specs.Answers.{Grows, GrowsBy, Leaves, LeavesAsked, IsOfPass, next_effect, beginning, value_entry, kept_of, asked_once}
+use Rattle.cmc_moves.specs.declared.moves.Move.{Move}
+use Rattle.cmc_moves.specs.declared.moves.Move.TheVariants as moves
+use Rattle.cmc_moves.specs.declared.moves.Stepped.{Stepped}
+use Rattle.cmc_moves.specs.declared.moves.Stepped.TheVariants as answers
 use Rattle.cmc_world.proofs.Newest.{IsToldOfAll, views_newest}
 use Rattle.cmc_world.proofs.Rest.{same_key}
-use Rattle.cmc_world.proofs.Sounds.{any_desk}
+use Rattle.cmc_moves.proofs.Sounds.{any_desk}
 use Rattle.cmc_world.proofs.Standings.{same_role}
-use Rattle.cmc_world.specs.Quiet.{IsQuiet, seen_last}
+use Rattle.cmc_moves.specs.Quiet.{IsQuiet, seen_last}
 use Rattle.cmc_plain.specs.Plain.{Fits}
 use Rattle.cmc_plain.specs.Ready.{is_ready, Keeps, HasKnown, Covers, WakesAll, SeesSame, WakesTold, Wakes}
 use Rattle.cmc_plain.proofs.Remembering.{last_called}

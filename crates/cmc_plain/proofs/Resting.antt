@@ -26,7 +26,7 @@ use Rattle.cmc_world.proofs.Newest.{IsToldOfAll}
 use Rattle.cmc_world.proofs.Rest.{each_kind, same_kind}
 use Rattle.cmc_plain.specs.declared.passes.Going.{Going}
 use Rattle.cmc_plain.specs.declared.deliveries.Delivery.{Delivery}
-use Rattle.cmc_world.specs.Quiet.{IsQuiet}
+use Rattle.cmc_moves.specs.Quiet.{IsQuiet}
 use Rattle.cmc_plain.specs.Plain.{IsStepReady, HasNoPass, HasNoDelivery, IsBehind}
 use Rattle.cmc_plain.specs.Searches.{FindsPass, FindsDelivery, RestsWhereRunning}
 use Rattle.cmc_plain.proofs.Finishing.{closed, told, none_held, idle_elsewhere}

@@ -34,7 +34,7 @@ use Rattle.cmc_safety.proofs.NextCalls.{IsLiveCall}
 use Rattle.cmc_safety.proofs.Course.{of_open}
 use Rattle.cmc_safety.proofs.InProgress.{caller_of}
 use Rattle.cmc_safety.proofs.PassWrites.{IsPassWrite, writes_at}
-use Rattle.cmc_world.proofs.Sounds.{each_sound}
+use Rattle.cmc_moves.proofs.Sounds.{each_sound}
 
 -- the role is told of the kind of the object
 abbrev IsTold : Role → Object → Type 0

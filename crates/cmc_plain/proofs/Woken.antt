@@ -25,13 +25,13 @@ use Rattle.cmc_rules.specs.Scripting.{scripted, step_at}
 use Rattle.cmc_held.proofs.Numbered.{list_any-reverse}
 use Rattle.cmc_rules.specs.Runs.{IsRun}
 use Rattle.cmc_setup.specs.Setups.{Setup}
-use Rattle.cmc_world.specs.Answers.{Leaves, next_effect}
+use Rattle.cmc_moves.specs.Answers.{Leaves, next_effect}
 use Rattle.cmc_world.specs.Kept.{Seen, setting_of}
-use Rattle.cmc_world.specs.declared.moves.Move.{Move}
-use Rattle.cmc_world.specs.declared.moves.Stepped.{Stepped}
+use Rattle.cmc_moves.specs.declared.moves.Move.{Move}
+use Rattle.cmc_moves.specs.declared.moves.Stepped.{Stepped}
 use Rattle.cmc_world.proofs.Rest.{same_key}
 use Rattle.cmc_world.proofs.Standings.{same_role}
-use Rattle.cmc_world.specs.Quiet.{IsQuiet}
+use Rattle.cmc_moves.specs.Quiet.{IsQuiet}
 use Rattle.cmc_plain.specs.Ready.{is_ready, Keeps, HasKnown, HasAllKnown, Covers, is_alarm, WakesAll, Wakes}
 use Rattle.cmc_plain.specs.Searches.{EachBefore}
 use Rattle.cmc_plain.proofs.Ordering.{rank_low}

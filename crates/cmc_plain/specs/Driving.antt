@@ -10,11 +10,11 @@ use Rattle.cmc_model.specs.Histories.{Setting}
 use Rattle.cmc_rules.specs.Passes.{open_pass}
 use Rattle.cmc_rules.specs.Runs.{IsFinished}
 use Rattle.cmc_setup.specs.Setups.{Setup}
-use Rattle.cmc_world.specs.Answers.{kept_of}
-use Rattle.cmc_world.specs.declared.moves.Move.{Move}
-use Rattle.cmc_world.specs.declared.moves.Move.TheVariants.{Next, Give}
-use Rattle.cmc_world.specs.declared.moves.Stepped.{Stepped}
-use Rattle.cmc_world.specs.declared.moves.Stepped.TheVariants.{Done, Order as Tells}
+use Rattle.cmc_moves.specs.Answers.{kept_of}
+use Rattle.cmc_moves.specs.declared.moves.Move.{Move}
+use Rattle.cmc_moves.specs.declared.moves.Move.TheVariants.{Next, Give}
+use Rattle.cmc_moves.specs.declared.moves.Stepped.{Stepped}
+use Rattle.cmc_moves.specs.declared.moves.Stepped.TheVariants.{Done, Order as Tells}
 use Rattle.cmc_world.specs.Kept.{Seen, setting_of}
 use Rattle.cmc_plain.specs.declared.driving.Turn.{Turn}
 use Rattle.cmc_plain.specs.declared.driving.Turn.TheVariants as turns

@@ -11,9 +11,9 @@ use Rattle.cmc_model.specs.Histories.{Setting}
 use Rattle.cmc_rules.specs.Causes.{MayAsk, MayGive}
 use Rattle.cmc_rules.specs.Passes.{open_pass}
 use Rattle.cmc_rules.specs.Runs.{IsRun, IsFinished}
-use Rattle.cmc_world.specs.declared.moves.Move.{Move}
-use Rattle.cmc_world.specs.declared.moves.Move.TheVariants as moves
-use Rattle.cmc_world.specs.Answers.{Grows, IsOfPass, next_effect, entries_of, value_entry}
+use Rattle.cmc_moves.specs.declared.moves.Move.{Move}
+use Rattle.cmc_moves.specs.declared.moves.Move.TheVariants as moves
+use Rattle.cmc_moves.specs.Answers.{Grows, IsOfPass, next_effect, entries_of, value_entry}
 use Rattle.cmc_plain.specs.Plain.{IsPlainMove}
 
 -- one entry of the pass: its call or end, its question, or a right value of the question that it waits for

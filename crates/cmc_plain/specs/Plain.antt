@@ -20,9 +20,9 @@ use Rattle.cmc_rules.specs.Legality.{IsOpen}
 use Rattle.cmc_rules.specs.Scripting.{scripted, step_at, held}
 use Rattle.cmc_rules.specs.Following.{IsReady}
 use Rattle.cmc_rules.specs.Runs.{IsFinished}
-use Rattle.cmc_world.specs.Quiet.{IsQuiet}
-use Rattle.cmc_world.specs.declared.moves.Move.{Move}
-use Rattle.cmc_world.specs.declared.moves.Move.TheVariants.{Script, Deliver, Begin, Next, Give, Decide}
+use Rattle.cmc_moves.specs.Quiet.{IsQuiet}
+use Rattle.cmc_moves.specs.declared.moves.Move.{Move}
+use Rattle.cmc_moves.specs.declared.moves.Move.TheVariants.{Script, Deliver, Begin, Next, Give, Decide}
 
 -- ---- the script
 

@@ -17,10 +17,10 @@ use Rattle.cmc_rules.specs.declared.effect.Effect.TheVariants as effects
 use Rattle.cmc_objects.specs.Watching.{has_informer, kind_of_work}
 use Rattle.cmc_rules.specs.Resting.{IsIdle}
 use Rattle.cmc_rules.specs.Viewing.{views}
-use Rattle.cmc_world.specs.Answers.{next_effect}
-use Rattle.cmc_world.specs.declared.moves.Move.{Move}
-use Rattle.cmc_world.specs.declared.moves.Move.TheVariants as moves
-use Rattle.cmc_world.specs.Quiet.{IsQuiet}
+use Rattle.cmc_moves.specs.Answers.{next_effect}
+use Rattle.cmc_moves.specs.declared.moves.Move.{Move}
+use Rattle.cmc_moves.specs.declared.moves.Move.TheVariants as moves
+use Rattle.cmc_moves.specs.Quiet.{IsQuiet}
 
 -- ---- sets of keys, one a role
 

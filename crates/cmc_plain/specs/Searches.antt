@@ -12,9 +12,9 @@ use Rattle.cmc_objects.specs.declared.entry.Entry.{Entry}
 use Rattle.cmc_model.specs.Histories.{Setting, runs}
 use Rattle.cmc_model.specs.Writes.{last_of_kind, writes}
 use Rattle.cmc_objects.specs.Watching.{kind_of_work}
-use Rattle.cmc_world.specs.declared.moves.Move.{Move}
-use Rattle.cmc_world.specs.declared.moves.Stepped.{Stepped}
-use Rattle.cmc_world.specs.declared.moves.Stepped.TheVariants.{Done, Spent}
+use Rattle.cmc_moves.specs.declared.moves.Move.{Move}
+use Rattle.cmc_moves.specs.declared.moves.Stepped.{Stepped}
+use Rattle.cmc_moves.specs.declared.moves.Stepped.TheVariants.{Done, Spent}
 use Rattle.cmc_rules.specs.Resting.{RestsOnKnown}
 use Rattle.cmc_rules.specs.Passes.{open_pass, IsWorking}
 use Rattle.cmc_plain.specs.declared.passes.Going.{Going}

@@ -30,9 +30,9 @@ use Rattle.cmc_rules.specs.Scripting.{held}
 use Rattle.cmc_rules.specs.Triggering.{is_issuing, is_backing_off}
 use Rattle.cmc_rules.specs.Issuing.{says_issued, is_kept_for_keys}
 use Rattle.cmc_rules.specs.Viewing.{present_views}
-use Rattle.cmc_world.specs.declared.moves.Stepped.{Stepped}
-use Rattle.cmc_world.specs.declared.moves.Stepped.TheVariants.{NotNow}
-use Rattle.cmc_world.specs.declared.moves.Lack.TheVariants.{Stopped, Held}
+use Rattle.cmc_moves.specs.declared.moves.Stepped.{Stepped}
+use Rattle.cmc_moves.specs.declared.moves.Stepped.TheVariants.{NotNow}
+use Rattle.cmc_moves.specs.declared.moves.Lack.TheVariants.{Stopped, Held}
 
 -- ---- the roles
 

@@ -9,7 +9,7 @@ ghost use Rattle.cmc_rules.specs.Positions.{positions};
 ghost use Rattle.cmc_rules.specs.Sameness as sameness;
 ghost use Rattle.cmc_rules.specs.Viewing.{views};
 ghost use Rattle.cmc_world.specs.Kept.{setting_of};
-ghost use Rattle.cmc_world.specs.Quiet.{IsQuiet};
+ghost use Rattle.cmc_moves.specs.Quiet.{IsQuiet};
 ghost use Rattle.cmc_objects.specs.Watching.{kind_of_work};
 ghost use Rattle.cmc_plain.specs.Plain as spec;
 ghost use Rattle.cmc_plain.specs.Ready.{Covers, Idles};

@@ -2,7 +2,7 @@
 ghost use Rattle.std.specs.Prelude.{◌≡◌, IfOk, option_map};
 ghost use Rattle.cmc_pass.specs.Giving.{order_of};
 ghost use Rattle.cmc_rules.specs.Passes.{open_pass};
-ghost use Rattle.cmc_world.specs.Answers.{kept_of};
+ghost use Rattle.cmc_moves.specs.Answers.{kept_of};
 ghost use Rattle.cmc_world.specs.Kept.{setting_of};
 ghost use Rattle.cmc_plain.specs.Driving.{CanBeMade, IsMadeFor, IsNextWith};
 

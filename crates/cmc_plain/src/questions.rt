@@ -1,7 +1,7 @@
 //! The questions that passes ask, and where they stand in the history.
 ghost use Rattle.std.specs.Prelude.{◌≡◌, IfOk, reverse};
 ghost use Rattle.cmc_rules.specs.Passes.{open_pass};
-ghost use Rattle.cmc_world.specs.Answers.{kept_at, kept_of};
+ghost use Rattle.cmc_moves.specs.Answers.{kept_at, kept_of};
 ghost use Rattle.cmc_world.specs.Kept.{setting_of};
 ghost use Rattle.cmc_plain.specs.Asking.{asks, ask_number, work_of};
 ghost use Rattle.cmc_plain.specs.Driving.{CanBeKept};

@@ -10,7 +10,7 @@ ghost use Rattle.cmc_rules.specs.Resting.{IsAtRest, IsToldAll, RestsOnKnown, Res
 ghost use Rattle.cmc_rules.specs.Runs.{IsFinished};
 ghost use Rattle.cmc_world.specs.Kept.{setting_of};
 ghost use Rattle.cmc_world.specs.Rest.{EachKind};
-ghost use Rattle.cmc_world.specs.Quiet.{IsQuiet};
+ghost use Rattle.cmc_moves.specs.Quiet.{IsQuiet};
 ghost use Rattle.cmc_plain.specs.Plain.{HasNoDelivery, IsStepReady};
 ghost use Rattle.cmc_plain.specs.Ready.{Covers, Idles};
 ghost use Rattle.cmc_plain.specs.Searches.{RestsWhereRunning};

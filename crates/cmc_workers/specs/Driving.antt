@@ -6,8 +6,8 @@ use Rattle.cmc_objects.specs.declared.orders.Order.{Order}
 use Rattle.cmc_rules.specs.Passes.{open_pass}
 use Rattle.cmc_rules.specs.Runs.{IsFinished}
 use Rattle.cmc_setup.specs.Setups.{Setup}
-use Rattle.cmc_world.specs.Answers.{kept_of}
-use Rattle.cmc_world.specs.Decisions.{BegunPass, begun_of, decides_alone}
+use Rattle.cmc_moves.specs.Answers.{kept_of}
+use Rattle.cmc_moves.specs.Decisions.{BegunPass, begun_of, decides_alone}
 use Rattle.cmc_world.specs.Kept.{Seen, setting_of}
 use Rattle.cmc_plain.specs.Asking.{ask_number, work_of}
 use Rattle.cmc_plain.specs.declared.gate.Point.{Point}

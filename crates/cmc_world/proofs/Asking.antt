@@ -29,7 +29,7 @@ use Rattle.cmc_rules.specs.Scripting.{scripted}
 use Rattle.cmc_rules.specs.Following.{owed, FollowsEntry, Follows}
 use Rattle.cmc_caches.specs.Told.{caches_at}
 use Rattle.cmc_safety.proofs.MayAct.{asked_short}
-use Rattle.cmc_world.specs.Answers.{kept_at, kept_of, value_entry}
+use Rattle.cmc_moves.specs.Answers.{kept_at, kept_of, value_entry}
 use Rattle.cmc_world.specs.Kept.{standing, Holdings, IsKept}
 
 -- ---- a question

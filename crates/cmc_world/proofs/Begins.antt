@@ -23,13 +23,13 @@ use Rattle.cmc_rules.proofs.Positions.{begun_short}
 use Rattle.cmc_held.specs.declared.standings.Standing.{Standing}
 use Rattle.cmc_held.specs.Dues.{shown_positions}
 use Rattle.cmc_world.specs.declared.beginning.Prepared.{Prepared}
-use Rattle.cmc_world.specs.declared.moves.Stepped.TheVariants.{Done}
-use Rattle.cmc_world.specs.Answers.{AnswersBegin}
+use Rattle.cmc_moves.specs.declared.moves.Stepped.TheVariants.{Done}
+use Rattle.cmc_moves.specs.Answers.{AnswersBegin}
 use Rattle.cmc_world.specs.Kept.{Holdings, IsKept}
 use Rattle.cmc_world.specs.Prepared.{IsPrepared}
 use Rattle.cmc_world.proofs.Events.{kept_begun}
 use Rattle.cmc_world.proofs.Judging.{shown_is}
-use Rattle.cmc_world.proofs.Tables.{may_begin}
+use Rattle.cmc_moves.proofs.Tables.{may_begin}
 
 counted : (s : Setting) (h : List Entry) (w : Holdings) (n : ℕ) → IsKept s h w → n ≡ length w.origins → n ≡ begun s h
 counted s h w n k e = e ∙ ap length k.held.origins

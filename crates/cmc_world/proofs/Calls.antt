@@ -31,7 +31,7 @@ use Rattle.cmc_rules.proofs.Positions.{calls_short, accepted_short}
 use Rattle.cmc_held.specs.declared.standings.Standing.{Standing}
 use Rattle.cmc_world.specs.declared.going.Calling.{Calling}
 use Rattle.cmc_world.specs.declared.going.Closing.{Closing}
-use Rattle.cmc_world.specs.Acting.{IsCalling, IsClosing}
+use Rattle.cmc_world.specs.Going.{IsCalling, IsClosing}
 use Rattle.cmc_world.specs.Noting.{logged, counted, noted, CanCount}
 use Rattle.cmc_world.specs.Kept.{standing, Holdings, IsKept}
 use Rattle.cmc_world.proofs.Counts.{logged_called, counted_called, noted_called, written_short}

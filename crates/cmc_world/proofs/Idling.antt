@@ -32,7 +32,7 @@ use Rattle.cmc_world.specs.Kept.{first_desk}
 use Rattle.cmc_rules.specs.Legality.{IsLegal}
 use Rattle.cmc_world.specs.Rest.{EachKind}
 use Rattle.cmc_world.proofs.Newest.{IsToldOfAll, views_newest}
-use Rattle.cmc_world.proofs.Sounds.{any_desk}
+use Rattle.cmc_moves.proofs.Sounds.{any_desk}
 
 -- ---- what is seen
 

@@ -29,14 +29,14 @@ use Rattle.cmc_held.specs.Dues.{shown_positions}
 use Rattle.cmc_rules.specs.Sameness.{own_above}
 use Rattle.cmc_caches.proofs.Shown.{views-told}
 use Rattle.cmc_model.proofs.Writes.{writes_count}
-use Rattle.cmc_world.specs.declared.moves.Stepped.{Stepped}
-use Rattle.cmc_world.specs.declared.moves.Stepped.TheVariants.{Done}
+use Rattle.cmc_moves.specs.declared.moves.Stepped.{Stepped}
+use Rattle.cmc_moves.specs.declared.moves.Stepped.TheVariants.{Done}
 use Rattle.cmc_world.specs.Kept.{standing, Holdings, IsKept}
-use Rattle.cmc_world.specs.Quiet.{IsQuiet}
-use Rattle.cmc_world.specs.Answers.{IsNews, delivered, IsQueued, AnswersDelivery, AnswersBegin}
+use Rattle.cmc_moves.specs.Quiet.{IsQuiet}
+use Rattle.cmc_moves.specs.Answers.{IsNews, delivered, IsQueued, AnswersDelivery, AnswersBegin}
 use Rattle.cmc_rules.specs.Passes.{IsWorking}
-use Rattle.cmc_world.specs.Tables.{delivery_answer, begin_answer}
-use Rattle.cmc_world.proofs.Tables.{Decides, decided, delivery_answers, begin_answers, may_deliver}
+use Rattle.cmc_moves.specs.Tables.{delivery_answer, begin_answer}
+use Rattle.cmc_moves.proofs.Tables.{Decides, decided, delivery_answers, begin_answers, may_deliver}
 
 pub position_is : (s : Setting) (h : List Entry) (role : Role) (kind : Kind) → position_of kind (standing s h role).told ≡ position h role kind
 position_is s h role kinds.Certificate = refl

@@ -30,20 +30,20 @@ use Rattle.cmc_rules.specs.Scripting.{scripted, step_at}
 use Rattle.cmc_rules.specs.Following.{FollowsEntry, Follows, effect_of, owed}
 use Rattle.cmc_rules.specs.Rights.{KeepsRights}
 use Rattle.cmc_rules.specs.Runs.{IsRun}
-use Rattle.cmc_world.specs.declared.moves.Move.{Move}
-use Rattle.cmc_world.specs.declared.moves.Move.TheVariants as moves
-use Rattle.cmc_world.specs.declared.moves.Stepped.{Stepped}
-use Rattle.cmc_world.specs.declared.moves.Stepped.TheVariants.{Done, Order as Tells}
-use Rattle.cmc_world.specs.Answers.{IsEffect, IsOfPass, GrowsBy, next_effect, entries_of, delivered, beginning, Grows, LeavesAsked, Leaves, Answers, AnswersScript, kept_at, kept_of, asked_by, new_at, new_of, asked_once, value_entry}
+use Rattle.cmc_moves.specs.declared.moves.Move.{Move}
+use Rattle.cmc_moves.specs.declared.moves.Move.TheVariants as moves
+use Rattle.cmc_moves.specs.declared.moves.Stepped.{Stepped}
+use Rattle.cmc_moves.specs.declared.moves.Stepped.TheVariants.{Done, Order as Tells}
+use Rattle.cmc_moves.specs.Answers.{IsEffect, IsOfPass, GrowsBy, next_effect, entries_of, delivered, beginning, Grows, LeavesAsked, Leaves, Answers, AnswersScript, kept_at, kept_of, asked_by, new_at, new_of, asked_once, value_entry}
 use Rattle.cmc_world.specs.Leading.{IsRight, IsStep, Lead, Extends}
 use Rattle.cmc_rules.specs.Safety.{IsSafe}
 use Rattle.cmc_safety.specs.Formed.{IsFormed}
 use Rattle.cmc_safety.proofs.Rights.{keeps_rights}
 use Rattle.cmc_safety.proofs.Safe.{safe}
 use Rattle.cmc_world.proofs.Asking.{silent}
-use Rattle.cmc_world.proofs.Sounds.{each_sound}
+use Rattle.cmc_moves.proofs.Sounds.{each_sound}
 use Rattle.cmc_world.proofs.Stepping.{low_start}
-use Rattle.cmc_world.proofs.Tables.{MayDeliver, may_deliver, may_begin, may_step, room_next, MayTell, may_tell, next_done, next_told, may_give}
+use Rattle.cmc_moves.proofs.Tables.{MayDeliver, may_deliver, may_begin, may_step, room_next, MayTell, may_tell, next_done, next_told, may_give}
 
 -- ---- one entry more
 

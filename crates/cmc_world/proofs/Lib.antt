@@ -1,16 +1,12 @@
 pub mod Looked
-pub mod Tables
 pub mod Standings
 pub mod Origins
-pub mod Found
-pub mod Sounds
 pub mod Rest
 pub mod Caching
 pub mod Events
 pub mod Judging
 pub mod Asking
 pub mod NextSteps
-pub mod Decisions
 pub mod Starting
 pub mod Counts
 pub mod Calls

@@ -34,17 +34,18 @@ use Rattle.cmc_safety.proofs.MayAct.{may_act_pass}
 use Rattle.cmc_safety.proofs.Barred.{never_barred}
 use Rattle.cmc_safety.proofs.Course.{of_open}
 use Rattle.cmc_safety.proofs.Following.{has_following, follows_read, follows_secret}
-use Rattle.cmc_world.specs.declared.going.Doing.{Doing}
-use Rattle.cmc_world.specs.declared.going.Doing.TheVariants.{Call as Makes, Ask as Asks, End as Ends}
-use Rattle.cmc_world.specs.declared.going.Judged.{Judged}
-use Rattle.cmc_world.specs.declared.going.Judged.TheVariants.{Answer, Does}
-use Rattle.cmc_world.specs.declared.moves.Move.TheVariants.{Next}
-use Rattle.cmc_world.specs.declared.moves.Stepped.{Stepped}
-use Rattle.cmc_world.specs.declared.moves.Stepped.TheVariants.{Done, Order as Tells, Spent}
-use Rattle.cmc_world.specs.Answers.{kept_at, kept_of, new_at, new_of, next_answer, AnswersGoing, AnswersNext, Leaves, asked_once}
-use Rattle.cmc_world.specs.Acting.{HasSecret, HasStatus, HasNext, IsDoingBy, IsDoing, IsDone, IsGoing, IsGoingOn, IsJudged, IsNoMove, asked_in}
+use Rattle.cmc_moves.specs.declared.doing.Doing.{Doing}
+use Rattle.cmc_moves.specs.declared.doing.Doing.TheVariants.{Call as Makes, Ask as Asks, End as Ends}
+use Rattle.cmc_moves.specs.declared.doing.Judged.{Judged}
+use Rattle.cmc_moves.specs.declared.doing.Judged.TheVariants.{Answer, Does}
+use Rattle.cmc_moves.specs.declared.moves.Move.TheVariants.{Next}
+use Rattle.cmc_moves.specs.declared.moves.Stepped.{Stepped}
+use Rattle.cmc_moves.specs.declared.moves.Stepped.TheVariants.{Done, Order as Tells, Spent}
+use Rattle.cmc_moves.specs.Answers.{kept_at, kept_of, new_at, new_of, next_answer, AnswersGoing, AnswersNext, Leaves, asked_once}
+use Rattle.cmc_moves.specs.Acting.{HasSecret, HasStatus, HasNext, IsDoingBy, IsDoing, IsGoing, IsGoingOn, IsJudged, IsNoMove, asked_in}
+use Rattle.cmc_world.specs.Going.{IsDone}
 use Rattle.cmc_world.specs.Kept.{first_desk}
-use Rattle.cmc_world.proofs.Sounds.{each_sound}
+use Rattle.cmc_moves.proofs.Sounds.{each_sound}
 
 -- ---- the desk
 

@@ -29,8 +29,8 @@ use Rattle.cmc_rules.proofs.Positions.{calls_short}
 use Rattle.cmc_setup.specs.Setups.{Setup, IsSetup}
 use Rattle.cmc_store.specs.Kept.{Kept}
 use Rattle.cmc_held.specs.declared.standings.Standing.{Standing}
-use Rattle.cmc_world.specs.declared.moves.Stepped.TheVariants.{Done}
-use Rattle.cmc_world.specs.Answers.{AnswersScript, entries_of, next_effect}
+use Rattle.cmc_moves.specs.declared.moves.Stepped.TheVariants.{Done}
+use Rattle.cmc_moves.specs.Answers.{AnswersScript, entries_of, next_effect}
 use Rattle.cmc_held.specs.Dues.{shown_positions}
 use Rattle.cmc_rules.specs.Viewing.{Caches}
 use Rattle.cmc_caches.specs.Told.{caches_at}
@@ -40,7 +40,7 @@ use Rattle.cmc_world.specs.Noting.{logged}
 use Rattle.cmc_world.specs.Scripted.{effect_in, standing_after}
 use Rattle.cmc_world.proofs.Counts.{incarnation_short, logged_called}
 use Rattle.cmc_world.proofs.Events.{held_scripted, kept_users, kept_ticked, kept_stopped, kept_started}
-use Rattle.cmc_world.proofs.Tables.{MayStep, may_step}
+use Rattle.cmc_moves.proofs.Tables.{MayStep, may_step}
 
 -- ---- what a scenario's type keeps
 

@@ -21,13 +21,13 @@ use Rattle.cmc_rules.specs.Passes.{open_pass}
 use Rattle.cmc_rules.specs.Scripting.{scripted, step_at}
 use Rattle.cmc_rules.specs.Following.{call_or, effect_of, IsReady}
 use Rattle.cmc_rules.specs.Resting.{RestsOn, IsAtRest, IsToldAll, RestsIn}
-use Rattle.cmc_world.specs.declared.moves.Stepped.{Stepped}
-use Rattle.cmc_world.specs.Answers.{AnswersScript, entries_of, next_effect}
+use Rattle.cmc_moves.specs.declared.moves.Stepped.{Stepped}
+use Rattle.cmc_moves.specs.Answers.{AnswersScript, entries_of, next_effect}
 use Rattle.cmc_world.specs.Kept.{Holdings, IsKept}
 use Rattle.cmc_world.specs.Rest.{EachRole, EachKind}
-use Rattle.cmc_world.specs.Tables.{script_answer}
+use Rattle.cmc_moves.specs.Tables.{script_answer}
 use Rattle.cmc_world.proofs.Rest.{rests_in_by, at_rest_each}
-use Rattle.cmc_world.proofs.Tables.{decided, script_answers}
+use Rattle.cmc_moves.proofs.Tables.{decided, script_answers}
 
 -- ---- open passes
 

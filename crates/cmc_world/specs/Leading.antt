@@ -4,10 +4,10 @@ use Rattle.cmc_objects.specs.declared.entry.Entry.{Entry}
 use Rattle.cmc_model.specs.Histories.{Setting}
 use Rattle.cmc_pass.specs.Giving.{order_of, value_of}
 use Rattle.cmc_pass.specs.Values.{IsValue}
-use Rattle.cmc_world.specs.declared.moves.Move.{Move}
-use Rattle.cmc_world.specs.declared.moves.Move.TheVariants.{Give}
-use Rattle.cmc_world.specs.declared.moves.Stepped.{Stepped}
-use Rattle.cmc_world.specs.Answers.{Answers, Leaves}
+use Rattle.cmc_moves.specs.declared.moves.Move.{Move}
+use Rattle.cmc_moves.specs.declared.moves.Move.TheVariants.{Give}
+use Rattle.cmc_moves.specs.declared.moves.Stepped.{Stepped}
+use Rattle.cmc_moves.specs.Answers.{Answers, Leaves}
 
 -- what a pass is given is right for its question: the type of what is given keeps that
 abbrev pub IsRight : Move → Type 0

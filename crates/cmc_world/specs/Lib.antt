@@ -1,9 +1,5 @@
 pub mod Rest
-pub mod Decisions
-pub mod Quiet
-pub mod Answers
-pub mod Tables
-pub mod Acting
+pub mod Going
 pub mod Kept
 pub mod Changes
 pub mod Noting

@@ -1,6 +1,6 @@
 //! Roles begin passes.
 ghost use Rattle.std.specs.Option.{option_copied};
-ghost use Rattle.std.specs.Prelude.{◌≡◌, ◌↔◌, ◌<◌, ◌∷◌, ◌&&◌, not, IsTrue, IfOk, OnOk, OnErr, true, length, is_some};
+ghost use Rattle.std.specs.Prelude.{◌≡◌, ◌↔◌, ◌<◌, ◌∷◌, ◌&&◌, not, IsTrue, IfOk, OnOk, OnErr, true, is_some};
 ghost use Rattle.cmc_rules.specs.Sameness as sameness;
 ghost use Rattle.cmc_held.specs.Remembered.{past_or_new};
 ghost use Rattle.cmc_rules.specs.Passes.{new_pass};
@@ -8,16 +8,16 @@ ghost use Rattle.cmc_rules.specs.Sameness.{IsSame};
 ghost use Rattle.cmc_objects.specs.Watching as spec;
 ghost use Rattle.cmc_model.specs.Objects.{object_at};
 ghost use Rattle.cmc_model.specs.Writes.{is_known};
-ghost use Rattle.cmc_world.specs.Answers.{AnswersBegin, Leaves, beginning};
+ghost use Rattle.cmc_moves.specs.Answers.{AnswersBegin, Leaves, beginning};
 ghost use Rattle.cmc_world.specs.Kept.{setting_of};
 ghost use Rattle.cmc_world.specs.Prepared.{IsPrepared};
-ghost use Rattle.cmc_world.specs.declared.moves.Move.TheVariants as moves;
-ghost use Rattle.cmc_world.specs.declared.moves.Stepped.TheVariants as answers;
+ghost use Rattle.cmc_moves.specs.declared.moves.Move.TheVariants as moves;
+ghost use Rattle.cmc_moves.specs.declared.moves.Stepped.TheVariants as answers;
 
-use crate::moves::{Stepped, answer_begin};
 use crate::world::{World, has_room};
 use cmc_held::{Log, is_same, own_above, shown_positions};
 use cmc_meta::Key;
+use cmc_moves::{Stepped, answer_begin};
 use cmc_objects::{Entry, Positions, Role, kind_of_work};
 use cmc_pass::Views;
 use cmc_rules::{OpenPass, Origin, Past, Stage};

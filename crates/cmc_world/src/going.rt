@@ -1,50 +1,31 @@
 //! Passes go on: they ask, make their calls, and end.
-ghost use Rattle.std.specs.Prelude.{◌≡◌, ◌↔◌, ◌+◌, ◌<◌, ◌≤◌, ◌∷◌, ℕ, IsTrue, IfOk, OnOk, OnErr, None, Some, true, length};
-ghost use Rattle.cmc_objects.specs.declared.orders.Order.{Order as OrderValue};
-ghost use Rattle.cmc_pass.specs.declared.value.Value.{Value as ValueGiven};
-ghost use Rattle.cmc_objects.specs.declared.call.Call.{Call as CallValue};
-ghost use Rattle.std.specs.declared.option.Option.{Option as OptionValue};
+ghost use Rattle.std.specs.Prelude.{◌≡◌, ◌+◌, ◌<◌, ◌∷◌, ℕ, IfOk, OnOk, OnErr, None, Some, length};
 ghost use Rattle.cmc_pass.specs.Giving.{order_of, value_of};
 ghost use Rattle.cmc_rules.specs.Acts.{act, call_after};
 ghost use Rattle.cmc_rules.specs.Causes.{MayCall, MayAsk, MayEnd};
 ghost use Rattle.cmc_rules.specs.Legality.{IsOpen};
 ghost use Rattle.cmc_rules.specs.Desks.{desk as desk_at};
 ghost use Rattle.cmc_rules.specs.Passes as spec;
-ghost use Rattle.cmc_rules.specs.Memory as memory;
-ghost use Rattle.cmc_model.specs.Replies as replies;
-ghost use Rattle.cmc_safety.specs.Acting.{MayAct};
-ghost use Rattle.cmc_world.specs.Acting.{HasNext, HasSecret, HasStatus, IsDoingBy, IsDoing, IsGoing, IsGoingOn, IsJudged, IsCalling, IsClosing, MadeCall, GoesOn};
-ghost use Rattle.cmc_world.specs.Answers.{AnswersGive, AnswersGiven, AnswersNext, Leaves, is_done, kept_of, next_answer, outdated, outdated_at, value_entry};
-ghost use Rattle.cmc_world.specs.Acting.{asked_in};
+ghost use Rattle.cmc_moves.specs.Acting.{IsDoingBy, IsDoing, IsGoing, IsGoingOn, IsJudged};
+ghost use Rattle.cmc_world.specs.Going.{IsCalling, IsClosing, MadeCall, GoesOn};
+ghost use Rattle.cmc_moves.specs.Answers.{AnswersGive, AnswersGiven, AnswersNext, Leaves, is_done, kept_of, next_answer, outdated, value_entry};
+ghost use Rattle.cmc_moves.specs.Acting.{asked_in};
 ghost use Rattle.cmc_world.specs.Kept.{setting_of};
-ghost use Rattle.cmc_world.specs.declared.moves.Move.TheVariants as moves;
-ghost use Rattle.cmc_world.specs.declared.moves.Stepped.TheVariants as answers;
+ghost use Rattle.cmc_moves.specs.declared.moves.Move.TheVariants as moves;
+ghost use Rattle.cmc_moves.specs.declared.moves.Stepped.TheVariants as answers;
 
-use crate::acts::{act_of, follow_of};
-use crate::moves::{Lack, Stepped};
 use crate::noting::{kind_written, log_write, note_write, stage_of, writes_stand_in};
 use crate::world::{World, has_room};
 use cmc_meta::Key;
+use cmc_moves::{
+    Doing, Judged, Lack, Stepped, answer_of, answer_value, doing_of, ending_at, key_of_call,
+    let_go, outdated_of, value_entry_of,
+};
 use cmc_objects::{Call, Cause, Entry, Order, Role, Who};
-use cmc_pass::{Act, Desk, Given, Value};
+use cmc_pass::{Desk, Given};
 use cmc_rules::{Ending, OpenPass, Origin, Stage};
 use cmc_store::Replied;
 use std::alloc::{AllocError, Global};
-
-/// What comes next of a pass.
-#[derive(Drop)]
-pub(crate) enum Doing {
-    Call(Call),
-    Ask(Order),
-    End(Cause),
-}
-
-/// What a move of a pass is answered, or what it has the pass do.
-#[derive(Drop)]
-pub(crate) enum Judged {
-    Answer(Stepped),
-    Does(Doing),
-}
 
 /// What a call of a pass needs to know of the pass, and the key that it names.
 pub(crate) struct Calling {
@@ -79,144 +60,6 @@ impl Drop for Closing {
             key: _key,
             ending: _ending,
         } = self;
-    }
-}
-
-/// What a pass does first whose act is this: what issues begins with the live read of its Certificate.
-pub(crate) fn first_doing(does: Act) -> Result<Doing, AllocError>
-    ensures { IfOk result (λ d. (after : OrderValue → ValueGiven → OptionValue CallValue) → IsDoingBy Stage.Fresh does after d) }
-{
-    match does {
-        Act::Nothing => Ok(Doing::End(Cause::Nothing)),
-        Act::Call(call) => Ok(Doing::Call(call)),
-        Act::Ask(order) => Ok(Doing::Ask(order)),
-        Act::Issue(plan) => Ok(Doing::Call(Call::Get {
-            key: plan.get.copy()?,
-        })),
-        Act::Temporary(plan) => Ok(Doing::Call(Call::Get {
-            key: plan.get.copy()?,
-        })),
-    }
-}
-
-/// The Secret of a plan, which is written behind the live read.
-fn secret_doing(does: Act) -> Result<Doing, AllocError>
-    requires { HasSecret does }
-    ensures { IfOk result (λ d. (after : OrderValue → ValueGiven → OptionValue CallValue) → IsDoingBy Stage.Read does after d) }
-{
-    match does {
-        Act::Issue(plan) => Ok(Doing::Call(plan.secret.copy()?)),
-        Act::Temporary(plan) => Ok(Doing::Call(plan.secret.copy()?)),
-        _ => unreachable!(),
-    }
-}
-
-/// The status of a plan, which is written behind its Secret.
-fn status_doing(does: Act) -> Result<Doing, AllocError>
-    requires { HasStatus does }
-    ensures { IfOk result (λ d. (after : OrderValue → ValueGiven → OptionValue CallValue) → IsDoingBy Stage.Saved does after d) }
-{
-    match does {
-        Act::Issue(plan) => Ok(Doing::Call(plan.status.copy()?)),
-        _ => unreachable!(),
-    }
-}
-
-/// What comes next of the pass, where its role decides by this desk.
-fn doing_of(alloc: Global, pass: &OpenPass, desk: &Desk) -> Result<Doing, AllocError>
-    requires acts { MayAct pass.now.seen pass.now.since desk.now }
-    requires goes { HasNext pass.now.stage (act pass.now.role pass.now.seen pass.now.since desk.now) (call_after pass.now.role pass.now.seen pass.now.since) }
-    ensures { IfOk result (λ d. IsDoingBy pass.now.stage (act pass.now.role pass.now.seen pass.now.since desk.now) (call_after pass.now.role pass.now.seen pass.now.since) d) }
-{
-    match &pass.stage {
-        Stage::Fresh => first_doing(act_of(alloc, pass.role, &pass.seen, pass.since, desk)?),
-        Stage::Given { order, value } => Ok(Doing::Call(follow_of(
-            alloc, pass.role, &pass.seen, pass.since, order, value,
-        )?)),
-        Stage::Read => secret_doing(act_of(alloc, pass.role, &pass.seen, pass.since, desk)?),
-        Stage::Saved => status_doing(act_of(alloc, pass.role, &pass.seen, pass.since, desk)?),
-        Stage::Wrote => Ok(Doing::End(Cause::Wrote)),
-        Stage::Refused { entry, .. } => Ok(Doing::End(Cause::Stopper(*entry))),
-        _ => unreachable!(),
-    }
-}
-
-/// What a move is answered that has the pass do this.
-pub(crate) fn answer_of(pass: u64, doing: &Doing) -> Result<Stepped, AllocError>
-    ensures { IfOk result (λ a. a ≡ next_answer pass (asked_in doing.now)) }
-{
-    match doing {
-        Doing::Ask(order) => Ok(Stepped::Order {
-            pass,
-            order: order.copy()?,
-        }),
-        Doing::Call(_) | Doing::End(_) => Ok(Stepped::Done),
-    }
-}
-
-/// What comes next of a pass has many shapes, and to let go of it is one thing for all of them.
-pub(crate) fn let_go<T: Drop>(value: T) {
-    let _value = value;
-}
-
-/// The entry of a value that a pass is given.
-fn value_entry_of(pass: u64, value: &Value) -> Result<Entry, AllocError>
-    ensures { IfOk result (λ e. e ≡ value_entry pass value.now) }
-{
-    match value {
-        Value::Made(key) => Ok(Entry::Made {
-            pass,
-            key: key.copy()?,
-        }),
-        Value::Signed(signature) => Ok(Entry::Signed {
-            pass,
-            signature: signature.copy()?,
-        }),
-        Value::Answered(answer) => Ok(Entry::Answered {
-            pass,
-            answer: answer.copy()?,
-        }),
-        Value::Judged(approved) => Ok(Entry::Judged {
-            pass,
-            yes: *approved,
-        }),
-    }
-}
-
-fn ending_at(stage: &Stage) -> Ending
-    ensures { result ≡ memory.ending_at stage.now }
-{
-    match stage {
-        Stage::Fresh => Ending::Nothing,
-        Stage::Wrote => Ending::Wrote,
-        Stage::Refused { obstacle, .. } => Ending::Refused {
-            obstacle: *obstacle,
-        },
-        _ => Ending::Open,
-    }
-}
-
-fn outdated_of(present: u64, began: u64, named: u64) -> Option<u64>
-    ensures { result ≡ outdated_at present began named }
-{
-    if began == present && named == present {
-        return None;
-    }
-    Some(present)
-}
-
-fn key_of_call(call: &Call) -> Result<Key, AllocError>
-    ensures { IfOk result (λ k. k ≡ replies.key_of_call call.now) }
-{
-    match call {
-        Call::Create {
-            object,
-            generate: _,
-        } => object.key(),
-        Call::Update { object, .. } => object.key(),
-        Call::UpdateStatus { object, .. } => object.key(),
-        Call::Delete { key, .. } => key.copy(),
-        Call::Get { key } => key.copy(),
     }
 }
 
@@ -324,17 +167,9 @@ impl World {
         let Stage::Asked { order } = &current.stage else {
             return Ok(Stepped::NotNow(Lack::NotAsked));
         };
-        if !given.is_for(order) {
-            return Ok(Stepped::NotMine {
-                kept: order.copy()?,
-                given: given.order()?,
-            });
-        }
         let entries = self.history.len();
-        if !has_room(entries, self.scenario.events(), 1) {
-            return Ok(Stepped::Spent { entries });
-        }
-        Ok(Stepped::Done)
+        let room = has_room(entries, self.scenario.events(), 1);
+        answer_value(order, given, entries, room)
     }
 
     /// What the pass of this number is answered where it is given this.

@@ -4,20 +4,16 @@
 //! following its script, each accepted write of a controller keeps its rights, and the history is safe.
 #![tactic(auto)]
 
-mod acts;
 mod beginning;
 mod deciding;
 mod going;
-mod moves;
 mod noting;
 mod quiet;
 mod readers;
 mod resting;
 mod scripting;
 mod telling;
-mod user_writes;
 mod world;
 
-pub use deciding::{Begun, Decided, decide, decides_alone};
-pub use moves::{Lack, Move, Stepped};
+pub use cmc_moves::{Begun, Decided, Lack, Move, Stepped, decide, decides_alone};
 pub use world::{World, every_list_of_moves};

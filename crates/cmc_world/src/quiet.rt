@@ -5,7 +5,7 @@ ghost use Rattle.cmc_held.specs.Remembered.{past_or_new};
 ghost use Rattle.cmc_rules.specs.Memory.{past};
 ghost use Rattle.cmc_rules.specs.Viewing.{views};
 ghost use Rattle.cmc_world.specs.Kept.{setting_of};
-ghost use Rattle.cmc_world.specs.Quiet as spec;
+ghost use Rattle.cmc_moves.specs.Quiet as spec;
 
 use crate::world::World;
 use cmc_meta::Key;

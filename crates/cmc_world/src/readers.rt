@@ -14,15 +14,15 @@ ghost use Rattle.cmc_model.specs.Writes.{writes};
 ghost use Rattle.cmc_caches.specs.Told.{caches_at, caches_of};
 ghost use Rattle.cmc_held.specs.Open.{pass_at};
 ghost use Rattle.cmc_held.specs.Remembered.{past_or_new};
-ghost use Rattle.cmc_world.specs.Answers.{Answers};
+ghost use Rattle.cmc_moves.specs.Answers.{Answers};
 ghost use Rattle.cmc_world.specs.Kept.{setting_of};
 
-use crate::moves::{Move, Stepped};
 use crate::resting;
 use crate::world::World;
 use cmc_caches::Caches;
 use cmc_held::{Log, Passes, shown_positions};
 use cmc_meta::Key;
+use cmc_moves::{Move, Stepped};
 use cmc_objects::{Positions, Role};
 use cmc_pass::Views;
 use cmc_rules::Past;

@@ -1,13 +1,12 @@
 //! When nothing is left to do, and what the next step of the script waits for.
 ghost use Rattle.std.specs.Option.{option_copied};
-ghost use Rattle.std.specs.Prelude.{◌≡◌, ◌↔◌, ◌⊎◌, ◌+◌, ◌≤◌, ◌||◌, ℕ, ℤ, Some, None, IsTrue, IfOk, All, List, length, if◌then◌else◌};
-ghost use Rattle.cmc_objects.specs.declared.entry.Entry.{Entry};
+ghost use Rattle.std.specs.Prelude.{◌≡◌, ◌↔◌, ◌⊎◌, ◌+◌, ◌≤◌, ◌||◌, ℕ, ℤ, Some, None, IsTrue, IfOk, All, length};
 ghost use Rattle.cmc_model.specs.declared.write.Write.{Write as WriteValue};
 ghost use Rattle.cmc_pass.specs.declared.pass.Act.TheVariants.{Nothing};
 ghost use Rattle.cmc_rules.specs.Acts as acts;
 ghost use Rattle.cmc_rules.specs.Following as following;
 ghost use Rattle.cmc_rules.specs.UserWrites as writes_of;
-ghost use Rattle.cmc_model.specs.Histories.{Setting, moment, runs};
+ghost use Rattle.cmc_model.specs.Histories.{moment, runs};
 ghost use Rattle.cmc_rules.specs.Passes.{open_pass};
 ghost use Rattle.cmc_rules.specs.Sameness.{IsDue};
 ghost use Rattle.cmc_rules.specs.Resting as spec;
@@ -18,18 +17,16 @@ ghost use Rattle.cmc_safety.specs.Acting.{MayAct};
 ghost use Rattle.cmc_rules.specs.Viewing.{views};
 ghost use Rattle.cmc_model.specs.Writes.{writes};
 ghost use Rattle.cmc_held.specs.Remembered.{past_or_new};
-ghost use Rattle.cmc_world.specs.Answers.{AnswersScript, entries_of};
+ghost use Rattle.cmc_moves.specs.Answers.{AnswersScript, entries_of};
 ghost use Rattle.cmc_world.specs.Kept.{setting_of};
 ghost use Rattle.cmc_world.specs.Rest.{EachKind, RestsOnAll};
 ghost use Rattle.cmc_rules.specs.Resting.{IsToldAll, RestsIn};
 
-use crate::acts::act_of;
-use crate::moves::{Lack, Stepped, answer_script};
-use crate::user_writes::request_for;
 use crate::world::{World, has_room};
-use cmc_held::{Standing, is_held, is_same, own_above, shown_positions, told_of, written_of};
+use cmc_held::{Standing, is_held, is_same, own_above, told_of, written_of};
 use cmc_meta::{Key, Kind};
 use cmc_model::Write;
+use cmc_moves::{Lack, Stepped, act_of, answer_script, request_for};
 use cmc_objects::{Object, Positions, Role, Step, has_informer};
 use cmc_pass::{Act, Desk, Views};
 use cmc_rules::Past;

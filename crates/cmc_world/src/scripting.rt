@@ -1,8 +1,7 @@
 //! The next step of the script is made, with what it has happen.
 ghost use Rattle.std.specs.List.{All, list_all};
 ghost use Rattle.std.specs.Option.{option_copied};
-ghost use Rattle.std.specs.Prelude.{◌≡◌, ◌+◌, ◌-◌, ◌<◌, ◌≤◌, ◌^◌, ◌∷◌, ◌+ℤ◌, pos, IfOk, OnOk, OnErr, None, Some, length, slice_get, true, if◌then◌else◌};
-ghost use Rattle.cmc_objects.specs.declared.call.Reply.{Reply as ReplyValue};
+ghost use Rattle.std.specs.Prelude.{◌≡◌, ◌+◌, ◌-◌, ◌<◌, ◌≤◌, ◌^◌, ◌∷◌, ◌+ℤ◌, pos, IfOk, OnOk, OnErr, None, Some, length, slice_get, true};
 ghost use Rattle.cmc_objects.specs.declared.entry.Who.TheVariants as who;
 ghost use Rattle.cmc_objects.specs.declared.role.Role.{Role as RoleValue};
 ghost use Rattle.cmc_objects.specs.Objects.{key_of};
@@ -17,22 +16,21 @@ ghost use Rattle.cmc_held.specs.Dues.{shown_positions};
 ghost use Rattle.cmc_held.specs.Standing.{standing_of};
 ghost use Rattle.cmc_setup.specs.Forms.{is_step_form};
 ghost use Rattle.cmc_setup.specs.Setups.{IsSetup, IsTickForm, seconds_of};
-ghost use Rattle.cmc_world.specs.Acting.{MadeCall};
-ghost use Rattle.cmc_world.specs.Answers as spec;
+ghost use Rattle.cmc_world.specs.Going.{MadeCall};
+ghost use Rattle.cmc_moves.specs.Answers as spec;
 ghost use Rattle.cmc_world.specs.Changes.{each_at, keeping, scripted_standing, starting, stopping};
 ghost use Rattle.cmc_world.specs.Kept.{setting_of};
 ghost use Rattle.cmc_world.specs.Scripted.{effect_in, standing_after};
 ghost use Rattle.cmc_rules.specs.Following.{effect_besides, effect_on};
-ghost use Rattle.cmc_world.specs.declared.moves.Move.TheVariants as moves;
-ghost use Rattle.cmc_world.specs.declared.moves.Stepped.TheVariants as answers;
+ghost use Rattle.cmc_moves.specs.declared.moves.Move.TheVariants as moves;
+ghost use Rattle.cmc_moves.specs.declared.moves.Stepped.TheVariants as answers;
 
-use crate::moves::Stepped;
 use crate::noting::log_write;
-use crate::user_writes::{answer, approve, deny, renew, request_for};
 use crate::world::World;
 use cmc_caches::RoleCaches;
 use cmc_held::{Log, Standing, Standings, shown_positions, with_held};
 use cmc_meta::Kind;
+use cmc_moves::{Stepped, answer, approve, deny, renew, request_for};
 use cmc_objects::{Call, Entry, Object, Positions, Role, Step, Who};
 use cmc_rules::Effect;
 use cmc_setup::Scenario;

@@ -5,15 +5,15 @@ ghost use Rattle.cmc_rules.specs.Legality.{IsOfKind, IsDelivery, IsListing};
 ghost use Rattle.cmc_rules.specs.Positions.{position};
 ghost use Rattle.cmc_rules.specs.Scripting as spec;
 ghost use Rattle.cmc_model.specs.Writes.{write_at};
-ghost use Rattle.cmc_world.specs.Answers.{AnswersDelivery, Leaves, delivered};
+ghost use Rattle.cmc_moves.specs.Answers.{AnswersDelivery, Leaves, delivered};
 ghost use Rattle.cmc_world.specs.Kept.{setting_of};
-ghost use Rattle.cmc_world.specs.declared.moves.Move.TheVariants as moves;
-ghost use Rattle.cmc_world.specs.declared.moves.Stepped.TheVariants as answers;
+ghost use Rattle.cmc_moves.specs.declared.moves.Move.TheVariants as moves;
+ghost use Rattle.cmc_moves.specs.declared.moves.Stepped.TheVariants as answers;
 
-use crate::moves::{Stepped, answer_delivery};
 use crate::world::{World, has_room};
 use cmc_held::{Log, is_held, told_of, with_told};
 use cmc_meta::Kind;
+use cmc_moves::{Stepped, answer_delivery};
 use cmc_objects::{Entry, Role, has_informer};
 use std::alloc::{AllocError, Global};
 

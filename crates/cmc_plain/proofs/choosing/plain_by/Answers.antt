@@ -1,5 +1,5 @@
 use Rattle.std.proofs.Common.{◌≡◌, true, Option, subst}
-use Rattle.cmc_world.specs.declared.moves.Move.{Move}
+use Rattle.cmc_moves.specs.declared.moves.Move.{Move}
 use Rattle.cmc_world.specs.Kept.{setting_of}
 use Rattle.cmc_plain.specs.Searches.{FindsMove}
 use Rattle.cmc_plain.proofs.Ending.{finished_without_move}

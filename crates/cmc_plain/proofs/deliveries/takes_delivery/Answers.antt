@@ -1,6 +1,6 @@
 use Rattle.std.proofs.Common.{ℕ, subst}
 use Rattle.cmc_world.specs.Kept.{setting_of}
-use Rattle.cmc_world.specs.Answers.{AnswersDelivery}
+use Rattle.cmc_moves.specs.Answers.{AnswersDelivery}
 use Rattle.cmc_plain.proofs.Making.{behind_by}
 use Rattle.cmc_plain.proofs.deliveries.takes_delivery.Goals as goal
 

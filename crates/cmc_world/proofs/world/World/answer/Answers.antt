@@ -1,6 +1,6 @@
 use Rattle.std.proofs.Common.{sym, subst, IfOk}
-use Rattle.cmc_world.specs.declared.moves.Move.{Move}
-use Rattle.cmc_world.specs.Answers.{Answers}
+use Rattle.cmc_moves.specs.declared.moves.Move.{Move}
+use Rattle.cmc_moves.specs.Answers.{Answers}
 use Rattle.cmc_world.specs.Kept.{setting_of}
 use Rattle.cmc_world.proofs.world.World.answer.Goals as goal
 

@@ -1,5 +1,5 @@
 use Rattle.cmc_world.specs.Kept.{setting_of}
-use Rattle.cmc_world.proofs.Decisions.{answer_taken}
+use Rattle.cmc_moves.proofs.Decisions.{answer_taken}
 use Rattle.cmc_world.proofs.world.World.answer_decide.Goals as goal
 
 pub returns-in-Does : goal.returns-in-Does

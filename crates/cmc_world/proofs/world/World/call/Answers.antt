@@ -13,7 +13,7 @@ use Rattle.cmc_rules.specs.Causes.{MayCall}
 use Rattle.cmc_held.specs.Open.{pass_at}
 use Rattle.cmc_held.specs.Remembered.{past_at}
 use Rattle.cmc_held.specs.Standing.{standing_of}
-use Rattle.cmc_world.specs.Acting.{IsCalling}
+use Rattle.cmc_world.specs.Going.{IsCalling}
 use Rattle.cmc_world.specs.Kept.{Seen, setting_of}
 use Rattle.cmc_world.specs.Noting.{logged, counted, noted}
 use Rattle.cmc_world.proofs.Calls.{kept_call, calls_fit, counts_fit, log_fits}

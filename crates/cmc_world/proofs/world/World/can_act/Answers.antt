@@ -1,6 +1,6 @@
 use Rattle.cmc_safety.proofs.MayAct.{may_act_views}
 use Rattle.cmc_world.specs.Kept.{setting_of}
-use Rattle.cmc_world.proofs.Sounds.{each_sound}
+use Rattle.cmc_moves.proofs.Sounds.{each_sound}
 use Rattle.cmc_world.proofs.world.World.can_act.Goals as goal
 
 pub returns : goal.returns

@@ -1,5 +1,5 @@
 use Rattle.cmc_world.specs.Kept.{setting_of}
-use Rattle.cmc_world.proofs.Decisions.{may_bare}
+use Rattle.cmc_moves.proofs.Decisions.{may_bare}
 use Rattle.cmc_world.proofs.world.World.can_decide.Goals as goal
 
 pub returns : goal.returns

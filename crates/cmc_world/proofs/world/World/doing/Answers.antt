@@ -3,7 +3,7 @@ use Rattle.cmc_pass.specs.declared.pass.Desk.{Desk}
 use Rattle.cmc_rules.specs.Acts.{act, call_after}
 use Rattle.cmc_rules.specs.Desks.{desk}
 use Rattle.cmc_rules.specs.Passes.{open_pass}
-use Rattle.cmc_world.specs.Acting.{IsDoingBy}
+use Rattle.cmc_moves.specs.Acting.{IsDoingBy}
 use Rattle.cmc_world.specs.Kept.{Seen, first_desk, setting_of}
 use Rattle.cmc_world.proofs.NextSteps.{desk_is, may_on, next_on, doing_on}
 use Rattle.cmc_world.proofs.world.World.doing.Goals as goal

@@ -10,7 +10,7 @@ use Rattle.cmc_safety.proofs.Rights.{keeps_rights}
 use Rattle.cmc_safety.proofs.Safe.{safe}
 use Rattle.cmc_safety.proofs.Standing.{in_order}
 use Rattle.cmc_world.specs.Kept.{Seen, setting_of}
-use Rattle.cmc_world.proofs.Sounds.{each_sound}
+use Rattle.cmc_moves.proofs.Sounds.{each_sound}
 use Rattle.cmc_world.proofs.world.World.is_run.Goals as goal
 
 pub returns-clause-rights : goal.returns-clause-rights

@@ -1,10 +1,10 @@
 use Rattle.std.proofs.Common.{◌≡◌, ◌∙◌, sym, subst, Some}
 use Rattle.cmc_rules.specs.Passes.{open_pass}
-use Rattle.cmc_world.specs.declared.going.Judged.TheVariants.{Does}
-use Rattle.cmc_world.specs.Acting.{IsGoingOn}
+use Rattle.cmc_moves.specs.declared.doing.Judged.TheVariants.{Does}
+use Rattle.cmc_moves.specs.Acting.{IsGoingOn}
 use Rattle.cmc_world.specs.Kept.{Seen, setting_of}
 use Rattle.cmc_world.proofs.NextSteps.{does_going}
-use Rattle.cmc_world.proofs.Decisions.{doing_decided, waits_not}
+use Rattle.cmc_moves.proofs.Decisions.{doing_decided, waits_not}
 use Rattle.cmc_world.proofs.world.World.judge_act.Goals as goal
 
 pub returns : goal.returns

@@ -5,9 +5,9 @@ use Rattle.std.specs.Prelude.{◌↔◌, IsTrue}
 use Rattle.cmc_rules.specs.Viewing.{views}
 use Rattle.cmc_held.specs.Remembered.{past_or_new}
 use Rattle.cmc_world.specs.Kept.{Seen, setting_of}
-use Rattle.cmc_world.specs.Answers.{AnswersBegin}
-use Rattle.cmc_world.specs.Quiet.{IsQuiet}
-use Rattle.cmc_world.specs.Tables.{begin_answer}
+use Rattle.cmc_moves.specs.Answers.{AnswersBegin}
+use Rattle.cmc_moves.specs.Quiet.{IsQuiet}
+use Rattle.cmc_moves.specs.Tables.{begin_answer}
 use Rattle.cmc_world.proofs.Judging.{judged_begin}
 use Rattle.cmc_world.proofs.Known.{known_where_stands}
 use Rattle.cmc_world.proofs.world.World.judge_begin.Goals as goal

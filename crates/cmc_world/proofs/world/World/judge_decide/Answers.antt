@@ -1,10 +1,10 @@
 use Rattle.std.proofs.Common.{◌≡◌, ◌∙◌, ap, sym, subst, IfOk}
 use Rattle.std.specs.Option.{option_copied}
 use Rattle.cmc_rules.specs.Origins.{origin_at}
-use Rattle.cmc_world.specs.Acting.{IsTaken, IsTaking}
-use Rattle.cmc_world.specs.Answers.{outdated}
+use Rattle.cmc_moves.specs.Acting.{IsTaken, IsTaking}
+use Rattle.cmc_moves.specs.Answers.{outdated}
 use Rattle.cmc_world.specs.Kept.{Seen, setting_of}
-use Rattle.cmc_world.proofs.Decisions.{present_taken}
+use Rattle.cmc_moves.proofs.Decisions.{present_taken}
 use Rattle.cmc_world.proofs.world.World.judge_decide.Goals as goal
 
 pub returns-in-Some-get : goal.returns-in-Some-get

@@ -1,6 +1,6 @@
 use Rattle.std.proofs.Common.{subst}
 use Rattle.cmc_world.specs.Kept.{Seen, setting_of}
-use Rattle.cmc_world.specs.Answers.{AnswersDelivery}
+use Rattle.cmc_moves.specs.Answers.{AnswersDelivery}
 use Rattle.cmc_world.proofs.Judging.{judged_delivery}
 use Rattle.cmc_world.proofs.world.World.judge_delivery.Goals as goal
 

@@ -5,8 +5,8 @@ use Rattle.cmc_objects.specs.declared.entry.Entry.TheVariants as entries
 use Rattle.cmc_objects.specs.declared.entry.Who.TheVariants as who
 use Rattle.cmc_rules.specs.declared.effect.Effect.TheVariants as effects
 use Rattle.cmc_setup.specs.Setups.{IsSetup}
-use Rattle.cmc_world.specs.declared.moves.Stepped.TheVariants as answers
-use Rattle.cmc_world.specs.Answers as spec
+use Rattle.cmc_moves.specs.declared.moves.Stepped.TheVariants as answers
+use Rattle.cmc_moves.specs.Answers as spec
 use Rattle.cmc_world.specs.Kept.{Seen, setting_of}
 use Rattle.cmc_world.proofs.Stepping.{call_kept, calls_fit}
 use Rattle.cmc_world.proofs.world.World.make_call.Goals as goal

@@ -2,8 +2,8 @@ use Rattle.std.proofs.Common.{◌≡◌, ◌+◌, List, ◌∷◌, None, ap, ref
 use Rattle.cmc_objects.specs.declared.entry.Entry.{Entry}
 use Rattle.cmc_objects.specs.declared.entry.Entry.TheVariants as entries
 use Rattle.cmc_held.specs.Standing.{standing_of}
-use Rattle.cmc_world.specs.declared.moves.Stepped.TheVariants as answers
-use Rattle.cmc_world.specs.Answers as spec
+use Rattle.cmc_moves.specs.declared.moves.Stepped.TheVariants as answers
+use Rattle.cmc_moves.specs.Answers as spec
 use Rattle.cmc_world.specs.Kept.{Seen, setting_of}
 use Rattle.cmc_world.proofs.Stepping.{quiet_kept}
 use Rattle.cmc_world.proofs.world.World.make_quiet.Goals as goal

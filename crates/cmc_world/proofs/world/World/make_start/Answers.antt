@@ -5,8 +5,8 @@ use Rattle.cmc_rules.specs.declared.effect.Effect.TheVariants as effects
 use Rattle.cmc_setup.specs.Setups.{IsSetup}
 use Rattle.cmc_held.specs.Remembered.{past_at}
 use Rattle.cmc_held.specs.Standing.{standing_of}
-use Rattle.cmc_world.specs.declared.moves.Stepped.TheVariants as answers
-use Rattle.cmc_world.specs.Answers as spec
+use Rattle.cmc_moves.specs.declared.moves.Stepped.TheVariants as answers
+use Rattle.cmc_moves.specs.Answers as spec
 use Rattle.cmc_world.specs.Kept.{Seen, setting_of}
 use Rattle.std.specs.Prelude.{if◌then◌else◌}
 use Rattle.cmc_model.specs.Histories.{role_eq}

@@ -4,8 +4,8 @@ use Rattle.cmc_objects.specs.declared.entry.Entry.TheVariants as entries
 use Rattle.cmc_rules.specs.declared.effect.Effect.TheVariants as effects
 use Rattle.cmc_held.specs.Open.{pass_at}
 use Rattle.cmc_held.specs.Standing.{standing_of}
-use Rattle.cmc_world.specs.declared.moves.Stepped.TheVariants as answers
-use Rattle.cmc_world.specs.Answers as spec
+use Rattle.cmc_moves.specs.declared.moves.Stepped.TheVariants as answers
+use Rattle.cmc_moves.specs.Answers as spec
 use Rattle.cmc_world.specs.Kept.{Seen, setting_of}
 use Rattle.cmc_world.proofs.Stepping.{stop_kept}
 use Rattle.cmc_world.proofs.world.World.make_stop.Goals as goal

@@ -3,8 +3,8 @@ use Rattle.std.proofs.lemmas.Int.{to_z-of_z}
 use Rattle.cmc_objects.specs.declared.entry.Entry.{Entry}
 use Rattle.cmc_objects.specs.declared.entry.Entry.TheVariants as entries
 use Rattle.cmc_rules.specs.declared.effect.Effect.TheVariants as effects
-use Rattle.cmc_world.specs.declared.moves.Stepped.TheVariants as answers
-use Rattle.cmc_world.specs.Answers as spec
+use Rattle.cmc_moves.specs.declared.moves.Stepped.TheVariants as answers
+use Rattle.cmc_moves.specs.Answers as spec
 use Rattle.cmc_world.specs.Kept.{Seen, setting_of}
 use Rattle.cmc_world.proofs.Stepping.{tick_kept}
 use Rattle.cmc_world.proofs.world.World.make_tick.Goals as goal

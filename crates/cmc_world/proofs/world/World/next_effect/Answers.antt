@@ -7,7 +7,7 @@ use Rattle.cmc_objects.specs.Requests.{is_run_time}
 use Rattle.cmc_rules.specs.declared.effect.Effect.{Effect}
 use Rattle.cmc_setup.specs.Forms.{is_step_form}
 use Rattle.cmc_setup.specs.Setups.{IsSetup, IsTickForm}
-use Rattle.cmc_world.specs.Answers as spec
+use Rattle.cmc_moves.specs.Answers as spec
 use Rattle.cmc_world.specs.Kept.{Seen, setting_of}
 use Rattle.cmc_world.specs.Scripted.{effect_in}
 use Rattle.cmc_safety.proofs.Moments.{moment_in_run}

@@ -8,8 +8,8 @@ use Rattle.cmc_model.specs.Histories.{role_eq}
 use Rattle.cmc_rules.specs.Memory.{with_begin}
 use Rattle.cmc_held.specs.Open.{pass_at}
 use Rattle.cmc_held.specs.Remembered.{past_at}
-use Rattle.cmc_world.specs.declared.moves.Stepped.TheVariants.{Done}
-use Rattle.cmc_world.specs.Answers.{AnswersBegin}
+use Rattle.cmc_moves.specs.declared.moves.Stepped.TheVariants.{Done}
+use Rattle.cmc_moves.specs.Answers.{AnswersBegin}
 use Rattle.cmc_world.specs.Kept.{Seen, setting_of}
 use Rattle.cmc_world.specs.Prepared.{IsPrepared}
 use Rattle.cmc_world.proofs.Begins.{kept_open}

@@ -1,10 +1,10 @@
 use Rattle.std.proofs.Common.{sym, subst, ◌∙◌}
 use Rattle.cmc_meta.specs.declared.key.Key.{Key}
-use Rattle.cmc_world.specs.declared.moves.Stepped.{Stepped}
-use Rattle.cmc_world.specs.declared.moves.Stepped.TheVariants.{Done}
-use Rattle.cmc_world.specs.Answers.{AnswersBegin}
+use Rattle.cmc_moves.specs.declared.moves.Stepped.{Stepped}
+use Rattle.cmc_moves.specs.declared.moves.Stepped.TheVariants.{Done}
+use Rattle.cmc_moves.specs.Answers.{AnswersBegin}
 use Rattle.cmc_world.specs.Kept.{setting_of}
-use Rattle.cmc_world.proofs.Tables.{the_done}
+use Rattle.cmc_moves.proofs.Tables.{the_done}
 use Rattle.cmc_world.proofs.world.World.step_begin.Goals as goal
 
 pub open-requires-clause-may : goal.open-requires-clause-may

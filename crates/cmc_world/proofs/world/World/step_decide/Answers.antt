@@ -1,5 +1,5 @@
 use Rattle.cmc_world.specs.Kept.{setting_of}
-use Rattle.cmc_world.proofs.Decisions.{leaves_taken}
+use Rattle.cmc_moves.proofs.Decisions.{leaves_taken}
 use Rattle.cmc_world.proofs.world.World.step_decide.Goals as goal
 
 pub returns-in-Does-clause-leaves : goal.returns-in-Does-clause-leaves

@@ -6,7 +6,7 @@ use Rattle.cmc_pass.specs.declared.value.Value.{Value}
 use Rattle.cmc_rules.specs.declared.progress.Stage.TheVariants.{Given}
 use Rattle.cmc_rules.specs.Passes.{open_pass, with_stage}
 use Rattle.cmc_held.specs.Open.{pass_at}
-use Rattle.cmc_world.specs.Answers.{kept_of}
+use Rattle.cmc_moves.specs.Answers.{kept_of}
 use Rattle.cmc_world.specs.Kept.{Seen, setting_of}
 use Rattle.cmc_world.proofs.Asking.{kept_given, staged_given}
 use Rattle.cmc_world.proofs.Leading.{given_may}

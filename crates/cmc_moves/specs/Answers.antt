@@ -40,13 +40,13 @@ use Rattle.cmc_rules.specs.Legality.{IsOfKind, IsOpen}
 use Rattle.cmc_rules.specs.Scripting.{scripted, step_at, held}
 use Rattle.cmc_rules.specs.Following.{effect_of, IsReady}
 use Rattle.cmc_rules.specs.Sameness.{own_above}
-use Rattle.cmc_world.specs.declared.moves.Move.{Move}
-use Rattle.cmc_world.specs.declared.moves.Move.TheVariants.{Script, Deliver, Begin, Next, Give, Decide}
-use Rattle.cmc_world.specs.declared.moves.Lack.TheVariants.{ScriptOver, ScriptWaits, Stopped, NoInformer, Held, Current, NotAWrite, NotQueued, InProcess, SameViews, OwnWrite, NoPass, NotAsked, Settled}
-use Rattle.cmc_world.specs.declared.moves.Stepped.{Stepped}
-use Rattle.cmc_world.specs.declared.moves.Stepped.TheVariants.{Done, Order as Asks, NotNow, Ended, NotMine, OtherViews, Spent}
-use Rattle.cmc_world.specs.Quiet.{IsQuiet}
-use Rattle.cmc_world.specs.Decisions.{Decision, IsUndecided, SawSame}
+use Rattle.cmc_moves.specs.declared.moves.Move.{Move}
+use Rattle.cmc_moves.specs.declared.moves.Move.TheVariants.{Script, Deliver, Begin, Next, Give, Decide}
+use Rattle.cmc_moves.specs.declared.moves.Lack.TheVariants.{ScriptOver, ScriptWaits, Stopped, NoInformer, Held, Current, NotAWrite, NotQueued, InProcess, SameViews, OwnWrite, NoPass, NotAsked, Settled}
+use Rattle.cmc_moves.specs.declared.moves.Stepped.{Stepped}
+use Rattle.cmc_moves.specs.declared.moves.Stepped.TheVariants.{Done, Order as Asks, NotNow, Ended, NotMine, OtherViews, Spent}
+use Rattle.cmc_moves.specs.Quiet.{IsQuiet}
+use Rattle.cmc_moves.specs.Decisions.{Decision, IsUndecided, SawSame}
 
 abbrev pub is_done : Stepped → Bool
 is_done Done = true

@@ -1,8 +1,10 @@
 -- The rows of a step's answers, as tests: the first one that fits gives the answer.
-use Rattle.std.specs.Prelude.{ℕ, Bool, Option, Some, None, if◌then◌else◌, nat_le}
-use Rattle.cmc_world.specs.declared.moves.Lack.TheVariants.{ScriptOver, ScriptWaits, Stopped, NoInformer, Held, Current, NotAWrite, NotQueued, InProcess, SameViews, OwnWrite}
-use Rattle.cmc_world.specs.declared.moves.Stepped.{Stepped}
-use Rattle.cmc_world.specs.declared.moves.Stepped.TheVariants.{Done, NotNow, Spent}
+use Rattle.std.specs.Prelude.{◌≡◌, ℕ, Bool, Option, Some, None, if◌then◌else◌, nat_le}
+use Rattle.cmc_objects.specs.declared.orders.Order.{Order}
+use Rattle.cmc_moves.specs.declared.moves.Lack.TheVariants.{ScriptOver, ScriptWaits, Stopped, NoInformer, Held, Current, NotAWrite, NotQueued, InProcess, SameViews, OwnWrite}
+use Rattle.cmc_moves.specs.declared.moves.Stepped.{Stepped}
+use Rattle.cmc_moves.specs.declared.moves.Stepped.TheVariants.{Done, NotNow, NotMine, Spent}
+use Rattle.cmc_moves.specs.Answers.{Need}
 
 abbrev pub fitting : ℕ → Bool → Stepped
 fitting entries room = if room then Done else Spent entries
@@ -30,3 +32,7 @@ begin_answer running working own same queued entries room =
 
 abbrev pub script_answer : Bool → Bool → ℕ → Bool → Stepped
 script_answer left ready entries room = if left then (if ready then fitting entries room else NotNow ScriptWaits) else NotNow ScriptOver
+
+-- a value is taken only for the question that is kept
+abbrev pub IsValueAnswer : Order → Order → ℕ → Bool → Stepped → Type 0
+IsValueAnswer kept given entries room answer = Need (kept ≡ given) (NotMine kept given) answer (answer ≡ fitting entries room)

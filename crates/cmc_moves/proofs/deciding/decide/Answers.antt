@@ -1,7 +1,7 @@
 use Rattle.std.proofs.Common.{◌≡◌, ◌∙◌, refl, subst, sym, true}
-use Rattle.cmc_world.specs.Decisions.{BegunPass, decides_alone}
-use Rattle.cmc_world.proofs.Decisions.{decided_by}
-use Rattle.cmc_world.proofs.deciding.decide.Goals as goal
+use Rattle.cmc_moves.specs.Decisions.{BegunPass, decides_alone}
+use Rattle.cmc_moves.proofs.Decisions.{decided_by}
+use Rattle.cmc_moves.proofs.deciding.decide.Goals as goal
 
 pub invariant_of-result : goal.invariant_of-result
 invariant_of-result c =

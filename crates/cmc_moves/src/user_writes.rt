@@ -1,8 +1,7 @@
 //! The status updates that users make by the steps approve, deny, answer and renew.
 ghost use Rattle.std.specs.Option.{option_copied};
-ghost use Rattle.std.specs.Prelude.{◌≡◌, IfOk, codes, is_some, option_map, true};
+ghost use Rattle.std.specs.Prelude.{◌≡◌, IfOk, codes, option_map, true};
 ghost use Rattle.cmc_meta.specs.declared.conditions.ConditionKind.TheVariants as kinds;
-ghost use Rattle.cmc_model.specs.Objects.{object_at};
 ghost use Rattle.cmc_objects.specs.Requests.{is_row_form, is_run_time};
 ghost use Rattle.cmc_rules.specs.UserWrites as spec;
 
@@ -66,7 +65,7 @@ fn first_for<'a>(
 }
 
 /// The stored request of this revision of the Certificate, of several the one of least name.
-pub(crate) fn request_for<'a>(
+pub fn request_for<'a>(
     store: &'a Store,
     certificate: &Key,
     revision: u64,
@@ -143,7 +142,7 @@ fn approve_call(
 }
 
 /// The approval of the request by the script. An `Err` is want of memory.
-pub(crate) fn approve(
+pub fn approve(
     alloc: Global,
     moment: i64,
     request: Option<&Shared<CertificateRequest>>,
@@ -164,7 +163,7 @@ fn deny_call(alloc: Global, moment: i64, request: &CertificateRequest) -> Result
 }
 
 /// The denial of the request by the script. An `Err` is want of memory.
-pub(crate) fn deny(
+pub fn deny(
     alloc: Global,
     moment: i64,
     request: Option<&Shared<CertificateRequest>>,
@@ -194,7 +193,7 @@ fn answer_call(
 }
 
 /// The answer of the row to the request, as its issuer writes it. An `Err` is want of memory.
-pub(crate) fn answer(
+pub fn answer(
     alloc: Global,
     row: &SignRow,
     moment: i64,
@@ -241,7 +240,7 @@ fn renew_call(alloc: Global, moment: i64, certificate: &Certificate) -> Result<C
 }
 
 /// What has the object issued anew, where it is a Certificate that stands. An `Err` is want of memory.
-pub(crate) fn renew(
+pub fn renew(
     alloc: Global,
     moment: i64,
     object: Option<&Object>,

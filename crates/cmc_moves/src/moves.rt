@@ -1,12 +1,14 @@
 //! Moves, and what a step answers.
-ghost use Rattle.std.specs.Prelude.{◌≡◌};
-ghost use Rattle.cmc_world.specs.Tables.{delivery_answer, begin_answer, script_answer};
-ghost use Rattle.cmc_world.specs.Answers as answers;
+ghost use Rattle.std.specs.Prelude.{◌≡◌, IfOk};
+ghost use Rattle.cmc_pass.specs.Giving.{order_of};
+ghost use Rattle.cmc_moves.specs.Tables.{delivery_answer, begin_answer, script_answer, IsValueAnswer};
+ghost use Rattle.cmc_moves.specs.Answers as answers;
 
 use crate::deciding::Decided;
 use cmc_meta::{Key, Kind};
 use cmc_objects::{Order, Role};
 use cmc_pass::Given;
+use std::alloc::AllocError;
 
 /// What may happen next.
 #[derive(Drop)]
@@ -109,7 +111,10 @@ impl Stepped {
     }
 }
 
-pub(crate) fn answer_delivery(
+/// What a delivery is answered, of what was found: whether the role runs, has the informer, and is held from the kind; how far it was
+/// told, the newest accepted write of the kind, and whether `to` is one above its position; how many entries there are, and
+/// whether one more fits.
+pub fn answer_delivery(
     running: bool,
     informed: bool,
     held: bool,
@@ -143,7 +148,10 @@ pub(crate) fn answer_delivery(
     Stepped::Done
 }
 
-pub(crate) fn answer_begin(
+/// What a begin is answered, of what was found: whether the role runs, and works on the key; the write of its own of which it was
+/// not told; whether it would do the same again, and whether the key is in its queue; how many entries there are, and whether
+/// one more fits.
+pub fn answer_begin(
     running: bool,
     working: bool,
     own: Option<u64>,
@@ -175,7 +183,9 @@ pub(crate) fn answer_begin(
     Stepped::Done
 }
 
-pub(crate) fn answer_script(left: bool, ready: bool, entries: u64, room: bool) -> Stepped
+/// What the next step is answered: whether one is left, and does not wait; how many entries there are, and whether what it adds
+/// fits.
+pub fn answer_script(left: bool, ready: bool, entries: u64, room: bool) -> Stepped
     ensures { result ≡ script_answer left ready entries room }
 {
     if !left {
@@ -188,4 +198,30 @@ pub(crate) fn answer_script(left: bool, ready: bool, entries: u64, room: bool) -
         return Stepped::Spent { entries };
     }
     Stepped::Done
+}
+
+/// What is answered where a pass that waits for the value of this question is given this: how many entries there are, and
+/// whether one more fits.
+///
+/// # Errors
+///
+/// Want of memory alone.
+pub fn answer_value(
+    order: &Order,
+    given: &Given,
+    entries: u64,
+    room: bool,
+) -> Result<Stepped, AllocError>
+    ensures { IfOk result (λ a. IsValueAnswer order.now (order_of given.now) entries room a) }
+{
+    if !given.is_for(order) {
+        return Ok(Stepped::NotMine {
+            kept: order.copy()?,
+            given: given.order()?,
+        });
+    }
+    if !room {
+        return Ok(Stepped::Spent { entries });
+    }
+    Ok(Stepped::Done)
 }

@@ -18,17 +18,14 @@ use Rattle.cmc_rules.specs.Passes.{open_pass, writes_stand_in}
 use Rattle.cmc_rules.specs.Memory.{ending_at}
 use Rattle.cmc_rules.specs.Causes.{IsNextCall, AsksBy, EndsBy, MayCall, MayAsk, MayEnd}
 use Rattle.cmc_rules.specs.Legality.{IsOpen}
-use Rattle.cmc_world.specs.Answers.{IsCalled, kept_of, new_of, next_answer, AnswersGoing, AnswersNext, AnswersDecided, AnswersDecide}
-use Rattle.cmc_world.specs.Decisions.{Decision}
-use Rattle.cmc_world.specs.Kept.{Seen, setting_of}
-use Rattle.cmc_world.specs.declared.moves.Stepped.{Stepped}
-use Rattle.cmc_world.specs.declared.moves.Stepped.TheVariants.{Done, Order as Tells}
-use Rattle.cmc_world.specs.declared.going.Calling.{Calling}
-use Rattle.cmc_world.specs.declared.going.Closing.{Closing}
-use Rattle.cmc_world.specs.declared.going.Judged.{Judged}
-use Rattle.cmc_world.specs.declared.going.Judged.TheVariants.{Answer, Does}
-use Rattle.cmc_world.specs.declared.going.Doing.{Doing}
-use Rattle.cmc_world.specs.declared.going.Doing.TheVariants.{Call as Makes, Ask as Asks, End as Ends}
+use Rattle.cmc_moves.specs.Answers.{IsCalled, kept_of, new_of, next_answer, AnswersGoing, AnswersNext, AnswersDecided, AnswersDecide}
+use Rattle.cmc_moves.specs.Decisions.{Decision}
+use Rattle.cmc_moves.specs.declared.moves.Stepped.{Stepped}
+use Rattle.cmc_moves.specs.declared.moves.Stepped.TheVariants.{Done, Order as Tells}
+use Rattle.cmc_world.specs.declared.doing.Judged.{Judged}
+use Rattle.cmc_world.specs.declared.doing.Judged.TheVariants.{Answer, Does}
+use Rattle.cmc_world.specs.declared.doing.Doing.{Doing}
+use Rattle.cmc_world.specs.declared.doing.Doing.TheVariants.{Call as Makes, Ask as Asks, End as Ends}
 
 -- what a pass of this stage needs to go on: a value of its question that a call follows, or a plan of which a call is left
 abbrev pub HasSecret : Act → Type 0
@@ -97,35 +94,3 @@ IsTaking s h pass d (Does doing) = AnswersDecided s h pass d (next_answer pass (
 abbrev pub IsTaken : Setting → List Entry → ℕ → ℕ → Decision → Judged → Type 0
 IsTaken s h pass named d (Answer answer) = AnswersDecide s h pass named d answer × IsNoMove (kept_of (open_pass s h pass)) answer
 IsTaken s h pass named d (Does doing) = AnswersDecide s h pass named d (next_answer pass (asked_in doing)) × (IsOpen (open_pass s h pass) × IsGoing s h pass doing)
-
--- ---- what is known as a pass goes on
-
--- the pass, with the key that the call names
-pub record IsCalling (s : Setting) (h : List Entry) (n : ℕ) (call : Call) (c : Calling) : Type 0 where
-  pub pass : OpenPass
-  pub opened : open_pass s h n ≡ Some pass
-  pub role : c.role ≡ pass.role
-  pub key : c.key ≡ pass.key
-  pub named : c.named ≡ key_of_call call
-  pub stand_in : c.stand_in ≡ writes_stand_in call
-
--- the pass, with how it ends
-pub record IsClosing (s : Setting) (h : List Entry) (n : ℕ) (c : Closing) : Type 0 where
-  pub pass : OpenPass
-  pub opened : open_pass s h n ≡ Some pass
-  pub role : c.role ≡ pass.role
-  pub key : c.key ≡ pass.key
-  pub ending : c.ending ≡ ending_at pass.stage
-
--- the history has the entry of the call more
-abbrev pub MadeCall : Who → Call → Seen → Seen → Type 0
-MadeCall who call old new = (e : Entry) × IsCalled (setting_of old.scenario) old.history who call e × (new ≡ record { scenario = old.scenario; history = e ∷ old.history })
-
--- the history has one more entry of the pass: its question, its call or its end
-abbrev pub IsDone : Setting → List Entry → ℕ → Doing → Entry → Type 0
-IsDone s h pass (Makes call) e = IsCalled s h (Pass pass) call e
-IsDone s h pass (Asks order) e = e ≡ Ask pass order
-IsDone s h pass (Ends cause) e = e ≡ End pass cause
-
-abbrev pub GoesOn : ℕ → Doing → Seen → Seen → Type 0
-GoesOn n d old new = (e : Entry) × IsDone (setting_of old.scenario) old.history n d e × (new ≡ record { scenario = old.scenario; history = e ∷ old.history })

@@ -10,7 +10,7 @@ use std::alloc::{AllocError, Global};
 
 /// What the role does on these views at the moment `now`, in seconds since 1970-01-01T00:00:00Z.
 #[tactic(auto, unfolding(cmc_rules::specs::Acts::act))]
-pub(crate) fn act_of(
+pub fn act_of(
     alloc: Global,
     role: Role,
     seen: &Views,
@@ -34,7 +34,7 @@ pub(crate) fn act_of(
 
 /// The call that follows this value of the role's question on these views.
 #[tactic(auto, unfolding(cmc_rules::specs::Acts::call_after))]
-pub(crate) fn follow_of(
+pub fn follow_of(
     alloc: Global,
     role: Role,
     seen: &Views,

@@ -4,7 +4,7 @@ use Rattle.std.specs.Prelude.{codes, IfOk}
 use Rattle.cmc_meta.specs.declared.conditions.Condition.{Condition}
 use Rattle.cmc_meta.specs.declared.conditions.ConditionKind.TheVariants.{Denied}
 use Rattle.cmc_rules.specs.UserWrites as spec
-use Rattle.cmc_world.proofs.user_writes.deny_call.Goals as goal
+use Rattle.cmc_moves.proofs.user_writes.deny_call.Goals as goal
 
 pub returns : goal.returns
 returns c =

@@ -26,18 +26,18 @@ use Rattle.cmc_safety.specs.Acting.{MayAct}
 use Rattle.cmc_safety.specs.Formed.{IsFormed}
 use Rattle.cmc_safety.proofs.Forms.{reply_seen}
 use Rattle.cmc_safety.proofs.MayAct.{may_act_pass}
-use Rattle.cmc_world.specs.declared.going.Doing.{Doing}
-use Rattle.cmc_world.specs.declared.going.Judged.{Judged}
-use Rattle.cmc_world.specs.declared.going.Judged.TheVariants.{Answer, Does}
-use Rattle.cmc_world.specs.declared.moves.Lack.TheVariants.{Settled}
-use Rattle.cmc_world.specs.declared.moves.Move.TheVariants.{Next, Decide}
-use Rattle.cmc_world.specs.declared.moves.Stepped.{Stepped}
-use Rattle.cmc_world.specs.declared.moves.Stepped.TheVariants.{Done, Order as Tells, NotNow, OtherViews}
-use Rattle.cmc_world.specs.Acting.{IsDoingBy, IsGoingOn, IsTaking, IsTaken, asked_in}
-use Rattle.cmc_world.specs.Answers.{AnswersDecided, AnswersDecide, Leaves, kept_of, next_answer, outdated}
-use Rattle.cmc_world.specs.Decisions.{BegunPass, Decision, IsDecided, IsUndecided, SawSame, bare_desk, decides_alone, is_fresh, is_undecided}
-use Rattle.cmc_world.proofs.Sounds.{each_sound}
-use Rattle.cmc_world.proofs.Tables.{of_open_pass}
+use Rattle.cmc_moves.specs.declared.doing.Doing.{Doing}
+use Rattle.cmc_moves.specs.declared.doing.Judged.{Judged}
+use Rattle.cmc_moves.specs.declared.doing.Judged.TheVariants.{Answer, Does}
+use Rattle.cmc_moves.specs.declared.moves.Lack.TheVariants.{Settled}
+use Rattle.cmc_moves.specs.declared.moves.Move.TheVariants.{Next, Decide}
+use Rattle.cmc_moves.specs.declared.moves.Stepped.{Stepped}
+use Rattle.cmc_moves.specs.declared.moves.Stepped.TheVariants.{Done, Order as Tells, NotNow, OtherViews}
+use Rattle.cmc_moves.specs.Acting.{IsDoingBy, IsGoingOn, IsTaking, IsTaken, asked_in}
+use Rattle.cmc_moves.specs.Answers.{AnswersDecided, AnswersDecide, Leaves, kept_of, next_answer, outdated}
+use Rattle.cmc_moves.specs.Decisions.{BegunPass, Decision, IsDecided, IsUndecided, SawSame, bare_desk, decides_alone, is_fresh, is_undecided}
+use Rattle.cmc_moves.proofs.Sounds.{each_sound}
+use Rattle.cmc_moves.proofs.Tables.{of_open_pass}
 
 -- ---- roles that decide alone
 

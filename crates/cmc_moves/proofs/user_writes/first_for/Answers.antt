@@ -1,6 +1,6 @@
 use Rattle.std.proofs.Common.{sym, ◌∙◌}
-use Rattle.cmc_world.proofs.Found.{found_here, found_later}
-use Rattle.cmc_world.proofs.user_writes.first_for.Goals as goal
+use Rattle.cmc_moves.proofs.Found.{found_here, found_later}
+use Rattle.cmc_moves.proofs.user_writes.first_for.Goals as goal
 
 pub returns-then-is_object_for : goal.returns-then-is_object_for
 returns-then-is_object_for c =

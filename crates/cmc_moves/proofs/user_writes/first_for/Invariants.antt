@@ -1,6 +1,6 @@
 use Rattle.std.proofs.Common.{◌≡◌}
 use Rattle.cmc_rules.specs.UserWrites as spec
-use Rattle.cmc_world.proofs.user_writes.first_for.Given as goal
+use Rattle.cmc_moves.proofs.user_writes.first_for.Given as goal
 
 -- the first of those that are left is the first of all
 abbrev pub invariant-loop-object : goal.invariant-loop-object

@@ -1,0 +1,4 @@
+pub mod Sounds
+pub mod Tables
+pub mod Decisions
+pub mod Found

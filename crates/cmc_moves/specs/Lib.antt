@@ -1,0 +1,5 @@
+pub mod Decisions
+pub mod Quiet
+pub mod Answers
+pub mod Tables
+pub mod Acting
