@@ -4,6 +4,7 @@ ghost use Rattle.std.specs.Prelude.{◌≡◌, ◌↔◌, ◌<◌, ◌∷◌, �
 ghost use Rattle.cmc_rules.specs.Sameness as sameness;
 ghost use Rattle.cmc_held.specs.Remembered.{past_or_new};
 ghost use Rattle.cmc_rules.specs.Passes.{new_pass};
+ghost use Rattle.cmc_rules.specs.Viewing.{views};
 ghost use Rattle.cmc_rules.specs.Sameness.{IsSame};
 ghost use Rattle.cmc_objects.specs.Watching as spec;
 ghost use Rattle.cmc_model.specs.Objects.{object_at};
@@ -107,6 +108,31 @@ fn opened(role: Role, key: Key, seen: Views, since: i64) -> OpenPass
 }
 
 impl World {
+    /// What a begin is answered of a role that sees this of the key.
+    fn judge_seen(
+        &self,
+        alloc: Global,
+        role: Role,
+        key: &Key,
+        seen: &Views,
+    ) -> Result<Stepped, AllocError>
+        requires { seen.now ≡ views (setting_of self.now.scenario) self.now.history role key.now }
+        ensures { IfOk result (λ a. AnswersBegin (setting_of self.now.scenario) self.now.history role key.now a) }
+    {
+        let standing = self.standings.get(role);
+        let at = shown_positions(role, standing.told);
+        let working = self.passes.is_on(role, key);
+        let past = self.pasts.get(role, key);
+        let own = own_write(past, at);
+        let same = is_again(past, seen, self.moment, at);
+        let of_work = is_of_work(stands(&self.store, key), &self.log, role, key);
+        let quiet = self.is_quiet(alloc, role, key, seen)?;
+        let queued = is_queued(of_work, quiet);
+        let entries = self.history.len();
+        let room = has_room(entries, self.scenario.events(), 1);
+        Ok(answer_begin(standing.running, working, own, same, queued, entries, room))
+    }
+
     pub(crate) fn judge_begin(
         &self,
         alloc: Global,
@@ -115,28 +141,18 @@ impl World {
     ) -> Result<Stepped, AllocError>
         ensures { IfOk result (λ a. AnswersBegin (setting_of self.now.scenario) self.now.history role key.now a) }
     {
-        let standing = self.standings.get(role);
-        let at = shown_positions(role, standing.told);
         let seen = self.views(alloc, role, key)?;
-        let working = self.passes.is_on(role, key);
-        let past = self.pasts.get(role, key);
-        let own = own_write(past, at);
-        let same = is_again(past, &seen, self.moment, at);
-        let of_work = is_of_work(stands(&self.store, key), &self.log, role, key);
-        let quiet = self.is_quiet(alloc, role, key, &seen)?;
-        let queued = is_queued(of_work, quiet);
-        let entries = self.history.len();
-        let room = has_room(entries, self.scenario.events(), 1);
-        Ok(answer_begin(standing.running, working, own, same, queued, entries, room))
+        self.judge_seen(alloc, role, key, &seen)
     }
 
-    fn prepare(&self, alloc: Global, role: Role, key: Key) -> Result<Prepared, AllocError>
+    /// The pass that is to begin on the key, of which the role sees this.
+    fn prepare(&self, role: Role, key: Key, seen: Views) -> Result<Prepared, AllocError>
+        requires { seen ≡ views (setting_of self.now.scenario) self.now.history role key }
         ensures { IfOk result (λ p. IsPrepared (setting_of self.now.scenario) self.now.history role key p) }
     {
         self.is_short();
         let standing = self.standings.get(role);
         let at = shown_positions(role, standing.told);
-        let seen = self.views(alloc, role, &key)?;
         let pass = opened(role, key.copy()?, seen.copy()?, self.moment);
         Ok(Prepared {
             number: self.origins.len() + 1,
@@ -193,11 +209,12 @@ impl World {
         ensures leaves { IfOk result (λ r. Leaves (setting_of self.old.scenario) self.old.history (moves.Begin role key) r self.new.history) }
         ensures err { OnErr result (self.new ≡ self.old) }
     {
-        let answer = self.judge_begin(alloc, role, &key)?;
+        let seen = self.views(alloc, role, &key)?;
+        let answer = self.judge_seen(alloc, role, &key, &seen)?;
         if !answer.is_done() {
             return Ok(answer);
         }
-        let prepared = self.prepare(alloc, role, key)?;
+        let prepared = self.prepare(role, key, seen)?;
         self.open(role, prepared)?;
         Ok(Stepped::Done)
     }
