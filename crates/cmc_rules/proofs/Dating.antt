@@ -7,10 +7,14 @@ use Rattle.std.proofs.lemmas.Bool.Decides.{nat_tests}
 use Rattle.std.proofs.lemmas.Int.{ints}
 use Rattle.cmc_meta.specs.declared.conditions.Condition.{Condition}
 use Rattle.cmc_meta.specs.ConditionLists.{condition_rank, condition_at, kept_since, renewed, transitioned, tri_eq}
+use Rattle.cmc_objects.specs.declared.orders.Signing.{Signing}
+use Rattle.cmc_objects.specs.declared.orders.Signing.TheVariants.{Issued, Pending, Failed}
+use Rattle.cmc_objects.specs.declared.request.RequestStatus.{RequestStatus}
 use Rattle.cmc_policies.specs.declared.renewal.Renew.{Renew}
 use Rattle.cmc_policies.specs.declared.renewal.Renew.TheVariants.{Default, Before, Percent}
 use Rattle.cmc_policies.specs.Renewal.{IsCertificateTime, lifetime, third, lead, renewal}
-use Rattle.cmc_rules.specs.Dates.{AreDated}
+use Rattle.cmc_rules.specs.Answering.{issued_condition, pending_condition, failed_condition, answered}
+use Rattle.cmc_rules.specs.Dates.{AreDated, IsDatedAnswer}
 
 -- ---- conditions
 
@@ -48,6 +52,16 @@ dated_renewed (c ∷ cs) new dated is = dated_by (nat_cmp (condition_rank new.ki
 pub dated_transitioned : (cs : List Condition) (new : Condition) → AreDated cs → IsCertificateTime new.since → AreDated (transitioned cs new)
 unfolding transitioned
 dated_transitioned cs new dated is = dated_renewed cs (kept_since (condition_at cs new.kind) new) dated (dated_kept (condition_at cs new.kind) new (dated_found (λ c. condition_rank c.kind == condition_rank new.kind) cs dated) is)
+
+-- what the answer of an issuer makes of a request's status
+pub dated_answered : (status : RequestStatus) (answer : Signing) (moment : ℤ) → IsCertificateTime moment → IsDatedAnswer status → IsDatedAnswer (answered status answer moment)
+unfolding answered issued_condition pending_condition failed_condition
+dated_answered status (Issued certificate ca) moment timed dated =
+    record { conditions = dated_transitioned status.conditions (issued_condition moment) dated.conditions timed; failure = dated.failure }
+dated_answered status Pending moment timed dated =
+    record { conditions = dated_renewed status.conditions (pending_condition moment) dated.conditions timed; failure = dated.failure }
+dated_answered status (Failed message) moment timed dated =
+    record { conditions = dated_transitioned status.conditions (failed_condition message moment) dated.conditions timed; failure = timed }
 
 -- ---- renewal
 

@@ -11,7 +11,7 @@ use Rattle.cmc_meta.specs.declared.conditions.Tri.{Tri}
 use Rattle.cmc_meta.specs.declared.conditions.Tri.TheVariants.{True}
 use Rattle.cmc_meta.specs.ConditionLists.{condition_rank, condition_at, tri_eq, kept_since, renewed, transitioned}
 use Rattle.cmc_objects.specs.Requests.{is_stated}
-use Rattle.cmc_model.specs.Admission.{is_of, stands, is_unsettled, is_lost, condition_eq, is_verdict_unsettled, has_both_verdicts, verdict_rules, least_failing}
+use Rattle.cmc_model.specs.Admission.{is_of, stands, is_unsettled, is_lost, is_verdict_unsettled, has_both_verdicts, verdict_rules, least_failing}
 use Rattle.cmc_model.proofs.Admission.{condition_eq-Decides}
 use Rattle.cmc_rules.specs.Rights.{other_conditions}
 use Rattle.cmc_rules.proofs.Conditions.{others-transitioned}

@@ -39,6 +39,10 @@ IsDated (Some (Request r)) = IsDatedAnswer r.status
 IsDated (Some (Secret k)) = Unit {0}
 IsDated None = Unit {0}
 
+-- what is written at a moment of these years leaves it so
+abbrev pub StaysDated : ℤ → Option Object → Option Object → Type 0
+StaysDated now old new = IsCertificateTime now → IsDated old → IsDated new
+
 -- ---- what the trigger asks of what it sees
 
 abbrev pub IsDatedCertificate : Option Certificate → Type 0

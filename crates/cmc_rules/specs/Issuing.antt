@@ -31,7 +31,7 @@ use Rattle.cmc_pass.specs.declared.pass.Act.{Act}
 use Rattle.cmc_pass.specs.declared.pass.Act.TheVariants.{Nothing, Call as Calls, Issue, Temporary}
 use Rattle.cmc_rules.specs.Triggering.{is_issuing}
 use Rattle.cmc_rules.specs.NextKeys.{named_key}
-use Rattle.cmc_rules.specs.NextRequests.{next_revision, is_wanted, is_refused, failed_before}
+use Rattle.cmc_rules.specs.NextRequests.{is_wanted, is_refused, failed_before}
 
 -- ---- the status of the Certificate
 

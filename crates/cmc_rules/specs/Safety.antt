@@ -1,5 +1,5 @@
 -- What is promised of each Secret that is issued, each question to an issuer, each revision that rises and each approval.
-use Rattle.std.specs.Prelude.{◌≡◌, ◌≢◌, ◌⊎◌, ℕ, ℤ, ◌+◌, Bool, true, false, MatchBool, List, [], ◌∷◌, codes, Option, Some, None}
+use Rattle.std.specs.Prelude.{◌≡◌, ◌≢◌, ◌⊎◌, ℕ, ℤ, ◌+◌, true, false, MatchBool, List, [], ◌∷◌, codes, Option, Some, None}
 use Rattle.cmc_meta.specs.declared.key.Key.{Key}
 use Rattle.cmc_meta.specs.declared.conditions.ConditionKind.TheVariants as conditions
 use Rattle.cmc_meta.specs.declared.conditions.Tri.TheVariants as tri
@@ -16,7 +16,7 @@ use Rattle.cmc_objects.specs.declared.orders.Order.TheVariants as orders
 use Rattle.cmc_objects.specs.declared.role.Role.{Role}
 use Rattle.cmc_objects.specs.declared.role.Role.TheVariants as roles
 use Rattle.cmc_objects.specs.declared.call.Call.{Call}
-use Rattle.cmc_objects.specs.declared.call.Call.TheVariants.{Create, Update, UpdateStatus, Delete, Get}
+use Rattle.cmc_objects.specs.declared.call.Call.TheVariants.{Create, Update, UpdateStatus, Get}
 use Rattle.cmc_objects.specs.declared.call.Reply.{Reply}
 use Rattle.cmc_objects.specs.declared.call.Reply.TheVariants as replies
 use Rattle.cmc_objects.specs.declared.entry.Who.{Who}

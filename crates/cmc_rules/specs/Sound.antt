@@ -15,13 +15,13 @@ use Rattle.cmc_objects.specs.declared.call.Call.{Call}
 use Rattle.cmc_objects.specs.declared.role.Role.{Role}
 use Rattle.cmc_objects.specs.declared.role.Role.TheVariants as roles
 use Rattle.cmc_objects.specs.Objects.{key_of}
-use Rattle.cmc_objects.specs.Requests.{is_run_time, is_approved, is_denied}
+use Rattle.cmc_objects.specs.Requests.{is_run_time, is_approved}
 use Rattle.cmc_der.specs.Keys.{CertificateFields}
 use Rattle.cmc_policies.specs.declared.renewal.Renew.{Renew}
-use Rattle.cmc_policies.specs.Renewal.{IsCertificateTime, backoff, renewal}
+use Rattle.cmc_policies.specs.Renewal.{backoff, renewal}
 use Rattle.cmc_keys.specs.Kinds.{allows_size}
 use Rattle.cmc_match.specs.Facts.{pair_at, IsPair, HasRequestedKey, key_in, certificate_in}
-use Rattle.cmc_match.specs.Marks.{is_temporary, asks_for_temporary}
+use Rattle.cmc_match.specs.Marks.{is_temporary}
 use Rattle.cmc_match.specs.Matching.{Matches}
 use Rattle.cmc_match.specs.Revisions.{next_request}
 use Rattle.cmc_pass.specs.declared.value.Value.{Value}
@@ -34,7 +34,7 @@ use Rattle.cmc_pass.specs.declared.pass.TemporaryPlan.{TemporaryPlan}
 use Rattle.cmc_pass.specs.declared.pass.Act.{Act}
 use Rattle.cmc_pass.specs.declared.pass.Act.TheVariants.{Nothing, Call as Calls, Ask as Asks, Issue, Temporary}
 use Rattle.cmc_objects.specs.Watching.{works_on_requests, looks_at_secret, looks_at_next, looks_at_requests}
-use Rattle.cmc_rules.specs.Dates.{IsDated}
+use Rattle.cmc_rules.specs.Dates.{StaysDated}
 use Rattle.cmc_rules.specs.Sighting.{IsAmong, IsWellSeen, OnSeen}
 use Rattle.cmc_rules.specs.Viewing.{has_next_label}
 use Rattle.cmc_rules.specs.Passes.{writes_stand_in}
@@ -66,11 +66,11 @@ pub record IsOfCertificate (seen : Views) (made : CertificateRequest) : Type 0 w
   pub issuer : made.spec.issuer ≡ certificate.spec.issuer
   pub duration : made.spec.duration ≡ certificate.spec.duration
 
--- A write within the rights of the role that leaves revisions, after which the moment of a last failure still lies in its years. No
+-- A write within the rights of the role that leaves revisions, after which each moment of a status still lies in its years. No
 -- Secret is issued by it, and no request approved or made.
 pub record IsOrdinary (role : Role) (now : ℤ) (old new : Option Object) : Type 0 where
   pub rights : MayChange role old new
-  pub dated : IsCertificateTime now → IsDated old → IsDated new
+  pub dated : StaysDated now old new
   pub revision : KeepsRevision old new
   pub no_secret : IsNoSecret role new
   pub no_approval : WhereApproved role old new (λ r. ⊥)
@@ -80,7 +80,7 @@ pub record IsOrdinary (role : Role) (now : ℤ) (old new : Option Object) : Type
 -- the Certificate that is seen
 pub record IsAnswer (role : Role) (seen : Views) (now : ℤ) (value : Value) (old new : Option Object) : Type 0 where
   pub rights : MayChange role old new
-  pub dated : IsCertificateTime now → IsDated old → IsDated new
+  pub dated : StaysDated now old new
   pub revision : KeepsRevision old new
   pub no_secret : IsNoSecret role new
   pub approval : WhereApproved role old new (λ r. (value ≡ values.Judged true) × (seen.request ≡ Some r))
@@ -110,14 +110,14 @@ pub record IsTarget (c : Certificate) (r : CertificateRequest) (file : List ℕ)
 
 pub record WritesTarget (role : Role) (now : ℤ) (P : SecretObject → Type 0) (old new : Option Object) : Type 0 where
   pub rights : MayChange role old new
-  pub dated : IsCertificateTime now → IsDated old → IsDated new
+  pub dated : StaysDated now old new
   pub revision : KeepsRevision old new
   pub target : (written : SecretObject) → new ≡ Some (Secret written) → P written
 
 -- the status that ends the issuance of this Certificate
 pub record IsRaiseOf (c : Certificate) (now : ℤ) (old new : Option Object) : Type 0 where
   pub rights : MayChange roles.Issuing old new
-  pub dated : IsCertificateTime now → IsDated old → IsDated new
+  pub dated : StaysDated now old new
   pub of_it : old ≡ Some (Cert c)
   pub raises : RaisesRevision old new
 
