@@ -1,4 +1,4 @@
--- In a run each request, and each Certificate, has an issuer and a duration of the form that reading gives.
+-- In a run each object has the form that reading gives.
 use Rattle.std.proofs.Common.{◌≡◌, ◌&&◌, ℕ, ℤ, ◌+◌, ◌-◌, zero, suc, List, [], ◌∷◌, Option, Some, None, Bool, true, false, refl, sym, subst, inl, inr}
 use Rattle.std.specs.Prelude.{IfSome, codes, option_map, option_and_then, slice_get}
 use Rattle.std.specs.List.{list_all}
@@ -27,7 +27,7 @@ use Rattle.cmc_objects.specs.declared.entry.Step.TheVariants as steps
 use Rattle.cmc_objects.specs.declared.entry.Entry.{Entry}
 use Rattle.cmc_objects.specs.declared.entry.Entry.TheVariants.{Script}
 use Rattle.cmc_objects.specs.Objects.{meta_of, key_of}
-use Rattle.cmc_objects.specs.Requests.{is_issuer_form, is_duration_form, is_object_form, is_row_form}
+use Rattle.cmc_objects.specs.Requests.{is_issuer_form, is_duration_form, is_row_form}
 use Rattle.cmc_pass.specs.declared.pass.Views.{Views}
 use Rattle.cmc_model.specs.declared.write.Write.{Write}
 use Rattle.cmc_model.specs.Objects.{Objects, object_at}
@@ -49,6 +49,7 @@ use Rattle.cmc_rules.proofs.Replies.{reply_row_form}
 use Rattle.cmc_rules.proofs.Sights.{seen_certificate, seen_request}
 use Rattle.cmc_rules.proofs.Sighted.{AreKnown}
 use Rattle.cmc_setup.specs.Forms.{is_certificate, is_key_row_form, is_rows_form, is_entry_form, is_step_form}
+use Rattle.cmc_setup.specs.ObjectForms.{are_certificate_terms, are_subject_names, is_object_form}
 use Rattle.cmc_safety.specs.Formed.{IsFormed}
 use Rattle.cmc_safety.proofs.Course.{AreSound}
 use Rattle.cmc_safety.proofs.InProgress.{IsPlayed}
@@ -61,6 +62,10 @@ IsFormedObject o = is_object_form o ≡ true
 both : (a b : Bool) → (a && b) ≡ true → (a ≡ true) × (b ≡ true)
 both true b is = (refl, is)
 both false b is = absurd (cc is)
+
+all_true : (a b : Bool) → a ≡ true → b ≡ true → (a && b) ≡ true
+all_true true b first second = second
+all_true false b first second = first
 
 -- ---- what calls store
 
@@ -249,7 +254,7 @@ keeps_spec roles.Revision old new is = absurd is
 
 formed_kept : (old new : Object) → HasSpecOf new old → IsFormedObject old → IsFormedObject new
 formed_kept old (Secret k) same is = refl
-formed_kept (Cert a) (Cert b) same is = subst (λ (x : CertSpec). (is_issuer_form x.issuer && is_duration_form x.duration) ≡ true) (sym same) is
+formed_kept (Cert a) (Cert b) same is = subst (λ (x : CertSpec). (are_certificate_terms x && are_subject_names x) ≡ true) (sym same) is
 formed_kept (Request a) (Cert b) same is = absurd same
 formed_kept (Secret a) (Cert b) same is = absurd same
 formed_kept (Cert a) (Request b) same is = absurd same
@@ -291,12 +296,18 @@ makes_no_certificate roles.Revision new is = absurd is
 abbrev SeesFormed : Views → Type 0
 SeesFormed seen = (c : Certificate) → seen.certificate ≡ Some c → IsFormedObject (Cert c)
 
+-- issuer and duration of a Certificate of the form are those of a request of the form
+terms_formed : (c : Certificate) → IsFormedObject (Cert c) → (is_issuer_form c.spec.issuer && is_duration_form c.spec.duration) ≡ true
+terms_formed c is =
+    let terms = both (is_issuer_form c.spec.issuer) (is_duration_form c.spec.duration && is_duration_form c.spec.renew_before) (both (are_certificate_terms c.spec) (are_subject_names c.spec) is).0 in
+    all_true (is_issuer_form c.spec.issuer) (is_duration_form c.spec.duration) terms.0 (both (is_duration_form c.spec.duration) (is_duration_form c.spec.renew_before) terms.1).0
+
 -- a request has issuer and duration of the Certificate that it was made for
 formed_made : (seen : Views) (made : CertificateRequest) → SeesFormed seen → IsOfCertificate seen made → IsFormedObject (Request made)
 formed_made seen made sees is =
     let c = is.certificate in
     subst (λ (i : IssuerRef). (is_issuer_form i && is_duration_form made.spec.duration) ≡ true) (sym is.issuer)
-    (subst (λ (d : Option ℕ). (is_issuer_form c.spec.issuer && is_duration_form d) ≡ true) (sym is.duration) (sees c is.sees))
+    (subst (λ (d : Option ℕ). (is_issuer_form c.spec.issuer && is_duration_form d) ≡ true) (sym is.duration) (terms_formed c (sees c is.sees)))
 
 formed_new : (role : Role) (seen : Views) (since : ℤ) (old : Option Object) (new : Object) → SeesFormed seen → old ≡ None → MayChange role None (Some new) → IsPassWrite role seen since old (Some new) → IsFormedObject new
 formed_new role seen since old (Cert c) sees none rights is = absurd (makes_no_certificate role (Cert c) rights)

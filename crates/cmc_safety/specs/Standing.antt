@@ -5,7 +5,8 @@ use Rattle.cmc_objects.specs.declared.certificate.Certificate.{Certificate}
 use Rattle.cmc_objects.specs.declared.object.Object.{Object}
 use Rattle.cmc_objects.specs.Objects.{meta_of}
 use Rattle.cmc_objects.specs.declared.entry.Entry.{Entry}
-use Rattle.cmc_objects.specs.Requests.{is_object_form, is_run_time}
+use Rattle.cmc_objects.specs.Requests.{is_run_time}
+use Rattle.cmc_setup.specs.ObjectForms.{is_object_form}
 use Rattle.cmc_model.specs.Histories.{Setting, moment, accepted}
 use Rattle.cmc_model.specs.Versions.{HasVersion}
 use Rattle.cmc_model.specs.Writes.{writes}
@@ -29,7 +30,8 @@ pub record HasMomentsInYears (o : Object) : Type 0 where
   pub status : IsDated (Some o)
 
 pub record IsInOrder (s : Setting) (h : List Entry) : Type 0 where
-  -- each version of an object has the form in which objects are read and printed
+  -- each version of an object has the form that reading gives: its issuer's texts and its durations are within
+  -- their bounds, and the texts of a Certificate's subject are of their kinds
   pub forms : (key : Key) (o : Object) → HasVersion s h key o → is_object_form o ≡ true
   -- no revision is above the number of accepted writes
   pub revisions : (key : Key) (o : Object) → HasVersion s h key o → unwrap_or (stated_revision o) 0 ≤ accepted s h
