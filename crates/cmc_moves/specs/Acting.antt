@@ -22,10 +22,10 @@ use Rattle.cmc_moves.specs.Answers.{IsCalled, kept_of, new_of, next_answer, Answ
 use Rattle.cmc_moves.specs.Decisions.{Decision}
 use Rattle.cmc_moves.specs.declared.moves.Stepped.{Stepped}
 use Rattle.cmc_moves.specs.declared.moves.Stepped.TheVariants.{Done, Order as Tells}
-use Rattle.cmc_world.specs.declared.doing.Judged.{Judged}
-use Rattle.cmc_world.specs.declared.doing.Judged.TheVariants.{Answer, Does}
-use Rattle.cmc_world.specs.declared.doing.Doing.{Doing}
-use Rattle.cmc_world.specs.declared.doing.Doing.TheVariants.{Call as Makes, Ask as Asks, End as Ends}
+use Rattle.cmc_moves.specs.declared.doing.Judged.{Judged}
+use Rattle.cmc_moves.specs.declared.doing.Judged.TheVariants.{Answer, Does}
+use Rattle.cmc_moves.specs.declared.doing.Doing.{Doing}
+use Rattle.cmc_moves.specs.declared.doing.Doing.TheVariants.{Call as Makes, Ask as Asks, End as Ends}
 
 -- what a pass of this stage needs to go on: a value of its question that a call follows, or a plan of which a call is left
 abbrev pub HasSecret : Act → Type 0
