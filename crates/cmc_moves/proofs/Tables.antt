@@ -30,7 +30,7 @@ use Rattle.cmc_moves.specs.declared.moves.Stepped.TheVariants.{Done, Order as As
 use Rattle.cmc_moves.specs.Answers.{is_done, Need, Bar, BarOf, Fits, IsNews, IsQueued, outdated, entries_of, next_effect, AnswersScript, AnswersDelivery, AnswersBegin, AnswersOpen, AnswersGoing, AnswersNext, AnswersDecided, AnswersDecide, AnswersGiven, AnswersGive, kept_of, new_of, next_answer}
 use Rattle.cmc_rules.specs.Passes.{IsWorking}
 use Rattle.cmc_moves.specs.Decisions.{Decision}
-use Rattle.cmc_moves.specs.Tables.{IsValueAnswer, fitting, own_answer, delivery_answer, begin_answer, script_answer}
+use Rattle.cmc_moves.specs.Tables.{fitting, own_answer, delivery_answer, begin_answer, script_answer}
 
 -- a test decides whether a fact holds
 pub record Decides (fact : Type 0) (test : Bool) : Type 0 where
@@ -101,12 +101,6 @@ begin_answers s h role key answer false working same is_queued room on busy is q
 begin_answers s h role key answer true true same is_queued room on busy is q d a = inr (on, inl (busy.yes refl, a))
 begin_answers s h role key answer true false same is_queued room on busy is q d a =
     inr (on, inr (busy.no refl, owning s h role key answer (own_above (past s h role key).own (positions h role)) same is_queued room is q d a))
-
--- a value for the question that is kept
-pub value_answers : (s : Setting) (h : List Entry) (kept given : Order) (answer : Stepped) (room : Bool) → Decides (length h + 1 ≤ s.events) room → IsValueAnswer kept given (length h) room answer
-    → AnswersGiven s h (Some kept) given answer
-value_answers s h kept given answer room d (inl other) = inl other
-value_answers s h kept given answer room d (inr (same, a)) = inr (same, fitted s h 1 answer room d a)
 
 -- ---- the pass of a number
 

@@ -1,13 +1,10 @@
 -- What a world judges by what it holds is what the history says.
-use Rattle.std.proofs.Common.{◌≡◌, ℕ, ℤ, ◌+◌, ◌<◌, ◌≤◌, Bool, true, false, Option, Some, None, List, length, IfOk, Result, refl, sym, ap, subst, ◌∙◌, arith}
+use Rattle.std.proofs.Common.{◌≡◌, ℕ, ℤ, ◌+◌, ◌<◌, ◌≤◌, Bool, true, false, Option, Some, None, List, length, refl, sym, ap, subst, ◌∙◌, arith}
 use Rattle.std.proofs.lemmas.Bool.Decides.{nat_tests}
-use Rattle.std.proofs.lemmas.Result.{IfOk-weaker}
-use Rattle.std.specs.declared.alloc.AllocError.{AllocError}
 use Rattle.std.specs.Prelude.{◌↔◌, ◌&&◌, not, IsTrue, is_some, nat_le, if◌then◌else◌}
 use Rattle.cmc_meta.specs.declared.key.Key.{Key}
 use Rattle.cmc_meta.specs.declared.key.Kind.{Kind}
 use Rattle.cmc_meta.specs.declared.key.Kind.TheVariants as kinds
-use Rattle.cmc_objects.specs.declared.orders.Order.{Order}
 use Rattle.cmc_objects.specs.declared.role.Role.{Role}
 use Rattle.cmc_objects.specs.declared.entry.Positions.{Positions}
 use Rattle.cmc_objects.specs.declared.entry.Entry.{Entry}
@@ -36,10 +33,10 @@ use Rattle.cmc_moves.specs.declared.moves.Stepped.{Stepped}
 use Rattle.cmc_moves.specs.declared.moves.Stepped.TheVariants.{Done}
 use Rattle.cmc_world.specs.Kept.{standing, Holdings, IsKept}
 use Rattle.cmc_moves.specs.Quiet.{IsQuiet}
-use Rattle.cmc_moves.specs.Answers.{IsNews, delivered, IsQueued, AnswersDelivery, AnswersBegin, AnswersGiven}
+use Rattle.cmc_moves.specs.Answers.{IsNews, delivered, IsQueued, AnswersDelivery, AnswersBegin}
 use Rattle.cmc_rules.specs.Passes.{IsWorking}
-use Rattle.cmc_moves.specs.Tables.{delivery_answer, begin_answer, IsValueAnswer}
-use Rattle.cmc_moves.proofs.Tables.{Decides, decided, delivery_answers, begin_answers, may_deliver, value_answers}
+use Rattle.cmc_moves.specs.Tables.{delivery_answer, begin_answer}
+use Rattle.cmc_moves.proofs.Tables.{Decides, decided, delivery_answers, begin_answers, may_deliver}
 
 pub position_is : (s : Setting) (h : List Entry) (role : Role) (kind : Kind) → position_of kind (standing s h role).told ≡ position h role kind
 position_is s h role kinds.Certificate = refl
@@ -56,12 +53,6 @@ told_is s h w role kind k = ap (λ (t : Standing). position_of kind t.told) (k.h
 pub fits_by : (s : Setting) (h : List Entry) (more entries events : ℕ) (room : Bool) → entries ≡ length h → events ≡ s.events
     → (IsTrue room ↔ (entries + more ≤ events)) → Decides (length h + more ≤ s.events) room
 fits_by s h more entries events room n e r = subst (λ (m : ℕ). Decides (length h + more ≤ m) room) e (subst (λ (m : ℕ). Decides (m + more ≤ events) room) n (decided (entries + more ≤ events) room r))
-
--- a value for the question that is kept
-pub judged_value : (s : Setting) (h : List Entry) (kept given : Order) (entries events : ℕ) (room : Bool) (r : Result Stepped AllocError) → entries ≡ length h → events ≡ s.events → (IsTrue room ↔ (entries + 1 ≤ events))
-    → IfOk r (λ a. IsValueAnswer kept given entries room a) → IfOk r (λ a. AnswersGiven s h (Some kept) given a)
-judged_value s h kept given entries events room r n e fits is =
-    IfOk-weaker r _ _ (λ a one. value_answers s h kept given a room (fits_by s h 1 entries events room n e fits) (subst (λ (m : ℕ). IsValueAnswer kept given m room a) n one)) is
 
 pub judged_delivery : (s : Setting) (h : List Entry) (w : Holdings) (role : Role) (kind : Kind) (to : ℕ) (t : Standing) (place newest entries events : ℕ) (informed kept news room : Bool) (answer : Stepped)
     → IsKept s h w → t ≡ w.standing role → place ≡ position_of kind t.told → newest ≡ last_of_kind kind w.log
