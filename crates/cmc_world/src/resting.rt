@@ -1,6 +1,6 @@
 //! When nothing is left to do, and what the next step of the script waits for.
 ghost use Rattle.std.specs.Option.{option_copied};
-ghost use Rattle.std.specs.Prelude.{◌≡◌, ◌↔◌, ◌⊎◌, ◌+◌, ◌≤◌, ◌||◌, ℕ, ℤ, Some, None, IsTrue, IfOk, All, length};
+ghost use Rattle.std.specs.Prelude.{◌≡◌, ◌↔◌, ◌⊎◌, ◌+◌, ◌≤◌, ◌||◌, ℕ, ℤ, Some, None, IsTrue, IfOk, All, length, if◌then◌else◌};
 ghost use Rattle.cmc_model.specs.declared.write.Write.{Write as WriteValue};
 ghost use Rattle.cmc_pass.specs.declared.pass.Act.TheVariants.{Nothing};
 ghost use Rattle.cmc_rules.specs.Acts as acts;

@@ -1,7 +1,7 @@
 //! The next step of the script is made, with what it has happen.
 ghost use Rattle.std.specs.List.{All, list_all};
 ghost use Rattle.std.specs.Option.{option_copied};
-ghost use Rattle.std.specs.Prelude.{◌≡◌, ◌+◌, ◌-◌, ◌<◌, ◌≤◌, ◌^◌, ◌∷◌, ◌+ℤ◌, pos, IfOk, OnOk, OnErr, None, Some, length, slice_get, true};
+ghost use Rattle.std.specs.Prelude.{◌≡◌, ◌+◌, ◌-◌, ◌<◌, ◌≤◌, ◌^◌, ◌∷◌, ◌+ℤ◌, pos, IfOk, OnOk, OnErr, None, Some, length, slice_get, true, if◌then◌else◌};
 ghost use Rattle.cmc_objects.specs.declared.entry.Who.TheVariants as who;
 ghost use Rattle.cmc_objects.specs.declared.role.Role.{Role as RoleValue};
 ghost use Rattle.cmc_objects.specs.Objects.{key_of};
