@@ -24,7 +24,7 @@ use Rattle.cmc_rules.specs.Sound.{IsFollowed, IsWithin}
 use Rattle.cmc_rules.proofs.Sights.{seen_request}
 use Rattle.cmc_rules.proofs.Lines.{by_test}
 use Rattle.cmc_rules.proofs.Verdicts.{are_settled}
-use Rattle.cmc_approver.proofs.Writes.{IsOpen, IsVerdict, approval_is, denial_is, judging}
+use Rattle.cmc_approver.proofs.Writes.{IsOpen, IsVerdict, approval_is, denial_is, IsDatedVerdict, dated_approval, dated_denial, judging}
 
 abbrev Is : Views → ℤ → Act → Type 0
 Is seen now a = IsWithin Approver (judged_after seen now) seen now a
@@ -36,11 +36,12 @@ record IsJudged (moment : ℤ) (approved : Bool) (r : CertificateRequest) (denia
   verdict : Condition
   is : verdict_by moment approved denial ≡ Some verdict
   fits : IsVerdict approved r verdict
+  dated : IsDatedVerdict moment r verdict
 
 judged : (moment : ℤ) (approved : Bool) (r : CertificateRequest) (denial : Option Denial) → IsOpen r → approved ≡ is_none denial → IsJudged moment approved r denial
-judged moment true r denial open_ right = record { verdict = approval moment; is = refl; fits = approval_is moment r open_ }
+judged moment true r denial open_ right = record { verdict = approval moment; is = refl; fits = approval_is moment r open_; dated = dated_approval moment r }
 judged moment false r None open_ right = absurd (cc right)
-judged moment false r (Some denial) open_ right = record { verdict = denied_for moment denial; is = refl; fits = denial_is moment denial r open_ }
+judged moment false r (Some denial) open_ right = record { verdict = denied_for moment denial; is = refl; fits = denial_is moment denial r open_; dated = dated_denial moment denial r }
 
 followed : (seen : Views) (now : ℤ) (r : CertificateRequest) (order : JudgeOrder) → seen.request ≡ Some r → IsOpen r → (value : Value) → IsValue (orders.Judge order) value
     → IsFollowed Approver (judged_after seen now) seen now (orders.Judge order) value
@@ -52,7 +53,7 @@ followed seen now r order sees open_ (Judged approved) right =
     let j = judged now approved r (denial_of order) open_ right in record {
       call = judge_call j.verdict r;
       follows = ap (λ (o : Option CertificateRequest). judged_for o (verdict_by now approved (denial_of order))) sees ∙ ap (judged_for (Some r)) j.is;
-      on = judging seen now approved r j.verdict sees j.fits;
+      on = judging seen now approved r j.verdict sees j.fits j.dated;
     }
 
 -- ---- each act is within

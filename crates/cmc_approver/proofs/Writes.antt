@@ -1,12 +1,10 @@
 -- The write of a verdict keeps to the approver's rights, and no rule refuses it.
-use Rattle.std.proofs.Common.{◌≡◌, ◌∙◌, ◌&&◌, ℤ, List, Option, Some, None, Bool, true, false, refl, sym, ap, subst}
+use Rattle.std.proofs.Common.{◌≡◌, ◌∙◌, ◌&&◌, ℤ, List, Some, None, Bool, true, false, refl, sym, ap, subst}
 use Rattle.cmc_meta.specs.declared.conditions.Condition.{Condition}
-use Rattle.cmc_meta.specs.declared.conditions.ConditionKind.{ConditionKind}
 use Rattle.cmc_meta.specs.declared.conditions.ConditionKind.TheVariants as kinds
 use Rattle.cmc_meta.specs.declared.conditions.Tri.TheVariants.{True}
-use Rattle.cmc_meta.specs.ConditionLists.{condition_rank, tri_eq, transitioned}
+use Rattle.cmc_meta.specs.ConditionLists.{tri_eq, transitioned}
 use Rattle.cmc_objects.specs.declared.request.CertificateRequest.{CertificateRequest}
-use Rattle.cmc_objects.specs.declared.request.RequestStatus.{RequestStatus}
 use Rattle.cmc_objects.specs.declared.object.Object.TheVariants.{Request}
 use Rattle.cmc_objects.specs.declared.role.Role.TheVariants.{Approver}
 use Rattle.cmc_objects.specs.Requests.{is_stated, is_approved, is_denied}
@@ -14,14 +12,15 @@ use Rattle.cmc_answers.specs.declared.denial.Denial.{Denial}
 use Rattle.cmc_model.specs.Admission.{is_of, refusing_rule, verdict_rules, least_failing}
 use Rattle.cmc_model.specs.Stored.{with_status, numbered}
 use Rattle.cmc_pass.specs.declared.pass.Views.{Views}
-use Rattle.cmc_pass.specs.declared.value.Value.{Value}
 use Rattle.cmc_pass.specs.declared.value.Value.TheVariants.{Judged}
 use Rattle.cmc_rules.specs.Rights.{ChangesVerdict, other_conditions}
 use Rattle.cmc_rules.specs.Approving.{approval, denied_for, judged_status, judge_call}
+use Rattle.cmc_rules.specs.Dates.{StaysDated}
 use Rattle.cmc_rules.specs.Sighting.{OnSeen}
 use Rattle.cmc_rules.specs.Sound.{IsAnswer}
 use Rattle.cmc_rules.proofs.Sights.{seen_request}
 use Rattle.cmc_rules.proofs.Conditions.{others-transitioned}
+use Rattle.cmc_rules.proofs.Dating.{dated_transitioned}
 use Rattle.cmc_rules.proofs.Verdicts.{AreSettled, and_first, apart, any_same, others_swap, approval_passes, denial_passes}
 
 -- the approver writes where no verdict is True, and what stands met the rules
@@ -82,17 +81,29 @@ passes_of : (approved : Bool) (r : CertificateRequest) (verdict : Condition) (ta
 unfolding judged_status refusing_rule
 passes_of approved r verdict taken is = is.passes
 
-pub judging : (seen : Views) (now : ℤ) (approved : Bool) (r : CertificateRequest) (verdict : Condition) → seen.request ≡ Some r → IsVerdict approved r verdict
+-- the request with the verdict says no moment outside of the years 1950 to 9999, where it is given in them
+abbrev pub IsDatedVerdict : ℤ → CertificateRequest → Condition → Type 0
+IsDatedVerdict now r verdict = StaysDated now (Some (Request r)) (Some (Request (record r { status = judged_status verdict r.status })))
+
+pub dated_approval : (moment : ℤ) (r : CertificateRequest) → IsDatedVerdict moment r (approval moment)
+unfolding approval judged_status
+dated_approval moment r timed dated = record { conditions = dated_transitioned r.status.conditions (approval moment) dated.conditions timed; failure = dated.failure }
+
+pub dated_denial : (moment : ℤ) (denial : Denial) (r : CertificateRequest) → IsDatedVerdict moment r (denied_for moment denial)
+unfolding denied_for judged_status
+dated_denial moment denial r timed dated = record { conditions = dated_transitioned r.status.conditions (denied_for moment denial) dated.conditions timed; failure = dated.failure }
+
+pub judging : (seen : Views) (now : ℤ) (approved : Bool) (r : CertificateRequest) (verdict : Condition) → seen.request ≡ Some r → IsVerdict approved r verdict → IsDatedVerdict now r verdict
     → OnSeen (IsAnswer Approver seen now (Judged approved)) seen (judge_call verdict r)
 unfolding judge_call judged_status OnSeen numbered with_status
-judging seen now approved r verdict sees is = record {
+judging seen now approved r verdict sees is dates = record {
   old = Request r;
   sees = seen_request seen r sees;
   key = refl;
   version = refl;
   changes = λ next. record {
     rights = (refl, refl, changed approved r verdict is);
-    dated = λ timed dated. tt;
+    dated = dates;
     revision = refl;
     no_secret = λ written issuing of. absurd (cc issuing);
     approval = λ old new role was made before after. approves_where approved seen r _ old new verdict is sees refl was made before after;

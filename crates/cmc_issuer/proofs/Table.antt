@@ -25,7 +25,8 @@ use Rattle.cmc_rules.specs.Sound.{IsFollowed, IsWithin, IsMinuteAfter, IsRetry}
 use Rattle.cmc_rules.proofs.Sights.{seen_request}
 use Rattle.cmc_rules.proofs.Lines.{by_test}
 use Rattle.cmc_rules.proofs.Verdicts.{AreSettled, are_settled}
-use Rattle.cmc_issuer.proofs.Writes.{answers, denies, marking, answering}
+use Rattle.cmc_rules.proofs.Dating.{dated_answered}
+use Rattle.cmc_issuer.proofs.Writes.{answers, denies, dated_denied, marking, answering}
 
 abbrev Is : Views → ℤ → Act → Type 0
 Is seen now a = IsWithin Issuer (answered_after seen now) seen now a
@@ -45,7 +46,7 @@ followed seen now r order sees settled (Judged approved) right = absurd right
 followed seen now r order sees settled (Answered answer) right = record {
   call = status_call (answered r.status answer now) r;
   follows = ap (λ (o : Option CertificateRequest). answered_for now o (Answered answer)) sees;
-  on = answering seen now (Answered answer) r (answered r.status answer now) sees settled (answers r.status answer now);
+  on = answering seen now (Answered answer) r (answered r.status answer now) sees settled (answers r.status answer now) (dated_answered r.status answer now);
 }
 
 -- ---- each act is within
@@ -56,7 +57,7 @@ asked seen now desk r sees settled approved = ((refl, sees, approved), followed 
 
 denied_is : (seen : Views) (now : ℤ) (r : CertificateRequest) → seen.request ≡ Some r → AreSettled r.status.conditions → Is seen now (deny now r)
 denied_is seen now r sees settled =
-    by_test (Is seen now) (has_reason (codes "Denied") r) _ _ (λ on. tt) (λ off. marking seen now r (denied_status r.status now) sees settled (denies r.status now))
+    by_test (Is seen now) (has_reason (codes "Denied") r) _ _ (λ on. tt) (λ off. marking seen now r (denied_status r.status now) sees settled (denies r.status now) (dated_denied r now))
 
 granted_is : (seen : Views) (now : ℤ) (desk : Desk) (r : CertificateRequest) → seen.request ≡ Some r → AreSettled r.status.conditions → Is seen now (grant now desk r)
 granted_is seen now desk r sees settled =

@@ -12,12 +12,14 @@ use Rattle.cmc_model.specs.Stored.{with_status, numbered}
 use Rattle.cmc_pass.specs.declared.pass.Views.{Views}
 use Rattle.cmc_pass.specs.declared.value.Value.{Value}
 use Rattle.cmc_rules.specs.Answering.{issued_condition, pending_condition, failed_condition, answered}
+use Rattle.cmc_rules.specs.Dates.{StaysDated}
 use Rattle.cmc_rules.specs.Granting.{denied_condition, denied_status, status_call}
 use Rattle.cmc_rules.specs.Rights.{ChangesAnswer}
 use Rattle.cmc_rules.specs.Sighting.{OnSeen}
 use Rattle.cmc_rules.specs.Sound.{IsOrdinary, IsAnswer}
 use Rattle.cmc_rules.proofs.Sights.{seen_request}
 use Rattle.cmc_rules.proofs.Conditions.{others-renewed, others-transitioned}
+use Rattle.cmc_rules.proofs.Dating.{dated_transitioned}
 use Rattle.cmc_rules.proofs.Verdicts.{AreSettled, others_pass}
 
 -- ---- the statuses
@@ -32,6 +34,11 @@ pub denies : (status : RequestStatus) (moment : ℤ) → ChangesAnswer status (d
 unfolding denied_status denied_condition
 denies status moment = record { rest = refl; others = others-transitioned status.conditions (denied_condition moment) }
 
+pub dated_denied : (r : CertificateRequest) (moment : ℤ) → StaysDated moment (Some (Request r)) (Some (Request (record r { status = denied_status r.status moment })))
+unfolding denied_status denied_condition
+dated_denied r moment timed dated =
+    record { conditions = dated_transitioned r.status.conditions (denied_condition moment) dated.conditions timed; failure = timed }
+
 -- ---- the write
 
 passes_of : (r : CertificateRequest) (status : RequestStatus) (taken : Bool) → AreSettled r.status.conditions → ChangesAnswer r.status status
@@ -40,16 +47,17 @@ unfolding refusing_rule
 passes_of r status taken settled changes = others_pass kinds.Ready r.status.conditions status.conditions changes.others refl refl settled
 
 pub marking : (seen : Views) (now : ℤ) (r : CertificateRequest) (status : RequestStatus) → seen.request ≡ Some r → AreSettled r.status.conditions → ChangesAnswer r.status status
+    → StaysDated now (Some (Request r)) (Some (Request (record r { status = status })))
     → OnSeen (IsOrdinary Issuer now) seen (status_call status r)
 unfolding status_call OnSeen numbered with_status
-marking seen now r status sees settled changes = record {
+marking seen now r status sees settled changes dates = record {
   old = Request r;
   sees = seen_request seen r sees;
   key = refl;
   version = refl;
   changes = λ next. record {
     rights = (refl, refl, changes);
-    dated = λ timed dated. tt;
+    dated = dates;
     revision = refl;
     no_secret = λ written issuing of. absurd (cc issuing);
     no_approval = λ old new role was made before after. absurd (cc role);
@@ -59,16 +67,17 @@ marking seen now r status sees settled changes = record {
 }
 
 pub answering : (seen : Views) (now : ℤ) (value : Value) (r : CertificateRequest) (status : RequestStatus) → seen.request ≡ Some r → AreSettled r.status.conditions → ChangesAnswer r.status status
+    → StaysDated now (Some (Request r)) (Some (Request (record r { status = status })))
     → OnSeen (IsAnswer Issuer seen now value) seen (status_call status r)
 unfolding status_call OnSeen numbered with_status
-answering seen now value r status sees settled changes = record {
+answering seen now value r status sees settled changes dates = record {
   old = Request r;
   sees = seen_request seen r sees;
   key = refl;
   version = refl;
   changes = λ next. record {
     rights = (refl, refl, changes);
-    dated = λ timed dated. tt;
+    dated = dates;
     revision = refl;
     no_secret = λ written issuing of. absurd (cc issuing);
     approval = λ old new role was made before after. absurd (cc role);

@@ -12,7 +12,7 @@ use Rattle.cmc_pass.specs.declared.pass.Views.{Views}
 use Rattle.cmc_pass.specs.declared.value.Value.{Value}
 use Rattle.cmc_model.specs.Stored.{with_status, numbered}
 use Rattle.cmc_model.proofs.Admission.{certificate_status_passes}
-use Rattle.cmc_rules.specs.Dates.{IsDatedOption}
+use Rattle.cmc_rules.specs.Dates.{IsDatedStatus}
 use Rattle.cmc_rules.specs.Rights.{ChangesIssuance}
 use Rattle.cmc_rules.specs.Safety.{IsStatusUpdate}
 use Rattle.cmc_rules.specs.Sighting.{OnSeen}
@@ -20,6 +20,7 @@ use Rattle.cmc_rules.specs.Sound.{IsRaiseOf, IsWithin}
 use Rattle.cmc_rules.specs.Issuing.{ended_condition, issued_status, failed_status, status_call, failure}
 use Rattle.cmc_rules.proofs.Sights.{seen_certificate}
 use Rattle.cmc_rules.proofs.Conditions.{others-transitioned}
+use Rattle.cmc_rules.proofs.Dating.{dated_transitioned}
 
 -- ---- a failure
 
@@ -28,9 +29,15 @@ unfolding failed_status ended_condition
 failed_changes moment reason status =
     record { rest = refl; others = others-transitioned status.conditions (ended_condition moment reason (codes "The certificate request has failed to complete and will be retried")) }
 
-failed_dated : (moment : ℤ) (reason : List ℕ) (status : CertStatus) → IsCertificateTime moment → IsDatedOption (failed_status moment reason status).last_failure
-unfolding failed_status
-failed_dated moment reason status timed = timed
+failed_dated : (moment : ℤ) (reason : List ℕ) (status : CertStatus) → IsCertificateTime moment → IsDatedStatus status → IsDatedStatus (failed_status moment reason status)
+unfolding failed_status ended_condition
+failed_dated moment reason status timed dated = record {
+  conditions = dated_transitioned status.conditions (ended_condition moment reason (codes "The certificate request has failed to complete and will be retried")) dated.conditions timed;
+  last_failure = timed;
+  not_before = dated.not_before;
+  not_after = dated.not_after;
+  renewal = dated.renewal;
+}
 
 failed_revision : (moment : ℤ) (reason : List ℕ) (status : CertStatus) → (failed_status moment reason status).revision ≡ status.revision
 unfolding failed_status
@@ -45,7 +52,7 @@ failing after seen now reason c sees = record {
   version = refl;
   changes = λ next. record {
     rights = inr (inr (refl, refl, failed_changes now reason c.status));
-    dated = λ timed dated. failed_dated now reason c.status timed;
+    dated = λ timed dated. failed_dated now reason c.status timed dated;
     revision = failed_revision now reason c.status;
     no_secret = λ written issuing is. absurd (cc is);
     no_approval = λ o n approver b a x y. absurd (cc approver);
@@ -61,9 +68,15 @@ unfolding issued_status ended_condition
 issued_changes moment status =
     record { rest = refl; others = others-transitioned status.conditions (ended_condition moment (codes "Issued") (codes "The certificate has been successfully issued")) }
 
-issued_dated : (moment : ℤ) (status : CertStatus) → IsDatedOption (issued_status moment status).last_failure
-unfolding issued_status
-issued_dated moment status = tt
+issued_dated : (moment : ℤ) (status : CertStatus) → IsCertificateTime moment → IsDatedStatus status → IsDatedStatus (issued_status moment status)
+unfolding issued_status ended_condition
+issued_dated moment status timed dated = record {
+  conditions = dated_transitioned status.conditions (ended_condition moment (codes "Issued") (codes "The certificate has been successfully issued")) dated.conditions timed;
+  last_failure = tt;
+  not_before = dated.not_before;
+  not_after = dated.not_after;
+  renewal = dated.renewal;
+}
 
 issued_revision : (moment : ℤ) (status : CertStatus) → (issued_status moment status).revision ≡ Some (unwrap_or status.revision 0 + 1)
 unfolding issued_status
@@ -78,7 +91,7 @@ raising seen now c sees = record {
   version = refl;
   changes = λ next. record {
     rights = inr (inr (refl, refl, issued_changes now c.status));
-    dated = λ timed dated. issued_dated now c.status;
+    dated = λ timed dated. issued_dated now c.status timed dated;
     of_it = refl;
     raises = issued_revision now c.status;
   };

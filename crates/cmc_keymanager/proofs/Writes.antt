@@ -27,7 +27,7 @@ naming seen now name c sees = record {
   version = refl;
   changes = λ next. record {
     rights = inr (inr (refl, refl, record { rest = refl }));
-    dated = λ timed dated. dated;
+    dated = λ timed dated. record { conditions = dated.conditions; last_failure = dated.last_failure; not_before = dated.not_before; not_after = dated.not_after; renewal = dated.renewal };
     revision = refl;
     no_secret = λ written issuing is. absurd (cc issuing);
     no_approval = λ o n approver b a x y. absurd (cc approver);

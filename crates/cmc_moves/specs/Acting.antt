@@ -1,31 +1,25 @@
 -- What a pass does next.
-use Rattle.std.specs.Prelude.{◌≡◌, ◌<◌, ℕ, List, ◌∷◌, length, Option, Some, None, IsSome}
+use Rattle.std.specs.Prelude.{◌≡◌, ◌<◌, ℕ, List, length, Option, Some, None, IsSome}
 use Rattle.cmc_objects.specs.declared.call.Call.{Call}
 use Rattle.cmc_objects.specs.declared.orders.Order.{Order}
 use Rattle.cmc_pass.specs.declared.value.Value.{Value}
 use Rattle.cmc_objects.specs.declared.entry.Entry.{Entry}
-use Rattle.cmc_objects.specs.declared.entry.Entry.TheVariants.{Ask, End}
-use Rattle.cmc_objects.specs.declared.entry.Who.{Who}
-use Rattle.cmc_objects.specs.declared.entry.Who.TheVariants.{Pass}
 use Rattle.cmc_pass.specs.declared.pass.Act.{Act}
 use Rattle.cmc_pass.specs.declared.pass.Act.TheVariants.{Issue, Temporary}
 use Rattle.cmc_rules.specs.declared.progress.Stage.{Stage}
 use Rattle.cmc_rules.specs.declared.progress.Stage.TheVariants.{Asked, Given, Read, Saved, Barred}
-use Rattle.cmc_rules.specs.declared.progress.OpenPass.{OpenPass}
-use Rattle.cmc_model.specs.Replies.{key_of_call}
 use Rattle.cmc_model.specs.Histories.{Setting}
-use Rattle.cmc_rules.specs.Passes.{open_pass, writes_stand_in}
-use Rattle.cmc_rules.specs.Memory.{ending_at}
+use Rattle.cmc_rules.specs.Passes.{open_pass}
 use Rattle.cmc_rules.specs.Causes.{IsNextCall, AsksBy, EndsBy, MayCall, MayAsk, MayEnd}
 use Rattle.cmc_rules.specs.Legality.{IsOpen}
-use Rattle.cmc_moves.specs.Answers.{IsCalled, kept_of, new_of, next_answer, AnswersGoing, AnswersNext, AnswersDecided, AnswersDecide}
+use Rattle.cmc_moves.specs.Answers.{kept_of, new_of, next_answer, AnswersGoing, AnswersNext, AnswersDecided, AnswersDecide}
 use Rattle.cmc_moves.specs.Decisions.{Decision}
 use Rattle.cmc_moves.specs.declared.moves.Stepped.{Stepped}
 use Rattle.cmc_moves.specs.declared.moves.Stepped.TheVariants.{Done, Order as Tells}
-use Rattle.cmc_world.specs.declared.doing.Judged.{Judged}
-use Rattle.cmc_world.specs.declared.doing.Judged.TheVariants.{Answer, Does}
-use Rattle.cmc_world.specs.declared.doing.Doing.{Doing}
-use Rattle.cmc_world.specs.declared.doing.Doing.TheVariants.{Call as Makes, Ask as Asks, End as Ends}
+use Rattle.cmc_moves.specs.declared.doing.Judged.{Judged}
+use Rattle.cmc_moves.specs.declared.doing.Judged.TheVariants.{Answer, Does}
+use Rattle.cmc_moves.specs.declared.doing.Doing.{Doing}
+use Rattle.cmc_moves.specs.declared.doing.Doing.TheVariants.{Call as Makes, Ask as Asks, End as Ends}
 
 -- what a pass of this stage needs to go on: a value of its question that a call follows, or a plan of which a call is left
 abbrev pub HasSecret : Act → Type 0

@@ -1,7 +1,6 @@
 -- In a run each version of a request has an outcome, or none yet.
-use Rattle.std.proofs.Common.{◌≡◌, ◌==◌, ◌+◌, ℕ, ℤ, List, [], ◌∷◌, Option, Some, None, Bool, true, false, refl, sym, ap, subst, ◌∙◌}
-use Rattle.std.specs.Prelude.{IfSome, codes, find, option_map, option_and_then, if◌then◌else◌}
-use Rattle.std.specs.FinMap as finite
+use Rattle.std.proofs.Common.{◌≡◌, ◌==◌, ◌+◌, ℕ, ℤ, List, [], ◌∷◌, Option, Some, None, Bool, true, false, refl, sym, subst}
+use Rattle.std.specs.Prelude.{IfSome, codes, option_map, option_and_then, if◌then◌else◌}
 use Rattle.cmc_meta.specs.declared.key.Key.{Key}
 use Rattle.cmc_meta.specs.declared.conditions.Condition.{Condition}
 use Rattle.cmc_meta.specs.declared.conditions.ConditionKind.TheVariants.{Approved, Denied}
@@ -25,7 +24,7 @@ use Rattle.cmc_pass.specs.declared.pass.Act.TheVariants.{Nothing, Call as Calls,
 use Rattle.cmc_pass.specs.declared.value.Value.{Value}
 use Rattle.cmc_answers.specs.Signings.{signing_of}
 use Rattle.cmc_model.specs.declared.write.Write.{Write}
-use Rattle.cmc_model.specs.Objects.{Objects, object_at}
+use Rattle.cmc_model.specs.Objects.{object_at}
 use Rattle.cmc_model.specs.Replies.{key_of_call, settled, is_accepted}
 use Rattle.cmc_model.specs.Histories.{Setting, moment, objects, accepted}
 use Rattle.cmc_model.specs.Writes.{writes}
@@ -38,11 +37,12 @@ use Rattle.cmc_rules.specs.Causes.{IsFirstCall, IsSecretCall, IsStatusCall, IsNe
 use Rattle.cmc_rules.specs.Desks.{desk}
 use Rattle.cmc_rules.specs.Passes.{open_pass}
 use Rattle.cmc_rules.specs.Scripting.{step_at}
-use Rattle.cmc_rules.specs.UserWrites.{verdict, judge_call, answer_call, renew_call, renewal_of, request_for, as_request, is_object_for}
+use Rattle.cmc_rules.specs.UserWrites.{verdict, judge_call, answer_call, renew_call, renewal_of, request_for}
 use Rattle.cmc_rules.specs.Following.{apply_call, call_of, call_or, effect_of, owed, Follows}
-use Rattle.cmc_rules.proofs.Sights.{seen_request, found_among}
-use Rattle.cmc_rules.proofs.Sighted.{AreKnown, SawKnown, saw_known, stands_among}
+use Rattle.cmc_rules.proofs.Sights.{seen_request}
+use Rattle.cmc_rules.proofs.Sighted.{AreKnown, SawKnown, saw_known}
 use Rattle.cmc_safety.proofs.Carried.{EachVersion, no_version, one_more, standing_has, seen_has, newest}
+use Rattle.cmc_safety.proofs.Users.{request_stands}
 use Rattle.cmc_plain.proofs.Outcomes.{HasOutcome, IsAnswered, IsAnsweredCall, other_outcome, outcome_answered, answered_stored, answered_settled}
 use Rattle.cmc_plain.proofs.OutcomesWritten.{IsAnsweredAct, SeesAnswered, answered_act, answered_after_value}
 
@@ -90,21 +90,6 @@ pass_answered s h (Some p) call each known next =
     (λ order value is. answered_after_value p.role p.seen p.since order value call (sees_answered (writes s h) p.seen each known) is) next
 
 -- ---- calls of users
-
--- the request that a step speaks of stands
-as_is : (o : Object) (r : CertificateRequest) → as_request o ≡ Some r → o ≡ Request r
-as_is (Request q) r is = ap Request (cc is)
-as_is (Cert c) r is = absurd (cc is)
-as_is (Secret k) r is = absurd (cc is)
-
-found_stands : (m : Objects) (test : Key × Object → Bool) (x : Option (Key × Object)) (r : CertificateRequest) → find test (finite.entries m) ≡ x → option_and_then (λ (e : Key × Object). as_request e.1) x ≡ Some r
-    → (key : Key) × (object_at m key ≡ Some (Request r))
-found_stands m test None r at is = absurd (cc is)
-found_stands m test (Some e) r at is = (e.0, stands_among m e (found_among test (finite.entries m) e at) ∙ ap Some (as_is e.1 r is))
-
-request_stands : (m : Objects) (certificate : Key) (revision : ℕ) (r : CertificateRequest) → request_for m certificate revision ≡ Some r → (key : Key) × (object_at m key ≡ Some (Request r))
-request_stands m certificate revision r is =
-    found_stands m (λ e. is_object_for certificate revision e.1) (find (λ e. is_object_for certificate revision e.1) (finite.entries m)) r refl is
 
 abbrev IsAnsweredEffect : Option Effect → Type 0
 IsAnsweredEffect None = Unit {0}

@@ -50,7 +50,7 @@ unfolding make_request new_request request_spec created named refusing_rule OnSe
 making seen now value c k request sees = λ name. record {
   makes = λ next at. record {
     rights = inl tt;
-    dated = λ timed dated. tt;
+    dated = λ timed dated. record { conditions = tt; failure = tt };
     revision = refl;
     no_secret = λ written issuing is. absurd (cc issuing);
     approval = λ o n approver b a x y. absurd (cc approver);

@@ -58,9 +58,9 @@ newest s h call reply = write_of (moment s h) (state s h) (settled call reply)
 -- what is true of no writes stays so over each accepted write of a user, and over each of a pass
 pub record IsCarried (s : Setting) (T : List Write → Type 0) : Type 0 where
   pub none : T []
-  pub user : (h : List Entry) (call : Call) (reply : Reply) → IsLegal s h → IsReply s.faults (state s h) call reply → owed s h ≡ Some (effects.Call call) → is_accepted reply ≡ true
+  pub user : (h : List Entry) (call : Call) (reply : Reply) → IsPlayed s h → IsReply s.faults (state s h) call reply → owed s h ≡ Some (effects.Call call) → is_accepted reply ≡ true
       → T (writes s h) → T (newest s h call reply ∷ writes s h)
-  pub pass : (h : List Entry) (call : Call) (reply : Reply) → IsLegal s h → IsWriter s h call reply → T (writes s h) → T (newest s h call reply ∷ writes s h)
+  pub pass : (h : List Entry) (call : Call) (reply : Reply) → IsPlayed s h → IsWriter s h call reply → T (writes s h) → T (newest s h call reply ∷ writes s h)
 
 where_accepted : (T : List Write → Type 0) (b : Bool) (w : Write) (ws : List Write) → (b ≡ true → T ws → T (w ∷ ws)) → T ws → T (if b then w ∷ ws else ws)
 where_accepted T true w ws more is = more refl is
@@ -70,9 +70,9 @@ pub carried : AreSound → (T : List Write → Type 0) (s : Setting) → IsForme
 unfolding IsLegal Follows
 carried sound T s formed is [] o = is.none
 carried sound T s formed is (Called User call reply ∷ h) o =
-    where_accepted T (is_accepted reply) (newest s h call reply) (writes s h) (λ ok before. is.user h call reply o.legal.1 o.legal.0.0 o.follows.0 ok before)
-    (carried sound T s formed is h (played_below s (Called User call reply) h o))
+    let below = played_below s (Called User call reply) h o in
+    where_accepted T (is_accepted reply) (newest s h call reply) (writes s h) (λ ok before. is.user h call reply below o.legal.0.0 o.follows.0 ok before) (carried sound T s formed is h below)
 carried sound T s formed is (Called (Pass m) call reply ∷ h) o =
-    where_accepted T (is_accepted reply) (newest s h call reply) (writes s h) (λ ok before. is.pass h call reply o.legal.1 (writer_of sound s h m call reply formed o ok) before)
-    (carried sound T s formed is h (played_below s (Called (Pass m) call reply) h o))
+    let below = played_below s (Called (Pass m) call reply) h o in
+    where_accepted T (is_accepted reply) (newest s h call reply) (writes s h) (λ ok before. is.pass h call reply below (writer_of sound s h m call reply formed o ok) before) (carried sound T s formed is h below)
 carried sound T s formed is (other ∷ h) o = carried sound T s formed is h (played_below s other h o)

@@ -9,6 +9,7 @@ pub mod Safe
 pub mod PassWrites
 pub mod Carried
 pub mod Dated
+pub mod Creations
 pub mod LowRevisions
 pub mod Forms
 pub mod MayAct

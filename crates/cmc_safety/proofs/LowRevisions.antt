@@ -44,10 +44,10 @@ low_more w ws old change low each =
 low_carried : (s : Setting) → IsCarried s AreLow
 low_carried s = record {
   none = no_version (IsLow 0);
-  user = λ h call reply legal right owes ok each.
-      low_more (newest s h call reply) (writes s h) (object_at (objects s h) (key_of_call (settled call reply))) (inl (users_keep s h call reply legal owes right ok))
+  user = λ h call reply o right owes ok each.
+      low_more (newest s h call reply) (writes s h) (object_at (objects s h) (key_of_call (settled call reply))) (inl (users_keep s h call reply o.legal owes right ok))
       (standing_has (IsLow (length (writes s h))) s h (key_of_call (settled call reply)) each) each;
-  pass = λ h call reply legal p each.
+  pass = λ h call reply o p each.
       low_more (newest s h call reply) (writes s h) (object_at (objects s h) (key_of_call (settled call reply))) p.write.revision
       (standing_has (IsLow (length (writes s h))) s h (key_of_call (settled call reply)) each) each;
 }

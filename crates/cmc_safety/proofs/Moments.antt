@@ -153,6 +153,9 @@ in_years at is =
     let high = le-true at (pos 250246627200) holds.1 in
     (omega (arith, ints, low), omega (arith, ints, high))
 
+pub moment_in_years : (s : Setting) (h : List Entry) → IsFormed s → Follows s h → IsCertificateTime (moment s h)
+moment_in_years s h formed follows = in_years (moment s h) (moment_in_run s h formed follows)
+
 -- the pass began then
 abbrev pub BeganInRun : OpenPass → Type 0
 BeganInRun p = is_run_time p.since ≡ true

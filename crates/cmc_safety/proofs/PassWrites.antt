@@ -14,7 +14,6 @@ use Rattle.cmc_objects.specs.declared.entry.Entry.{Entry}
 use Rattle.cmc_objects.specs.declared.entry.Entry.TheVariants.{Call as Called}
 use Rattle.cmc_pass.specs.declared.pass.Views.{Views}
 use Rattle.cmc_pass.specs.declared.value.Value.{Value}
-use Rattle.cmc_policies.specs.Renewal.{IsCertificateTime}
 use Rattle.cmc_model.specs.Replies.{IsReply, is_accepted, settled}
 use Rattle.cmc_model.specs.Histories.{Setting, state, objects}
 use Rattle.cmc_model.specs.Writes.{writes}
@@ -24,7 +23,7 @@ use Rattle.cmc_rules.specs.declared.progress.OpenPass.{OpenPass}
 use Rattle.cmc_rules.specs.declared.progress.Stage.{Stage}
 use Rattle.cmc_rules.specs.declared.progress.Stage.TheVariants.{Fresh, Asked, Given, Read, Saved, Wrote, Refused, Barred}
 use Rattle.cmc_rules.specs.Passes.{open_pass}
-use Rattle.cmc_rules.specs.Dates.{IsDated}
+use Rattle.cmc_rules.specs.Dates.{StaysDated}
 use Rattle.cmc_rules.specs.Legality.{IsLegal}
 use Rattle.cmc_rules.specs.Causes.{IsCaused}
 use Rattle.cmc_rules.specs.Raising.{KeepsRevision, RaisesRevision}
@@ -42,7 +41,7 @@ use Rattle.cmc_safety.proofs.Moments.{BeganInRun, began_in_run}
 -- for the Certificate that is seen
 pub record IsPassWrite (role : Role) (seen : Views) (since : ℤ) (old new : Option Object) : Type 0 where
   pub rights : MayChange role old new
-  pub dated : IsCertificateTime since → IsDated old → IsDated new
+  pub dated : StaysDated since old new
   pub revision : KeepsRevision old new ⊎ RaisesRevision old new
   pub made : WhereMade old new (IsOfCertificate seen)
 

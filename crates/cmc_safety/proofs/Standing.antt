@@ -17,6 +17,8 @@ use Rattle.cmc_safety.specs.Formed.{IsFormed}
 use Rattle.cmc_safety.specs.Standing.{IsWriting, IsInOrder}
 use Rattle.cmc_safety.proofs.Course.{AreSound, of_open}
 use Rattle.cmc_safety.proofs.InProgress.{HoldsWhileIssuing, IsInProgress, IsUnmoved, IsPlayed, in_progress}
+use Rattle.cmc_safety.proofs.Creations.{made_versions}
+use Rattle.cmc_safety.proofs.Dated.{dated_versions}
 use Rattle.cmc_safety.proofs.Forms.{formed_versions}
 use Rattle.cmc_safety.proofs.LowRevisions.{revisions_low}
 use Rattle.cmc_safety.proofs.Moments.{moment_in_run}
@@ -31,6 +33,7 @@ in_order sound s h formed legal caused follows =
     let o : IsPlayed s h = record { legal = legal; caused = caused; follows = follows } in record {
       forms = λ key object has. formed_versions sound s h formed o key object has;
       revisions = λ key object has. subst (λ (n : ℕ). unwrap_or (stated_revision object) 0 ≤ n) (writes_count s h) (revisions_low sound s h formed o key object has);
+      moments = λ key object has. record { created = made_versions sound s h formed o key object has; status = dated_versions sound s h formed o key object has };
       time = moment_in_run s h formed follows;
       in_progress = λ n p c opened writing sees.
           let going : IsInProgress (writes s h) p.role p.key p.seen = while_writing p.stage (IsInProgress (writes s h) p.role p.key p.seen) writing (of_open (IsUnmoved (writes s h)) (open_pass s h n) p opened (in_progress sound s h n o)) in

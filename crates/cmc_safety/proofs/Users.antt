@@ -1,6 +1,7 @@
 -- A user leaves what each object says of its revision.
-use Rattle.std.proofs.Common.{◌≡◌, ℕ, ℤ, ◌+◌, List, [], ◌∷◌, Option, Some, None, refl, ap, subst, ◌∙◌, true, option_and_then}
-use Rattle.std.specs.Prelude.{codes, option_map}
+use Rattle.std.proofs.Common.{◌≡◌, ℕ, ℤ, ◌+◌, List, [], ◌∷◌, Option, Some, None, Bool, refl, ap, subst, ◌∙◌, true, option_and_then}
+use Rattle.std.specs.Prelude.{codes, find, option_map}
+use Rattle.std.specs.FinMap as finite
 use Rattle.cmc_meta.specs.declared.key.Key.{Key}
 use Rattle.cmc_meta.specs.declared.conditions.Condition.{Condition}
 use Rattle.cmc_meta.specs.declared.conditions.ConditionKind.TheVariants.{Approved, Denied}
@@ -31,8 +32,10 @@ use Rattle.cmc_rules.specs.declared.effect.Effect.TheVariants as effects
 use Rattle.cmc_rules.specs.Legality.{IsLegal}
 use Rattle.cmc_rules.specs.Raising.{stated_revision, KeepsRevision}
 use Rattle.cmc_rules.specs.Scripting.{step_at}
-use Rattle.cmc_rules.specs.UserWrites.{request_for, verdict, judge_call, answer_call, manual_condition, renew_call, renewal_of}
+use Rattle.cmc_rules.specs.UserWrites.{as_request, is_object_for, request_for, verdict, judge_call, answer_call, manual_condition, renew_call, renewal_of}
 use Rattle.cmc_rules.specs.Following.{apply_call, call_of, call_or, effect_of, owed}
+use Rattle.cmc_rules.proofs.Sights.{found_among}
+use Rattle.cmc_rules.proofs.Sighted.{stands_among}
 use Rattle.cmc_rules.proofs.Versions.{stands_is_version, version_keyed}
 use Rattle.cmc_safety.proofs.LastVersions.{one_object}
 
@@ -70,6 +73,21 @@ stated-answered (Request a) r = refl
 stated-answered (Secret a) r = refl
 
 -- ---- what the script has a user call
+
+-- the request that a step speaks of stands
+as_is : (o : Object) (r : CertificateRequest) → as_request o ≡ Some r → o ≡ Request r
+as_is (Request q) r is = ap Request (cc is)
+as_is (Cert c) r is = absurd (cc is)
+as_is (Secret k) r is = absurd (cc is)
+
+found_stands : (m : Objects) (test : Key × Object → Bool) (x : Option (Key × Object)) (r : CertificateRequest) → find test (finite.entries m) ≡ x → option_and_then (λ (e : Key × Object). as_request e.1) x ≡ Some r
+    → (key : Key) × (object_at m key ≡ Some (Request r))
+found_stands m test None r at is = absurd (cc is)
+found_stands m test (Some e) r at is = (e.0, stands_among m e (found_among test (finite.entries m) e at) ∙ ap Some (as_is e.1 r is))
+
+pub request_stands : (m : Objects) (certificate : Key) (revision : ℕ) (r : CertificateRequest) → request_for m certificate revision ≡ Some r → (key : Key) × (object_at m key ≡ Some (Request r))
+request_stands m certificate revision r is =
+    found_stands m (λ e. is_object_for certificate revision e.1) (find (λ e. is_object_for certificate revision e.1) (finite.entries m)) r refl is
 
 -- a status that a user writes says of the revision what the one says that stands; other calls leave the status
 abbrev pub IsUsers : Objects → Call → Type 0

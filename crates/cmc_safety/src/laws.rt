@@ -39,8 +39,9 @@ pub fn undisturbed_issuing_completes()
 
 /// A law: where the table of each role is sound and the setting is one of a scenario, after every history that is legal, caused and
 /// follows its script, all that was stored is in order: each version of an object has the form in which objects are read, no revision
-/// is above the number of accepted writes, the moment is one whose time can be written, and from its live read to its status the
-/// revision of an issuance is the one that its pass saw.
+/// is above the number of accepted writes, each moment that a version says (when it was made, the last transition of each condition,
+/// the last failure, the two times of the certificate and that of its renewal) lies in the years 1950 to 9999, the moment is one whose
+/// time can be written, and from its live read to its status the revision of an issuance is the one that its pass saw.
 pub fn what_stands_is_in_order()
     ensures { ((role : Role) → IsSound role) → (s : Setting) (h : List Entry) → IsFormed s → IsLegal s h → IsCaused s h → Follows s h → IsInOrder s h }
 {}

@@ -1,5 +1,5 @@
 -- The record of laws of the readiness controller.
-use Rattle.std.proofs.Common.{◌≡◌, ℤ, Bool, true, false, List, Option, Some, None, refl, sym, ap, subst, ◌∙◌, int_le, arith, inl, inr}
+use Rattle.std.proofs.Common.{◌≡◌, ℤ, Bool, true, false, List, Option, Some, None, refl, sym, ap, subst, int_le, arith}
 use Rattle.std.proofs.lemmas.Int.{ints}
 use Rattle.std.specs.Prelude.{not, ◌&&◌, if◌then◌else◌, int_lt}
 use Rattle.cmc_meta.specs.declared.conditions.Condition.{Condition}
@@ -13,11 +13,13 @@ use Rattle.cmc_objects.specs.declared.secret.Secret.{Secret as SecretObject}
 use Rattle.cmc_objects.specs.declared.object.Object.TheVariants.{Cert}
 use Rattle.cmc_objects.specs.declared.role.Role.TheVariants.{Readiness}
 use Rattle.cmc_policies.specs.declared.facts.Reason.{Reason}
-use Rattle.cmc_policies.specs.declared.facts.Reason.TheVariants.{DoesNotExist, MissingData, InvalidKeyPair, SecretMismatch, RequestChanged, Expired}
+use Rattle.cmc_policies.specs.declared.facts.Reason.TheVariants.{DoesNotExist, MissingData, SecretMismatch, RequestChanged, Expired}
 use Rattle.cmc_policies.specs.declared.facts.Frame.{Frame}
 use Rattle.cmc_policies.specs.declared.renewal.Renew.{Renew}
 use Rattle.cmc_policies.specs.Reasons.{Known, first_of}
-use Rattle.cmc_match.specs.Facts.{is_paired, begins, ends, pair_at, known_for}
+use Rattle.cmc_policies.specs.Renewal.{IsCertificateTime}
+use Rattle.cmc_match.specs.Facts.{is_paired, begins, ends, pair_in, pair_at, known_for}
+use Rattle.cmc_match.proofs.PairLaws.{HasValidity, pair_found, pair_validity}
 use Rattle.cmc_pass.specs.declared.pass.Views.{Views}
 use Rattle.cmc_pass.specs.declared.pass.Desk.{Desk}
 use Rattle.cmc_pass.specs.declared.pass.Act.{Act}
@@ -25,7 +27,7 @@ use Rattle.cmc_pass.specs.declared.pass.Act.TheVariants.{Nothing}
 use Rattle.cmc_model.proofs.Admission.{certificate_status_passes}
 use Rattle.cmc_model.specs.Stored.{with_status, numbered}
 use Rattle.cmc_rules.specs.Rights.{other_conditions}
-use Rattle.cmc_rules.specs.Dates.{IsDatedOption}
+use Rattle.cmc_rules.specs.Dates.{IsDatedOption, IsDatedStatus}
 use Rattle.cmc_rules.specs.Chains.{readiness_chain, readiness_reason}
 use Rattle.cmc_rules.specs.Triggering.{frame_of}
 use Rattle.cmc_rules.specs.Readying.{ready_condition, ready_status, begins_at, ends_at, renews_at, is_moment, says, is_settled, ready_call, ready_by, ready_of, readiness}
@@ -34,17 +36,13 @@ use Rattle.cmc_rules.specs.Sighting.{OnSeen}
 use Rattle.cmc_rules.specs.Sound.{IsWithin, IsExpiry, shown, IsSound}
 use Rattle.cmc_rules.proofs.Sights.{seen_certificate}
 use Rattle.cmc_rules.proofs.Conditions.{others-transitioned}
+use Rattle.cmc_rules.proofs.Dating.{dated_transitioned, dated_renewal}
 use Rattle.cmc_rules.proofs.Lines.{by_test}
 
 -- ---- the call
 
 abbrev Is : Views → ℤ → Act → Type 0
 Is seen now a = IsWithin Readiness (call_after Readiness seen now) seen now a
-
-ready_kind : (moment : ℤ) (reason : Option Reason) → (ready_condition moment reason).kind ≡ Ready
-unfolding ready_condition
-ready_kind moment None = refl
-ready_kind moment (Some reason) = refl
 
 others : (condition : Condition) (renew : Renew) (pair : Option CertificateFields) (status : CertStatus) → condition.kind ≡ Ready
     → other_conditions Ready (ready_status condition renew pair status).conditions ≡ other_conditions Ready status.conditions
@@ -62,33 +60,75 @@ rest : (condition : Condition) (renew : Renew) (pair : Option CertificateFields)
 unfolding ready_status
 rest condition renew pair status = refl
 
-kept : (condition : Condition) (renew : Renew) (pair : Option CertificateFields) (status : CertStatus) → IsDatedOption status.last_failure → IsDatedOption (ready_status condition renew pair status).last_failure
+-- the certificate of a pair has a validity, so its renewal lies between its two times
+abbrev HasTimes : Option CertificateFields → Type 0
+HasTimes None = Unit {0}
+HasTimes (Some fields) = HasValidity fields.not_before fields.not_after
+
+pair_times : (secret : SecretObject) (pair : Option CertificateFields) → pair_in secret ≡ pair → HasTimes pair
+pair_times secret None is = tt
+pair_times secret (Some fields) is = pair_validity secret fields (pair_found secret fields is)
+
+times_at : (secret : Option SecretObject) → HasTimes (pair_at secret)
+times_at None = tt
+times_at (Some secret) = pair_times secret (pair_in secret) refl
+
+dated_begins : (pair : Option CertificateFields) → HasTimes pair → IsDatedOption (begins_at pair)
+dated_begins None times = tt
+dated_begins (Some fields) times = times.begins
+
+dated_ends : (pair : Option CertificateFields) → HasTimes pair → IsDatedOption (ends_at pair)
+dated_ends None times = tt
+dated_ends (Some fields) times = times.ends
+
+dated_renews : (renew : Renew) (pair : Option CertificateFields) → HasTimes pair → IsDatedOption (renews_at renew pair)
+dated_renews renew None times = tt
+dated_renews renew (Some fields) times = dated_renewal fields.not_before fields.not_after renew times.begins times.ends times.ordered
+
+dated_ready : (condition : Condition) (renew : Renew) (pair : Option CertificateFields) (status : CertStatus) → HasTimes pair → IsCertificateTime condition.since → IsDatedStatus status
+    → IsDatedStatus (ready_status condition renew pair status)
 unfolding ready_status
-kept condition renew pair status dated = dated
+dated_ready condition renew pair status times timed dated = record {
+  conditions = dated_transitioned status.conditions condition dated.conditions timed;
+  last_failure = dated.last_failure;
+  not_before = dated_begins pair times;
+  not_after = dated_ends pair times;
+  renewal = dated_renews renew pair times;
+}
 
 same : (condition : Condition) (renew : Renew) (pair : Option CertificateFields) (status : CertStatus) → (ready_status condition renew pair status).revision ≡ status.revision
 unfolding ready_status
 same condition renew pair status = refl
 
-call_is : (seen : Views) (now : ℤ) (condition : Condition) (renew : Renew) (pair : Option CertificateFields) (c : Certificate) → condition.kind ≡ Ready → seen.certificate ≡ Some c
+-- the condition is of the kind Ready, and its moment is now
+record IsReadyAt (now : ℤ) (condition : Condition) : Type 0 where
+  pub kind : condition.kind ≡ Ready
+  pub since : condition.since ≡ now
+
+ready_at : (moment : ℤ) (reason : Option Reason) → IsReadyAt moment (ready_condition moment reason)
+unfolding ready_condition
+ready_at moment None = record { kind = refl; since = refl }
+ready_at moment (Some reason) = record { kind = refl; since = refl }
+
+call_is : (seen : Views) (now : ℤ) (condition : Condition) (renew : Renew) (pair : Option CertificateFields) (c : Certificate) → IsReadyAt now condition → HasTimes pair → seen.certificate ≡ Some c
     → Is seen now (ready_call condition renew pair c)
 unfolding ready_call OnSeen numbered with_status
-call_is seen now condition renew pair c is sees = record {
+call_is seen now condition renew pair c is times sees = record {
   old = Cert c;
   sees = seen_certificate seen c sees;
   key = refl;
   version = refl;
-  changes = λ next. record { rights = (refl, refl, record { rest = rest condition renew pair c.status; others = others condition renew pair c.status is }); dated = λ timed dated. kept condition renew pair c.status dated; revision = same condition renew pair c.status; no_secret = λ written issuing is. absurd (cc issuing); no_approval = λ o n approver b a x y. absurd (cc approver); no_request = λ made before after. absurd (cc before) };
+  changes = λ next. record { rights = (refl, refl, record { rest = rest condition renew pair c.status; others = others condition renew pair c.status is.kind }); dated = λ timed dated. dated_ready condition renew pair c.status times (subst IsCertificateTime (sym is.since) timed) dated; revision = same condition renew pair c.status; no_secret = λ written issuing is. absurd (cc issuing); no_approval = λ o n approver b a x y. absurd (cc approver); no_request = λ made before after. absurd (cc before) };
   passes = λ taken. certificate_status_passes (Some (Cert c)) _ taken;
 }
 
-by_is : (seen : Views) (now : ℤ) (condition : Condition) (renew : Renew) (pair : Option CertificateFields) (c : Certificate) → condition.kind ≡ Ready → seen.certificate ≡ Some c
+by_is : (seen : Views) (now : ℤ) (condition : Condition) (renew : Renew) (pair : Option CertificateFields) (c : Certificate) → IsReadyAt now condition → HasTimes pair → seen.certificate ≡ Some c
     → Is seen now (ready_by condition renew pair c)
-by_is seen now condition renew pair c is sees = by_test (Is seen now) (is_settled condition renew pair c.status) _ _ (λ on. tt) (λ off. call_is seen now condition renew pair c is sees)
+by_is seen now condition renew pair c is times sees = by_test (Is seen now) (is_settled condition renew pair c.status) _ _ (λ on. tt) (λ off. call_is seen now condition renew pair c is times sees)
 
 of_is : (seen : Views) (now : ℤ) (o : Option Certificate) → seen.certificate ≡ o → Is seen now (ready_of now seen.secret seen.requests o)
 of_is seen now None sees = tt
-of_is seen now (Some c) sees = by_is seen now _ _ _ c (ready_kind now (readiness_reason (frame_of now c) c seen.secret seen.requests)) sees
+of_is seen now (Some c) sees = by_is seen now _ _ _ c (ready_at now (readiness_reason (frame_of now c) c seen.secret seen.requests)) (times_at seen.secret) sees
 
 within : (seen : Views) (now : ℤ) (desk : Desk) → Is seen now (readiness seen now)
 unfolding readiness

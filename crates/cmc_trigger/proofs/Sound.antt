@@ -16,7 +16,7 @@ use Rattle.cmc_policies.specs.declared.facts.Reason.TheVariants.{DoesNotExist, M
 use Rattle.cmc_policies.specs.declared.facts.Frame.{Frame}
 use Rattle.cmc_policies.specs.declared.renewal.Renew.{Renew}
 use Rattle.cmc_policies.specs.Reasons.{Known, first_of}
-use Rattle.cmc_policies.specs.Renewal.{backoff, renewal}
+use Rattle.cmc_policies.specs.Renewal.{IsCertificateTime, backoff, renewal}
 use Rattle.cmc_match.specs.Facts.{is_paired, begins, ends, pair_at}
 use Rattle.cmc_pass.specs.declared.pass.Views.{Views}
 use Rattle.cmc_pass.specs.declared.pass.Desk.{Desk}
@@ -25,6 +25,7 @@ use Rattle.cmc_pass.specs.declared.pass.Act.TheVariants.{Nothing}
 use Rattle.cmc_model.proofs.Admission.{certificate_status_passes}
 use Rattle.cmc_rules.specs.Rights.{other_conditions}
 use Rattle.cmc_model.specs.Stored.{with_status, numbered}
+use Rattle.cmc_rules.specs.Dates.{IsDatedStatus}
 use Rattle.cmc_rules.specs.Chains.{trigger_chain, trigger_reason}
 use Rattle.cmc_rules.specs.Triggering.{trigger, for_option, for_certificate, for_reason, frame_of, is_issuing, is_backing_off, is_held_back, is_waiting_since, issuing_condition, issuing_status, with_issuing, issue_call}
 use Rattle.cmc_rules.specs.Acts.{act, call_after}
@@ -32,6 +33,7 @@ use Rattle.cmc_rules.specs.Sighting.{OnSeen}
 use Rattle.cmc_rules.specs.Sound.{IsWithin, IsEndOfBackoff, IsRenewal, IsTriggerMoment, shown, IsSound}
 use Rattle.cmc_rules.proofs.Sights.{seen_certificate}
 use Rattle.cmc_rules.proofs.Conditions.{others-transitioned}
+use Rattle.cmc_rules.proofs.Dating.{dated_transitioned}
 use Rattle.cmc_rules.proofs.Lines.{by_test}
 
 -- ---- the call
@@ -47,6 +49,16 @@ kept : (moment : ℤ) (reason : Reason) (status : CertStatus) → (issuing_statu
 unfolding issuing_status
 kept moment reason status = refl
 
+dated_issuing : (moment : ℤ) (reason : Reason) (status : CertStatus) → IsCertificateTime moment → IsDatedStatus status → IsDatedStatus (issuing_status moment reason status)
+unfolding issuing_status issuing_condition
+dated_issuing moment reason status timed dated = record {
+  conditions = dated_transitioned status.conditions (issuing_condition moment reason) dated.conditions timed;
+  last_failure = dated.last_failure;
+  not_before = dated.not_before;
+  not_after = dated.not_after;
+  renewal = dated.renewal;
+}
+
 issue_is : (seen : Views) (now : ℤ) (reason : Reason) (c : Certificate) → seen.certificate ≡ Some c → Is seen now (issue_call now reason c)
 unfolding issue_call with_issuing issuing_status issuing_condition OnSeen numbered with_status
 issue_is seen now reason c sees = record {
@@ -54,7 +66,7 @@ issue_is seen now reason c sees = record {
   sees = seen_certificate seen c sees;
   key = refl;
   version = refl;
-  changes = λ next. record { rights = (refl, refl, record { rest = refl; others = others now reason c.status }); dated = λ timed dated. dated; revision = kept now reason c.status; no_secret = λ written issuing is. absurd (cc issuing); no_approval = λ o n approver b a x y. absurd (cc approver); no_request = λ made before after. absurd (cc before) };
+  changes = λ next. record { rights = (refl, refl, record { rest = refl; others = others now reason c.status }); dated = λ timed dated. dated_issuing now reason c.status timed dated; revision = kept now reason c.status; no_secret = λ written issuing is. absurd (cc issuing); no_approval = λ o n approver b a x y. absurd (cc approver); no_request = λ made before after. absurd (cc before) };
   passes = λ taken. certificate_status_passes (Some (Cert c)) _ taken;
 }
 
