@@ -11,4 +11,3 @@ mod Only
 mod OnlySpecs
 mod OnlyObjects
 mod OwnersHaveUids
-pub mod ReadForms

@@ -40,10 +40,6 @@ kept : (b : Bool) (t : List ℕ) → Only t (if b then Ok t else Err [])
 kept true t = so refl
 kept false t = failed []
 
-dropped : (b : Bool) (t : List ℕ) → Only t (if b then Err [] else Ok t)
-dropped true t = failed []
-dropped false t = so refl
-
 small : (b : Bool) (n : ℕ) → Only n (if b then Ok n else Err [])
 small true n = so refl
 small false n = failed []
@@ -55,7 +51,7 @@ pub name_only : (t : List ℕ) → Only t (name_at (string t))
 name_only t = kept _ t
 
 pub plain_text_only : (t : List ℕ) → Only t (plain_text_at (string t))
-plain_text_only t = dropped _ t
+plain_text_only t = kept _ t
 
 worded_only : (wording : Wording) (t : List ℕ) → Only t (worded_at wording (string t))
 worded_only Any t = so refl

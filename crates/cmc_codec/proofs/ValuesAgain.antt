@@ -1,5 +1,5 @@
 -- What is read of a value is printed as a value that is read again.
-use Rattle.std.proofs.Common.{◌≡◌, ℕ, ◌+◌, ◌≤◌, List, [], ◌∷◌, Bool, true, false, Option, Some, None, Ok, Err, refl, ap, subst, map, inl, inr, arith}
+use Rattle.std.proofs.Common.{◌≡◌, ℕ, ◌+◌, ◌≤◌, List, [], ◌∷◌, Bool, true, false, Option, Some, None, Ok, Err, refl, map, inl, inr, arith}
 use Rattle.std.specs.Prelude.{decimal, if◌then◌else◌, IfSome}
 use Rattle.serde_json.specs.Data.{Data, null, boolean, number, string, array, object, Items, no_items, item}
 use Rattle.serde_json.specs.View.{items_of}
@@ -22,10 +22,6 @@ kept : (P : List ℕ → Type 0) (b : Bool) (t : List ℕ) → (b ≡ true → P
 kept P true t each = so (each refl)
 kept P false t each = failed []
 
-dropped : (P : List ℕ → Type 0) (b : Bool) (t : List ℕ) → (b ≡ false → P t) → Always P (if b then Err [] else Ok t)
-dropped P true t each = failed []
-dropped P false t each = so (each refl)
-
 pub short_text_again : (n : ℕ) (d : Data) → Always (λ t. short_text_at n (string t) ≡ Ok t) (short_text_at n d)
 short_text_again n d = next _ (text_at d) _ (λ t. kept _ _ t (λ h. rw h refl))
 
@@ -33,7 +29,7 @@ pub name_again : (d : Data) → Always (λ t. name_at (string t) ≡ Ok t) (name
 name_again d = next _ (text_at d) _ (λ t. kept _ _ t (λ h. rw h refl))
 
 pub plain_text_again : (d : Data) → Always (λ t. plain_text_at (string t) ≡ Ok t) (plain_text_at d)
-plain_text_again d = next _ (text_at d) _ (λ t. dropped _ _ t (λ h. rw h refl))
+plain_text_again d = next _ (text_at d) _ (λ t. kept _ _ t (λ h. rw h refl))
 
 text_again : (d : Data) → Always (λ t. text_at (string t) ≡ Ok t) (text_at d)
 text_again d = record { each = λ t e. refl }

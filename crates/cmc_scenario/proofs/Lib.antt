@@ -1,4 +1,5 @@
 pub mod OneMore
+pub mod ReadForms
 pub mod StepForms
 pub mod SetupForms
 mod LoadLaws

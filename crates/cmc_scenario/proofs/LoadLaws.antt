@@ -1,4 +1,4 @@
--- The names of generated Certificates are names, and their scenario is one.
+-- The names of generated Certificates are names, their hosts are printable, and their scenario is one.
 use Rattle.std.proofs.Common.{◌≡◌, ℕ, zero, suc, ◌+◌, ◌<◌, ◌≤◌, ◌==◌, ◌&&◌, Bool, true, false, List, [], ◌∷◌, ◌++◌, length, refl, sym, ap, ◌∙◌, subst, arith, append_assoc}
 use Rattle.std.specs.Prelude.{nat_le, pos, ◌+ℤ◌, ◌≤ℤ◌, All, ◌/◌, ◌%◌}
 use Rattle.std.specs.List.{list_all}
@@ -7,13 +7,15 @@ use Rattle.std.proofs.lemmas.Bool.Decides.{nat_tests}
 use Rattle.std.proofs.lemmas.List.{append-nil, length-append}
 use Rattle.std.proofs.lemmas.List.Sums.{sum_by-cons}
 use Rattle.cmc_meta.specs.Names.{is_alphanumeric, is_label_byte, is_label, labels_from, has_labels, is_subdomain}
+use Rattle.cmc_meta.specs.Wordings.{is_printable, is_printable_name, is_plain}
 use Rattle.cmc_objects.specs.declared.entry.Step.{Step}
 use Rattle.cmc_objects.specs.declared.entry.Step.TheVariants.{Settle, Tick}
 use Rattle.cmc_setup.specs.Forms.{is_step_form}
 use Rattle.cmc_setup.specs.Holds.{AreHeldInTurn, none_held}
 use Rattle.cmc_setup.specs.Setups.{IsSetup, IsTickForm, IsOrderlyFrom, ticked, seconds_of}
 use Rattle.cmc_scenario.specs.Roles.{all_roles}
-use Rattle.cmc_scenario.specs.Loads.{load_name, load_secret, load_setup, load_step, loads, rests}
+use Rattle.cmc_scenario.specs.Loads.{load_name, load_secret, load_host, load_setup, load_step, loads, rests}
+use Rattle.cmc_scenario.proofs.ReadForms.{empty_is_plain}
 
 -- ---- names
 
@@ -68,12 +70,28 @@ name_is_name n below = label_of (n / 100 / 10) (n / 100 % 10) (n % 100 / 10) (n 
 pub secret_is_name : (n : ℕ) → n < 10000 → is_subdomain (load_secret n) ≡ true
 secret_is_name n below = secret_label_of (n / 100 / 10) (n / 100 % 10) (n % 100 / 10) (n % 100 % 10) (omega arith) (omega arith) (omega arith) (omega arith)
 
+-- ---- what is applied
+
+printable_digit : (n : ℕ) → n < 10 → is_printable (48 + n) ≡ true
+printable_digit n below = grind (arith, nat_tests)
+
+-- `c`, four digits and `.example`
+host_of : (a b c d : ℕ) → a < 10 → b < 10 → c < 10 → d < 10 → is_printable_name (99 ∷ (48 + a) ∷ (48 + b) ∷ (48 + c) ∷ (48 + d) ∷ 46 ∷ 101 ∷ 120 ∷ 97 ∷ 109 ∷ 112 ∷ 108 ∷ 101 ∷ []) ≡ true
+host_of a b c d ha hb hc hd = rw (printable_digit a ha, printable_digit b hb, printable_digit c hc, printable_digit d hd) refl
+
+host_is_printable : (n : ℕ) → n < 10000 → is_printable_name (load_host n) ≡ true
+host_is_printable n below = host_of (n / 100 / 10) (n / 100 % 10) (n % 100 / 10) (n % 100 % 10) (omega arith) (omega arith) (omega arith) (omega arith)
+
+-- but for its host, a generated Certificate has the form by computation
+load_form : (i : ℕ) → i < 10000 → is_step_form (load_step i) ≡ true
+load_form i below = both (is_plain []) _ empty_is_plain (both (list_all is_printable_name (load_host i ∷ [])) true (both (is_printable_name (load_host i)) true (host_is_printable i below) refl) refl)
+
 -- ---- the script
 
 -- what is so of the end is so with the applies in front of it, where each apply keeps it
-for_loads : (P : List Step → Type 0) → ((i : ℕ) (rest : List Step) → P rest → P (load_step i ∷ rest)) → (n : ℕ) (rest : List Step) → P rest → P (loads n ++ rest)
-for_loads P more zero rest is = is
-for_loads P more (suc n) rest is = subst P (sym (append_assoc (loads n) (load_step (n + 1) ∷ []) rest)) (for_loads P more n (load_step (n + 1) ∷ rest) (more (n + 1) rest is))
+for_loads : (P : List Step → Type 0) (n : ℕ) → ((i : ℕ) → i ≤ n → (rest : List Step) → P rest → P (load_step i ∷ rest)) → (rest : List Step) → P rest → P (loads n ++ rest)
+for_loads P zero more rest is = is
+for_loads P (suc n) more rest is = subst P (sym (append_assoc (loads n) (load_step (n + 1) ∷ []) rest)) (for_loads P n (λ i within. more i (omega (arith, within))) (load_step (n + 1) ∷ rest) (more (n + 1) (omega arith) rest is))
 
 still : (i : ℕ) → IsTickForm (load_step i)
 still i = record { least = λ t. absurd (cc); most = omega arith }
@@ -111,14 +129,14 @@ is_setup count some few = record {
   some_window = omega arith;
   most_window = omega arith;
   begins = le_z_yes tt;
-  ends = subst (λ n. (pos 1893456000 +ℤ pos n) ≤ℤ pos 250246627200) (sym (for_loads (λ steps. ticked steps ≡ 5184000) apply_ticks count rests refl)) (le_z_yes tt);
+  ends = subst (λ n. (pos 1893456000 +ℤ pos n) ≤ℤ pos 250246627200) (sym (for_loads (λ steps. ticked steps ≡ 5184000) count (λ i within. apply_ticks i) rests refl)) (le_z_yes tt);
   short = omega (arith, length-append (loads count) rests, length_loads count);
-  ticks = for_loads (All IsTickForm) (λ i rest is. more_ticks (load_step i) rest (still i) is) count rests rest_ticks;
+  ticks = for_loads (All IsTickForm) count (λ i within rest is. more_ticks (load_step i) rest (still i) is) rests rest_ticks;
   faults = tt;
   roles = (omega arith, (omega arith, (omega arith, (omega arith, (omega arith, (omega arith, (omega arith, (omega arith, tt))))))));
-  orderly = for_loads (IsOrderlyFrom all_roles) (λ i rest is. (tt, is)) count rests (tt, (tt, (tt, tt)));
-  held = for_loads (AreHeldInTurn none_held) (λ i rest is. (refl, is)) count rests (refl, (refl, (refl, tt)));
+  orderly = for_loads (IsOrderlyFrom all_roles) count (λ i within rest is. (tt, is)) rests (tt, (tt, (tt, tt)));
+  held = for_loads (AreHeldInTurn none_held) count (λ i within rest is. (refl, is)) rests (refl, (refl, (refl, tt)));
   approver = refl;
   material = refl;
-  steps = for_loads (λ steps. list_all is_step_form steps ≡ true) (λ i rest is. is) count rests refl;
+  steps = for_loads (λ steps. list_all is_step_form steps ≡ true) count (λ i within rest is. both (is_step_form (load_step i)) (list_all is_step_form rest) (load_form i (omega (arith, within, few))) is) rests refl;
 }

@@ -11,7 +11,7 @@ use Rattle.cmc_objects.specs.Requests.{is_row_form}
 use Rattle.cmc_setup.specs.Forms.{is_certificate, is_said, is_step_form}
 use Rattle.cmc_setup.specs.Setups.{IsTickForm, is_tick, seconds_of}
 use Rattle.cmc_cursor.specs.Reading.{under, Field, fields_at, optional_at, required_at, at_end}
-use Rattle.cmc_cursor.specs.Readers.{count_at, word_at}
+use Rattle.cmc_cursor.specs.Readers.{count_at}
 use Rattle.cmc_codec.specs.ObjectForm.{applied_at as object_form_at}
 use Rattle.cmc_scenario.specs.Applied.{passes, applied_at, text_member}
 use Rattle.cmc_material.specs.Keys.{key_at}
@@ -19,7 +19,7 @@ use Rattle.cmc_material.specs.Lists.{member_option, bounded_at}
 use Rattle.cmc_scenario.specs.Roles.{role_at}
 use Rattle.cmc_material.specs.MaterialRows.{certificate_at, reply_row_at}
 use Rattle.cmc_scenario.specs.Scripts.{apply_in, delete_in, certificate_in, revision_in, approve_in, deny_in, answer_in, renew_in, tick_in, stop_in, start_in, informer_in, hold_in, release_in, until_in, settle_in, stray_in, waiting_in, running_in, step_in, step_at}
-use Rattle.cmc_codec.proofs.ReadForms.{IsApplied, of_applied as of_object}
+use Rattle.cmc_scenario.proofs.ReadForms.{IsApplied, of_applied as of_object}
 use Rattle.cmc_cursor.proofs.Always.{Always, so, failed, next, after, below, either}
 use Rattle.cmc_material.proofs.ListForms.{both, of_bounded}
 use Rattle.cmc_material.proofs.RowForms.{IsCertificate, IsSaid, of_certificate_text, of_reply_row}
