@@ -6,6 +6,8 @@
 #[cfg(test)]
 mod admission;
 #[cfg(test)]
+mod applied_forms;
+#[cfg(test)]
 mod checks;
 #[cfg(test)]
 mod codec;
