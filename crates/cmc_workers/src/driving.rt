@@ -13,7 +13,7 @@ use std::alloc::{AllocError, Global};
 use std::sync::Wait;
 use std::thread::Threads;
 
-/// Whether no more than a quarter of the history is full. The plain order takes up to some three times the entries that
+/// Whether no more than a quarter of the history is full. The plain order takes up to four times the entries that
 /// threads do, so with less room than this it may need more than there is.
 fn is_roomy(world: &World) -> bool
     ensures { result ≡ nat_le (length world.now.history) (world.now.scenario.events / 4) }

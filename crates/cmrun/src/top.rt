@@ -84,7 +84,7 @@ fn lines_of(
 }
 
 /// Leaves the value to the system, which takes all memory back at once when the program ends, soon after this. To let go of
-/// a world and of a tree of JSON piece by piece would be a sixth of the work of a run.
+/// a world and of a tree of JSON piece by piece would be up to a seventh of the work of a run.
 fn leave<T: Drop>(value: T) {
     mem::forget(value);
 }
