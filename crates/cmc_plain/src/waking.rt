@@ -244,9 +244,26 @@ fn forget_all(alloc: Global, idle: &mut Ready) -> Result<(), AllocError>
     Ok(())
 }
 
-/// Makes those keys ready that the move may wake, and has the key of a begin looked at. What is known of idle keys is known
-/// no more where the move may give the role something to do: at each step of the script, and on keys of which a role that
-/// is told of something may see something new.
+/// Has the key looked at after a begin, where it is known that the role has nothing to do there: then it is quiet. A key
+/// with something to do stays ready whatever a look would find, and to find it takes the role's act.
+fn look_where_idle(
+    looks: &mut Vec<Look>,
+    idle: &Ready,
+    role: Role,
+    key: &Key,
+) -> Result<(), AllocError> {
+    if idle.keys(role).contains(key) {
+        looks.push(Look {
+            role,
+            key: key.copy()?,
+        })?;
+    }
+    Ok(())
+}
+
+/// Makes those keys ready that the move may wake, and has the key of a begin looked at, where nothing is to be done there.
+/// What is known of idle keys is known no more where the move may give the role something to do: at each step of the
+/// script, and on keys of which a role that is told of something may see something new.
 fn wake_for(
     alloc: Global,
     world: &World,
@@ -269,13 +286,7 @@ fn wake_for(
         Move::Deliver { role, kind, to: _ } => {
             wake_told(alloc, world, ready, looks, idle, *role, *kind)
         }
-        Move::Begin { role, key } => {
-            looks.push(Look {
-                role: *role,
-                key: key.copy()?,
-            })?;
-            Ok(())
-        }
+        Move::Begin { role, key } => look_where_idle(looks, idle, *role, key),
         Move::Next { .. } | Move::Give { .. } | Move::Decide { .. } => Ok(()),
     }
 }
