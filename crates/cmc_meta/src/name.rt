@@ -139,6 +139,7 @@ impl Name {
         ensures read { IfOk result (λ n. n ≡ text.now) }
         ensures form { IfOk result (λ _. is_subdomain text.now ≡ true) }
         ensures refused { IsErrOf result BadName.NotSubdomain → is_subdomain text.now ≡ false }
+        ensures told { is_subdomain text.now ≡ false → IsErrOf result BadName.NotSubdomain }
     {
         if text.len() > 253 || !all_labels(text.as_bytes()) {
             return Err(BadName::NotSubdomain);
