@@ -8,7 +8,7 @@ ghost use Rattle.cmc_cursor.specs.Reading.{Gives};
 ghost use Rattle.cmc_cursor.specs.Readers.{flag_at, found, text_at};
 ghost use Rattle.cmc_cursor.specs.Seen.{shown, shown_option};
 ghost use Rattle.cmc_material.specs.Lists.{items_from, member_option, member_or, numbered_below};
-ghost use Rattle.cmc_material.specs.Approvers.{address_in, address_pattern_at, addresses_at, duration_at, every_issuer, is_rsa_at, limits_in, named_in, pattern_at, patterns_at, policy_at, policy_of, policies_at};
+ghost use Rattle.cmc_material.specs.Approvers.{address_in, address_pattern_at, addresses_at, duration_at, every_issuer, is_rsa_at, is_rsa_in, limits_in, named_in, pattern_at, patterns_at, policy_at, policy_of, policies_at};
 
 use crate::optional::small_count_option;
 use cmc_cursor::{BadField, Fields, at, check_end, fields, flag, optional, required};
@@ -208,13 +208,23 @@ fn usages_or_none(alloc: Global, value: Option<&Value>) -> Result<Patterns, BadF
     }
 }
 
+/// Whether it is RSA that has this name.
+fn names_rsa(alloc: Global, text: &str) -> Result<bool, BadField>
+    ensures { Gives (λ t. t) result (is_rsa_in text.now) }
+{
+    match text {
+        "RSA" => Ok(true),
+        "ECDSA" => Ok(false),
+        _ => Err(BadField::Path(Text::new(alloc))),
+    }
+}
+
 fn is_rsa(alloc: Global, value: &Value) -> Result<bool, BadField>
     ensures { Gives (λ t. t) result (is_rsa_at (view value.now)) }
 {
     match value.as_str() {
-        Some("RSA") => Ok(true),
-        Some("ECDSA") => Ok(false),
-        _ => Err(BadField::Path(Text::new(alloc))),
+        Some(text) => names_rsa(alloc, text),
+        None => Err(BadField::Path(Text::new(alloc))),
     }
 }
 

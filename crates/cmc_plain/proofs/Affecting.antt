@@ -6,7 +6,6 @@ use Rattle.std.specs.Prelude.{◌&&◌, ◌||◌, not, if◌then◌else◌, reve
 use Rattle.std.specs.BTreeMap.{is_at}
 use Rattle.std.specs.BTreeSet.{BTreeSet}
 use Rattle.std.specs.Ordering.{is_eq}
-use Rattle.std.specs.declared.cmp.Ordering.{Ordering}
 use Rattle.cmc_meta.specs.declared.key.Key.{Key}
 use Rattle.cmc_meta.specs.declared.key.Kind.{Kind}
 use Rattle.cmc_meta.specs.declared.key.Kind.TheVariants as kinds
@@ -29,11 +28,10 @@ use Rattle.cmc_caches.specs.Told.{caches_at, with_cached}
 use Rattle.cmc_caches.proofs.Births.{legal_uids}
 use Rattle.cmc_caches.proofs.Shown.{views-told}
 use Rattle.cmc_world.proofs.Caching.{told_at, told_low}
-use Rattle.cmc_world.proofs.Rest.{key_eq-Decides}
 use Rattle.cmc_world.proofs.OneKind.{last_low, of_kind-oldest}
-use Rattle.cmc_plain.specs.Ready.{is_ready, Keeps, SeesSame, StaysTold, WakesTold}
-use Rattle.cmc_plain.proofs.Keys.{tied_is_same}
-use Rattle.cmc_plain.proofs.Quiet.{role_itself}
+use Rattle.cmc_plain.specs.Ready.{is_ready, Keeps, SeesSame, StaysTold, WakesTold, IsOfEach}
+use Rattle.cmc_plain.proofs.Keys.{tied_is_same, turned_test}
+use Rattle.cmc_plain.proofs.Lasting.{role_itself}
 
 -- the first so many of the writes of the kind
 abbrev left : Kind → ℕ → List Write → Objects
@@ -89,20 +87,21 @@ sees_same s h role kind seen upto items ws keys informed sees count turned is sa
 
 -- ---- these keys are made ready
 
+-- one key more of which it is so
+pub each_more : (P : Key → Type 0) (keys more : List Key) (key : Key) → more ≡ keys ++ key ∷ [] → P key → IsOfEach P keys → IsOfEach P more
+each_more P keys more key is here each k on =
+    by (is_among keys k) (is_eq (key_cmp k key)) refl refl (sym (list_any-append (is_at (key_cmp k)) keys (key ∷ [])) ∙ ap (λ (l : List Key). is_among l k) (sym is) ∙ on) where
+      by : (a b : Bool) → is_among keys k ≡ a → is_eq (key_cmp k key) ≡ b → (a || (b || false)) ≡ true → P k
+      by true b before same some = each k before
+      by false true before same some = subst P (sym (tied_is_same k key same)) here
+      by false false before same some = absurd (cc some)
+
 -- each of the keys is ready
 abbrev pub AreReady : Role → List Key → List (BTreeSet Key) → Type 0
-AreReady role keys rows = (k : Key) → is_among keys k ≡ true → is_ready rows role k ≡ true
-
-this_or : (b : Bool) (role : Role) (k key : Key) (rows : List (BTreeSet Key)) (before : Bool) → is_eq (key_cmp k key) ≡ b → is_ready rows role key ≡ true → (before ≡ true → is_ready rows role k ≡ true)
-    → (before || (b || false)) ≡ true → is_ready rows role k ≡ true
-this_or true role k key rows before is here below on = subst (λ (q : Key). is_ready rows role q ≡ true) (sym (tied_is_same k key is)) here
-this_or false role k key rows true is here below on = below refl
-this_or false role k key rows false is here below on = absurd (cc on)
+AreReady role keys rows = IsOfEach (λ k. is_ready rows role k ≡ true) keys
 
 pub keys_more : (role : Role) (keys more : List Key) (key : Key) (old new : List (BTreeSet Key)) → more ≡ keys ++ key ∷ [] → Keeps old new → is_ready new role key ≡ true → AreReady role keys old → AreReady role more new
-keys_more role keys more key old new is keeps here before k on =
-    this_or (is_eq (key_cmp k key)) role k key new (is_among keys k) refl here (λ some. keeps role k (before k some))
-    (sym (list_any-append (is_at (key_cmp k)) keys (key ∷ [])) ∙ ap (λ (l : List Key). is_among l k) (sym is) ∙ on)
+keys_more role keys more key old new is keeps here before = each_more (λ k. is_ready new role k ≡ true) keys more key is here (λ k some. keeps role k (before k some))
 
 unready : (b : Bool) (role : Role) (keys : List Key) (rows : List (BTreeSet Key)) (k : Key) → is_among keys k ≡ b → AreReady role keys rows → is_ready rows role k ≡ false → is_among keys k ≡ false
 unready true role keys rows k is ready off = let on = ready k is in absurd (cc (on, off))
@@ -127,23 +126,39 @@ told_stays s h role kind keys rows same others to low = record {
   listed = λ key on. same key (others key on) (accepted s h) (let high = last_low kind (writes s h) in let all = writes_count s h in omega (arith, high, all));
 }
 
--- of one more key it is known no more
-pub keys_fewer : (role : Role) (keys more : List Key) (key : Key) (old new : List (BTreeSet Key)) → more ≡ keys ++ key ∷ [] → ((k : Key) → is_ready new role k ≡ (not (role_eq role role && key_eq key k) && is_ready old role k))
-    → ((k : Key) → is_ready old role k ≡ true → is_among keys k ≡ false) → (k : Key) → is_ready new role k ≡ true → is_among more k ≡ false
-keys_fewer role keys more key old new is each before k on =
-    let parts = and_parts (not (role_eq role role && key_eq key k)) (is_ready old role k) (sym (each k) ∙ on) in
-    ap (λ (l : List Key). is_among l k) is ∙ list_any-append (is_at (key_cmp k)) keys (key ∷ [])
-    ∙ none_of (is_among keys k) (key_cmp k key) (before k parts.1) (apart (is_eq (key_cmp k key)) role key k refl parts.0) where
-      none_of : (b : Bool) (o : Ordering) → b ≡ false → is_eq o ≡ false → (b || (is_eq o || false)) ≡ false
-      none_of true o off away = absurd (cc off)
-      none_of false o off away = ap (λ (x : Bool). x || false) away
+-- ---- keys that are taken out
 
-      apart : (b : Bool) (role : Role) (key k : Key) → is_eq (key_cmp k key) ≡ b → not (role_eq role role && key_eq key k) ≡ true → is_eq (key_cmp k key) ≡ false
-      apart false role key k at off = at
-      apart true role key k at off =
-          let one : key_eq key k ≡ true = (key_eq-Decides key k).1 (sym (tied_is_same k key at)) in
-          let both : (role_eq role role && key_eq key k) ≡ true = ap (λ (x : Bool). x && key_eq key k) (role_itself role) ∙ one in
-          absurd (cc (ap not both, off))
+-- of the role they are gone
+pub gone_each : (role : Role) (keys : List Key) (old new : List (BTreeSet Key)) → ((r : Role) (k : Key) → is_ready new r k ≡ (not (role_eq role r && is_among keys k) && is_ready old r k))
+    → (k : Key) → is_ready new role k ≡ true → is_among keys k ≡ false
+gone_each role keys old new each k on =
+    out (is_among keys k) (ap (λ (b : Bool). not (b && is_among keys k)) (sym (role_itself role)) ∙ (and_parts (not (role_eq role role && is_among keys k)) (is_ready old role k) (sym (each role k) ∙ on)).0) where
+      out : (b : Bool) → not (true && b) ≡ true → b ≡ false
+      out true is = absurd (cc is)
+      out false is = refl
 
-pub keeps_fewer : (role : Role) (key : Key) (old new base : List (BTreeSet Key)) → ((r : Role) (k : Key) → is_ready new r k ≡ (not (role_eq role r && key_eq key k) && is_ready old r k)) → Keeps old base → Keeps new base
-keeps_fewer role key old new base each kept r k on = kept r k (and_parts (not (role_eq role r && key_eq key k)) (is_ready old r k) (sym (each r k) ∙ on)).1
+pub fewer_each : (role : Role) (keys : List Key) (old new : List (BTreeSet Key)) → ((r : Role) (k : Key) → is_ready new r k ≡ (not (role_eq role r && is_among keys k) && is_ready old r k)) → Keeps new old
+fewer_each role keys old new each r k on = (and_parts (not (role_eq role r && is_among keys k)) (is_ready old r k) (sym (each r k) ∙ on)).1
+
+both_out : (a b c o : Bool) → (not (a && c) && (not (a && b) && o)) ≡ (not (a && (b || (c || false))) && o)
+both_out true true true o = refl
+both_out true true false o = refl
+both_out true false true o = refl
+both_out true false false o = refl
+both_out false b c o = refl
+
+-- one key more
+pub out_more : (role : Role) (keys more : List Key) (key : Key) (base old new : List (BTreeSet Key)) → more ≡ keys ++ key ∷ []
+    → ((r : Role) (k : Key) → is_ready new r k ≡ (not (role_eq role r && key_eq key k) && is_ready old r k)) → ((r : Role) (k : Key) → is_ready old r k ≡ (not (role_eq role r && is_among keys k) && is_ready base r k))
+    → (r : Role) (k : Key) → is_ready new r k ≡ (not (role_eq role r && is_among more k) && is_ready base r k)
+out_more role keys more key base old new is one each r k =
+    one r k ∙ ap (λ (o : Bool). not (role_eq role r && key_eq key k) && o) (each r k)
+    ∙ ap (λ (c : Bool). not (role_eq role r && c) && (not (role_eq role r && is_among keys k) && is_ready base r k)) (sym (turned_test k key))
+    ∙ both_out (role_eq role r) (is_among keys k) (is_eq (key_cmp k key)) (is_ready base r k)
+    ∙ ap (λ (c : Bool). not (role_eq role r && c) && is_ready base r k) (sym (ap (λ (l : List Key). is_among l k) is ∙ list_any-append (is_at (key_cmp k)) keys (key ∷ [])))
+
+pub out_none : (role : Role) (base : List (BTreeSet Key)) (r : Role) (k : Key) → is_ready base r k ≡ (not (role_eq role r && is_among [] k) && is_ready base r k)
+out_none role base r k = ap (λ (b : Bool). not b && is_ready base r k) (sym (and_false (role_eq role r))) where
+  and_false : (a : Bool) → (a && false) ≡ false
+  and_false true = refl
+  and_false false = refl

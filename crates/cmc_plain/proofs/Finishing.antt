@@ -1,16 +1,13 @@
 -- Where the plain order has no move, the run is finished.
-use Rattle.std.proofs.Common.{◌≡◌, ◌⊎◌, ◌+◌, ◌-◌, ◌<◌, ◌≤◌, ℕ, ℤ, List, length, Option, Some, None, Bool, true, false, cond, refl, sym, ap, subst, ◌∙◌, inl, inr, arith, option_and_then, get_or}
+use Rattle.std.proofs.Common.{◌≡◌, ◌⊎◌, ◌+◌, ◌-◌, ◌<◌, ◌≤◌, ℕ, ℤ, List, length, Option, Some, None, Bool, true, false, refl, sym, ap, subst, inl, inr, arith, get_or}
 use Rattle.std.proofs.lemmas.Bool.Decides.{nat_tests}
 use Rattle.std.proofs.lemmas.Option.{slice_get_cases}
-use Rattle.std.specs.Prelude.{◌||◌, if◌then◌else◌, MatchBool, nat_le, nat_lt, slice_get}
+use Rattle.std.specs.Prelude.{if◌then◌else◌, MatchBool, nat_le, nat_lt, slice_get}
 use Rattle.cmc_rules.specs.Legality.{IsOpen}
 use Rattle.cmc_plain.specs.Plain.{IsStepReady}
 use Rattle.cmc_meta.specs.declared.key.Key.{Key}
 use Rattle.cmc_meta.specs.declared.key.Kind.{Kind}
 use Rattle.cmc_meta.specs.declared.key.Kind.TheVariants as kinds
-use Rattle.cmc_objects.specs.declared.certificate.Certificate.{Certificate}
-use Rattle.cmc_objects.specs.declared.request.CertificateRequest.{CertificateRequest}
-use Rattle.cmc_objects.specs.declared.object.Object.{Object}
 use Rattle.cmc_objects.specs.declared.orders.Rules.{Rules}
 use Rattle.cmc_objects.specs.declared.role.Role.{Role}
 use Rattle.cmc_objects.specs.declared.entry.Positions.{Positions}
@@ -28,12 +25,11 @@ use Rattle.cmc_rules.specs.declared.progress.OpenPass.{OpenPass}
 use Rattle.cmc_rules.specs.declared.progress.Ending.{Ending}
 use Rattle.cmc_rules.specs.declared.progress.Ending.TheVariants as endings
 use Rattle.cmc_rules.specs.declared.progress.LastPass.{LastPass}
-use Rattle.cmc_model.specs.Objects.{object_at}
 use Rattle.cmc_model.specs.Histories.{Setting, moment, runs}
-use Rattle.cmc_model.specs.Writes.{writes, contents, oldest, kind_eq, last_of_kind, is_known}
-use Rattle.cmc_objects.specs.Watching.{works_on_requests, kind_of_work, has_informer}
-use Rattle.cmc_rules.specs.Positions.{position, position_of, positions, cache}
-use Rattle.cmc_rules.specs.Viewing.{certificate_in, request_in, certificate_at, request_at, views_of, views_in, views, present_views}
+use Rattle.cmc_model.specs.Writes.{writes, kind_eq, last_of_kind, is_known}
+use Rattle.cmc_objects.specs.Watching.{kind_of_work, has_informer}
+use Rattle.cmc_rules.specs.Positions.{position, position_of, positions}
+use Rattle.cmc_rules.specs.Viewing.{views, present_views}
 use Rattle.cmc_rules.specs.Desks.{desk}
 use Rattle.cmc_rules.specs.Acts.{act}
 use Rattle.cmc_rules.specs.Passes.{open_pass, is_pass_of}
@@ -44,12 +40,11 @@ use Rattle.cmc_rules.specs.Following.{owed, IsReady}
 use Rattle.cmc_rules.specs.Resting.{IsIdle, IsPaused, RestsOn, IsAtRest}
 use Rattle.cmc_rules.specs.Runs.{IsRun, IsFinished}
 use Rattle.cmc_rules.specs.Sameness.{own_above}
-use Rattle.cmc_moves.proofs.Sounds.{each_sound}
 use Rattle.cmc_rules.specs.Passes.{IsWorking}
 use Rattle.cmc_safety.proofs.Moments.{scripted_low}
 use Rattle.cmc_world.proofs.Rest.{same_kind}
+use Rattle.cmc_world.proofs.Elsewhere.{idle_elsewhere, none_held}
 use Rattle.cmc_plain.specs.Plain.{IsBehind, Fits, HasNoScript, HasNoPass, HasNoDelivery}
-use Rattle.cmc_world.proofs.OneKind.{object_at-of_kind}
 use Rattle.cmc_world.proofs.Newest.{IsToldOfAll, views_newest}
 use Rattle.cmc_plain.proofs.Newer.{newest_known}
 use Rattle.cmc_plain.proofs.Remembering.{own_low, IsLowObstacle, IsFairEnding, IsFairLast, last_fair}
@@ -79,35 +74,9 @@ told s h none role kind running informed free =
 
 -- ---- on which keys there is something to do
 
-not_cached : {A : Type 0} (s : Setting) (h : List Entry) (role : Role) (kind : Kind) (f : Object → Option A) (key : Key) → kind_eq key.kind kind ≡ false
-    → option_and_then f (object_at (cache s h role kind) key) ≡ None
-not_cached s h role kind f key other =
-    let ws : List Write = oldest (position h role kind) (writes s h) in
-    ap (option_and_then f) (object_at-of_kind kind ws key ∙ ap (λ (b : Bool). cond b (object_at (contents ws) key) None) other)
-
-unseen_by : (requests : Bool) (key : Key) (c : Option Certificate) (r : Option CertificateRequest) → kind_eq key.kind (if requests then kinds.CertificateRequest else kinds.Certificate) ≡ false
-    → (kind_eq key.kind kinds.Certificate ≡ false → c ≡ None) → (kind_eq key.kind kinds.CertificateRequest ≡ false → r ≡ None)
-    → ((if requests then None else c) ≡ None) × ((if requests then r else None) ≡ None)
-unseen_by true key c r other certificate request = (refl, request other)
-unseen_by false key c r other certificate request = (certificate other, refl)
-
--- of a key of another kind than its work a role sees neither
-unseen : (s : Setting) (h : List Entry) (role : Role) (key : Key) → kind_eq key.kind (kind_of_work role) ≡ false
-    → ((views s h role key).certificate ≡ None) × ((views s h role key).request ≡ None)
-unfolding views_in views_of
-unseen s h role key other =
-    unseen_by (works_on_requests role) key (certificate_at (cache s h role kinds.Certificate) key) (request_at (cache s h role kinds.CertificateRequest) key) other
-    (not_cached s h role kinds.Certificate certificate_in key) (not_cached s h role kinds.CertificateRequest request_in key)
-
 -- the role has something to do by what it sees of the key
 abbrev IsBusy : Setting → List Entry → Role → Key → Type 0
 IsBusy s h role key = IsIdle s h role (views s h role key) → ⊥
-
--- on such a key it has nothing to do
-pub idle_elsewhere : (s : Setting) (h : List Entry) (role : Role) (key : Key) → kind_eq key.kind (kind_of_work role) ≡ false → IsIdle s h role (views s h role key)
-idle_elsewhere s h role key is =
-    let none = unseen s h role key is in
-    (each_sound role).absent (views s h role key) (moment s h) (desk s h role (views s h role key)) (record { certificate = none.0; request = none.1 })
 
 work_by : (same : Bool) (s : Setting) (h : List Entry) (role : Role) (key : Key) → kind_eq key.kind (kind_of_work role) ≡ same → IsBusy s h role key → key.kind ≡ kind_of_work role
 work_by true s h role key is busy = same_kind key.kind (kind_of_work role) is
@@ -208,17 +177,6 @@ served : (s : Setting) (h : List Entry) (role : Role) (key : Key) → IsRun s h 
 served s h role key run all never (inl idle) = subst (λ (v : Views). IsIdle s h role v) (views_newest s h role key run.legal all) idle
 served s h role key run all never (inr busy) = absurd (never busy (due_told s h role key run all busy))
 
-neither : (a b : Bool) → (a || b) ≡ false → (a ≡ false) × (b ≡ false)
-neither true b off = absurd (cc)
-neither false b off = (refl, off)
-
-pub none_held : (s : Setting) (h : List Entry) (role : Role) → has_held s h role ≡ false → (kind : Kind) → held s h role kind ≡ false
-none_held s h role none kinds.Certificate = (neither (held s h role kinds.Certificate) (held s h role kinds.CertificateRequest || held s h role kinds.Secret) none).0
-none_held s h role none kinds.CertificateRequest =
-    (neither (held s h role kinds.CertificateRequest) (held s h role kinds.Secret) (neither (held s h role kinds.Certificate) (held s h role kinds.CertificateRequest || held s h role kinds.Secret) none).1).0
-none_held s h role none kinds.Secret =
-    (neither (held s h role kinds.CertificateRequest) (held s h role kinds.Secret) (neither (held s h role kinds.Certificate) (held s h role kinds.CertificateRequest || held s h role kinds.Secret) none).1).1
-
 by_held : (b : Bool) (P Q : Type 0) → (b ≡ true → P) → (b ≡ false → Q) → MatchBool b P Q
 by_held true P Q back free = back refl
 by_held false P Q back free = free refl
@@ -274,13 +232,12 @@ all_made true s h e run none rest =
     absurd (none (script_goes s h left rest))
 all_made false s h e run none rest = let low = scripted_low s h run.follows in grind (arith, nat_tests)
 
--- where nothing is owed and no step, no pass, no delivery and no begin can go on, all is finished
+-- where all is at rest, nothing is owed and no step is left, all is finished
+pub finished_at_rest : (s : Setting) (h : List Entry) → IsRun s h → owed s h ≡ None → HasNoScript s h → IsAtRest s h → IsFinished s h
+finished_at_rest s h run settled no_script rest =
+    record { all_steps = all_made (nat_lt (scripted h) (length s.script)) s h refl run no_script rest; all_effects = settled; rest = rest }
+
+-- so it is where no step, no pass, no delivery and no begin can go on
 pub nothing_left : (s : Setting) (h : List Entry) → IsRun s h → owed s h ≡ None → HasNoScript s h → HasNoPass s h → HasNoDelivery s h → ((role : Role) (key : Key) → Fits s h role key → ⊥)
     → IsFinished s h
-nothing_left s h run settled no_script no_pass no_delivery no_begin =
-    let rest = at_rest s h run (closed s h no_pass) no_delivery no_begin in
-    record {
-      all_steps = all_made (nat_lt (scripted h) (length s.script)) s h refl run no_script rest;
-      all_effects = settled;
-      rest = rest;
-    }
+nothing_left s h run settled no_script no_pass no_delivery no_begin = finished_at_rest s h run settled no_script (at_rest s h run (closed s h no_pass) no_delivery no_begin)

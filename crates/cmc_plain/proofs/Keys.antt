@@ -1,5 +1,5 @@
 -- A search over keys, in their order.
-use Rattle.std.proofs.Common.{◌≡◌, List, [], ◌∷◌, Some, None, Bool, true, false, refl, subst, ap, ◌∙◌, Less}
+use Rattle.std.proofs.Common.{◌≡◌, List, [], ◌∷◌, Some, None, Bool, true, false, refl, sym, subst, ap, ◌∙◌, Less}
 use Rattle.std.proofs.lemmas.Bool.Decides.{same_from_decides}
 use Rattle.std.proofs.lemmas.Map.Keys.{sorted_head, sorted_tail}
 use Rattle.std.specs.Prelude.{◌↔◌, ◌||◌, IsTrue}
@@ -12,14 +12,8 @@ use Rattle.std.specs.List.Sorted.{IsStrictlySortedBy}
 use Rattle.std.specs.Ordering.{is_eq}
 use Rattle.cmc_meta.specs.declared.key.Key.{Key}
 use Rattle.cmc_meta.specs.Keys.{key_cmp, key_eq}
-use Rattle.cmc_objects.specs.declared.role.Role.{Role}
-use Rattle.cmc_objects.specs.declared.entry.Entry.{Entry}
-use Rattle.cmc_model.specs.Histories.{Setting}
 use Rattle.cmc_model.proofs.Keys.{key_cmp-total, key_cmp-IsAntisymmetric}
-use Rattle.cmc_objects.specs.Watching.{kind_of_work}
 use Rattle.cmc_world.proofs.Rest.{key_eq-Decides}
-use Rattle.cmc_moves.specs.Quiet.{IsQuiet}
-use Rattle.cmc_plain.specs.Plain.{Fits}
 use Rattle.cmc_plain.specs.Searches.{FindsFirst}
 
 pub tied_is_same : (a b : Key) → is_eq (key_cmp a b) ≡ true → a ≡ b
@@ -32,22 +26,21 @@ tied-Decides a b = (tied_is_same a b, λ same. subst (λ (k : Key). is_eq (key_c
 pub one_test : (a b : Key) → is_at (key_cmp a) b ≡ key_eq a b
 one_test a b = same_from_decides _ _ (tied-Decides a b) (key_eq-Decides a b)
 
+pub turned_test : (a b : Key) → is_at (key_cmp a) b ≡ key_eq b a
+turned_test a b = same_from_decides _ _ (tied-Decides a b) ((λ e. sym ((key_eq-Decides b a).0 e)), (λ same. (key_eq-Decides b a).1 (sym same)))
+
 -- the keys that are left to look at, after keys of which it is not so
 pub record KeysLeft (P : Key → Type 0) (rest : List Key) : Type 0 where
   pub ordered : IsStrictlySortedBy key_cmp rest
   pub left : (k : Key) → P k → list_any (is_at (key_cmp k)) rest ≡ true
 
-among : (b : Bool) (s : Setting) (h : List Entry) (role : Role) (k : Key) → (b ≡ false → IsQuiet s h role k) → Fits s h role k → b ≡ true
-among true s h role k other f = refl
-among false s h role k other f = absurd (f.worth (other refl))
+among : (b : Bool) (A : Type 0) → (b ≡ false → A → ⊥) → A → b ≡ true
+among true A other is = refl
+among false A other is = absurd (other refl is)
 
--- a key that fits is not quiet, and so one of them
-pub all_keys_left : (P : Key → Type 0) (s : Setting) (h : List Entry) (role : Role) (keys : BTreeSet Key) → ((k : Key) → P k → Fits s h role k) → IsStrictlySortedBy key_cmp keys.keys
-    → ((k : Key) → k.kind ≡ kind_of_work role → contains key_cmp keys k ≡ false → IsQuiet s h role k) → KeysLeft P keys.keys
-all_keys_left P s h role keys fit ordered others = record {
-  ordered = ordered;
-  left = λ k is. let f = fit k is in among (contains key_cmp keys k) s h role k (others k f.may.work) f;
-}
+-- where it is so of no key beside these
+pub all_keys_left : (P : Key → Type 0) (keys : BTreeSet Key) → IsStrictlySortedBy key_cmp keys.keys → ((k : Key) → contains key_cmp keys k ≡ false → P k → ⊥) → KeysLeft P keys.keys
+all_keys_left P keys ordered others = record { ordered = ordered; left = λ k is. among (contains key_cmp keys k) (P k) (others k) is }
 
 left_beyond : (b : Bool) (k key : Key) (rest : List Key) → is_eq (key_cmp k key) ≡ b → (k ≡ key → ⊥) → (b || list_any (is_at (key_cmp k)) rest) ≡ true → list_any (is_at (key_cmp k)) rest ≡ true
 left_beyond true k key rest e apart any = absurd (apart (tied_is_same k key e))

@@ -1,4 +1,4 @@
-pub mod Idle
+pub mod Knowing
 pub mod OneReply
 pub mod OneValue
 pub mod OneGrowth
@@ -17,16 +17,18 @@ pub mod Courses
 pub mod Ordering
 pub mod Passing
 pub mod Keys
-pub mod Ending
+pub mod Chosen
 pub mod Turns
 pub mod NothingHeld
 pub mod Asking
 pub mod Asked
 pub mod Unknown
+pub mod Lasting
 pub mod Quiet
 pub mod ReadyRows
 pub mod Woken
 pub mod Resting
+pub mod Awaiting
 pub mod Affecting
 pub mod Outcomes
 pub mod OutcomesWritten

@@ -33,7 +33,7 @@ use Rattle.cmc_world.proofs.Rest.{same_kind}
 use Rattle.cmc_plain.specs.Plain.{IsStepReady, IsBehind, IsOfPresent, Fits, IsChosen}
 use Rattle.cmc_plain.specs.Driving.{IsNextWith, IsMadeFor, goes_on}
 use Rattle.cmc_plain.specs.Histories.{GrowsPlainly, entries_for}
-use Rattle.cmc_plain.specs.Searches.{IsAccepted}
+use Rattle.cmc_plain.specs.Searches.{is_accepted}
 use Rattle.cmc_world.proofs.OneKind.{last_low}
 
 -- ---- tables
@@ -195,37 +195,40 @@ chosen_comes s h (Decide n named d) step answer k present c is run a left = absu
 
 -- ---- and what an answer tells
 
-passed_need : {fact rest : Type 0} (refusal answer : Stepped) → (IsAccepted refusal → ⊥) → IsAccepted answer → Need fact refusal answer rest → fact × rest
-passed_need refusal answer bad good (inl x) = absurd (bad (subst IsAccepted x.1 good))
+never : false ≡ true → ⊥
+never is = absurd (cc is)
+
+passed_need : {fact rest : Type 0} (refusal answer : Stepped) → (is_accepted refusal ≡ true → ⊥) → is_accepted answer ≡ true → Need fact refusal answer rest → fact × rest
+passed_need refusal answer bad good (inl x) = absurd (bad (ap is_accepted (sym x.1) ∙ good))
 passed_need refusal answer bad good (inr x) = x
 
-passed_bar : {fact rest : Type 0} (refusal answer : Stepped) → (IsAccepted refusal → ⊥) → IsAccepted answer → Bar fact refusal answer rest → (fact → ⊥) × rest
-passed_bar refusal answer bad good (inl x) = absurd (bad (subst IsAccepted x.1 good))
+passed_bar : {fact rest : Type 0} (refusal answer : Stepped) → (is_accepted refusal ≡ true → ⊥) → is_accepted answer ≡ true → Bar fact refusal answer rest → (fact → ⊥) × rest
+passed_bar refusal answer bad good (inl x) = absurd (bad (ap is_accepted (sym x.1) ∙ good))
 passed_bar refusal answer bad good (inr x) = x
 
-accepted_made : (s : Setting) (h : List Entry) (more : ℕ) (answer : Stepped) → IsMade s h more answer → IsAccepted answer
-accepted_made s h more answer (inl is) = subst IsAccepted (sym is) tt
-accepted_made s h more answer (inr is) = subst IsAccepted (sym is.0) tt
+accepted_made : (s : Setting) (h : List Entry) (more : ℕ) (answer : Stepped) → IsMade s h more answer → is_accepted answer ≡ true
+accepted_made s h more answer (inl is) = ap is_accepted is
+accepted_made s h more answer (inr is) = ap is_accepted is.0
 
 -- the answer to the next step of the script tells whether it is ready
-pub ready_by : (s : Setting) (h : List Entry) (answer : Stepped) (b : Bool) → AnswersScript s h answer → (IsTrue b ↔ IsAccepted answer) → IsTrue b ↔ IsStepReady s h
-ready_by s h answer b a test = (on, λ c. test.1 (accepted_made s h _ answer (script_made s h answer c a))) where
+pub ready_by : (s : Setting) (h : List Entry) (answer : Stepped) (b : Bool) → AnswersScript s h answer → b ≡ is_accepted answer → IsTrue b ↔ IsStepReady s h
+ready_by s h answer b a test = (on, λ c. test ∙ (accepted_made s h _ answer (script_made s h answer c a))) where
   on : IsTrue b → IsStepReady s h
   on is =
-      let one = passed_need (NotNow ScriptOver) answer (λ bad. bad) (test.0 is) a in
-      let two = passed_need (NotNow ScriptWaits) answer (λ bad. bad) (test.0 is) one.1 in
+      let one = passed_need (NotNow ScriptOver) answer never (sym test ∙ is) a in
+      let two = passed_need (NotNow ScriptWaits) answer never (sym test ∙ is) one.1 in
       record { left = one.0; ready = two.0 }
 
 -- and that to a delivery of the newest write whether the role is behind
 pub behind_by : (s : Setting) (h : List Entry) (role : Role) (kind : Kind) (answer : Stepped) (b : Bool) → AnswersDelivery s h role kind (last_of_kind kind (writes s h)) answer
-    → (IsTrue b ↔ IsAccepted answer) → IsTrue b ↔ IsBehind s h role kind
-behind_by s h role kind answer b a test = (on, λ c. test.1 (accepted_made s h 1 answer (delivery_made s h role kind answer c a))) where
+    → b ≡ is_accepted answer → IsTrue b ↔ IsBehind s h role kind
+behind_by s h role kind answer b a test = (on, λ c. test ∙ (accepted_made s h 1 answer (delivery_made s h role kind answer c a))) where
   on : IsTrue b → IsBehind s h role kind
   on is =
-      let good = test.0 is in
-      let one = passed_need (NotNow Stopped) answer (λ bad. bad) good a in
-      let two = passed_need (NotNow NoInformer) answer (λ bad. bad) good one.1 in
-      let three = passed_need (NotNow Held) answer (λ bad. bad) good two.1 in
-      let four = passed_bar (NotNow (Current (position h role kind))) answer (λ bad. bad) good three.1 in
-      let five = passed_need (NotNow (NotAWrite (last_of_kind kind (writes s h)))) answer (λ bad. bad) good four.1 in
+      let good = sym test ∙ is in
+      let one = passed_need (NotNow Stopped) answer never good a in
+      let two = passed_need (NotNow NoInformer) answer never good one.1 in
+      let three = passed_need (NotNow Held) answer never good two.1 in
+      let four = passed_bar (NotNow (Current (position h role kind))) answer never good three.1 in
+      let five = passed_need (NotNow (NotAWrite (last_of_kind kind (writes s h)))) answer never good four.1 in
       record { running = one.0; informed = two.0; free = three.0; behind = five.0.0 }

@@ -1,71 +1,62 @@
--- Which entries leave a quiet key quiet, and what a quiet key is no matter for.
-use Rattle.std.proofs.Common.{◌≡◌, ◌+◌, ℕ, ℤ, List, ◌∷◌, Option, Some, None, Bool, true, false, refl, sym, ap, subst, ◌∙◌, inl, inr}
+-- A role has nothing to do on a key, or nothing to do and nothing new to see: which moves leave it so.
+use Rattle.std.proofs.Common.{◌≡◌, ℤ, List, ◌∷◌, Option, Some, None, Bool, true, false, refl, sym, ap, subst, ◌∙◌}
 use Rattle.std.proofs.lemmas.Bool.{and_parts}
-use Rattle.std.proofs.lemmas.Bool.Decides.{Decides-eqb}
-use Rattle.cmc_objects.specs.declared.entry.Who.TheVariants.{User, Pass}
-use Rattle.std.specs.Prelude.{◌&&◌, if◌then◌else◌, nat_le, MatchBool, option_map}
+use Rattle.std.specs.Prelude.{not, ◌&&◌, if◌then◌else◌, option_map, Result, IfOk, OnErr}
+use Rattle.std.specs.declared.alloc.AllocError.{AllocError}
 use Rattle.std.specs.BTreeSet.{BTreeSet}
 use Rattle.cmc_meta.specs.declared.key.Key.{Key}
-use Rattle.cmc_meta.specs.declared.key.Kind.{Kind}
-use Rattle.cmc_meta.specs.declared.key.Kind.TheVariants as kinds
 use Rattle.cmc_meta.specs.Keys.{key_eq}
 use Rattle.cmc_objects.specs.declared.role.Role.{Role}
 use Rattle.cmc_objects.specs.declared.entry.Entry.{Entry}
 use Rattle.cmc_objects.specs.declared.entry.Entry.TheVariants.{Script, Call as Called, Deliver, List as Listed, Begin, Ask, Made, Signed, Answered, Judged, End, Stop, Start, Tick}
-use Rattle.cmc_objects.specs.Roles.{role_rank}
 use Rattle.cmc_pass.specs.declared.pass.Views.{Views}
 use Rattle.cmc_pass.specs.declared.pass.Act.TheVariants.{Nothing}
-use Rattle.cmc_pass.specs.Giving.{value_of}
-use Rattle.cmc_pass.specs.declared.value.Value.{Value}
-use Rattle.cmc_pass.specs.declared.value.Value.TheVariants as values
-use Rattle.cmc_objects.specs.declared.orders.Order.{Order}
 use Rattle.cmc_model.specs.Replies.{is_accepted, key_of_call}
-use Rattle.cmc_model.specs.Histories.{Setting, moment, accepted, role_eq}
-use Rattle.cmc_model.specs.Writes.{writes, is_known, kind_eq, objects_of}
+use Rattle.cmc_model.specs.Histories.{Setting, moment, role_eq}
+use Rattle.cmc_model.specs.Writes.{writes, is_known}
 use Rattle.cmc_rules.specs.declared.effect.Effect.{Effect}
 use Rattle.cmc_rules.specs.declared.effect.Effect.TheVariants as effects
 use Rattle.cmc_rules.specs.declared.progress.Ending.{Ending}
 use Rattle.cmc_rules.specs.declared.progress.LastPass.{LastPass}
 use Rattle.cmc_rules.specs.declared.progress.Past.{Past}
 use Rattle.cmc_objects.specs.Watching.{kind_of_work}
-use Rattle.cmc_rules.specs.Positions.{position}
-use Rattle.cmc_rules.specs.Viewing.{views, views_in, present_views}
+use Rattle.cmc_caches.specs.Affected.{is_among}
+use Rattle.cmc_rules.specs.Viewing.{views}
 use Rattle.cmc_rules.specs.Desks.{desk}
 use Rattle.cmc_rules.specs.Acts.{act}
 use Rattle.cmc_rules.specs.Passes.{open_pass, is_pass_of}
 use Rattle.cmc_rules.specs.Memory.{past, with_begin, with_ending, ending_of}
-use Rattle.cmc_rules.specs.Resting.{IsIdle, IsPaused, RestsOn}
-use Rattle.cmc_rules.specs.Scripting.{scripted, has_held}
+use Rattle.cmc_rules.specs.Resting.{IsIdle}
 use Rattle.cmc_rules.specs.Legality.{IsLegal}
-use Rattle.cmc_rules.proofs.Positions.{views_called}
-use Rattle.cmc_moves.specs.Answers.{Grows, GrowsBy, Leaves, LeavesAsked, IsOfPass, next_effect, beginning, value_entry, kept_of, asked_once}
+use Rattle.cmc_rules.specs.Runs.{IsRun}
+use Rattle.cmc_moves.specs.Answers.{Leaves, next_effect}
 use Rattle.cmc_moves.specs.declared.moves.Move.{Move}
 use Rattle.cmc_moves.specs.declared.moves.Move.TheVariants as moves
 use Rattle.cmc_moves.specs.declared.moves.Stepped.{Stepped}
-use Rattle.cmc_moves.specs.declared.moves.Stepped.TheVariants as answers
-use Rattle.cmc_world.proofs.Newest.{IsToldOfAll, views_newest}
+use Rattle.cmc_world.specs.Kept.{Seen, setting_of}
 use Rattle.cmc_world.proofs.Rest.{same_key}
 use Rattle.cmc_moves.proofs.Sounds.{any_desk}
 use Rattle.cmc_world.proofs.Standings.{same_role}
 use Rattle.cmc_moves.specs.Quiet.{IsQuiet, seen_last}
-use Rattle.cmc_plain.specs.Plain.{Fits}
-use Rattle.cmc_plain.specs.Ready.{is_ready, Keeps, HasKnown, Covers, WakesAll, SeesSame, WakesTold, Wakes}
+use Rattle.cmc_plain.specs.Ready.{is_ready, Keeps, HasKnown, Covers, Idles, IsIdleOn, IsOfEach, WakesAll, Wakes}
+use Rattle.cmc_plain.proofs.Lasting.{Anew, Claim, HoldsOn, IsLasting, LeavesAlone, LeavesKeys, Meant, holds_step, moment_alone, views_alone}
 use Rattle.cmc_plain.proofs.Remembering.{last_called}
 use Rattle.cmc_plain.proofs.Unknown.{unknown_quiet}
 
--- ---- one entry
+-- ---- nothing to do
 
--- a key stays quiet where the role sees the same at the same moment, and last saw the same
-quiet_on : (s : Setting) (h k : List Entry) (role : Role) (key : Key) → views s k role key ≡ views s h role key → moment s k ≡ moment s h
-    → seen_last (past s k role key).last ≡ seen_last (past s h role key).last → IsQuiet s h role key → IsQuiet s k role key
-quiet_on s h k role key sees now saw q =
-    let seen : Views = views s k role key in
-    let here : act role seen (moment s h) (desk s h role seen) ≡ Nothing = subst (λ (v : Views). act role v (moment s h) (desk s h role v) ≡ Nothing) (sym sees) q.idle in
-    let later : act role seen (moment s k) (desk s h role seen) ≡ Nothing = subst (λ (t : ℤ). act role seen t (desk s h role seen) ≡ Nothing) (sym now) here in
-    record {
-      idle = any_desk role seen (moment s k) (desk s h role seen) (desk s k role seen) refl later;
-      same = sees ∙ q.same ∙ sym saw;
-    }
+-- it is the same by each desk, at the same moment
+pub idle_at : (s : Setting) (h k : List Entry) (role : Role) (seen : Views) → moment s k ≡ moment s h → IsIdle s h role seen → IsIdle s k role seen
+idle_at s h k role seen now idle =
+    any_desk role seen (moment s k) (desk s h role seen) (desk s k role seen) refl (subst (λ (t : ℤ). act role seen t (desk s h role seen) ≡ Nothing) (sym now) idle)
+
+pub idle_lasts : IsLasting IsIdleOn
+idle_lasts = record {
+  stays = λ s h e role key legal alone idle.
+      subst (IsIdle s (e ∷ h) role) (sym (views_alone s h e role key legal alone)) (idle_at s h (e ∷ h) role (views s h role key) (moment_alone s h e role key alone) idle);
+}
+
+-- ---- nothing new to see
 
 saw_ending : (ending : Ending) (last : Option LastPass) → seen_last (option_map (λ (l : LastPass). record l { ending = ending }) last) ≡ seen_last last
 saw_ending ending None = refl
@@ -83,171 +74,132 @@ saw_begun true s h role who key at now is same =
     ap (λ (r : Role). views s h r key) (sym (same_role who role parts.0)) ∙ ap (views s h who) (sym (same_key at key parts.1))
 saw_begun false s h role who key at now is same = same
 
--- what has to hold of an entry that may give the role something to do or to see
-abbrev LeavesAlone : Setting → List Entry → Role → Key → Entry → Type 0
-LeavesAlone s h role key (Deliver who kind to) = views s (Deliver who kind to ∷ h) role key ≡ views s h role key
-LeavesAlone s h role key (Listed who kind to) = views s (Listed who kind to ∷ h) role key ≡ views s h role key
-LeavesAlone s h role key (Start who at) = ⊥
-LeavesAlone s h role key (Tick now) = ⊥
-LeavesAlone s h role key other = Unit {0}
+-- what the role saw last on a key that it sees unchanged
+saw_with : (s : Setting) (h : List Entry) (e : Entry) (role : Role) (key : Key) → LeavesAlone s h role key e → views s h role key ≡ seen_last (past s h role key).last → views s h role key ≡ seen_last (past s (e ∷ h) role key).last
+saw_with s h (Called who call reply) role key alone same = same ∙ sym (ap seen_last (last_called s h role key (past s h role key) who (key_of_call call).kind (is_accepted reply)))
+saw_with s h (Begin pass who at told now) role key alone same = saw_begun (role_eq who role && key_eq at key) s h role who key at now refl same
+saw_with s h (End pass cause) role key alone same = same ∙ sym (saw_ended (is_pass_of role key (open_pass s h pass)) (ending_of (open_pass s h pass)) (past s h role key))
+saw_with s h (Start who at) role key alone same = absurd alone
+saw_with s h (Tick now) role key alone same = absurd alone
+saw_with s h (Deliver who kind to) role key alone same = same
+saw_with s h (Listed who kind to) role key alone same = same
+saw_with s h (Script step) role key alone same = same
+saw_with s h (Ask pass order) role key alone same = same
+saw_with s h (Made pass row) role key alone same = same
+saw_with s h (Signed pass signature) role key alone same = same
+saw_with s h (Answered pass answer) role key alone same = same
+saw_with s h (Judged pass approved) role key alone same = same
+saw_with s h (Stop who) role key alone same = same
 
-quiet_with : (s : Setting) (h : List Entry) (e : Entry) (role : Role) (key : Key) → IsLegal s h → LeavesAlone s h role key e → IsQuiet s h role key → IsQuiet s (e ∷ h) role key
-quiet_with s h (Called who call reply) role key legal alone q =
-    quiet_on s h (Called who call reply ∷ h) role key (views_called s h who call reply role key legal) refl
-    (ap seen_last (last_called s h role key (past s h role key) who (key_of_call call).kind (is_accepted reply))) q
-quiet_with s h (Deliver who kind to) role key legal alone q = quiet_on s h (Deliver who kind to ∷ h) role key alone refl refl q
-quiet_with s h (Listed who kind to) role key legal alone q = quiet_on s h (Listed who kind to ∷ h) role key alone refl refl q
-quiet_with s h (Begin pass who at told now) role key legal alone q =
-    record {
-      idle = q.idle;
-      same = saw_begun (role_eq who role && key_eq at key) s h role who key at now refl q.same;
-    }
-quiet_with s h (End pass cause) role key legal alone q =
-    quiet_on s h (End pass cause ∷ h) role key refl refl (saw_ended (is_pass_of role key (open_pass s h pass)) (ending_of (open_pass s h pass)) (past s h role key)) q
-quiet_with s h (Start who at) role key legal alone q = absurd alone
-quiet_with s h (Tick now) role key legal alone q = absurd alone
-quiet_with s h (Script step) role key legal alone q = quiet_on s h (Script step ∷ h) role key refl refl refl q
-quiet_with s h (Ask pass order) role key legal alone q = quiet_on s h (Ask pass order ∷ h) role key refl refl refl q
-quiet_with s h (Made pass row) role key legal alone q = quiet_on s h (Made pass row ∷ h) role key refl refl refl q
-quiet_with s h (Signed pass signature) role key legal alone q = quiet_on s h (Signed pass signature ∷ h) role key refl refl refl q
-quiet_with s h (Answered pass answer) role key legal alone q = quiet_on s h (Answered pass answer ∷ h) role key refl refl refl q
-quiet_with s h (Judged pass approved) role key legal alone q = quiet_on s h (Judged pass approved ∷ h) role key refl refl refl q
-quiet_with s h (Stop who) role key legal alone q = quiet_on s h (Stop who ∷ h) role key refl refl refl q
+quiet_lasts : IsLasting IsQuiet
+quiet_lasts = record {
+  stays = λ s h e role key legal alone q. record {
+    idle = idle_lasts.stays s h e role key legal alone q.idle;
+    same = views_alone s h e role key legal alone ∙ saw_with s h e role key alone q.same;
+  };
+}
 
--- ---- all keys
+-- ---- the keys beside those that are ready
 
--- an entry that leaves each key alone that is not ready
-covers_with : (s : Setting) (h : List Entry) (e : Entry) (rows : List (BTreeSet Key)) → IsLegal s h
-    → ((role : Role) (key : Key) → key.kind ≡ kind_of_work role → is_ready rows role key ≡ false → LeavesAlone s h role key e) → Covers s h rows → Covers s (e ∷ h) rows
-covers_with s h e rows legal alone covers role key work off = quiet_with s h e role key legal (alone role key work off) (covers role key work off)
+-- a key of the role's work that is none of these
+abbrev pub IsBeside : List (BTreeSet Key) → Meant
+IsBeside rows role key = (key.kind ≡ kind_of_work role) × (is_ready rows role key ≡ false)
+
+-- it is so of a key that no write named
+abbrev IsOfUnknown : Claim → Type 0
+IsOfUnknown Q = (s : Setting) (h : List Entry) (role : Role) (key : Key) → IsLegal s h → is_known key (writes s h) ≡ false → Q s h role key
 
 known_by : (b : Bool) (s : Setting) (h : List Entry) (role : Role) (key : Key) (rows : List (BTreeSet Key)) → is_known key (writes s h) ≡ b → HasKnown s h role rows → key.kind ≡ kind_of_work role
     → is_ready rows role key ≡ false → is_known key (writes s h) ≡ false
 known_by true s h role key rows is has work off = let on = has key work is in absurd (cc (on, off))
 known_by false s h role key rows is has work off = is
 
+holds_beside : (Q : Claim) → IsOfUnknown Q → (s : Setting) (h : List Entry) (rows : List (BTreeSet Key)) → IsLegal s h → ((role : Role) → HasKnown s h role rows) → HoldsOn Q (IsBeside rows) s h
+holds_beside Q unknown s h rows legal has role key off = unknown s h role key legal (known_by (is_known key (writes s h)) s h role key rows refl (has role) off.0 off.1)
+
 -- where all keys are ready that writes named, the others are quiet
 pub covers_known : (s : Setting) (h : List Entry) (rows : List (BTreeSet Key)) → IsLegal s h → ((role : Role) → HasKnown s h role rows) → Covers s h rows
-covers_known s h rows legal has role key work off = unknown_quiet s h role key legal (known_by (is_known key (writes s h)) s h role key rows refl (has role) work off)
+covers_known s h rows legal has role key work off = holds_beside IsQuiet unknown_quiet s h rows legal has role key (work, off)
+
+idle_unknown : IsOfUnknown IsIdleOn
+idle_unknown s h role key legal none = (unknown_quiet s h role key legal none).idle
+
+pub idles_known : (s : Setting) (h : List Entry) (rows : List (BTreeSet Key)) → IsLegal s h → ((role : Role) → HasKnown s h role rows) → Idles s h rows
+idles_known s h rows legal has role key work off = holds_beside IsIdleOn idle_unknown s h rows legal has role key (work, off)
+
+-- ---- more keys may be ready
+
+still_off : (b : Bool) (role : Role) (key : Key) (old new : List (BTreeSet Key)) → is_ready old role key ≡ b → Keeps old new → is_ready new role key ≡ false → is_ready old role key ≡ false
+still_off true role key old new is keeps off = let on = keeps role key is in absurd (cc (on, off))
+still_off false role key old new is keeps off = is
+
+pub covers_more : (s : Setting) (h : List Entry) (old new : List (BTreeSet Key)) → Keeps old new → Covers s h old → Covers s h new
+covers_more s h old new keeps covers role key work off = covers role key work (still_off (is_ready old role key) role key old new refl keeps off)
+
+pub idles_more : (s : Setting) (h : List Entry) (old new : List (BTreeSet Key)) → Keeps old new → Idles s h old → Idles s h new
+idles_more s h old new keeps idles role key work off = idles role key work (still_off (is_ready old role key) role key old new refl keeps off)
+
+-- ---- fewer keys may be ready
+
+less_by : (b : Bool) (Q : Claim) (s : Setting) (h : List Entry) (old : List (BTreeSet Key)) (role r : Role) (keys : List Key) (k : Key) → (role_eq role r && is_among keys k) ≡ b → IsOfEach (Q s h role) keys
+    → HoldsOn Q (IsBeside old) s h → k.kind ≡ kind_of_work r → (not b && is_ready old r k) ≡ false → Q s h r k
+less_by true Q s h old role r keys k is each holds work off =
+    let parts = and_parts (role_eq role r) (is_among keys k) is in
+    subst (λ (x : Role). Q s h x k) (same_role role r parts.0) (each k parts.1)
+less_by false Q s h old role r keys k is each holds work off = holds r k (work, off)
+
+-- keys on which it is so need not be
+pub covers_less : (s : Setting) (h : List Entry) (old new : List (BTreeSet Key)) (role : Role) (keys : List Key) → IsOfEach (IsQuiet s h role) keys
+    → ((r : Role) (k : Key) → is_ready new r k ≡ (not (role_eq role r && is_among keys k) && is_ready old r k)) → Covers s h old → Covers s h new
+covers_less s h old new role keys quiet each covers r k work off =
+    less_by (role_eq role r && is_among keys k) IsQuiet s h old role r keys k refl quiet (λ x q o. covers x q o.0 o.1) work (sym (each r k) ∙ off)
+
+one_by : (b : Bool) (s : Setting) (h : List Entry) (old : List (BTreeSet Key)) (role r : Role) (key k : Key) → (role_eq role r && key_eq key k) ≡ b → IsQuiet s h role key → Covers s h old
+    → k.kind ≡ kind_of_work r → (not b && is_ready old r k) ≡ false → IsQuiet s h r k
+one_by true s h old role r key k is quiet covers work off =
+    let parts = and_parts (role_eq role r) (key_eq key k) is in
+    subst (λ (x : Role). IsQuiet s h x k) (same_role role r parts.0) (subst (IsQuiet s h role) (same_key key k parts.1) quiet)
+one_by false s h old role r key k is quiet covers work off = covers r k work off
+
+pub covers_one_less : (s : Setting) (h : List Entry) (old new : List (BTreeSet Key)) (role : Role) (key : Key) → IsQuiet s h role key
+    → ((r : Role) (k : Key) → is_ready new r k ≡ (not (role_eq role r && key_eq key k) && is_ready old r k)) → Covers s h old → Covers s h new
+covers_one_less s h old new role key quiet each covers r k work off = one_by (role_eq role r && key_eq key k) s h old role r key k refl quiet covers work (sym (each r k) ∙ off)
+
+pub idles_less : (s : Setting) (h : List Entry) (old new : List (BTreeSet Key)) (role : Role) (keys : List Key) → IsOfEach (IsIdleOn s h role) keys
+    → ((r : Role) (k : Key) → is_ready new r k ≡ (not (role_eq role r && is_among keys k) && is_ready old r k)) → Idles s h old → Idles s h new
+idles_less s h old new role keys idle each idles r k work off =
+    less_by (role_eq role r && is_among keys k) IsIdleOn s h old role r keys k refl idle (λ x q o. idles x q o.0 o.1) work (sym (each r k) ∙ off)
 
 -- ---- moves
 
--- what the role sees where it is told so far of the kind, or not
-abbrev told_views : Setting → List Entry → Role → Kind → ℕ → Key → Bool → Views
-told_views s h role kind to key b =
-    views_in role (record {
-      certificates = objects_of kinds.Certificate s h (if b && kind_eq kind kinds.Certificate then to else position h role kinds.Certificate);
-      requests = objects_of kinds.CertificateRequest s h (if b && kind_eq kind kinds.CertificateRequest then to else position h role kinds.CertificateRequest);
-      secrets = objects_of kinds.Secret s h (if b && kind_eq kind kinds.Secret then to else position h role kinds.Secret);
-    }) key
+anew_beside : (effect : Option Effect) (Q : Claim) → IsOfUnknown Q → (s : Setting) (h : List Entry) (rows : List (BTreeSet Key)) → WakesAll s h effect rows → Anew Q (IsBeside rows) s h effect
+anew_beside None Q unknown s h rows woken = tt
+anew_beside (Some (effects.Call call)) Q unknown s h rows woken = tt
+anew_beside (Some (effects.Tick now)) Q unknown s h rows woken = λ k legal same role key off.
+    unknown s k role key legal (ap (is_known key) same ∙ known_by (is_known key (writes s h)) s h role key rows refl (woken role) off.0 off.1)
+anew_beside (Some (effects.Stop role)) Q unknown s h rows woken = tt
+anew_beside (Some (effects.Start who at)) Q unknown s h rows woken = λ k legal same role key off.
+    unknown s k role key legal (ap (is_known key) same ∙ known_by (is_known key (writes s h)) s h role key rows refl (woken role) off.0 off.1)
 
-pub role_itself : (role : Role) → role_eq role role ≡ true
-role_itself role = (Decides-eqb (role_rank role) (role_rank role)).1 refl
-
-told_at : (b : Bool) (s : Setting) (h : List Entry) (role : Role) (kind : Kind) (to : ℕ) (key : Key) → (b ≡ true → SeesSame s h role kind to key) → told_views s h role kind to key b ≡ views s h role key
-told_at true s h role kind to key same = ap (told_views s h role kind to key) (sym (role_itself role)) ∙ same refl
-told_at false s h role kind to key same = refl
-
--- what one role is told of no other sees
-pub sees_told : (s : Setting) (h : List Entry) (who role : Role) (kind : Kind) (to : ℕ) (key : Key) → (role_eq who role ≡ true → SeesSame s h role kind to key)
-    → views s (Deliver who kind to ∷ h) role key ≡ views s h role key
-sees_told s h who role kind to key same = told_at (role_eq who role) s h role kind to key same
-
--- the keys of the role that is told
-sees_woken : (s : Setting) (h : List Entry) (who role : Role) (kind : Kind) (to : ℕ) (rows : List (BTreeSet Key)) (key : Key)
-    → ((k : Key) → k.kind ≡ kind_of_work who → is_ready rows who k ≡ false → SeesSame s h who kind to k) → key.kind ≡ kind_of_work role → is_ready rows role key ≡ false
-    → views s (Deliver who kind to ∷ h) role key ≡ views s h role key
-sees_woken s h who role kind to rows key told work off =
-    sees_told s h who role kind to key
-    (λ is.
-    subst (λ (r : Role). SeesSame s h r kind to key) (same_role who role is)
-    (told key (subst (λ (r : Role). key.kind ≡ kind_of_work r) (sym (same_role who role is)) work) (subst (λ (r : Role). is_ready rows r key ≡ false) (sym (same_role who role is)) off)))
-
-covers_told : (b : Bool) (s : Setting) (h : List Entry) (who : Role) (kind : Kind) (to : ℕ) (rows : List (BTreeSet Key)) → IsLegal s h → WakesTold s h who kind to rows → Covers s h rows
-    → Covers s ((if b then Deliver who kind to else Listed who kind (accepted s h)) ∷ h) rows
-covers_told true s h who kind to rows legal woken covers =
-    covers_with s h (Deliver who kind to) rows legal (λ role key work off. sees_woken s h who role kind to rows key woken.told work off) covers
-covers_told false s h who kind to rows legal woken covers =
-    covers_with s h (Listed who kind (accepted s h)) rows legal (λ role key work off. sees_woken s h who role kind (accepted s h) rows key woken.listed work off) covers
-
--- what a step has happen
-covers_effect : (effect : Option Effect) (s : Setting) (h k : List Entry) (n : ℕ) (rows : List (BTreeSet Key)) → IsLegal s k → IsLegal s h → WakesAll s h effect rows
-    → GrowsBy s (Script n ∷ h) effect k → Covers s h rows → Covers s k rows
-unfolding IsLegal
-covers_effect None s h k n rows legal before woken grown covers =
-    subst (λ (l : List Entry). Covers s l rows) (sym grown) (covers_with s h (Script n) rows before (λ role key work off. tt) covers)
-covers_effect (Some (effects.Call call)) s h k n rows legal before woken (e, (reply, right, is), grown) covers =
-    subst (λ (l : List Entry). Covers s l rows) (sym (grown ∙ ap (λ (x : Entry). x ∷ Script n ∷ h) is))
-    (covers_with s (Script n ∷ h) (Called User call reply) rows (tt, before) (λ role key work off. tt) (covers_with s h (Script n) rows before (λ role key work off. tt) covers))
-covers_effect (Some (effects.Tick now)) s h k n rows legal before woken (e, is, grown) covers =
-    subst (λ (l : List Entry). Covers s l rows) (sym (grown ∙ ap (λ (x : Entry). x ∷ Script n ∷ h) is)) (covers_known s (Tick now ∷ Script n ∷ h) rows (tt, (tt, before)) woken)
-covers_effect (Some (effects.Stop role)) s h k n rows legal before woken (e, is, grown) covers =
-    subst (λ (l : List Entry). Covers s l rows) (sym (grown ∙ ap (λ (x : Entry). x ∷ Script n ∷ h) is))
-    (covers_with s (Script n ∷ h) (Stop role) rows (tt, before) (λ role key work off. tt) (covers_with s h (Script n) rows before (λ role key work off. tt) covers))
-covers_effect (Some (effects.Start role at)) s h k n rows legal before woken (e, is, grown) covers =
-    let whole : k ≡ Start role at ∷ Script n ∷ h = grown ∙ ap (λ (x : Entry). x ∷ Script n ∷ h) is in
-    subst (λ (l : List Entry). Covers s l rows) (sym whole) (covers_known s (Start role at ∷ Script n ∷ h) rows (subst (IsLegal s) whole legal) woken)
-
-covers_value : (value : Value) (s : Setting) (h : List Entry) (pass : ℕ) (rows : List (BTreeSet Key)) → IsLegal s h → Covers s h rows → Covers s (value_entry pass value ∷ h) rows
-covers_value (values.Made key) s h pass rows legal covers = covers_with s h (Made pass key) rows legal (λ role k work off. tt) covers
-covers_value (values.Signed signature) s h pass rows legal covers = covers_with s h (Signed pass signature) rows legal (λ role k work off. tt) covers
-covers_value (values.Answered answer) s h pass rows legal covers = covers_with s h (Answered pass answer) rows legal (λ role k work off. tt) covers
-covers_value (values.Judged approved) s h pass rows legal covers = covers_with s h (Judged pass approved) rows legal (λ role k work off. tt) covers
-
-covers_pass : (s : Setting) (h : List Entry) (pass : ℕ) (e : Entry) (rows : List (BTreeSet Key)) → IsLegal s h → IsOfPass s h pass e → Covers s h rows → Covers s (e ∷ h) rows
-covers_pass s h pass e rows legal (inl (call, may, (reply, right, is))) covers =
-    subst (λ (x : Entry). Covers s (x ∷ h) rows) (sym is) (covers_with s h (Called (Pass pass) call reply) rows legal (λ role key work off. tt) covers)
-covers_pass s h pass e rows legal (inr (cause, may, is)) covers =
-    subst (λ (x : Entry). Covers s (x ∷ h) rows) (sym is) (covers_with s h (End pass cause) rows legal (λ role key work off. tt) covers)
-
-covers_made : (s : Setting) (h : List Entry) (move : Move) (k : List Entry) (rows : List (BTreeSet Key)) → IsLegal s k → IsLegal s h → Wakes s h move rows → Grows s h move k → Covers s h rows → Covers s k rows
-covers_made s h moves.Script k rows legal before woken grown covers = covers_effect (next_effect s h) s h k (scripted h + 1) rows legal before woken grown covers
-covers_made s h (moves.Deliver role kind to) k rows legal before woken grown covers =
-    subst (λ (l : List Entry). Covers s l rows) (sym grown) (covers_told (nat_le (accepted s h) (position h role kind + s.window)) s h role kind to rows before woken covers)
-covers_made s h (moves.Begin role key) k rows legal before woken grown covers =
-    subst (λ (l : List Entry). Covers s l rows) (sym grown) (covers_with s h (beginning s h role key) rows before (λ r q work off. tt) covers)
-covers_made s h (moves.Next pass named) k rows legal before woken (e, of, grown) covers = subst (λ (l : List Entry). Covers s l rows) (sym grown) (covers_pass s h pass e rows before of covers)
-covers_made s h (moves.Give pass named given) k rows legal before woken grown covers =
-    subst (λ (l : List Entry). Covers s l rows) (sym grown) (covers_value (value_of given) s h pass rows before covers)
-covers_made s h (moves.Decide pass named d) k rows legal before woken (e, of, grown) covers = subst (λ (l : List Entry). Covers s l rows) (sym grown) (covers_pass s h pass e rows before of covers)
-
-covers_once : (kept : Option Order) (s : Setting) (h : List Entry) (pass : ℕ) (order : Order) (rows : List (BTreeSet Key)) → IsLegal s h → Covers s h rows → Covers s (asked_once kept pass order h) rows
-covers_once None s h pass order rows legal covers = covers_with s h (Ask pass order) rows legal (λ role key work off. tt) covers
-covers_once (Some kept) s h pass order rows legal covers = covers
-
-covers_asked : (s : Setting) (h : List Entry) (move : Move) (order : Order) (k : List Entry) (rows : List (BTreeSet Key)) → IsLegal s h → LeavesAsked s h move order k → Covers s h rows → Covers s k rows
-covers_asked s h (moves.Next pass named) order k rows legal is covers =
-    subst (λ (l : List Entry). Covers s l rows) (sym is) (covers_once (kept_of (open_pass s h pass)) s h pass order rows legal covers)
-covers_asked s h (moves.Decide pass named d) order k rows legal is covers =
-    subst (λ (l : List Entry). Covers s l rows) (sym is) (covers_once (kept_of (open_pass s h pass)) s h pass order rows legal covers)
-covers_asked s h other order k rows legal is covers = subst (λ (l : List Entry). Covers s l rows) (sym is) covers
+leaves_beside : (Q : Claim) → IsOfUnknown Q → (s : Setting) (h : List Entry) (move : Move) (rows : List (BTreeSet Key)) → Wakes s h move rows → LeavesKeys Q (IsBeside rows) s h move
+leaves_beside Q unknown s h moves.Script rows woken = anew_beside (next_effect s h) Q unknown s h rows woken
+leaves_beside Q unknown s h (moves.Deliver role kind to) rows woken = record { told = λ key off. woken.told key off.0 off.1; listed = λ key off. woken.listed key off.0 off.1 }
+leaves_beside Q unknown s h other rows woken = tt
 
 -- after a move each key that is not ready is quiet, where those were made ready that the move may wake
-pub covers_on : (s : Setting) (h : List Entry) (move : Move) (answer : Stepped) (k : List Entry) (rows : List (BTreeSet Key)) → IsLegal s k → IsLegal s h → Wakes s h move rows
-    → Leaves s h move answer k → Covers s h rows → Covers s k rows
-covers_on s h move answers.Done k rows legal before woken grown covers = covers_made s h move k rows legal before woken grown covers
-covers_on s h move (answers.Order pass order) k rows legal before woken is covers = covers_asked s h move order k rows before is covers
-covers_on s h move other k rows legal before woken is covers = subst (λ (l : List Entry). Covers s l rows) (sym is) covers
+pub covers_step : (old new : Seen) (move : Move) (r : Result Stepped AllocError) (before rows : List (BTreeSet Key)) → IsRun (setting_of new.scenario) new.history → IsRun (setting_of old.scenario) old.history
+    → Keeps before rows → Wakes (setting_of old.scenario) old.history move rows → new.scenario ≡ old.scenario
+    → IfOk r (λ answer. Leaves (setting_of old.scenario) old.history move answer new.history) → OnErr r (new ≡ old) → Covers (setting_of old.scenario) old.history before
+    → Covers (setting_of new.scenario) new.history rows
+covers_step old new move r before rows run was keeps woken same leaves failed covers role key work off =
+    holds_step IsQuiet quiet_lasts (IsBeside rows) old new move r run was (leaves_beside IsQuiet unknown_quiet (setting_of old.scenario) old.history move rows woken) same leaves failed
+    (λ r k o. covers_more (setting_of old.scenario) old.history before rows keeps covers r k o.0 o.1) role key (work, off)
 
--- more keys may be ready
-pub covers_more : (s : Setting) (h : List Entry) (old new : List (BTreeSet Key)) → Keeps old new → Covers s h old → Covers s h new
-covers_more s h old new keeps covers role key work off = covers role key work (lost (is_ready old role key) refl) where
-  lost : (b : Bool) → is_ready old role key ≡ b → is_ready old role key ≡ false
-  lost true is = let on = keeps role key is in absurd (cc (on, off))
-  lost false is = is
-
--- ---- what a quiet key is no matter for
-
--- a role that was told of all that is not held from it rests where it has nothing to do by what it sees
-pub idle_rests : (s : Setting) (h : List Entry) (role : Role) (key : Key) → IsLegal s h → (has_held s h role ≡ false → IsToldOfAll s h role) → IsIdle s h role (views s h role key) → RestsOn s h role key
-idle_rests s h role key legal told idle = by_held (has_held s h role) refl where
-  by_held : (b : Bool) → has_held s h role ≡ b → MatchBool b (IsPaused s h role key) (IsIdle s h role (present_views s h role key))
-  by_held true is = inl idle
-  by_held false is = subst (IsIdle s h role) (views_newest s h role key legal (told is)) idle
-
-pub quiet_rests : (s : Setting) (h : List Entry) (role : Role) (key : Key) → IsLegal s h → (has_held s h role ≡ false → IsToldOfAll s h role) → IsQuiet s h role key → RestsOn s h role key
-quiet_rests s h role key legal told q = idle_rests s h role key legal told q.idle
-
--- it is not worth a begin
-pub quiet_unfit : (s : Setting) (h : List Entry) (role : Role) (key : Key) → IsQuiet s h role key → Fits s h role key → ⊥
-quiet_unfit s h role key q fits = fits.worth q
+-- and on each that is not awake the role has nothing to do
+pub idles_step : (old new : Seen) (move : Move) (r : Result Stepped AllocError) (before rows : List (BTreeSet Key)) → IsRun (setting_of new.scenario) new.history → IsRun (setting_of old.scenario) old.history
+    → Keeps before rows → Wakes (setting_of old.scenario) old.history move rows → new.scenario ≡ old.scenario
+    → IfOk r (λ answer. Leaves (setting_of old.scenario) old.history move answer new.history) → OnErr r (new ≡ old) → Idles (setting_of old.scenario) old.history before
+    → Idles (setting_of new.scenario) new.history rows
+idles_step old new move r before rows run was keeps woken same leaves failed idles role key work off =
+    holds_step IsIdleOn idle_lasts (IsBeside rows) old new move r run was (leaves_beside IsIdleOn idle_unknown (setting_of old.scenario) old.history move rows woken) same leaves failed
+    (λ r k o. idles_more (setting_of old.scenario) old.history before rows keeps idles r k o.0 o.1) role key (work, off)

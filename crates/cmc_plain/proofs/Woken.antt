@@ -1,10 +1,9 @@
 -- Which keys are made ready, and that the others stay quiet.
 use Rattle.std.proofs.Common.{◌≡◌, ◌+◌, ◌<◌, ℕ, List, [], ◌∷◌, ◌++◌, Option, Some, None, Bool, true, false, refl, sym, ap, subst, ◌∙◌, arith, option_and_then}
-use Rattle.std.proofs.lemmas.Bool.{and_parts, or_right}
+use Rattle.std.proofs.lemmas.Bool.{or_right}
 use Rattle.std.proofs.lemmas.Bool.Decides.{nat_tests}
-use Rattle.std.specs.Prelude.{◌&&◌, ◌||◌, not, nat_lt, reverse, Result, Ok, Err, IfOk, OnOk, OnErr}
+use Rattle.std.specs.Prelude.{◌&&◌, ◌||◌, nat_lt, reverse, Result, Ok, Err, OnOk}
 use Rattle.std.specs.BTreeSet.{BTreeSet}
-use Rattle.std.specs.declared.alloc.AllocError.{AllocError}
 use Rattle.cmc_meta.specs.declared.key.Key.{Key}
 use Rattle.cmc_meta.specs.Keys.{key_eq}
 use Rattle.cmc_objects.specs.declared.role.Role.{Role}
@@ -23,19 +22,11 @@ use Rattle.cmc_rules.specs.Following.{call_or, call_of, effect_besides, effect_o
 use Rattle.cmc_objects.specs.Watching.{kind_of_work}
 use Rattle.cmc_rules.specs.Scripting.{scripted, step_at}
 use Rattle.cmc_held.proofs.Numbered.{list_any-reverse}
-use Rattle.cmc_rules.specs.Runs.{IsRun}
-use Rattle.cmc_setup.specs.Setups.{Setup}
-use Rattle.cmc_moves.specs.Answers.{Leaves, next_effect}
-use Rattle.cmc_world.specs.Kept.{Seen, setting_of}
-use Rattle.cmc_moves.specs.declared.moves.Move.{Move}
-use Rattle.cmc_moves.specs.declared.moves.Stepped.{Stepped}
+use Rattle.cmc_moves.specs.Answers.{next_effect}
 use Rattle.cmc_world.proofs.Rest.{same_key}
-use Rattle.cmc_world.proofs.Standings.{same_role}
-use Rattle.cmc_moves.specs.Quiet.{IsQuiet}
-use Rattle.cmc_plain.specs.Ready.{is_ready, Keeps, HasKnown, HasAllKnown, Covers, is_alarm, WakesAll, Wakes}
+use Rattle.cmc_plain.specs.Ready.{is_ready, Keeps, HasKnown, HasAllKnown, is_alarm, WakesAll}
 use Rattle.cmc_plain.specs.Searches.{EachBefore}
 use Rattle.cmc_plain.proofs.Ordering.{rank_low}
-use Rattle.cmc_plain.proofs.Quiet.{covers_on, covers_more}
 
 -- ---- sets that grow
 
@@ -136,34 +127,8 @@ by_effect (Some (effects.Start role at)) s h rows has = has
 pub wakes_each : (s : Setting) (h : List Entry) (rows : List (BTreeSet Key)) → HasAllKnown s h rows → WakesAll s h (next_effect s h) rows
 wakes_each s h rows has = by_effect (next_effect s h) s h rows has
 
--- ---- keys that are looked at
-
-gone : (b : Bool) (s : Setting) (h : List Entry) (old : List (BTreeSet Key)) (role r : Role) (key k : Key) → (role_eq role r && key_eq key k) ≡ b → IsQuiet s h role key → Covers s h old
-    → k.kind ≡ kind_of_work r → (not b && is_ready old r k) ≡ false → IsQuiet s h r k
-gone true s h old role r key k is quiet covers work off =
-    let parts = and_parts (role_eq role r) (key_eq key k) is in
-    subst (λ (x : Role). IsQuiet s h x k) (same_role role r parts.0) (subst (IsQuiet s h role) (same_key key k parts.1) quiet)
-gone false s h old role r key k is quiet covers work off = covers r k work off
-
--- a quiet key need not be ready
-pub covers_less : (s : Setting) (h : List Entry) (old new : List (BTreeSet Key)) (role : Role) (key : Key) → IsQuiet s h role key
-    → ((r : Role) (k : Key) → is_ready new r k ≡ (not (role_eq role r && key_eq key k) && is_ready old r k)) → Covers s h old → Covers s h new
-covers_less s h old new role key quiet each covers r k work off = gone (role_eq role r && key_eq key k) s h old role r key k refl quiet covers work (sym (each r k) ∙ off)
-
 -- ---- a call at the end
 
 pub on_ok : {A E X Y : Type 0} (r : Result A E) → (X → Y) → OnOk r X → OnOk r Y
 on_ok (Ok a) f x = f x
 on_ok (Err e) f x = x
-
--- after a step that is answered, and where memory ran out
-pub covers_step : (old new : Seen) (move : Move) (r : Result Stepped AllocError) (before rows : List (BTreeSet Key)) → IsRun (setting_of new.scenario) new.history → IsRun (setting_of old.scenario) old.history
-    → Keeps before rows → Wakes (setting_of old.scenario) old.history move rows → new.scenario ≡ old.scenario
-    → IfOk r (λ answer. Leaves (setting_of old.scenario) old.history move answer new.history) → OnErr r (new ≡ old) → Covers (setting_of old.scenario) old.history before
-    → Covers (setting_of new.scenario) new.history rows
-covers_step old new move (Ok answer) before rows run was keeps woken same leaves failed covers =
-    let here = subst (λ (u : Setup). IsRun (setting_of u) new.history) same run in
-    subst (λ (u : Setup). Covers (setting_of u) new.history rows) (sym same)
-    (covers_on (setting_of old.scenario) old.history move answer new.history rows here.legal was.legal woken leaves (covers_more (setting_of old.scenario) old.history before rows keeps covers))
-covers_step old new move (Err e) before rows run was keeps woken same leaves failed covers =
-    subst (λ (v : Seen). Covers (setting_of v.scenario) v.history rows) (sym failed) (covers_more (setting_of old.scenario) old.history before rows keeps covers)

@@ -1,6 +1,8 @@
 -- When a role has something to do on a key.
-use Rattle.std.proofs.Common.{◌≡◌, Bool, true, false, List, None, refl, sym, subst}
-use Rattle.std.specs.BTreeSet.{BTreeSet}
+use Rattle.std.proofs.Common.{◌≡◌, Bool, true, false, List, Option, None, refl, sym, subst}
+use Rattle.std.specs.BTreeSet.{BTreeSet, contains}
+use Rattle.cmc_meta.specs.Keys.{key_cmp}
+use Rattle.cmc_objects.specs.Watching.{kind_of_work}
 use Rattle.std.specs.Prelude.{◌↔◌, IsTrue}
 use Rattle.cmc_meta.specs.declared.key.Key.{Key}
 use Rattle.cmc_objects.specs.declared.role.Role.{Role}
@@ -14,22 +16,18 @@ use Rattle.cmc_rules.specs.Viewing.{views}
 use Rattle.cmc_rules.specs.Memory.{past}
 use Rattle.cmc_rules.specs.Sameness.{IsDue, own_above}
 use Rattle.cmc_rules.specs.Legality.{IsLegal}
-use Rattle.cmc_plain.specs.Plain.{Fits}
-use Rattle.cmc_plain.specs.Ready.{Idles, is_ready}
-use Rattle.cmc_plain.specs.Searches.{HasWork, IsFree}
+use Rattle.cmc_plain.specs.Ready.{IsIdleOn}
+use Rattle.cmc_plain.specs.Searches.{HasWork, HasWorkAbove, IsFree}
 use Rattle.cmc_plain.proofs.Unknown.{known_unless_quiet}
 
--- a key on which there is something to do fits
-pub work_fits : (s : Setting) (h : List Entry) (role : Role) (key : Key) → HasWork s h role key → Fits s h role key
-work_fits s h role key w = record { may = w.may; worth = λ quiet. w.busy quiet.idle }
+-- of a key on which there is nothing to do it is not so
+pub idle_lacks : (s : Setting) (h : List Entry) (role : Role) (below : Option Key) (keys : BTreeSet Key) → ((k : Key) → k.kind ≡ kind_of_work role → contains key_cmp keys k ≡ false → IsIdleOn s h role k)
+    → (k : Key) → contains key_cmp keys k ≡ false → HasWorkAbove s h role below k → ⊥
+idle_lacks s h role below keys others k off w = w.work.busy (others k w.work.may.work off)
 
--- on a key that is known to be idle there is nothing to do
-pub idle_known : (s : Setting) (h : List Entry) (role : Role) (key : Key) (rows : List (BTreeSet Key)) → Idles s h rows → is_ready rows role key ≡ true → IsTrue false ↔ HasWork s h role key
-idle_known s h role key rows idles on = (λ bad. absurd (cc), λ w. absurd (w.busy (idles role key on)))
-
--- nor where it is so by what the role sees
-pub idle_is : (s : Setting) (h : List Entry) (role : Role) (key : Key) → IsIdle s h role (views s h role key) → IsTrue false ↔ HasWork s h role key
-idle_is s h role key idle = (λ bad. absurd (cc), λ w. absurd (w.busy idle))
+-- where there is nothing to do by what the role sees
+pub idle_is : (s : Setting) (h : List Entry) (role : Role) (key : Key) (b : Bool) → (IsTrue b ↔ IsIdleOn s h role key) → b ≡ true → IsTrue false ↔ HasWork s h role key
+idle_is s h role key b idle on = (λ bad. absurd (cc), λ w. absurd (w.busy (idle.0 on)))
 
 -- nor on one that is none of its work, or is worked on
 pub not_free : (s : Setting) (h : List Entry) (role : Role) (key : Key) (b : Bool) → (IsTrue b ↔ IsFree s h role key) → b ≡ false → IsTrue false ↔ HasWork s h role key
@@ -45,13 +43,13 @@ untold s h role key b told off = (λ bad. absurd (cc), λ w. absurd (told off w.
 
 -- where it is not so by what the role sees, there is something to do exactly where the role is due
 pub work_where_due : (s : Setting) (h : List Entry) (role : Role) (key : Key) (seen : Views) (due idle : Bool) → IsLegal s h → seen ≡ views s h role key → runs s h role ≡ true → IsFree s h role key
-    → (IsTrue idle ↔ IsIdle s h role seen) → idle ≡ false → (IsTrue due ↔ IsDue (past s h role key) seen (moment s h) (positions h role)) → IsTrue due ↔ HasWork s h role key
+    → (IsTrue idle ↔ IsIdleOn s h role key) → idle ≡ false → (IsTrue due ↔ IsDue (past s h role key) seen (moment s h) (positions h role)) → IsTrue due ↔ HasWork s h role key
 work_where_due s h role key seen due idle legal is running free idle_tells off due_tells = (λ on. work (due_tells.0 on), λ w. due_tells.1 (subst IsDueWith (sym is) w.may.due)) where
   IsDueWith : Views → Type 0
   IsDueWith v = IsDue (past s h role key) v (moment s h) (positions h role)
 
   busy : IsIdle s h role (views s h role key) → ⊥
-  busy quiet = let on = idle_tells.1 (subst (IsIdle s h role) (sym is) quiet) in absurd (cc (on, off))
+  busy quiet = let on = idle_tells.1 quiet in absurd (cc (on, off))
 
   work : IsDueWith seen → HasWork s h role key
   work now = record {

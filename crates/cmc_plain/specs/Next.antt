@@ -4,9 +4,8 @@ use Rattle.cmc_objects.specs.declared.entry.Entry.{Entry}
 use Rattle.cmc_model.specs.Histories.{Setting}
 use Rattle.cmc_model.specs.Writes.{writes, last_of_kind}
 use Rattle.cmc_moves.specs.declared.moves.Move.{Move}
-use Rattle.cmc_moves.specs.declared.moves.Move.TheVariants.{Script, Deliver, Begin}
-use Rattle.cmc_plain.specs.Plain.{IsStepReady, IsFirstDelivery, IsFirstBegin, HasNoScript, HasNoDelivery}
-use Rattle.cmc_plain.specs.Searches.{HasNoBegin}
+use Rattle.cmc_moves.specs.declared.moves.Move.TheVariants.{Script, Deliver}
+use Rattle.cmc_plain.specs.Plain.{IsStepReady, IsFirstDelivery, HasNoScript, HasNoDelivery}
 
 -- the next step of the script, which does not wait
 abbrev pub IsNextScript : Setting → List Entry → Option Move → Type 0
@@ -19,9 +18,3 @@ abbrev pub IsNextDelivery : Setting → List Entry → Option Move → Type 0
 IsNextDelivery s h None = HasNoDelivery s h
 IsNextDelivery s h (Some (Deliver role kind to)) = IsFirstDelivery s h role kind × (to ≡ last_of_kind kind (writes s h))
 IsNextDelivery s h (Some other) = ⊥
-
--- the begin of the first role with a key on which it has something to do or sees something new, the first such key
-abbrev pub IsNextBegin : Setting → List Entry → Option Move → Type 0
-IsNextBegin s h None = HasNoBegin s h
-IsNextBegin s h (Some (Begin role key)) = IsFirstBegin s h role key
-IsNextBegin s h (Some other) = ⊥

@@ -1,5 +1,5 @@
 -- Which keys a role has to look at, and which it may leave alone.
-use Rattle.std.specs.Prelude.{◌≡◌, ◌≤◌, ℕ, Bool, true, false, List, [], ◌∷◌, slice_index_or, Option, Some}
+use Rattle.std.specs.Prelude.{◌≡◌, ◌≤◌, ℕ, Bool, true, false, List, [], ◌∷◌, slice_index_or, Option, Some, None}
 use Rattle.std.specs.BTreeSet.{BTreeSet, contains}
 use Rattle.cmc_meta.specs.declared.key.Key.{Key}
 use Rattle.cmc_meta.specs.declared.key.Kind.{Kind}
@@ -20,7 +20,12 @@ use Rattle.cmc_rules.specs.Viewing.{views}
 use Rattle.cmc_moves.specs.Answers.{next_effect}
 use Rattle.cmc_moves.specs.declared.moves.Move.{Move}
 use Rattle.cmc_moves.specs.declared.moves.Move.TheVariants as moves
+use Rattle.cmc_moves.specs.declared.moves.Stepped.{Stepped}
+use Rattle.cmc_moves.specs.declared.moves.Stepped.TheVariants.{Done}
 use Rattle.cmc_moves.specs.Quiet.{IsQuiet}
+use Rattle.cmc_caches.specs.Affected.{is_among}
+use Rattle.cmc_plain.specs.declared.begins.Beginning.{Beginning}
+use Rattle.cmc_plain.specs.declared.known.Known.{Known}
 
 -- ---- sets of keys, one a role
 
@@ -49,9 +54,31 @@ HasAllKnown s h rows = (role : Role) → HasKnown s h role rows
 abbrev pub Covers : Setting → List Entry → List (BTreeSet Key) → Type 0
 Covers s h rows = (role : Role) (key : Key) → key.kind ≡ kind_of_work role → is_ready rows role key ≡ false → IsQuiet s h role key
 
--- on each of these keys the role has nothing to do by what it sees
+-- the role has nothing to do on the key by what it sees
+abbrev pub IsIdleOn : Setting → List Entry → Role → Key → Type 0
+IsIdleOn s h role key = IsIdle s h role (views s h role key)
+
+-- No work is lost: each key of a role's work that is not awake is idle.
 abbrev pub Idles : Setting → List Entry → List (BTreeSet Key) → Type 0
-Idles s h rows = (role : Role) (key : Key) → is_ready rows role key ≡ true → IsIdle s h role (views s h role key)
+Idles s h awake = (role : Role) (key : Key) → key.kind ≡ kind_of_work role → is_ready awake role key ≡ false → IsIdleOn s h role key
+
+-- on each of these the role has something to do
+abbrev pub Busies : Setting → List Entry → List (BTreeSet Key) → Type 0
+Busies s h rows = (role : Role) (key : Key) → is_ready rows role key ≡ true → IsIdleOn s h role key → ⊥
+
+-- what is known of keys is so
+pub record Knows (s : Setting) (h : List Entry) (known : Known) : Type 0 where
+  pub idle : Idles s h known.awake
+  pub busy : Busies s h known.busy
+
+-- no more is known
+pub record KnowsLess (old new : Known) : Type 0 where
+  pub awake : Keeps old.awake new.awake
+  pub busy : Keeps new.busy old.busy
+
+-- on each of the keys it is so
+abbrev pub IsOfEach : (Key → Type 0) → List Key → Type 0
+IsOfEach P keys = (key : Key) → is_among keys key ≡ true → P key
 
 -- ---- what a move may wake
 
@@ -86,11 +113,31 @@ pub record StaysTold (s : Setting) (h : List Entry) (role : Role) (kind : Kind) 
   pub told : (key : Key) → is_ready rows role key ≡ true → SeesSame s h role kind to key
   pub listed : (key : Key) → is_ready rows role key ≡ true → SeesSame s h role kind (accepted s h) key
 
--- none is left on which the move may give a role something to do
-abbrev pub Forgets : Setting → List Entry → Move → List (BTreeSet Key) → Type 0
-Forgets s h moves.Script rows = (role : Role) (key : Key) → is_ready rows role key ≡ false
-Forgets s h (moves.Deliver role kind to) rows = StaysTold s h role kind to rows
-Forgets s h other rows = Unit {0}
+-- none is left of which it is known that the role has something to do, where the move may change it
+abbrev pub LeavesBusy : Setting → List Entry → Move → List (BTreeSet Key) → Type 0
+LeavesBusy s h moves.Script rows = (role : Role) (key : Key) → is_ready rows role key ≡ false
+LeavesBusy s h (moves.Deliver role kind to) rows = StaysTold s h role kind to rows
+LeavesBusy s h other rows = Unit {0}
+
+-- nothing is known of a key on which the move may change what a role has to do
+pub record Forgets (s : Setting) (h : List Entry) (move : Move) (known : Known) : Type 0 where
+  pub awake : Wakes s h move known.awake
+  pub busy : LeavesBusy s h move known.busy
+
+-- this role is known to have nothing to do on this key
+abbrev pub IsAsleepOn : Known → Role → Key → Option Beginning → Type 0
+IsAsleepOn known role key None = Unit {0}
+IsAsleepOn known role key (Some begun) = (begun.role ≡ role) × (begun.key ≡ key) × (key.kind ≡ kind_of_work role) × (is_ready known.awake role key ≡ false)
+
+-- the move begins a pass on a key on which the role is known to have nothing to do
+abbrev pub IsIdleBegin : Known → Move → Option Beginning → Type 0
+IsIdleBegin known move None = Unit {0}
+IsIdleBegin known move (Some begun) = (move ≡ moves.Begin begun.role begun.key) × (begun.key.kind ≡ kind_of_work begun.role) × (is_ready known.awake begun.role begun.key ≡ false)
+
+-- where the pass was begun its key is quiet
+abbrev pub LeavesQuiet : Setting → List Entry → Option Beginning → Stepped → Type 0
+LeavesQuiet s h None answer = Unit {0}
+LeavesQuiet s h (Some begun) answer = answer ≡ Done → IsQuiet s h begun.role begun.key
 
 -- a role is told of all writes of a kind that it looks at
 abbrev pub IsToNewest : Setting → List Entry → Move → Type 0

@@ -1,5 +1,5 @@
 -- What the searches for the plain move find.
-use Rattle.std.specs.Prelude.{◌≡◌, ℕ, ◌<◌, Bool, true, List, Option, Some, None}
+use Rattle.std.specs.Prelude.{◌≡◌, ℕ, ◌<◌, Bool, true, false, List, Option, Some, None, MatchBool}
 use Rattle.std.specs.Ordering.{is_lt}
 use Rattle.std.specs.declared.cmp.Ordering.TheVariants.{Less}
 use Rattle.cmc_meta.specs.declared.key.Key.{Key}
@@ -9,13 +9,14 @@ use Rattle.cmc_meta.specs.Keys.{kind_rank, key_cmp}
 use Rattle.cmc_objects.specs.Roles.{role_rank}
 use Rattle.cmc_objects.specs.declared.role.Role.{Role}
 use Rattle.cmc_objects.specs.declared.entry.Entry.{Entry}
+use Rattle.cmc_objects.specs.declared.entry.Step.{Step}
+use Rattle.cmc_rules.specs.Following.{IsReady}
 use Rattle.cmc_model.specs.Histories.{Setting, runs}
 use Rattle.cmc_model.specs.Writes.{last_of_kind, writes}
 use Rattle.cmc_objects.specs.Watching.{kind_of_work}
-use Rattle.cmc_moves.specs.declared.moves.Move.{Move}
 use Rattle.cmc_moves.specs.declared.moves.Stepped.{Stepped}
 use Rattle.cmc_moves.specs.declared.moves.Stepped.TheVariants.{Done, Spent}
-use Rattle.cmc_rules.specs.Resting.{RestsOnKnown}
+use Rattle.cmc_rules.specs.Resting.{RestsOnKnown, IsAtRest}
 use Rattle.cmc_rules.specs.Passes.{open_pass, IsWorking}
 use Rattle.cmc_plain.specs.declared.passes.Going.{Going}
 use Rattle.cmc_plain.specs.declared.deliveries.Delivery.{Delivery}
@@ -23,13 +24,15 @@ use Rattle.cmc_plain.specs.declared.deliveries.Newest.{Newest}
 use Rattle.cmc_plain.specs.declared.begins.Beginning.{Beginning}
 use Rattle.cmc_rules.specs.Resting.{IsIdle}
 use Rattle.cmc_rules.specs.Viewing.{views}
-use Rattle.cmc_plain.specs.Plain.{IsBehind, Fits, MayBegin, HasNoScript, HasNoPass, HasNoDelivery, IsFirstPass, IsOfPresent, IsFirstDelivery, IsFirstBegin, IsChosen}
+use Rattle.cmc_plain.specs.declared.scripts.Awaits.{Awaits}
+use Rattle.cmc_plain.specs.declared.scripts.Awaits.TheVariants.{Nothing, Rest, Never}
+use Rattle.cmc_plain.specs.Plain.{IsBehind, IsStepReady, Fits, MayBegin, HasNoScript, HasNoPass, HasNoDelivery, IsFirstPass, IsOfPresent, IsFirstDelivery, IsFirstBegin}
 
 -- want of room does not make a move impossible
-abbrev pub IsAccepted : Stepped → Type 0
-IsAccepted Done = Unit {0}
-IsAccepted (Spent entries) = Unit {0}
-IsAccepted other = ⊥
+abbrev pub is_accepted : Stepped → Bool
+is_accepted Done = true
+is_accepted (Spent entries) = true
+is_accepted other = false
 
 -- it is so of no role before this place
 abbrev pub HasNoneBefore : (Role → Type 0) → ℕ → Type 0
@@ -117,13 +120,19 @@ EachBefore P n = (r : Role) → role_rank r < n → P r
 
 -- ---- all moves
 
--- no move is possible, or worth it
-pub record HasNoMove (s : Setting) (h : List Entry) : Type 0 where
-  pub script : HasNoScript s h
-  pub passes : HasNoPass s h
-  pub deliveries : HasNoDelivery s h
-  pub begins : HasNoBegin s h
+-- what this step waits for
+abbrev pub IsAwaitedBy : Setting → List Entry → Step → Awaits → Type 0
+IsAwaitedBy s h step Nothing = IsReady s h (Some step)
+IsAwaitedBy s h step Rest = (IsAtRest s h → IsReady s h (Some step)) × (IsReady s h (Some step) → IsAtRest s h)
+IsAwaitedBy s h step Never = ⊥
 
-abbrev pub FindsMove : Setting → List Entry → Option Move → Type 0
-FindsMove s h None = HasNoMove s h
-FindsMove s h (Some move) = IsChosen s h move
+-- what the next step of the script waits for
+abbrev pub IsAwaiting : Setting → List Entry → Awaits → Type 0
+IsAwaiting s h Nothing = IsStepReady s h
+IsAwaiting s h Rest = (IsAtRest s h → IsStepReady s h) × (IsStepReady s h → IsAtRest s h)
+IsAwaiting s h Never = HasNoScript s h
+
+-- a step that is left is ready exactly where all is at rest
+pub record IsLeft (s : Setting) (h : List Entry) (left : Bool) : Type 0 where
+  pub waits : IsStepReady s h → IsAtRest s h
+  pub goes : IsAtRest s h → MatchBool left (IsStepReady s h) (HasNoScript s h)

@@ -32,6 +32,7 @@ use Rattle.cmc_rules.specs.Issuing.{says_issued, is_kept_for_keys}
 use Rattle.cmc_rules.specs.Viewing.{present_views}
 use Rattle.cmc_moves.specs.declared.moves.Stepped.{Stepped}
 use Rattle.cmc_moves.specs.declared.moves.Stepped.TheVariants.{NotNow}
+use Rattle.cmc_moves.specs.declared.moves.Lack.{Lack}
 use Rattle.cmc_moves.specs.declared.moves.Lack.TheVariants.{Stopped, Held}
 
 -- ---- the roles
@@ -50,10 +51,14 @@ all_roles = Trigger ∷ KeyManager ∷ RequestManager ∷ Approver ∷ Issuer �
 abbrev pub is_stopped : Setting → List Entry → Bool
 is_stopped s h = list_any (λ role. is_hindered s h role) all_roles
 
+abbrev pub is_pause : Lack → Bool
+is_pause Stopped = true
+is_pause Held = true
+is_pause other = false
+
 -- a step answers so to a delivery where the role does not run, or its informer of the kind is held
 abbrev pub is_refusal : Stepped → Bool
-is_refusal (NotNow Stopped) = true
-is_refusal (NotNow Held) = true
+is_refusal (NotNow lack) = is_pause lack
 is_refusal other = false
 
 -- ---- one Certificate, by what there is to see of it

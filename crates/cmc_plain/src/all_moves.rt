@@ -5,6 +5,7 @@ ghost use Rattle.cmc_pass.specs.Values.{IsValue};
 ghost use Rattle.cmc_world.specs.Kept.{setting_of};
 ghost use Rattle.cmc_world.specs.Leading.{IsRight, IsStep, Lead, LeadsSome};
 
+use cmc_moves::let_go;
 use cmc_pass::Given;
 use cmc_world::{Move, World};
 use std::alloc::{AllocError, Global};
@@ -41,11 +42,6 @@ fn is_right(step: &Move)
         | Move::Next { .. }
         | Move::Decide { .. } => {}
     }
-}
-
-/// What a step answers has many shapes, and to let go of it is one thing for all of them.
-fn let_go<T: Drop>(answer: T) {
-    let _answer = answer;
 }
 
 /// Makes one move, whatever it is answered.

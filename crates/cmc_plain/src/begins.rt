@@ -12,10 +12,11 @@ ghost use Rattle.cmc_world.specs.Kept.{setting_of};
 ghost use Rattle.cmc_moves.specs.Quiet.{IsQuiet};
 ghost use Rattle.cmc_objects.specs.Watching.{kind_of_work};
 ghost use Rattle.cmc_plain.specs.Plain as spec;
-ghost use Rattle.cmc_plain.specs.Ready.{Covers, Idles};
+ghost use Rattle.cmc_plain.specs.Ready.{Covers, IsOfEach, Knows};
 ghost use Rattle.cmc_plain.specs.Searches.{FindsBegin, FindsKey, IsFree};
 
-use crate::ready::Ready;
+use crate::known::{Known, is_idle};
+use crate::ready::{Ready, remove_each};
 use crate::roles::role_in;
 use cmc_held::own_above;
 use cmc_meta::Key;
@@ -40,68 +41,50 @@ pub(crate) fn is_free(world: &World, role: Role, key: &Key) -> bool
 }
 
 /// Whether the role, which sees this of the key, has nothing to do there and sees what it saw as it last began.
-fn is_quiet_seen(
+fn is_quiet(
     alloc: Global,
     world: &World,
     role: Role,
     key: &Key,
     seen: &Views,
-    idle: &Ready,
+    known: &mut Known,
 ) -> Result<bool, AllocError>
-    requires idles { Idles (setting_of world.now.scenario) world.now.history idle.now }
+    requires before { Knows (setting_of world.now.scenario) world.now.history known.old }
     requires sees { seen.now ≡ views (setting_of world.now.scenario) world.now.history role key.now }
-    ensures { IfOk result (λ b. IsTrue b ↔ IsQuiet (setting_of world.now.scenario) world.now.history role key.now) }
+    ensures test { IfOk result (λ b. IsTrue b ↔ IsQuiet (setting_of world.now.scenario) world.now.history role key.now) }
+    ensures after { Knows (setting_of world.now.scenario) world.now.history known.new }
 {
     if !world.saw_last(alloc, role, key, seen) {
         return Ok(false);
     }
-    world.can_act();
-    if idle.keys(role).contains(key) {
-        return Ok(true);
-    }
-    world.is_idle(alloc, role, seen)
+    is_idle(alloc, world, role, key, seen, known)
 }
 
-/// Whether the role has nothing to do on the key, and sees what it saw as it last began a pass on it.
-///
-/// # Errors
-///
-/// Want of memory alone.
-pub(crate) fn is_quiet(
-    alloc: Global,
-    world: &World,
-    role: Role,
-    key: &Key,
-    idle: &Ready,
-) -> Result<bool, AllocError>
-    requires { Idles (setting_of world.now.scenario) world.now.history idle.now }
-    ensures { IfOk result (λ b. IsTrue b ↔ IsQuiet (setting_of world.now.scenario) world.now.history role key.now) }
-{
-    let seen = world.views(alloc, role, key)?;
-    is_quiet_seen(alloc, world, role, key, &seen, idle)
-}
-
-/// Whether the key fits the role, which runs, sees it so and works on it in no pass.
+/// Whether the key fits the role, which runs, sees it so and works on it in no pass. A key that is quiet is put to these.
 fn fits_seen(
     alloc: Global,
     world: &World,
     role: Role,
     key: &Key,
     seen: &Views,
-    idle: &Ready,
+    known: &mut Known,
+    quiet: &mut Vec<Key>,
 ) -> Result<bool, AllocError>
-    requires idles { Idles (setting_of world.now.scenario) world.now.history idle.now }
+    requires before { Knows (setting_of world.now.scenario) world.now.history known.old }
+    requires quiet { IsOfEach (IsQuiet (setting_of world.now.scenario) world.now.history role) quiet.old.items }
     requires sees { seen.now ≡ views (setting_of world.now.scenario) world.now.history role key.now }
     requires running { histories.runs (setting_of world.now.scenario) world.now.history role ≡ true }
     requires free { IsFree (setting_of world.now.scenario) world.now.history role key.now }
-    ensures { IfOk result (λ b. IsTrue b ↔ spec.Fits (setting_of world.now.scenario) world.now.history role key.now) }
+    ensures fits { IfOk result (λ b. IsTrue b ↔ spec.Fits (setting_of world.now.scenario) world.now.history role key.now) }
+    ensures after { Knows (setting_of world.now.scenario) world.now.history known.new }
+    ensures quiet { IsOfEach (IsQuiet (setting_of world.now.scenario) world.now.history role) quiet.new.items }
 {
     world.is_run();
-    if !world.is_due(role, key, seen) {
+    if is_quiet(alloc, world, role, key, seen, known)? {
+        quiet.push(key.copy()?)?;
         return Ok(false);
     }
-    let quiet = is_quiet_seen(alloc, world, role, key, seen, idle)?;
-    Ok(!quiet)
+    Ok(world.is_due(role, key, seen))
 }
 
 /// Whether the role was told of its own writes on the key. While it was not, no pass is due there, whatever it would see:
@@ -115,17 +98,21 @@ pub(crate) fn knows_own(world: &World, role: Role, key: &Key) -> bool
     }
 }
 
-/// Whether the key fits the role, which runs.
+/// Whether the key fits the role, which runs. A key that is found to be quiet is put to these.
 fn fits(
     alloc: Global,
     world: &World,
     role: Role,
     key: &Key,
-    idle: &Ready,
+    known: &mut Known,
+    quiet: &mut Vec<Key>,
 ) -> Result<bool, AllocError>
-    requires idles { Idles (setting_of world.now.scenario) world.now.history idle.now }
+    requires before { Knows (setting_of world.now.scenario) world.now.history known.old }
+    requires quiet { IsOfEach (IsQuiet (setting_of world.now.scenario) world.now.history role) quiet.old.items }
     requires running { histories.runs (setting_of world.now.scenario) world.now.history role ≡ true }
-    ensures { IfOk result (λ b. IsTrue b ↔ spec.Fits (setting_of world.now.scenario) world.now.history role key.now) }
+    ensures fits { IfOk result (λ b. IsTrue b ↔ spec.Fits (setting_of world.now.scenario) world.now.history role key.now) }
+    ensures after { Knows (setting_of world.now.scenario) world.now.history known.new }
+    ensures quiet { IsOfEach (IsQuiet (setting_of world.now.scenario) world.now.history role) quiet.new.items }
 {
     if !is_free(world, role, key) {
         return Ok(false);
@@ -134,49 +121,70 @@ fn fits(
         return Ok(false);
     }
     let seen = world.views(alloc, role, key)?;
-    fits_seen(alloc, world, role, key, &seen, idle)
+    fits_seen(alloc, world, role, key, &seen, known, quiet)
 }
 
-/// The first of the keys that fits the role, which runs. Every key of its work beside them is quiet.
+/// The first of the keys that fits the role, which runs. Every key of its work beside them is quiet. Those before it that are
+/// quiet are put to these.
 fn first_among(
     alloc: Global,
     world: &World,
     role: Role,
     keys: &BTreeSet<Key>,
-    idle: &Ready,
+    known: &mut Known,
+    quiet: &mut Vec<Key>,
 ) -> Result<Option<Key>, AllocError>
-    requires idles { Idles (setting_of world.now.scenario) world.now.history idle.now }
+    requires before { Knows (setting_of world.now.scenario) world.now.history known.old }
+    requires quiet { IsOfEach (IsQuiet (setting_of world.now.scenario) world.now.history role) quiet.old.items }
     requires running { histories.runs (setting_of world.now.scenario) world.now.history role ≡ true }
     requires others { (k : KeyValue) → k.kind ≡ kind_of_work role → contains key_cmp keys.now k ≡ false → IsQuiet (setting_of world.now.scenario) world.now.history role k }
-    ensures { IfOk result (λ k. FindsKey (setting_of world.now.scenario) world.now.history role k) }
+    ensures finds { IfOk result (λ k. FindsKey (setting_of world.now.scenario) world.now.history role k) }
+    ensures after { Knows (setting_of world.now.scenario) world.now.history known.new }
+    ensures quiet { IsOfEach (IsQuiet (setting_of world.now.scenario) world.now.history role) quiet.new.items }
 {
     for key in keys.iter() {
-        if fits(alloc, world, role, key, idle)? {
+        if fits(alloc, world, role, key, known, quiet)? {
             return Ok(Some(key.copy()?));
         }
     }
     Ok(None)
 }
 
-/// The first of the keys that are ready for the role, and fit it.
+/// Lets keys that are quiet be ready no more.
+fn leave(world: &World, role: Role, ready: &mut Ready, quiet: &[Key])
+    requires covers { Covers (setting_of world.now.scenario) world.now.history ready.old }
+    requires quiet { IsOfEach (IsQuiet (setting_of world.now.scenario) world.now.history role) quiet.now }
+    ensures { Covers (setting_of world.now.scenario) world.now.history ready.new }
+{
+    world.is_run();
+    remove_each(ready, role, quiet);
+}
+
+/// The first of the keys that are ready for the role, and fit it. Those before it that are quiet are ready no more.
 fn first_key(
     alloc: Global,
     world: &World,
     role: Role,
-    ready: &Ready,
-    idle: &Ready,
+    ready: &mut Ready,
+    known: &mut Known,
 ) -> Result<Option<Key>, AllocError>
-    requires idles { Idles (setting_of world.now.scenario) world.now.history idle.now }
-    requires covers { Covers (setting_of world.now.scenario) world.now.history ready.now }
-    ensures { IfOk result (λ k. FindsKey (setting_of world.now.scenario) world.now.history role k) }
+    requires before { Knows (setting_of world.now.scenario) world.now.history known.old }
+    requires covers { Covers (setting_of world.now.scenario) world.now.history ready.old }
+    ensures finds { IfOk result (λ k. FindsKey (setting_of world.now.scenario) world.now.history role k) }
+    ensures after { Knows (setting_of world.now.scenario) world.now.history known.new }
+    ensures covers { Covers (setting_of world.now.scenario) world.now.history ready.new }
 {
     if !world.runs(role) {
         return Ok(None);
     }
-    first_among(alloc, world, role, ready.keys(role), idle)
+    let mut quiet = Vec::new(alloc);
+    let found = first_among(alloc, world, role, ready.keys(role), known, &mut quiet)?;
+    leave(world, role, ready, &quiet);
+    Ok(found)
 }
 
-/// The first role that a key fits, with the first such key; `None` exactly where there is none.
+/// The first role that a key fits, with the first such key; `None` exactly where there is none. Keys that are found to be
+/// quiet are ready no more.
 ///
 /// # Errors
 ///
@@ -184,16 +192,18 @@ fn first_key(
 pub(crate) fn first_begin(
     alloc: Global,
     world: &World,
-    ready: &Ready,
-    idle: &Ready,
+    ready: &mut Ready,
+    known: &mut Known,
 ) -> Result<Option<Beginning>, AllocError>
-    requires idles { Idles (setting_of world.now.scenario) world.now.history idle.now }
-    requires covers { Covers (setting_of world.now.scenario) world.now.history ready.now }
-    ensures { IfOk result (λ b. FindsBegin (setting_of world.now.scenario) world.now.history b) }
+    requires before { Knows (setting_of world.now.scenario) world.now.history known.old }
+    requires covers { Covers (setting_of world.now.scenario) world.now.history ready.old }
+    ensures finds { IfOk result (λ b. FindsBegin (setting_of world.now.scenario) world.now.history b) }
+    ensures after { Knows (setting_of world.now.scenario) world.now.history known.new }
+    ensures covers { Covers (setting_of world.now.scenario) world.now.history ready.new }
 {
     for place in 0..8 {
         let role = role_in(place);
-        if let Some(key) = first_key(alloc, world, role, ready, idle)? {
+        if let Some(key) = first_key(alloc, world, role, ready, known)? {
             return Ok(Some(Beginning { role, key }));
         }
     }

@@ -1,34 +1,72 @@
 //! The move that a run by one hand makes next.
-ghost use Rattle.std.specs.Prelude.{IfOk};
+ghost use Rattle.std.specs.Prelude.{◌≡◌, IfOk, Some, None, if◌then◌else◌};
+ghost use Rattle.cmc_moves.specs.declared.moves.Move.TheVariants.{Script};
 ghost use Rattle.cmc_world.specs.Kept.{setting_of};
-ghost use Rattle.cmc_plain.specs.Plain.{IsPlainMove};
-ghost use Rattle.cmc_plain.specs.Ready.{Covers, Idles};
-ghost use Rattle.cmc_plain.specs.Searches.{FindsMove};
+ghost use Rattle.cmc_plain.specs.Plain.{HasNoDelivery, HasNoPass, IsPlainMove};
+ghost use Rattle.cmc_plain.specs.Ready.{Covers, Knows};
+ghost use Rattle.cmc_plain.specs.Searches.{IsLeft};
 
 use crate::begins::{Beginning, first_begin};
 use crate::deliveries::first_delivery;
+use crate::known::Known;
 use crate::passes::first_pass;
 use crate::ready::Ready;
-use crate::rest::{is_finished, is_step_ready};
+use crate::rest::rests_in_each;
+use crate::scripts::{Awaits, awaited};
 use crate::waking::all_ready;
 use cmc_world::{Move, World};
 use std::alloc::{AllocError, Global};
 
-/// The first move that is possible, and a begin only where it is worth it.
-fn first_move(
+/// What is done once all is at rest: the step of the script that waits for it, if one is left.
+fn at_rest(left: bool) -> Option<Move>
+    ensures { result ≡ (if left then Some Script else None) }
+{
+    if left { Some(Move::Script) } else { None }
+}
+
+/// The next move where no pass is open, no role is behind and a step that is left waits for rest.
+fn first_to_begin(
     alloc: Global,
     world: &World,
-    ready: &Ready,
-    idle: &mut Ready,
+    left: bool,
+    ready: &mut Ready,
+    known: &mut Known,
 ) -> Result<Option<Move>, AllocError>
-    requires covers { Covers (setting_of world.now.scenario) world.now.history ready.now }
-    requires before { Idles (setting_of world.now.scenario) world.now.history idle.old }
-    ensures finds { IfOk result (λ m. FindsMove (setting_of world.now.scenario) world.now.history m) }
-    ensures after { Idles (setting_of world.now.scenario) world.now.history idle.new }
+    requires left { IsLeft (setting_of world.now.scenario) world.now.history left }
+    requires closed { HasNoPass (setting_of world.now.scenario) world.now.history }
+    requires told { HasNoDelivery (setting_of world.now.scenario) world.now.history }
+    requires covers { Covers (setting_of world.now.scenario) world.now.history ready.old }
+    requires before { Knows (setting_of world.now.scenario) world.now.history known.old }
+    ensures plain { IfOk result (λ m. IsPlainMove (setting_of world.now.scenario) world.now.history m) }
+    ensures covers { Covers (setting_of world.now.scenario) world.now.history ready.new }
+    ensures after { Knows (setting_of world.now.scenario) world.now.history known.new }
 {
-    if is_step_ready(alloc, world, ready, idle)? {
-        return Ok(Some(Move::Script));
+    world.is_run();
+    world.is_settled();
+    if rests_in_each(alloc, world, known)? {
+        return Ok(at_rest(left));
     }
+    match first_begin(alloc, world, ready, known)? {
+        Some(Beginning { role, key }) => Ok(Some(Move::Begin { role, key })),
+        None => unreachable!(),
+    }
+}
+
+/// The next move where a step that is left waits for rest.
+fn first_of_roles(
+    alloc: Global,
+    world: &World,
+    left: bool,
+    ready: &mut Ready,
+    known: &mut Known,
+) -> Result<Option<Move>, AllocError>
+    requires left { IsLeft (setting_of world.now.scenario) world.now.history left }
+    requires covers { Covers (setting_of world.now.scenario) world.now.history ready.old }
+    requires before { Knows (setting_of world.now.scenario) world.now.history known.old }
+    ensures plain { IfOk result (λ m. IsPlainMove (setting_of world.now.scenario) world.now.history m) }
+    ensures covers { Covers (setting_of world.now.scenario) world.now.history ready.new }
+    ensures after { Knows (setting_of world.now.scenario) world.now.history known.new }
+{
     if let Some(going) = first_pass(world) {
         return Ok(Some(Move::Next {
             pass: going.pass,
@@ -42,13 +80,12 @@ fn first_move(
             to: world.log().last_of_kind(delivery.kind),
         }));
     }
-    match first_begin(alloc, world, ready, idle)? {
-        Some(Beginning { role, key }) => Ok(Some(Move::Begin { role, key })),
-        None => Ok(None),
-    }
+    first_to_begin(alloc, world, left, ready, known)
 }
 
-/// The move that a run by one hand makes next, as `plain` has it, where every key that is not ready is quiet.
+/// The move that a run by one hand makes next, as `plain` has it, where every key that is not ready is quiet. Each search is
+/// made once: what the step of the script waits for tells where rest is asked at all, and it is asked only where nothing else
+/// is found that says that it is not so.
 ///
 /// # Errors
 ///
@@ -56,24 +93,19 @@ fn first_move(
 pub(crate) fn plain_by(
     alloc: Global,
     world: &World,
-    ready: &Ready,
-    idle: &mut Ready,
+    ready: &mut Ready,
+    known: &mut Known,
 ) -> Result<Option<Move>, AllocError>
-    requires covers { Covers (setting_of world.now.scenario) world.now.history ready.now }
-    requires before { Idles (setting_of world.now.scenario) world.now.history idle.old }
-    ensures after { Idles (setting_of world.now.scenario) world.now.history idle.new }
+    requires covers { Covers (setting_of world.now.scenario) world.now.history ready.old }
+    requires before { Knows (setting_of world.now.scenario) world.now.history known.old }
     ensures plain { IfOk result (λ m. IsPlainMove (setting_of world.now.scenario) world.now.history m) }
+    ensures covers { Covers (setting_of world.now.scenario) world.now.history ready.new }
+    ensures after { Knows (setting_of world.now.scenario) world.now.history known.new }
 {
-    if is_finished(alloc, world, ready, idle)? {
-        return Ok(None);
-    }
-    match first_move(alloc, world, ready, idle)? {
-        Some(step) => Ok(Some(step)),
-        None => {
-            world.is_run();
-            world.is_settled();
-            unreachable!()
-        }
+    match awaited(world) {
+        Awaits::Nothing => Ok(Some(Move::Script)),
+        Awaits::Rest => first_of_roles(alloc, world, true, ready, known),
+        Awaits::Never => first_of_roles(alloc, world, false, ready, known),
     }
 }
 
@@ -89,7 +121,7 @@ pub(crate) fn plain_by(
 pub fn plain(alloc: Global, world: &World) -> Result<Option<Move>, AllocError>
     ensures { IfOk result (λ m. IsPlainMove (setting_of world.now.scenario) world.now.history m) }
 {
-    let ready = all_ready(alloc, world)?;
-    let mut idle = Ready::new(alloc)?;
-    plain_by(alloc, world, &ready, &mut idle)
+    let mut ready = all_ready(alloc, world)?;
+    let mut known = Known::new(alloc, world)?;
+    plain_by(alloc, world, &mut ready, &mut known)
 }

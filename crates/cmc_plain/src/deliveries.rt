@@ -1,6 +1,7 @@
 //! The first delivery that brings a role up to date in a kind.
 ghost use Rattle.std.specs.Prelude.{◌≡◌, ◌↔◌, IsTrue, IfOk, false};
 ghost use Rattle.cmc_model.specs.Writes.{last_of_kind, writes};
+ghost use Rattle.cmc_rules.specs.Positions.{positions};
 ghost use Rattle.cmc_world.specs.Kept.{setting_of};
 ghost use Rattle.cmc_plain.specs.Plain.{IsBehind};
 ghost use Rattle.cmc_plain.specs.Searches.{FindsKind, FindsDelivery, IsNewest};
@@ -9,7 +10,7 @@ use crate::roles::role_in;
 use crate::scripts::is_accepted;
 use cmc_held::at_kind;
 use cmc_meta::Kind;
-use cmc_objects::{Role, has_informer};
+use cmc_objects::{Positions, Role, has_informer};
 use cmc_world::{Move, World};
 use std::alloc::{AllocError, Global};
 
@@ -40,13 +41,14 @@ fn newest_of(world: &World) -> Newest
     }
 }
 
-/// Whether the role is told of the kind, and has not been told of its newest write, `to`. It asks little, and is asked of
-/// every role and kind before most moves.
-fn has_news(world: &World, role: Role, kind: Kind, to: u64) -> bool
-    requires { to ≡ last_of_kind kind (writes (setting_of world.now.scenario) world.now.history) }
+/// Whether the role, which was told so far, is told of the kind, and has not been told of its newest write, `to`. It asks
+/// little, and is asked of every role and kind before most moves.
+fn has_news(world: &World, told: Positions, role: Role, kind: Kind, to: u64) -> bool
+    requires told { told ≡ positions world.now.history role }
+    requires newest { to ≡ last_of_kind kind (writes (setting_of world.now.scenario) world.now.history) }
     ensures { result ≡ false → IsBehind (setting_of world.now.scenario) world.now.history role kind → ⊥ }
 {
-    at_kind(world.told(role), kind) < to && has_informer(role, kind)
+    at_kind(told, kind) < to && has_informer(role, kind)
 }
 
 /// Whether the role runs, and can be told of the newest write of the kind, `to`, of which it was not told. A function clears
@@ -68,14 +70,16 @@ fn takes_delivery(
 fn is_behind(
     alloc: Global,
     world: &World,
+    told: Positions,
     role: Role,
     kind: Kind,
     to: u64,
 ) -> Result<bool, AllocError>
-    requires { to ≡ last_of_kind kind (writes (setting_of world.now.scenario) world.now.history) }
+    requires told { told ≡ positions world.now.history role }
+    requires newest { to ≡ last_of_kind kind (writes (setting_of world.now.scenario) world.now.history) }
     ensures { IfOk result (λ b. IsTrue b ↔ IsBehind (setting_of world.now.scenario) world.now.history role kind) }
 {
-    if !has_news(world, role, kind, to) {
+    if !has_news(world, told, role, kind, to) {
         return Ok(false);
     }
     takes_delivery(alloc, world, role, kind, to)
@@ -91,13 +95,28 @@ fn first_kind(
     requires { IsNewest (setting_of world.now.scenario) world.now.history newest }
     ensures { IfOk result (λ k. FindsKind (setting_of world.now.scenario) world.now.history role k) }
 {
-    if is_behind(alloc, world, role, Kind::Certificate, newest.certificate)? {
+    let told = world.told(role);
+    if is_behind(
+        alloc,
+        world,
+        told,
+        role,
+        Kind::Certificate,
+        newest.certificate,
+    )? {
         return Ok(Some(Kind::Certificate));
     }
-    if is_behind(alloc, world, role, Kind::CertificateRequest, newest.request)? {
+    if is_behind(
+        alloc,
+        world,
+        told,
+        role,
+        Kind::CertificateRequest,
+        newest.request,
+    )? {
         return Ok(Some(Kind::CertificateRequest));
     }
-    if is_behind(alloc, world, role, Kind::Secret, newest.secret)? {
+    if is_behind(alloc, world, told, role, Kind::Secret, newest.secret)? {
         return Ok(Some(Kind::Secret));
     }
     Ok(None)

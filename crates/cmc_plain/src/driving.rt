@@ -75,7 +75,6 @@ fn take_turn<M: KeyMaker, N: Signer, G: Gate>(
     ensures turn { IfOk result (λ t. IsTurn (setting_of waking.old.scenario) waking.old.history waking.new.history t) }
     ensures scenario { waking.new.scenario ≡ waking.old.scenario }
 {
-    waking.look(alloc)?;
     match waking.plain(alloc)? {
         None => Ok(Turn::Finished),
         Some(step) => make_move(alloc, waking, step, keys, signer, gate),

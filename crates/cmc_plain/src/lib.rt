@@ -9,6 +9,7 @@ mod deliveries;
 mod driving;
 mod gate;
 mod giving;
+mod known;
 mod laws;
 mod passes;
 mod questions;

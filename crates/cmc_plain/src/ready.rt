@@ -1,10 +1,11 @@
-//! Sets of keys, one for each role: those at which it has to look, and those where it is known to have nothing to do.
+//! Sets of keys, one for each role.
 ghost use Rattle.std.specs.BTreeSet.{contains};
 ghost use Rattle.std.specs.Prelude.{◌≡◌, ◌&&◌, ◌||◌, IfOk, OnOk, OnErr, false, not};
 ghost use Rattle.cmc_meta.specs.declared.key.Key.{Key as KeyValue};
 ghost use Rattle.cmc_meta.specs.Keys.{key_cmp, key_eq};
 ghost use Rattle.cmc_model.specs.Histories.{role_eq};
 ghost use Rattle.cmc_objects.specs.declared.role.Role.{Role as RoleValue};
+ghost use Rattle.cmc_caches.specs.Affected.{is_among};
 ghost use Rattle.cmc_plain.specs.Ready.{is_ready};
 
 use cmc_meta::Key;
@@ -74,5 +75,14 @@ impl Ready {
         ensures { (r : RoleValue) → (k : KeyValue) → is_ready self.new r k ≡ (not (role_eq role r && key_eq key.now k) && is_ready self.old r k) }
     {
         self.rows[role.rank() as usize].remove(key);
+    }
+}
+
+/// Lets each of the keys be ready for the role no more.
+pub(crate) fn remove_each(rows: &mut Ready, role: Role, keys: &[Key])
+    ensures { (r : RoleValue) → (k : KeyValue) → is_ready rows.new r k ≡ (not (role_eq role r && is_among keys.now k) && is_ready rows.old r k) }
+{
+    for key in keys {
+        rows.remove(role, key);
     }
 }

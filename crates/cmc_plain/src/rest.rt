@@ -1,52 +1,50 @@
-//! Whether all is at rest, by the keys that are ready.
+//! Whether all is at rest, by the keys that are awake.
 ghost use Rattle.std.specs.BTreeSet.{contains};
-ghost use Rattle.std.specs.Prelude.{◌≡◌, ◌↔◌, IsTrue, IfOk, Some, true, false};
+ghost use Rattle.std.specs.Prelude.{◌≡◌, ◌↔◌, IsTrue, IfOk, true, false};
 ghost use Rattle.cmc_meta.specs.declared.key.Key.{Key as KeyValue};
 ghost use Rattle.cmc_meta.specs.Keys.{key_cmp};
 ghost use Rattle.cmc_objects.specs.declared.role.Role.{Role as RoleValue};
-ghost use Rattle.cmc_rules.specs.Following.{IsReady};
 ghost use Rattle.cmc_objects.specs.Watching.{kind_of_work};
 ghost use Rattle.cmc_rules.specs.Resting.{IsAtRest, IsToldAll, RestsOnKnown, RestsOn};
 ghost use Rattle.cmc_rules.specs.Runs.{IsFinished};
 ghost use Rattle.cmc_world.specs.Kept.{setting_of};
 ghost use Rattle.cmc_world.specs.Rest.{EachKind};
-ghost use Rattle.cmc_moves.specs.Quiet.{IsQuiet};
 ghost use Rattle.cmc_plain.specs.Plain.{HasNoDelivery, IsStepReady};
-ghost use Rattle.cmc_plain.specs.Ready.{Covers, Idles};
+ghost use Rattle.cmc_plain.specs.Ready.{Busies, IsIdleOn, IsOfEach, Knows};
 ghost use Rattle.cmc_plain.specs.Searches.{RestsWhereRunning};
 
 use crate::deliveries::first_delivery;
+use crate::known::{Known, find_idle, lull};
 use crate::passes::first_pass;
 use crate::ready::Ready;
 use crate::roles::role_in;
+use crate::scripts::{Awaits, awaited};
 use cmc_meta::Key;
-use cmc_objects::{Role, Step};
+use cmc_objects::Role;
 use cmc_world::World;
 use std::alloc::{AllocError, Global};
 use std::collections::BTreeSet;
 
-/// Whether the role, which was told of all that is not held from it, has nothing to do on the key. Where it has nothing to
-/// do by what it sees, the key is one of those that are known to be idle from then on.
+/// Whether the role, which was told of all that is not held from it, has nothing to do on the key. Whether it has by what
+/// it sees is known from then on: as one of the busy keys, or of these.
 fn rests_on(
     alloc: Global,
     world: &World,
     role: Role,
     key: &Key,
-    idle: &mut Ready,
+    busy: &mut Ready,
+    idle: &mut Vec<Key>,
 ) -> Result<bool, AllocError>
     requires told { EachKind (IsToldAll (setting_of world.now.scenario) world.now.history role) }
-    requires before { Idles (setting_of world.now.scenario) world.now.history idle.old }
+    requires busy { Busies (setting_of world.now.scenario) world.now.history busy.old }
+    requires idle { IsOfEach (IsIdleOn (setting_of world.now.scenario) world.now.history role) idle.old.items }
     ensures rests { IfOk result (λ b. IsTrue b ↔ RestsOn (setting_of world.now.scenario) world.now.history role key.now) }
-    ensures after { Idles (setting_of world.now.scenario) world.now.history idle.new }
+    ensures busy { Busies (setting_of world.now.scenario) world.now.history busy.new }
+    ensures idle { IsOfEach (IsIdleOn (setting_of world.now.scenario) world.now.history role) idle.new.items }
 {
     world.is_run();
-    world.can_act();
-    if idle.keys(role).contains(key) {
-        return Ok(true);
-    }
     let seen = world.views(alloc, role, key)?;
-    if world.is_idle(alloc, role, &seen)? {
-        idle.add(role, key.copy()?)?;
+    if find_idle(alloc, world, role, key, &seen, busy, idle)? {
         return Ok(true);
     }
     if world.is_due(role, key, &seen) {
@@ -55,65 +53,96 @@ fn rests_on(
     world.rests_on(alloc, role, key)
 }
 
-/// Whether the role, which was told of all that is not held from it, has nothing to do on any of the keys. Every key of
-/// its work beside them is quiet.
+/// Whether the role, which was told of all that is not held from it, has nothing to do on any of the keys. On every key of
+/// its work beside them it has nothing to do.
 fn rests_on_each(
     alloc: Global,
     world: &World,
     role: Role,
     keys: &BTreeSet<Key>,
-    idle: &mut Ready,
+    busy: &mut Ready,
+    idle: &mut Vec<Key>,
 ) -> Result<bool, AllocError>
     requires told { EachKind (IsToldAll (setting_of world.now.scenario) world.now.history role) }
-    requires others { (k : KeyValue) → k.kind ≡ kind_of_work role → contains key_cmp keys.now k ≡ false → IsQuiet (setting_of world.now.scenario) world.now.history role k }
-    requires before { Idles (setting_of world.now.scenario) world.now.history idle.old }
+    requires others { (k : KeyValue) → k.kind ≡ kind_of_work role → contains key_cmp keys.now k ≡ false → IsIdleOn (setting_of world.now.scenario) world.now.history role k }
+    requires busy { Busies (setting_of world.now.scenario) world.now.history busy.old }
+    requires idle { IsOfEach (IsIdleOn (setting_of world.now.scenario) world.now.history role) idle.old.items }
     ensures test { IfOk result (λ b. IsTrue b ↔ RestsOnKnown (setting_of world.now.scenario) world.now.history role) }
-    ensures after { Idles (setting_of world.now.scenario) world.now.history idle.new }
+    ensures busy { Busies (setting_of world.now.scenario) world.now.history busy.new }
+    ensures idle { IsOfEach (IsIdleOn (setting_of world.now.scenario) world.now.history role) idle.new.items }
 {
     world.is_run();
     for key in keys.iter() {
-        if !rests_on(alloc, world, role, key, idle)? {
+        if !rests_on(alloc, world, role, key, busy, idle)? {
             return Ok(false);
         }
     }
     Ok(true)
 }
 
-/// Whether the role has nothing to do on any key, if it runs. No role is behind.
-fn rests_in(
-    alloc: Global,
-    world: &World,
-    ready: &Ready,
-    role: Role,
-    idle: &mut Ready,
-) -> Result<bool, AllocError>
+/// Whether the role has nothing to do on any key, if it runs. No role is behind. Keys on which it has nothing to do are
+/// awake no more.
+fn rests_in(alloc: Global, world: &World, role: Role, known: &mut Known) -> Result<bool, AllocError>
     requires told { HasNoDelivery (setting_of world.now.scenario) world.now.history }
-    requires covers { Covers (setting_of world.now.scenario) world.now.history ready.now }
-    requires before { Idles (setting_of world.now.scenario) world.now.history idle.old }
+    requires before { Knows (setting_of world.now.scenario) world.now.history known.old }
     ensures test { IfOk result (λ b. IsTrue b ↔ RestsWhereRunning (setting_of world.now.scenario) world.now.history role) }
-    ensures after { Idles (setting_of world.now.scenario) world.now.history idle.new }
+    ensures after { Knows (setting_of world.now.scenario) world.now.history known.new }
 {
     if !world.runs(role) {
         return Ok(true);
     }
-    rests_on_each(alloc, world, role, ready.keys(role), idle)
+    let mut idle = Vec::new(alloc);
+    let keys = known.awake.keys(role);
+    let rests = rests_on_each(alloc, world, role, keys, &mut known.busy, &mut idle)?;
+    lull(world, role, &mut known.awake, &idle);
+    Ok(rests)
 }
 
-/// Whether each role has nothing to do on any key, if it runs. No role is behind.
-fn rests_in_each(
-    alloc: Global,
-    world: &World,
-    ready: &Ready,
-    idle: &mut Ready,
-) -> Result<bool, AllocError>
+/// Whether the role, which is not behind, runs with no informer held from it and is known to have something to do on a key:
+/// so it does not rest. It asks for no act.
+fn stirs(world: &World, role: Role, known: &Known) -> bool
     requires told { HasNoDelivery (setting_of world.now.scenario) world.now.history }
-    requires covers { Covers (setting_of world.now.scenario) world.now.history ready.now }
-    requires before { Idles (setting_of world.now.scenario) world.now.history idle.old }
-    ensures test { IfOk result (λ b. IsTrue b ↔ ((role : RoleValue) → RestsWhereRunning (setting_of world.now.scenario) world.now.history role)) }
-    ensures after { Idles (setting_of world.now.scenario) world.now.history idle.new }
+    requires before { Knows (setting_of world.now.scenario) world.now.history known.now }
+    ensures { result ≡ true → RestsWhereRunning (setting_of world.now.scenario) world.now.history role → ⊥ }
+{
+    world.is_run();
+    match known.busy.keys(role).first() {
+        Some(_busy) => world.runs(role) && !world.has_held_informer(role),
+        None => false,
+    }
+}
+
+/// Whether it is known of some role that it does not rest. No role is behind.
+fn some_stirs(world: &World, known: &Known) -> bool
+    requires told { HasNoDelivery (setting_of world.now.scenario) world.now.history }
+    requires before { Knows (setting_of world.now.scenario) world.now.history known.now }
+    ensures { result ≡ true → ((role : RoleValue) → RestsWhereRunning (setting_of world.now.scenario) world.now.history role) → ⊥ }
 {
     for place in 0..8 {
-        if !rests_in(alloc, world, ready, role_in(place), idle)? {
+        if stirs(world, role_in(place), known) {
+            return true;
+        }
+    }
+    false
+}
+
+/// Whether each role has nothing to do on any key, if it runs. No role is behind. It goes over the keys that are awake only
+/// where nothing is known that is left to do.
+pub(crate) fn rests_in_each(
+    alloc: Global,
+    world: &World,
+    known: &mut Known,
+) -> Result<bool, AllocError>
+    requires told { HasNoDelivery (setting_of world.now.scenario) world.now.history }
+    requires before { Knows (setting_of world.now.scenario) world.now.history known.old }
+    ensures test { IfOk result (λ b. IsTrue b ↔ ((role : RoleValue) → RestsWhereRunning (setting_of world.now.scenario) world.now.history role)) }
+    ensures after { Knows (setting_of world.now.scenario) world.now.history known.new }
+{
+    if some_stirs(world, known) {
+        return Ok(false);
+    }
+    for place in 0..8 {
+        if !rests_in(alloc, world, role_in(place), known)? {
             return Ok(false);
         }
     }
@@ -121,16 +150,10 @@ fn rests_in_each(
 }
 
 /// Whether nothing is left to do.
-fn is_at_rest(
-    alloc: Global,
-    world: &World,
-    ready: &Ready,
-    idle: &mut Ready,
-) -> Result<bool, AllocError>
-    requires covers { Covers (setting_of world.now.scenario) world.now.history ready.now }
-    requires before { Idles (setting_of world.now.scenario) world.now.history idle.old }
+fn is_at_rest(alloc: Global, world: &World, known: &mut Known) -> Result<bool, AllocError>
+    requires before { Knows (setting_of world.now.scenario) world.now.history known.old }
     ensures test { IfOk result (λ b. IsTrue b ↔ IsAtRest (setting_of world.now.scenario) world.now.history) }
-    ensures after { Idles (setting_of world.now.scenario) world.now.history idle.new }
+    ensures after { Knows (setting_of world.now.scenario) world.now.history known.new }
 {
     if first_pass(world).is_some() {
         return Ok(false);
@@ -138,42 +161,7 @@ fn is_at_rest(
     if first_delivery(alloc, world)?.is_some() {
         return Ok(false);
     }
-    rests_in_each(alloc, world, ready, idle)
-}
-
-/// Whether the step waits no longer.
-fn is_ready(
-    alloc: Global,
-    world: &World,
-    ready: &Ready,
-    step: &Step,
-    idle: &mut Ready,
-) -> Result<bool, AllocError>
-    requires covers { Covers (setting_of world.now.scenario) world.now.history ready.now }
-    requires before { Idles (setting_of world.now.scenario) world.now.history idle.old }
-    ensures test { IfOk result (λ b. IsTrue b ↔ IsReady (setting_of world.now.scenario) world.now.history (Some step.now)) }
-    ensures after { Idles (setting_of world.now.scenario) world.now.history idle.new }
-{
-    match step {
-        Step::Apply { .. }
-        | Step::Delete { .. }
-        | Step::Approve { .. }
-        | Step::Deny { .. }
-        | Step::Answer { .. }
-        | Step::Renew { .. }
-        | Step::Tick { .. }
-        | Step::Stop { .. }
-        | Step::Start { .. }
-        | Step::Hold { .. }
-        | Step::Release { .. } => Ok(true),
-        Step::Until { role, kind, writes } => {
-            if world.has_written(*role, *kind, *writes) {
-                return Ok(true);
-            }
-            is_at_rest(alloc, world, ready, idle)
-        }
-        Step::Settle => is_at_rest(alloc, world, ready, idle),
-    }
+    rests_in_each(alloc, world, known)
 }
 
 /// Whether a step of the script is left, and does not wait.
@@ -184,17 +172,16 @@ fn is_ready(
 pub(crate) fn is_step_ready(
     alloc: Global,
     world: &World,
-    ready: &Ready,
-    idle: &mut Ready,
+    known: &mut Known,
 ) -> Result<bool, AllocError>
-    requires covers { Covers (setting_of world.now.scenario) world.now.history ready.now }
-    requires before { Idles (setting_of world.now.scenario) world.now.history idle.old }
+    requires before { Knows (setting_of world.now.scenario) world.now.history known.old }
     ensures test { IfOk result (λ b. IsTrue b ↔ IsStepReady (setting_of world.now.scenario) world.now.history) }
-    ensures after { Idles (setting_of world.now.scenario) world.now.history idle.new }
+    ensures after { Knows (setting_of world.now.scenario) world.now.history known.new }
 {
-    match world.next_step() {
-        Some(step) => is_ready(alloc, world, ready, step, idle),
-        None => Ok(false),
+    match awaited(world) {
+        Awaits::Nothing => Ok(true),
+        Awaits::Rest => is_at_rest(alloc, world, known),
+        Awaits::Never => Ok(false),
     }
 }
 
@@ -207,16 +194,14 @@ pub(crate) fn is_step_ready(
 pub(crate) fn is_finished(
     alloc: Global,
     world: &World,
-    ready: &Ready,
-    idle: &mut Ready,
+    known: &mut Known,
 ) -> Result<bool, AllocError>
-    requires covers { Covers (setting_of world.now.scenario) world.now.history ready.now }
-    requires before { Idles (setting_of world.now.scenario) world.now.history idle.old }
+    requires before { Knows (setting_of world.now.scenario) world.now.history known.old }
     ensures test { IfOk result (λ b. IsTrue b ↔ IsFinished (setting_of world.now.scenario) world.now.history) }
-    ensures after { Idles (setting_of world.now.scenario) world.now.history idle.new }
+    ensures after { Knows (setting_of world.now.scenario) world.now.history known.new }
 {
     if !world.has_made_all() {
         return Ok(false);
     }
-    is_at_rest(alloc, world, ready, idle)
+    is_at_rest(alloc, world, known)
 }

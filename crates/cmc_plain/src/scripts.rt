@@ -1,12 +1,72 @@
-//! Which answers say that a move is possible.
-ghost use Rattle.std.specs.Prelude.{◌↔◌, IsTrue};
-ghost use Rattle.cmc_plain.specs.Searches.{IsAccepted};
+//! What the next step of the script waits for, and which answers say that a move is possible.
+ghost use Rattle.std.specs.Prelude.{◌≡◌};
+ghost use Rattle.cmc_world.specs.Kept.{setting_of};
+ghost use Rattle.cmc_plain.specs.Searches as words;
+ghost use Rattle.cmc_plain.specs.Searches.{IsAwaitedBy, IsAwaiting};
 
-use cmc_world::Stepped;
+use cmc_moves::let_go;
+use cmc_objects::Step;
+use cmc_world::{Stepped, World};
+
+fn accepts(answer: &Stepped) -> bool
+    ensures { result ≡ words.is_accepted answer.now }
+{
+    matches!(answer, Stepped::Done | Stepped::Spent { .. })
+}
 
 /// Whether a step answers so to a move that is possible: it was made, or there is no room for it.
 pub(crate) fn is_accepted(answer: Stepped) -> bool
-    ensures { IsTrue result ↔ IsAccepted answer }
+    ensures { result ≡ words.is_accepted answer }
 {
-    matches!(answer, Stepped::Done | Stepped::Spent { .. })
+    let accepted = accepts(&answer);
+    let_go(answer);
+    accepted
+}
+
+/// What the next step of the script waits for.
+#[derive(Clone, Copy)]
+pub(crate) enum Awaits {
+    /// Nothing: it is ready.
+    Nothing,
+    /// That all is at rest.
+    Rest,
+    /// No step is left.
+    Never,
+}
+
+/// What the step waits for.
+fn awaited_by(world: &World, step: &Step) -> Awaits
+    ensures { IsAwaitedBy (setting_of world.now.scenario) world.now.history step.now result }
+{
+    match step {
+        Step::Apply { .. }
+        | Step::Delete { .. }
+        | Step::Approve { .. }
+        | Step::Deny { .. }
+        | Step::Answer { .. }
+        | Step::Renew { .. }
+        | Step::Tick { .. }
+        | Step::Stop { .. }
+        | Step::Start { .. }
+        | Step::Hold { .. }
+        | Step::Release { .. } => Awaits::Nothing,
+        Step::Until { role, kind, writes } => {
+            if world.has_written(*role, *kind, *writes) {
+                Awaits::Nothing
+            } else {
+                Awaits::Rest
+            }
+        }
+        Step::Settle => Awaits::Rest,
+    }
+}
+
+/// What the next step of the script waits for. Whether all is at rest is not asked.
+pub(crate) fn awaited(world: &World) -> Awaits
+    ensures { IsAwaiting (setting_of world.now.scenario) world.now.history result }
+{
+    match world.next_step() {
+        Some(step) => awaited_by(world, step),
+        None => Awaits::Never,
+    }
 }

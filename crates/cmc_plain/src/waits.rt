@@ -118,10 +118,19 @@ fn wait_in(moment: i64, seen: &Views) -> Option<WaitName>
 
 // ---- the roles
 
+fn is_pause(lack: &Lack) -> bool
+    ensures { result ≡ words.is_pause lack.now }
+{
+    matches!(lack, Lack::Stopped | Lack::Held)
+}
+
 fn is_refusal(answer: &Stepped) -> bool
     ensures { result ≡ words.is_refusal answer.now }
 {
-    matches!(answer, Stepped::NotNow(Lack::Stopped | Lack::Held))
+    match answer {
+        Stepped::NotNow(lack) => is_pause(lack),
+        _ => false,
+    }
 }
 
 /// Whether the role does not run, or its informer of the kind is held.

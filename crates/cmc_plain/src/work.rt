@@ -11,12 +11,12 @@ ghost use Rattle.cmc_model.specs.Histories as histories;
 ghost use Rattle.cmc_objects.specs.Watching.{kind_of_work};
 ghost use Rattle.cmc_rules.specs.Viewing.{views};
 ghost use Rattle.cmc_world.specs.Kept.{setting_of};
-ghost use Rattle.cmc_moves.specs.Quiet.{IsQuiet};
-ghost use Rattle.cmc_plain.specs.Ready.{Covers, Idles};
+ghost use Rattle.cmc_plain.specs.Ready.{Busies, IsIdleOn, IsOfEach, Knows};
 ghost use Rattle.cmc_plain.specs.Searches as spec;
 ghost use Rattle.cmc_plain.specs.Searches.{FindsFirst, HasWork, HasWorkAbove, IsFree};
 
 use crate::begins::{is_free, knows_own};
+use crate::known::{Known, find_idle, lull};
 use crate::ready::Ready;
 use cmc_meta::Key;
 use cmc_objects::Role;
@@ -26,26 +26,28 @@ use std::alloc::{AllocError, Global};
 use std::collections::BTreeSet;
 
 /// Whether a pass of the role, which runs, sees this of the key and works on it in no pass, may begin, and has something to
-/// do. Where it has nothing to do by what it sees, the key is one of those that are known to be idle from then on.
+/// do. Whether it has by what it sees is known from then on: as one
+/// of the busy keys, or of these.
 fn has_work_seen(
     alloc: Global,
     world: &World,
     role: Role,
     key: &Key,
     seen: &Views,
-    idle: &mut Ready,
+    busy: &mut Ready,
+    idle: &mut Vec<Key>,
 ) -> Result<bool, AllocError>
-    requires before { Idles (setting_of world.now.scenario) world.now.history idle.old }
+    requires busy { Busies (setting_of world.now.scenario) world.now.history busy.old }
+    requires idle { IsOfEach (IsIdleOn (setting_of world.now.scenario) world.now.history role) idle.old.items }
     requires sees { seen.now ≡ views (setting_of world.now.scenario) world.now.history role key.now }
     requires running { histories.runs (setting_of world.now.scenario) world.now.history role ≡ true }
     requires free { IsFree (setting_of world.now.scenario) world.now.history role key.now }
     ensures work { IfOk result (λ b. IsTrue b ↔ HasWork (setting_of world.now.scenario) world.now.history role key.now) }
-    ensures after { Idles (setting_of world.now.scenario) world.now.history idle.new }
+    ensures busy { Busies (setting_of world.now.scenario) world.now.history busy.new }
+    ensures idle { IsOfEach (IsIdleOn (setting_of world.now.scenario) world.now.history role) idle.new.items }
 {
     world.is_run();
-    world.can_act();
-    if world.is_idle(alloc, role, seen)? {
-        idle.add(role, key.copy()?)?;
+    if find_idle(alloc, world, role, key, seen, busy, idle)? {
         return Ok(false);
     }
     Ok(world.is_due(role, key, seen))
@@ -57,16 +59,16 @@ fn has_work(
     world: &World,
     role: Role,
     key: &Key,
-    idle: &mut Ready,
+    busy: &mut Ready,
+    idle: &mut Vec<Key>,
 ) -> Result<bool, AllocError>
-    requires before { Idles (setting_of world.now.scenario) world.now.history idle.old }
+    requires busy { Busies (setting_of world.now.scenario) world.now.history busy.old }
+    requires idle { IsOfEach (IsIdleOn (setting_of world.now.scenario) world.now.history role) idle.old.items }
     requires running { histories.runs (setting_of world.now.scenario) world.now.history role ≡ true }
     ensures work { IfOk result (λ b. IsTrue b ↔ HasWork (setting_of world.now.scenario) world.now.history role key.now) }
-    ensures after { Idles (setting_of world.now.scenario) world.now.history idle.new }
+    ensures busy { Busies (setting_of world.now.scenario) world.now.history busy.new }
+    ensures idle { IsOfEach (IsIdleOn (setting_of world.now.scenario) world.now.history role) idle.new.items }
 {
-    if idle.keys(role).contains(key) {
-        return Ok(false);
-    }
     if !is_free(world, role, key) {
         return Ok(false);
     }
@@ -74,7 +76,7 @@ fn has_work(
         return Ok(false);
     }
     let seen = world.views(alloc, role, key)?;
-    has_work_seen(alloc, world, role, key, &seen, idle)
+    has_work_seen(alloc, world, role, key, &seen, busy, idle)
 }
 
 /// Whether the key stands above this one, if there is one.
@@ -95,37 +97,43 @@ fn has_work_above(
     role: Role,
     below: Option<&Key>,
     key: &Key,
-    idle: &mut Ready,
+    busy: &mut Ready,
+    idle: &mut Vec<Key>,
 ) -> Result<bool, AllocError>
-    requires before { Idles (setting_of world.now.scenario) world.now.history idle.old }
+    requires busy { Busies (setting_of world.now.scenario) world.now.history busy.old }
+    requires idle { IsOfEach (IsIdleOn (setting_of world.now.scenario) world.now.history role) idle.old.items }
     requires running { histories.runs (setting_of world.now.scenario) world.now.history role ≡ true }
     ensures work { IfOk result (λ b. IsTrue b ↔ HasWorkAbove (setting_of world.now.scenario) world.now.history role (option_copied below.entry) key.now) }
-    ensures after { Idles (setting_of world.now.scenario) world.now.history idle.new }
+    ensures busy { Busies (setting_of world.now.scenario) world.now.history busy.new }
+    ensures idle { IsOfEach (IsIdleOn (setting_of world.now.scenario) world.now.history role) idle.new.items }
 {
     if is_above(below, key) {
-        return has_work(alloc, world, role, key, idle);
+        return has_work(alloc, world, role, key, busy, idle);
     }
     Ok(false)
 }
 
-/// The first of the keys above this one on which the role, which runs, has something to do. Every key of its work beside
-/// them is quiet.
+/// The first of the keys above this one on which the role, which runs, has something to do. On every key of
+/// its work beside them it has nothing to do.
 fn work_among(
     alloc: Global,
     world: &World,
     role: Role,
     below: Option<&Key>,
     keys: &BTreeSet<Key>,
-    idle: &mut Ready,
+    busy: &mut Ready,
+    idle: &mut Vec<Key>,
 ) -> Result<Option<Key>, AllocError>
-    requires before { Idles (setting_of world.now.scenario) world.now.history idle.old }
+    requires busy { Busies (setting_of world.now.scenario) world.now.history busy.old }
+    requires idle { IsOfEach (IsIdleOn (setting_of world.now.scenario) world.now.history role) idle.old.items }
     requires running { histories.runs (setting_of world.now.scenario) world.now.history role ≡ true }
-    requires others { (k : KeyValue) → k.kind ≡ kind_of_work role → contains key_cmp keys.now k ≡ false → IsQuiet (setting_of world.now.scenario) world.now.history role k }
+    requires others { (k : KeyValue) → k.kind ≡ kind_of_work role → contains key_cmp keys.now k ≡ false → IsIdleOn (setting_of world.now.scenario) world.now.history role k }
     ensures work { IfOk result (λ k. FindsFirst (HasWorkAbove (setting_of world.now.scenario) world.now.history role (option_copied below.entry)) k) }
-    ensures after { Idles (setting_of world.now.scenario) world.now.history idle.new }
+    ensures busy { Busies (setting_of world.now.scenario) world.now.history busy.new }
+    ensures idle { IsOfEach (IsIdleOn (setting_of world.now.scenario) world.now.history role) idle.new.items }
 {
     for key in keys.iter() {
-        if has_work_above(alloc, world, role, below, key, idle)? {
+        if has_work_above(alloc, world, role, below, key, busy, idle)? {
             return Ok(Some(key.copy()?));
         }
     }
@@ -133,7 +141,7 @@ fn work_among(
 }
 
 /// The first key on which the role may begin a pass and has something to do, above this key if there is one; `None` exactly
-/// where there is none. Every key that is not ready is quiet.
+/// where there is none. Keys on which it is found to have nothing to do are awake no more.
 ///
 /// # Errors
 ///
@@ -143,16 +151,18 @@ pub(crate) fn next_work(
     world: &World,
     role: Role,
     below: Option<&Key>,
-    ready: &Ready,
-    idle: &mut Ready,
+    known: &mut Known,
 ) -> Result<Option<Key>, AllocError>
-    requires before { Idles (setting_of world.now.scenario) world.now.history idle.old }
-    requires covers { Covers (setting_of world.now.scenario) world.now.history ready.now }
+    requires before { Knows (setting_of world.now.scenario) world.now.history known.old }
     ensures work { IfOk result (λ k. FindsFirst (HasWorkAbove (setting_of world.now.scenario) world.now.history role (option_copied below.entry)) k) }
-    ensures after { Idles (setting_of world.now.scenario) world.now.history idle.new }
+    ensures after { Knows (setting_of world.now.scenario) world.now.history known.new }
 {
     if !world.runs(role) {
         return Ok(None);
     }
-    work_among(alloc, world, role, below, ready.keys(role), idle)
+    let mut idle = Vec::new(alloc);
+    let keys = known.awake.keys(role);
+    let found = work_among(alloc, world, role, below, keys, &mut known.busy, &mut idle)?;
+    lull(world, role, &mut known.awake, &idle);
+    Ok(found)
 }

@@ -18,6 +18,7 @@ ghost use Rattle.cmc_workers.specs.Driving.{IsErrand};
 
 use crate::errands::{Answer, Errand, Outcome, Taken, Task};
 use cmc_meta::Key;
+use cmc_moves::let_go;
 use cmc_objects::{Role, Step};
 use cmc_pass::Given;
 use cmc_plain::{Point, Waking, Work, point_of, question};
@@ -125,11 +126,6 @@ fn first_of(alloc: Global, waking: &mut Waking, roles: &[Role]) -> Result<Option
         }
     }
     Ok(None)
-}
-
-/// A move has many shapes, and to let go of it is one thing for all of them.
-fn let_go<T: Drop>(value: T) {
-    let _value = value;
 }
 
 impl Shared {
@@ -400,7 +396,6 @@ impl Shared {
     fn begin(&mut self, alloc: Global) -> Result<Option<Taken>, AllocError>
         ensures { self.new.waking.scenario ≡ self.old.waking.scenario }
     {
-        self.waking.look(alloc)?;
         match self.next_turn(alloc)? {
             Some(turn) => self.begin_on(alloc, turn),
             None => Ok(None),
@@ -462,7 +457,6 @@ impl Shared {
     pub(crate) fn perform(&mut self, alloc: Global) -> Result<(), AllocError>
         ensures { self.new.waking.scenario ≡ self.old.waking.scenario }
     {
-        self.waking.look(alloc)?;
         for _step in 0..=self.limit() {
             let Some(step) = self.waking.next_script(alloc)? else {
                 break;

@@ -40,15 +40,15 @@ number_fits s h w n k short e =
     let low : begun s h ≤ length h = begun_short s h in
     omega (arith, same, low, short)
 
-pub prepared : (s : Setting) (h : List Entry) (w : Holdings) (role : Role) (key copied : Key) (t : Standing) (at : Positions) (seen twice : Views) (pass : OpenPass) (since : ℤ) (count : ℕ)
-    → IsKept s h w → t ≡ w.standing role → at ≡ shown_positions role t.told → seen ≡ views s h role key → copied ≡ key → twice ≡ seen
-    → since ≡ w.moment → pass ≡ new_pass role copied twice since → count ≡ length w.origins
+pub prepared : (s : Setting) (h : List Entry) (w : Holdings) (role : Role) (key : Key) (t : Standing) (at : Positions) (seen : Views) (pass : OpenPass) (since : ℤ) (count : ℕ)
+    → IsKept s h w → t ≡ w.standing role → at ≡ shown_positions role t.told → seen ≡ views s h role key
+    → since ≡ w.moment → pass ≡ new_pass role key seen since → count ≡ length w.origins
     → IsPrepared s h role key (record { number = count + 1; origin = record { role = role; incarnation = t.incarnation }; pass = pass; seen = seen; key = key; at = at })
-prepared s h w role key copied t at seen twice pass since count k stood shown seen_is c2 s2 m p o =
+prepared s h w role key t at seen pass since count k stood shown seen_is m p o =
     record {
       number = ap (λ (x : ℕ). x + 1) (counted s h w count k o);
       origin = ap (λ (x : Standing). let y : Origin = record { role = role; incarnation = x.incarnation } in y) (stood ∙ k.held.standing role);
-      pass = p ∙ ap (λ (x : Key). new_pass role x twice since) c2 ∙ ap (λ (x : Views). new_pass role key x since) (s2 ∙ seen_is) ∙ ap (λ (x : ℤ). new_pass role key (views s h role key) x) (m ∙ k.held.moment);
+      pass = p ∙ ap (λ (x : Views). new_pass role key x since) seen_is ∙ ap (λ (x : ℤ). new_pass role key (views s h role key) x) (m ∙ k.held.moment);
       seen = seen_is;
       key = refl;
       at = shown_is s h w role t at k stood shown;

@@ -20,3 +20,4 @@ pub mod Waiting
 pub mod Leading
 pub mod Ending
 pub mod Spare
+pub mod Elsewhere

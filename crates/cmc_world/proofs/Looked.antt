@@ -1,10 +1,8 @@
 -- Keys that were looked at, each of which passed.
 use Rattle.std.proofs.Common.{◌≡◌, Bool, true, false, cond, refl, subst}
-use Rattle.std.specs.Bool.{Decides}
 use Rattle.std.specs.BTreeMap.{is_at}
 use Rattle.std.specs.BTreeSet.{BTreeSet, contains}
 use Rattle.std.specs.Cmp.{Equal-is}
-use Rattle.std.specs.Ordering.{is_eq}
 use Rattle.cmc_meta.specs.declared.key.Key.{Key}
 use Rattle.cmc_meta.specs.Keys.{key_cmp}
 use Rattle.cmc_model.proofs.Keys.{key_cmp-IsAntisymmetric}

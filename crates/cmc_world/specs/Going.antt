@@ -1,5 +1,5 @@
 -- What is known of a pass as it goes on, and what the history has then.
-use Rattle.std.specs.Prelude.{◌≡◌, ℕ, List, ◌∷◌, Option, Some}
+use Rattle.std.specs.Prelude.{◌≡◌, ℕ, List, ◌∷◌, Some}
 use Rattle.cmc_objects.specs.declared.call.Call.{Call}
 use Rattle.cmc_objects.specs.declared.entry.Entry.{Entry}
 use Rattle.cmc_objects.specs.declared.entry.Entry.TheVariants.{Ask, End}

@@ -18,7 +18,7 @@ ghost use Rattle.cmc_moves.specs.declared.moves.Stepped.TheVariants as answers;
 use crate::world::{World, has_room};
 use cmc_held::{Log, is_same, own_above, shown_positions};
 use cmc_meta::Key;
-use cmc_moves::{Stepped, answer_begin};
+use cmc_moves::{Stepped, answer_begin, let_go};
 use cmc_objects::{Entry, Positions, Role, kind_of_work};
 use cmc_pass::Views;
 use cmc_rules::{OpenPass, Origin, Past, Stage};
@@ -95,16 +95,17 @@ fn is_queued(of_work: bool, quiet: bool) -> bool
     of_work && !quiet
 }
 
-fn opened(role: Role, key: Key, seen: Views, since: i64) -> OpenPass
-    ensures { result ≡ new_pass role key seen since }
+/// A pass of the role that begins on the key, of which it sees this. An error is one of memory.
+fn opened(role: Role, key: &Key, seen: &Views, since: i64) -> Result<OpenPass, AllocError>
+    ensures { IfOk result (λ pass. pass ≡ new_pass role key.now seen.now since) }
 {
-    OpenPass {
+    Ok(OpenPass {
         role,
-        key,
-        seen,
+        key: key.copy()?,
+        seen: seen.copy()?,
         since,
         stage: Stage::Fresh,
-    }
+    })
 }
 
 impl World {
@@ -153,7 +154,7 @@ impl World {
         self.is_short();
         let standing = self.standings.get(role);
         let at = shown_positions(role, standing.told);
-        let pass = opened(role, key.copy()?, seen.copy()?, self.moment);
+        let pass = opened(role, &key, &seen, self.moment)?;
         Ok(Prepared {
             number: self.origins.len() + 1,
             origin: Origin {
@@ -214,6 +215,7 @@ impl World {
         if !answer.is_done() {
             return Ok(answer);
         }
+        let_go(answer);
         let prepared = self.prepare(role, key, seen)?;
         self.open(role, prepared)?;
         Ok(Stepped::Done)

@@ -1,10 +1,12 @@
 //! Passes go on: they ask, make their calls, and end.
 ghost use Rattle.std.specs.Prelude.{◌≡◌, ◌+◌, ◌<◌, ◌∷◌, ℕ, IfOk, OnOk, OnErr, None, Some, length};
 ghost use Rattle.cmc_pass.specs.Giving.{order_of, value_of};
+ghost use Rattle.cmc_pass.specs.Values.{IsValue};
 ghost use Rattle.cmc_rules.specs.Acts.{act, call_after};
 ghost use Rattle.cmc_rules.specs.Causes.{MayCall, MayAsk, MayEnd};
 ghost use Rattle.cmc_rules.specs.Legality.{IsOpen};
 ghost use Rattle.cmc_rules.specs.Desks.{desk as desk_at};
+ghost use Rattle.cmc_model.specs.Replies as replies;
 ghost use Rattle.cmc_rules.specs.Passes as spec;
 ghost use Rattle.cmc_moves.specs.Acting.{IsDoingBy, IsDoing, IsGoing, IsGoingOn, IsJudged};
 ghost use Rattle.cmc_world.specs.Going.{IsCalling, IsClosing, MadeCall, GoesOn};
@@ -22,7 +24,7 @@ use cmc_moves::{
     let_go, outdated_of, value_entry_of,
 };
 use cmc_objects::{Call, Cause, Entry, Order, Role, Who};
-use cmc_pass::{Desk, Given};
+use cmc_pass::{Desk, Given, Value};
 use cmc_rules::{Ending, OpenPass, Origin, Stage};
 use cmc_store::Replied;
 use std::alloc::{AllocError, Global};
@@ -61,6 +63,70 @@ impl Drop for Closing {
             ending: _ending,
         } = self;
     }
+}
+
+/// A value that a pass is given, with its question and its entry.
+pub(crate) struct Taking {
+    pub order: Order,
+    pub value: Value,
+    pub entry: Entry,
+}
+
+impl Drop for Taking {
+    fn drop(self) {
+        let Taking {
+            order: _order,
+            value: _value,
+            entry: _entry,
+        } = self;
+    }
+}
+
+impl Taking {
+    /// What the pass of this number is given. An error is one of memory.
+    fn of(pass: u64, given: Given) -> Result<Taking, AllocError>
+        ensures order { IfOk result (λ t. t.order ≡ order_of given) }
+        ensures value { IfOk result (λ t. t.value ≡ value_of given) }
+        ensures entry { IfOk result (λ t. t.entry ≡ value_entry pass (value_of given)) }
+        ensures right { IfOk result (λ _. IsValue (order_of given) (value_of given)) }
+    {
+        let order = given.order()?;
+        let value = given.into_value();
+        let entry = value_entry_of(pass, &value)?;
+        Ok(Taking {
+            order,
+            value,
+            entry,
+        })
+    }
+
+    fn into_parts(self) -> (Order, Value, Entry)
+        ensures order { result.0 ≡ self.order }
+        ensures value { result.1 ≡ self.value }
+        ensures entry { result.2 ≡ self.entry }
+    {
+        let Taking {
+            order,
+            value,
+            entry,
+        } = self;
+        (order, value, entry)
+    }
+}
+
+/// What the call of the open pass needs to know of it. An error is one of memory.
+fn calling_of(current: &OpenPass, call: &Call) -> Result<Calling, AllocError>
+    ensures role { IfOk result (λ c. c.role ≡ current.now.role) }
+    ensures key { IfOk result (λ c. c.key ≡ current.now.key) }
+    ensures named { IfOk result (λ c. c.named ≡ replies.key_of_call call.now) }
+    ensures stand_in { IfOk result (λ c. c.stand_in ≡ spec.writes_stand_in call.now) }
+{
+    Ok(Calling {
+        role: current.role,
+        key: current.key.copy()?,
+        named: key_of_call(call)?,
+        stand_in: writes_stand_in(call),
+    })
 }
 
 impl World {
@@ -194,14 +260,8 @@ impl World {
         requires { IsOpen (spec.open_pass (setting_of self.now.scenario) self.now.history pass) }
         ensures { IfOk result (λ c. IsCalling (setting_of self.now.scenario) self.now.history pass call.now c) }
     {
-        let named = key_of_call(call)?;
         match self.passes.get(pass) {
-            Some(open) => Ok(Calling {
-                role: open.role,
-                key: open.key.copy()?,
-                named,
-                stand_in: writes_stand_in(call),
-            }),
+            Some(open) => calling_of(open, call),
             None => unreachable!(),
         }
     }
@@ -303,10 +363,9 @@ impl World {
         ensures ok { OnOk result (self.new ≡ record { scenario = self.old.scenario; history = value_entry pass (value_of given) ∷ self.old.history }) }
         ensures err { OnErr result (self.new ≡ self.old) }
     {
+        let taking = Taking::of(pass, given)?;
         self.history.reserve(1)?;
-        let order = given.order()?;
-        let value = given.into_value();
-        let entry = value_entry_of(pass, &value)?;
+        let (order, value, entry) = taking.into_parts();
         self.passes.advance(pass, Stage::Given { order, value });
         self.history.push(entry);
         Ok(())
@@ -341,7 +400,13 @@ impl World {
         ensures leaves { IfOk result (λ r. (named : ℕ) → Leaves (setting_of self.old.scenario) self.old.history (moves.Next pass named) r self.new.history) }
         ensures err { OnErr result (self.new ≡ self.old) }
     {
-        let answer = answer_of(pass, &doing)?;
+        let answer = match answer_of(pass, &doing) {
+            Ok(answer) => answer,
+            Err(lack) => {
+                let_go(doing);
+                return Err(lack);
+            }
+        };
         self.go_on(alloc, pass, doing)?;
         Ok(answer)
     }
@@ -378,6 +443,7 @@ impl World {
         if !answer.is_done() {
             return Ok(answer);
         }
+        let_go(answer);
         self.take(pass, given)?;
         Ok(Stepped::Done)
     }

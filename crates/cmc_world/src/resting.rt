@@ -27,7 +27,7 @@ use cmc_held::{Standing, is_held, is_same, own_above, told_of, written_of};
 use cmc_meta::{Key, Kind};
 use cmc_model::Write;
 use cmc_moves::{Lack, Stepped, act_of, answer_script, request_for};
-use cmc_objects::{Object, Positions, Role, Step, has_informer};
+use cmc_objects::{Object, Positions, Role, Step, has_informer, kind_of_work};
 use cmc_pass::{Act, Desk, Views};
 use cmc_rules::Past;
 use cmc_store::Store;
@@ -117,8 +117,9 @@ fn entries_needed(store: &Store, step: &Step) -> u64
     }
 }
 
-/// Whether the role, which was told of all that is not held from it, rests on the key. It is looked at only where it is none
-/// of the keys that were, on each of which the role rests; and is one of them then.
+/// Whether the role, which was told of all that is not held from it, rests on the key. On a key of another kind than its work
+/// it does. Any other is looked at only where it is none of the keys that were, on each of which the role rests; and is one of
+/// them then.
 fn rests_on_once(
     world: &World,
     alloc: Global,
@@ -131,6 +132,10 @@ fn rests_on_once(
     ensures test { IfOk result (λ b. IsTrue b ↔ spec.RestsOn (setting_of world.now.scenario) world.now.history role key.now) }
     ensures after { RestsOnAll (setting_of world.now.scenario) world.now.history role looked.new }
 {
+    world.is_run();
+    if !key.kind.same(kind_of_work(role)) {
+        return Ok(true);
+    }
     if looked.contains(key) {
         return Ok(true);
     }
@@ -206,7 +211,7 @@ impl World {
     }
 
     /// Whether an informer of the role is held.
-    fn has_held_informer(&self, role: Role) -> bool
+    pub fn has_held_informer(&self, role: Role) -> bool
         ensures { result ≡ scripting.has_held (setting_of self.now.scenario) self.now.history role }
     {
         has_held(self.standings.get(role))

@@ -5,19 +5,22 @@ use Rattle.cmc_plain.specs.Searches.{HasNoneBefore, FitsSome, FindsKey}
 use Rattle.cmc_plain.proofs.Ordering.{begin_found, none_before_more, no_begin}
 use Rattle.cmc_plain.proofs.begins.first_begin.Goals as goal
 
-pub returns-in-Some : goal.returns-in-Some
-returns-in-Some c =
-    begin_found (setting_of c.args.world.now.scenario) c.args.world.now.history c.role_in-role.result c.in-Some.key c.loop-place.place c.role_in-role.ensures c.loop-place.invariant
-    (subst (λ (found : Option Key). FindsKey (setting_of c.args.world.now.scenario) c.args.world.now.history c.role_in-role.result found) c.in-Some.is c.in_ok-key.ensures)
+pub returns-in-Some-clause-finds : goal.returns-in-Some-clause-finds
+returns-in-Some-clause-finds c =
+    begin_found (setting_of c.args.world.now.scenario) c.args.world.now.history c.role_in-role.result c.in-Some.key c.loop-place.place c.role_in-role.ensures c.loop-place.invariant.0
+    (subst (λ (found : Option Key). FindsKey (setting_of c.args.world.now.scenario) c.args.world.now.history c.role_in-role.result found) c.in-Some.is c.in_ok-key.ensures.finds)
 
 pub loop-place-preserved : goal.loop-place-preserved
-loop-place-preserved c =
-    none_before_more (FitsSome (setting_of c.args.world.now.scenario) c.args.world.now.history) c.loop-place.place c.role_in-role.result c.role_in-role.ensures
-    (subst (λ (found : Option Key). FindsKey (setting_of c.args.world.now.scenario) c.args.world.now.history c.role_in-role.result found) c.in_default.is c.in_ok-key.ensures)
-    c.loop-place.invariant
+loop-place-preserved c = (
+  none_before_more (FitsSome (setting_of c.args.world.now.scenario) c.args.world.now.history) c.loop-place.place c.role_in-role.result c.role_in-role.ensures
+      (subst (λ (found : Option Key). FindsKey (setting_of c.args.world.now.scenario) c.args.world.now.history c.role_in-role.result found) c.in_default.is c.in_ok-key.ensures.finds)
+      c.loop-place.invariant.0,
+  c.first_key.ensures.after,
+  c.first_key.ensures.covers,
+)
 
-pub returns : goal.returns
-returns c =
+pub returns-clause-finds : goal.returns-clause-finds
+returns-clause-finds c =
     let all : c.loop-place.place ≡ 8 = omega arith in
     no_begin (setting_of c.args.world.now.scenario) c.args.world.now.history
-    (subst (HasNoneBefore (FitsSome (setting_of c.args.world.now.scenario) c.args.world.now.history)) all c.loop-place.invariant)
+    (subst (HasNoneBefore (FitsSome (setting_of c.args.world.now.scenario) c.args.world.now.history)) all c.loop-place.invariant.0)

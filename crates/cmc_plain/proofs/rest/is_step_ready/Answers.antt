@@ -1,9 +1,8 @@
-use Rattle.std.proofs.Common.{sym}
 use Rattle.std.proofs.lemmas.Result.{IfOk-weaker}
 use Rattle.cmc_world.specs.Kept.{setting_of}
-use Rattle.cmc_plain.proofs.Resting.{ready_by}
+use Rattle.cmc_plain.proofs.Awaiting.{ready_at_rest}
 use Rattle.cmc_plain.proofs.rest.is_step_ready.Goals as goal
 
-pub returns-in-Some-clause-test : goal.returns-in-Some-clause-test
-returns-in-Some-clause-test c =
-    IfOk-weaker c.is_ready.result _ _ (λ b ready. ready_by (setting_of c.args.world.now.scenario) c.args.world.now.history c.in-Some.step.now b (sym c.in-Some.ensures) ready) c.is_ready.ensures.test
+pub returns-in-Rest-clause-test : goal.returns-in-Rest-clause-test
+returns-in-Rest-clause-test c =
+    IfOk-weaker c.is_at_rest.result _ _ (λ b rest. ready_at_rest (setting_of c.args.world.now.scenario) c.args.world.now.history c.awaited.result b c.awaited.ensures c.in-Rest.is rest) c.is_at_rest.ensures.test

@@ -17,8 +17,13 @@ returns-clause-wakes c =
 
 pub returns-clause-forgets : goal.returns-clause-forgets
 returns-clause-forgets c =
+    let s = setting_of c.args.world.now.scenario in
+    let h = c.args.world.now.history in
     on_ok c.wake_keys.result
-    (λ ready.
-    told_stays (setting_of c.args.world.now.scenario) c.args.world.now.history c.args.role c.args.kind c.in_ok-keys.keys.items c.forget_keys.new.idle c.in_ok-keys.ensures
-    (subst (λ (keys : List Key). (k : Key) → is_ready c.forget_keys.new.idle c.args.role k ≡ true → is_among keys k ≡ false) c.deref.ensures.value c.forget_keys.ensures.forgets))
+    (λ ready to low. record {
+      awake = told_ready s h c.args.role c.args.kind c.in_ok-keys.keys.items c.wake.new.self.awake c.in_ok-keys.ensures
+          (subst (λ (keys : List Key). AreReady c.args.role keys c.wake.new.self.awake) c.deref.ensures.value c.in_ok-wake.ensures.awake) to low;
+      busy = told_stays s h c.args.role c.args.kind c.in_ok-keys.keys.items c.wake.new.self.busy c.in_ok-keys.ensures
+          (subst (λ (keys : List Key). (k : Key) → is_ready c.wake.new.self.busy c.args.role k ≡ true → is_among keys k ≡ false) c.deref.ensures.value c.in_ok-wake.ensures.busy) to low;
+    })
     c.wake_keys.ensures.wakes

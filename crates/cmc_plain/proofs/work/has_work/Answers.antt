@@ -1,12 +1,6 @@
-use Rattle.std.proofs.Common.{sym, ◌∙◌}
 use Rattle.cmc_world.specs.Kept.{setting_of}
-use Rattle.cmc_plain.proofs.Working.{idle_known, not_free, untold}
+use Rattle.cmc_plain.proofs.Working.{not_free, untold}
 use Rattle.cmc_plain.proofs.work.has_work.Goals as goal
-
-pub returns-then-contains-clause-work : goal.returns-then-contains-clause-work
-returns-then-contains-clause-work c =
-    idle_known (setting_of c.args.world.now.scenario) c.args.world.now.history c.args.role c.args.key.now c.args.idle.now c.requires.before
-    (sym (c.keys.ensures c.args.key.now) ∙ sym c.contains.ensures ∙ c.if-contains.true)
 
 pub returns-then-not-is_free-clause-work : goal.returns-then-not-is_free-clause-work
 returns-then-not-is_free-clause-work c =

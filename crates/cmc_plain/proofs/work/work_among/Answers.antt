@@ -4,7 +4,7 @@ use Rattle.cmc_meta.specs.declared.key.Key.{Key}
 use Rattle.cmc_world.specs.Kept.{setting_of}
 use Rattle.cmc_plain.specs.Searches.{FindsFirst, HasWorkAbove}
 use Rattle.cmc_plain.proofs.Keys.{KeysLeft, all_keys_left, fewer_keys_left, key_found}
-use Rattle.cmc_plain.proofs.Working.{work_fits}
+use Rattle.cmc_plain.proofs.Working.{idle_lacks}
 use Rattle.cmc_plain.proofs.work.work_among.Goals as goal
 
 pub loop-key-init : goal.loop-key-init
@@ -12,7 +12,7 @@ loop-key-init c =
     let s = setting_of c.args.world.now.scenario in
     let h = c.args.world.now.history in
     rw (c.into_iter-key-iterator.ensures.into_iter_gives, c.iter-key-items.ensures.rest)
-    ((all_keys_left (HasWorkAbove s h c.args.role (option_copied c.args.below)) s h c.args.role c.args.keys.now (λ k w. work_fits s h c.args.role k w.work) c.iter-key-items.ensures.ordered c.requires.others, c.requires.before))
+    (all_keys_left (HasWorkAbove s h c.args.role (option_copied c.args.below)) c.args.keys.now c.iter-key-items.ensures.ordered (idle_lacks s h c.args.role (option_copied c.args.below) c.args.keys.now c.requires.others), c.requires.busy, c.requires.idle)
 
 pub loop-key-preserved : goal.loop-key-preserved
 loop-key-preserved c =
@@ -20,7 +20,8 @@ loop-key-preserved c =
     let h = c.args.world.now.history in (
       fewer_keys_left (HasWorkAbove s h c.args.role (option_copied c.args.below)) c.in-Some.key.now c.next.new.self c.in_ok-has_work_above.field-0 c.in_ok-has_work_above.ensures.work c.if-branch.false
           (subst (λ (left : List Key). KeysLeft (HasWorkAbove s h c.args.role (option_copied c.args.below)) left) c.in-Some.ensures.steps c.loop-key.invariant.0),
-      c.has_work_above.ensures.after,
+      c.has_work_above.ensures.busy,
+      c.has_work_above.ensures.idle,
     )
 
 pub returns-then-branch-clause-work : goal.returns-then-branch-clause-work

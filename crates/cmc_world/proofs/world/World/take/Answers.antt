@@ -15,12 +15,14 @@ use Rattle.cmc_world.proofs.world.World.take.Goals as goal
 pub invariant_of-self-2 : goal.invariant_of-self-2
 invariant_of-self-2 c =
     let kept = subst (λ (v : Seen). kept_of (open_pass (setting_of v.scenario) v.history c.args.pass) ≡ Some (order_of c.args.given)) (sym c.self.view_is) c.requires.kept in
-    let may = given_may _ (order_of c.args.given) (value_of c.args.given) kept c.into_value-value.ensures.right in
-    rw (c.push.ensures.entries, c.in_ok-reserve.ensures.same, c.in_ok-entry.ensures, c.into_value-value.ensures.value)
+    let may = given_may _ (order_of c.args.given) (value_of c.args.given) kept c.in_ok-taking.ensures.right in
+    let order_is = c.into_parts-order.ensures.order ∙ c.in_ok-taking.ensures.order in
+    let value_is = c.into_parts-order.ensures.value ∙ c.in_ok-taking.ensures.value in
+    rw (c.push.ensures.entries, c.in_ok-reserve.ensures.same, c.into_parts-order.ensures.entry, c.in_ok-taking.ensures.entry)
     (kept_given _ _ _ c.args.pass (value_of c.args.given) (λ n. pass_at c.advance.new.self n) c.self.invariant may.0 may.1
     (subst (λ (v : Seen). length v.history < v.scenario.events) (sym c.self.view_is) c.requires.room)
     (staged_given _ _ _ c.args.pass (order_of c.args.given) (value_of c.args.given) (λ n. pass_at c.advance.new.self n) c.self.invariant kept
     (λ n.
     c.advance.ensures n
-    ∙ ap (λ (o : Order). if n == c.args.pass then option_map (with_stage (Given o c.into_value-value.result)) (pass_at c.self.inside.passes n) else pass_at c.self.inside.passes n) c.in_ok-order.ensures
-    ∙ ap (λ (v : Value). if n == c.args.pass then option_map (with_stage (Given (order_of c.args.given) v)) (pass_at c.self.inside.passes n) else pass_at c.self.inside.passes n) c.into_value-value.ensures.value)))
+    ∙ ap (λ (o : Order). if n == c.args.pass then option_map (with_stage (Given o c.into_parts-order.result.1)) (pass_at c.self.inside.passes n) else pass_at c.self.inside.passes n) order_is
+    ∙ ap (λ (v : Value). if n == c.args.pass then option_map (with_stage (Given (order_of c.args.given) v)) (pass_at c.self.inside.passes n) else pass_at c.self.inside.passes n) value_is)))

@@ -1,0 +1,86 @@
+-- On keys of another kind than its work a role has nothing to do, and so it rests there.
+use Rattle.std.proofs.Common.{◌≡◌, List, Option, None, Bool, true, false, cond, refl, ap, subst, ◌∙◌, inl, option_and_then}
+use Rattle.std.specs.Prelude.{◌↔◌, IsTrue, MatchBool, if◌then◌else◌, ◌||◌}
+use Rattle.cmc_meta.specs.declared.key.Key.{Key}
+use Rattle.cmc_meta.specs.declared.key.Kind.{Kind}
+use Rattle.cmc_meta.specs.declared.key.Kind.TheVariants as kinds
+use Rattle.cmc_objects.specs.declared.certificate.Certificate.{Certificate}
+use Rattle.cmc_objects.specs.declared.request.CertificateRequest.{CertificateRequest}
+use Rattle.cmc_objects.specs.declared.object.Object.{Object}
+use Rattle.cmc_objects.specs.declared.role.Role.{Role}
+use Rattle.cmc_objects.specs.declared.entry.Entry.{Entry}
+use Rattle.cmc_objects.specs.Watching.{works_on_requests, kind_of_work}
+use Rattle.cmc_model.specs.declared.write.Write.{Write}
+use Rattle.cmc_model.specs.Objects.{object_at}
+use Rattle.cmc_model.specs.Histories.{Setting, moment}
+use Rattle.cmc_model.specs.Writes.{writes, contents, oldest, kind_eq}
+use Rattle.cmc_rules.specs.Positions.{position, cache}
+use Rattle.cmc_rules.specs.Viewing.{certificate_in, request_in, certificate_at, request_at, views_of, views_in, views, present_views}
+use Rattle.cmc_rules.specs.Desks.{desk}
+use Rattle.cmc_rules.specs.Legality.{IsLegal}
+use Rattle.cmc_rules.specs.Resting.{IsIdle, IsPaused, IsToldAll, RestsOn}
+use Rattle.cmc_rules.specs.Scripting.{held, has_held}
+use Rattle.cmc_moves.proofs.Sounds.{each_sound}
+use Rattle.cmc_world.specs.Rest.{EachKind}
+use Rattle.cmc_world.proofs.Known.{neither}
+use Rattle.cmc_world.proofs.Newest.{IsToldOfAll, views_newest}
+use Rattle.cmc_world.proofs.OneKind.{object_at-of_kind}
+use Rattle.cmc_world.proofs.Rest.{each_kind, same_kind}
+
+-- ---- what is seen of such a key
+
+not_cached : {A : Type 0} (s : Setting) (h : List Entry) (role : Role) (kind : Kind) (f : Object → Option A) (key : Key) → kind_eq key.kind kind ≡ false
+    → option_and_then f (object_at (cache s h role kind) key) ≡ None
+not_cached s h role kind f key other =
+    let ws : List Write = oldest (position h role kind) (writes s h) in
+    ap (option_and_then f) (object_at-of_kind kind ws key ∙ ap (λ (b : Bool). cond b (object_at (contents ws) key) None) other)
+
+unseen_by : (requests : Bool) (key : Key) (c : Option Certificate) (r : Option CertificateRequest) → kind_eq key.kind (if requests then kinds.CertificateRequest else kinds.Certificate) ≡ false
+    → (kind_eq key.kind kinds.Certificate ≡ false → c ≡ None) → (kind_eq key.kind kinds.CertificateRequest ≡ false → r ≡ None)
+    → ((if requests then None else c) ≡ None) × ((if requests then r else None) ≡ None)
+unseen_by true key c r other certificate request = (refl, request other)
+unseen_by false key c r other certificate request = (certificate other, refl)
+
+-- of a key of another kind than its work a role sees neither
+unseen : (s : Setting) (h : List Entry) (role : Role) (key : Key) → kind_eq key.kind (kind_of_work role) ≡ false
+    → ((views s h role key).certificate ≡ None) × ((views s h role key).request ≡ None)
+unfolding views_in views_of
+unseen s h role key other =
+    unseen_by (works_on_requests role) key (certificate_at (cache s h role kinds.Certificate) key) (request_at (cache s h role kinds.CertificateRequest) key) other
+    (not_cached s h role kinds.Certificate certificate_in key) (not_cached s h role kinds.CertificateRequest request_in key)
+
+-- on such a key it has nothing to do
+pub idle_elsewhere : (s : Setting) (h : List Entry) (role : Role) (key : Key) → kind_eq key.kind (kind_of_work role) ≡ false → IsIdle s h role (views s h role key)
+idle_elsewhere s h role key is =
+    let none = unseen s h role key is in
+    (each_sound role).absent (views s h role key) (moment s h) (desk s h role (views s h role key)) (record { certificate = none.0; request = none.1 })
+
+-- ---- so the role rests there
+
+pub none_held : (s : Setting) (h : List Entry) (role : Role) → has_held s h role ≡ false → (kind : Kind) → held s h role kind ≡ false
+none_held s h role none kinds.Certificate = (neither (held s h role kinds.Certificate) (held s h role kinds.CertificateRequest || held s h role kinds.Secret) none).0
+none_held s h role none kinds.CertificateRequest =
+    (neither (held s h role kinds.CertificateRequest) (held s h role kinds.Secret) (neither (held s h role kinds.Certificate) (held s h role kinds.CertificateRequest || held s h role kinds.Secret) none).1).0
+none_held s h role none kinds.Secret =
+    (neither (held s h role kinds.CertificateRequest) (held s h role kinds.Secret) (neither (held s h role kinds.Certificate) (held s h role kinds.CertificateRequest || held s h role kinds.Secret) none).1).1
+
+-- a role without a held informer was told of all
+pub told_free : (s : Setting) (h : List Entry) (role : Role) → EachKind (IsToldAll s h role) → has_held s h role ≡ false → IsToldOfAll s h role
+told_free s h role all none kind informed = (each_kind (IsToldAll s h role)).0 all kind informed (none_held s h role none kind)
+
+-- a role that was told of all that is not held from it rests where it has nothing to do by what it sees
+pub idle_rests : (s : Setting) (h : List Entry) (role : Role) (key : Key) → IsLegal s h → (has_held s h role ≡ false → IsToldOfAll s h role) → IsIdle s h role (views s h role key) → RestsOn s h role key
+idle_rests s h role key legal told idle = by_held (has_held s h role) refl where
+  by_held : (b : Bool) → has_held s h role ≡ b → MatchBool b (IsPaused s h role key) (IsIdle s h role (present_views s h role key))
+  by_held true is = inl idle
+  by_held false is = subst (IsIdle s h role) (views_newest s h role key legal (told is)) idle
+
+elsewhere_by : (same b : Bool) (s : Setting) (h : List Entry) (role : Role) (key : Key) → kind_eq key.kind (kind_of_work role) ≡ same → (IsTrue b ↔ (key.kind ≡ kind_of_work role)) → b ≡ false
+    → IsLegal s h → EachKind (IsToldAll s h role) → RestsOn s h role key
+elsewhere_by true b s h role key is test off legal all = let on = test.1 (same_kind key.kind (kind_of_work role) is) in absurd (cc (on, off))
+elsewhere_by false b s h role key is test off legal all = idle_rests s h role key legal (told_free s h role all) (idle_elsewhere s h role key is)
+
+-- where a test says that the key is not of its work
+pub rests_elsewhere : (s : Setting) (h : List Entry) (role : Role) (key : Key) (b : Bool) → (IsTrue b ↔ (key.kind ≡ kind_of_work role)) → b ≡ false
+    → IsLegal s h → EachKind (IsToldAll s h role) → IsTrue true ↔ RestsOn s h role key
+rests_elsewhere s h role key b test off legal all = (λ yes. elsewhere_by (kind_eq key.kind (kind_of_work role)) b s h role key refl test off legal all, λ rests. refl)
