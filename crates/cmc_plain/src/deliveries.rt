@@ -2,6 +2,7 @@
 ghost use Rattle.std.specs.Prelude.{◌≡◌, ◌↔◌, IsTrue, IfOk, false};
 ghost use Rattle.cmc_model.specs.Writes.{last_of_kind, writes};
 ghost use Rattle.cmc_rules.specs.Positions.{positions};
+ghost use Rattle.cmc_moves.specs.Answers.{AnswersDelivery};
 ghost use Rattle.cmc_world.specs.Kept.{setting_of};
 ghost use Rattle.cmc_plain.specs.Plain.{IsBehind};
 ghost use Rattle.cmc_plain.specs.Searches.{FindsKind, FindsDelivery, IsNewest};
@@ -10,8 +11,9 @@ use crate::roles::role_in;
 use crate::scripts::is_accepted;
 use cmc_held::at_kind;
 use cmc_meta::Kind;
+use cmc_moves::let_go;
 use cmc_objects::{Positions, Role, has_informer};
-use cmc_world::{Move, World};
+use cmc_world::{Move, Stepped, World};
 use std::alloc::{AllocError, Global};
 
 /// A role that is behind in a kind.
@@ -51,6 +53,26 @@ fn has_news(world: &World, told: Positions, role: Role, kind: Kind, to: u64) -> 
     at_kind(told, kind) < to && has_informer(role, kind)
 }
 
+/// What a role is answered that is to be told so far of the kind.
+///
+/// # Errors
+///
+/// Want of memory alone.
+pub(crate) fn told_answer(
+    alloc: Global,
+    world: &World,
+    role: Role,
+    kind: Kind,
+    to: u64,
+) -> Result<Stepped, AllocError>
+    ensures { IfOk result (λ a. AnswersDelivery (setting_of world.now.scenario) world.now.history role kind to a) }
+{
+    let step = Move::Deliver { role, kind, to };
+    let answer = world.answer(alloc, &step);
+    let_go(step);
+    answer
+}
+
 /// Whether the role runs, and can be told of the newest write of the kind, `to`, of which it was not told. A function clears
 /// room for all of its locals as it begins, and a move and its answer are large: so the question to the world stands alone.
 fn takes_delivery(
@@ -63,7 +85,7 @@ fn takes_delivery(
     requires { to ≡ last_of_kind kind (writes (setting_of world.now.scenario) world.now.history) }
     ensures { IfOk result (λ b. IsTrue b ↔ IsBehind (setting_of world.now.scenario) world.now.history role kind) }
 {
-    Ok(is_accepted(world.answer(alloc, &Move::Deliver { role, kind, to })?))
+    Ok(is_accepted(told_answer(alloc, world, role, kind, to)?))
 }
 
 /// The same, where most are told apart without a question to the world.

@@ -12,14 +12,16 @@ ghost use Rattle.cmc_rules.specs.Viewing as viewing;
 ghost use Rattle.cmc_world.specs.Kept.{setting_of};
 ghost use Rattle.cmc_plain.specs.Waits as words;
 
+use crate::deliveries::told_answer;
 use cmc_match::{is_next_key, next_request};
 use cmc_meta::{Condition, ConditionKind, Key, Kind, Tri};
+use cmc_moves::let_go;
 use cmc_next::{is_approved, is_denied, is_issuing};
 use cmc_objects::{CertStatus, Certificate, CertificateRequest, Role, Secret, Shared};
 use cmc_pass::Views;
 use cmc_policies::backoff_until;
 use cmc_summary::WaitName;
-use cmc_world::{Lack, Move, Stepped, World};
+use cmc_world::{Lack, Stepped, World};
 use std::alloc::{AllocError, Global};
 
 // ---- one Certificate, by what there is to see of it
@@ -137,7 +139,10 @@ fn is_refusal(answer: &Stepped) -> bool
 fn is_kept_from(alloc: Global, world: &World, role: Role, kind: Kind) -> Result<bool, AllocError>
     ensures { IfOk result (λ b. b ≡ words.is_kept_from (setting_of world.now.scenario) world.now.history role kind) }
 {
-    Ok(is_refusal(&world.answer(alloc, &Move::Deliver { role, kind, to: 0 })?))
+    let answer = told_answer(alloc, world, role, kind, 0)?;
+    let refusal = is_refusal(&answer);
+    let_go(answer);
+    Ok(refusal)
 }
 
 fn is_hindered(alloc: Global, world: &World, role: Role) -> Result<bool, AllocError>

@@ -32,6 +32,7 @@ use crate::work::next_work;
 use cmc_held::at_kind;
 use cmc_meta::{Key, Kind};
 use cmc_model::Write;
+use cmc_moves::let_go;
 use cmc_objects::{Role, Step, kind_of_work};
 use cmc_setup::Scenario;
 use cmc_world::{Move, Stepped, World};
@@ -220,6 +221,26 @@ fn idle_begin(known: &Known, step: &Move) -> Result<Option<Beginning>, AllocErro
     }
 }
 
+/// Makes ready for the move, and answers the begin that it is, where the role is known to have nothing to do on its key.
+fn make_ready(
+    alloc: Global,
+    world: &World,
+    ready: &mut Ready,
+    known: &mut Known,
+    step: &Move,
+) -> Result<Option<Beginning>, AllocError>
+    requires { IsToNewest (setting_of world.now.scenario) world.now.history step.now }
+    ensures begun { IfOk result (λ b. IsIdleBegin known.old step.now b) }
+    ensures keeps { Keeps ready.old ready.new }
+    ensures wakes { OnOk result (Wakes (setting_of world.now.scenario) world.now.history step.now ready.new) }
+    ensures less { KnowsLess known.old known.new }
+    ensures forgets { OnOk result (Forgets (setting_of world.now.scenario) world.now.history step.now known.new) }
+{
+    let begun = idle_begin(known, step)?;
+    wake_for(alloc, world, ready, known, step)?;
+    Ok(begun)
+}
+
 /// After a move that was answered so: the key of a pass that began with nothing to do is ready no more.
 fn leave_begun(world: &World, ready: &mut Ready, begun: Option<Beginning>, answer: &Stepped)
     requires covers { Covers (setting_of world.now.scenario) world.now.history ready.old }
@@ -374,8 +395,14 @@ impl Waking {
         ensures err { OnErr result (self.new ≡ self.old) }
     {
         self.world.is_run();
-        let begun = idle_begin(&self.known, &step)?;
-        wake_for(alloc, &self.world, &mut self.ready, &mut self.known, &step)?;
+        let (ready, known) = (&mut self.ready, &mut self.known);
+        let begun = match make_ready(alloc, &self.world, ready, known, &step) {
+            Ok(begun) => begun,
+            Err(lack) => {
+                let_go(step);
+                return Err(lack);
+            }
+        };
         let answer = self.world.step(alloc, step)?;
         leave_begun(&self.world, &mut self.ready, begun, &answer);
         Ok(answer)
