@@ -132,10 +132,15 @@ places_stay m n key old on found through k has =
     stays (is_eq (key_cmp key k)) m.entries n.entries key k on refl ((through.3 some).0 k) has
 
 -- a map without the key
-pub mark_absent : (es : Marked) (key : Key) → lookup (is_at (key_cmp key)) es ≡ None → (k : Key) → mark_in es k ≡ (if key_eq key k then false else mark_in es k)
+mark_absent : (es : Marked) (key : Key) → lookup (is_at (key_cmp key)) es ≡ None → (k : Key) → mark_in es k ≡ (if key_eq key k then false else mark_in es k)
 mark_absent es key none k = sym (subst (λ b. (if b then false else mark_in es k) ≡ mark_in es k) (key_tie key k) (off_before (is_eq (key_cmp key k)) es key k refl none))
 
-key_eq_self : (k : Key) → key_eq k k ≡ true
+-- where a key has no place, it is not said to count
+pub mark_missing : (es : Marked) (key : Key) (on : Bool) → (on ≡ true → has_place es key ≡ true) → lookup (is_at (key_cmp key)) es ≡ None → (k : Key) → mark_in es k ≡ (if key_eq key k then on else mark_in es k)
+mark_missing es key true has none = absurd (place_is_kept es key (has refl) none)
+mark_missing es key false has none = mark_absent es key none
+
+pub key_eq_self : (k : Key) → key_eq k k ≡ true
 key_eq_self k = sym (key_tie k k) ∙ (eq_by_cmp_equiv key_cmp-total).refl k
 
 or_first : (a b : Bool) → a ≡ true → (a || b) ≡ true

@@ -1,4 +1,5 @@
 pub mod Indexes
+pub mod Marking
 pub mod Caches
 pub mod Indexed
 pub mod Watching

@@ -57,7 +57,7 @@ impl Index {
         if self.map.contains_key(&uid) {
             return Ok(());
         }
-        self.map.insert(uid, Marks::new(alloc))?;
+        self.map.insert(uid, Marks::new())?;
         Ok(())
     }
 
@@ -70,7 +70,7 @@ impl Index {
     {
         self.row(alloc, uid)?;
         match self.map.get_mut(&uid) {
-            Some(marks) => marks.room(key),
+            Some(marks) => marks.room(alloc, key),
             None => Err(AllocError),
         }
     }

@@ -4,10 +4,12 @@
 //! before anything changes, so that want of memory leaves all as it was.
 #![tactic(auto)]
 
+mod alike;
 mod cache;
 mod index;
 mod informer;
 mod keys;
+mod mark_map;
 mod marks;
 mod owners;
 mod rows;

@@ -1,11 +1,15 @@
 //! Objects with the indexes that lead to them, and how both change together.
-ghost use Rattle.std.specs.Prelude.{◌≡◌, ◌≤◌, ◌++◌, ◌∷◌, [], IfOk, OnOk, OnErr, length, reverse, if◌then◌else◌};
+ghost use Rattle.std.specs.Prelude.{◌≡◌, ◌≤◌, ℕ, ◌++◌, ◌∷◌, [], IfOk, OnOk, OnErr, length, reverse, if◌then◌else◌};
 ghost use Rattle.cmc_model.specs.Replies.{put_at};
 ghost use Rattle.cmc_model.specs.Objects.{no_objects};
 ghost use Rattle.cmc_model.specs.Writes as spec;
-ghost use Rattle.cmc_informer.specs.Caches.{objects_in, written};
+ghost use Rattle.cmc_meta.specs.declared.key.Key.{Key as KeyValue};
+ghost use Rattle.cmc_meta.specs.Keys.{key_eq};
+ghost use Rattle.cmc_informer.specs.Caches.{has_uid, is_owned_by, objects_in, written};
 ghost use Rattle.cmc_informer.specs.Indexed.{HasRoom, HasRoomFor, IsIndexed, KeepsRoom};
+ghost use Rattle.cmc_informer.specs.Indexes.{stands};
 
+use crate::alike::stands_alike;
 use crate::index::Index;
 use crate::owners::{move_owners, room_for_owners};
 use crate::slots::Slots;
@@ -40,9 +44,7 @@ pub(crate) fn no_rows(alloc: Global) -> Rows
     }
 }
 
-/// Makes room for the object under the key, or for taking one away, and changes nothing else. An error is
-/// one of memory.
-pub(crate) fn make_room(
+fn make_new_room(
     alloc: Global,
     rows: &mut Rows,
     key: &Key,
@@ -60,6 +62,43 @@ pub(crate) fn make_room(
     Ok(())
 }
 
+/// Makes room for the object under the key, or for taking one away, and changes nothing else. Where it is
+/// found as the one that stands there, there is room. An error is one of memory.
+pub(crate) fn make_room(
+    alloc: Global,
+    rows: &mut Rows,
+    key: &Key,
+    object: &Option<Object>,
+) -> Result<(), AllocError>
+    requires { IsIndexed rows.old }
+    ensures room { OnOk result (HasRoom rows.new key.now object.now) }
+    ensures same { objects_in rows.new.slots ≡ objects_in rows.old.slots }
+    ensures indexed { IsIndexed rows.new }
+    ensures keeps { KeepsRoom rows.old rows.new }
+{
+    if stands_alike(&rows.slots, key, object) {
+        return Ok(());
+    }
+    make_new_room(alloc, rows, key, object)
+}
+
+/// The key comes to stand in the indexes of uids where the object is found, and no longer where the one
+/// in its slot is. It takes no memory.
+fn reindex(rows: &mut Rows, key: &Key, object: &Option<Object>)
+    requires room { HasRoom rows.old key.now object.now }
+    requires indexed { IsIndexed rows.old }
+    ensures owners { (u : ℕ) → (k : KeyValue) → stands rows.new.owners u k ≡ (if key_eq key.now k then is_owned_by u object.now else stands rows.old.owners u k) }
+    ensures uids { (u : ℕ) → (k : KeyValue) → stands rows.new.uids u k ≡ (if key_eq key.now k then has_uid u object.now else stands rows.old.uids u k) }
+    ensures slots { rows.new.slots ≡ rows.old.slots }
+    ensures targets { rows.new.targets ≡ rows.old.targets }
+    ensures keeps { KeepsRoom rows.old rows.new }
+{
+    if !stands_alike(&rows.slots, key, object) {
+        move_owners(&mut rows.owners, &rows.slots, object, key);
+        move_uid(&mut rows.uids, &rows.slots, object, key);
+    }
+}
+
 /// Puts the object under the key, or takes away the one that stands there. It takes no memory.
 pub(crate) fn change(rows: &mut Rows, key: &Key, object: Option<Object>)
     requires room { HasRoom rows.old key.now object }
@@ -68,8 +107,7 @@ pub(crate) fn change(rows: &mut Rows, key: &Key, object: Option<Object>)
     ensures indexed { IsIndexed rows.new }
     ensures keeps { KeepsRoom rows.old rows.new }
 {
-    move_owners(&mut rows.owners, &rows.slots, &object, key);
-    move_uid(&mut rows.uids, &rows.slots, &object, key);
+    reindex(rows, key, &object);
     rows.slots.set(key, object);
 }
 
@@ -99,11 +137,12 @@ fn prepare_one(
     write: &Write,
     kind: Kind,
 ) -> Result<(), AllocError>
-    requires { HasRoomFor rows.old changes.old.items }
+    requires room { HasRoomFor rows.old changes.old.items }
+    requires indexed { IsIndexed rows.old }
     ensures changes { OnOk result (changes.new.items ≡ (if spec.kind_eq write.now.key.kind kind then changes.old.items ++ write.now ∷ [] else changes.old.items)) }
     ensures room { OnOk result (HasRoomFor rows.new changes.new.items) }
     ensures same { objects_in rows.new.slots ≡ objects_in rows.old.slots }
-    ensures indexed { IsIndexed rows.old → IsIndexed rows.new }
+    ensures indexed { IsIndexed rows.new }
 {
     if write.key.kind == kind {
         make_room(alloc, rows, &write.key, &write.object)?;
@@ -124,10 +163,11 @@ pub(crate) fn prepare(
 ) -> Result<Vec<Write>, AllocError>
     requires above { from ≤ to }
     requires within { to ≤ length writes.now }
+    requires indexed { IsIndexed rows.old }
     ensures changes { IfOk result (λ ws. reverse ws.items ++ spec.of_kind kind (spec.oldest from (reverse writes.now)) ≡ spec.of_kind kind (spec.oldest to (reverse writes.now))) }
     ensures room { IfOk result (λ ws. HasRoomFor rows.new ws.items) }
     ensures same { objects_in rows.new.slots ≡ objects_in rows.old.slots }
-    ensures indexed { IsIndexed rows.old → IsIndexed rows.new }
+    ensures indexed { IsIndexed rows.new }
 {
     let mut changes = Vec::new(alloc);
     for place in from..to {

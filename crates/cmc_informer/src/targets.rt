@@ -60,7 +60,7 @@ impl Targets {
         if self.map.contains_key(secret) {
             return Ok(());
         }
-        self.map.insert(secret.copy()?, Marks::new(alloc))?;
+        self.map.insert(secret.copy()?, Marks::new())?;
         Ok(())
     }
 
@@ -72,7 +72,7 @@ impl Targets {
     {
         self.row(alloc, secret)?;
         match self.map.get_mut(secret) {
-            Some(marks) => marks.add(key),
+            Some(marks) => marks.add(alloc, key),
             None => Err(AllocError),
         }
     }

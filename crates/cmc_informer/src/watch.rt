@@ -118,11 +118,11 @@ impl Watch {
     }
 }
 
-fn mark_one(marks: &mut Marks, write: &Write, kind: Kind) -> Result<(), AllocError>
+fn mark_one(alloc: Global, marks: &mut Marks, write: &Write, kind: Kind) -> Result<(), AllocError>
     ensures { OnOk result ((k : KeyValue) → mark_in marks.new k ≡ (if spec.kind_eq write.now.key.kind kind && key_eq write.now.key k then true else mark_in marks.old k)) }
 {
     if write.key.kind == kind {
-        marks.add(&write.key)?;
+        marks.add(alloc, &write.key)?;
     }
     Ok(())
 }
@@ -149,9 +149,9 @@ fn mark_writes(
     requires within { to ≤ length writes.now }
     ensures { IfOk result (λ marks. (k : KeyValue) → mark_in marks k ≡ is_changed kind from to (reverse writes.now) k) }
 {
-    let mut marks = Marks::new(alloc);
+    let mut marks = Marks::new();
     for place in from..to {
-        mark_one(&mut marks, &writes[place as usize], kind)?;
+        mark_one(alloc, &mut marks, &writes[place as usize], kind)?;
     }
     Ok(marks)
 }

@@ -1,13 +1,15 @@
 -- A search over keys, in their order.
 use Rattle.std.proofs.Common.{◌≡◌, List, [], ◌∷◌, Some, None, Bool, true, false, refl, sym, subst, ap, ◌∙◌, Less}
 use Rattle.std.proofs.lemmas.Bool.Decides.{same_from_decides}
+use Rattle.std.proofs.lemmas.List.Kept.{IsStrictlySortedBy-filter}
 use Rattle.std.proofs.lemmas.Map.Keys.{sorted_head, sorted_tail}
+use Rattle.std.proofs.lemmas.Map.Views.{any-filter_same}
 use Rattle.std.specs.Prelude.{◌↔◌, ◌||◌, IsTrue}
 use Rattle.std.specs.Bool.{Decides}
 use Rattle.std.specs.BTreeMap.{is_at}
 use Rattle.std.specs.BTreeSet.{BTreeSet, contains}
 use Rattle.std.specs.Cmp.{Equal-is, tied_itself}
-use Rattle.std.specs.List.{AllByRecursion, list_any}
+use Rattle.std.specs.List.{AllByRecursion, filter, list_any}
 use Rattle.std.specs.List.Sorted.{IsStrictlySortedBy}
 use Rattle.std.specs.Ordering.{is_eq}
 use Rattle.cmc_meta.specs.declared.key.Key.{Key}
@@ -41,6 +43,13 @@ among false A other is = absurd (other refl is)
 -- where it is so of no key beside these
 pub all_keys_left : (P : Key → Type 0) (keys : BTreeSet Key) → IsStrictlySortedBy key_cmp keys.keys → ((k : Key) → contains key_cmp keys k ≡ false → P k → ⊥) → KeysLeft P keys.keys
 all_keys_left P keys ordered others = record { ordered = ordered; left = λ k is. among (contains key_cmp keys k) (P k) (others k) is }
+
+-- nor of any outside of where they are looked for
+pub keys_left_within : (P : Key → Type 0) (inside : Key → Bool) (keys : List Key) → KeysLeft P keys → ((k : Key) → P k → inside k ≡ true) → KeysLeft P (filter inside keys)
+keys_left_within P inside keys l within = record {
+  ordered = IsStrictlySortedBy-filter key_cmp inside keys l.ordered;
+  left = λ k is. any-filter_same (is_at (key_cmp k)) inside true (λ q tie. subst (λ (x : Key). inside x ≡ true) (tied_is_same k q tie) (within k is)) keys ∙ l.left k is;
+}
 
 left_beyond : (b : Bool) (k key : Key) (rest : List Key) → is_eq (key_cmp k key) ≡ b → (k ≡ key → ⊥) → (b || list_any (is_at (key_cmp k)) rest) ≡ true → list_any (is_at (key_cmp k)) rest ≡ true
 left_beyond true k key rest e apart any = absurd (apart (tied_is_same k key e))

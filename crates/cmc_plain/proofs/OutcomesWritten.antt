@@ -21,7 +21,7 @@ use Rattle.cmc_answers.specs.Judging.{denial_of}
 use Rattle.cmc_pass.specs.declared.pass.Views.{Views}
 use Rattle.cmc_pass.specs.declared.pass.Desk.{Desk}
 use Rattle.cmc_pass.specs.declared.pass.Act.{Act}
-use Rattle.cmc_pass.specs.declared.pass.Act.TheVariants.{Nothing, Call as Calls, Ask as Asks, Issue, Temporary}
+use Rattle.cmc_pass.specs.declared.pass.Act.TheVariants.{Nothing, Call as Calls, Issue, Temporary}
 use Rattle.cmc_pass.specs.declared.value.Value.{Value}
 use Rattle.cmc_pass.specs.declared.value.Value.TheVariants as values
 use Rattle.cmc_rules.specs.Acts.{act, call_after}
@@ -49,11 +49,10 @@ use Rattle.cmc_plain.proofs.Outcomes.{HasOutcome, IsAnsweredCall, outcome_judged
 
 -- each call of the act writes such a status, if it writes one
 abbrev pub IsAnsweredAct : Act → Type 0
-IsAnsweredAct Nothing = Unit {0}
 IsAnsweredAct (Calls call) = IsAnsweredCall call
-IsAnsweredAct (Asks order) = Unit {0}
 IsAnsweredAct (Issue plan) = IsAnsweredCall plan.secret × IsAnsweredCall plan.status
 IsAnsweredAct (Temporary plan) = IsAnsweredCall plan.secret
+IsAnsweredAct other = Unit {0}
 
 either : (b : Bool) (x y : Act) → IsAnsweredAct x → IsAnsweredAct y → IsAnsweredAct (if b then x else y)
 either true x y one other = one
@@ -234,11 +233,8 @@ IsAnsweredOption (Some call) = IsAnsweredCall call
 
 kept_one : (c : Option Certificate) (value : Value) → IsAnsweredOption (keys.kept_for c value)
 unfolding make_call
-kept_one None value = tt
 kept_one (Some c) (values.Made file) = tt
-kept_one (Some c) (values.Signed signature) = tt
-kept_one (Some c) (values.Answered answer) = tt
-kept_one (Some c) (values.Judged approved) = tt
+kept_one c value = tt
 
 signed_one : (c : Certificate) (k : SecretObject) (key : Option PublicKey) (signature : List ℕ) → IsAnsweredOption (requests.signed_by c k key signature)
 unfolding make_request
@@ -258,10 +254,8 @@ signed_all None next signature = tt
 signed_all (Some c) next signature = signed_key c (named_key c.status.next_key next) signature
 
 requested : (seen : Views) (value : Value) → IsAnsweredOption (requests.request_from seen value)
-requested seen (values.Made file) = tt
 requested seen (values.Signed signature) = signed_all seen.certificate seen.next signature
-requested seen (values.Answered answer) = tt
-requested seen (values.Judged approved) = tt
+requested seen other = tt
 
 -- a verdict is of another kind than Ready
 abbrev IsVerdict : Option Condition → Type 0
@@ -275,33 +269,23 @@ verdict_is moment false None = tt
 verdict_is moment false (Some denial) = refl
 
 verdict_given : (moment : ℤ) (order : Order) (value : Value) → IsVerdict (verdict_of moment order value)
-verdict_given moment (orders.Key order) value = tt
-verdict_given moment (orders.Csr order) value = tt
-verdict_given moment (orders.Sign order) value = tt
-verdict_given moment (orders.Judge order) (values.Made file) = tt
-verdict_given moment (orders.Judge order) (values.Signed signature) = tt
-verdict_given moment (orders.Judge order) (values.Answered answer) = tt
 verdict_given moment (orders.Judge order) (values.Judged approved) = verdict_is moment approved (denial_of order)
+verdict_given moment order value = tt
 
 judged : (r : Option CertificateRequest) (verdict : Option Condition) → ((q : CertificateRequest) → r ≡ Some q → HasOutcome q.status) → IsVerdict verdict → IsAnsweredOption (approving.judged_for r verdict)
 unfolding judge_call
-judged None verdict sees is = tt
-judged (Some r) None sees is = tt
 judged (Some r) (Some verdict) sees is = outcome_judged verdict r.status is (sees r refl)
+judged r verdict sees is = tt
 
 answered_value : (moment : ℤ) (r : CertificateRequest) (value : Value) → IsAnsweredOption (granting.answered_with moment r value)
 unfolding granting.status_call
-answered_value moment r (values.Made file) = tt
-answered_value moment r (values.Signed signature) = tt
 answered_value moment r (values.Answered answer) = outcome_answered r.status answer moment
-answered_value moment r (values.Judged approved) = tt
+answered_value moment r other = tt
 
 answered_one : (moment : ℤ) (r : Option CertificateRequest) (order : Order) (value : Value) → IsAnsweredOption (granting.answered_to moment r order value)
-answered_one moment r (orders.Key order) value = tt
-answered_one moment r (orders.Csr order) value = tt
-answered_one moment None (orders.Sign order) value = tt
 answered_one moment (Some r) (orders.Sign order) value = answered_value moment r value
-answered_one moment r (orders.Judge order) value = tt
+answered_one moment None (orders.Sign order) value = tt
+answered_one moment r other value = tt
 
 answered_next : (role : Role) (seen : Views) (moment : ℤ) (order : Order) (value : Value) → SeesAnswered seen → IsAnsweredOption (call_after role seen moment order value)
 unfolding call_after key_after request_after judged_after answered_after

@@ -1,6 +1,10 @@
 -- When a role has something to do on a key.
-use Rattle.std.proofs.Common.{◌≡◌, Bool, true, false, List, Option, None, refl, sym, subst}
-use Rattle.std.specs.BTreeSet.{BTreeSet, contains}
+use Rattle.std.proofs.Common.{◌≡◌, ◌&&◌, Bool, true, false, List, Option, Some, None, refl, sym, ap, ◌∙◌, subst}
+use Rattle.std.specs.BTreeMap.Range.{range_contains}
+use Rattle.std.specs.BTreeSet.{BTreeSet, contains, keys_between}
+use Rattle.std.specs.List.Sorted.{IsStrictlySortedBy}
+use Rattle.std.specs.declared.ops.Bound.{Bound}
+use Rattle.std.specs.declared.ops.Bound.TheVariants.{Unbounded}
 use Rattle.cmc_meta.specs.Keys.{key_cmp}
 use Rattle.cmc_objects.specs.Watching.{kind_of_work}
 use Rattle.std.specs.Prelude.{◌↔◌, IsTrue}
@@ -17,13 +21,28 @@ use Rattle.cmc_rules.specs.Memory.{past}
 use Rattle.cmc_rules.specs.Sameness.{IsDue, own_above}
 use Rattle.cmc_rules.specs.Legality.{IsLegal}
 use Rattle.cmc_plain.specs.Ready.{IsIdleOn}
-use Rattle.cmc_plain.specs.Searches.{HasWork, HasWorkAbove, IsFree}
+use Rattle.cmc_plain.specs.Searches.{HasWork, HasWorkAbove, IsFree, is_above, start_above}
+use Rattle.cmc_plain.proofs.Keys.{KeysLeft, all_keys_left, keys_left_within}
 use Rattle.cmc_plain.proofs.Unknown.{known_unless_quiet}
 
 -- of a key on which there is nothing to do it is not so
-pub idle_lacks : (s : Setting) (h : List Entry) (role : Role) (below : Option Key) (keys : BTreeSet Key) → ((k : Key) → k.kind ≡ kind_of_work role → contains key_cmp keys k ≡ false → IsIdleOn s h role k)
+idle_lacks : (s : Setting) (h : List Entry) (role : Role) (below : Option Key) (keys : BTreeSet Key) → ((k : Key) → k.kind ≡ kind_of_work role → contains key_cmp keys k ≡ false → IsIdleOn s h role k)
     → (k : Key) → contains key_cmp keys k ≡ false → HasWorkAbove s h role below k → ⊥
 idle_lacks s h role below keys others k off w = w.work.busy (others k w.work.may.work off)
+
+-- those above the key lie where they are looked for
+above_is : (below : Option Key) (k : Key) → is_above below k ≡ true → range_contains key_cmp (start_above below) Unbounded k ≡ true
+above_is None k is = refl
+above_is (Some b) k is = ap (λ (on : Bool). on && true) is
+
+-- of no key beside these that lie above it
+pub work_left : (s : Setting) (h : List Entry) (role : Role) (below : Option Key) (keys : BTreeSet Key) (start : Bound Key) (left : List Key) → start ≡ start_above below
+    → left ≡ keys_between key_cmp start Unbounded keys → IsStrictlySortedBy key_cmp keys.keys → ((k : Key) → k.kind ≡ kind_of_work role → contains key_cmp keys k ≡ false → IsIdleOn s h role k)
+    → KeysLeft (HasWorkAbove s h role below) left
+work_left s h role below keys start left from is ordered others =
+    subst (KeysLeft (HasWorkAbove s h role below)) (sym (is ∙ ap (λ (b : Bound Key). keys_between key_cmp b Unbounded keys) from))
+    (keys_left_within (HasWorkAbove s h role below) (range_contains key_cmp (start_above below) Unbounded) keys.keys
+    (all_keys_left (HasWorkAbove s h role below) keys ordered (idle_lacks s h role below keys others)) (λ k w. above_is below k w.above))
 
 -- where there is nothing to do by what the role sees
 pub idle_is : (s : Setting) (h : List Entry) (role : Role) (key : Key) (b : Bool) → (IsTrue b ↔ IsIdleOn s h role key) → b ≡ true → IsTrue false ↔ HasWork s h role key

@@ -1,6 +1,8 @@
 -- What the searches for the plain move find.
 use Rattle.std.specs.Prelude.{◌≡◌, ℕ, ◌<◌, Bool, true, false, List, Option, Some, None, MatchBool}
 use Rattle.std.specs.Ordering.{is_lt}
+use Rattle.std.specs.declared.ops.Bound.{Bound}
+use Rattle.std.specs.declared.ops.Bound.TheVariants.{Excluded, Unbounded}
 use Rattle.std.specs.declared.cmp.Ordering.TheVariants.{Less}
 use Rattle.cmc_meta.specs.declared.key.Key.{Key}
 use Rattle.cmc_meta.specs.declared.key.Kind.{Kind}
@@ -90,6 +92,11 @@ pub record HasWork (s : Setting) (h : List Entry) (role : Role) (key : Key) : Ty
 abbrev pub is_above : Option Key → Key → Bool
 is_above None key = true
 is_above (Some below) key = is_lt (key_cmp below key)
+
+-- where the keys above this one begin
+abbrev pub start_above : Option Key → Bound Key
+start_above None = Unbounded
+start_above (Some below) = Excluded below
 
 -- and the key stands above this one, if there is one
 pub record HasWorkAbove (s : Setting) (h : List Entry) (role : Role) (below : Option Key) (key : Key) : Type 0 where

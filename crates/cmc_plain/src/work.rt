@@ -4,6 +4,7 @@
 //! not hang on it. The plain order begins such passes too; many hands that look for work alone leave them out.
 ghost use Rattle.std.specs.BTreeSet.{contains};
 ghost use Rattle.std.specs.Option.{option_copied};
+ghost use Rattle.std.specs.Range.Bound.{bound_map};
 ghost use Rattle.std.specs.Prelude.{◌≡◌, ◌↔◌, IsTrue, IfOk, true, false};
 ghost use Rattle.cmc_meta.specs.declared.key.Key.{Key as KeyValue};
 ghost use Rattle.cmc_meta.specs.Keys.{key_cmp};
@@ -24,6 +25,7 @@ use cmc_pass::Views;
 use cmc_world::World;
 use std::alloc::{AllocError, Global};
 use std::collections::BTreeSet;
+use std::ops::Bound;
 
 /// Whether a pass of the role, which runs, sees this of the key and works on it in no pass, may begin, and has something to
 /// do. Whether it has by what it sees is known from then on: as one
@@ -89,6 +91,16 @@ fn is_above(below: Option<&Key>, key: &Key) -> bool
     }
 }
 
+/// Where the keys above this one begin, if there is one.
+fn start_above(below: Option<&Key>) -> Bound<&Key>
+    ensures { bound_map (λ key. key.now) result ≡ spec.start_above (option_copied below.entry) }
+{
+    match below {
+        Some(below) => Bound::Excluded(below),
+        None => Bound::Unbounded,
+    }
+}
+
 /// Whether the role, which runs, may begin a pass on the key and has something to do there, and the key stands above this
 /// one, if there is one.
 fn has_work_above(
@@ -132,7 +144,7 @@ fn work_among(
     ensures busy { Busies (setting_of world.now.scenario) world.now.history busy.new }
     ensures idle { IsOfEach (IsIdleOn (setting_of world.now.scenario) world.now.history role) idle.new.items }
 {
-    for key in keys.iter() {
+    for key in keys.range((start_above(below), Bound::Unbounded)) {
         if has_work_above(alloc, world, role, below, key, busy, idle)? {
             return Ok(Some(key.copy()?));
         }

@@ -9,7 +9,7 @@ use crate::trigger::{OTHER_NAME, desk};
 use cmc_answers::judge;
 use cmc_approver::{act, is_sound, then};
 use cmc_meta::{ConditionKind, Tri};
-use cmc_objects::{JudgeOrder, Order, Rules, Shared};
+use cmc_objects::{CertificateRequest, JudgeOrder, Order, Rules, Shared};
 use cmc_pass::{Act, Desk, Given, Views};
 use cmc_policy_rules::{Policies, Policy};
 use cmc_tests::values::{let_go, policy, text, texts};
@@ -150,14 +150,18 @@ static CASES: [(Case, &str); 15] = [
     ),
 ];
 
+fn request_of(alloc: Global, case: &Case) -> Result<CertificateRequest, Fail> {
+    let mut request = request(alloc, &case.row)?;
+    if let Some(group) = case.group {
+        request.spec.issuer.group = Some(text(alloc, group)?);
+    }
+    Ok(request)
+}
+
 fn views_of(alloc: Global, case: &Case) -> Result<Views, Fail> {
     let mut views = Views::new(alloc);
     if case.stands {
-        let mut request = request(alloc, &case.row)?;
-        if let Some(group) = case.group {
-            request.spec.issuer.group = Some(text(alloc, group)?);
-        }
-        views.request = Some(Shared::new(alloc, request)?);
+        views.request = Some(Shared::new(alloc, request_of(alloc, case)?)?);
     }
     Ok(views)
 }
@@ -332,16 +336,22 @@ fn rules(alloc: Global, ruled: &Ruled) -> Result<Rules, Fail> {
     })
 }
 
-fn question(alloc: Global, views: &Views, rules: Rules) -> Result<JudgeOrder, Fail> {
-    let mut desk = desk(alloc);
-    desk.rules = rules;
-    match act(alloc, views, 0, &desk)? {
+fn order_in(act: Act) -> Result<JudgeOrder, Fail> {
+    match act {
         Act::Ask(Order::Judge(order)) => Ok(order),
         other => {
             let_go(other);
             Err(Fail::from("no question"))
         }
     }
+}
+
+fn question(alloc: Global, views: &Views, rules: Rules) -> Result<JudgeOrder, Fail> {
+    let mut desk = desk(alloc);
+    desk.rules = rules;
+    let act = act(alloc, views, 0, &desk);
+    let_go(desk);
+    order_in(act?)
 }
 
 /// What is written of the request that is seen, at 2030-01-01T00:01:00Z.

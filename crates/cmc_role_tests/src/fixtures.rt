@@ -227,11 +227,16 @@ pub(crate) fn certificate(alloc: Global, case: &Case) -> Result<Certificate, Fai
     })
 }
 
-fn belongings(alloc: Global, case: &Case) -> Result<Views, Fail> {
-    let mut views = Views::new(alloc);
+fn see_target(alloc: Global, views: &mut Views, case: &Case) -> Result<(), Fail> {
     if let Some(row) = &case.target {
         views.secret = Some(Shared::new(alloc, secret(alloc, row)?)?);
     }
+    Ok(())
+}
+
+fn belongings(alloc: Global, case: &Case) -> Result<Views, Fail> {
+    let mut views = Views::new(alloc);
+    see_target(alloc, &mut views, case)?;
     views.next = secrets(alloc, case.next)?;
     views.requests = requests(alloc, case.requests)?;
     Ok(views)

@@ -360,7 +360,10 @@ fn asked(alloc: Global, count: u32) -> Desk
 fn told_on(alloc: Global, views: &Views, count: u32) -> Result<String, AllocError>
     requires { HasForm views.now.request }
 {
-    told_then(alloc, act(alloc, views, NOW, &asked(alloc, count))?)
+    let desk = asked(alloc, count);
+    let act = act(alloc, views, NOW, &desk);
+    let_go(desk);
+    told_then(alloc, act?)
 }
 
 fn told_of(alloc: Global, case: &Case) -> Result<String, Fail> {
@@ -460,18 +463,25 @@ fn signing(alloc: Global, answer: &Answer) -> Result<Signing, Fail> {
     }
 }
 
-/// The question about the request.
-#[tactic(auto, unfolding(cmc_rules::specs::Orders::reply_row))]
-fn question(alloc: Global, views: &Views) -> Result<SignOrder, Fail>
-    requires { HasForm views.now.request }
-{
-    match act(alloc, views, NOW, &asked(alloc, 0))? {
+fn order_in(act: Act) -> Result<SignOrder, Fail> {
+    match act {
         Act::Ask(Order::Sign(order)) => Ok(order),
         other => {
             let_go(other);
             Err(Fail::from("no question"))
         }
     }
+}
+
+/// The question about the request.
+#[tactic(auto, unfolding(cmc_rules::specs::Orders::reply_row))]
+fn question(alloc: Global, views: &Views) -> Result<SignOrder, Fail>
+    requires { HasForm views.now.request }
+{
+    let desk = asked(alloc, 0);
+    let act = act(alloc, views, NOW, &desk);
+    let_go(desk);
+    order_in(act?)
 }
 
 #[tactic(auto, unfolding(cmc_rules::specs::Granting::answered_after))]

@@ -283,7 +283,10 @@ fn asked(alloc: Global) -> Desk
 }
 
 fn told_on(alloc: Global, views: &Views) -> Result<String, AllocError> {
-    told_then(alloc, act(alloc, views, 0, &asked(alloc))?)
+    let desk = asked(alloc);
+    let act = act(alloc, views, 0, &desk);
+    let_go(desk);
+    told_then(alloc, act?)
 }
 
 fn told_of(alloc: Global, case: &Case) -> Result<String, Fail> {
@@ -334,14 +337,21 @@ fn scripted(alloc: Global) -> Result<Desk, Fail>
     Ok(desk)
 }
 
-fn question(alloc: Global, views: &Views) -> Result<KeyOrder, Fail> {
-    match act(alloc, views, 0, &scripted(alloc)?)? {
+fn order_in(act: Act) -> Result<KeyOrder, Fail> {
+    match act {
         Act::Ask(Order::Key(order)) => Ok(order),
         other => {
             let_go(other);
             Err(Fail::from("no question"))
         }
     }
+}
+
+fn question(alloc: Global, views: &Views) -> Result<KeyOrder, Fail> {
+    let desk = scripted(alloc)?;
+    let act = act(alloc, views, 0, &desk);
+    let_go(desk);
+    order_in(act?)
 }
 
 static BEGUN_ONCE: Case = BEGUN;

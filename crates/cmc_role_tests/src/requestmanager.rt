@@ -336,7 +336,10 @@ static REFUSED: [(Case, &str); 8] = [
 fn told_on(alloc: Global, views: &Views) -> Result<String, AllocError>
     requires { HasNextRevision views.now.certificate }
 {
-    told_then(alloc, act(alloc, views, 0, &desk(alloc))?)
+    let desk = desk(alloc);
+    let act = act(alloc, views, 0, &desk);
+    let_go(desk);
+    told_then(alloc, act?)
 }
 
 fn told_of(alloc: Global, case: &Case) -> Result<String, Fail> {
@@ -413,16 +416,23 @@ fn follows(views: &Views) -> bool
     }
 }
 
-fn question(alloc: Global, views: &Views) -> Result<CsrOrder, Fail>
-    requires { HasNextRevision views.now.certificate }
-{
-    match act(alloc, views, 0, &desk(alloc))? {
+fn order_in(act: Act) -> Result<CsrOrder, Fail> {
+    match act {
         Act::Ask(Order::Csr(order)) => Ok(order),
         other => {
             let_go(other);
             Err(Fail::from("no question"))
         }
     }
+}
+
+fn question(alloc: Global, views: &Views) -> Result<CsrOrder, Fail>
+    requires { HasNextRevision views.now.certificate }
+{
+    let desk = desk(alloc);
+    let act = act(alloc, views, 0, &desk);
+    let_go(desk);
+    order_in(act?)
 }
 
 #[tactic(auto, unfolding(cmc_rules::specs::RequestManaging::request_after))]

@@ -71,7 +71,10 @@ fn told_then(alloc: Global, act: Act) -> Result<String, AllocError> {
 }
 
 fn told_on(alloc: Global, views: &Views, now: i64) -> Result<String, AllocError> {
-    told_then(alloc, act_readiness(alloc, views, now, &desk(alloc))?)
+    let desk = desk(alloc);
+    let act = act_readiness(alloc, views, now, &desk);
+    let_go(desk);
+    told_then(alloc, act?)
 }
 
 fn told_of(alloc: Global, case: &Case) -> Result<String, Fail>
@@ -242,7 +245,10 @@ fn gone_then(alloc: Global, act: Act) -> Result<String, AllocError> {
 }
 
 fn gone_on(alloc: Global, views: &Views) -> Result<String, AllocError> {
-    gone_then(alloc, act_revision(alloc, views, 0, &desk(alloc))?)
+    let desk = desk(alloc);
+    let act = act_revision(alloc, views, 0, &desk);
+    let_go(desk);
+    gone_then(alloc, act?)
 }
 
 const ISSUING: Case = Case {

@@ -14,6 +14,7 @@ use cmc_policy_rules::Policies;
 use cmc_tests::values::{least_spec, let_go, new_meta, text};
 use cmc_trigger::{act, is_sound};
 use std::alloc::{AllocError, Global};
+use std::process::Abort;
 use std::test::Fail;
 
 /// A key file that `openssl ecparam -genkey` made, a certificate that `openssl req -x509` made of it, and
@@ -249,13 +250,18 @@ pub(crate) fn desk(alloc: Global) -> Desk
     }
 }
 
-/// The Secret and the requests.
-fn belongings(alloc: Global, case: &Case) -> Result<Views, Fail> {
-    let mut views = Views::new(alloc);
+fn see_secret(alloc: Global, views: &mut Views, case: &Case) -> Result<(), Fail> {
     if let Some((key, certificate)) = case.parts {
         let secret = secret(alloc, key, certificate, case.mark)?;
         views.secret = Some(Shared::new(alloc, secret)?);
     }
+    Ok(())
+}
+
+/// The Secret and the requests.
+fn belongings(alloc: Global, case: &Case) -> Result<Views, Fail> {
+    let mut views = Views::new(alloc);
+    see_secret(alloc, &mut views, case)?;
     views.requests = requests(alloc, case.requests)?;
     Ok(views)
 }
@@ -273,7 +279,10 @@ pub(crate) fn views(alloc: Global, case: &Case) -> Result<Views, Fail>
 fn told_on(alloc: Global, views: &Views, now: i64) -> Result<String, AllocError>
     requires { HasDatedFailure views.now }
 {
-    told_then(alloc, act(alloc, views, now, &desk(alloc))?)
+    let desk = desk(alloc);
+    let act = act(alloc, views, now, &desk);
+    let_go(desk);
+    told_then(alloc, act?)
 }
 
 fn told_of(alloc: Global, case: &Case) -> Result<String, Fail>
@@ -480,30 +489,39 @@ fn told_after(
 
 static ABSENT: &str = "3 1893456000 DoesNotExist: Certificate must be issued: DoesNotExist";
 
+/// What is told is what is wanted; the text is let go here, so that the next `?` of a test has none in hand.
+fn tells_then(
+    rt: &impl Abort,
+    row: &str,
+    told: Result<String, Fail>,
+    want: &str,
+) -> Result<(), Fail> {
+    tells(rt, row, told?.as_str(), want);
+    Ok(())
+}
+
 #[test]
 fn begins_where_nothing_is_being_issued(rt: HostRuntime) -> Result<(), Fail> {
     let alloc = rt.alloc();
-    let told = told_after(alloc, Tri::True, None, None)?;
-    tells(&rt, "True", told.as_str(), "nothing");
-    let told = told_after(alloc, Tri::False, None, None)?;
-    tells(&rt, "False", told.as_str(), ABSENT);
-    let told = told_after(alloc, Tri::Unknown, None, None)?;
-    tells(&rt, "Unknown", told.as_str(), ABSENT);
-    Ok(())
+    let told = told_after(alloc, Tri::True, None, None);
+    tells_then(&rt, "True", told, "nothing")?;
+    let told = told_after(alloc, Tri::False, None, None);
+    tells_then(&rt, "False", told, ABSENT)?;
+    let told = told_after(alloc, Tri::Unknown, None, None);
+    tells_then(&rt, "Unknown", told, ABSENT)
 }
 
 #[test]
 fn begins_behind_the_back_off(rt: HostRuntime) -> Result<(), Fail> {
     let alloc = rt.alloc();
-    let told = told_after(alloc, Tri::False, Some(1_893_452_401), Some(1))?;
-    tells(&rt, "one attempt, before", told.as_str(), "nothing");
-    let told = told_after(alloc, Tri::False, Some(1_893_452_400), Some(1))?;
-    tells(&rt, "one attempt", told.as_str(), ABSENT);
-    let told = told_after(alloc, Tri::False, Some(1_893_448_801), Some(2))?;
-    tells(&rt, "two attempts, before", told.as_str(), "nothing");
-    let told = told_after(alloc, Tri::False, Some(1_893_448_800), Some(2))?;
-    tells(&rt, "two attempts", told.as_str(), ABSENT);
-    Ok(())
+    let told = told_after(alloc, Tri::False, Some(1_893_452_401), Some(1));
+    tells_then(&rt, "one attempt, before", told, "nothing")?;
+    let told = told_after(alloc, Tri::False, Some(1_893_452_400), Some(1));
+    tells_then(&rt, "one attempt", told, ABSENT)?;
+    let told = told_after(alloc, Tri::False, Some(1_893_448_801), Some(2));
+    tells_then(&rt, "two attempts, before", told, "nothing")?;
+    let told = told_after(alloc, Tri::False, Some(1_893_448_800), Some(2));
+    tells_then(&rt, "two attempts", told, ABSENT)
 }
 
 /// A first failure a second before the end of back-off: what is done by the next requests that stand.

@@ -40,11 +40,14 @@ one_more Q w ws new each key o (inl here) = subst (λ (x : Option Object). IfSom
 one_more Q w ws new each key o (inr there) = each key o there
 
 -- what stands is so, and what is seen
+pub stands_so : (Q : Object → Type 0) (s : Setting) (h : List Entry) (key : Key) (o : Object) → EachVersion Q (writes s h) → object_at (objects s h) key ≡ Some o → Q o
+stands_so Q s h key o each is = each key o (stands_is_version s h key o is)
+
 pub standing_has : (Q : Object → Type 0) (s : Setting) (h : List Entry) (key : Key) → EachVersion Q (writes s h) → IfSome (object_at (objects s h) key) Q
 standing_has Q s h key each = by (object_at (objects s h) key) refl where
   by : (x : Option Object) → object_at (objects s h) key ≡ x → IfSome x Q
   by None is = tt
-  by (Some o) is = each key o (stands_is_version s h key o is)
+  by (Some o) is = stands_so Q s h key o each is
 
 pub seen_has : (Q : Object → Type 0) (ws : List Write) (seen : Views) (o : Object) → EachVersion Q ws → AreKnown ws seen → IsSeen seen o → Q o
 seen_has Q ws seen o each known is = let there = known o is in each there.0 o there.1
@@ -62,7 +65,7 @@ pub record IsCarried (s : Setting) (T : List Write → Type 0) : Type 0 where
       → T (writes s h) → T (newest s h call reply ∷ writes s h)
   pub pass : (h : List Entry) (call : Call) (reply : Reply) → IsPlayed s h → IsWriter s h call reply → T (writes s h) → T (newest s h call reply ∷ writes s h)
 
-where_accepted : (T : List Write → Type 0) (b : Bool) (w : Write) (ws : List Write) → (b ≡ true → T ws → T (w ∷ ws)) → T ws → T (if b then w ∷ ws else ws)
+pub where_accepted : (T : List Write → Type 0) (b : Bool) (w : Write) (ws : List Write) → (b ≡ true → T ws → T (w ∷ ws)) → T ws → T (if b then w ∷ ws else ws)
 where_accepted T true w ws more is = more refl is
 where_accepted T false w ws more is = is
 

@@ -8,6 +8,7 @@ pub mod Moments
 pub mod Safe
 pub mod PassWrites
 pub mod Carried
+pub mod Kept
 pub mod Dated
 pub mod Creations
 pub mod LowRevisions

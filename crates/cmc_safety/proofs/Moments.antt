@@ -90,14 +90,8 @@ timely_effect : (s : Setting) (h : List Entry) (n : ℕ) (step : Step) → slice
     → IsTimely s.now s.script (n + 1) (effect_of s h step)
 unfolding call_of
 timely_effect s h n (steps.Tick seconds) is within = within_tick s.now s.script n (moment s h) seconds is within
-timely_effect s h n (steps.Apply object version) is within = tt
-timely_effect s h n (steps.Delete key version) is within = tt
 timely_effect s h n (steps.Stop role) is within = tt
 timely_effect s h n (steps.Start role behind) is within = tt
-timely_effect s h n (steps.Hold role kind) is within = tt
-timely_effect s h n (steps.Release role kind) is within = tt
-timely_effect s h n (steps.Until role kind writes) is within = tt
-timely_effect s h n steps.Settle is within = tt
 timely_effect s h n other is within = timely_call s.now s.script (n + 1) (call_of (moment s h) (objects s h) other)
 
 timely_step : (s : Setting) (h : List Entry) (n : ℕ) (step : Option Step) → slice_get s.script n ≡ step → IsWithinTicks s.now s.script n (moment s h)
@@ -141,7 +135,7 @@ scripted_low s (other ∷ h) follows = scripted_low s h follows.1
 pub moment_in_run : (s : Setting) (h : List Entry) → IsFormed s → Follows s h → is_run_time (moment s h) ≡ true
 moment_in_run s h formed follows = let within = moments_within s h follows in formed.times (moment s h) within.0 within.1
 
-both_hold : (a b : Bool) → (a && b) ≡ true → (a ≡ true) × (b ≡ true)
+pub both_hold : (a b : Bool) → (a && b) ≡ true → (a ≡ true) × (b ≡ true)
 both_hold true b is = (refl, is)
 both_hold false b is = absurd (cc is)
 

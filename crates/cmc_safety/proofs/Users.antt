@@ -1,11 +1,11 @@
 -- A user leaves what each object says of its revision.
-use Rattle.std.proofs.Common.{◌≡◌, ℕ, ℤ, ◌+◌, List, [], ◌∷◌, Option, Some, None, Bool, refl, ap, subst, ◌∙◌, true, option_and_then}
+use Rattle.std.proofs.Common.{◌≡◌, ◌==◌, ℕ, ℤ, ◌+◌, List, [], ◌∷◌, Option, Some, None, Bool, refl, ap, subst, ◌∙◌, true, false, option_and_then}
 use Rattle.std.specs.Prelude.{codes, find, option_map}
 use Rattle.std.specs.FinMap as finite
 use Rattle.cmc_meta.specs.declared.key.Key.{Key}
-use Rattle.cmc_meta.specs.declared.conditions.Condition.{Condition}
+use Rattle.cmc_meta.specs.declared.conditions.ConditionKind.{ConditionKind}
 use Rattle.cmc_meta.specs.declared.conditions.ConditionKind.TheVariants.{Approved, Denied}
-use Rattle.cmc_meta.specs.ConditionLists.{transitioned}
+use Rattle.cmc_meta.specs.ConditionLists.{condition_rank, transitioned}
 use Rattle.cmc_objects.specs.declared.certificate.Certificate.{Certificate}
 use Rattle.cmc_objects.specs.declared.certificate.CertStatus.{CertStatus}
 use Rattle.cmc_objects.specs.declared.request.CertificateRequest.{CertificateRequest}
@@ -19,7 +19,7 @@ use Rattle.cmc_objects.specs.declared.entry.Step.{Step}
 use Rattle.cmc_objects.specs.declared.entry.Step.TheVariants as steps
 use Rattle.cmc_objects.specs.declared.entry.Entry.{Entry}
 use Rattle.cmc_objects.specs.declared.entry.Entry.TheVariants.{Script}
-use Rattle.cmc_objects.specs.Objects.{key_of, meta_of}
+use Rattle.cmc_objects.specs.Objects.{key_of, meta_of, version_of}
 use Rattle.cmc_model.specs.Objects.{Objects, object_at}
 use Rattle.cmc_model.specs.Stored.{created, updated, with_status, generation_after, numbered}
 use Rattle.cmc_model.specs.Replies.{IsReply, is_accepted, settled}
@@ -56,14 +56,9 @@ stated-created v now (Secret k) = refl
 stated-updated : (old new : Object) → stated_revision (updated old new) ≡ stated_revision old
 unfolding updated
 stated-updated (Cert a) (Cert b) = refl
-stated-updated (Cert a) (Request b) = refl
-stated-updated (Cert a) (Secret b) = refl
-stated-updated (Request a) (Cert b) = refl
 stated-updated (Request a) (Request b) = refl
-stated-updated (Request a) (Secret b) = refl
-stated-updated (Secret a) (Cert b) = refl
-stated-updated (Secret a) (Request b) = refl
 stated-updated (Secret a) (Secret b) = refl
+stated-updated old other = refl
 
 -- the status of a request says nothing of a revision
 stated-answered : (old : Object) (r : CertificateRequest) → stated_revision (with_status old (Request r)) ≡ stated_revision old
@@ -89,32 +84,62 @@ pub request_stands : (m : Objects) (certificate : Key) (revision : ℕ) (r : Cer
 request_stands m certificate revision r is =
     found_stands m (λ e. is_object_for certificate revision e.1) (find (λ e. is_object_for certificate revision e.1) (finite.entries m)) r refl is
 
+-- what is true of each call that a step of the script may make at this moment on these objects: of an object that one applies, of a deletion,
+-- of a verdict and of an answer on a request that stands, and of a Certificate that stands and is to be issued anew
+pub record IsOfSteps (script : List Step) (now : ℤ) (m : Objects) (Q : Call → Type 0) : Type 0 where
+  pub applies : (number : ℕ) (object : Object) (version : Option ℕ) → step_at script number ≡ Some (steps.Apply object version) → Q (Create object false) × ((named : ℕ) → Q (Update object named))
+  pub deletes : (key : Key) (version : Option ℕ) → Q (Delete key version)
+  pub judges : (kind : ConditionKind) (message : List ℕ) → (condition_rank kind == 0) ≡ false → (key : Key) (r : CertificateRequest) → object_at m key ≡ Some (Request r)
+      → Q (judge_call (verdict kind message now) r)
+  pub answers : (row : SignRow) (key : Key) (r : CertificateRequest) → object_at m key ≡ Some (Request r) → Q (answer_call row now r)
+  pub renews : (key : Key) (c : Certificate) → object_at m key ≡ Some (Cert c) → Q (renew_call now c)
+
+abbrev OfEffect : (Call → Type 0) → Option Effect → Type 0
+OfEffect Q (Some (effects.Call call)) = Q call
+OfEffect Q other = Unit {0}
+
+of_apply : (Q : Call → Type 0) (object : Object) (version : Option ℕ) (old : Option Object) → Q (Create object false) × ((named : ℕ) → Q (Update object named)) → Q (apply_call object version old)
+of_apply Q object (Some version) old is = is.1 version
+of_apply Q object None None is = is.0
+of_apply Q object None (Some old) is = is.1 (version_of old)
+
+of_request : (Q : Call → Type 0) (m : Objects) (certificate : Key) (revision : ℕ) (call : CertificateRequest → Call) → ((key : Key) (r : CertificateRequest) → object_at m key ≡ Some (Request r) → Q (call r))
+    → OfEffect Q (call_or (option_map call (request_for m certificate revision)) None)
+of_request Q m certificate revision call each = by (request_for m certificate revision) refl where
+  by : (x : Option CertificateRequest) → request_for m certificate revision ≡ x → OfEffect Q (call_or (option_map call x) None)
+  by None is = tt
+  by (Some r) is = let there = request_stands m certificate revision r is in each there.0 r there.1
+
+of_renewal : (Q : Call → Type 0) (now : ℤ) (old : Option Object) → ((c : Certificate) → old ≡ Some (Cert c) → Q (renew_call now c)) → OfEffect Q (call_or (renewal_of now old) None)
+of_renewal Q now (Some (Cert c)) each = each c refl
+of_renewal Q now other each = tt
+
+of_step : (Q : Call → Type 0) (s : Setting) (h : List Entry) (number : ℕ) (step : Option Step) → IsOfSteps s.script (moment s h) (objects s h) Q → step_at s.script number ≡ step
+    → OfEffect Q (option_and_then (effect_of s h) step)
+unfolding call_of
+of_step Q s h number (Some (steps.Apply object version)) of there = of_apply Q object version (object_at (objects s h) (key_of object)) (of.applies number object version there)
+of_step Q s h number (Some (steps.Delete key version)) of there = of.deletes key version
+of_step Q s h number (Some (steps.Approve certificate revision)) of there = of_request Q (objects s h) certificate revision _ (of.judges Approved (codes "approved by the script") refl)
+of_step Q s h number (Some (steps.Deny certificate revision)) of there = of_request Q (objects s h) certificate revision _ (of.judges Denied (codes "denied by the script") refl)
+of_step Q s h number (Some (steps.Answer certificate revision row)) of there = of_request Q (objects s h) certificate revision _ (of.answers row)
+of_step Q s h number (Some (steps.Renew certificate)) of there = of_renewal Q (moment s h) (object_at (objects s h) certificate) (of.renews certificate)
+of_step Q s h number other of there = tt
+
+of_owed : (Q : Call → Type 0) (s : Setting) (h : List Entry) → IsOfSteps s.script (moment s h) (objects s h) Q → OfEffect Q (owed s h)
+of_owed Q s [] of = tt
+of_owed Q s (Script step ∷ h) of = of_step Q s h step (step_at s.script step) of refl
+of_owed Q s (other ∷ h) of = tt
+
+-- it is true of the call that is owed
+pub of_steps : (Q : Call → Type 0) (s : Setting) (h : List Entry) (call : Call) → IsOfSteps s.script (moment s h) (objects s h) Q → owed s h ≡ Some (effects.Call call) → Q call
+of_steps Q s h call of is = subst (OfEffect Q) is (of_owed Q s h of)
+
+-- ---- what they say of the revision
+
 -- a status that a user writes says of the revision what the one says that stands; other calls leave the status
 abbrev pub IsUsers : Objects → Call → Type 0
 IsUsers objects (UpdateStatus object named) = (old : Object) → object_at objects (key_of object) ≡ Some old → stated_revision (with_status old object) ≡ stated_revision old
 IsUsers objects other = Unit {0}
-
-abbrev IsUsersEffect : Objects → Option Effect → Type 0
-IsUsersEffect objects None = Unit {0}
-IsUsersEffect objects (Some (effects.Call call)) = IsUsers objects call
-IsUsersEffect objects (Some (effects.Tick now)) = Unit {0}
-IsUsersEffect objects (Some (effects.Stop role)) = Unit {0}
-IsUsersEffect objects (Some (effects.Start role at)) = Unit {0}
-
-users_apply : (objects : Objects) (object : Object) (version : Option ℕ) (old : Option Object) → IsUsers objects (apply_call object version old)
-users_apply objects object (Some version) old = tt
-users_apply objects object None None = tt
-users_apply objects object None (Some old) = tt
-
-users_judge : (objects : Objects) (condition : Condition) (request : Option CertificateRequest) → IsUsersEffect objects (call_or (option_map (judge_call condition) request) None)
-unfolding judge_call
-users_judge objects condition None = tt
-users_judge objects condition (Some r) = λ old there. stated-answered old _
-
-users_answer : (objects : Objects) (row : SignRow) (moment : ℤ) (request : Option CertificateRequest) → IsUsersEffect objects (call_or (option_map (answer_call row moment) request) None)
-unfolding answer_call
-users_answer objects row moment None = tt
-users_answer objects row moment (Some r) = λ old there. stated-answered old _
 
 -- a Certificate that is to be issued anew keeps its revision
 renewed : (objects : Objects) (c : Certificate) (status : CertStatus) → object_at objects (key_of (Cert c)) ≡ Some (Cert c) → status.revision ≡ c.status.revision → (old : Object)
@@ -124,48 +149,25 @@ renewed objects c status stands same old there =
     subst (λ (o : Object). stated_revision (with_status o (Cert (record c { status = status }))) ≡ stated_revision o)
     (one_object (Cert c) old (object_at objects (key_of (Cert c))) stands there) same
 
-users_renewal : (objects : Objects) (moment : ℤ) (old : Option Object) → ((c : Certificate) → old ≡ Some (Cert c) → object_at objects (key_of (Cert c)) ≡ Some (Cert c))
-    → IsUsersEffect objects (call_or (renewal_of moment old) None)
-unfolding renew_call
-users_renewal objects moment None stands = tt
-users_renewal objects moment (Some (Cert c)) stands =
-    renewed objects c (record c.status { conditions = transitioned c.status.conditions (manual_condition moment) }) (stands c refl) refl
-users_renewal objects moment (Some (Request r)) stands = tt
-users_renewal objects moment (Some (Secret k)) stands = tt
-
 -- what stands has its key
 stands_keyed : (s : Setting) (h : List Entry) (key : Key) (o : Object) → IsLegal s h → object_at (objects s h) key ≡ Some o → object_at (objects s h) (key_of o) ≡ Some o
 stands_keyed s h key o legal is = ap (object_at (objects s h)) (version_keyed s h key o legal (stands_is_version s h key o is)) ∙ is
 
-users_effect : (s : Setting) (h : List Entry) (step : Step) → IsLegal s h → IsUsersEffect (objects s h) (effect_of s h step)
-unfolding call_of
-users_effect s h (steps.Apply object version) legal = users_apply (objects s h) object version (object_at (objects s h) (key_of object))
-users_effect s h (steps.Approve certificate revision) legal =
-    users_judge (objects s h) (verdict Approved (codes "approved by the script") (moment s h)) (request_for (objects s h) certificate revision)
-users_effect s h (steps.Deny certificate revision) legal =
-    users_judge (objects s h) (verdict Denied (codes "denied by the script") (moment s h)) (request_for (objects s h) certificate revision)
-users_effect s h (steps.Answer certificate revision row) legal = users_answer (objects s h) row (moment s h) (request_for (objects s h) certificate revision)
-users_effect s h (steps.Renew certificate) legal =
-    users_renewal (objects s h) (moment s h) (object_at (objects s h) certificate) (λ c is. stands_keyed s h certificate (Cert c) legal is)
-users_effect s h other legal = tt
-
-users_step : (s : Setting) (h : List Entry) (step : Option Step) → IsLegal s h → IsUsersEffect (objects s h) (option_and_then (effect_of s h) step)
-users_step s h None legal = tt
-users_step s h (Some step) legal = users_effect s h step legal
-
-users_owed : (s : Setting) (h : List Entry) → IsLegal s h → IsUsersEffect (objects s h) (owed s h)
-unfolding IsLegal
-users_owed s [] legal = tt
-users_owed s (Script step ∷ h) legal = users_step s h (step_at s.script step) legal.1
-users_owed s (other ∷ h) legal = tt
+users_steps : (s : Setting) (h : List Entry) → IsLegal s h → IsOfSteps s.script (moment s h) (objects s h) (IsUsers (objects s h))
+unfolding judge_call answer_call renew_call
+users_steps s h legal = record {
+  applies = λ number object version there. (tt, λ named. tt);
+  deletes = λ key version. tt;
+  judges = λ kind message other key r stands old there. stated-answered old _;
+  answers = λ row key r stands old there. stated-answered old _;
+  renews = λ key c stands.
+      renewed (objects s h) c (record c.status { conditions = transitioned c.status.conditions (manual_condition (moment s h)) }) (stands_keyed s h key (Cert c) legal stands) refl;
+}
 
 users_settled : (objects : Objects) (call : Call) (reply : Reply) → IsUsers objects call → IsUsers objects (settled call reply)
 unfolding settled
 users_settled objects (Create object generate) reply is = tt
-users_settled objects (Update object named) reply is = tt
-users_settled objects (UpdateStatus object named) reply is = is
-users_settled objects (Delete key named) reply is = tt
-users_settled objects (Get key) reply is = tt
+users_settled objects other reply is = is
 
 -- ---- the law
 
@@ -184,5 +186,5 @@ users_call s h (Get key) is on = absurd on
 pub users_keep : (s : Setting) (h : List Entry) (call : Call) (reply : Reply) → IsLegal s h → owed s h ≡ Some (effects.Call call) → IsReply s.faults (state s h) call reply → is_accepted reply ≡ true
     → IsCallOf KeepsRevision s h (settled call reply)
 users_keep s h call reply legal owes right ok =
-    users_call s h (settled call reply) (users_settled (objects s h) call reply (subst (IsUsersEffect (objects s h)) owes (users_owed s h legal)))
+    users_call s h (settled call reply) (users_settled (objects s h) call reply (of_steps (IsUsers (objects s h)) s h call (users_steps s h legal) owes))
     (accepted_found s.faults (state s h) call reply right ok)

@@ -239,13 +239,19 @@ fn allow_terms(policy: &mut Policy) {
     policy.max_size = Some(256);
 }
 
+// All over `&mut`: a policy is wide to let go of at each `?`.
+fn allow(alloc: Global, policy: &mut Policy) -> Result<(), AllocError> {
+    allow_names(alloc, policy)?;
+    allow_uses(alloc, policy)?;
+    allow_terms(policy);
+    Ok(())
+}
+
 /// A policy named `shops` for requests to these issuers, which allows these DNS names and all other names and usages
 /// of the request that openssl made with all names.
 fn shops(alloc: Global, issuers: &str, dns: &str) -> Result<Policy, AllocError> {
     let mut policy = policy(alloc, "shops", issuers, dns)?;
-    allow_names(alloc, &mut policy)?;
-    allow_uses(alloc, &mut policy)?;
-    allow_terms(&mut policy);
+    allow(alloc, &mut policy)?;
     Ok(policy)
 }
 
@@ -309,14 +315,18 @@ fn denial_where(
     denial(alloc, asked, without_policies(alloc, word)?)
 }
 
+/// Why the request for all names may not be approved where this name is refused.
+fn denial_of_all(alloc: Global, word: &str) -> Result<&'static str, Fail> {
+    denial_where(alloc, asking(alloc, "P-256, all names")?, word)
+}
+
 #[test]
 fn judges_by_names(rt: HostRuntime) -> Result<(), Fail> {
     let alloc = rt.alloc();
     let told = denial_where(alloc, request(alloc)?, "")?;
     tells(&rt, "no request", told, "unreadable");
     for (word, want) in &REFUSED {
-        let asked = asking(alloc, "P-256, all names")?;
-        tells(&rt, word, denial_where(alloc, asked, word)?, want);
+        tells(&rt, word, denial_of_all(alloc, word)?, want);
     }
     Ok(())
 }

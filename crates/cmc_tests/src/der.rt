@@ -2,10 +2,11 @@
 ghost use Rattle.std.specs.Prelude.{◌^◌, ◌<◌, length};
 
 use crate::checks::{passes, tells};
-use crate::made_values::{EC_PUBLIC, MADE, RSA_PUBLIC};
-use crate::values::octets;
+use crate::made_values::{EC_PUBLIC, RSA_PUBLIC, made};
+use crate::values::{column, octets};
 use cmc_der::{DerFault, KeyKind, Spki, Tlv, Writer, read_one};
 use std::alloc::{AllocError, Global};
+use std::process::Abort;
 use std::test::Fail;
 
 /// What was read: the tag, the body and the rest, or the fault.
@@ -17,7 +18,7 @@ fn told(alloc: Global, input: &str) -> Result<String, AllocError> {
             body.len(),
             rest.len()
         ),
-        Err(DerFault::Cut) => format!(in alloc; "cut"),
+        Err(DerFault::Cut) => String::from_str(alloc, "cut"),
         Err(DerFault::NotDer(place)) => format!(in alloc; "not DER at {place}"),
     }
 }
@@ -82,12 +83,15 @@ fn walk(alloc: Global, input: &[u8]) -> Result<String, AllocError> {
     Ok(lines)
 }
 
+fn walked(alloc: Global, made: &str) -> Result<String, AllocError> {
+    walk(alloc, &octets(alloc, made)?)
+}
+
 #[test]
 fn reads_what_openssl_made(rt: HostRuntime) -> Result<(), Fail> {
-    let alloc = rt.alloc();
-    for (name, made, lines) in &MADE {
-        let made = octets(alloc, made)?;
-        tells(&rt, name, walk(alloc, &made)?.as_str(), lines);
+    for row in made().lines() {
+        let told = walked(rt.alloc(), column(row, 1))?;
+        tells(&rt, column(row, 0), told.as_str(), column(row, 2));
     }
     Ok(())
 }
@@ -233,6 +237,14 @@ fn is_kind(key: &Spki<'_>, kind: KeyKind) -> bool {
     }
 }
 
+fn are_apart(rt: &impl Abort, key: Spki<'_>, less: Spki<'_>, point: Spki<'_>, other: Spki<'_>) {
+    passes(rt, "other", other.kind().is_none());
+    let are_same = key.same(&key) && point.same(&point) && other.same(&other);
+    passes(rt, "the same", are_same);
+    let is_any_same = key.same(&less) || key.same(&point) || point.same(&other);
+    passes(rt, "not the same", !is_any_same);
+}
+
 #[test]
 fn tells_the_kinds_of_keys_apart(rt: HostRuntime) -> Result<(), Fail> {
     let alloc = rt.alloc();
@@ -256,11 +268,6 @@ fn tells_the_kinds_of_keys_apart(rt: HostRuntime) -> Result<(), Fail> {
         point: &made[33..],
     };
     passes(&rt, "point", is_kind(&point, KeyKind::P256));
-    let other = Spki::Other { whole: &made };
-    passes(&rt, "other", other.kind().is_none());
-    let are_same = key.same(&key) && point.same(&point) && other.same(&other);
-    passes(&rt, "the same", are_same);
-    let is_any_same = key.same(&less) || key.same(&point) || point.same(&other);
-    passes(&rt, "not the same", !is_any_same);
+    are_apart(&rt, key, less, point, Spki::Other { whole: &made });
     Ok(())
 }

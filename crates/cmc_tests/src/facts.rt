@@ -10,11 +10,13 @@ use cmc_match::{
 };
 use cmc_meta::{Bytes, Pairs, Text, Texts};
 use cmc_objects::{
-    Algorithm, CertSpec, Certificate, CertificateRequest, IssuerRef, KeySpec, Parts, Secret, Shared,
+    Algorithm, CertSpec, Certificate, CertificateRequest, IssuerRef, KeySpec, Parts, RequestSpec,
+    Secret, Shared,
 };
 use cmc_policies::Facts;
 use cmc_x509::{read_csr, read_key};
 use std::alloc::{AllocError, Global};
+use std::process::Abort;
 use std::test::Fail;
 
 /// A file of no octets.
@@ -130,7 +132,13 @@ fn list(alloc: Global, words: &str) -> Result<Texts, AllocError> {
 fn key_called(alloc: Global, name: &str) -> Result<Bytes, Fail> {
     made(
         alloc,
-        &[made_keys::made(), made_keys::built(), made_keys::changed()],
+        &[
+            made_keys::made(),
+            made_keys::built(),
+            made_keys::other_ec(),
+            made_keys::other_numbers(),
+            made_keys::other_forms(),
+        ],
         name,
     )
 }
@@ -160,13 +168,18 @@ fn issuer_of(alloc: Global, terms: &str) -> Result<IssuerRef, AllocError> {
     })
 }
 
+fn ask_on(alloc: Global, spec: &mut RequestSpec, terms: &str) -> Result<(), AllocError> {
+    spec.issuer = issuer_of(alloc, terms)?;
+    spec.duration = number(column(terms, 3));
+    spec.is_ca = column(terms, 4) == "CA";
+    spec.usages = list(alloc, column(terms, 5))?;
+    Ok(())
+}
+
 /// A request with these terms.
 fn asking_on(alloc: Global, terms: &str) -> Result<CertificateRequest, Fail> {
     let mut asking = whole::request(alloc)?;
-    asking.spec.issuer = issuer_of(alloc, terms)?;
-    asking.spec.duration = number(column(terms, 3));
-    asking.spec.is_ca = column(terms, 4) == "CA";
-    asking.spec.usages = list(alloc, column(terms, 5))?;
+    ask_on(alloc, &mut asking.spec, terms)?;
     Ok(asking)
 }
 
@@ -217,15 +230,15 @@ fn names_fit(spec: &CertSpec, request: &[u8]) -> bool {
     }
 }
 
-/// The request's names are those of the spec, and the request asks for what the spec asks for.
-fn fits_on(spec: &CertSpec, request: &CertificateRequest) -> (bool, bool) {
+/// The request's names are those of the row, and the request asks for what the row asks for.
+fn fits_on(alloc: Global, row: &str, request: &CertificateRequest) -> Result<(bool, bool), Fail> {
+    let spec = spec_of(alloc, row)?;
     let octets = request.spec.request.as_slice();
-    (names_fit(spec, octets), request_matches(spec, request))
+    Ok((names_fit(&spec, octets), request_matches(&spec, request)))
 }
 
 fn fits(alloc: Global, row: &str) -> Result<(bool, bool), Fail> {
-    let request = asking_called(alloc, column(row, 0))?;
-    Ok(fits_on(&spec_of(alloc, row)?, &request))
+    fits_on(alloc, row, &asking_called(alloc, column(row, 0))?)
 }
 
 #[test]
@@ -239,37 +252,55 @@ fn matches_names(rt: HostRuntime) -> Result<(), Fail> {
     Ok(())
 }
 
-fn spec_for(alloc: Global, terms: &str) -> Result<CertSpec, Fail> {
-    let mut spec = whole_spec(alloc)?;
+fn set_terms(alloc: Global, spec: &mut CertSpec, terms: &str) -> Result<(), AllocError> {
     spec.issuer = issuer_of(alloc, terms)?;
     spec.duration = number(column(terms, 3));
     spec.is_ca = column(terms, 4) == "CA";
     spec.usages = list(alloc, column(terms, 5))?;
+    Ok(())
+}
+
+fn spec_for(alloc: Global, terms: &str) -> Result<CertSpec, Fail> {
+    let mut spec = whole_spec(alloc)?;
+    set_terms(alloc, &mut spec, terms)?;
     Ok(spec)
+}
+
+fn meets_on(alloc: Global, spec: &str, request: &CertificateRequest) -> Result<bool, Fail> {
+    Ok(request_matches(&spec_for(alloc, spec)?, request))
 }
 
 fn meets(alloc: Global, spec: &str, request: &str) -> Result<bool, Fail> {
     let octets = request_called(alloc, "P-256, all names")?;
-    let request = asking_for(alloc, request, octets)?;
-    Ok(request_matches(&spec_for(alloc, spec)?, &request))
+    meets_on(alloc, spec, &asking_for(alloc, request, octets)?)
+}
+
+fn is_met(alloc: Global, row: &str) -> Result<bool, Fail> {
+    let (spec, request) = row.split_once('/').unwrap_or(("", ""));
+    Ok(meets(alloc, spec, request)? == is_wanted(column(request, 6)))
 }
 
 #[test]
 fn matches_terms(rt: HostRuntime) -> Result<(), Fail> {
     for row in &TERMS {
-        let (spec, request) = row.split_once('/').unwrap_or(("", ""));
-        let want = is_wanted(column(request, 6));
-        passes(&rt, row, meets(rt.alloc(), spec, request)? == want);
+        passes(&rt, row, is_met(rt.alloc(), row)?);
     }
     Ok(())
+}
+
+fn matches_whole(alloc: Global, request: &CertificateRequest) -> Result<bool, Fail> {
+    Ok(request_matches(&whole_spec(alloc)?, request))
+}
+
+fn has_first_key(alloc: Global, request: &CertificateRequest) -> Result<bool, Fail> {
+    let key = key_called(alloc, "p256 as ECPrivateKey")?;
+    Ok(request_has_key(request, key.as_slice()))
 }
 
 /// A request that neither matches the whole spec nor has the key.
 fn is_refused(alloc: Global, octets: Bytes) -> Result<bool, Fail> {
     let request = asking(alloc, octets)?;
-    let matches = request_matches(&whole_spec(alloc)?, &request);
-    let key = key_called(alloc, "p256 as ECPrivateKey")?;
-    Ok(!matches && !request_has_key(&request, key.as_slice()))
+    Ok(!matches_whole(alloc, &request)? && !has_first_key(alloc, &request)?)
 }
 
 /// The first octets of the request with all names, so many of them.
@@ -444,16 +475,19 @@ fn annotated_request(alloc: Global, key: &str, word: &str) -> Result<Certificate
     Ok(request)
 }
 
+fn revision_under(alloc: Global, key: &str, word: &str) -> Result<Option<u64>, Fail> {
+    Ok(revision_of(&annotated_request(alloc, key, word)?))
+}
+
 #[test]
 fn reads_revisions(rt: HostRuntime) -> Result<(), Fail> {
     let alloc = rt.alloc();
     passes(&rt, "none", revision_of(&whole::request(alloc)?).is_none());
-    let request = annotated_request(alloc, "certificate-revision", "17")?;
-    passes(&rt, "another annotation", revision_of(&request).is_none());
+    let other = revision_under(alloc, "certificate-revision", "17")?;
+    passes(&rt, "another annotation", other.is_none());
     for (word, want) in &REVISIONS {
         let key = "cert-manager.io/certificate-revision";
-        let request = annotated_request(alloc, key, word)?;
-        passes(&rt, word, revision_of(&request) == *want);
+        passes(&rt, word, revision_under(alloc, key, word)? == *want);
     }
     Ok(())
 }
@@ -505,18 +539,27 @@ fn as_wish(alloc: Global, row: &str) -> Result<bool, Fail> {
     Ok(asks_for_temporary(&certificate))
 }
 
+fn passes_as_label(rt: &impl Abort, alloc: Global, row: &str) -> Result<(), Fail> {
+    let (is_next, stands_in) = as_label(alloc, row)?;
+    passes(rt, row, is_next == (column(row, 2) == "next key"));
+    passes(rt, row, !stands_in);
+    Ok(())
+}
+
+fn passes_as_annotation(rt: &impl Abort, alloc: Global, row: &str) -> Result<(), Fail> {
+    let (is_next, stands_in) = as_annotation(alloc, row)?;
+    passes(rt, row, stands_in == (column(row, 2) == "stands in"));
+    passes(rt, row, !is_next);
+    Ok(())
+}
+
 #[test]
 fn reads_marks(rt: HostRuntime) -> Result<(), Fail> {
     for row in &MARKS {
-        let meaning = column(row, 2);
-        let (is_next, stands_in) = as_label(rt.alloc(), row)?;
-        passes(&rt, row, is_next == (meaning == "next key"));
-        passes(&rt, row, !stands_in);
-        let (is_next, stands_in) = as_annotation(rt.alloc(), row)?;
-        passes(&rt, row, stands_in == (meaning == "stands in"));
-        passes(&rt, row, !is_next);
+        passes_as_label(&rt, rt.alloc(), row)?;
+        passes_as_annotation(&rt, rt.alloc(), row)?;
         let asks = as_wish(rt.alloc(), row)?;
-        passes(&rt, row, asks == (meaning == "asks"));
+        passes(&rt, row, asks == (column(row, 2) == "asks"));
     }
     Ok(())
 }
@@ -559,7 +602,9 @@ fn certificate_called(alloc: Global, name: &str) -> Result<Bytes, Fail> {
         alloc,
         &[
             made_certificates::made(),
-            made_certificates::changed(),
+            made_certificates::other_times(),
+            made_certificates::other_extensions(),
+            made_certificates::other_ends(),
             EMPTY,
         ],
         name,
@@ -703,13 +748,17 @@ fn known_of(alloc: Global, row: &str, secret: &Shared<Secret>) -> Result<(Facts,
     Ok((facts, is_pair(secret, &facts)))
 }
 
+fn known_by(alloc: Global, row: &str) -> Result<(Facts, bool), Fail> {
+    let secret = Shared::new(alloc, secret_of(alloc, row)?)?;
+    known_of(alloc, row, &secret)
+}
+
 #[test]
 fn knows_of_secrets(rt: HostRuntime) -> Result<(), Fail> {
     let alloc = rt.alloc();
     facts_mean();
     for row in &FACTS {
-        let secret = Shared::new(alloc, secret_of(alloc, row)?)?;
-        let (facts, is_pair) = known_of(alloc, row, &secret)?;
+        let (facts, is_pair) = known_by(alloc, row)?;
         tells(&rt, row, told(alloc, &facts)?.as_str(), column(row, 5));
         passes(&rt, row, is_pair);
     }

@@ -2,7 +2,7 @@
 //! octets that another writer of DER gave. openssl reads each of those as DER.
 use crate::checks::{passes, tells};
 use crate::made_keys;
-use crate::values::{column, made, name, number, octets};
+use crate::values::{column, let_go, made, name, number, octets};
 use crate::whole::bytes;
 use cmc_keys::{
     KeyMaker, Made, ScriptedKeys, SignedCsr, is_allowed_size, is_key_of, one_key_value,
@@ -157,11 +157,13 @@ fn number_at(row: &str, place: u32) -> u64 {
     number(column(row, place)).unwrap_or(0)
 }
 
-/// Whether the stand-in key of the row has so many octets, that digest, and is of the sort.
-fn stand_in_told(alloc: Global, row: &str) -> Result<&'static str, Fail> {
-    let sort = sort_in(row, 0, 1, 2);
-    let file = stand_in(alloc, sort, number_at(row, 3))?;
-    let octets = file.as_slice();
+/// Whether the file of the row's key has so many octets, that digest, and is of the sort.
+fn file_told(
+    alloc: Global,
+    row: &str,
+    sort: Sort,
+    octets: &[u8],
+) -> Result<&'static str, AllocError> {
     if octets.len() as u64 != number_at(row, 4) {
         return Ok("another length");
     }
@@ -172,6 +174,12 @@ fn stand_in_told(alloc: Global, row: &str) -> Result<&'static str, Fail> {
         true => Ok("as wanted"),
         false => Ok("another digest"),
     }
+}
+
+fn stand_in_told(alloc: Global, row: &str) -> Result<&'static str, Fail> {
+    let sort = sort_in(row, 0, 1, 2);
+    let file = stand_in(alloc, sort, number_at(row, 3))?;
+    Ok(file_told(alloc, row, sort, file.as_slice())?)
 }
 
 #[test]
@@ -279,10 +287,16 @@ fn is_copied(made: &Made) -> Result<bool, AllocError> {
 }
 
 /// What is read of an answer, of its copy and of its parts.
+fn is_right(alloc: Global, made: &Made, order: &KeyOrder, want: &str) -> Result<bool, AllocError> {
+    let is_file = has_digest(alloc, made.bytes(), want)?;
+    Ok(is_file && is_read(made, order) && is_copied(made)?)
+}
+
 fn is_answer(alloc: Global, order: &KeyOrder, want: &str) -> Result<bool, Fail> {
     let made = made_for(alloc, order)?;
-    let is_file = has_digest(alloc, made.bytes(), want)?;
-    Ok(is_file && is_read(&made, order) && is_copied(&made)?)
+    let is_right = is_right(alloc, &made, order, want);
+    let_go(made);
+    Ok(is_right?)
 }
 
 fn is_answered(alloc: Global, row: &str) -> Result<bool, Fail> {
@@ -317,10 +331,21 @@ fn is_signature_copied(signed: &SignedCsr) -> Result<bool, AllocError> {
 }
 
 /// What is read of a signature, of its copy and of its parts.
+fn is_written(
+    alloc: Global,
+    signed: &SignedCsr,
+    order: &CsrOrder,
+    want: &str,
+) -> Result<bool, AllocError> {
+    let is_written = has_octets(alloc, signed.signature(), want)?;
+    Ok(is_written && signed.order().same(order) && is_signature_copied(signed)?)
+}
+
 fn is_signature(alloc: Global, order: &CsrOrder, want: &str) -> Result<bool, AllocError> {
     let signed = ScriptedKeys.sign(alloc, order)?;
-    let is_written = has_octets(alloc, signed.signature(), want)?;
-    Ok(is_written && signed.order().same(order) && is_signature_copied(&signed)?)
+    let is_written = is_written(alloc, &signed, order, want);
+    let_go(signed);
+    is_written
 }
 
 fn is_signed(alloc: Global, row: &str) -> Result<bool, Fail> {

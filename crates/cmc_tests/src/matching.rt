@@ -28,18 +28,20 @@ fn matches_patterns(rt: HostRuntime) {
     }
 }
 
-#[test]
-fn matches_long_texts(rt: HostRuntime) -> Result<(), Fail> {
-    let alloc = rt.alloc();
-    let mut pattern = Vec::new(alloc);
+/// The word 126 times, and then the end.
+fn repeated(alloc: Global, word: &[u8], end: &[u8]) -> Result<Vec<u8>, AllocError> {
     let mut text = Vec::new(alloc);
     for _ in 0..126 {
-        pattern.push(b'a')?;
-        pattern.push(b'*')?;
-        text.push(b'a')?;
-        text.push(b'a')?;
+        text.extend_from_slice(word)?;
     }
-    pattern.push(b'b')?;
+    text.extend_from_slice(end)?;
+    Ok(text)
+}
+
+#[test]
+fn matches_long_texts(rt: HostRuntime) -> Result<(), Fail> {
+    let pattern = repeated(rt.alloc(), b"a*", b"b")?;
+    let mut text = repeated(rt.alloc(), b"aa", b"")?;
     passes(&rt, "a long text", !matches(&pattern, &text));
     text.push(b'b')?;
     passes(&rt, "a longer text", matches(&pattern, &text));
@@ -99,6 +101,11 @@ fn told(decision: Decision) -> &'static str {
     }
 }
 
+/// One policy more, for requests to these issuers.
+fn add(alloc: Global, policies: &mut Policies, issuers: &str, most: u64) -> Result<(), AllocError> {
+    policies.push(policy_of(alloc, issuers, most)?)
+}
+
 #[test]
 fn decides_by_the_first(rt: HostRuntime) -> Result<(), Fail> {
     let alloc = rt.alloc();
@@ -106,7 +113,7 @@ fn decides_by_the_first(rt: HostRuntime) -> Result<(), Fail> {
     let mut policies = Policies::new(alloc);
     tells(&rt, "none", told(decide(&policies, &wanted)), "unbound");
     for (issuers, most, want) in &DECISIONS {
-        policies.push(policy_of(alloc, issuers, *most)?)?;
+        add(alloc, &mut policies, issuers, *most)?;
         tells(&rt, issuers, told(decide(&policies, &wanted)), want);
     }
     Ok(())

@@ -4,10 +4,11 @@ ghost use Rattle.cmc_meta.specs.ConditionLists.{condition_rank};
 ghost use Rattle.cmc_objects.specs.Requests.{is_stated, is_short_text, is_short_option, is_duration_form, is_request_form};
 
 use crate::checks::passes;
+use crate::values::let_go;
 use crate::whole::request;
 use cmc_meta::{Condition, ConditionKind, Text, Tri};
 use cmc_objects::{CertificateRequest, Order, Shared, SignOrder, SignRow};
-use std::alloc::AllocError;
+use std::alloc::{AllocError, Global};
 use std::test::Fail;
 
 /// The place of a kind in the order of kinds.
@@ -83,17 +84,37 @@ fn is_read(order: &SignOrder) -> bool {
         && matches!(order.row(), SignRow::Pending)
 }
 
-fn is_copied(order: &Order) -> Result<bool, AllocError> {
-    Ok(order.copy()?.same(order))
+/// The copy is the same question, and is read as it.
+fn is_copied(order: &SignOrder) -> Result<(bool, bool), AllocError> {
+    let copied = order.copy()?;
+    Ok((copied.same(order), is_read(&copied)))
+}
+
+fn is_same(order: &Order) -> Result<bool, AllocError> {
+    let copied = order.copy()?;
+    let is_same = copied.same(order);
+    let_go(copied);
+    Ok(is_same)
+}
+
+fn is_copied_as_any(order: SignOrder) -> Result<bool, AllocError> {
+    let order = Order::Sign(order);
+    let is_same = is_same(&order);
+    let_go(order);
+    is_same
+}
+
+fn order(alloc: Global) -> Result<SignOrder, Fail> {
+    let request = Shared::new(alloc, request(alloc)?)?;
+    Ok(question(request).ok_or("not to be asked")?)
 }
 
 #[test]
 fn copies_a_question_to_an_issuer(rt: HostRuntime) -> Result<(), Fail> {
-    let request = Shared::new(rt.alloc(), request(rt.alloc())?)?;
-    let order = question(request).ok_or("not to be asked")?;
-    let copied = order.copy()?;
-    passes(&rt, "the same", copied.same(&order));
-    passes(&rt, "read", is_read(&copied));
-    passes(&rt, "as any question", is_copied(&Order::Sign(order))?);
+    let order = order(rt.alloc())?;
+    let (is_same, is_read) = is_copied(&order)?;
+    passes(&rt, "the same", is_same);
+    passes(&rt, "read", is_read);
+    passes(&rt, "as any question", is_copied_as_any(order)?);
     Ok(())
 }

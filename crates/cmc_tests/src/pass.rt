@@ -2,10 +2,11 @@
 use crate::checks::{passes, tells};
 use crate::values::{key, let_go, new_meta};
 use crate::whole::{request, secret};
-use cmc_meta::{Bytes, Kind};
+use cmc_meta::{Bytes, Key, Kind};
 use cmc_objects::{Call, CertificateRequest, CsrOrder, Order, Secret, Shared, Signing};
-use cmc_pass::{Act, IssuePlan, TemporaryPlan, Value, Views};
+use cmc_pass::{Act, IssuePlan, Requests, Secrets, TemporaryPlan, Value, Views};
 use std::alloc::{AllocError, Global};
+use std::process::Abort;
 use std::test::Fail;
 
 /// A Secret of that name.
@@ -15,12 +16,18 @@ fn named(alloc: Global, word: &str) -> Result<Shared<Secret>, Fail> {
     Ok(Shared::new(alloc, secret)?)
 }
 
-fn views(alloc: Global) -> Result<Views, Fail> {
-    let mut views = Views::new(alloc);
+// Filled where they stand: views are wide to let go of at each `?`.
+fn see_secrets(alloc: Global, views: &mut Views) -> Result<(), Fail> {
     views.next.push(named(alloc, "web-bbbbf")?)?;
     views.next.push(named(alloc, "web-bbbbg")?)?;
-    views.requests.push(Shared::new(alloc, request(alloc)?)?)?;
     views.secret = Some(named(alloc, "web-tls")?);
+    Ok(())
+}
+
+fn views(alloc: Global) -> Result<Views, Fail> {
+    let mut views = Views::new(alloc);
+    see_secrets(alloc, &mut views)?;
+    views.requests.push(Shared::new(alloc, request(alloc)?)?)?;
     Ok(views)
 }
 
@@ -38,20 +45,38 @@ fn are_requests(requests: &[Shared<CertificateRequest>]) -> bool {
     }
 }
 
+fn are_secrets_again(secrets: &Secrets) -> Result<bool, AllocError> {
+    Ok(are_secrets(secrets.copy()?.as_slice()))
+}
+
+fn are_requests_again(requests: &Requests) -> Result<bool, AllocError> {
+    Ok(are_requests(requests.copy()?.as_slice()))
+}
+
+/// The views are those that were made, and their lists are copied again.
+fn are_copied(rt: &impl Abort, copied: &Views) -> Result<(), AllocError> {
+    passes(rt, "next", are_secrets(copied.next.as_slice()));
+    passes(rt, "next again", are_secrets_again(&copied.next)?);
+    passes(rt, "requests", are_requests(copied.requests.as_slice()));
+    passes(rt, "requests again", are_requests_again(&copied.requests)?);
+    passes(rt, "secret", copied.secret.is_some());
+    passes(rt, "certificate", copied.certificate.is_none());
+    Ok(())
+}
+
+fn copied_views(alloc: Global) -> Result<Views, Fail> {
+    let views = views(alloc)?;
+    let copied = views.copy();
+    let_go(views);
+    Ok(copied?)
+}
+
 #[test]
 fn views_are_copied(rt: HostRuntime) -> Result<(), Fail> {
-    let copied = views(rt.alloc())?.copy()?;
-    passes(&rt, "next", are_secrets(copied.next.as_slice()));
-    passes(
-        &rt,
-        "next again",
-        are_secrets(copied.next.copy()?.as_slice()),
-    );
-    passes(&rt, "requests", are_requests(copied.requests.as_slice()));
-    let requests = copied.requests.copy()?;
-    passes(&rt, "requests again", are_requests(requests.as_slice()));
-    passes(&rt, "secret", copied.secret.is_some());
-    passes(&rt, "certificate", copied.certificate.is_none());
+    let copied = copied_views(rt.alloc())?;
+    let are_copied = are_copied(&rt, &copied);
+    let_go(copied);
+    are_copied?;
     Ok(())
 }
 
@@ -73,16 +98,17 @@ fn told_then(act: Act) -> &'static str {
     word
 }
 
-fn copied(act: Act) -> Result<&'static str, AllocError> {
+/// The copy of the act that was made, in a word.
+fn copied(made: Result<Act, Fail>) -> Result<&'static str, Fail> {
+    let act = made?;
     let copy = act.copy();
     let_go(act);
     Ok(told_then(copy?))
 }
 
-fn get(alloc: Global) -> Result<Call, Fail> {
-    Ok(Call::Get {
-        key: key(alloc, Kind::Secret, "web")?,
-    })
+fn call(alloc: Global) -> Result<Act, Fail> {
+    let key = key(alloc, Kind::Secret, "web")?;
+    Ok(Act::Call(Call::Get { key }))
 }
 
 fn question(alloc: Global) -> Act {
@@ -92,17 +118,21 @@ fn question(alloc: Global) -> Act {
     }))
 }
 
+fn issuing(get: Key, secret: Key, status: Key) -> Act {
+    Act::Issue(IssuePlan {
+        get,
+        version: 1,
+        secret: Call::Get { key: secret },
+        status: Call::Get { key: status },
+    })
+}
+
 // The keys first: a call that is alive at a `?` is a wide enum to let go there.
 fn plan(alloc: Global) -> Result<Act, Fail> {
     let secret = key(alloc, Kind::Secret, "web")?;
     let status = key(alloc, Kind::Secret, "web")?;
     let get = key(alloc, Kind::Secret, "web")?;
-    Ok(Act::Issue(IssuePlan {
-        get,
-        version: 1,
-        secret: Call::Get { key: secret },
-        status: Call::Get { key: status },
-    }))
+    Ok(issuing(get, secret, status))
 }
 
 fn temporary_plan(alloc: Global) -> Result<Act, Fail> {
@@ -118,14 +148,14 @@ fn temporary_plan(alloc: Global) -> Result<Act, Fail> {
 #[test]
 fn acts_are_copied(rt: HostRuntime) -> Result<(), Fail> {
     let alloc = rt.alloc();
-    tells(&rt, "nothing", copied(Act::Nothing)?, "nothing");
-    tells(&rt, "call", copied(Act::Call(get(alloc)?))?, "call");
-    tells(&rt, "question", copied(question(alloc))?, "ask");
-    tells(&rt, "plan", copied(plan(alloc)?)?, "issue");
+    tells(&rt, "nothing", copied(Ok(Act::Nothing))?, "nothing");
+    tells(&rt, "call", copied(call(alloc))?, "call");
+    tells(&rt, "question", copied(Ok(question(alloc)))?, "ask");
+    tells(&rt, "plan", copied(plan(alloc))?, "issue");
     tells(
         &rt,
         "temporary",
-        copied(temporary_plan(alloc)?)?,
+        copied(temporary_plan(alloc))?,
         "temporary",
     );
     Ok(())
@@ -154,15 +184,28 @@ fn said_of_copy(value: Value) -> Result<&'static str, AllocError> {
     Ok(said_then(copy?))
 }
 
+fn said_of_key(alloc: Global) -> Result<&'static str, AllocError> {
+    said_of_copy(Value::Made(Bytes::new(alloc)))
+}
+
+fn said_of_signature(alloc: Global) -> Result<&'static str, AllocError> {
+    said_of_copy(Value::Signed(Bytes::new(alloc)))
+}
+
+fn said_of_answer() -> Result<&'static str, AllocError> {
+    said_of_copy(Value::Answered(Signing::Pending))
+}
+
+fn said_of_verdict() -> Result<&'static str, AllocError> {
+    said_of_copy(Value::Judged(true))
+}
+
 #[test]
 fn values_are_copied(rt: HostRuntime) -> Result<(), Fail> {
     let alloc = rt.alloc();
-    let made = Value::Made(Bytes::new(alloc));
-    tells(&rt, "key", said_of_copy(made)?, "made");
-    let signed = Value::Signed(Bytes::new(alloc));
-    tells(&rt, "signature", said_of_copy(signed)?, "signed");
-    let answered = Value::Answered(Signing::Pending);
-    tells(&rt, "answer", said_of_copy(answered)?, "answered");
-    tells(&rt, "verdict", said_of_copy(Value::Judged(true))?, "judged");
+    tells(&rt, "key", said_of_key(alloc)?, "made");
+    tells(&rt, "signature", said_of_signature(alloc)?, "signed");
+    tells(&rt, "answer", said_of_answer()?, "answered");
+    tells(&rt, "verdict", said_of_verdict()?, "judged");
     Ok(())
 }

@@ -117,11 +117,13 @@ static NO_DURATIONS: [&str; 13] = [
     "1ms",
 ];
 
+/// So many seconds are printed so.
+fn is_duration_of(alloc: Global, seconds: u64, printed: &str) -> Result<bool, AllocError> {
+    Ok(print_duration(alloc, seconds)?.as_str() == printed)
+}
+
 fn is_duration(alloc: Global, text: &str, seconds: u64, printed: &str) -> Result<bool, AllocError> {
-    Ok(
-        read_duration(text).ok() == Some(seconds)
-            && print_duration(alloc, seconds)?.as_str() == printed,
-    )
+    Ok(read_duration(text).ok() == Some(seconds) && is_duration_of(alloc, seconds, printed)?)
 }
 
 #[test]
@@ -132,7 +134,7 @@ fn durations(rt: HostRuntime) -> Result<(), Fail> {
     for text in &NO_DURATIONS {
         passes(&rt, text, read_duration(text).is_err());
     }
-    let longest = print_duration(rt.alloc(), u64::MAX)?;
-    passes(&rt, "longest", longest.as_str() == "5124095576030431h0m15s");
+    let longest = is_duration_of(rt.alloc(), u64::MAX, "5124095576030431h0m15s")?;
+    passes(&rt, "longest", longest);
     Ok(())
 }

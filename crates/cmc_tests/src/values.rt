@@ -34,15 +34,26 @@ pub fn octets(alloc: Global, text: &str) -> Result<Vec<u8>, AllocError> {
     Ok(octets)
 }
 
-/// The octets of the first row of this name in tables of made files, whose columns are a name and the octets.
+/// The first row of this name in a table of made files, whose columns are a name and the octets.
+fn row_of<'a>(table: &'a str, name: &str) -> Option<&'a str> {
+    for row in table.lines() {
+        if column(row, 0) == name {
+            return Some(row);
+        }
+    }
+    None
+}
+
+fn octets_in(alloc: Global, row: &str) -> Result<Bytes, Fail> {
+    let file = octets(alloc, column(row, 1))?;
+    Ok(Bytes::from_slice(alloc, file.as_slice())?)
+}
+
+/// The octets of the first row of this name in tables of made files.
 pub fn made(alloc: Global, tables: &[&str], name: &str) -> Result<Bytes, Fail> {
     for table in tables {
-        for row in table.lines() {
-            let mut columns = row.split('|');
-            if columns.next() == Some(name) {
-                let file = octets(alloc, columns.next().unwrap_or(""))?;
-                return Ok(Bytes::from_slice(alloc, file.as_slice())?);
-            }
+        if let Some(row) = row_of(table, name) {
+            return octets_in(alloc, row);
         }
     }
     Err(Fail::from("no row"))
@@ -69,10 +80,15 @@ pub fn text(alloc: Global, text: &str) -> Result<Text, Fail> {
     Ok(Text::from_str(alloc, text)?)
 }
 
+pub fn push_text(alloc: Global, texts: &mut Texts, word: &str) -> Result<(), Fail> {
+    texts.push(text(alloc, word)?)?;
+    Ok(())
+}
+
 /// A list of one text.
 pub fn texts(alloc: Global, word: &str) -> Result<Texts, Fail> {
     let mut texts = Texts::new(alloc);
-    texts.push(text(alloc, word)?)?;
+    push_text(alloc, &mut texts, word)?;
     Ok(texts)
 }
 
@@ -109,16 +125,18 @@ pub fn new_meta(alloc: Global, word: &str) -> Result<ObjectMeta, Fail> {
 
 /// A spec with what every Certificate has, and no more.
 pub fn least_spec(alloc: Global, secret: &str, host: &str) -> Result<CertSpec, Fail> {
+    let secret_name = name(alloc, secret)?;
+    let dns_names = texts(alloc, host)?;
     let issuer = IssuerRef {
         name: text(alloc, "ca")?,
         kind: None,
         group: None,
     };
     Ok(CertSpec {
-        secret_name: name(alloc, secret)?,
+        secret_name,
         issuer,
         common_name: Text::new(alloc),
-        dns_names: texts(alloc, host)?,
+        dns_names,
         ip_addresses: Texts::new(alloc),
         uris: Texts::new(alloc),
         emails: Texts::new(alloc),

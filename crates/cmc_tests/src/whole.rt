@@ -1,5 +1,5 @@
 //! Objects whose every member is given.
-use crate::values::{least_spec, name, text, texts};
+use crate::values::{least_spec, name, new_meta, push_text, text, texts};
 use cmc_meta::{
     Bytes, Condition, ConditionKind, Conditions, Kind, ObjectMeta, OwnerRef, Owners, Pairs, Tri,
 };
@@ -15,27 +15,32 @@ pub fn bytes(alloc: Global) -> Result<Bytes, Fail> {
     Ok(Bytes::from_slice(alloc, &[0, 0, 0])?)
 }
 
-fn meta(alloc: Global, word: &str) -> Result<ObjectMeta, Fail> {
-    let mut labels = Pairs::new(alloc);
-    labels.set(text(alloc, "app")?, text(alloc, "shop")?)?;
-    let mut owners = Owners::new(alloc);
+fn add_label(alloc: Global, labels: &mut Pairs) -> Result<(), Fail> {
+    let key = text(alloc, "app")?;
+    labels.set(key, text(alloc, "shop")?)?;
+    Ok(())
+}
+
+fn add_owner(alloc: Global, owners: &mut Owners) -> Result<(), Fail> {
+    let name = name(alloc, "web")?;
     owners.push(OwnerRef {
         kind: Kind::Certificate,
-        name: name(alloc, "web")?,
+        name,
         uid: 7,
         controller: true,
     })?;
-    Ok(ObjectMeta {
-        namespace: name(alloc, "default")?,
-        name: name(alloc, word)?,
-        uid: 1,
-        version: 2,
-        generation: 3,
-        created: 4,
-        labels,
-        annotations: Pairs::new(alloc),
-        owners,
-    })
+    Ok(())
+}
+
+fn meta(alloc: Global, word: &str) -> Result<ObjectMeta, Fail> {
+    let mut meta = new_meta(alloc, word)?;
+    add_label(alloc, &mut meta.labels)?;
+    add_owner(alloc, &mut meta.owners)?;
+    meta.uid = 1;
+    meta.version = 2;
+    meta.generation = 3;
+    meta.created = 4;
+    Ok(meta)
 }
 
 pub fn conditions(alloc: Global) -> Result<Conditions, Fail> {
@@ -60,11 +65,10 @@ fn issuer(alloc: Global) -> Result<IssuerRef, Fail> {
 
 // The lists are filled where they stand: a spec in the making would hold one owned value more at each `?`.
 fn add_names(alloc: Global, spec: &mut CertSpec) -> Result<(), Fail> {
-    spec.ip_addresses.push(text(alloc, "192.0.2.1")?)?;
-    spec.uris.push(text(alloc, "spiffe://example.com/web")?)?;
-    spec.emails.push(text(alloc, "web@example.com")?)?;
-    spec.usages.push(text(alloc, "server auth")?)?;
-    Ok(())
+    push_text(alloc, &mut spec.ip_addresses, "192.0.2.1")?;
+    push_text(alloc, &mut spec.uris, "spiffe://example.com/web")?;
+    push_text(alloc, &mut spec.emails, "web@example.com")?;
+    push_text(alloc, &mut spec.usages, "server auth")
 }
 
 fn add_terms(spec: &mut CertSpec) {
@@ -95,20 +99,26 @@ fn cert_spec(alloc: Global) -> Result<CertSpec, Fail> {
     Ok(spec)
 }
 
+fn cert_status(alloc: Global) -> Result<CertStatus, Fail> {
+    let mut status = CertStatus::new(alloc);
+    status.conditions = conditions(alloc)?;
+    status.next_key = Some(name(alloc, "web-bbbbf")?);
+    status.last_failure = Some(0);
+    status.attempts = Some(2);
+    status.not_before = Some(1_893_456_000);
+    status.not_after = Some(1_901_232_000);
+    status.renewal = Some(1_898_640_000);
+    status.revision = Some(3);
+    Ok(status)
+}
+
 pub fn certificate(alloc: Global) -> Result<Certificate, Fail> {
+    let meta = meta(alloc, "web")?;
+    let spec = cert_spec(alloc)?;
     Ok(Certificate {
-        meta: meta(alloc, "web")?,
-        spec: cert_spec(alloc)?,
-        status: CertStatus {
-            conditions: conditions(alloc)?,
-            last_failure: Some(0),
-            attempts: Some(2),
-            not_before: Some(1_893_456_000),
-            not_after: Some(1_901_232_000),
-            renewal: Some(1_898_640_000),
-            revision: Some(3),
-            next_key: Some(name(alloc, "web-bbbbf")?),
-        },
+        meta,
+        spec,
+        status: cert_status(alloc)?,
     })
 }
 
@@ -119,31 +129,50 @@ pub fn admitted_certificate(alloc: Global) -> Result<Certificate, Fail> {
     Ok(certificate)
 }
 
-pub fn request(alloc: Global) -> Result<CertificateRequest, Fail> {
-    Ok(CertificateRequest {
-        meta: meta(alloc, "web-1")?,
-        spec: RequestSpec {
-            issuer: issuer(alloc)?,
-            duration: Some(3_600),
-            is_ca: false,
-            usages: texts(alloc, "server auth")?,
-            request: bytes(alloc)?,
-        },
-        status: RequestStatus {
-            conditions: conditions(alloc)?,
-            certificate: bytes(alloc)?,
-            ca: bytes(alloc)?,
-            failure: Some(1_893_456_000),
-        },
+fn request_spec(alloc: Global) -> Result<RequestSpec, Fail> {
+    let issuer = issuer(alloc)?;
+    let usages = texts(alloc, "server auth")?;
+    Ok(RequestSpec {
+        issuer,
+        duration: Some(3_600),
+        is_ca: false,
+        usages,
+        request: bytes(alloc)?,
     })
 }
 
-pub fn secret(alloc: Global) -> Result<Secret, Fail> {
+fn request_status(alloc: Global) -> Result<RequestStatus, Fail> {
+    let mut status = RequestStatus::new(alloc);
+    status.conditions = conditions(alloc)?;
+    status.certificate = bytes(alloc)?;
+    status.ca = bytes(alloc)?;
+    status.failure = Some(1_893_456_000);
+    Ok(status)
+}
+
+pub fn request(alloc: Global) -> Result<CertificateRequest, Fail> {
+    let meta = meta(alloc, "web-1")?;
+    let spec = request_spec(alloc)?;
+    Ok(CertificateRequest {
+        meta,
+        spec,
+        status: request_status(alloc)?,
+    })
+}
+
+fn parts(alloc: Global) -> Result<Parts, Fail> {
     let mut parts = Parts::new(alloc);
-    parts.set(text(alloc, "tls.key")?, bytes(alloc)?)?;
+    let key = text(alloc, "tls.key")?;
+    parts.set(key, bytes(alloc)?)?;
+    Ok(parts)
+}
+
+pub fn secret(alloc: Global) -> Result<Secret, Fail> {
+    let kind_text = text(alloc, "Opaque")?;
+    let parts = parts(alloc)?;
     Ok(Secret {
         meta: meta(alloc, "web-tls")?,
-        kind_text: text(alloc, "Opaque")?,
+        kind_text,
         parts,
     })
 }

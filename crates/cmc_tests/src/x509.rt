@@ -2,7 +2,7 @@
 ghost use Rattle.cmc_x509.specs.Lists.{IsValueList};
 
 use crate::checks::{passes, tells};
-use crate::values::octets;
+use crate::values::{column, octets};
 use crate::{made_certificates, made_keys, made_requests};
 use cmc_x509::{
     CertFields, CsrFields, KeyKind, Names, Spki, key_public, next_name, read_cert, read_csr,
@@ -43,34 +43,68 @@ fn kind_told(alloc: Global, key: &Spki<'_>) -> Result<String, AllocError> {
     }
 }
 
+fn both_told(alloc: Global, first: &[u8], second: &[u8]) -> Result<String, AllocError> {
+    let first = hex(alloc, first)?;
+    let second = hex(alloc, second)?;
+    format!(in alloc; "{first} {second}")
+}
+
+fn octets_told(alloc: Global, key: &Spki<'_>) -> Result<String, AllocError> {
+    match key {
+        Spki::Rsa { modulus, exponent } => both_told(alloc, modulus, exponent),
+        Spki::Ec { curve: _, point } => hex(alloc, point),
+        Spki::Other { whole } => hex(alloc, whole),
+    }
+}
+
 fn key_told(alloc: Global, key: &Spki<'_>) -> Result<String, AllocError> {
     let kind = kind_told(alloc, key)?;
-    match key {
-        Spki::Rsa { modulus, exponent } => {
-            let modulus = hex(alloc, modulus)?;
-            let exponent = hex(alloc, exponent)?;
-            format!(in alloc; "{kind} {modulus} {exponent}")
-        }
-        Spki::Ec { curve: _, point } => {
-            let point = hex(alloc, point)?;
-            format!(in alloc; "{kind} {point}")
-        }
-        Spki::Other { whole } => {
-            let whole = hex(alloc, whole)?;
-            format!(in alloc; "{kind} {whole}")
-        }
+    let octets = octets_told(alloc, key)?;
+    format!(in alloc; "{kind} {octets}")
+}
+
+/// How openssl calls a name of this tag that is a text.
+fn sort_of(tag: u8) -> Option<&'static str> {
+    match tag {
+        0x81 => Some("email"),
+        0x82 => Some("DNS"),
+        0x86 => Some("URI"),
+        _ => None,
+    }
+}
+
+fn address_told(alloc: Global, body: &[u8]) -> Result<Option<String>, AllocError> {
+    match body {
+        [a, b, c, d] => Ok(Some(format!(in alloc; "IP Address:{a}.{b}.{c}.{d}")?)),
+        _ => Ok(None),
     }
 }
 
 /// A name as openssl prints it, and nothing for one of another sort.
 fn name_told(alloc: Global, tag: u8, body: &[u8]) -> Result<Option<String>, AllocError> {
-    match (tag, body) {
-        (0x81, _) => Ok(Some(format!(in alloc; "email:{}", text(body))?)),
-        (0x82, _) => Ok(Some(format!(in alloc; "DNS:{}", text(body))?)),
-        (0x86, _) => Ok(Some(format!(in alloc; "URI:{}", text(body))?)),
-        (0x87, [a, b, c, d]) => Ok(Some(format!(in alloc; "IP Address:{a}.{b}.{c}.{d}")?)),
-        _ => Ok(None),
+    match sort_of(tag) {
+        Some(sort) => Ok(Some(format!(in alloc; "{sort}:{}", text(body))?)),
+        None if tag == 0x87 => address_told(alloc, body),
+        None => Ok(None),
     }
+}
+
+/// Adds the name, where it is told, behind a comma unless it is the first; and says whether the next one is the first.
+fn push_name(
+    alloc: Global,
+    told: &mut String,
+    tag: u8,
+    body: &[u8],
+    is_first: bool,
+) -> Result<bool, AllocError> {
+    let Some(name) = name_told(alloc, tag, body)? else {
+        return Ok(is_first);
+    };
+    if !is_first {
+        told.push_str(", ")?;
+    }
+    told.push_str(&name)?;
+    Ok(false)
 }
 
 /// The common name and the alternative names.
@@ -82,13 +116,7 @@ fn names_told(alloc: Global, names: &Names<'_>) -> Result<String, AllocError>
     let mut is_first = true;
     while let Some((tag, body, behind)) = next_name(rest) {
         rest = behind;
-        if let Some(name) = name_told(alloc, tag, body)? {
-            if !is_first {
-                told.push_str(", ")?;
-            }
-            told.push_str(&name)?;
-            is_first = false;
-        }
+        is_first = push_name(alloc, &mut told, tag, body, is_first)?;
     }
     Ok(told)
 }
@@ -100,13 +128,18 @@ fn file_told(alloc: Global, input: &[u8]) -> Result<String, AllocError> {
     }
 }
 
+/// The key and the names of a request or of a certificate.
+fn subject_told(alloc: Global, key: &Spki<'_>, names: &Names<'_>) -> Result<String, AllocError>
+    requires { IsValueList names.now.alternative.now }
+{
+    let key = key_told(alloc, key)?;
+    let names = names_told(alloc, names)?;
+    format!(in alloc; "{key}; {names}")
+}
+
 fn request_told(alloc: Global, input: &[u8]) -> Result<String, AllocError> {
     match read_csr(input) {
-        Ok(CsrFields { key, names }) => {
-            let key = key_told(alloc, &key)?;
-            let names = names_told(alloc, &names)?;
-            format!(in alloc; "{key}; {names}")
-        }
+        Ok(CsrFields { key, names }) => subject_told(alloc, &key, &names),
         Err(_) => String::from_str(alloc, "not of the form"),
     }
 }
@@ -123,9 +156,8 @@ fn certificate_told(alloc: Global, input: &[u8]) -> Result<String, AllocError> {
             },
         ) => {
             let serial = hex(alloc, serial)?;
-            let key = key_told(alloc, &key)?;
-            let names = names_told(alloc, &names)?;
-            format!(in alloc; "{serial} {not_before} {not_after}; {key}; {names}")
+            let subject = subject_told(alloc, &key, &names)?;
+            format!(in alloc; "{serial} {not_before} {not_after}; {subject}")
         }
         Err(_) => String::from_str(alloc, "not of the form"),
     }
@@ -146,15 +178,15 @@ fn told(alloc: Global, sort: Sort, input: &[u8]) -> Result<String, AllocError> {
     }
 }
 
+fn row_told(alloc: Global, sort: Sort, row: &str) -> Result<String, AllocError> {
+    told(alloc, sort, &octets(alloc, column(row, 1))?)
+}
+
 /// The rows of a table: a name, the octets, and what is told of them.
 fn check_rows(rt: &impl Abort, alloc: Global, table: &str, sort: Sort) -> Result<(), AllocError> {
     for row in table.lines() {
-        let mut columns = row.split('|');
-        let name = columns.next().unwrap_or("");
-        let input = octets(alloc, columns.next().unwrap_or(""))?;
-        let want = columns.next().unwrap_or("no row");
-        let told = told(alloc, sort, &input)?;
-        tells(rt, name, told.as_str(), want);
+        let told = row_told(alloc, sort, row)?;
+        tells(rt, column(row, 0), told.as_str(), column(row, 2));
     }
     Ok(())
 }
@@ -164,7 +196,9 @@ fn reads_keys(rt: HostRuntime) -> Result<(), Fail> {
     let alloc = rt.alloc();
     check_rows(&rt, alloc, made_keys::made(), Sort::Key)?;
     check_rows(&rt, alloc, made_keys::built(), Sort::Key)?;
-    check_rows(&rt, alloc, made_keys::changed(), Sort::Key)?;
+    check_rows(&rt, alloc, made_keys::other_ec(), Sort::Key)?;
+    check_rows(&rt, alloc, made_keys::other_numbers(), Sort::Key)?;
+    check_rows(&rt, alloc, made_keys::other_forms(), Sort::Key)?;
     Ok(())
 }
 
@@ -179,8 +213,11 @@ fn reads_requests(rt: HostRuntime) -> Result<(), Fail> {
 #[test]
 fn reads_certificates(rt: HostRuntime) -> Result<(), Fail> {
     let alloc = rt.alloc();
-    check_rows(&rt, alloc, made_certificates::made(), Sort::Certificate)?;
-    check_rows(&rt, alloc, made_certificates::changed(), Sort::Certificate)?;
+    let sort = Sort::Certificate;
+    check_rows(&rt, alloc, made_certificates::made(), sort)?;
+    check_rows(&rt, alloc, made_certificates::other_times(), sort)?;
+    check_rows(&rt, alloc, made_certificates::other_extensions(), sort)?;
+    check_rows(&rt, alloc, made_certificates::other_ends(), sort)?;
     Ok(())
 }
 
@@ -205,10 +242,8 @@ fn refuses_parts(
 fn refuses_what_is_cut_and_what_is_longer(rt: HostRuntime) -> Result<(), Fail> {
     let alloc = rt.alloc();
     for row in made_keys::built().lines() {
-        let mut columns = row.split('|');
-        let name = columns.next().unwrap_or("");
-        let whole = octets(alloc, columns.next().unwrap_or(""))?;
-        refuses_parts(&rt, alloc, name, &whole)?;
+        let whole = octets(alloc, column(row, 1))?;
+        refuses_parts(&rt, alloc, column(row, 0), &whole)?;
     }
     Ok(())
 }

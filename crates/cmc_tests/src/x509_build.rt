@@ -3,7 +3,7 @@
 ghost use Rattle.cmc_time.specs.Asn1.{IsCertificateTime};
 
 use crate::checks::passes;
-use crate::values::{text, texts};
+use crate::values::{push_text, text};
 use cmc_der::{KeyKind, Spki};
 use cmc_meta::{Bytes, Text, Texts};
 use cmc_x509::{CsrFields, Names, read_cert, read_csr};
@@ -54,22 +54,26 @@ static CERTIFICATE_BODY: [u8; 295] = [
     46, 99, 111, 109, 47, 120, 129, 13, 97, 64, 101, 120, 97, 109, 112, 108, 101, 46, 99, 111, 109,
 ];
 
-fn two(alloc: Global, first: &str, second: &str) -> Result<Texts, Fail> {
-    let mut texts = texts(alloc, first)?;
-    texts.push(text(alloc, second)?)?;
-    Ok(texts)
+fn push_names(alloc: Global, names: &mut NameSet) -> Result<(), Fail> {
+    names.common = text(alloc, "example.com")?;
+    push_text(alloc, &mut names.dns, "example.com")?;
+    push_text(alloc, &mut names.dns, "www.example.com")?;
+    push_text(alloc, &mut names.ips, "10.0.0.1")?;
+    push_text(alloc, &mut names.ips, "2001:db8::1")?;
+    push_text(alloc, &mut names.uris, "https://example.com/x")?;
+    push_text(alloc, &mut names.emails, "a@example.com")
 }
 
 fn names(alloc: Global) -> Result<NameSet, Fail> {
-    let dns = two(alloc, "example.com", "www.example.com")?;
-    let ips = two(alloc, "10.0.0.1", "2001:db8::1")?;
-    Ok(NameSet {
-        common: text(alloc, "example.com")?,
-        dns,
-        ips,
-        uris: texts(alloc, "https://example.com/x")?,
-        emails: texts(alloc, "a@example.com")?,
-    })
+    let mut names = NameSet {
+        common: Text::new(alloc),
+        dns: Texts::new(alloc),
+        ips: Texts::new(alloc),
+        uris: Texts::new(alloc),
+        emails: Texts::new(alloc),
+    };
+    push_names(alloc, &mut names)?;
+    Ok(names)
 }
 
 fn plan(issuer: Text) -> CertPlan

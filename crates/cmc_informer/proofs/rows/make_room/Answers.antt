@@ -1,17 +1,5 @@
-use Rattle.cmc_informer.proofs.Changing.{objects_alike}
+use Rattle.cmc_informer.proofs.FoundAlike.{room_for_alike}
 use Rattle.cmc_informer.proofs.rows.make_room.Goals as goal
 
-pub returns-in_err-room-clause-same : goal.returns-in_err-room-clause-same
-returns-in_err-room-clause-same c = objects_alike c.args.rows.now.slots c.room.new.self c.in_err-room.ensures.same
-
-pub returns-in_err-room_for_owners-clause-same : goal.returns-in_err-room_for_owners-clause-same
-returns-in_err-room_for_owners-clause-same c = objects_alike c.args.rows.now.slots c.room.new.self c.in_ok-room.ensures.same
-
-pub returns-in_err-room_for_uid-clause-same : goal.returns-in_err-room_for_uid-clause-same
-returns-in_err-room_for_uid-clause-same c = objects_alike c.args.rows.now.slots c.room.new.self c.in_ok-room.ensures.same
-
-pub returns-in_err-room_for_target-clause-same : goal.returns-in_err-room_for_target-clause-same
-returns-in_err-room_for_target-clause-same c = objects_alike c.args.rows.now.slots c.room.new.self c.in_ok-room.ensures.same
-
-pub returns-clause-same : goal.returns-clause-same
-returns-clause-same c = objects_alike c.args.rows.now.slots c.room.new.self c.in_ok-room.ensures.same
+pub returns-then-stands_alike-clause-room : goal.returns-then-stands_alike-clause-room
+returns-then-stands_alike-clause-room c = room_for_alike c.args.rows.now c.args.key.now c.args.object.now c.requires (c.stands_alike.ensures.slot c.if-stands_alike.true) (c.stands_alike.ensures.alike c.if-stands_alike.true)

@@ -12,5 +12,5 @@ loop-place-preserved c =
           (omega (arith, c.loop-place-test.true, c.requires.within)) at c.in_ok-prepare_one.ensures.changes c.loop-place.invariant.changes;
       room = c.in_ok-prepare_one.ensures.room;
       same = c.in_ok-prepare_one.ensures.same ∙ c.loop-place.invariant.same;
-      indexed = λ was. c.in_ok-prepare_one.ensures.indexed (c.loop-place.invariant.indexed was);
+      indexed = c.prepare_one.ensures.indexed;
     }

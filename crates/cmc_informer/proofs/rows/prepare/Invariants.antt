@@ -9,5 +9,5 @@ invariant-loop-place l = record {
   changes : reverse l.changes.items ++ of_kind l.kind (oldest l.from (reverse l.writes)) ≡ of_kind l.kind (oldest l.place (reverse l.writes));
   room : HasRoomFor l.rows l.changes.items;
   same : objects_in l.rows.slots ≡ objects_in l.initial.rows.slots;
-  indexed : IsIndexed l.initial.rows → IsIndexed l.rows;
+  indexed : IsIndexed l.rows;
 }

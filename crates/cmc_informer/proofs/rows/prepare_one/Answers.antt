@@ -8,4 +8,4 @@ pub returns-in_ok-push-clause-room : goal.returns-in_ok-push-clause-room
 returns-in_ok-push-clause-room c =
     subst (λ (ws : List Write). HasRoomFor c.make_room.new.rows ws)
     (sym (c.in_ok-push.ensures.items ∙ ap (λ (w : Write). c.args.changes.now.items ++ w ∷ []) c.in_ok-copy_write.ensures))
-    (room_added c.make_room.new.rows c.args.changes.now.items c.args.write.now (rooms_stay c.args.rows.now c.make_room.new.rows c.args.changes.now.items c.in_ok-make_room.ensures.keeps c.requires) c.in_ok-make_room.ensures.room)
+    (room_added c.make_room.new.rows c.args.changes.now.items c.args.write.now (rooms_stay c.args.rows.now c.make_room.new.rows c.args.changes.now.items c.in_ok-make_room.ensures.keeps c.requires.room) c.in_ok-make_room.ensures.room)

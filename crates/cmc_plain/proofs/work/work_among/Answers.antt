@@ -1,18 +1,21 @@
-use Rattle.std.proofs.Common.{List, Some, sym, subst}
+use Rattle.std.proofs.Common.{Bor, List, Some, sym, subst}
 use Rattle.std.specs.Option.{option_copied}
+use Rattle.std.specs.Range.Bound.{bound_map}
 use Rattle.cmc_meta.specs.declared.key.Key.{Key}
 use Rattle.cmc_world.specs.Kept.{setting_of}
 use Rattle.cmc_plain.specs.Searches.{FindsFirst, HasWorkAbove}
-use Rattle.cmc_plain.proofs.Keys.{KeysLeft, all_keys_left, fewer_keys_left, key_found}
-use Rattle.cmc_plain.proofs.Working.{idle_lacks}
+use Rattle.cmc_plain.proofs.Keys.{KeysLeft, fewer_keys_left, key_found}
+use Rattle.cmc_plain.proofs.Working.{work_left}
 use Rattle.cmc_plain.proofs.work.work_among.Goals as goal
 
 pub loop-key-init : goal.loop-key-init
 loop-key-init c =
-    let s = setting_of c.args.world.now.scenario in
-    let h = c.args.world.now.history in
-    rw (c.into_iter-key-iterator.ensures.into_iter_gives, c.iter-key-items.ensures.rest)
-    (all_keys_left (HasWorkAbove s h c.args.role (option_copied c.args.below)) c.args.keys.now c.iter-key-items.ensures.ordered (idle_lacks s h c.args.role (option_copied c.args.below) c.args.keys.now c.requires.others), c.requires.busy, c.requires.idle)
+    rw c.into_iter-key-iterator.ensures.into_iter_gives (
+      work_left (setting_of c.args.world.now.scenario) c.args.world.now.history c.args.role (option_copied c.args.below) c.args.keys.now (bound_map (λ (key : Bor Key). key.now) c.start_above.result) _ c.start_above.ensures
+          (c.range-key-items.ensures.between tt) c.range-key-items.ensures.ordered c.requires.others,
+      c.requires.busy,
+      c.requires.idle,
+    )
 
 pub loop-key-preserved : goal.loop-key-preserved
 loop-key-preserved c =

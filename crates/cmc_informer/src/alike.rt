@@ -1,0 +1,42 @@
+//! Objects that every index finds in the same way: where one takes the place of the other, no index changes.
+ghost use Rattle.std.specs.Prelude.{◌≡◌, List, ℕ, Some, true};
+ghost use Rattle.cmc_informer.specs.Caches.{has_slot, is_targeting, slot_at};
+ghost use Rattle.cmc_informer.specs.Indexed.{AreFoundAlike};
+
+use crate::slots::Slots;
+use cmc_meta::Key;
+use cmc_objects::Object;
+
+fn same_secret(before: &Object, after: &Object) -> bool
+    ensures { result ≡ true → (namespace name : List ℕ) → is_targeting namespace name (Some after.now) ≡ is_targeting namespace name (Some before.now) }
+{
+    match before {
+        Object::Cert(before) => match after {
+            Object::Cert(after) => {
+                before.spec.secret_name.same(&after.spec.secret_name)
+                    && before.meta.namespace.same(&after.meta.namespace)
+            }
+            _ => false,
+        },
+        _ => !matches!(after, Object::Cert(_)),
+    }
+}
+
+fn found_alike(before: &Object, after: &Object) -> bool
+    ensures { result ≡ true → AreFoundAlike (Some before.now) (Some after.now) }
+{
+    before.meta().uid == after.meta().uid
+        && before.meta().owners.same(&after.meta().owners)
+        && same_secret(before, after)
+}
+
+/// Whether an object stands under the key that each index finds as it would find the new one.
+pub(crate) fn stands_alike(slots: &Slots, key: &Key, new: &Option<Object>) -> bool
+    ensures slot { result ≡ true → has_slot slots.now key.now ≡ true }
+    ensures alike { result ≡ true → AreFoundAlike (slot_at slots.now key.now) new.now }
+{
+    match (slots.get(key), new) {
+        (Some(before), Some(after)) => found_alike(before, after),
+        _ => false,
+    }
+}
