@@ -15,7 +15,7 @@ use Rattle.cmc_model.specs.Replies.{put_at}
 use Rattle.cmc_model.proofs.Versions.{object_at-put}
 use Rattle.cmc_informer.specs.Caches.{is_owned_by, names}
 use Rattle.cmc_informer.proofs.OneMark.{same_key}
-use Rattle.cmc_caches.specs.Affected.{AreSameBut, AreSameButOf, IsForeign, is_among, is_one_of, owners_of}
+use Rattle.cmc_caches.specs.Affected.{AddsOwners, AreSameBut, AreSameButOf, IsForeign, is_among, is_one_of, owners_of}
 
 -- ---- keys
 
@@ -44,17 +44,15 @@ foreign_by true m n next key o u q e at before after old = inr (ap (λ (k : Key)
 foreign_by false m n next key o u q e at before after (inl same) = inl (same ∙ sym at)
 foreign_by false m n next key o u q e at before after (inr off) = inr (off.0, ap (is_owned_by u) at ∙ off.1)
 
-foreign_on : (m n : Objects) (uids : List ℕ) (key : Key) (o : Option Object) → AreSameButOf uids m n → AreSameButOf (uids ++ (owners_of (object_at m key) ++ owners_of o)) m (put_at n key o)
-foreign_on m n uids key o so u off q =
-    let ends : List ℕ = owners_of (object_at m key) ++ owners_of o in
-    let parts = or_parts (is_one_of uids u) (is_one_of ends u) (sym (list_any-append (λ v. v == u) uids ends) ∙ off) in
-    let both = or_parts (is_one_of (owners_of (object_at m key)) u) (is_one_of (owners_of o) u) (sym (list_any-append (λ v. v == u) (owners_of (object_at m key)) (owners_of o)) ∙ parts.1) in
+foreign_on : (m n : Objects) (uids more : List ℕ) (key : Key) (o : Option Object) → AddsOwners (object_at m key) o uids more → AreSameButOf uids m n → AreSameButOf more m (put_at n key o)
+foreign_on m n uids more key o adds so u off q =
+    let parts = or_parts (is_one_of uids u) (is_one_of (owners_of (object_at m key)) u || is_one_of (owners_of o) u) (sym (adds u) ∙ off) in
+    let both = or_parts (is_one_of (owners_of (object_at m key)) u) (is_one_of (owners_of o) u) parts.1 in
     foreign_by (is_eq (key_cmp q key)) m n (put_at n key o) key o u q refl (object_at-put n key o q) (sym (owner_uids (object_at m key) u) ∙ both.0) (sym (owner_uids o u) ∙ both.1) (so u parts.0 q)
 
 -- One write more: the owners of what it leaves are listed, and those of what stood at first. What stood just before it was left by one of the
 -- writes before it, or stood at first.
 pub foreign_more : (b : Bool) (m n next : Objects) (uids more : List ℕ) (key : Key) (o : Option Object) → next ≡ (if b then put_at n key o else n)
-    → more ≡ (if b then uids ++ (owners_of (object_at m key) ++ owners_of o) else uids) → AreSameButOf uids m n → AreSameButOf more m next
-foreign_more true m n next uids more key o is are so =
-    subst (λ (x : Objects). AreSameButOf more m x) (sym is) (subst (λ (us : List ℕ). AreSameButOf us m (put_at n key o)) (sym are) (foreign_on m n uids key o so))
-foreign_more false m n next uids more key o is are so = subst (λ (x : Objects). AreSameButOf more m x) (sym is) (subst (λ (us : List ℕ). AreSameButOf us m n) (sym are) so)
+    → (b ≡ true → AddsOwners (object_at m key) o uids more) → (b ≡ false → more ≡ uids) → AreSameButOf uids m n → AreSameButOf more m next
+foreign_more true m n next uids more key o is adds same so = subst (λ (x : Objects). AreSameButOf more m x) (sym is) (foreign_on m n uids more key o (adds refl) so)
+foreign_more false m n next uids more key o is adds same so = subst (λ (x : Objects). AreSameButOf more m x) (sym is) (subst (λ (us : List ℕ). AreSameButOf us m n) (sym (same refl)) so)

@@ -1,5 +1,5 @@
 -- Of which keys a role may see something new as it is told of more.
-use Rattle.std.specs.Prelude.{◌≡◌, ◌⊎◌, ◌==◌, ℕ, false, true, Bool, List, [], map, reverse, Option, Some, None, is_some}
+use Rattle.std.specs.Prelude.{◌≡◌, ◌⊎◌, ◌==◌, ◌||◌, ℕ, false, true, Bool, List, [], map, reverse, Option, Some, None, is_some}
 use Rattle.std.specs.BTreeMap.{is_at}
 use Rattle.std.specs.List.{list_any}
 use Rattle.cmc_meta.specs.declared.key.Key.{Key}
@@ -63,6 +63,10 @@ is_one_of uids uid = list_any (λ u. u == uid) uids
 abbrev pub owners_of : Option Object → List ℕ
 owners_of None = []
 owners_of (Some o) = map (λ owner. owner.uid) (meta_of o).owners
+
+-- the owners of both are added to these uids, and no other
+abbrev pub AddsOwners : Option Object → Option Object → List ℕ → List ℕ → Type 0
+AddsOwners before after old new = (uid : ℕ) → is_one_of new uid ≡ (is_one_of old uid || (is_one_of (owners_of before) uid || is_one_of (owners_of after) uid))
 
 -- what stands under the key is the same, or belongs to the uid in neither
 abbrev pub IsForeign : ℕ → Objects → Objects → Key → Type 0

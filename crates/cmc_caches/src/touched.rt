@@ -1,9 +1,9 @@
 //! What writes touch that a role is told of.
 ghost use Rattle.std.specs.Option.{option_copied};
-ghost use Rattle.std.specs.Prelude.{◌≡◌, ◌≤◌, ◌++◌, ◌∷◌, [], IfOk, OnOk, length, map, reverse, if◌then◌else◌};
+ghost use Rattle.std.specs.Prelude.{◌≡◌, ◌≤◌, ◌++◌, ◌∷◌, [], IfOk, OnOk, length, map, reverse, true, false, if◌then◌else◌};
 ghost use Rattle.cmc_model.specs.Objects.{object_at};
 ghost use Rattle.cmc_model.specs.Writes as spec;
-ghost use Rattle.cmc_caches.specs.Affected.{AreNamed, AreSameBut, AreSameButOf, left_by, owners_of};
+ghost use Rattle.cmc_caches.specs.Affected.{AddsOwners, AreNamed, AreSameBut, AreSameButOf, left_by, owners_of};
 
 use cmc_informer::Cache;
 use cmc_meta::{Key, Kind, Numbers, OwnerRef};
@@ -59,24 +59,44 @@ fn add_owners(uids: &mut Numbers, object: Option<&Object>) -> Result<(), AllocEr
     }
 }
 
-/// Adds the owners of what stood under the key of the write, and of what stands there then.
-fn add_both_owners(objects: &Cache, uids: &mut Numbers, write: &Write) -> Result<(), AllocError>
-    ensures { OnOk result (uids.new ≡ uids.old ++ (owners_of (object_at objects.now write.now.key) ++ owners_of write.now.object)) }
+/// Whether both stand and have the same owners.
+fn have_same_owners(before: Option<&Object>, after: Option<&Object>) -> bool
+    ensures { result ≡ true → owners_of (option_copied before.entry) ≡ owners_of (option_copied after.entry) }
 {
-    add_owners(uids, objects.get(&write.key))?;
-    add_owners(uids, write.object.as_ref())
+    match (before, after) {
+        (Some(before), Some(after)) => before.meta().owners.same(&after.meta().owners),
+        _ => false,
+    }
 }
 
+/// Adds the owners of both, once where they are the same, as those of an object that is updated mostly are.
+fn add_both(
+    uids: &mut Numbers,
+    before: Option<&Object>,
+    after: Option<&Object>,
+) -> Result<(), AllocError>
+    ensures { OnOk result (AddsOwners (option_copied before.entry) (option_copied after.entry) uids.old uids.new) }
+{
+    if have_same_owners(before, after) {
+        return add_owners(uids, after);
+    }
+    add_owners(uids, before)?;
+    add_owners(uids, after)
+}
+
+/// Adds the owners of what stood under the key of the write, and of what stands there then, where the key is one of the
+/// kind.
 fn add_owners_of_kind(
     objects: &Cache,
     uids: &mut Numbers,
     write: &Write,
     kind: Kind,
 ) -> Result<(), AllocError>
-    ensures { OnOk result (uids.new ≡ (if spec.kind_eq write.now.key.kind kind then uids.old ++ (owners_of (object_at objects.now write.now.key) ++ owners_of write.now.object) else uids.old)) }
+    ensures hit { OnOk result (spec.kind_eq write.now.key.kind kind ≡ true → AddsOwners (object_at objects.now write.now.key) write.now.object uids.old uids.new) }
+    ensures miss { OnOk result (spec.kind_eq write.now.key.kind kind ≡ false → uids.new ≡ uids.old) }
 {
     if write.key.kind == kind {
-        return add_both_owners(objects, uids, write);
+        return add_both(uids, objects.get(&write.key), write.object.as_ref());
     }
     Ok(())
 }

@@ -115,6 +115,13 @@ told_ready s h role kind keys rows same ready to low = record {
   listed = λ key work off. same key (unready (is_among keys key) role keys rows key refl ready off) (accepted s h) (let high = last_low kind (writes s h) in let all = writes_count s h in omega (arith, high, all));
 }
 
+-- where keys are kept
+pub told_kept : (s : Setting) (h : List Entry) (role : Role) (kind : Kind) (keys : List Key) (rows : Option (List (BTreeSet Key)))
+    → ((key : Key) → is_among keys key ≡ false → (to : ℕ) → last_of_kind kind (writes s h) ≤ to → SeesSame s h role kind to key) → IfSome rows (AreReady role keys)
+    → (to : ℕ) → last_of_kind kind (writes s h) ≤ to → IfSome rows (WakesTold s h role kind to)
+told_kept s h role kind keys None same ready to low = tt
+told_kept s h role kind keys (Some rows) same ready to low = told_ready s h role kind keys rows same ready to low
+
 -- ---- what is known of others stays
 
 -- on keys that are none of these the role sees what it saw

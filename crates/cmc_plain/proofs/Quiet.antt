@@ -1,7 +1,7 @@
 -- A role has nothing to do on a key, or nothing to do and nothing new to see: which moves leave it so.
-use Rattle.std.proofs.Common.{◌≡◌, ℤ, List, ◌∷◌, Option, Some, None, Bool, true, false, refl, sym, ap, subst, ◌∙◌}
+use Rattle.std.proofs.Common.{◌≡◌, ℤ, List, ◌∷◌, Option, Some, None, Bool, true, false, tt, absurd, refl, sym, ap, subst, ◌∙◌}
 use Rattle.std.proofs.lemmas.Bool.{and_parts}
-use Rattle.std.specs.Prelude.{not, ◌&&◌, if◌then◌else◌, option_map, Result, IfOk, OnErr}
+use Rattle.std.specs.Prelude.{not, ◌&&◌, if◌then◌else◌, option_map, Result, IfOk, IfSome, OnErr}
 use Rattle.std.specs.declared.alloc.AllocError.{AllocError}
 use Rattle.std.specs.BTreeSet.{BTreeSet}
 use Rattle.cmc_meta.specs.declared.key.Key.{Key}
@@ -38,7 +38,7 @@ use Rattle.cmc_world.proofs.Rest.{same_key}
 use Rattle.cmc_moves.proofs.Sounds.{any_desk}
 use Rattle.cmc_world.proofs.Standings.{same_role}
 use Rattle.cmc_moves.specs.Quiet.{IsQuiet, seen_last}
-use Rattle.cmc_plain.specs.Ready.{is_ready, Keeps, HasKnown, Covers, Idles, IsIdleOn, IsOfEach, WakesAll, Wakes}
+use Rattle.cmc_plain.specs.Ready.{is_ready, Keeps, KeepsIf, HasKnown, Covers, Idles, IsIdleOn, IsOfEach, WakesAll, Wakes}
 use Rattle.cmc_plain.proofs.Lasting.{Anew, Claim, HoldsOn, IsLasting, LeavesAlone, LeavesKeys, Meant, holds_step, moment_alone, views_alone}
 use Rattle.cmc_plain.proofs.Remembering.{last_called}
 use Rattle.cmc_plain.proofs.Unknown.{unknown_quiet}
@@ -194,6 +194,21 @@ pub covers_step : (old new : Seen) (move : Move) (r : Result Stepped AllocError)
 covers_step old new move r before rows run was keeps woken same leaves failed covers role key work off =
     holds_step IsQuiet quiet_lasts (IsBeside rows) old new move r run was (leaves_beside IsQuiet unknown_quiet (setting_of old.scenario) old.history move rows woken) same leaves failed
     (λ r k o. covers_more (setting_of old.scenario) old.history before rows keeps covers r k o.0 o.1) role key (work, off)
+
+-- where keys are kept
+pub covers_kept : (s : Setting) (h : List Entry) (old new : Option (List (BTreeSet Key))) → KeepsIf old new → IfSome old (Covers s h) → IfSome new (Covers s h)
+covers_kept s h old None keeps covers = tt
+covers_kept s h None (Some new) lost covers = absurd lost
+covers_kept s h (Some old) (Some new) keeps covers = covers_more s h old new keeps covers
+
+pub covers_step_kept : (old new : Seen) (move : Move) (r : Result Stepped AllocError) (before rows : Option (List (BTreeSet Key))) → IsRun (setting_of new.scenario) new.history → IsRun (setting_of old.scenario) old.history
+    → KeepsIf before rows → IfSome rows (Wakes (setting_of old.scenario) old.history move) → new.scenario ≡ old.scenario
+    → IfOk r (λ answer. Leaves (setting_of old.scenario) old.history move answer new.history) → OnErr r (new ≡ old) → IfSome before (Covers (setting_of old.scenario) old.history)
+    → IfSome rows (Covers (setting_of new.scenario) new.history)
+covers_step_kept old new move r before None run was keeps woken same leaves failed covers = tt
+covers_step_kept old new move r None (Some rows) run was lost woken same leaves failed covers = absurd lost
+covers_step_kept old new move r (Some before) (Some rows) run was keeps woken same leaves failed covers =
+    covers_step old new move r before rows run was keeps woken same leaves failed covers
 
 -- and on each that is not awake the role has nothing to do
 pub idles_step : (old new : Seen) (move : Move) (r : Result Stepped AllocError) (before rows : List (BTreeSet Key)) → IsRun (setting_of new.scenario) new.history → IsRun (setting_of old.scenario) old.history

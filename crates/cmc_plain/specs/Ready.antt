@@ -24,6 +24,7 @@ use Rattle.cmc_moves.specs.declared.moves.Stepped.{Stepped}
 use Rattle.cmc_moves.specs.declared.moves.Stepped.TheVariants.{Done}
 use Rattle.cmc_moves.specs.Quiet.{IsQuiet}
 use Rattle.cmc_caches.specs.Affected.{is_among}
+use Rattle.cmc_plain.specs.Plain.{IsStepReady}
 use Rattle.cmc_plain.specs.declared.begins.Beginning.{Beginning}
 use Rattle.cmc_plain.specs.declared.known.Known.{Known}
 
@@ -39,6 +40,12 @@ is_ready rows role key = contains key_cmp (slice_index_or rows (role_rank role) 
 -- no key is lost
 abbrev pub Keeps : List (BTreeSet Key) → List (BTreeSet Key) → Type 0
 Keeps old new = (role : Role) (key : Key) → is_ready old role key ≡ true → is_ready new role key ≡ true
+
+-- where keys are kept, none is lost
+abbrev pub KeepsIf : Option (List (BTreeSet Key)) → Option (List (BTreeSet Key)) → Type 0
+KeepsIf old None = Unit {0}
+KeepsIf None (Some new) = ⊥
+KeepsIf (Some old) (Some new) = Keeps old new
 
 -- each key of the role's work that an accepted write named is among them
 abbrev pub HasKnown : Setting → List Entry → Role → List (BTreeSet Key) → Type 0
@@ -143,3 +150,8 @@ LeavesQuiet s h (Some begun) answer = answer ≡ Done → IsQuiet s h begun.role
 abbrev pub IsToNewest : Setting → List Entry → Move → Type 0
 IsToNewest s h (moves.Deliver role kind to) = (has_informer role kind ≡ true) × (last_of_kind kind (writes s h) ≤ to)
 IsToNewest s h other = Unit {0}
+
+-- the move is the next step of the script, which waits no longer
+abbrev pub IsReadyScript : Setting → List Entry → Move → Type 0
+IsReadyScript s h moves.Script = IsStepReady s h
+IsReadyScript s h other = ⊥

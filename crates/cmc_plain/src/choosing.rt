@@ -1,10 +1,10 @@
 //! The move that a run by one hand makes next.
-ghost use Rattle.std.specs.Prelude.{◌≡◌, IfOk, Some, None, if◌then◌else◌};
+ghost use Rattle.std.specs.Prelude.{◌≡◌, IfOk, IfSome, Some, None, if◌then◌else◌};
 ghost use Rattle.cmc_moves.specs.declared.moves.Move.TheVariants.{Script};
 ghost use Rattle.cmc_world.specs.Kept.{setting_of};
 ghost use Rattle.cmc_plain.specs.Plain.{HasNoDelivery, HasNoPass, IsPlainMove};
 ghost use Rattle.cmc_plain.specs.Ready.{Covers, Knows};
-ghost use Rattle.cmc_plain.specs.Searches.{IsLeft};
+ghost use Rattle.cmc_plain.specs.Searches.{FindsBegin, IsLeft};
 
 use crate::begins::{Beginning, first_begin};
 use crate::deliveries::first_delivery;
@@ -24,21 +24,52 @@ fn at_rest(left: bool) -> Option<Move>
     if left { Some(Move::Script) } else { None }
 }
 
+/// The keys that are ready, where they are kept, and else all that accepted writes named. An error is one of memory.
+fn taken(alloc: Global, world: &World, ready: &mut Option<Ready>) -> Result<Ready, AllocError>
+    requires { IfSome ready.old (Covers (setting_of world.now.scenario) world.now.history) }
+    ensures covers { IfOk result (λ rows. Covers (setting_of world.now.scenario) world.now.history rows) }
+    ensures none { ready.new ≡ None }
+{
+    match ready.take() {
+        Some(ready) => Ok(ready),
+        None => all_ready(alloc, world),
+    }
+}
+
+/// The first begin that is worth it, by the keys that are ready, which are kept from then on.
+fn begin_by(
+    alloc: Global,
+    world: &World,
+    ready: &mut Option<Ready>,
+    known: &mut Known,
+) -> Result<Option<Beginning>, AllocError>
+    requires covers { IfSome ready.old (Covers (setting_of world.now.scenario) world.now.history) }
+    requires before { Knows (setting_of world.now.scenario) world.now.history known.old }
+    ensures finds { IfOk result (λ b. FindsBegin (setting_of world.now.scenario) world.now.history b) }
+    ensures covers { IfSome ready.new (Covers (setting_of world.now.scenario) world.now.history) }
+    ensures after { Knows (setting_of world.now.scenario) world.now.history known.new }
+{
+    let mut rows = taken(alloc, world, ready)?;
+    let found = first_begin(alloc, world, &mut rows, known);
+    *ready = Some(rows);
+    found
+}
+
 /// The next move where no pass is open, no role is behind and a step that is left waits for rest.
 fn first_to_begin(
     alloc: Global,
     world: &World,
     left: bool,
-    ready: &mut Ready,
+    ready: &mut Option<Ready>,
     known: &mut Known,
 ) -> Result<Option<Move>, AllocError>
     requires left { IsLeft (setting_of world.now.scenario) world.now.history left }
     requires closed { HasNoPass (setting_of world.now.scenario) world.now.history }
     requires told { HasNoDelivery (setting_of world.now.scenario) world.now.history }
-    requires covers { Covers (setting_of world.now.scenario) world.now.history ready.old }
+    requires covers { IfSome ready.old (Covers (setting_of world.now.scenario) world.now.history) }
     requires before { Knows (setting_of world.now.scenario) world.now.history known.old }
     ensures plain { IfOk result (λ m. IsPlainMove (setting_of world.now.scenario) world.now.history m) }
-    ensures covers { Covers (setting_of world.now.scenario) world.now.history ready.new }
+    ensures covers { IfSome ready.new (Covers (setting_of world.now.scenario) world.now.history) }
     ensures after { Knows (setting_of world.now.scenario) world.now.history known.new }
 {
     world.is_run();
@@ -46,7 +77,7 @@ fn first_to_begin(
     if rests_in_each(alloc, world, known)? {
         return Ok(at_rest(left));
     }
-    match first_begin(alloc, world, ready, known)? {
+    match begin_by(alloc, world, ready, known)? {
         Some(Beginning { role, key }) => Ok(Some(Move::Begin { role, key })),
         None => unreachable!(),
     }
@@ -57,14 +88,14 @@ fn first_of_roles(
     alloc: Global,
     world: &World,
     left: bool,
-    ready: &mut Ready,
+    ready: &mut Option<Ready>,
     known: &mut Known,
 ) -> Result<Option<Move>, AllocError>
     requires left { IsLeft (setting_of world.now.scenario) world.now.history left }
-    requires covers { Covers (setting_of world.now.scenario) world.now.history ready.old }
+    requires covers { IfSome ready.old (Covers (setting_of world.now.scenario) world.now.history) }
     requires before { Knows (setting_of world.now.scenario) world.now.history known.old }
     ensures plain { IfOk result (λ m. IsPlainMove (setting_of world.now.scenario) world.now.history m) }
-    ensures covers { Covers (setting_of world.now.scenario) world.now.history ready.new }
+    ensures covers { IfSome ready.new (Covers (setting_of world.now.scenario) world.now.history) }
     ensures after { Knows (setting_of world.now.scenario) world.now.history known.new }
 {
     if let Some(going) = first_pass(world) {
@@ -93,13 +124,13 @@ fn first_of_roles(
 pub(crate) fn plain_by(
     alloc: Global,
     world: &World,
-    ready: &mut Ready,
+    ready: &mut Option<Ready>,
     known: &mut Known,
 ) -> Result<Option<Move>, AllocError>
-    requires covers { Covers (setting_of world.now.scenario) world.now.history ready.old }
+    requires covers { IfSome ready.old (Covers (setting_of world.now.scenario) world.now.history) }
     requires before { Knows (setting_of world.now.scenario) world.now.history known.old }
     ensures plain { IfOk result (λ m. IsPlainMove (setting_of world.now.scenario) world.now.history m) }
-    ensures covers { Covers (setting_of world.now.scenario) world.now.history ready.new }
+    ensures covers { IfSome ready.new (Covers (setting_of world.now.scenario) world.now.history) }
     ensures after { Knows (setting_of world.now.scenario) world.now.history known.new }
 {
     match awaited(world) {
@@ -121,7 +152,7 @@ pub(crate) fn plain_by(
 pub fn plain(alloc: Global, world: &World) -> Result<Option<Move>, AllocError>
     ensures { IfOk result (λ m. IsPlainMove (setting_of world.now.scenario) world.now.history m) }
 {
-    let mut ready = all_ready(alloc, world)?;
+    let mut ready = None;
     let mut known = Known::new(alloc, world)?;
     plain_by(alloc, world, &mut ready, &mut known)
 }

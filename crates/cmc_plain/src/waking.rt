@@ -5,7 +5,7 @@
 //! made, those are made ready that it may wake; and a key is ready no more once a search comes to it and finds that the
 //! role has nothing to do on it and sees what it saw, or once a pass begins on a key with nothing to do.
 ghost use Rattle.std.specs.Option.{option_copied};
-ghost use Rattle.std.specs.Prelude.{◌≡◌, ◌≤◌, ◌↔◌, ℕ, IsTrue, IfOk, OnOk, OnErr, [], true, false};
+ghost use Rattle.std.specs.Prelude.{◌≡◌, ◌≤◌, ◌↔◌, ℕ, IsTrue, IfOk, IfSome, OnOk, OnErr, [], true, false};
 ghost use Rattle.cmc_meta.specs.declared.key.Key.{Key as KeyValue};
 ghost use Rattle.cmc_model.specs.Writes.{is_known, last_of_kind, writes};
 ghost use Rattle.cmc_caches.specs.Affected.{is_among};
@@ -19,7 +19,7 @@ ghost use Rattle.cmc_plain.specs.Next.{IsNextDelivery, IsNextScript};
 ghost use Rattle.cmc_plain.specs.Plain.{IsPlainMove};
 ghost use Rattle.cmc_plain.specs.Ready as spec;
 ghost use Rattle.cmc_plain.specs.Searches.{FindsFirst, HasWorkAbove};
-ghost use Rattle.cmc_plain.specs.Ready.{Covers, Forgets, HasKnown, Idles, IsAsleepOn, IsIdleBegin, IsToNewest, Keeps, KnowsLess, LeavesQuiet, SeesSame, Wakes, WakesTold, is_ready};
+ghost use Rattle.cmc_plain.specs.Ready.{Covers, Forgets, HasKnown, Idles, IsAsleepOn, IsIdleBegin, IsReadyScript, IsToNewest, Keeps, KeepsIf, KnowsLess, LeavesQuiet, SeesSame, Wakes, WakesTold, is_ready};
 
 use crate::begins::Beginning;
 use crate::choosing::plain_by;
@@ -45,20 +45,23 @@ use std::marker::Model;
 #[derive(Drop)]
 pub struct Waking {
     world: World,
-    ready: Ready,
+    /// The keys that are ready, from the first search of the plain order for a begin on. Many hands begin only where there
+    /// is something to do, and need none.
+    ready: Option<Ready>,
     /// On which keys each role may have something to do, and on which it is known to have.
     known: Known,
 }
 
 impl Model for Waking {
     ghost use Rattle.cmc_world.specs.Kept.{Seen, setting_of};
+    ghost use Rattle.std.specs.Prelude.{IfSome};
     ghost use Rattle.cmc_plain.specs.Ready.{Covers, Knows};
 
     ghost Value = { Seen };
 
     ghost view = { λ w. w.world };
 
-    ghost invariant = { λ w. Covers (setting_of w.world.scenario) w.world.history w.ready × Knows (setting_of w.world.scenario) w.world.history w.known };
+    ghost invariant = { λ w. IfSome w.ready (Covers (setting_of w.world.scenario) w.world.history) × Knows (setting_of w.world.scenario) w.world.history w.known };
 }
 
 /// Makes the key ready for the role.
@@ -66,9 +69,6 @@ fn wake(ready: &mut Ready, role: Role, key: &Key) -> Result<(), AllocError>
     ensures keeps { Keeps ready.old ready.new }
     ensures wakes { OnOk result (is_ready ready.new role key.now ≡ true) }
 {
-    if ready.keys(role).contains(key) {
-        return Ok(());
-    }
     ready.add(role, key.copy()?)
 }
 
@@ -156,44 +156,66 @@ pub(crate) fn wake_keys(ready: &mut Ready, role: Role, keys: &[Key]) -> Result<(
     Ok(())
 }
 
+/// Makes each of the keys ready for the role, where keys are kept.
+fn wake_kept(ready: &mut Option<Ready>, role: Role, keys: &[Key]) -> Result<(), AllocError>
+    ensures keeps { KeepsIf ready.old ready.new }
+    ensures wakes { OnOk result (IfSome ready.new (λ rows. (k : KeyValue) → is_among keys.now k ≡ true → is_ready rows role k ≡ true)) }
+{
+    match ready {
+        Some(ready) => wake_keys(ready, role, keys),
+        None => Ok(()),
+    }
+}
+
+/// Makes those keys ready that the next step of the script may wake, where keys are kept.
+fn wake_kept_for_script(world: &World, ready: &mut Option<Ready>) -> Result<(), AllocError>
+    ensures keeps { KeepsIf ready.old ready.new }
+    ensures wakes { OnOk result (IfSome ready.new (Wakes (setting_of world.now.scenario) world.now.history moves.Script)) }
+{
+    match ready {
+        Some(ready) => wake_for_script(world, ready),
+        None => Ok(()),
+    }
+}
+
 /// Makes those keys ready, and wakes them, of which the role may see something new once it is told of all writes of the kind.
 fn wake_told(
     alloc: Global,
     world: &World,
-    ready: &mut Ready,
+    ready: &mut Option<Ready>,
     known: &mut Known,
     role: Role,
     kind: Kind,
 ) -> Result<(), AllocError>
     requires { has_informer role kind ≡ true }
-    ensures keeps { Keeps ready.old ready.new }
-    ensures wakes { OnOk result ((to : ℕ) → last_of_kind kind (writes (setting_of world.now.scenario) world.now.history) ≤ to → WakesTold (setting_of world.now.scenario) world.now.history role kind to ready.new) }
+    ensures keeps { KeepsIf ready.old ready.new }
+    ensures wakes { OnOk result ((to : ℕ) → last_of_kind kind (writes (setting_of world.now.scenario) world.now.history) ≤ to → IfSome ready.new (WakesTold (setting_of world.now.scenario) world.now.history role kind to)) }
     ensures less { KnowsLess known.old known.new }
     ensures forgets { OnOk result ((to : ℕ) → last_of_kind kind (writes (setting_of world.now.scenario) world.now.history) ≤ to → Forgets (setting_of world.now.scenario) world.now.history (moves.Deliver role kind to) known.new) }
 {
     let keys = affected(alloc, world, role, kind)?;
     known.wake(role, &keys)?;
-    wake_keys(ready, role, &keys)
+    wake_kept(ready, role, &keys)
 }
 
 /// Makes those keys ready, and wakes them, on which the move may change what a role has to do or to see.
 fn wake_for(
     alloc: Global,
     world: &World,
-    ready: &mut Ready,
+    ready: &mut Option<Ready>,
     known: &mut Known,
     step: &Move,
 ) -> Result<(), AllocError>
     requires { IsToNewest (setting_of world.now.scenario) world.now.history step.now }
-    ensures keeps { Keeps ready.old ready.new }
-    ensures wakes { OnOk result (Wakes (setting_of world.now.scenario) world.now.history step.now ready.new) }
+    ensures keeps { KeepsIf ready.old ready.new }
+    ensures wakes { OnOk result (IfSome ready.new (Wakes (setting_of world.now.scenario) world.now.history step.now)) }
     ensures less { KnowsLess known.old known.new }
     ensures forgets { OnOk result (Forgets (setting_of world.now.scenario) world.now.history step.now known.new) }
 {
     match step {
         Move::Script => {
             known.wake_for_script(alloc, world)?;
-            wake_for_script(world, ready)
+            wake_kept_for_script(world, ready)
         }
         Move::Deliver { role, kind, to: _ } => wake_told(alloc, world, ready, known, *role, *kind),
         Move::Begin { .. } | Move::Next { .. } | Move::Give { .. } | Move::Decide { .. } => Ok(()),
@@ -225,14 +247,14 @@ fn idle_begin(known: &Known, step: &Move) -> Result<Option<Beginning>, AllocErro
 fn make_ready(
     alloc: Global,
     world: &World,
-    ready: &mut Ready,
+    ready: &mut Option<Ready>,
     known: &mut Known,
     step: &Move,
 ) -> Result<Option<Beginning>, AllocError>
     requires { IsToNewest (setting_of world.now.scenario) world.now.history step.now }
     ensures begun { IfOk result (λ b. IsIdleBegin known.old step.now b) }
-    ensures keeps { Keeps ready.old ready.new }
-    ensures wakes { OnOk result (Wakes (setting_of world.now.scenario) world.now.history step.now ready.new) }
+    ensures keeps { KeepsIf ready.old ready.new }
+    ensures wakes { OnOk result (IfSome ready.new (Wakes (setting_of world.now.scenario) world.now.history step.now)) }
     ensures less { KnowsLess known.old known.new }
     ensures forgets { OnOk result (Forgets (setting_of world.now.scenario) world.now.history step.now known.new) }
 {
@@ -241,18 +263,75 @@ fn make_ready(
     Ok(begun)
 }
 
+/// Lets the key, which is quiet, be ready for the role no more, where keys are kept.
+fn leave_kept(world: &World, ready: &mut Option<Ready>, role: Role, key: &Key)
+    requires covers { IfSome ready.old (Covers (setting_of world.now.scenario) world.now.history) }
+    requires quiet { IsQuiet (setting_of world.now.scenario) world.now.history role key.now }
+    ensures { IfSome ready.new (Covers (setting_of world.now.scenario) world.now.history) }
+{
+    world.is_run();
+    if let Some(ready) = ready {
+        ready.remove(role, key);
+    }
+}
+
 /// After a move that was answered so: the key of a pass that began with nothing to do is ready no more.
-fn leave_begun(world: &World, ready: &mut Ready, begun: Option<Beginning>, answer: &Stepped)
-    requires covers { Covers (setting_of world.now.scenario) world.now.history ready.old }
+fn leave_begun(
+    world: &World,
+    ready: &mut Option<Ready>,
+    begun: Option<Beginning>,
+    answer: &Stepped,
+)
+    requires covers { IfSome ready.old (Covers (setting_of world.now.scenario) world.now.history) }
     requires quiet { LeavesQuiet (setting_of world.now.scenario) world.now.history begun answer.now }
-    ensures { Covers (setting_of world.now.scenario) world.now.history ready.new }
+    ensures { IfSome ready.new (Covers (setting_of world.now.scenario) world.now.history) }
 {
     let Some(Beginning { role, key }) = begun else {
         return;
     };
     if answer.is_done() {
-        ready.remove(role, &key);
+        leave_kept(world, ready, role, &key);
     }
+}
+
+/// Whether the move is the next step of the script, and it is known that this waits no longer. What is found is known from
+/// then on. An error is one of memory.
+fn is_known_ready(
+    alloc: Global,
+    world: &World,
+    known: &mut Known,
+    step: &Move,
+) -> Result<bool, AllocError>
+    requires before { Knows (setting_of world.now.scenario) world.now.history known.old }
+    ensures ready { IfOk result (λ b. b ≡ true → IsReadyScript (setting_of world.now.scenario) world.now.history step.now) }
+    ensures after { Knows (setting_of world.now.scenario) world.now.history known.new }
+{
+    match step {
+        Move::Script => is_step_ready(alloc, world, known),
+        _ => Ok(false),
+    }
+}
+
+/// Makes the move, as `World::step` does. Where it is a step of the script that is known to wait no longer, the world does
+/// not look for that.
+fn make_move(
+    alloc: Global,
+    world: &mut World,
+    step: Move,
+    ready: bool,
+) -> Result<Stepped, AllocError>
+    requires { ready ≡ true → IsReadyScript (setting_of world.old.scenario) world.old.history step }
+    ensures answer { IfOk result (λ r. Answers (setting_of world.old.scenario) world.old.history step r) }
+    ensures leaves { IfOk result (λ r. Leaves (setting_of world.old.scenario) world.old.history step r world.new.history) }
+    ensures scenario { world.new.scenario ≡ world.old.scenario }
+    ensures run { IsRun (setting_of world.new.scenario) world.new.history }
+    ensures err { OnErr result (world.new ≡ world.old) }
+{
+    if ready {
+        let_go(step);
+        return world.perform(alloc);
+    }
+    world.step(alloc, step)
 }
 
 /// The keys that accepted writes named, all of them ready.
@@ -271,7 +350,7 @@ pub(crate) fn all_ready(alloc: Global, world: &World) -> Result<Ready, AllocErro
 }
 
 impl Waking {
-    /// The world of the scenario before its first step, with no key ready.
+    /// The world of the scenario before its first step.
     ///
     /// # Errors
     ///
@@ -280,11 +359,10 @@ impl Waking {
         ensures { IfOk result (λ w. w ≡ record { scenario = scenario; history = [] }) }
     {
         let world = World::new(alloc, scenario)?;
-        let ready = all_ready(alloc, &world)?;
         let known = Known::new(alloc, &world)?;
         Ok(Waking {
             world,
-            ready,
+            ready: None,
             known,
         })
     }
@@ -395,6 +473,13 @@ impl Waking {
         ensures err { OnErr result (self.new ≡ self.old) }
     {
         self.world.is_run();
+        let at_once = match is_known_ready(alloc, &self.world, &mut self.known, &step) {
+            Ok(at_once) => at_once,
+            Err(lack) => {
+                let_go(step);
+                return Err(lack);
+            }
+        };
         let (ready, known) = (&mut self.ready, &mut self.known);
         let begun = match make_ready(alloc, &self.world, ready, known, &step) {
             Ok(begun) => begun,
@@ -403,7 +488,7 @@ impl Waking {
                 return Err(lack);
             }
         };
-        let answer = self.world.step(alloc, step)?;
+        let answer = make_move(alloc, &mut self.world, step, at_once)?;
         leave_begun(&self.world, &mut self.ready, begun, &answer);
         Ok(answer)
     }

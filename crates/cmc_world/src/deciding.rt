@@ -65,6 +65,7 @@ impl World {
         let doing = first_doing(decided.act().copy()?)?;
         let entries = self.history.len();
         if !has_room(entries, self.scenario.events(), 1) {
+            let_go(doing);
             return Ok(Judged::Answer(Stepped::Spent { entries }));
         }
         Ok(Judged::Does(doing))

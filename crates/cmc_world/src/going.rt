@@ -29,12 +29,13 @@ use cmc_rules::{Ending, OpenPass, Origin, Stage};
 use cmc_store::Replied;
 use std::alloc::{AllocError, Global};
 
-/// What a call of a pass needs to know of the pass, and the key that it names.
+/// A call of a pass, with what it needs to know of the pass, and the key that it names.
 pub(crate) struct Calling {
     pub role: Role,
     pub key: Key,
     pub named: Key,
     pub stand_in: bool,
+    pub call: Call,
 }
 
 impl Drop for Calling {
@@ -44,7 +45,24 @@ impl Drop for Calling {
             key: _key,
             named: _named,
             stand_in: _stand_in,
+            call,
         } = self;
+        let_go(call);
+    }
+}
+
+impl Calling {
+    fn into_call(self) -> Call
+        ensures { result ≡ self.call }
+    {
+        let Calling {
+            role: _role,
+            key: _key,
+            named: _named,
+            stand_in: _stand_in,
+            call,
+        } = self;
+        call
     }
 }
 
@@ -75,10 +93,13 @@ pub(crate) struct Taking {
 impl Drop for Taking {
     fn drop(self) {
         let Taking {
-            order: _order,
-            value: _value,
-            entry: _entry,
+            order,
+            value,
+            entry,
         } = self;
+        let_go(order);
+        let_go(value);
+        let_go(entry);
     }
 }
 
@@ -90,14 +111,26 @@ impl Taking {
         ensures entry { IfOk result (λ t. t.entry ≡ value_entry pass (value_of given)) }
         ensures right { IfOk result (λ _. IsValue (order_of given) (value_of given)) }
     {
-        let order = given.order()?;
+        let order = match given.order() {
+            Ok(order) => order,
+            Err(lack) => {
+                let_go(given);
+                return Err(lack);
+            }
+        };
         let value = given.into_value();
-        let entry = value_entry_of(pass, &value)?;
-        Ok(Taking {
-            order,
-            value,
-            entry,
-        })
+        match value_entry_of(pass, &value) {
+            Ok(entry) => Ok(Taking {
+                order,
+                value,
+                entry,
+            }),
+            Err(lack) => {
+                let_go(order);
+                let_go(value);
+                Err(lack)
+            }
+        }
     }
 
     fn into_parts(self) -> (Order, Value, Entry)
@@ -114,19 +147,73 @@ impl Taking {
     }
 }
 
-/// What the call of the open pass needs to know of it. An error is one of memory.
-fn calling_of(current: &OpenPass, call: &Call) -> Result<Calling, AllocError>
+/// A question, and the same once more for the pass that waits for its value.
+pub(crate) struct Asking {
+    pub order: Order,
+    pub kept: Order,
+}
+
+impl Drop for Asking {
+    fn drop(self) {
+        let Asking { order, kept } = self;
+        let_go(order);
+        let_go(kept);
+    }
+}
+
+impl Asking {
+    /// An error is one of memory.
+    fn of(order: Order) -> Result<Asking, AllocError>
+        ensures order { IfOk result (λ a. a.order ≡ order) }
+        ensures kept { IfOk result (λ a. a.kept ≡ order) }
+    {
+        match order.copy() {
+            Ok(kept) => Ok(Asking { order, kept }),
+            Err(lack) => {
+                let_go(order);
+                Err(lack)
+            }
+        }
+    }
+
+    fn into_parts(self) -> (Order, Order)
+        ensures order { result.0 ≡ self.order }
+        ensures kept { result.1 ≡ self.kept }
+    {
+        let Asking { order, kept } = self;
+        (order, kept)
+    }
+}
+
+/// The key of the open pass, and that which the call names. An error is one of memory.
+fn keys_of(current: &OpenPass, call: &Call) -> Result<(Key, Key), AllocError>
+    ensures key { IfOk result (λ k. k.0 ≡ current.now.key) }
+    ensures named { IfOk result (λ k. k.1 ≡ replies.key_of_call call.now) }
+{
+    Ok((current.key.copy()?, key_of_call(call)?))
+}
+
+/// The call of the open pass, with what it needs to know of that. An error is one of memory.
+fn calling_of(current: &OpenPass, call: Call) -> Result<Calling, AllocError>
     ensures role { IfOk result (λ c. c.role ≡ current.now.role) }
     ensures key { IfOk result (λ c. c.key ≡ current.now.key) }
-    ensures named { IfOk result (λ c. c.named ≡ replies.key_of_call call.now) }
-    ensures stand_in { IfOk result (λ c. c.stand_in ≡ spec.writes_stand_in call.now) }
+    ensures named { IfOk result (λ c. c.named ≡ replies.key_of_call call) }
+    ensures stand_in { IfOk result (λ c. c.stand_in ≡ spec.writes_stand_in call) }
+    ensures call { IfOk result (λ c. c.call ≡ call) }
 {
-    Ok(Calling {
-        role: current.role,
-        key: current.key.copy()?,
-        named: key_of_call(call)?,
-        stand_in: writes_stand_in(call),
-    })
+    match keys_of(current, &call) {
+        Ok((key, named)) => Ok(Calling {
+            role: current.role,
+            key,
+            named,
+            stand_in: writes_stand_in(&call),
+            call,
+        }),
+        Err(lack) => {
+            let_go(call);
+            Err(lack)
+        }
+    }
 }
 
 impl World {
@@ -175,6 +262,7 @@ impl World {
         let doing = self.doing(alloc, pass, current)?;
         let entries = self.history.len();
         if !has_room(entries, self.scenario.events(), 1) {
+            let_go(doing);
             return Ok(Judged::Answer(Stepped::Spent { entries }));
         }
         Ok(Judged::Does(doing))
@@ -256,9 +344,10 @@ impl World {
         }
     }
 
-    fn calling(&self, pass: u64, call: &Call) -> Result<Calling, AllocError>
+    fn calling(&self, pass: u64, call: Call) -> Result<Calling, AllocError>
         requires { IsOpen (spec.open_pass (setting_of self.now.scenario) self.now.history pass) }
-        ensures { IfOk result (λ c. IsCalling (setting_of self.now.scenario) self.now.history pass call.now c) }
+        ensures calling { IfOk result (λ c. IsCalling (setting_of self.now.scenario) self.now.history pass call c) }
+        ensures call { IfOk result (λ c. c.call ≡ call) }
     {
         match self.passes.get(pass) {
             Some(open) => calling_of(open, call),
@@ -274,11 +363,11 @@ impl World {
         ensures err { OnErr result (self.new ≡ self.old) }
     {
         self.is_short();
-        let calling = self.calling(pass, &call)?;
+        let calling = self.calling(pass, call)?;
         self.history.reserve(1)?;
         self.log.reserve(1)?;
         self.pasts.ready(calling.role, &calling.key)?;
-        let replied = self.store.call(alloc, self.moment, &call)?;
+        let replied = self.store.call(alloc, self.moment, &calling.call)?;
         let entry = self.history.len() + 1;
         let stage = stage_of(
             &self.passes,
@@ -304,7 +393,7 @@ impl World {
         log_write(&mut self.log, key, object);
         self.history.push(Entry::Call {
             who: Who::Pass(pass),
-            call,
+            call: calling.into_call(),
             reply,
         });
         Ok(())
@@ -348,9 +437,10 @@ impl World {
         ensures err { OnErr result (self.new ≡ self.old) }
     {
         self.is_short();
+        let asking = Asking::of(order)?;
         self.history.reserve(1)?;
-        let kept = order.copy()?;
-        self.questions.note(&order)?;
+        self.questions.note(&asking.order)?;
+        let (order, kept) = asking.into_parts();
         self.passes.advance(pass, Stage::Asked { order: kept });
         self.history.push(Entry::Ask { pass, order });
         Ok(())
@@ -407,8 +497,13 @@ impl World {
                 return Err(lack);
             }
         };
-        self.go_on(alloc, pass, doing)?;
-        Ok(answer)
+        match self.go_on(alloc, pass, doing) {
+            Ok(()) => Ok(answer),
+            Err(lack) => {
+                let_go(answer);
+                Err(lack)
+            }
+        }
     }
 
     pub(crate) fn step_next(
@@ -439,8 +534,15 @@ impl World {
         ensures leaves { IfOk result (λ r. Leaves (setting_of self.old.scenario) self.old.history (moves.Give pass named given) r self.new.history) }
         ensures err { OnErr result (self.new ≡ self.old) }
     {
-        let answer = self.judge_give(pass, named, &given)?;
+        let answer = match self.judge_give(pass, named, &given) {
+            Ok(answer) => answer,
+            Err(lack) => {
+                let_go(given);
+                return Err(lack);
+            }
+        };
         if !answer.is_done() {
+            let_go(given);
             return Ok(answer);
         }
         let_go(answer);

@@ -396,19 +396,28 @@ impl World {
         self.scenario.script().get(self.made as usize)
     }
 
-    /// What the next step, which is this one, is answered now.
-    fn judge_step(&self, alloc: Global, step: &Step) -> Result<Stepped, AllocError>
-        requires { scripting.step_at self.now.scenario.script (scripting.scripted self.now.history + 1) ≡ Some step.now }
-        ensures { IfOk result (λ a. AnswersScript (setting_of self.now.scenario) self.now.history a) }
+    /// What the next step, which is this one, is answered now, where it waits or waits no longer.
+    fn judge_known(&self, step: &Step, ready: bool) -> Stepped
+        requires next { scripting.step_at self.now.scenario.script (scripting.scripted self.now.history + 1) ≡ Some step.now }
+        requires ready { IsTrue ready ↔ following.IsReady (setting_of self.now.scenario) self.now.history (Some step.now) }
+        ensures { AnswersScript (setting_of self.now.scenario) self.now.history result }
     {
-        let ready = self.is_ready(alloc, step)?;
         let entries = self.history.len();
         let room = has_room(
             entries,
             self.scenario.events(),
             entries_needed(&self.store, step),
         );
-        Ok(answer_script(true, ready, entries, room))
+        answer_script(true, ready, entries, room)
+    }
+
+    /// What the next step, which is this one, is answered now.
+    fn judge_step(&self, alloc: Global, step: &Step) -> Result<Stepped, AllocError>
+        requires { scripting.step_at self.now.scenario.script (scripting.scripted self.now.history + 1) ≡ Some step.now }
+        ensures { IfOk result (λ a. AnswersScript (setting_of self.now.scenario) self.now.history a) }
+    {
+        let ready = self.is_ready(alloc, step)?;
+        Ok(self.judge_known(step, ready))
     }
 
     /// What the next step of the script is answered now.
@@ -422,6 +431,17 @@ impl World {
         match self.next_step() {
             Some(step) => self.judge_step(alloc, step),
             None => Ok(Stepped::NotNow(Lack::ScriptOver)),
+        }
+    }
+
+    /// What the next step of the script, which waits no longer, is answered now.
+    pub(crate) fn judge_ready(&self) -> Stepped
+        requires { following.IsReady (setting_of self.now.scenario) self.now.history (scripting.step_at self.now.scenario.script (scripting.scripted self.now.history + 1)) }
+        ensures { AnswersScript (setting_of self.now.scenario) self.now.history result }
+    {
+        match self.next_step() {
+            Some(step) => self.judge_known(step, true),
+            None => Stepped::NotNow(Lack::ScriptOver),
         }
     }
 }

@@ -394,6 +394,30 @@ impl World {
         }
     }
 
+    /// Makes the next step of the script, where this is the answer to it and says so.
+    ///
+    /// # Errors
+    ///
+    /// Want of memory alone.
+    pub(crate) fn make_answered(
+        &mut self,
+        alloc: Global,
+        answer: Stepped,
+    ) -> Result<Stepped, AllocError>
+        requires { spec.AnswersScript (setting_of self.old.scenario) self.old.history answer }
+        ensures answer { IfOk result (λ r. spec.AnswersScript (setting_of self.old.scenario) self.old.history r) }
+        ensures scenario { self.new.scenario ≡ self.old.scenario }
+        ensures leaves { IfOk result (λ r. spec.Leaves (setting_of self.old.scenario) self.old.history moves.Script r self.new.history) }
+        ensures err { OnErr result (self.new ≡ self.old) }
+    {
+        if !answer.is_done() {
+            return Ok(answer);
+        }
+        let_go(answer);
+        self.make_step(alloc)?;
+        Ok(Stepped::Done)
+    }
+
     /// Makes the next step of the script, where it is possible now.
     ///
     /// # Errors
@@ -406,11 +430,6 @@ impl World {
         ensures err { OnErr result (self.new ≡ self.old) }
     {
         let answer = self.judge_script(alloc)?;
-        if !answer.is_done() {
-            return Ok(answer);
-        }
-        let_go(answer);
-        self.make_step(alloc)?;
-        Ok(Stepped::Done)
+        self.make_answered(alloc, answer)
     }
 }

@@ -19,6 +19,9 @@ ghost use Rattle.cmc_safety.specs.Standing.{IsInOrder};
 ghost use Rattle.cmc_world.specs.Kept.{setting_of};
 ghost use Rattle.cmc_world.specs.Leading.{Lead, Extends};
 ghost use Rattle.cmc_moves.specs.declared.moves.Move.{Move as MoveValue};
+ghost use Rattle.cmc_moves.specs.declared.moves.Move.TheVariants as moves;
+ghost use Rattle.cmc_rules.specs.Following.{IsReady};
+ghost use Rattle.cmc_rules.specs.Scripting.{scripted, step_at};
 
 use cmc_caches::Caches;
 use cmc_held::{Log, Origins, Passes, Pasts, Questions, Standings};
@@ -280,6 +283,29 @@ impl World {
     {
         self.is_run();
         let answer = self.make(alloc, step)?;
+        self.is_run();
+        Ok(answer)
+    }
+
+    /// Makes the next step of the script, which is known to wait no longer, as `step` does, and answers as it does. Whether
+    /// all is at rest takes a look at each key of each role; who has just found it need not ask again.
+    ///
+    /// # Errors
+    ///
+    /// Want of memory alone, which leaves the world as it was.
+    pub fn perform(&mut self, alloc: Global) -> Result<Stepped, AllocError>
+        requires { IsReady (setting_of self.old.scenario) self.old.history (step_at self.old.scenario.script (scripted self.old.history + 1)) }
+        ensures answer { IfOk result (λ r. Answers (setting_of self.old.scenario) self.old.history moves.Script r) }
+        ensures leaves { IfOk result (λ r. Leaves (setting_of self.old.scenario) self.old.history moves.Script r self.new.history) }
+        ensures scenario { self.new.scenario ≡ self.old.scenario }
+        ensures run { IsRun (setting_of self.new.scenario) self.new.history }
+        ensures rights { KeepsRights (setting_of self.new.scenario) self.new.history }
+        ensures safe { IsSafe (setting_of self.new.scenario) self.new.history }
+        ensures err { OnErr result (self.new ≡ self.old) }
+    {
+        self.is_run();
+        let answer = self.judge_ready();
+        let answer = self.make_answered(alloc, answer)?;
         self.is_run();
         Ok(answer)
     }

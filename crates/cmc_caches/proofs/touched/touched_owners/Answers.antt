@@ -1,10 +1,9 @@
-use Rattle.std.proofs.Common.{◌+◌, ◌++◌, arith, inl, refl, ap, ◌∙◌}
-use Rattle.std.specs.Prelude.{if◌then◌else◌}
+use Rattle.std.proofs.Common.{◌+◌, arith, inl, refl, subst}
 use Rattle.cmc_model.specs.declared.write.Write.{Write}
 use Rattle.cmc_model.specs.Objects.{Objects, object_at}
 use Rattle.cmc_model.specs.Writes.{kind_eq}
 use Rattle.cmc_model.proofs.Writes.{contents_of-next}
-use Rattle.cmc_caches.specs.Affected.{left_by, owners_of}
+use Rattle.cmc_caches.specs.Affected.{AddsOwners, left_by}
 use Rattle.cmc_caches.proofs.Touching.{foreign_more}
 use Rattle.cmc_caches.proofs.touched.touched_owners.Goals as goal
 
@@ -17,4 +16,4 @@ loop-place-preserved c =
     let next = contents_of-next c.args.kind c.args.writes.now c.loop-place.place w (omega (arith, c.loop-place-test.true, c.requires.within)) in
     foreign_more (kind_eq w.key.kind c.args.kind) (left_by c.args.writes.now c.args.kind c.args.from) (left_by c.args.writes.now c.args.kind c.loop-place.place) (left_by c.args.writes.now c.args.kind (c.loop-place.place + 1)) c.loop-place.uids c.add_owners_of_kind.new.uids w.key w.object
     (rw c.index-writes-place.is next)
-    (c.in_ok-add_owners_of_kind.ensures ∙ ap (λ (m : Objects). if kind_eq w.key.kind c.args.kind then c.loop-place.uids ++ (owners_of (object_at m w.key) ++ owners_of w.object) else c.loop-place.uids) c.requires.holds) c.loop-place.invariant
+    (λ is. subst (λ (m : Objects). AddsOwners (object_at m w.key) w.object c.loop-place.uids c.add_owners_of_kind.new.uids) c.requires.holds (c.in_ok-add_owners_of_kind.ensures.hit is)) c.in_ok-add_owners_of_kind.ensures.miss c.loop-place.invariant
