@@ -197,8 +197,8 @@ fn keys_of(current: &OpenPass, call: &Call) -> Result<(Key, Key), AllocError>
 fn calling_of(current: &OpenPass, call: Call) -> Result<Calling, AllocError>
     ensures role { IfOk result (λ c. c.role ≡ current.now.role) }
     ensures key { IfOk result (λ c. c.key ≡ current.now.key) }
-    ensures named { IfOk result (λ c. c.named ≡ replies.key_of_call call) }
-    ensures stand_in { IfOk result (λ c. c.stand_in ≡ spec.writes_stand_in call) }
+    ensures named { IfOk result (λ c. c.named ≡ replies.key_of_call c.call) }
+    ensures stand_in { IfOk result (λ c. c.stand_in ≡ spec.writes_stand_in c.call) }
     ensures call { IfOk result (λ c. c.call ≡ call) }
 {
     match keys_of(current, &call) {
@@ -346,7 +346,7 @@ impl World {
 
     fn calling(&self, pass: u64, call: Call) -> Result<Calling, AllocError>
         requires { IsOpen (spec.open_pass (setting_of self.now.scenario) self.now.history pass) }
-        ensures calling { IfOk result (λ c. IsCalling (setting_of self.now.scenario) self.now.history pass call c) }
+        ensures calling { IfOk result (λ c. IsCalling (setting_of self.now.scenario) self.now.history pass c.call c) }
         ensures call { IfOk result (λ c. c.call ≡ call) }
     {
         match self.passes.get(pass) {

@@ -57,15 +57,15 @@ note_write-requires-clause-room c = counts_fit _ _ _ c.in_ok-calling.calling.rol
 
 pub invariant_of-self-2 : goal.invariant_of-self-2
 invariant_of-self-2 c =
-    rw (c.push.ensures.entries, c.in_ok-reserve.ensures.same, c.into_call.ensures, c.in_ok-calling.ensures.call)
-    (kept_call _ _ _ c.args.pass c.args.call c.in_ok-calling.calling c.in_ok-replied.replied.reply c.in_ok-replied.replied.key c.in_ok-replied.replied.object c.stage_of-stage.result (to_z w64 (of_z w64 c.self.inside.moment)) (c.accepted-version.result + 1) (c.len-entry.result + 1)
+    rw (c.push.ensures.entries, c.in_ok-reserve.ensures.same, c.into_call.ensures)
+    (kept_call _ _ _ c.args.pass c.in_ok-calling.calling.call c.in_ok-calling.calling c.in_ok-replied.replied.reply c.in_ok-replied.replied.key c.in_ok-replied.replied.object c.stage_of-stage.result (to_z w64 (of_z w64 c.self.inside.moment)) (c.accepted-version.result + 1) (c.len-entry.result + 1)
     c.call.new.self.faults c.call.new.self.state c.log_write.new.log.writes (λ r. standing_of c.note_write.new.standings r) (λ n. pass_at c.advance.new.self n) (λ r k. past_at c.note_write.new.pasts r k)
     c.self.invariant
-    (subst (λ (v : Seen). IsCalling (setting_of v.scenario) v.history c.args.pass c.args.call c.in_ok-calling.calling) (sym c.self.view_is) c.in_ok-calling.ensures.calling)
-    (subst (λ (v : Seen). MayCall (setting_of v.scenario) v.history (open_pass (setting_of v.scenario) v.history c.args.pass) c.args.call) (sym c.self.view_is) c.requires.may)
+    (subst (λ (v : Seen). IsCalling (setting_of v.scenario) v.history c.args.pass c.in_ok-calling.calling.call c.in_ok-calling.calling) (sym c.self.view_is) c.in_ok-calling.ensures.calling)
+    (subst (λ (v : Seen). MayCall (setting_of v.scenario) v.history (open_pass (setting_of v.scenario) v.history c.args.pass) c.in_ok-calling.calling.call) (sym c.self.view_is) (rw c.in_ok-calling.ensures.call c.requires.may))
     (subst (λ (v : Seen). length v.history < v.scenario.events) (sym c.self.view_is) c.requires.room)
     (to_z-of_z w64 c.self.inside.moment (search rules))
-    (rw (c.in_ok-calling.ensures.call) at c.in_ok-replied.ensures.reply)
+    c.in_ok-replied.ensures.reply
     (ap (λ (k : Kept). k.faults) c.in_ok-replied.ensures.after)
     (ap (λ (k : Kept). k.state) c.in_ok-replied.ensures.after)
     c.in_ok-replied.ensures.key
