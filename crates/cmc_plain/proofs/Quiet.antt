@@ -1,5 +1,5 @@
 -- A role has nothing to do on a key, or nothing to do and nothing new to see: which moves leave it so.
-use Rattle.std.proofs.Common.{◌≡◌, ℤ, List, ◌∷◌, Option, Some, None, Bool, true, false, tt, absurd, refl, sym, ap, subst, ◌∙◌}
+use Rattle.std.proofs.Common.{◌≡◌, ℤ, List, ◌∷◌, Option, Some, None, Bool, true, false, refl, sym, ap, subst, ◌∙◌}
 use Rattle.std.proofs.lemmas.Bool.{and_parts}
 use Rattle.std.specs.Prelude.{not, ◌&&◌, if◌then◌else◌, option_map, Result, IfOk, IfSome, OnErr}
 use Rattle.std.specs.declared.alloc.AllocError.{AllocError}

@@ -13,13 +13,14 @@ ghost use Rattle.cmc_objects.specs.declared.role.Role.{Role as RoleValue};
 ghost use Rattle.cmc_objects.specs.Watching.{has_informer, kind_of_work};
 ghost use Rattle.cmc_rules.specs.Runs.{IsRun, IsFinished};
 ghost use Rattle.cmc_moves.specs.Answers.{Answers, Leaves};
+ghost use Rattle.cmc_moves.specs.Quiet.{IsQuiet};
 ghost use Rattle.cmc_world.specs.Kept.{setting_of};
 ghost use Rattle.cmc_moves.specs.declared.moves.Move.TheVariants as moves;
 ghost use Rattle.cmc_plain.specs.Next.{IsNextDelivery, IsNextScript};
 ghost use Rattle.cmc_plain.specs.Plain.{IsPlainMove};
 ghost use Rattle.cmc_plain.specs.Ready as spec;
 ghost use Rattle.cmc_plain.specs.Searches.{FindsFirst, HasWorkAbove};
-ghost use Rattle.cmc_plain.specs.Ready.{Covers, Forgets, HasKnown, Idles, IsAsleepOn, IsIdleBegin, IsReadyScript, IsToNewest, Keeps, KeepsIf, KnowsLess, LeavesQuiet, SeesSame, Wakes, WakesTold, is_ready};
+ghost use Rattle.cmc_plain.specs.Ready.{Covers, Forgets, HasKnown, Idles, IsAsleepOn, IsIdleBegin, IsReadyScript, IsToNewest, Keeps, KeepsIf, Knows, KnowsLess, LeavesQuiet, SeesSame, Wakes, WakesTold, is_ready};
 
 use crate::begins::Beginning;
 use crate::choosing::plain_by;
@@ -276,12 +277,7 @@ fn leave_kept(world: &World, ready: &mut Option<Ready>, role: Role, key: &Key)
 }
 
 /// After a move that was answered so: the key of a pass that began with nothing to do is ready no more.
-fn leave_begun(
-    world: &World,
-    ready: &mut Option<Ready>,
-    begun: Option<Beginning>,
-    answer: &Stepped,
-)
+fn leave_begun(world: &World, ready: &mut Option<Ready>, begun: Option<Beginning>, answer: &Stepped)
     requires covers { IfSome ready.old (Covers (setting_of world.now.scenario) world.now.history) }
     requires quiet { LeavesQuiet (setting_of world.now.scenario) world.now.history begun answer.now }
     ensures { IfSome ready.new (Covers (setting_of world.now.scenario) world.now.history) }
