@@ -1,6 +1,6 @@
 use Rattle.cmc_world.specs.Kept.{setting_of}
-use Rattle.cmc_plain.proofs.Knowing.{knows_less, knows_step}
-use Rattle.cmc_plain.proofs.Quiet.{covers_kept, covers_step_kept}
+use Rattle.cmc_plain.proofs.Knowing.{knows_step}
+use Rattle.cmc_plain.proofs.Quiet.{covers_step_kept}
 use Rattle.cmc_plain.proofs.waking.Waking.step.Goals as goal
 
 pub leave_begun-requires-clause-covers : goal.leave_begun-requires-clause-covers
