@@ -1,6 +1,6 @@
 //! What no clause says: which texts are values of a type, as JSON writes them.
 use crate::checks::tells;
-use crate::json::value;
+use crate::json_texts::value;
 use cmc_cursor::{BadField, flag, small_count, texts};
 use serde_json::Value;
 use std::alloc::{AllocError, Global};

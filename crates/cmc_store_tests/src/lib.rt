@@ -16,7 +16,7 @@ mod cursor;
 #[cfg(test)]
 mod history;
 #[cfg(test)]
-mod json;
+mod json_texts;
 #[cfg(test)]
 mod objects_read;
 #[cfg(test)]

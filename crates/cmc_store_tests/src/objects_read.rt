@@ -3,7 +3,7 @@
 use crate::checks::{passes, tells};
 use crate::codec::printed;
 use crate::cursor::path_told;
-use crate::json::{between, value};
+use crate::json_texts::{between, value};
 use cmc_codec::{Applied, applied_of, object_of, print_gives_back, printed_is_read};
 use cmc_cursor::BadField;
 use cmc_objects::Object;

@@ -1,7 +1,7 @@
 //! What no clause says: that a scenario is read, with its defaults, where memory is ample, and which texts are
 //! scenarios and where others fail.
 use crate::checks::{counts, passes, tells};
-use crate::json::{between, value};
+use crate::json_texts::{between, value};
 use cmc_objects::{KeyRow, Role, Rows, Rules, SignRow, Step};
 use cmc_policy_rules::{Pattern, Policy};
 use cmc_scenario::{BadScenario, Roles, Scenario, generate, read, value_of_scenario};
