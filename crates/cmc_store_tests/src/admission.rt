@@ -1,13 +1,15 @@
 //! The admission rules at their bounds, and the store's refusals by them.
 use crate::checks::{counts, passes};
-use crate::store::{Replied, replies};
+use crate::store::{Replied, delete, replies};
 use cmc_admit::{Invalid, admit, is_spec_kept};
-use cmc_meta::{Bytes, Condition, ConditionKind, Conditions, Kind, Numbers, Text, Texts, Tri};
+use cmc_meta::{
+    Bytes, Condition, ConditionKind, Conditions, Numbers, ObjectMeta, Text, Texts, Tri,
+};
 use cmc_objects::{
-    Algorithm, Call, CertStatus, Certificate, CertificateRequest, Object, Parts, Secret,
+    Algorithm, Call, CertSpec, CertStatus, Certificate, CertificateRequest, Object, Parts, Secret,
 };
 use cmc_store::Store;
-use cmc_tests::values::{key, least_spec, name, new_meta, text, texts};
+use cmc_tests::values::{least_spec, name, new_meta, text, texts};
 use cmc_tests::whole::{request, secret};
 use std::alloc::{AllocError, Global};
 use std::process::Abort;
@@ -140,53 +142,78 @@ fn admitted(alloc: Global, word: &str, secret: &str) -> Result<Certificate, Fail
     })
 }
 
-/// Changes names and usages.
-fn change_texts(
+/// Changes the name.
+fn change_name(
     alloc: Global,
-    c: &mut Certificate,
+    meta: &mut ObjectMeta,
+    change: Change,
+    number: u32,
+) -> Result<(), Fail> {
+    if let Change::Name = change {
+        meta.name = name(alloc, long(alloc, number)?.as_str())?;
+    }
+    Ok(())
+}
+
+/// Changes the names that the certificate is for, all but email addresses.
+fn change_names(
+    alloc: Global,
+    spec: &mut CertSpec,
     change: Change,
     number: u32,
 ) -> Result<(), Fail> {
     match change {
-        Change::NoName => c.spec.dns_names = Texts::new(alloc),
-        Change::CommonName => c.spec.common_name = long(alloc, number)?,
-        Change::Name => c.meta.name = name(alloc, long(alloc, number)?.as_str())?,
-        Change::DnsNames => c.spec.dns_names = many(alloc, number)?,
-        Change::Uris => c.spec.uris = many(alloc, number)?,
+        Change::NoName => spec.dns_names = Texts::new(alloc),
+        Change::CommonName => spec.common_name = long(alloc, number)?,
+        Change::DnsNames => spec.dns_names = many(alloc, number)?,
+        Change::Uris => spec.uris = many(alloc, number)?,
+        _ => {}
+    }
+    Ok(())
+}
+
+/// Changes the other texts.
+fn change_texts(
+    alloc: Global,
+    spec: &mut CertSpec,
+    change: Change,
+    number: u32,
+) -> Result<(), Fail> {
+    match change {
         Change::Bytes => {
-            c.spec.common_name = long(alloc, 1)?;
-            c.spec.emails = one(alloc, number)?;
+            spec.common_name = long(alloc, 1)?;
+            spec.emails = one(alloc, number)?;
         }
-        Change::Usages => c.spec.usages = many(alloc, number)?,
-        Change::Usage => c.spec.usages = one(alloc, number)?,
+        Change::Usages => spec.usages = many(alloc, number)?,
+        Change::Usage => spec.usages = one(alloc, number)?,
         _ => {}
     }
     Ok(())
 }
 
 /// Changes numbers.
-fn change_numbers(c: &mut Certificate, change: Change, number: u32) {
+fn change_numbers(spec: &mut CertSpec, change: Change, number: u32) {
     match change {
-        Change::Duration => c.spec.duration = Some(u64::from(number)),
-        Change::RenewBefore => c.spec.renew_before = Some(u64::from(number)),
+        Change::Duration => spec.duration = Some(u64::from(number)),
+        Change::RenewBefore => spec.renew_before = Some(u64::from(number)),
         Change::RenewBeforeOfHour => {
-            c.spec.duration = Some(3_600);
-            c.spec.renew_before = Some(u64::from(number));
+            spec.duration = Some(3_600);
+            spec.renew_before = Some(u64::from(number));
         }
-        Change::RsaSize => c.spec.key.size = Some(number),
+        Change::RsaSize => spec.key.size = Some(number),
         Change::EcdsaSize => {
-            c.spec.key.algorithm = Some(Algorithm::Ecdsa);
-            c.spec.key.size = Some(number);
+            spec.key.algorithm = Some(Algorithm::Ecdsa);
+            spec.key.size = Some(number);
         }
-        Change::HistoryLimit => c.spec.history_limit = Some(number),
+        Change::HistoryLimit => spec.history_limit = Some(number),
         Change::Both => {
-            c.spec.renew_before = Some(300);
-            c.spec.renew_percent = Some(number);
+            spec.renew_before = Some(300);
+            spec.renew_percent = Some(number);
         }
-        Change::Percent => c.spec.renew_percent = Some(number),
+        Change::Percent => spec.renew_percent = Some(number),
         Change::PercentOfHour => {
-            c.spec.duration = Some(3_600);
-            c.spec.renew_percent = Some(number);
+            spec.duration = Some(3_600);
+            spec.renew_percent = Some(number);
         }
         _ => {}
     }
@@ -218,19 +245,33 @@ fn is_rule(rt: &impl Abort, row: &str, rule: u32, want: u32) {
     counts(rt, row, u64::from(rule), u64::from(want));
 }
 
+// The Certificate comes by reference, so that no `?` lets it go.
+fn change_all(alloc: Global, c: &mut Certificate, change: Change, number: u32) -> Result<(), Fail> {
+    change_name(alloc, &mut c.meta, change, number)?;
+    change_names(alloc, &mut c.spec, change, number)?;
+    change_texts(alloc, &mut c.spec, change, number)?;
+    change_numbers(&mut c.spec, change, number);
+    Ok(())
+}
+
 fn changed(alloc: Global, change: Change, number: u32) -> Result<Object, Fail> {
     let mut c = admitted(alloc, "web", "web-tls")?;
-    change_texts(alloc, &mut c, change, number)?;
-    change_numbers(&mut c, change, number);
+    change_all(alloc, &mut c, change, number)?;
     Ok(Object::of_certificate(alloc, c)?)
+}
+
+/// The rules that refuse the changed Certificate, as a new one and by its status.
+fn changed_rules(alloc: Global, change: Change, number: u32) -> Result<(u32, u32), Fail> {
+    let object = changed(alloc, change, number)?;
+    Ok((rule_on(&object), rule_where_taken(&object, true)))
 }
 
 #[test]
 fn each_rule_on_certificates_at_its_bound(rt: HostRuntime) -> Result<(), Fail> {
     for (change, number, rule) in &ROWS {
-        let object = changed(rt.alloc(), *change, *number)?;
-        is_rule(&rt, "new", rule_on(&object), *rule);
-        is_rule(&rt, "status", rule_where_taken(&object, true), 0);
+        let (as_new, as_status) = changed_rules(rt.alloc(), *change, *number)?;
+        is_rule(&rt, "new", as_new, *rule);
+        is_rule(&rt, "status", as_status, 0);
     }
     Ok(())
 }
@@ -238,7 +279,7 @@ fn each_rule_on_certificates_at_its_bound(rt: HostRuntime) -> Result<(), Fail> {
 #[test]
 fn the_rule_on_the_name_of_a_secret(rt: HostRuntime) -> Result<(), Fail> {
     let alloc = rt.alloc();
-    let web = Object::of_certificate(alloc, admitted(alloc, "web", "web-tls")?)?;
+    let web = named(alloc, "web", "web-tls")?;
     is_rule(&rt, "taken", rule_where_taken(&web, false), 7);
     passes(&rt, "kept", is_spec_kept(&web, &web));
     Ok(())
@@ -382,12 +423,17 @@ fn verdict_rules(alloc: Global, old: &Object, verdicts: &Verdicts) -> Result<(u3
     Ok((rule_after(old, &new, true), rule_after(old, &new, false)))
 }
 
+/// The same, where these verdicts stood.
+fn rules_after(alloc: Global, old: &Verdicts, new: &Verdicts) -> Result<(u32, u32), Fail> {
+    let old = judged_object(alloc, old)?;
+    verdict_rules(alloc, &old, new)
+}
+
 #[test]
 fn rules_on_verdicts(rt: HostRuntime) -> Result<(), Fail> {
     let alloc = rt.alloc();
     for (old, new, rule) in &CHANGES {
-        let old = judged_object(alloc, old)?;
-        let (as_status, else_rule) = verdict_rules(alloc, &old, new)?;
+        let (as_status, else_rule) = rules_after(alloc, old, new)?;
         is_rule(&rt, "status", as_status, *rule);
         is_rule(&rt, "spec", else_rule, 0);
     }
@@ -403,15 +449,20 @@ fn of_authority(alloc: Global) -> Result<Object, Fail> {
     Ok(Object::of_request(alloc, request)?)
 }
 
+// The objects come by reference, so that no assertion has one in hand.
+fn keeps_spec(rt: &impl Abort, old: &Object, other: &Object) {
+    is_rule(rt, "changed", rule_after(old, other, false), 8);
+    is_rule(rt, "status", rule_after(old, other, true), 0);
+    is_rule(rt, "new", rule_on(other), 0);
+    passes(rt, "not kept", !is_spec_kept(old, other));
+}
+
 #[test]
 fn the_rule_on_the_spec_of_requests(rt: HostRuntime) -> Result<(), Fail> {
     let alloc = rt.alloc();
     let old = judged_object(alloc, &OPEN)?;
     let other = of_authority(alloc)?;
-    is_rule(&rt, "changed", rule_after(&old, &other, false), 8);
-    is_rule(&rt, "status", rule_after(&old, &other, true), 0);
-    is_rule(&rt, "new", rule_on(&other), 0);
-    passes(&rt, "not kept", !is_spec_kept(&old, &other));
+    keeps_spec(&rt, &old, &other);
     Ok(())
 }
 
@@ -437,33 +488,52 @@ fn typed(alloc: Global, kind: &str, key: bool, certificate: bool) -> Result<Obje
     Ok(Object::of_secret(alloc, secret)?)
 }
 
+fn keeps_type(rt: &impl Abort, opaque: &Object, tls: &Object) {
+    is_rule(rt, "opaque", rule_on(opaque), 0);
+    is_rule(rt, "tls", rule_on(tls), 0);
+    is_rule(rt, "tls again", rule_after(tls, tls, false), 0);
+    is_rule(rt, "now tls", rule_after(opaque, tls, false), 14);
+    is_rule(rt, "now opaque", rule_after(tls, opaque, false), 14);
+    is_rule(rt, "status", rule_after(opaque, opaque, true), 14);
+}
+
 #[test]
 fn the_rule_on_the_type_of_secrets(rt: HostRuntime) -> Result<(), Fail> {
     let alloc = rt.alloc();
     let opaque = typed(alloc, "Opaque", false, false)?;
     let tls = typed(alloc, "kubernetes.io/tls", true, true)?;
-    is_rule(&rt, "opaque", rule_on(&opaque), 0);
-    is_rule(&rt, "tls", rule_on(&tls), 0);
-    is_rule(&rt, "tls again", rule_after(&tls, &tls, false), 0);
-    is_rule(&rt, "now tls", rule_after(&opaque, &tls, false), 14);
-    is_rule(&rt, "now opaque", rule_after(&tls, &opaque, false), 14);
-    is_rule(&rt, "status", rule_after(&opaque, &opaque, true), 14);
+    keeps_type(&rt, &opaque, &tls);
     Ok(())
 }
 
 /// Which of the key and the certificate stand, where not both do.
 static LACKING: [(bool, bool); 3] = [(false, false), (true, false), (false, true)];
 
+/// The rules that refuse a Secret with those of the parts, as a new one and in the place of a whole one.
+fn part_rules(
+    alloc: Global,
+    whole: &Object,
+    key: bool,
+    certificate: bool,
+) -> Result<(u32, u32), Fail> {
+    let part = typed(alloc, "kubernetes.io/tls", key, certificate)?;
+    Ok((rule_on(&part), rule_after(whole, &part, false)))
+}
+
+fn keeps_parts(rt: &impl Abort, alloc: Global, whole: &Object) -> Result<(), Fail> {
+    for (key, certificate) in &LACKING {
+        let (as_new, as_changed) = part_rules(alloc, whole, *key, *certificate)?;
+        is_rule(rt, "new", as_new, 14);
+        is_rule(rt, "changed", as_changed, 14);
+    }
+    Ok(())
+}
+
 #[test]
 fn the_rule_on_the_parts_of_secrets(rt: HostRuntime) -> Result<(), Fail> {
     let alloc = rt.alloc();
-    let tls = typed(alloc, "kubernetes.io/tls", true, true)?;
-    for (key, certificate) in &LACKING {
-        let part = typed(alloc, "kubernetes.io/tls", *key, *certificate)?;
-        is_rule(&rt, "new", rule_on(&part), 14);
-        is_rule(&rt, "changed", rule_after(&tls, &part, false), 14);
-    }
-    Ok(())
+    let whole = typed(alloc, "kubernetes.io/tls", true, true)?;
+    keeps_parts(&rt, alloc, &whole)
 }
 
 /// A Certificate of this name is created with a Secret of that name, or updated at this version, or deleted.
@@ -492,18 +562,11 @@ fn update(alloc: Global, secret: &str, version: u64) -> Result<Call, Fail> {
     })
 }
 
-fn delete(alloc: Global, word: &str) -> Result<Call, Fail> {
-    Ok(Call::Delete {
-        key: key(alloc, Kind::Certificate, word)?,
-        version: None,
-    })
-}
-
 fn call_of(alloc: Global, asked: Asked) -> Result<Call, Fail> {
     match asked {
         Asked::Create(word, secret) => create(alloc, word, secret),
         Asked::Update(secret, version) => update(alloc, secret, version),
-        Asked::Delete(word) => delete(alloc, word),
+        Asked::Delete(word) => delete(alloc, word, None),
     }
 }
 
@@ -530,9 +593,18 @@ fn asks_all(
     rows: &[(Asked, Replied)],
 ) -> Result<(), Fail> {
     for (asked, want) in rows {
-        let call = call_of(alloc, *asked)?;
-        replies(rt, alloc, store, call, want)?;
+        replies(rt, alloc, store, call_of(alloc, *asked), want)?;
     }
+    Ok(())
+}
+
+// The store comes by reference, so that no `?` lets it go.
+fn takes_and_frees(rt: &impl Abort, alloc: Global, store: &mut Store) -> Result<(), Fail> {
+    asks_all(rt, alloc, store, &TAKEN)?;
+    counts(rt, "accepted", store.accepted(), 1);
+    counts(rt, "calls", store.calls(), 2);
+    asks_all(rt, alloc, store, &FREED)?;
+    counts(rt, "calls in the end", store.calls(), 8);
     Ok(())
 }
 
@@ -540,12 +612,7 @@ fn asks_all(
 fn a_secret_has_one_certificate(rt: HostRuntime) -> Result<(), Fail> {
     let alloc = rt.alloc();
     let mut store = Store::new(alloc, Numbers::new(alloc));
-    asks_all(&rt, alloc, &mut store, &TAKEN)?;
-    counts(&rt, "accepted", store.accepted(), 1);
-    counts(&rt, "calls", store.calls(), 2);
-    asks_all(&rt, alloc, &mut store, &FREED)?;
-    counts(&rt, "calls in the end", store.calls(), 8);
-    Ok(())
+    takes_and_frees(&rt, alloc, &mut store)
 }
 
 static STATUSES: [(Verdicts, u64, Replied); 2] = [
@@ -601,18 +668,25 @@ static CHANGED_SPEC: Replied = ("invalid", 8);
 
 static LACKING_PART: Replied = ("invalid", 14);
 
+fn judges(rt: &impl Abort, alloc: Global, store: &mut Store) -> Result<(), Fail> {
+    for (verdicts, version, want) in &STATUSES {
+        replies(rt, alloc, store, status(alloc, verdicts, *version), want)?;
+    }
+    Ok(())
+}
+
+fn refuses_by_each_kind(rt: &impl Abort, alloc: Global, store: &mut Store) -> Result<(), Fail> {
+    replies(rt, alloc, store, new_request(alloc), &ACCEPTED)?;
+    judges(rt, alloc, store)?;
+    replies(rt, alloc, store, changed_request(alloc), &CHANGED_SPEC)?;
+    replies(rt, alloc, store, new_secret(alloc), &LACKING_PART)?;
+    counts(rt, "accepted", store.accepted(), 2);
+    Ok(())
+}
+
 #[test]
 fn the_store_refuses_by_each_kind(rt: HostRuntime) -> Result<(), Fail> {
     let alloc = rt.alloc();
     let mut store = Store::new(alloc, Numbers::new(alloc));
-    replies(&rt, alloc, &mut store, new_request(alloc)?, &ACCEPTED)?;
-    for (verdicts, version, want) in &STATUSES {
-        let call = status(alloc, verdicts, *version)?;
-        replies(&rt, alloc, &mut store, call, want)?;
-    }
-    let call = changed_request(alloc)?;
-    replies(&rt, alloc, &mut store, call, &CHANGED_SPEC)?;
-    replies(&rt, alloc, &mut store, new_secret(alloc)?, &LACKING_PART)?;
-    counts(&rt, "accepted", store.accepted(), 2);
-    Ok(())
+    refuses_by_each_kind(&rt, alloc, &mut store)
 }

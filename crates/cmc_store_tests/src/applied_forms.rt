@@ -22,24 +22,33 @@ static ROWS: [&str; 9] = [
     "a renewal too early|web|example.com|192.0.2.1|a|3599999996401|refused",
 ];
 
-fn spec(alloc: Global, row: &str) -> Result<CertSpec, Fail> {
-    let mut spec = least_spec(alloc, "web-tls", column(row, 2))?;
+// The lists are filled where they stand, so that no `?` lets a spec go.
+fn fill(alloc: Global, spec: &mut CertSpec, row: &str) -> Result<(), Fail> {
     spec.common_name = text(alloc, column(row, 1))?;
     spec.ip_addresses = texts(alloc, column(row, 3))?;
     spec.uris = texts(alloc, column(row, 4))?;
     spec.renew_before = number(column(row, 5));
+    Ok(())
+}
+
+fn spec(alloc: Global, row: &str) -> Result<CertSpec, Fail> {
+    let mut spec = least_spec(alloc, "web-tls", column(row, 2))?;
+    fill(alloc, &mut spec, row)?;
     Ok(spec)
+}
+
+fn certificate(alloc: Global, row: &str) -> Result<Certificate, Fail> {
+    let meta = new_meta(alloc, "web")?;
+    Ok(Certificate {
+        meta,
+        spec: spec(alloc, row)?,
+        status: CertStatus::new(alloc),
+    })
 }
 
 /// The script that applies the Certificate of the row.
 fn script(alloc: Global, row: &str) -> Result<Steps, Fail> {
-    let meta = new_meta(alloc, "web")?;
-    let certificate = Certificate {
-        meta,
-        spec: spec(alloc, row)?,
-        status: CertStatus::new(alloc),
-    };
-    let object = Object::of_certificate(alloc, certificate)?;
+    let object = Object::of_certificate(alloc, certificate(alloc, row)?)?;
     let mut steps = Steps::new(alloc);
     steps.push(Step::Apply {
         object,

@@ -7,16 +7,21 @@ use std::alloc::Global;
 use std::process::Abort;
 use std::test::Fail;
 
-fn printed(alloc: Global, object: &Object) -> Result<String, Fail> {
+pub(crate) fn printed(alloc: Global, object: &Object) -> Result<String, Fail> {
     Ok(value_of(alloc, object)?.to_string(alloc)?)
 }
 
-/// The copy of the object is the same, and is printed as the text.
 fn is_printed(rt: &impl Abort, alloc: Global, object: &Object, want: &&str) -> Result<(), Fail> {
+    let print = printed(alloc, object)?;
+    tells(rt, "print", print.as_str(), want);
+    Ok(())
+}
+
+/// The copy of the object is the same, and is printed as the text.
+fn is_copied(rt: &impl Abort, alloc: Global, object: &Object, want: &&str) -> Result<(), Fail> {
     let copy = object.copy()?;
     passes(rt, "copy", copy.same(object));
-    tells(rt, "print", printed(alloc, &copy)?.as_str(), want);
-    Ok(())
+    is_printed(rt, alloc, &copy, want)
 }
 
 static CERTIFICATE: &str =
@@ -32,19 +37,19 @@ static SECRET: &str =
 fn prints_whole_certificates(rt: HostRuntime) -> Result<(), Fail> {
     let alloc = rt.alloc();
     let object = Object::of_certificate(alloc, certificate(alloc)?)?;
-    is_printed(&rt, alloc, &object, &CERTIFICATE)
+    is_copied(&rt, alloc, &object, &CERTIFICATE)
 }
 
 #[test]
 fn prints_whole_requests(rt: HostRuntime) -> Result<(), Fail> {
     let alloc = rt.alloc();
     let object = Object::of_request(alloc, request(alloc)?)?;
-    is_printed(&rt, alloc, &object, &REQUEST)
+    is_copied(&rt, alloc, &object, &REQUEST)
 }
 
 #[test]
 fn prints_whole_secrets(rt: HostRuntime) -> Result<(), Fail> {
     let alloc = rt.alloc();
     let object = Object::of_secret(alloc, secret(alloc)?)?;
-    is_printed(&rt, alloc, &object, &SECRET)
+    is_copied(&rt, alloc, &object, &SECRET)
 }

@@ -1,17 +1,25 @@
 //! What no clause says: which texts are values of a type, as JSON writes them.
 use crate::checks::tells;
+use crate::json_texts::value;
 use cmc_cursor::{BadField, flag, small_count, texts};
 use serde_json::Value;
 use std::alloc::{AllocError, Global};
 use std::process::Abort;
 use std::test::Fail;
 
+/// Where a value fails.
+pub(crate) fn path_told(alloc: Global, bad: BadField) -> Result<String, AllocError> {
+    match bad {
+        BadField::Path(path) => format!(in alloc; "at {}", path.as_str()),
+        BadField::NoMemory => Err(AllocError),
+    }
+}
+
 /// What a reader says of a value: what it is, or where it fails.
 fn told(alloc: Global, read: Result<String, BadField>) -> Result<String, AllocError> {
     match read {
         Ok(text) => Ok(text),
-        Err(BadField::Path(path)) => format!(in alloc; "at {}", path.as_str()),
-        Err(BadField::NoMemory) => Err(AllocError),
+        Err(bad) => path_told(alloc, bad),
     }
 }
 
@@ -38,7 +46,9 @@ fn texts_told(alloc: Global, value: &Value) -> Result<String, BadField> {
 }
 
 /// A value, and what it is as a flag, as a count and as a list of texts.
-static VALUES: [(&str, &str, &str, &str); 7] = [
+type Row = (&'static str, &'static str, &'static str, &'static str);
+
+static VALUES: [Row; 7] = [
     ("true", "yes", "at ", "at "),
     ("false", "no", "at ", "at "),
     ("4294967295", "at ", "4294967295", "at "),
@@ -48,69 +58,42 @@ static VALUES: [(&str, &str, &str, &str); 7] = [
     (r#"["a",1]"#, "at ", "at ", "at 1"),
 ];
 
-fn value(alloc: Global, text: &str) -> Result<Value, Fail> {
-    match Value::from_str(alloc, text) {
-        Ok(value) => Ok(value),
-        Err(_) => Err(Fail::from("no JSON")),
+/// What the reader of this word makes of the value.
+fn read_as(alloc: Global, reader: &str, value: &Value) -> Result<String, BadField> {
+    match reader {
+        "flag" => flag_told(alloc, value),
+        "count" => count_told(alloc, value),
+        _ => texts_told(alloc, value),
     }
 }
 
-fn is_flag(
+/// The reader says of the value of the row what is wanted.
+fn reads(
     rt: &impl Abort,
     alloc: Global,
     row: &str,
+    reader: &str,
     value: &Value,
     want: &str,
-) -> Result<(), AllocError> {
-    tells(
-        rt,
-        row,
-        told(alloc, flag_told(alloc, value))?.as_str(),
-        want,
-    );
+) -> Result<(), Fail> {
+    let told = told(alloc, read_as(alloc, reader, value))?;
+    tells(rt, row, told.as_str(), want);
     Ok(())
 }
 
-fn is_count(
-    rt: &impl Abort,
-    alloc: Global,
-    row: &str,
-    value: &Value,
-    want: &str,
-) -> Result<(), AllocError> {
-    tells(
-        rt,
-        row,
-        told(alloc, count_told(alloc, value))?.as_str(),
-        want,
-    );
-    Ok(())
-}
-
-fn are_texts(
-    rt: &impl Abort,
-    alloc: Global,
-    row: &str,
-    value: &Value,
-    want: &str,
-) -> Result<(), AllocError> {
-    tells(
-        rt,
-        row,
-        told(alloc, texts_told(alloc, value))?.as_str(),
-        want,
-    );
-    Ok(())
+fn reads_row(rt: &impl Abort, alloc: Global, row: &Row, value: &Value) -> Result<(), Fail> {
+    let (text, as_flag, as_count, as_texts) = *row;
+    reads(rt, alloc, text, "flag", value, as_flag)?;
+    reads(rt, alloc, text, "count", value, as_count)?;
+    reads(rt, alloc, text, "texts", value, as_texts)
 }
 
 #[test]
 fn reads_single_values(rt: HostRuntime) -> Result<(), Fail> {
     let alloc = rt.alloc();
-    for (row, as_flag, as_count, as_texts) in &VALUES {
-        let value = value(alloc, row)?;
-        is_flag(&rt, alloc, row, &value, as_flag)?;
-        is_count(&rt, alloc, row, &value, as_count)?;
-        are_texts(&rt, alloc, row, &value, as_texts)?;
+    for row in &VALUES {
+        let value = value(alloc, row.0)?;
+        reads_row(&rt, alloc, row, &value)?;
     }
     Ok(())
 }

@@ -1,25 +1,60 @@
 //! What no clause says: that a history takes entries and answers objects at versions, with ample memory.
+ghost use Rattle.std.specs.Prelude.{◌<◌};
+
 use crate::checks::{counts, passes};
-use crate::store::made;
+use crate::store::{call_of, made};
 use cmc_history::History;
 use cmc_meta::{Key, Kind, Numbers};
-use cmc_objects::{Call, Entry, Object, Who};
+use cmc_objects::{Call, Entry, Object, Reply, Who};
 use cmc_store::Store;
-use cmc_tests::values::key;
-use cmc_tests::whole::admitted_certificate;
+use cmc_tests::values::{key, let_go};
 use std::alloc::Global;
+use std::process::Abort;
 use std::test::Fail;
 
-/// Makes a call, and notes it.
-fn note(history: &mut History, store: &mut Store, alloc: Global, call: Call) -> Result<(), Fail> {
-    let reply = made(store, alloc, &call)?;
-    history.reserve(1)?;
+/// Notes a call, for which there is room.
+fn push(history: &mut History, call: Call, reply: Reply)
+    requires { 0 < history.old.spare }
+{
     history.push(Entry::Call {
         who: Who::User,
         call,
         reply,
     });
-    Ok(())
+}
+
+/// Makes a call, and notes it.
+fn note_call(
+    history: &mut History,
+    store: &mut Store,
+    alloc: Global,
+    call: Call,
+) -> Result<(), Fail>
+    requires { 0 < history.old.spare }
+{
+    match made(store, alloc, &call) {
+        Ok(reply) => {
+            push(history, call, reply);
+            Ok(())
+        }
+        Err(lack) => {
+            let_go(call);
+            Err(lack)
+        }
+    }
+}
+
+/// Makes the call of this word, which names the version where it names one, and notes it.
+// Room is made first, so that nothing is held where there is none.
+fn note(
+    history: &mut History,
+    store: &mut Store,
+    alloc: Global,
+    word: &str,
+    version: u64,
+) -> Result<(), Fail> {
+    history.reserve(1)?;
+    note_call(history, store, alloc, call_of(alloc, word, version)?)
 }
 
 /// The version of the object, 0 where there is none.
@@ -37,64 +72,70 @@ fn version_at(history: &History, alloc: Global, key: &Key, position: u64) -> Res
     Ok(version_of(object.as_ref()))
 }
 
-fn create(alloc: Global) -> Result<Call, Fail> {
-    Ok(Call::Create {
-        object: Object::of_certificate(alloc, admitted_certificate(alloc)?)?,
-        generate: false,
-    })
-}
+/// A create, the same again, which is refused, an update and a delete, and the versions that they name.
+static CALLS: [(&str, u64); 4] = [
+    ("create", 0),
+    ("create", 0),
+    ("status", 1),
+    ("delete any", 0),
+];
 
-fn status(alloc: Global) -> Result<Call, Fail> {
-    Ok(Call::UpdateStatus {
-        object: Object::of_certificate(alloc, admitted_certificate(alloc)?)?,
-        version: 1,
-    })
-}
-
-fn delete(alloc: Global) -> Result<Call, Fail> {
-    Ok(Call::Delete {
-        key: key(alloc, Kind::Certificate, "web")?,
-        version: None,
-    })
-}
-
-/// A create, the same again, which is refused, an update and a delete.
 fn note_all(history: &mut History, store: &mut Store, alloc: Global) -> Result<(), Fail> {
-    note(history, store, alloc, create(alloc)?)?;
-    note(history, store, alloc, create(alloc)?)?;
-    note(history, store, alloc, status(alloc)?)?;
-    note(history, store, alloc, delete(alloc)?)
+    for (word, version) in &CALLS {
+        note(history, store, alloc, word, *version)?;
+    }
+    Ok(())
+}
+
+fn note_in_store(history: &mut History, alloc: Global) -> Result<(), Fail> {
+    let mut store = Store::new(alloc, Numbers::new(alloc));
+    note_all(history, &mut store, alloc)
 }
 
 fn noted(alloc: Global) -> Result<History, Fail> {
     let mut history = History::new(alloc);
-    let mut store = Store::new(alloc, Numbers::new(alloc));
-    note_all(&mut history, &mut store, alloc)?;
+    note_in_store(&mut history, alloc)?;
     Ok(history)
 }
 
 /// How many accepted writes there were, and the version that stands then.
 static VERSIONS: [(u64, u64); 5] = [(0, 0), (1, 1), (2, 2), (3, 0), (4, 0)];
 
+/// The version of the object of this kind that is named `web`, after so many accepted writes.
+fn web_at(history: &History, alloc: Global, kind: Kind, position: u64) -> Result<u64, Fail> {
+    let web = key(alloc, kind, "web")?;
+    version_at(history, alloc, &web, position)
+}
+
+fn has_versions(rt: &impl Abort, alloc: Global, history: &History) -> Result<(), Fail> {
+    for (position, want) in &VERSIONS {
+        let version = web_at(history, alloc, Kind::Certificate, *position)?;
+        counts(rt, "version", version, *want);
+    }
+    let other = web_at(history, alloc, Kind::Secret, 2)?;
+    counts(rt, "other", other, 0);
+    Ok(())
+}
+
 #[test]
 fn looks_at_each_version(rt: HostRuntime) -> Result<(), Fail> {
     let alloc = rt.alloc();
     let history = noted(alloc)?;
-    let web = key(alloc, Kind::Certificate, "web")?;
     // the second create was refused
     counts(&rt, "entries", history.len(), 4);
     counts(&rt, "accepted", history.accepted(), 3);
-    for (position, want) in &VERSIONS {
-        let version = version_at(&history, alloc, &web, *position)?;
-        counts(&rt, "version", version, *want);
-    }
-    let other = key(alloc, Kind::Secret, "web")?;
-    counts(&rt, "other", version_at(&history, alloc, &other, 2)?, 0);
-    Ok(())
+    has_versions(&rt, alloc, &history)
 }
 
 fn is_first_step(entry: Option<&Entry>) -> bool {
     matches!(entry, Some(Entry::Script { step: 1 }))
+}
+
+fn has_one_step(rt: &impl Abort, history: &History) {
+    counts(rt, "length", history.len(), 1);
+    counts(rt, "accepted", history.accepted(), 0);
+    passes(rt, "from 1", history.entry(0).is_none());
+    passes(rt, "the first", is_first_step(history.entry(1)));
 }
 
 #[test]
@@ -102,9 +143,6 @@ fn keeps_entries(rt: HostRuntime) -> Result<(), Fail> {
     let mut history = History::new(rt.alloc());
     history.reserve(1)?;
     history.push(Entry::Script { step: 1 });
-    counts(&rt, "length", history.len(), 1);
-    counts(&rt, "accepted", history.accepted(), 0);
-    passes(&rt, "from 1", history.entry(0).is_none());
-    passes(&rt, "the first", is_first_step(history.entry(1)));
+    has_one_step(&rt, &history);
     Ok(())
 }

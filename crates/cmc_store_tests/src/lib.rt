@@ -16,6 +16,8 @@ mod cursor;
 #[cfg(test)]
 mod history;
 #[cfg(test)]
+mod json_texts;
+#[cfg(test)]
 mod objects_read;
 #[cfg(test)]
 mod report;

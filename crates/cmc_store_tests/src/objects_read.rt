@@ -1,31 +1,34 @@
 //! What no clause says: what whole objects in JSON stand for, where memory is ample. A text that is read is printed
 //! again as the second of its row, and one that is not fails at the path of its row.
 use crate::checks::{passes, tells};
-use cmc_codec::{Applied, applied_of, object_of, print_gives_back, printed_is_read, value_of};
+use crate::codec::printed;
+use crate::cursor::path_told;
+use crate::json_texts::{between, value};
+use cmc_codec::{Applied, applied_of, object_of, print_gives_back, printed_is_read};
 use cmc_cursor::BadField;
+use cmc_objects::Object;
 use cmc_tests::values::column;
-use serde_json::Value;
 use std::alloc::Global;
 use std::process::Abort;
 use std::test::Fail;
 
-fn value(alloc: Global, text: &str) -> Result<Value, Fail> {
-    match Value::from_str(alloc, text) {
-        Ok(value) => Ok(value),
-        Err(_) => Err(Fail::from("no JSON")),
-    }
+fn object(alloc: Global, text: &str) -> Result<Result<Object, BadField>, Fail> {
+    let value = value(alloc, text)?;
+    Ok(object_of(alloc, &value))
+}
+
+/// The print of an object, of which both laws hold.
+fn print_of(alloc: Global, object: &Object) -> Result<String, Fail> {
+    printed_is_read(object);
+    print_gives_back(object);
+    printed(alloc, object)
 }
 
 /// What a text is read as: the print of the object, or the path that it fails at.
 fn told(alloc: Global, text: &str) -> Result<String, Fail> {
-    match object_of(alloc, &value(alloc, text)?) {
-        Ok(object) => {
-            printed_is_read(&object);
-            print_gives_back(&object);
-            Ok(value_of(alloc, &object)?.to_string(alloc)?)
-        }
-        Err(BadField::Path(path)) => Ok(format!(in alloc; "at {}", path.as_str())?),
-        Err(BadField::NoMemory) => Err(Fail::from("no memory")),
+    match object(alloc, text)? {
+        Ok(object) => print_of(alloc, &object),
+        Err(bad) => Ok(path_told(alloc, bad)?),
     }
 }
 
@@ -36,20 +39,38 @@ fn version_told(alloc: Global, text: &str) -> Result<Option<u64>, Fail> {
     }
 }
 
-/// Each text is read as what stands behind its bar.
-fn meets(rt: &impl Abort, alloc: Global, rows: &[&str]) -> Result<(), Fail> {
+/// What a text is read as that stands between these.
+fn told_between(alloc: Global, before: &str, text: &str, after: &str) -> Result<String, Fail> {
+    let whole = between(alloc, before, text, after)?;
+    told(alloc, whole.as_str())
+}
+
+/// Each text, between these, is read as what stands behind its bar.
+fn meets(
+    rt: &impl Abort,
+    alloc: Global,
+    rows: &[&str],
+    before: &str,
+    after: &str,
+) -> Result<(), Fail> {
     for row in rows {
-        let told = told(alloc, column(row, 0))?;
+        let told = told_between(alloc, before, column(row, 0), after)?;
         tells(rt, row, told.as_str(), column(row, 1));
     }
+    Ok(())
+}
+
+fn reads_as(rt: &impl Abort, alloc: Global, text: &str, want: &str) -> Result<(), Fail> {
+    let told = told(alloc, text)?;
+    tells(rt, text, told.as_str(), want);
     Ok(())
 }
 
 /// What each text is read as is printed as what stands beside it, and that is read as itself.
 fn prints(rt: &impl Abort, alloc: Global, rows: &[(&str, &str)]) -> Result<(), Fail> {
     for (text, want) in rows {
-        tells(rt, text, told(alloc, text)?.as_str(), want);
-        tells(rt, want, told(alloc, want)?.as_str(), want);
+        reads_as(rt, alloc, text, want)?;
+        reads_as(rt, alloc, want, want)?;
     }
     Ok(())
 }
@@ -160,7 +181,7 @@ static NO_OBJECTS: [&str; 34] = [
 
 #[test]
 fn tells_where_an_object_fails(rt: HostRuntime) -> Result<(), Fail> {
-    meets(&rt, rt.alloc(), &NO_OBJECTS)
+    meets(&rt, rt.alloc(), &NO_OBJECTS, "", "")
 }
 
 /// What is not the spec of a Certificate, and where that fails.
@@ -202,13 +223,9 @@ static NO_SPECS: [&str; 35] = [
     r#"{"issuerRef":{"name":"ca"},"secretName":"s","usages":["",5]}|at spec.usages.1"#,
 ];
 
-/// What the Certificate `web` with this spec is read as.
-fn spec_told(alloc: Global, spec: &str) -> Result<String, Fail> {
-    let text = format!(in alloc;
-        r#"{{"apiVersion":"cert-manager.io/v1","kind":"Certificate","metadata":{{"name":"web"}},"spec":{spec}}}"#
-    )?;
-    told(alloc, text.as_str())
-}
+/// What stands before the spec of the Certificate `web`.
+static BEFORE_SPEC: &str =
+    r#"{"apiVersion":"cert-manager.io/v1","kind":"Certificate","metadata":{"name":"web"},"spec":"#;
 
 /// The same in the older version, and of the other kinds.
 static NO_OTHER_SPECS: [&str; 12] = [
@@ -229,11 +246,8 @@ static NO_OTHER_SPECS: [&str; 12] = [
 #[test]
 fn tells_where_a_spec_fails(rt: HostRuntime) -> Result<(), Fail> {
     let alloc = rt.alloc();
-    for row in &NO_SPECS {
-        let told = spec_told(alloc, column(row, 0))?;
-        tells(&rt, row, told.as_str(), column(row, 1));
-    }
-    meets(&rt, alloc, &NO_OTHER_SPECS)
+    meets(&rt, alloc, &NO_SPECS, BEFORE_SPEC, "}")?;
+    meets(&rt, alloc, &NO_OTHER_SPECS, "", "")
 }
 
 /// A Secret that names a version, and one that names none.

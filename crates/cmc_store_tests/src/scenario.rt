@@ -1,39 +1,80 @@
 //! What no clause says: that a scenario is read, with its defaults, where memory is ample, and which texts are
 //! scenarios and where others fail.
 use crate::checks::{counts, passes, tells};
+use crate::json_texts::{between, value};
 use cmc_objects::{KeyRow, Role, Rows, Rules, SignRow, Step};
 use cmc_policy_rules::{Pattern, Policy};
 use cmc_scenario::{BadScenario, Roles, Scenario, generate, read, value_of_scenario};
-use cmc_tests::values::column;
-use serde_json::Value;
-use std::alloc::Global;
+use cmc_tests::values::{column, let_go};
+use std::alloc::{AllocError, Global};
 use std::process::Abort;
 use std::test::Fail;
 
-fn value(alloc: Global, text: &str) -> Result<Value, Fail> {
-    match Value::from_str(alloc, text) {
-        Ok(value) => Ok(value),
-        Err(_) => Err(Fail::from("no JSON")),
-    }
+fn read_text(alloc: Global, text: &str) -> Result<Result<Scenario, BadScenario>, Fail> {
+    let value = value(alloc, text)?;
+    Ok(read(alloc, &value))
 }
 
 fn scenario(alloc: Global, text: &str) -> Result<Scenario, Fail> {
-    read(alloc, &value(alloc, text)?).map_err(|_| Fail::from("no scenario"))
+    match read_text(alloc, text)? {
+        Ok(scenario) => Ok(scenario),
+        Err(_) => Err(Fail::from("no scenario")),
+    }
+}
+
+/// Where a text fails.
+fn path_told(alloc: Global, bad: BadScenario) -> Result<String, AllocError> {
+    match bad {
+        BadScenario::Path(path) => format!(in alloc; "at {}", path.as_str()),
+        BadScenario::NoMemory => Err(AllocError),
+    }
 }
 
 /// Where a text fails, or `ok`.
 fn told(alloc: Global, text: &str) -> Result<String, Fail> {
-    match read(alloc, &value(alloc, text)?) {
-        Ok(_) => Ok(String::from_str(alloc, "ok")?),
-        Err(BadScenario::Path(path)) => Ok(format!(in alloc; "at {}", path.as_str())?),
-        Err(BadScenario::NoMemory) => Err(Fail::from("no memory")),
+    match read_text(alloc, text)? {
+        Ok(scenario) => {
+            let_go(scenario);
+            Ok(String::from_str(alloc, "ok")?)
+        }
+        Err(bad) => Ok(path_told(alloc, bad)?),
     }
 }
 
-/// Where a scenario with this script fails, whose role `trigger` runs at first.
+/// Where a text fails that stands between these.
+fn told_between(alloc: Global, before: &str, text: &str, after: &str) -> Result<String, Fail> {
+    let whole = between(alloc, before, text, after)?;
+    told(alloc, whole.as_str())
+}
+
+/// Each text, between these, fails where its row says behind its bar.
+fn meets(
+    rt: &impl Abort,
+    alloc: Global,
+    rows: &[&str],
+    before: &str,
+    after: &str,
+) -> Result<(), Fail> {
+    for row in rows {
+        let told = told_between(alloc, before, column(row, 0), after)?;
+        tells(rt, row, told.as_str(), column(row, 1));
+    }
+    Ok(())
+}
+
+/// What stands before a script, in a scenario whose role `trigger` runs at first.
+static BEFORE_SCRIPT: &str = r#"{"roles":["trigger"],"script":["#;
+
+/// Where a scenario with this script fails.
 fn script_told(alloc: Global, steps: &str) -> Result<String, Fail> {
-    let text = format!(in alloc; "{{\"roles\":[\"trigger\"],\"script\":[{steps}]}}")?;
-    told(alloc, text.as_str())
+    told_between(alloc, BEFORE_SCRIPT, steps, "]}")
+}
+
+/// What is printed of the scenario that the text gives is as is wanted.
+fn is_printed_as(rt: &impl Abort, alloc: Global, text: &str, want: &str) -> Result<(), Fail> {
+    let print = printed(alloc, text)?;
+    tells(rt, text, print.as_str(), want);
+    Ok(())
 }
 
 /// What is printed of the scenario that the text gives.
@@ -66,35 +107,57 @@ fn are_open(rules: &Rules) -> bool {
 
 static LITTLE: &str = r#"{"roles":[],"script":[{"do":"delete","key":"Secret/default/web"}]}"#;
 
+/// A copy of the scenario that the text gives.
+fn copied(alloc: Global, text: &str) -> Result<Scenario, Fail> {
+    let scenario = scenario(alloc, text)?;
+    Ok(scenario.copy()?)
+}
+
+/// A delete that names no version.
+fn is_delete(script: &[Step]) -> bool {
+    matches!(script, [Step::Delete { version: None, .. }])
+}
+
 #[test]
 fn fills_in_what_a_scenario_leaves_out(rt: HostRuntime) -> Result<(), Fail> {
-    let scenario = scenario(rt.alloc(), LITTLE)?.copy()?;
+    let scenario = copied(rt.alloc(), LITTLE)?;
     has_defaults(&rt, &scenario);
-    let is_script = matches!(scenario.script(), [Step::Delete { version: None, .. }]);
-    passes(&rt, "script", is_script);
+    passes(&rt, "script", is_delete(scenario.script()));
     Ok(())
+}
+
+fn copied_roles(alloc: Global) -> Result<Roles, AllocError> {
+    let mut roles = Roles::new(alloc);
+    roles.push(Role::Trigger)?;
+    roles.copy()
+}
+
+fn is_trigger(roles: &[Role]) -> bool {
+    matches!(roles, [Role::Trigger])
 }
 
 #[test]
 fn copies_roles(rt: HostRuntime) -> Result<(), Fail> {
-    let mut roles = Roles::new(rt.alloc());
-    roles.push(Role::Trigger)?;
-    let copied = roles.copy()?;
-    passes(&rt, "copied", matches!(copied.as_slice(), [Role::Trigger]));
+    let copied = copied_roles(rt.alloc())?;
+    passes(&rt, "copied", is_trigger(copied.as_slice()));
     Ok(())
 }
 
 static MEMBERS: &str =
     r#"{"events":7,"faults":[2,9],"now":"2031-01-01T00:00:00Z","roles":["trigger"],"window":3}"#;
 
+fn has_members(rt: &impl Abort, scenario: &Scenario) {
+    counts(rt, "events", scenario.events(), 7);
+    counts(rt, "window", scenario.window(), 3);
+    passes(rt, "now", scenario.now() == 1_924_992_000);
+    passes(rt, "faults", matches!(scenario.faults(), [2, 9]));
+    passes(rt, "roles", is_trigger(scenario.roles()));
+}
+
 #[test]
 fn reads_the_members_that_stand(rt: HostRuntime) -> Result<(), Fail> {
     let scenario = scenario(rt.alloc(), MEMBERS)?;
-    counts(&rt, "events", scenario.events(), 7);
-    counts(&rt, "window", scenario.window(), 3);
-    passes(&rt, "now", scenario.now() == 1_924_992_000);
-    passes(&rt, "faults", matches!(scenario.faults(), [2, 9]));
-    passes(&rt, "roles", matches!(scenario.roles(), [Role::Trigger]));
+    has_members(&rt, &scenario);
     Ok(())
 }
 
@@ -119,6 +182,13 @@ fn runs_each(alloc: Global, text: &str) -> Result<bool, Fail> {
     Ok(is_each(scenario(alloc, text)?.roles()))
 }
 
+fn runs_one(alloc: Global, text: &str) -> Result<bool, Fail> {
+    let scenario = scenario(alloc, text)?;
+    Ok(matches!(scenario.roles(), [Role::RequestManager]))
+}
+
+static ONE_ROLE: &str = r#"{"roles":["requestmanager"]}"#;
+
 /// Texts in which all roles run.
 static ALL_ROLES: [&str; 2] = [
     r#"{}"#,
@@ -130,10 +200,9 @@ fn all_eight_roles_run_where_none_are_named(rt: HostRuntime) -> Result<(), Fail>
     let alloc = rt.alloc();
     for text in &ALL_ROLES {
         passes(&rt, text, runs_each(alloc, text)?);
-        tells(&rt, text, printed(alloc, text)?.as_str(), "{}");
+        is_printed_as(&rt, alloc, text, "{}")?;
     }
-    let one = scenario(alloc, r#"{"roles":["requestmanager"]}"#)?;
-    passes(&rt, "one", matches!(one.roles(), [Role::RequestManager]));
+    passes(&rt, "one", runs_one(alloc, ONE_ROLE)?);
     Ok(())
 }
 
@@ -217,13 +286,17 @@ fn are_policies(policies: &[Policy]) -> bool {
     }
 }
 
+fn has_rows(rt: &impl Abort, scenario: &Scenario) {
+    for (key, rows) in scenario.material().as_map().iter() {
+        passes(rt, "web", key.name.as_str() == "web");
+        passes(rt, "rows", are_rows(rows));
+    }
+}
+
 #[test]
 fn reads_rows_and_policies(rt: HostRuntime) -> Result<(), Fail> {
     let scenario = scenario(rt.alloc(), ROWS_AND_POLICIES)?;
-    for (key, rows) in scenario.material().as_map().iter() {
-        passes(&rt, "web", key.name.as_str() == "web");
-        passes(&rt, "rows", are_rows(rows));
-    }
+    has_rows(&rt, &scenario);
     let policies = scenario.approver().policies.as_slice();
     passes(&rt, "policies", are_policies(policies));
     Ok(())
@@ -266,11 +339,7 @@ static TEXTS: [&str; 31] = [
 
 #[test]
 fn tells_where_members_fail(rt: HostRuntime) -> Result<(), Fail> {
-    for row in &TEXTS {
-        let told = told(rt.alloc(), column(row, 0))?;
-        tells(&rt, row, told.as_str(), column(row, 1));
-    }
-    Ok(())
+    meets(&rt, rt.alloc(), &TEXTS, "", "")
 }
 
 /// Scripts, and where a scenario of each fails.
@@ -308,11 +377,7 @@ static SCRIPTS: [&str; 29] = [
 
 #[test]
 fn tells_where_steps_fail(rt: HostRuntime) -> Result<(), Fail> {
-    for row in &SCRIPTS {
-        let told = script_told(rt.alloc(), column(row, 0))?;
-        tells(&rt, row, told.as_str(), column(row, 1));
-    }
-    Ok(())
+    meets(&rt, rt.alloc(), &SCRIPTS, BEFORE_SCRIPT, "]}")
 }
 
 /// The step that the word says.
@@ -363,20 +428,16 @@ fn steps_come_in_turn(rt: HostRuntime) -> Result<(), Fail> {
     Ok(())
 }
 
-/// Where a scenario fails that begins a minute before the last moment, and in which so many seconds pass.
-fn ticked_told(alloc: Global, seconds: &str) -> Result<String, Fail> {
-    let text = format!(in alloc;
-        "{{\"now\":\"9899-12-31T23:59:00Z\",\"roles\":[],\"script\":[{{\"do\":\"tick\",\"seconds\":{seconds}}}]}}"
-    )?;
-    told(alloc, text.as_str())
-}
+/// How many seconds pass in a scenario that begins a minute before the last moment, and where it fails.
+static TICKS: [&str; 2] = ["60|ok", "61|at script.0"];
+
+/// What stands before them.
+static BEFORE_SECONDS: &str =
+    r#"{"now":"9899-12-31T23:59:00Z","roles":[],"script":[{"do":"tick","seconds":"#;
 
 #[test]
 fn a_script_ends_in_time(rt: HostRuntime) -> Result<(), Fail> {
-    let alloc = rt.alloc();
-    tells(&rt, "60", ticked_told(alloc, "60")?.as_str(), "ok");
-    tells(&rt, "61", ticked_told(alloc, "61")?.as_str(), "at script.0");
-    Ok(())
+    meets(&rt, rt.alloc(), &TICKS, BEFORE_SECONDS, "}]}")
 }
 
 /// So many steps, and one of no form behind them where that is wanted.
@@ -403,11 +464,6 @@ fn a_script_has_ten_thousand_steps(rt: HostRuntime) -> Result<(), Fail> {
     Ok(())
 }
 
-fn material_told(alloc: Global, rows: &str) -> Result<String, Fail> {
-    let text = format!(in alloc; "{{\"material\":{rows},\"roles\":[]}}")?;
-    told(alloc, text.as_str())
-}
-
 /// Material, and where a scenario with it fails.
 static MATERIAL: [&str; 17] = [
     r#"{"a/b":{}}|ok"#,
@@ -431,17 +487,17 @@ static MATERIAL: [&str; 17] = [
 
 #[test]
 fn tells_where_rows_fail(rt: HostRuntime) -> Result<(), Fail> {
-    for row in &MATERIAL {
-        let told = material_told(rt.alloc(), column(row, 0))?;
-        tells(&rt, row, told.as_str(), column(row, 1));
-    }
-    Ok(())
+    meets(
+        &rt,
+        rt.alloc(),
+        &MATERIAL,
+        r#"{"material":"#,
+        r#","roles":[]}"#,
+    )
 }
 
-fn policy_told(alloc: Global, policy: &str) -> Result<String, Fail> {
-    let text = format!(in alloc; "{{\"approver\":{{\"policies\":[{policy}]}},\"roles\":[]}}")?;
-    told(alloc, text.as_str())
-}
+/// What stands before the only policy of a scenario.
+static BEFORE_POLICY: &str = r#"{"approver":{"policies":["#;
 
 /// Policies, and where a scenario with each fails.
 static POLICIES: [&str; 13] = [
@@ -462,11 +518,13 @@ static POLICIES: [&str; 13] = [
 
 #[test]
 fn tells_where_policies_fail(rt: HostRuntime) -> Result<(), Fail> {
-    for row in &POLICIES {
-        let told = policy_told(rt.alloc(), column(row, 0))?;
-        tells(&rt, row, told.as_str(), column(row, 1));
-    }
-    Ok(())
+    meets(
+        &rt,
+        rt.alloc(),
+        &POLICIES,
+        BEFORE_POLICY,
+        r#"]},"roles":[]}"#,
+    )
 }
 
 fn load_printed(alloc: Global) -> Result<String, Fail> {
@@ -489,8 +547,7 @@ fn json_printed(alloc: Global, text: &str) -> Result<String, Fail> {
 
 fn is_printed_again(rt: &impl Abort, alloc: Global, text: &str) -> Result<(), Fail> {
     let want = json_printed(alloc, text)?;
-    tells(rt, text, printed(alloc, text)?.as_str(), want.as_str());
-    Ok(())
+    is_printed_as(rt, alloc, text, want.as_str())
 }
 
 /// Scenarios in which each member stands that may stand, as they are printed.
@@ -530,7 +587,7 @@ static DEFAULTS: [(&str, &str); 3] = [
 #[test]
 fn leaves_out_what_is_the_default(rt: HostRuntime) -> Result<(), Fail> {
     for (text, want) in &DEFAULTS {
-        tells(&rt, text, printed(rt.alloc(), text)?.as_str(), want);
+        is_printed_as(&rt, rt.alloc(), text, want)?;
     }
     Ok(())
 }

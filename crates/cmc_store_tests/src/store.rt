@@ -42,17 +42,23 @@ fn replied_to(store: &mut Store, alloc: Global, call: &Call) -> Result<Replied, 
     Ok(told)
 }
 
-/// The store replies to the call as is wanted; the call is let go behind it.
+/// What the store replies to the call, which is let go behind it.
+fn replied_once(store: &mut Store, alloc: Global, call: Call) -> Result<Replied, Fail> {
+    let replied = replied_to(store, alloc, &call);
+    let_go(call);
+    replied
+}
+
+/// The store replies to the call as is wanted.
+// The call comes as it is made, with what may fail, so that no test holds one of its many shapes.
 pub(crate) fn replies(
     rt: &impl Abort,
     alloc: Global,
     store: &mut Store,
-    call: Call,
+    call: Result<Call, Fail>,
     want: &Replied,
 ) -> Result<(), Fail> {
-    let replied = replied_to(store, alloc, &call);
-    let_go(call);
-    let (word, number) = replied?;
+    let (word, number) = replied_once(store, alloc, call?)?;
     tells(rt, want.0, word, want.0);
     counts(rt, want.0, number, want.1);
     Ok(())
@@ -78,20 +84,22 @@ fn get(alloc: Global) -> Result<Call, Fail> {
     })
 }
 
-fn delete(alloc: Global, version: u64) -> Result<Call, Fail> {
+/// A delete of the Certificate of this name.
+pub(crate) fn delete(alloc: Global, word: &str, version: Option<u64>) -> Result<Call, Fail> {
     Ok(Call::Delete {
-        key: key(alloc, Kind::Certificate, "web")?,
-        version: Some(version),
+        key: key(alloc, Kind::Certificate, word)?,
+        version,
     })
 }
 
 /// The call of this word, which names the version where it names one.
-fn call_of(alloc: Global, word: &str, version: u64) -> Result<Call, Fail> {
+pub(crate) fn call_of(alloc: Global, word: &str, version: u64) -> Result<Call, Fail> {
     match word {
         "create" => create(alloc),
         "status" => status(alloc, version),
         "get" => get(alloc),
-        _ => delete(alloc, version),
+        "delete any" => delete(alloc, "web", None),
+        _ => delete(alloc, "web", Some(version)),
     }
 }
 
@@ -119,16 +127,21 @@ fn stands(alloc: Global, store: &Store) -> Result<bool, Fail> {
     Ok(store.peek(&web).is_some())
 }
 
+// The store comes by reference, so that no `?` lets it go.
+fn replies_to_each(rt: &impl Abort, alloc: Global, store: &mut Store) -> Result<(), Fail> {
+    for (word, version, want) in &CALLS {
+        let call = call_of(alloc, word, *version);
+        replies(rt, alloc, store, call, want)?;
+    }
+    passes(rt, "gone", !stands(alloc, store)?);
+    counts(rt, "accepted", store.accepted(), 3);
+    counts(rt, "calls", store.calls(), 9);
+    Ok(())
+}
+
 #[test]
 fn answers_each_call(rt: HostRuntime) -> Result<(), Fail> {
     let alloc = rt.alloc();
     let mut store = Store::new(alloc, seventh(alloc)?);
-    for (word, version, want) in &CALLS {
-        let call = call_of(alloc, word, *version)?;
-        replies(&rt, alloc, &mut store, call, want)?;
-    }
-    passes(&rt, "gone", !stands(alloc, &store)?);
-    counts(&rt, "accepted", store.accepted(), 3);
-    counts(&rt, "calls", store.calls(), 9);
-    Ok(())
+    replies_to_each(&rt, alloc, &mut store)
 }
