@@ -2,7 +2,7 @@
 // pass had decided itself. The answers to decisions are those of the table, row by row, on the pass of one of two
 // Certificates.
 use crate::checks::{passes, tells};
-use crate::fixtures::{all_roles, any_issuer, applied, scenario_of, value_then};
+use crate::fixtures::{applied, put, value_then, whole_scenario};
 use cmc_history::History;
 use cmc_meta::{Key, Kind, Numbers};
 use cmc_objects::{Call, Entry, Material, Role, Step};
@@ -16,19 +16,20 @@ use std::test::Fail;
 
 fn script(alloc: Global) -> Result<Steps, Fail> {
     let mut steps = Steps::new(alloc);
-    steps.push(applied(alloc, "web", "web-tls", "example.com")?)?;
-    steps.push(applied(alloc, "api", "api-tls", "api.example.com")?)?;
+    put(&mut steps, applied(alloc, "web", "web-tls", "example.com"))?;
+    put(
+        &mut steps,
+        applied(alloc, "api", "api-tls", "api.example.com"),
+    )?;
     steps.push(Step::Settle)?;
     Ok(steps)
 }
 
 /// Two Certificates, which all eight roles work on until nothing is left to do.
 fn scenario(alloc: Global) -> Result<Scenario, Fail> {
-    let roles = all_roles(alloc)?;
-    let approver = any_issuer(alloc)?;
+    let script = script(alloc)?;
     let none = Material::new(alloc);
-    let no_faults = Numbers::new(alloc);
-    scenario_of(400, 1000, roles, no_faults, approver, none, script(alloc)?)
+    whole_scenario(alloc, 400, 1000, Numbers::new(alloc), none, script)
 }
 
 /// A decision on what the pass of this number saw; none where no such pass is open, or its role does not decide alone.
@@ -46,6 +47,7 @@ fn word_of(answer: &Stepped) -> &'static str {
         Stepped::Order { .. } => "order",
         Stepped::NotNow(Lack::Settled) => "settled",
         Stepped::NotNow(Lack::NoPass { .. }) => "no pass",
+        Stepped::NotNow(Lack::NotQueued) => "not queued",
         Stepped::OtherViews { .. } => "other views",
         Stepped::Ended { .. } => "ended",
         Stepped::Spent { .. } => "spent",
@@ -60,8 +62,8 @@ fn word_then(answer: Stepped) -> &'static str {
     word
 }
 
-/// Makes the move, and tells the answer.
-fn make(alloc: Global, world: &mut World, step: Move) -> Result<&'static str, Fail> {
+/// Makes the move, and tells the answer in a word.
+pub(crate) fn make(alloc: Global, world: &mut World, step: Move) -> Result<&'static str, Fail> {
     Ok(word_then(world.step(alloc, step)?))
 }
 
@@ -125,19 +127,31 @@ fn go_on_decided(
     }
 }
 
+/// Makes the plain move. With decisions a pass that goes on takes one where it can.
+fn make_plain(
+    alloc: Global,
+    world: &mut World,
+    step: Move,
+    decides: bool,
+    taken: &mut u64,
+) -> Result<&'static str, Fail> {
+    match step {
+        Move::Next { pass, incarnation } => {
+            if decides {
+                return go_on_decided(alloc, world, pass, incarnation, taken);
+            }
+            go_on(alloc, world, pass, incarnation)
+        }
+        other => make(alloc, world, other),
+    }
+}
+
 /// Runs the scenario by the plain order, up to its end. With decisions each pass takes one that can.
 fn run(alloc: Global, world: &mut World, decides: bool, taken: &mut u64) -> Result<(), Fail> {
     for _ in 0..400 {
         match plain(alloc, world)? {
-            Some(Move::Next { pass, incarnation }) => {
-                if decides {
-                    let _ = go_on_decided(alloc, world, pass, incarnation, taken)?;
-                } else {
-                    let _ = go_on(alloc, world, pass, incarnation)?;
-                }
-            }
             Some(step) => {
-                let _ = make(alloc, world, step)?;
+                let _ = make_plain(alloc, world, step, decides, taken)?;
             }
             None => return Ok(()),
         }
@@ -145,28 +159,46 @@ fn run(alloc: Global, world: &mut World, decides: bool, taken: &mut u64) -> Resu
     Err(Fail::from("the run does not end"))
 }
 
+/// Makes the plain move with no decisions; a begin has to be done.
+fn make_alone(alloc: Global, world: &mut World, step: Move) -> Result<(), Fail> {
+    match step {
+        Move::Begin { role, key } => return begin_at(alloc, world, role, key),
+        Move::Next { pass, incarnation } => {
+            let _ = go_on(alloc, world, pass, incarnation)?;
+        }
+        other => {
+            let _ = make(alloc, world, other)?;
+        }
+    }
+    Ok(())
+}
+
+/// Whether the move has the role begin a pass.
+fn begins(step: &Move, role: Role) -> bool {
+    match step {
+        Move::Begin { role: next, .. } => next.same(role),
+        _ => false,
+    }
+}
+
+/// Makes the plain move, unless it has the role begin: true where it does.
+fn comes_to(alloc: Global, world: &mut World, role: Role) -> Result<bool, Fail> {
+    let Some(step) = plain(alloc, world)? else {
+        return Err(Fail::from("the role never begins"));
+    };
+    if begins(&step, role) {
+        let_go(step);
+        return Ok(true);
+    }
+    make_alone(alloc, world, step)?;
+    Ok(false)
+}
+
 /// Goes on by the plain order until the role begins a pass, and has it begin on this key: the number of that pass.
 fn begun_on(alloc: Global, world: &mut World, role: Role, word: &str) -> Result<u64, Fail> {
     for _ in 0..400 {
-        match plain(alloc, world)? {
-            Some(
-                Move::Begin {
-                    role: next,
-                    key: first,
-                },
-            ) => {
-                if next.same(role) {
-                    return begin(alloc, world, role, word);
-                }
-                begin_at(alloc, world, next, first)?;
-            }
-            Some(Move::Next { pass, incarnation }) => {
-                let _ = go_on(alloc, world, pass, incarnation)?;
-            }
-            Some(step) => {
-                let _ = make(alloc, world, step)?;
-            }
-            None => return Err(Fail::from("the role never begins")),
+        if comes_to(alloc, world, role)? {
+            return begin(alloc, world, role, word);
         }
     }
     Err(Fail::from("the run does not end"))
@@ -287,26 +319,34 @@ fn decided_once(alloc: Global) -> Result<Option<Decided>, Fail> {
     decision(alloc, &world, pass)
 }
 
-/// What a pass of the trigger is answered to the decision.
-fn told_of(alloc: Global, decided: Decided) -> Result<&'static str, Fail> {
-    let mut world = World::new(alloc, scenario(alloc)?)?;
-    let first = begun_on(alloc, &mut world, Role::Trigger, "api")?;
-    hand_in(alloc, &mut world, first, 1, decided)
+/// What the pass is answered to a decision of the request manager.
+fn told_pass(alloc: Global, world: &mut World, pass: u64) -> Result<&'static str, Fail> {
+    match decided_once(alloc)? {
+        Some(decided) => hand_in(alloc, world, pass, 1, decided),
+        None => Ok("no decision"),
+    }
 }
 
 /// What a pass of the trigger is answered to a decision of the request manager.
 fn told_trigger(alloc: Global) -> Result<&'static str, Fail> {
-    match decided_once(alloc)? {
-        Some(decided) => told_of(alloc, decided),
-        None => Ok("no decision"),
-    }
+    let mut world = World::new(alloc, scenario(alloc)?)?;
+    let first = begun_on(alloc, &mut world, Role::Trigger, "api")?;
+    told_pass(alloc, &mut world, first)
+}
+
+/// Whether there is a decision on what the pass saw; it is let go behind that.
+fn has_decision(alloc: Global, world: &World, pass: u64) -> Result<bool, Fail> {
+    let decided = decision(alloc, world, pass)?;
+    let is_there = decided.is_some();
+    let_go(decided);
+    Ok(is_there)
 }
 
 /// Whether there is a decision on what a pass of the trigger saw.
 fn decides_for_trigger(alloc: Global) -> Result<bool, Fail> {
     let mut world = World::new(alloc, scenario(alloc)?)?;
     let first = begun_on(alloc, &mut world, Role::Trigger, "api")?;
-    Ok(decision(alloc, &world, first)?.is_some())
+    has_decision(alloc, &world, first)
 }
 
 #[test]

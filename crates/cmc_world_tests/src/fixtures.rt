@@ -39,7 +39,13 @@ pub(crate) fn applied(alloc: Global, word: &str, secret: &str, host: &str) -> Re
     apply(alloc, certificate(alloc, word, secret, host)?)
 }
 
-pub(crate) fn scenario_of(
+/// Puts the step behind those of the script, where there is one.
+pub(crate) fn put(steps: &mut Steps, step: Result<Step, Fail>) -> Result<(), Fail> {
+    steps.push(step?)?;
+    Ok(())
+}
+
+fn scenario_of(
     events: u64,
     window: u64,
     roles: Roles,
@@ -84,7 +90,7 @@ pub(crate) static ROLES: [Role; 8] = [
     Role::Revision,
 ];
 
-pub(crate) fn all_roles(alloc: Global) -> Result<Roles, Fail> {
+fn all_roles(alloc: Global) -> Result<Roles, Fail> {
     let mut roles = Roles::new(alloc);
     for role in &ROLES {
         roles.add(*role)?;
@@ -93,12 +99,26 @@ pub(crate) fn all_roles(alloc: Global) -> Result<Roles, Fail> {
 }
 
 /// An approver that judges the requests of every issuer, and refuses none.
-pub(crate) fn any_issuer(alloc: Global) -> Result<Rules, Fail> {
+fn any_issuer(alloc: Global) -> Result<Rules, Fail> {
     Ok(Rules {
         issuers: texts(alloc, "*")?,
         refuse: Texts::new(alloc),
         policies: Policies::new(alloc),
     })
+}
+
+/// A scenario with all roles, and with an approver of every issuer.
+pub(crate) fn whole_scenario(
+    alloc: Global,
+    events: u64,
+    window: u64,
+    faults: Numbers,
+    material: Material,
+    script: Steps,
+) -> Result<Scenario, Fail> {
+    let roles = all_roles(alloc)?;
+    let approver = any_issuer(alloc)?;
+    scenario_of(events, window, roles, faults, approver, material, script)
 }
 
 /// The value of the question, as the scenario's own maker and signer have it.

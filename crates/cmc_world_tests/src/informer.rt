@@ -1,12 +1,13 @@
 //! What no clause says: that an informer is told, is listed anew, and finds objects by each index, with ample
 //! memory.
-use crate::checks::{passes, passes_at, tells};
+use crate::checks::{passes, tells_at, tells_text};
 use crate::fixtures::certificate;
 use cmc_informer::{Cache, Informer, Keys, Undelivered, Watch};
 use cmc_meta::{Key, Kind, OwnerRef, Owners};
 use cmc_objects::{Object, Parts, Secret};
 use cmc_tests::values::{key, name, new_meta, text};
 use std::alloc::Global;
+use std::process::Abort;
 use std::test::Fail;
 
 fn owner(alloc: Global, uid: u64) -> Result<OwnerRef, Fail> {
@@ -118,6 +119,18 @@ fn told(
     Ok((informer, answer))
 }
 
+/// That informer alone, whatever it was answered.
+fn informer_told(
+    alloc: Global,
+    watch: &Watch,
+    kind: Kind,
+    from: u64,
+    to: u64,
+) -> Result<Informer, Fail> {
+    let (informer, _) = told(alloc, watch, kind, from, to)?;
+    Ok(informer)
+}
+
 /// The names of the keys, with a blank after each.
 fn names(alloc: Global, keys: &Keys) -> Result<String, Fail> {
     let mut names = String::new(alloc);
@@ -135,7 +148,7 @@ fn owned_told(alloc: Global, informer: &Informer, uid: u64) -> Result<String, Fa
 /// The names of the Secrets that the owner of this uid has, where an informer was listed at the one position and told up
 /// to the other; nothing where it is elsewhere.
 fn owned_after(alloc: Global, watch: &Watch, from: u64, to: u64, uid: u64) -> Result<String, Fail> {
-    let (informer, _) = told(alloc, watch, Kind::Secret, from, to)?;
+    let informer = informer_told(alloc, watch, Kind::Secret, from, to)?;
     if informer.position() != to {
         return Err(Fail::from("another position"));
     }
@@ -156,38 +169,38 @@ static OWNED: [(u64, u64, u64, &str); 6] = [
 fn finds_what_is_owned(rt: HostRuntime) -> Result<(), Fail> {
     let watch = five_writes(rt.alloc(), 9)?;
     for (number, (from, to, uid, want)) in OWNED.iter().enumerate() {
-        let told = owned_after(rt.alloc(), &watch, *from, *to, *uid)?;
-        passes_at(&rt, number, told.as_str(), told.as_str() == *want);
+        let told = owned_after(rt.alloc(), &watch, *from, *to, *uid);
+        tells_at(&rt, number, told, want)?;
     }
     Ok(())
 }
 
 /// An informer that was told up to the fourth write, and is then listed at the third.
 fn listed_anew(alloc: Global, watch: &Watch) -> Result<Informer, Fail> {
-    let (mut informer, _) = told(alloc, watch, Kind::Secret, 3, 4)?;
+    let mut informer = informer_told(alloc, watch, Kind::Secret, 3, 4)?;
     informer.relist(3, listed(alloc, watch, Kind::Secret, 3)?);
     Ok(informer)
 }
 
+/// The same of the five writes, which are let go of behind it.
+fn five_listed_anew(alloc: Global) -> Result<Informer, Fail> {
+    let watch = five_writes(alloc, 9)?;
+    listed_anew(alloc, &watch)
+}
+
+/// Of the informer that was listed anew, both own the Secret of uid 3.
+fn finds_owned(rt: &impl Abort, alloc: Global, informer: &Informer) -> Result<(), Fail> {
+    tells_text(rt, "first", owned_told(alloc, informer, 1), "web-tls ")?;
+    tells_text(rt, "second", owned_told(alloc, informer, 2), "web-tls ")?;
+    passes(rt, "by its uid", informer.by_uid(3).is_some());
+    passes(rt, "by another uid", informer.by_uid(1).is_none());
+    Ok(())
+}
+
 #[test]
 fn finds_what_is_owned_after_a_list(rt: HostRuntime) -> Result<(), Fail> {
-    let alloc = rt.alloc();
-    let informer = listed_anew(alloc, &five_writes(alloc, 9)?)?;
-    tells(
-        &rt,
-        "first",
-        owned_told(alloc, &informer, 1)?.as_str(),
-        "web-tls ",
-    );
-    tells(
-        &rt,
-        "second",
-        owned_told(alloc, &informer, 2)?.as_str(),
-        "web-tls ",
-    );
-    passes(&rt, "by its uid", informer.by_uid(3).is_some());
-    passes(&rt, "by another uid", informer.by_uid(1).is_none());
-    Ok(())
+    let informer = five_listed_anew(rt.alloc())?;
+    finds_owned(&rt, rt.alloc(), &informer)
 }
 
 /// The names of the Certificates that name this Secret.
@@ -210,26 +223,41 @@ static NAMING: [(&str, &str, &str); 4] = [
     ("other", "web-tls", ""),
 ];
 
+/// An informer of Certificates that was told of the five writes, which are let go of behind it.
+fn certificates_told(alloc: Global) -> Result<Informer, Fail> {
+    let watch = five_writes(alloc, 9)?;
+    informer_told(alloc, &watch, Kind::Certificate, 0, 5)
+}
+
+/// Each row is found so, and one Certificate by its key.
+fn finds_named(rt: &impl Abort, alloc: Global, informer: &Informer) -> Result<(), Fail> {
+    for (namespace, word, want) in &NAMING {
+        let told = naming(alloc, informer, namespace, word);
+        tells_text(rt, word, told, want)?;
+    }
+    passes(rt, "by its key", holds(alloc, informer, "api")?);
+    Ok(())
+}
+
 #[test]
 fn finds_certificates_by_their_secret(rt: HostRuntime) -> Result<(), Fail> {
-    let alloc = rt.alloc();
-    let (informer, _) = told(alloc, &five_writes(alloc, 9)?, Kind::Certificate, 0, 5)?;
-    for (namespace, word, want) in &NAMING {
-        let told = naming(alloc, &informer, namespace, word)?;
-        tells(&rt, word, told.as_str(), want);
+    let informer = certificates_told(rt.alloc())?;
+    finds_named(&rt, rt.alloc(), &informer)
+}
+
+/// Where the delivery is refused, the start of what the watch still has.
+fn refused_at(answer: Result<(), Undelivered>) -> Result<Option<u64>, Fail> {
+    match answer {
+        Ok(()) => Ok(None),
+        Err(Undelivered::Gone { start }) => Ok(Some(start)),
+        Err(_) => Err(Fail::from("another answer")),
     }
-    passes(&rt, "by its key", holds(alloc, &informer, "api")?);
-    Ok(())
 }
 
 /// The position of the informer, and where the delivery is refused the start of what the watch still has.
 fn delivered(alloc: Global, watch: &Watch, from: u64) -> Result<(u64, Option<u64>), Fail> {
     let (informer, answer) = told(alloc, watch, Kind::Secret, from, 5)?;
-    match answer {
-        Ok(()) => Ok((informer.position(), None)),
-        Err(Undelivered::Gone { start }) => Ok((informer.position(), Some(start))),
-        Err(_) => Err(Fail::from("another answer")),
-    }
+    Ok((informer.position(), refused_at(answer)?))
 }
 
 fn changed(alloc: Global, watch: &Watch, from: u64, to: u64) -> Result<String, Fail> {
@@ -254,8 +282,8 @@ fn delivers_within_the_window(rt: HostRuntime) -> Result<(), Fail> {
     let in_time = delivered(alloc, &watch, 3)?;
     passes(&rt, "in time", in_time.0 == 5 && in_time.1.is_none());
     for (number, (from, to, want)) in CHANGED.iter().enumerate() {
-        let told = changed(alloc, &watch, *from, *to)?;
-        passes_at(&rt, number, told.as_str(), told.as_str() == *want);
+        let told = changed(alloc, &watch, *from, *to);
+        tells_at(&rt, number, told, want)?;
     }
     Ok(())
 }

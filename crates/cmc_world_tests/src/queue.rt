@@ -3,7 +3,8 @@ use crate::checks::{passes, passes_at, tells};
 use cmc_meta::{Key, Kind};
 use cmc_queue::Queue;
 use cmc_tests::values::key;
-use std::alloc::AllocError;
+use std::alloc::{AllocError, Global};
+use std::process::Abort;
 use std::test::Fail;
 
 /// A call of the queue.
@@ -100,18 +101,28 @@ fn add(queue: &mut Queue, key: &Key) -> Result<(), AllocError> {
     Ok(())
 }
 
+/// Of the queue that has both keys, the one of `api` comes before that of `web`, and can be taken.
+fn gives_both(rt: &impl Abort, queue: &mut Queue, web: &Key, api: &Key) {
+    tells(rt, "first", named(queue.first()), "api");
+    tells(rt, "following", named(queue.following(api)), "web");
+    tells(rt, "at the end", named(queue.following(web)), "");
+    passes(rt, "taken", queue.take(api));
+    tells(rt, "first then", named(queue.first()), "web");
+}
+
+/// A new queue gives none, and then both.
+fn gives_in_order(rt: &impl Abort, alloc: Global, web: &Key, api: &Key) -> Result<(), Fail> {
+    let mut queue = Queue::new(alloc);
+    tells(rt, "none", named(queue.first()), "");
+    add(&mut queue, web)?;
+    add(&mut queue, api)?;
+    gives_both(rt, &mut queue, web, api);
+    Ok(())
+}
+
 #[test]
 fn keys_are_given_in_order(rt: HostRuntime) -> Result<(), Fail> {
-    let mut queue = Queue::new(rt.alloc());
     let web = key(rt.alloc(), Kind::Certificate, "web")?;
     let api = key(rt.alloc(), Kind::Certificate, "api")?;
-    tells(&rt, "none", named(queue.first()), "");
-    add(&mut queue, &web)?;
-    add(&mut queue, &api)?;
-    tells(&rt, "first", named(queue.first()), "api");
-    tells(&rt, "following", named(queue.following(&api)), "web");
-    tells(&rt, "at the end", named(queue.following(&web)), "");
-    passes(&rt, "taken", queue.take(&api));
-    tells(&rt, "first then", named(queue.first()), "web");
-    Ok(())
+    gives_in_order(&rt, rt.alloc(), &web, &api)
 }

@@ -1,8 +1,6 @@
 //! A controller that stops after any move of a run and starts again: the run still ends, and with one issuance.
 use crate::audit::{audit, raises, stands_true};
-use crate::fixtures::{
-    ROLES, all_roles, any_issuer, apply, certificate, is_done, scenario_of, value_then,
-};
+use crate::fixtures::{ROLES, apply, certificate, is_done, put, value_then, whole_scenario};
 use cmc_history::History;
 use cmc_meta::{ConditionKind, Kind, Numbers};
 use cmc_objects::{
@@ -44,18 +42,8 @@ fn material(alloc: Global) -> Result<Material, Fail> {
 
 /// The scenario of this script, with all roles and no faults.
 fn scenario(alloc: Global, script: Steps) -> Result<Scenario, Fail> {
-    let roles = all_roles(alloc)?;
-    let approver = any_issuer(alloc)?;
-    let none = Numbers::new(alloc);
-    scenario_of(
-        100_000,
-        1000,
-        roles,
-        none,
-        approver,
-        material(alloc)?,
-        script,
-    )
+    let material = material(alloc)?;
+    whole_scenario(alloc, 100_000, 1000, Numbers::new(alloc), material, script)
 }
 
 /// Gives the pass the value of its question.
@@ -129,19 +117,49 @@ fn again(step: &Move) -> Result<Move, Fail> {
     }
 }
 
+/// Keeps an equal move.
+fn keep(moves: &mut Vec<Move>, step: &Move) -> Result<(), Fail> {
+    moves.push(again(step)?)?;
+    Ok(())
+}
+
+/// Keeps the move, and makes it.
+fn keep_and_make(
+    alloc: Global,
+    world: &mut World,
+    moves: &mut Vec<Move>,
+    step: Move,
+) -> Result<(), Fail> {
+    match keep(moves, &step) {
+        Ok(()) => make(alloc, world, step),
+        Err(fail) => {
+            let_go(step);
+            Err(fail)
+        }
+    }
+}
+
 /// Makes the plain moves to the end, and keeps them.
-fn plain_moves(alloc: Global, world: &mut World) -> Result<Vec<Move>, Fail> {
-    let mut moves = Vec::new(alloc);
+fn keep_all(alloc: Global, world: &mut World, moves: &mut Vec<Move>) -> Result<(), Fail> {
     for _ in 0..1000 {
         match plain(alloc, world)? {
-            None => return Ok(moves),
-            Some(step) => {
-                moves.push(again(&step)?)?;
-                make(alloc, world, step)?;
-            }
+            None => return Ok(()),
+            Some(step) => keep_and_make(alloc, world, moves, step)?,
         }
     }
     Err(Fail::from("no end"))
+}
+
+/// The plain moves to the end, which it makes.
+fn plain_moves(alloc: Global, world: &mut World) -> Result<Vec<Move>, Fail> {
+    let mut moves = Vec::new(alloc);
+    match keep_all(alloc, world, &mut moves) {
+        Ok(()) => Ok(moves),
+        Err(fail) => {
+            let_go(moves);
+            Err(fail)
+        }
+    }
 }
 
 /// The open pass that the newest entry is of; `None` where it is of none, or ends one.
@@ -222,7 +240,7 @@ fn finish(alloc: Global, world: &mut World) -> Result<(), Fail> {
 /// The moves of the run that nothing disturbs, after the step that applies the Certificate.
 fn undisturbed(alloc: Global) -> Result<Vec<Move>, Fail> {
     let mut script = Steps::new(alloc);
-    script.push(applied(alloc)?)?;
+    put(&mut script, applied(alloc))?;
     let mut world = World::new(alloc, scenario(alloc, script)?)?;
     make(alloc, &mut world, Move::Script)?;
     plain_moves(alloc, &mut world)
@@ -231,7 +249,7 @@ fn undisturbed(alloc: Global) -> Result<Vec<Move>, Fail> {
 /// The scenario in which the role stops and starts again, behind by so many writes.
 fn restarted(alloc: Global, role: Role, behind: u64) -> Result<Scenario, Fail> {
     let mut script = Steps::new(alloc);
-    script.push(applied(alloc)?)?;
+    put(&mut script, applied(alloc))?;
     script.push(Step::Stop { role })?;
     script.push(Step::Start { role, behind })?;
     script.push(Step::Settle)?;

@@ -4,13 +4,13 @@
 use crate::audit::audit;
 use crate::checks::{passes, tells};
 use crate::deciding::decision;
-use crate::fixtures::{all_roles, any_issuer, applied, scenario_of, value_of};
+use crate::fixtures::{applied, put, value_of, whole_scenario};
 use cmc_history::History;
 use cmc_meta::{Bytes, Key, Kind, Numbers};
 use cmc_objects::{Cause, Entry, Material, Object, Order, Parts, Role, Secret, Step};
 use cmc_plain::plain;
 use cmc_setup::{Scenario, Steps};
-use cmc_tests::values::{key, new_meta, text};
+use cmc_tests::values::{key, let_go, new_meta, text};
 use cmc_world::{Decided, Lack, Move, Stepped, World};
 use std::alloc::Global;
 use std::mem;
@@ -58,8 +58,8 @@ fn release(role: Role, kind: Kind) -> Step {
 
 fn first_steps(alloc: Global, steps: &mut Steps) -> Result<(), Fail> {
     steps.push(Step::Settle)?;
-    steps.push(applied(alloc, "web", "web-tls", "example.com")?)?;
-    steps.push(applied(alloc, "api", "api-tls", "api.example.com")?)?;
+    put(steps, applied(alloc, "web", "web-tls", "example.com"))?;
+    put(steps, applied(alloc, "api", "api-tls", "api.example.com"))?;
     steps.push(Step::Until {
         role: Role::Issuing,
         kind: Kind::Secret,
@@ -68,30 +68,33 @@ fn first_steps(alloc: Global, steps: &mut Steps) -> Result<(), Fail> {
     steps.push(Step::Stop {
         role: Role::Issuing,
     })?;
-    steps.push(secret(alloc, "web-tls")?)?;
+    put(steps, secret(alloc, "web-tls"))?;
     steps.push(Step::Start {
         role: Role::Issuing,
         behind: 3,
     })?;
     steps.push(hold(Role::Trigger, Kind::Secret))?;
-    steps.push(applied(alloc, "web", "web-tls", "www.example.com")?)?;
+    put(steps, applied(alloc, "web", "web-tls", "www.example.com"))?;
     steps.push(Step::Tick { seconds: 5 })?;
     Ok(())
 }
 
 fn last_steps(alloc: Global, steps: &mut Steps) -> Result<(), Fail> {
     steps.push(release(Role::Trigger, Kind::Secret))?;
-    steps.push(delete(alloc, Kind::Secret, "web-tls")?)?;
+    put(steps, delete(alloc, Kind::Secret, "web-tls"))?;
     steps.push(Step::Stop {
         role: Role::KeyManager,
     })?;
-    steps.push(applied(alloc, "shop", "shop-tls", "shop.example.com")?)?;
+    put(
+        steps,
+        applied(alloc, "shop", "shop-tls", "shop.example.com"),
+    )?;
     steps.push(Step::Start {
         role: Role::KeyManager,
         behind: 0,
     })?;
-    steps.push(delete(alloc, Kind::Certificate, "web")?)?;
-    steps.push(applied(alloc, "web", "web-tls", "example.com")?)?;
+    put(steps, delete(alloc, Kind::Certificate, "web"))?;
+    put(steps, applied(alloc, "web", "web-tls", "example.com"))?;
     Ok(())
 }
 
@@ -111,10 +114,8 @@ fn faults(alloc: Global) -> Result<Numbers, Fail> {
 
 fn scenario(alloc: Global, events: u64) -> Result<Scenario, Fail> {
     let faults = faults(alloc)?;
-    let roles = all_roles(alloc)?;
-    let approver = any_issuer(alloc)?;
-    let none = Material::new(alloc);
-    scenario_of(events, 2, roles, faults, approver, none, script(alloc)?)
+    let script = script(alloc)?;
+    whole_scenario(alloc, events, 2, faults, Material::new(alloc), script)
 }
 
 /// A number below `bound`, of a linear congruential generator.
@@ -321,16 +322,19 @@ struct Told {
 
 fn tell(told: &mut Told, pass: u64, order: Order) {
     let last = mem::replace(&mut told.last, Some(order));
-    if told.pass != pass {
-        told.before = last;
+    if told.pass == pass {
+        let_go(last);
+    } else {
+        let_go(mem::replace(&mut told.before, last));
     }
     told.pass = pass;
 }
 
 /// Keeps the question that a step has told.
 fn hear(told: &mut Told, answer: Stepped) {
-    if let Stepped::Order { pass, order } = answer {
-        tell(told, pass, order);
+    match answer {
+        Stepped::Order { pass, order } => tell(told, pass, order),
+        other => let_go(other),
     }
 }
 
@@ -380,12 +384,19 @@ fn set_out(seed: u64) -> Walk {
 }
 
 /// Makes so many moves.
-fn walk_on(alloc: Global, world: &mut World, met: &mut Met, seed: u64) -> Result<(), Fail> {
-    let mut walk = set_out(seed);
+fn walk_far(alloc: Global, world: &mut World, walk: &mut Walk, met: &mut Met) -> Result<(), Fail> {
     for _ in 0..750 {
-        go_on(alloc, world, &mut walk, met)?;
+        go_on(alloc, world, walk, met)?;
     }
     Ok(())
+}
+
+/// The same on a new walk, which is let go of behind it.
+fn walk_on(alloc: Global, world: &mut World, met: &mut Met, seed: u64) -> Result<(), Fail> {
+    let mut walk = set_out(seed);
+    let walked = walk_far(alloc, world, &mut walk, met);
+    let_go(walk);
+    walked
 }
 
 fn wander(
