@@ -15,6 +15,7 @@ use cmc_meta::{Bytes, Text, Texts};
 use cmc_objects::{CertificateRequest, JudgeOrder, Rules, Shared, SignOrder, SignRow, Signing};
 use cmc_policy_rules::{Field, Policies, Policy};
 use std::alloc::{AllocError, Global};
+use std::process::Abort;
 use std::test::Fail;
 
 const NOW: i64 = 1_893_456_000;
@@ -33,8 +34,9 @@ static STANDING_IN: &str =
     "3082015530820122a0030201020204499602d2300a06082a8648ce3d040302301d311b301906035504030c12636572742d6d616e616765722e6c6f63616c301e170d3330303130313030303030305a170d3330303430313030303030305a30163114301206035504030c0b6578616d706c652e636f6d3059301306072a8648ce3d020106082a8648ce3d03010703420004c8d4912385d6e2891d6cfabb34b212e66324e6f7093596d65399c3133beba273bf1c4ba284d690d02756f61451a3b3791c0f7f9ef6d9ac371ee1fa5258d67588a357305530530603551d11044c304a820b6578616d706c652e636f6d820f7777772e6578616d706c652e636f6d87040a000001861568747470733a2f2f6578616d706c652e636f6d2f78810d61406578616d706c652e636f6d300a06082a8648ce3d0403020321008e637fd94d5398f950f81012c766a315a1fdf99c12efa02bc6df7f0f8158e8de";
 
 fn asking(alloc: Global, name: &str) -> Result<CertificateRequest, Fail> {
+    let octets = made(alloc, &[made_requests::made()], name)?;
     let mut request = request(alloc)?;
-    request.spec.request = made(alloc, &[made_requests::made()], name)?;
+    request.spec.request = octets;
     Ok(request)
 }
 
@@ -112,29 +114,43 @@ fn issues_certificates(rt: HostRuntime) -> Result<(), Fail> {
     Ok(())
 }
 
-/// What stands in for the certificate of this request and this key has these octets.
-fn stands_in(alloc: Global, request: &[u8], key: &[u8], want: &&str) -> Result<bool, AllocError> {
+fn is_temporary(
+    alloc: Global,
+    request: &[u8],
+    key: &[u8],
+    want: &[u8],
+) -> Result<bool, AllocError> {
     match temporary(alloc, request, key, NOW)? {
-        Some(certificate) => Ok(certificate.as_slice() == octets(alloc, want)?.as_slice()),
+        Some(certificate) => Ok(certificate.as_slice() == want),
         None => Ok(false),
     }
+}
+
+/// What stands in for the certificate of this request and this key has these octets.
+fn stands_in(alloc: Global, request: &[u8], key: &[u8], want: &&str) -> Result<bool, AllocError> {
+    let want = octets(alloc, want)?;
+    is_temporary(alloc, request, key, &want)
 }
 
 fn is_none(alloc: Global, request: &[u8], key: &[u8]) -> Result<bool, AllocError> {
     Ok(temporary(alloc, request, key, NOW)?.is_none())
 }
 
+fn stands(rt: &impl Abort, alloc: Global, request: &[u8], key: &[u8]) -> Result<(), AllocError> {
+    let is_made = stands_in(alloc, request, key, &STANDING_IN)?;
+    passes(rt, "stands in", is_made);
+    passes(rt, "no request", is_none(alloc, key, key)?);
+    passes(rt, "no key", is_none(alloc, request, request)?);
+    Ok(())
+}
+
 #[test]
 fn stands_in_while_a_request_waits(rt: HostRuntime) -> Result<(), Fail> {
     let alloc = rt.alloc();
-    temporary_is_read();
     let request = made(alloc, &[made_requests::made()], "P-256, all names")?;
     let key = made(alloc, &[made_keys::made()], "p256 as PrivateKeyInfo")?;
-    let (request, key) = (request.as_slice(), key.as_slice());
-    let is_made = stands_in(alloc, request, key, &STANDING_IN)?;
-    passes(&rt, "stands in", is_made);
-    passes(&rt, "no request", is_none(alloc, key, key)?);
-    passes(&rt, "no key", is_none(alloc, request, request)?);
+    stands(&rt, alloc, request.as_slice(), key.as_slice())?;
+    temporary_is_read();
     Ok(())
 }
 
@@ -202,6 +218,14 @@ fn is_copied(answered: &Answered) -> Result<bool, AllocError> {
     Ok(answered.copy()?.order().same(answered.order()))
 }
 
+// The answer comes by reference, so that no assertion has it in hand.
+fn waits(rt: &impl Abort, answered: &Answered) -> Result<(), AllocError> {
+    let is_pending = matches!(answered.answer(), Signing::Pending);
+    passes(rt, "pending", is_pending);
+    passes(rt, "copied", is_copied(answered)?);
+    Ok(())
+}
+
 fn number_in(answered: Answered) -> u64 {
     let (order, _) = answered.into_parts();
     order.number()
@@ -211,9 +235,7 @@ fn number_in(answered: Answered) -> u64 {
 #[test]
 fn answers_a_question(rt: HostRuntime) -> Result<(), Fail> {
     let answered = answered(rt.alloc())?;
-    let is_pending = matches!(answered.answer(), Signing::Pending);
-    passes(&rt, "pending", is_pending);
-    passes(&rt, "copied", is_copied(&answered)?);
+    waits(&rt, &answered)?;
     passes(&rt, "parts", number_in(answered) == 1);
     Ok(())
 }
