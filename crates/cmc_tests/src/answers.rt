@@ -74,6 +74,36 @@ fn failure(answer: &Signing) -> &str {
     }
 }
 
+/// The answer by the row has these octets.
+fn issues(
+    alloc: Global,
+    row: &SignRow,
+    asked: &CertificateRequest,
+    want: &[u8],
+) -> Result<bool, AllocError>
+    requires { is_row_form row.now ≡ true }
+{
+    let answer = signing_of(alloc, row, 7, asked, NOW)?;
+    let is_same = issued(&answer) == want;
+    let_go(answer);
+    Ok(is_same)
+}
+
+/// The answer by the row is a failure with this message.
+fn fails(
+    alloc: Global,
+    row: &SignRow,
+    asked: &CertificateRequest,
+    want: &str,
+) -> Result<bool, AllocError>
+    requires { is_row_form row.now ≡ true }
+{
+    let answer = signing_of(alloc, row, 1, asked, NOW)?;
+    let is_same = failure(&answer) == want;
+    let_go(answer);
+    Ok(is_same)
+}
+
 /// The answer by the row has these octets, of a text that is handed on by reference, so that it is not spelt in what is
 /// proved.
 fn is_issued(
@@ -85,10 +115,7 @@ fn is_issued(
     requires { is_row_form row.now ≡ true }
 {
     let want = octets(alloc, want)?;
-    let answer = signing_of(alloc, row, 7, asked, NOW)?;
-    let is_same = issued(&answer) == want.as_slice();
-    let_go(answer);
-    Ok(is_same)
+    issues(alloc, row, asked, &want)
 }
 
 fn is_of_request(alloc: Global, asked: &CertificateRequest) -> Result<bool, AllocError> {
@@ -105,12 +132,21 @@ fn is_of_stand_in(alloc: Global, asked: &CertificateRequest) -> Result<bool, All
     is_issued
 }
 
+// The request comes by reference, so that no `?` lets it go.
+fn issues_both(
+    rt: &impl Abort,
+    alloc: Global,
+    asked: &CertificateRequest,
+) -> Result<(), AllocError> {
+    passes(rt, "of the request", is_of_request(alloc, asked)?);
+    passes(rt, "of a stand-in key", is_of_stand_in(alloc, asked)?);
+    Ok(())
+}
+
 #[test]
 fn issues_certificates(rt: HostRuntime) -> Result<(), Fail> {
-    let alloc = rt.alloc();
-    let asked = asking(alloc, "P-256, all names")?;
-    passes(&rt, "of the request", is_of_request(alloc, &asked)?);
-    passes(&rt, "of a stand-in key", is_of_stand_in(alloc, &asked)?);
+    let asked = asking(rt.alloc(), "P-256, all names")?;
+    issues_both(&rt, rt.alloc(), &asked)?;
     Ok(())
 }
 
@@ -154,53 +190,61 @@ fn stands_in_while_a_request_waits(rt: HostRuntime) -> Result<(), Fail> {
     Ok(())
 }
 
-fn failure_of(alloc: Global, asked: &CertificateRequest) -> Result<Signing, AllocError> {
-    answer_of(alloc, issue(alloc, None, 0, None, None), asked)
-}
-
-fn is_failure(alloc: Global, asked: &CertificateRequest, want: &str) -> Result<bool, AllocError> {
-    Ok(failure(&failure_of(alloc, asked)?) == want)
-}
-
 static NOT_READABLE: &str = "The request is not readable";
+
+fn is_not_readable(alloc: Global, asked: &CertificateRequest) -> Result<bool, AllocError> {
+    let row = issue(alloc, None, 0, None, None);
+    let fails = fails(alloc, &row, asked, NOT_READABLE);
+    let_go(row);
+    fails
+}
 
 #[test]
 fn fails_what_is_not_readable(rt: HostRuntime) -> Result<(), Fail> {
-    let alloc = rt.alloc();
-    let asked = asking(alloc, "Ed25519")?;
-    let is_refused = is_failure(alloc, &asked, NOT_READABLE)?;
+    let asked = asking(rt.alloc(), "Ed25519")?;
+    let is_refused = is_not_readable(rt.alloc(), &asked)?;
     passes(&rt, "Ed25519", is_refused);
-    let is_refused = is_failure(alloc, &request(alloc)?, NOT_READABLE)?;
+    Ok(())
+}
+
+#[test]
+fn fails_what_is_no_request(rt: HostRuntime) -> Result<(), Fail> {
+    let asked = request(rt.alloc())?;
+    let is_refused = is_not_readable(rt.alloc(), &asked)?;
     passes(&rt, "no request", is_refused);
     Ok(())
 }
 
-fn answer_of(alloc: Global, row: SignRow, asked: &CertificateRequest) -> Result<Signing, AllocError>
-    requires { is_row_form row ≡ true }
-{
-    let answer = signing_of(alloc, &row, 1, asked, NOW);
-    let_go(row);
-    answer
-}
-
 fn is_raw(alloc: Global, asked: &CertificateRequest) -> Result<bool, AllocError> {
     let der = Bytes::from_slice(alloc, &[1, 2])?;
-    let answer = answer_of(alloc, SignRow::Raw { der }, asked)?;
-    Ok(issued(&answer) == [1, 2].as_slice())
+    let row = SignRow::Raw { der };
+    let issues = issues(alloc, &row, asked, &[1, 2]);
+    let_go(row);
+    issues
 }
 
 fn is_refusal(alloc: Global, asked: &CertificateRequest) -> Result<bool, AllocError> {
     let message = Text::from_str(alloc, "no")?;
-    let answer = answer_of(alloc, SignRow::Fail { message }, asked)?;
-    Ok(failure(&answer) == "no")
+    let row = SignRow::Fail { message };
+    let fails = fails(alloc, &row, asked, "no");
+    let_go(row);
+    fails
+}
+
+fn answers_both(
+    rt: &impl Abort,
+    alloc: Global,
+    asked: &CertificateRequest,
+) -> Result<(), AllocError> {
+    passes(rt, "raw", is_raw(alloc, asked)?);
+    passes(rt, "fail", is_refusal(alloc, asked)?);
+    Ok(())
 }
 
 #[test]
 fn answers_by_the_row(rt: HostRuntime) -> Result<(), Fail> {
-    let alloc = rt.alloc();
-    let asked = asking(alloc, "P-384, no names")?;
-    passes(&rt, "raw", is_raw(alloc, &asked)?);
-    passes(&rt, "fail", is_refusal(alloc, &asked)?);
+    let asked = asking(rt.alloc(), "P-384, no names")?;
+    answers_both(&rt, rt.alloc(), &asked)?;
     Ok(())
 }
 

@@ -752,9 +752,11 @@ fn is_pair(secret: &Secret, facts: &Facts) -> bool {
 
 /// The Secret of the row.
 fn secret_of(alloc: Global, row: &str) -> Result<Secret, Fail> {
+    let parts = parts(alloc, column(row, 0), column(row, 1))?;
+    let annotations = annotations(alloc, column(row, 2))?;
     let mut secret = whole::secret(alloc)?;
-    secret.parts = parts(alloc, column(row, 0), column(row, 1))?;
-    secret.meta.annotations = annotations(alloc, column(row, 2))?;
+    secret.parts = parts;
+    secret.meta.annotations = annotations;
     Ok(secret)
 }
 

@@ -271,7 +271,9 @@ fn question(alloc: Global, row: &str) -> Result<KeyOrder, Fail> {
 fn is_made_again(made: Made, other: &Made) -> bool {
     let (asked, file) = made.into_parts();
     let again = Made::new(asked, file);
-    again.order().same(other.order()) && again.bytes() == other.bytes()
+    let is_same = again.order().same(other.order()) && again.bytes() == other.bytes();
+    let_go(again);
+    is_same
 }
 
 fn made_for(alloc: Global, order: &KeyOrder) -> Result<Made, Fail> {
@@ -322,7 +324,9 @@ fn makes_keys_by_the_row(rt: HostRuntime) -> Result<(), Fail> {
 fn is_signed_again(signed: SignedCsr, other: &SignedCsr) -> bool {
     let (order, signature) = signed.into_parts();
     let again = SignedCsr::new(order, signature);
-    again.order().same(other.order()) && again.signature() == other.signature()
+    let is_same = again.order().same(other.order()) && again.signature() == other.signature();
+    let_go(again);
+    is_same
 }
 
 fn body_order(alloc: Global, file: &str, body: &str) -> Result<CsrOrder, Fail> {

@@ -21,11 +21,8 @@ fn see_next(alloc: Global, secrets: &mut Secrets, word: &str) -> Result<(), Fail
     Ok(())
 }
 
-// Filled where they stand: views are wide to let go of at each `?`.
-fn see_secrets(alloc: Global, views: &mut Views) -> Result<(), Fail> {
-    see_next(alloc, &mut views.next, "web-bbbbf")?;
-    see_next(alloc, &mut views.next, "web-bbbbg")?;
-    views.secret = Some(named(alloc, "web-tls")?);
+fn see_secret(alloc: Global, secret: &mut Option<Shared<Secret>>) -> Result<(), Fail> {
+    *secret = Some(named(alloc, "web-tls")?);
     Ok(())
 }
 
@@ -34,8 +31,11 @@ fn see_request(alloc: Global, requests: &mut Requests) -> Result<(), Fail> {
     Ok(())
 }
 
+// Filled where they stand: views are wide to let go of at each `?`.
 fn see(alloc: Global, views: &mut Views) -> Result<(), Fail> {
-    see_secrets(alloc, views)?;
+    see_next(alloc, &mut views.next, "web-bbbbf")?;
+    see_next(alloc, &mut views.next, "web-bbbbg")?;
+    see_secret(alloc, &mut views.secret)?;
     see_request(alloc, &mut views.requests)
 }
 

@@ -1,3 +1,5 @@
+ghost use Rattle.cmc_time.specs.Asn1.{IsCertificateTime};
+
 use crate::checks::passes;
 use cmc_time::*;
 use std::alloc::{AllocError, Global};
@@ -92,12 +94,20 @@ fn times_of_certificates(rt: HostRuntime) {
     passes(&rt, "tag of 2050", asn1_time_tag(2_524_608_000) == 0x18);
 }
 
+/// The moment is printed as the text.
+fn is_body(alloc: Global, at: i64, text: &str) -> Result<bool, AllocError>
+    requires { IsCertificateTime at }
+{
+    Ok(print_asn1_time(alloc, at)?.as_str() == text)
+}
+
 #[test]
 fn printed_times_of_certificates(rt: HostRuntime) -> Result<(), Fail> {
-    let early = print_asn1_time(rt.alloc(), 1_893_456_000)?;
-    passes(&rt, "before 2050", early.as_str() == "300101000000Z");
-    let late = print_asn1_time(rt.alloc(), 2_524_608_000)?;
-    passes(&rt, "in 2050", late.as_str() == "20500101000000Z");
+    let alloc = rt.alloc();
+    let early = is_body(alloc, 1_893_456_000, "300101000000Z")?;
+    passes(&rt, "before 2050", early);
+    let late = is_body(alloc, 2_524_608_000, "20500101000000Z")?;
+    passes(&rt, "in 2050", late);
     Ok(())
 }
 
