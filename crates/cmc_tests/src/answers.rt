@@ -15,6 +15,7 @@ use cmc_meta::{Bytes, Text, Texts};
 use cmc_objects::{CertificateRequest, JudgeOrder, Rules, Shared, SignOrder, SignRow, Signing};
 use cmc_policy_rules::{Field, Policies, Policy};
 use std::alloc::{AllocError, Global};
+use std::process::Abort;
 use std::test::Fail;
 
 const NOW: i64 = 1_893_456_000;
@@ -33,8 +34,9 @@ static STANDING_IN: &str =
     "3082015530820122a0030201020204499602d2300a06082a8648ce3d040302301d311b301906035504030c12636572742d6d616e616765722e6c6f63616c301e170d3330303130313030303030305a170d3330303430313030303030305a30163114301206035504030c0b6578616d706c652e636f6d3059301306072a8648ce3d020106082a8648ce3d03010703420004c8d4912385d6e2891d6cfabb34b212e66324e6f7093596d65399c3133beba273bf1c4ba284d690d02756f61451a3b3791c0f7f9ef6d9ac371ee1fa5258d67588a357305530530603551d11044c304a820b6578616d706c652e636f6d820f7777772e6578616d706c652e636f6d87040a000001861568747470733a2f2f6578616d706c652e636f6d2f78810d61406578616d706c652e636f6d300a06082a8648ce3d0403020321008e637fd94d5398f950f81012c766a315a1fdf99c12efa02bc6df7f0f8158e8de";
 
 fn asking(alloc: Global, name: &str) -> Result<CertificateRequest, Fail> {
+    let octets = made(alloc, &[made_requests::made()], name)?;
     let mut request = request(alloc)?;
-    request.spec.request = made(alloc, &[made_requests::made()], name)?;
+    request.spec.request = octets;
     Ok(request)
 }
 
@@ -72,6 +74,36 @@ fn failure(answer: &Signing) -> &str {
     }
 }
 
+/// The answer by the row has these octets.
+fn issues(
+    alloc: Global,
+    row: &SignRow,
+    asked: &CertificateRequest,
+    want: &[u8],
+) -> Result<bool, AllocError>
+    requires { is_row_form row.now ≡ true }
+{
+    let answer = signing_of(alloc, row, 7, asked, NOW)?;
+    let is_same = issued(&answer) == want;
+    let_go(answer);
+    Ok(is_same)
+}
+
+/// The answer by the row is a failure with this message.
+fn fails(
+    alloc: Global,
+    row: &SignRow,
+    asked: &CertificateRequest,
+    want: &str,
+) -> Result<bool, AllocError>
+    requires { is_row_form row.now ≡ true }
+{
+    let answer = signing_of(alloc, row, 1, asked, NOW)?;
+    let is_same = failure(&answer) == want;
+    let_go(answer);
+    Ok(is_same)
+}
+
 /// The answer by the row has these octets, of a text that is handed on by reference, so that it is not spelt in what is
 /// proved.
 fn is_issued(
@@ -83,10 +115,7 @@ fn is_issued(
     requires { is_row_form row.now ≡ true }
 {
     let want = octets(alloc, want)?;
-    let answer = signing_of(alloc, row, 7, asked, NOW)?;
-    let is_same = issued(&answer) == want.as_slice();
-    let_go(answer);
-    Ok(is_same)
+    issues(alloc, row, asked, &want)
 }
 
 fn is_of_request(alloc: Global, asked: &CertificateRequest) -> Result<bool, AllocError> {
@@ -103,88 +132,119 @@ fn is_of_stand_in(alloc: Global, asked: &CertificateRequest) -> Result<bool, All
     is_issued
 }
 
+// The request comes by reference, so that no `?` lets it go.
+fn issues_both(
+    rt: &impl Abort,
+    alloc: Global,
+    asked: &CertificateRequest,
+) -> Result<(), AllocError> {
+    passes(rt, "of the request", is_of_request(alloc, asked)?);
+    passes(rt, "of a stand-in key", is_of_stand_in(alloc, asked)?);
+    Ok(())
+}
+
 #[test]
 fn issues_certificates(rt: HostRuntime) -> Result<(), Fail> {
-    let alloc = rt.alloc();
-    let asked = asking(alloc, "P-256, all names")?;
-    passes(&rt, "of the request", is_of_request(alloc, &asked)?);
-    passes(&rt, "of a stand-in key", is_of_stand_in(alloc, &asked)?);
+    let asked = asking(rt.alloc(), "P-256, all names")?;
+    issues_both(&rt, rt.alloc(), &asked)?;
     Ok(())
+}
+
+fn is_temporary(
+    alloc: Global,
+    request: &[u8],
+    key: &[u8],
+    want: &[u8],
+) -> Result<bool, AllocError> {
+    match temporary(alloc, request, key, NOW)? {
+        Some(certificate) => Ok(certificate.as_slice() == want),
+        None => Ok(false),
+    }
 }
 
 /// What stands in for the certificate of this request and this key has these octets.
 fn stands_in(alloc: Global, request: &[u8], key: &[u8], want: &&str) -> Result<bool, AllocError> {
-    match temporary(alloc, request, key, NOW)? {
-        Some(certificate) => Ok(certificate.as_slice() == octets(alloc, want)?.as_slice()),
-        None => Ok(false),
-    }
+    let want = octets(alloc, want)?;
+    is_temporary(alloc, request, key, &want)
 }
 
 fn is_none(alloc: Global, request: &[u8], key: &[u8]) -> Result<bool, AllocError> {
     Ok(temporary(alloc, request, key, NOW)?.is_none())
 }
 
-#[test]
-fn stands_in_while_a_request_waits(rt: HostRuntime) -> Result<(), Fail> {
-    let alloc = rt.alloc();
-    temporary_is_read();
-    let request = made(alloc, &[made_requests::made()], "P-256, all names")?;
-    let key = made(alloc, &[made_keys::made()], "p256 as PrivateKeyInfo")?;
-    let (request, key) = (request.as_slice(), key.as_slice());
+fn stands(rt: &impl Abort, alloc: Global, request: &[u8], key: &[u8]) -> Result<(), AllocError> {
     let is_made = stands_in(alloc, request, key, &STANDING_IN)?;
-    passes(&rt, "stands in", is_made);
-    passes(&rt, "no request", is_none(alloc, key, key)?);
-    passes(&rt, "no key", is_none(alloc, request, request)?);
+    passes(rt, "stands in", is_made);
+    passes(rt, "no request", is_none(alloc, key, key)?);
+    passes(rt, "no key", is_none(alloc, request, request)?);
     Ok(())
 }
 
-fn failure_of(alloc: Global, asked: &CertificateRequest) -> Result<Signing, AllocError> {
-    answer_of(alloc, issue(alloc, None, 0, None, None), asked)
-}
-
-fn is_failure(alloc: Global, asked: &CertificateRequest, want: &str) -> Result<bool, AllocError> {
-    Ok(failure(&failure_of(alloc, asked)?) == want)
+#[test]
+fn stands_in_while_a_request_waits(rt: HostRuntime) -> Result<(), Fail> {
+    let alloc = rt.alloc();
+    let request = made(alloc, &[made_requests::made()], "P-256, all names")?;
+    let key = made(alloc, &[made_keys::made()], "p256 as PrivateKeyInfo")?;
+    stands(&rt, alloc, request.as_slice(), key.as_slice())?;
+    temporary_is_read();
+    Ok(())
 }
 
 static NOT_READABLE: &str = "The request is not readable";
 
+fn is_not_readable(alloc: Global, asked: &CertificateRequest) -> Result<bool, AllocError> {
+    let row = issue(alloc, None, 0, None, None);
+    let fails = fails(alloc, &row, asked, NOT_READABLE);
+    let_go(row);
+    fails
+}
+
 #[test]
 fn fails_what_is_not_readable(rt: HostRuntime) -> Result<(), Fail> {
-    let alloc = rt.alloc();
-    let asked = asking(alloc, "Ed25519")?;
-    let is_refused = is_failure(alloc, &asked, NOT_READABLE)?;
+    let asked = asking(rt.alloc(), "Ed25519")?;
+    let is_refused = is_not_readable(rt.alloc(), &asked)?;
     passes(&rt, "Ed25519", is_refused);
-    let is_refused = is_failure(alloc, &request(alloc)?, NOT_READABLE)?;
+    Ok(())
+}
+
+#[test]
+fn fails_what_is_no_request(rt: HostRuntime) -> Result<(), Fail> {
+    let asked = request(rt.alloc())?;
+    let is_refused = is_not_readable(rt.alloc(), &asked)?;
     passes(&rt, "no request", is_refused);
     Ok(())
 }
 
-fn answer_of(alloc: Global, row: SignRow, asked: &CertificateRequest) -> Result<Signing, AllocError>
-    requires { is_row_form row ≡ true }
-{
-    let answer = signing_of(alloc, &row, 1, asked, NOW);
-    let_go(row);
-    answer
-}
-
 fn is_raw(alloc: Global, asked: &CertificateRequest) -> Result<bool, AllocError> {
     let der = Bytes::from_slice(alloc, &[1, 2])?;
-    let answer = answer_of(alloc, SignRow::Raw { der }, asked)?;
-    Ok(issued(&answer) == [1, 2].as_slice())
+    let row = SignRow::Raw { der };
+    let issues = issues(alloc, &row, asked, &[1, 2]);
+    let_go(row);
+    issues
 }
 
 fn is_refusal(alloc: Global, asked: &CertificateRequest) -> Result<bool, AllocError> {
     let message = Text::from_str(alloc, "no")?;
-    let answer = answer_of(alloc, SignRow::Fail { message }, asked)?;
-    Ok(failure(&answer) == "no")
+    let row = SignRow::Fail { message };
+    let fails = fails(alloc, &row, asked, "no");
+    let_go(row);
+    fails
+}
+
+fn answers_both(
+    rt: &impl Abort,
+    alloc: Global,
+    asked: &CertificateRequest,
+) -> Result<(), AllocError> {
+    passes(rt, "raw", is_raw(alloc, asked)?);
+    passes(rt, "fail", is_refusal(alloc, asked)?);
+    Ok(())
 }
 
 #[test]
 fn answers_by_the_row(rt: HostRuntime) -> Result<(), Fail> {
-    let alloc = rt.alloc();
-    let asked = asking(alloc, "P-384, no names")?;
-    passes(&rt, "raw", is_raw(alloc, &asked)?);
-    passes(&rt, "fail", is_refusal(alloc, &asked)?);
+    let asked = asking(rt.alloc(), "P-384, no names")?;
+    answers_both(&rt, rt.alloc(), &asked)?;
     Ok(())
 }
 
@@ -202,6 +262,14 @@ fn is_copied(answered: &Answered) -> Result<bool, AllocError> {
     Ok(answered.copy()?.order().same(answered.order()))
 }
 
+// The answer comes by reference, so that no assertion has it in hand.
+fn waits(rt: &impl Abort, answered: &Answered) -> Result<(), AllocError> {
+    let is_pending = matches!(answered.answer(), Signing::Pending);
+    passes(rt, "pending", is_pending);
+    passes(rt, "copied", is_copied(answered)?);
+    Ok(())
+}
+
 fn number_in(answered: Answered) -> u64 {
     let (order, _) = answered.into_parts();
     order.number()
@@ -211,9 +279,7 @@ fn number_in(answered: Answered) -> u64 {
 #[test]
 fn answers_a_question(rt: HostRuntime) -> Result<(), Fail> {
     let answered = answered(rt.alloc())?;
-    let is_pending = matches!(answered.answer(), Signing::Pending);
-    passes(&rt, "pending", is_pending);
-    passes(&rt, "copied", is_copied(&answered)?);
+    waits(&rt, &answered)?;
     passes(&rt, "parts", number_in(answered) == 1);
     Ok(())
 }

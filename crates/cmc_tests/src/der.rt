@@ -1,5 +1,5 @@
 //! What no clause says: values that openssl made and wrote, and the vectors of the refusals.
-ghost use Rattle.std.specs.Prelude.{◌^◌, ◌<◌, length};
+ghost use Rattle.std.specs.Prelude.{◌≡◌, ◌^◌, ◌<◌, [], OnOk, length};
 
 use crate::checks::{passes, tells};
 use crate::made_values::{EC_PUBLIC, RSA_PUBLIC, made};
@@ -96,6 +96,17 @@ fn reads_what_openssl_made(rt: HostRuntime) -> Result<(), Fail> {
     Ok(())
 }
 
+fn tells_reading(
+    rt: &impl Abort,
+    alloc: Global,
+    input: &str,
+    want: &str,
+) -> Result<(), AllocError> {
+    let told = told(alloc, input)?;
+    tells(rt, input, told.as_str(), want);
+    Ok(())
+}
+
 static READINGS: [(&str, &str); 12] = [
     ("308103020105", "not DER at 2"),
     ("3080", "not DER at 1"),
@@ -113,9 +124,8 @@ static READINGS: [(&str, &str); 12] = [
 
 #[test]
 fn refuses_at_the_first_octet_that_no_value_has(rt: HostRuntime) -> Result<(), Fail> {
-    let alloc = rt.alloc();
     for (input, want) in &READINGS {
-        tells(&rt, input, told(alloc, input)?.as_str(), want);
+        tells_reading(&rt, rt.alloc(), input, want)?;
     }
     Ok(())
 }
@@ -195,18 +205,37 @@ fn octets_of(alloc: Global, text: &&str) -> Result<Vec<u8>, AllocError> {
     octets(alloc, text)
 }
 
+/// Writes the algorithm of a P-256 key.
+// Over a reference, so that no `?` lets the writer go.
+fn write_algorithm(alloc: Global, writer: &mut Writer) -> Result<(), AllocError>
+    requires { writer.old.len < 2 ^ 20 }
+    ensures levels { OnOk result (writer.new.outer ≡ writer.old.outer) }
+    ensures fits { OnOk result (writer.new.len < 2 ^ 21) }
+{
+    writer.begin(alloc, 0x30)?;
+    writer.oid(alloc, &[42, 134, 72, 206, 61, 2, 1])?;
+    writer.oid(alloc, &[42, 134, 72, 206, 61, 3, 1, 7])?;
+    writer.end(alloc)
+}
+
+/// Writes a SubjectPublicKeyInfo of a P-256 key with this point.
+fn write_key(alloc: Global, writer: &mut Writer, point: &[u8]) -> Result<(), AllocError>
+    requires start { writer.old.len < 2 ^ 19 }
+    requires point { length point.now < 2 ^ 20 }
+    ensures { OnOk result (writer.new.outer ≡ writer.old.outer) }
+{
+    writer.begin(alloc, 0x30)?;
+    write_algorithm(alloc, writer)?;
+    writer.bits(alloc, point)?;
+    writer.end(alloc)
+}
+
 /// A SubjectPublicKeyInfo of a P-256 key with this point.
 fn ec_public(alloc: Global, point: &[u8]) -> Result<Vec<u8>, AllocError>
     requires { length point.now < 2 ^ 20 }
 {
     let mut writer = Writer::new(alloc);
-    writer.begin(alloc, 0x30)?;
-    writer.begin(alloc, 0x30)?;
-    writer.oid(alloc, &[42, 134, 72, 206, 61, 2, 1])?;
-    writer.oid(alloc, &[42, 134, 72, 206, 61, 3, 1, 7])?;
-    writer.end(alloc)?;
-    writer.bits(alloc, point)?;
-    writer.end(alloc)?;
+    write_key(alloc, &mut writer, point)?;
     Ok(writer.finish())
 }
 
@@ -217,16 +246,24 @@ fn length_of_two(alloc: Global) -> Result<u64, AllocError> {
     Ok(writer.len())
 }
 
+/// The file of 91 octets is what is written of its point.
+fn is_written(alloc: Global, made: &[u8]) -> Result<bool, AllocError> {
+    if made.len() != 91 {
+        return Ok(false);
+    }
+    Ok(ec_public(alloc, &made[26..])?.as_slice() == made)
+}
+
 #[test]
 fn writes_a_public_key_as_openssl_does(rt: HostRuntime) -> Result<(), Fail> {
-    let alloc = rt.alloc();
-    let made = octets_of(alloc, &EC_PUBLIC)?;
-    if made.len() != 91 {
-        return Err(Fail::from("another length"));
-    }
-    let written = ec_public(alloc, &made[26..])?;
-    passes(&rt, "public key", written.as_slice() == made.as_slice());
-    passes(&rt, "length", length_of_two(alloc)? == 18);
+    let made = octets_of(rt.alloc(), &EC_PUBLIC)?;
+    passes(&rt, "public key", is_written(rt.alloc(), &made)?);
+    Ok(())
+}
+
+#[test]
+fn counts_what_is_written(rt: HostRuntime) -> Result<(), Fail> {
+    passes(&rt, "length", length_of_two(rt.alloc())? == 18);
     Ok(())
 }
 
@@ -245,29 +282,35 @@ fn are_apart(rt: &impl Abort, key: Spki<'_>, less: Spki<'_>, point: Spki<'_>, ot
     passes(rt, "not the same", !is_any_same);
 }
 
-#[test]
-fn tells_the_kinds_of_keys_apart(rt: HostRuntime) -> Result<(), Fail> {
-    let alloc = rt.alloc();
-    let made = octets_of(alloc, &RSA_PUBLIC)?;
-    if made.len() != 294 {
-        return Err(Fail::from("another length"));
-    }
+// The octets come by reference, so that no assertion has them in hand.
+fn tells_kinds(rt: &impl Abort, made: &[u8])
+    requires { length made.now ≡ 294 }
+{
     // The modulus stands behind its zero octet, and its highest bit is set.
     let key = Spki::Rsa {
         modulus: &made[33..289],
         exponent: &made[291..],
     };
-    passes(&rt, "RSA", is_kind(&key, KeyKind::Rsa { bits: 2048 }));
+    passes(rt, "RSA", is_kind(&key, KeyKind::Rsa { bits: 2048 }));
     let less = Spki::Rsa {
         modulus: &[0, 31, 255],
         exponent: &made[291..],
     };
-    passes(&rt, "less", is_kind(&less, KeyKind::Rsa { bits: 13 }));
+    passes(rt, "less", is_kind(&less, KeyKind::Rsa { bits: 13 }));
     let point = Spki::Ec {
         curve: KeyKind::P256,
         point: &made[33..],
     };
-    passes(&rt, "point", is_kind(&point, KeyKind::P256));
-    are_apart(&rt, key, less, point, Spki::Other { whole: &made });
+    passes(rt, "point", is_kind(&point, KeyKind::P256));
+    are_apart(rt, key, less, point, Spki::Other { whole: made });
+}
+
+#[test]
+fn tells_the_kinds_of_keys_apart(rt: HostRuntime) -> Result<(), Fail> {
+    let made = octets_of(rt.alloc(), &RSA_PUBLIC)?;
+    if made.len() != 294 {
+        return Err(Fail::from("another length"));
+    }
+    tells_kinds(&rt, &made);
     Ok(())
 }

@@ -168,12 +168,22 @@ fn issuer_of(alloc: Global, terms: &str) -> Result<IssuerRef, AllocError> {
     })
 }
 
+/// Puts the texts between the commas in the place of a list.
+fn set_list(alloc: Global, texts: &mut Texts, words: &str) -> Result<(), AllocError> {
+    *texts = list(alloc, words)?;
+    Ok(())
+}
+
+fn set_issuer(alloc: Global, issuer: &mut IssuerRef, terms: &str) -> Result<(), AllocError> {
+    *issuer = issuer_of(alloc, terms)?;
+    Ok(())
+}
+
 fn ask_on(alloc: Global, spec: &mut RequestSpec, terms: &str) -> Result<(), AllocError> {
-    spec.issuer = issuer_of(alloc, terms)?;
+    set_issuer(alloc, &mut spec.issuer, terms)?;
     spec.duration = number(column(terms, 3));
     spec.is_ca = column(terms, 4) == "CA";
-    spec.usages = list(alloc, column(terms, 5))?;
-    Ok(())
+    set_list(alloc, &mut spec.usages, column(terms, 5))
 }
 
 /// A request with these terms.
@@ -202,19 +212,24 @@ fn asking_called(alloc: Global, name: &str) -> Result<CertificateRequest, Fail> 
 /// Gives the spec the names of the row.
 fn set_names(alloc: Global, spec: &mut CertSpec, row: &str) -> Result<(), AllocError> {
     spec.common_name = Text::from_str(alloc, column(row, 1))?;
-    spec.dns_names = list(alloc, column(row, 2))?;
-    spec.ip_addresses = list(alloc, column(row, 3))?;
-    spec.uris = list(alloc, column(row, 4))?;
-    spec.emails = list(alloc, column(row, 5))?;
-    Ok(())
+    set_list(alloc, &mut spec.dns_names, column(row, 2))?;
+    set_list(alloc, &mut spec.ip_addresses, column(row, 3))?;
+    set_list(alloc, &mut spec.uris, column(row, 4))?;
+    set_list(alloc, &mut spec.emails, column(row, 5))
+}
+
+/// Gives the spec the names of the row, an ECDSA key, and what `asking` asks for.
+// Filled where it stands: a spec is wide to let go of at each `?`.
+fn fill(alloc: Global, spec: &mut CertSpec, row: &str) -> Result<(), AllocError> {
+    set_names(alloc, spec, row)?;
+    spec.key.algorithm = Some(Algorithm::Ecdsa);
+    set_list(alloc, &mut spec.usages, "client auth,server auth")
 }
 
 /// A spec with the names of the row, that asks for an ECDSA key and for what `asking` asks for.
 fn spec_of(alloc: Global, row: &str) -> Result<CertSpec, Fail> {
     let mut spec = least_spec(alloc, "web-tls", "example.com")?;
-    set_names(alloc, &mut spec, row)?;
-    spec.usages = list(alloc, "client auth,server auth")?;
-    spec.key.algorithm = Some(Algorithm::Ecdsa);
+    fill(alloc, &mut spec, row)?;
     Ok(spec)
 }
 
@@ -253,11 +268,10 @@ fn matches_names(rt: HostRuntime) -> Result<(), Fail> {
 }
 
 fn set_terms(alloc: Global, spec: &mut CertSpec, terms: &str) -> Result<(), AllocError> {
-    spec.issuer = issuer_of(alloc, terms)?;
+    set_issuer(alloc, &mut spec.issuer, terms)?;
     spec.duration = number(column(terms, 3));
     spec.is_ca = column(terms, 4) == "CA";
-    spec.usages = list(alloc, column(terms, 5))?;
-    Ok(())
+    set_list(alloc, &mut spec.usages, column(terms, 5))
 }
 
 fn spec_for(alloc: Global, terms: &str) -> Result<CertSpec, Fail> {
@@ -297,10 +311,14 @@ fn has_first_key(alloc: Global, request: &CertificateRequest) -> Result<bool, Fa
     Ok(request_has_key(request, key.as_slice()))
 }
 
+fn fits_neither(alloc: Global, request: &CertificateRequest) -> Result<bool, Fail> {
+    Ok(!matches_whole(alloc, request)? && !has_first_key(alloc, request)?)
+}
+
 /// A request that neither matches the whole spec nor has the key.
 fn is_refused(alloc: Global, octets: Bytes) -> Result<bool, Fail> {
     let request = asking(alloc, octets)?;
-    Ok(!matches_whole(alloc, &request)? && !has_first_key(alloc, &request)?)
+    fits_neither(alloc, &request)
 }
 
 /// The first octets of the request with all names, so many of them.
@@ -468,15 +486,21 @@ static REVISIONS: [(&str, Option<u64>); 12] = [
     ("1e3", None),
 ];
 
-/// A request with this annotation.
-fn annotated_request(alloc: Global, key: &str, word: &str) -> Result<CertificateRequest, Fail> {
-    let mut request = whole::request(alloc)?;
+// The request is annotated and looked at by reference, so that no `?` lets it go.
+fn revision_with(
+    alloc: Global,
+    request: &mut CertificateRequest,
+    key: &str,
+    word: &str,
+) -> Result<Option<u64>, AllocError> {
     set(alloc, &mut request.meta.annotations, key, word)?;
-    Ok(request)
+    Ok(revision_of(request))
 }
 
+/// The revision of a request with this annotation.
 fn revision_under(alloc: Global, key: &str, word: &str) -> Result<Option<u64>, Fail> {
-    Ok(revision_of(&annotated_request(alloc, key, word)?))
+    let mut request = whole::request(alloc)?;
+    Ok(revision_with(alloc, &mut request, key, word)?)
 }
 
 #[test]
@@ -505,38 +529,41 @@ static MARKS: [&str; 8] = [
     "cert-manager.io/issue-temporary-certificate|yes|nothing",
 ];
 
-fn labelled(alloc: Global, key: &str, word: &str) -> Result<Secret, Fail> {
-    let mut secret = whole::secret(alloc)?;
-    set(alloc, &mut secret.meta.labels, key, word)?;
-    Ok(secret)
+/// Adds the mark of the row.
+fn mark(alloc: Global, pairs: &mut Pairs, row: &str) -> Result<(), AllocError> {
+    set(alloc, pairs, column(row, 0), column(row, 1))
 }
 
-fn annotated(alloc: Global, key: &str, word: &str) -> Result<Secret, Fail> {
-    let mut secret = whole::secret(alloc)?;
-    set(alloc, &mut secret.meta.annotations, key, word)?;
-    Ok(secret)
+// A Secret and a Certificate are marked and looked at by reference, so that no `?` lets one go.
+fn label(alloc: Global, secret: &mut Secret, row: &str) -> Result<(bool, bool), AllocError> {
+    mark(alloc, &mut secret.meta.labels, row)?;
+    Ok((is_next_key(secret), is_temporary(secret)))
 }
 
-fn wishing(alloc: Global, key: &str, word: &str) -> Result<Certificate, Fail> {
-    let mut certificate = whole::certificate(alloc)?;
-    set(alloc, &mut certificate.meta.annotations, key, word)?;
-    Ok(certificate)
+fn annotate(alloc: Global, secret: &mut Secret, row: &str) -> Result<(bool, bool), AllocError> {
+    mark(alloc, &mut secret.meta.annotations, row)?;
+    Ok((is_next_key(secret), is_temporary(secret)))
+}
+
+fn wish(alloc: Global, certificate: &mut Certificate, row: &str) -> Result<bool, AllocError> {
+    mark(alloc, &mut certificate.meta.annotations, row)?;
+    Ok(asks_for_temporary(certificate))
 }
 
 /// What the mark means as a label: whether the Secret holds a next key, or stands in.
 fn as_label(alloc: Global, row: &str) -> Result<(bool, bool), Fail> {
-    let secret = labelled(alloc, column(row, 0), column(row, 1))?;
-    Ok((is_next_key(&secret), is_temporary(&secret)))
+    let mut secret = whole::secret(alloc)?;
+    Ok(label(alloc, &mut secret, row)?)
 }
 
 fn as_annotation(alloc: Global, row: &str) -> Result<(bool, bool), Fail> {
-    let secret = annotated(alloc, column(row, 0), column(row, 1))?;
-    Ok((is_next_key(&secret), is_temporary(&secret)))
+    let mut secret = whole::secret(alloc)?;
+    Ok(annotate(alloc, &mut secret, row)?)
 }
 
 fn as_wish(alloc: Global, row: &str) -> Result<bool, Fail> {
-    let certificate = wishing(alloc, column(row, 0), column(row, 1))?;
-    Ok(asks_for_temporary(&certificate))
+    let mut certificate = whole::certificate(alloc)?;
+    Ok(wish(alloc, &mut certificate, row)?)
 }
 
 fn passes_as_label(rt: &impl Abort, alloc: Global, row: &str) -> Result<(), Fail> {
@@ -578,22 +605,26 @@ fn is_part(found: Option<&Bytes>, want: &[u8]) -> bool {
     }
 }
 
+// What is looked into comes by reference, so that no assertion has a Secret in hand.
+fn has_labels(rt: &impl Abort, labels: &Pairs) {
+    passes(rt, "app", is_text(text_under(labels, "app"), "shop"));
+    passes(rt, "shop", text_under(labels, "shop").is_none());
+    passes(rt, "app is shop", has_text(labels, "app", "shop"));
+    passes(rt, "app is shops", !has_text(labels, "app", "shops"));
+    passes(rt, "apps is shop", !has_text(labels, "apps", "shop"));
+}
+
+fn has_parts(rt: &impl Abort, parts: &Parts) {
+    let key = part_under(parts, "tls.key");
+    passes(rt, "tls.key", is_part(key, &[0, 0, 0]));
+    passes(rt, "tls.crt", part_under(parts, "tls.crt").is_none());
+}
+
 #[test]
 fn looks_up_by_text(rt: HostRuntime) -> Result<(), Fail> {
     let secret = whole::secret(rt.alloc())?;
-    let labels = &secret.meta.labels;
-    passes(&rt, "app", is_text(text_under(labels, "app"), "shop"));
-    passes(&rt, "shop", text_under(labels, "shop").is_none());
-    passes(&rt, "app is shop", has_text(labels, "app", "shop"));
-    passes(&rt, "app is shops", !has_text(labels, "app", "shops"));
-    passes(&rt, "apps is shop", !has_text(labels, "apps", "shop"));
-    let key = part_under(&secret.parts, "tls.key");
-    passes(&rt, "tls.key", is_part(key, &[0, 0, 0]));
-    passes(
-        &rt,
-        "tls.crt",
-        part_under(&secret.parts, "tls.crt").is_none(),
-    );
+    has_labels(&rt, &secret.meta.labels);
+    has_parts(&rt, &secret.parts);
     Ok(())
 }
 
@@ -683,15 +714,20 @@ fn flags_told(told: &mut String, facts: &Facts) -> Result<(), AllocError> {
     flag_told(told, facts.request, "request ")
 }
 
-fn times_told(alloc: Global, facts: &Facts) -> Result<String, AllocError> {
-    format!(in alloc; "{} {}", facts.not_before, facts.not_after)
+fn push_facts(alloc: Global, told: &mut String, facts: &Facts) -> Result<(), AllocError> {
+    flags_told(told, facts)?;
+    push_times(alloc, told, facts)
+}
+
+fn push_times(alloc: Global, told: &mut String, facts: &Facts) -> Result<(), AllocError> {
+    let times = format!(in alloc; "{} {}", facts.not_before, facts.not_after)?;
+    told.push_str(times.as_str())
 }
 
 /// The flags that are true, and the times.
 fn told(alloc: Global, facts: &Facts) -> Result<String, AllocError> {
     let mut told = String::new(alloc);
-    flags_told(&mut told, facts)?;
-    told.push_str(times_told(alloc, facts)?.as_str())?;
+    push_facts(alloc, &mut told, facts)?;
     Ok(told)
 }
 
@@ -716,9 +752,11 @@ fn is_pair(secret: &Secret, facts: &Facts) -> bool {
 
 /// The Secret of the row.
 fn secret_of(alloc: Global, row: &str) -> Result<Secret, Fail> {
+    let parts = parts(alloc, column(row, 0), column(row, 1))?;
+    let annotations = annotations(alloc, column(row, 2))?;
     let mut secret = whole::secret(alloc)?;
-    secret.parts = parts(alloc, column(row, 0), column(row, 1))?;
-    secret.meta.annotations = annotations(alloc, column(row, 2))?;
+    secret.parts = parts;
+    secret.meta.annotations = annotations;
     Ok(secret)
 }
 
@@ -753,15 +791,31 @@ fn known_by(alloc: Global, row: &str) -> Result<(Facts, bool), Fail> {
     known_of(alloc, row, &secret)
 }
 
+fn tells_facts(
+    rt: &impl Abort,
+    alloc: Global,
+    row: &str,
+    facts: &Facts,
+    want: &str,
+) -> Result<(), AllocError> {
+    let told = told(alloc, facts)?;
+    tells(rt, row, told.as_str(), want);
+    Ok(())
+}
+
+fn knows_by(rt: &impl Abort, alloc: Global, row: &str) -> Result<(), Fail> {
+    let (facts, is_pair) = known_by(alloc, row)?;
+    tells_facts(rt, alloc, row, &facts, column(row, 5))?;
+    passes(rt, row, is_pair);
+    Ok(())
+}
+
 #[test]
 fn knows_of_secrets(rt: HostRuntime) -> Result<(), Fail> {
-    let alloc = rt.alloc();
-    facts_mean();
     for row in &FACTS {
-        let (facts, is_pair) = known_by(alloc, row)?;
-        tells(&rt, row, told(alloc, &facts)?.as_str(), column(row, 5));
-        passes(&rt, row, is_pair);
+        knows_by(&rt, rt.alloc(), row)?;
     }
+    facts_mean();
     Ok(())
 }
 
@@ -772,13 +826,16 @@ static WITHOUT_SECRET: [(&str, &str); 3] = [
     ("P-384, no names", "0 0"),
 ];
 
-#[test]
-fn knows_without_a_secret(rt: HostRuntime) -> Result<(), Fail> {
-    let alloc = rt.alloc();
-    let spec = whole_spec(alloc)?;
+fn knows_without(rt: &impl Abort, alloc: Global, spec: &CertSpec) -> Result<(), Fail> {
     for (request, want) in &WITHOUT_SECRET {
-        let facts = facts_with(alloc, &spec, None, request)?;
-        tells(&rt, request, told(alloc, &facts)?.as_str(), want);
+        let facts = facts_with(alloc, spec, None, request)?;
+        tells_facts(rt, alloc, request, &facts, want)?;
     }
     Ok(())
+}
+
+#[test]
+fn knows_without_a_secret(rt: HostRuntime) -> Result<(), Fail> {
+    let spec = whole_spec(rt.alloc())?;
+    knows_without(&rt, rt.alloc(), &spec)
 }

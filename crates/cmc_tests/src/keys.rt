@@ -184,16 +184,20 @@ fn stand_in_told(alloc: Global, row: &str) -> Result<&'static str, Fail> {
 
 #[test]
 fn writes_stand_in_keys(rt: HostRuntime) -> Result<(), Fail> {
-    synthetic_keys_fit();
     for row in &STAND_INS {
         tells(&rt, row, stand_in_told(rt.alloc(), row)?, "as wanted");
     }
+    synthetic_keys_fit();
     Ok(())
+}
+
+fn is_stand_in(alloc: Global, row: &str, want: &Bytes) -> Result<bool, Fail> {
+    Ok(stand_in(alloc, sort_in(row, 0, 1, 2), 1)?.same(want))
 }
 
 fn is_whole_file(alloc: Global, row: &str) -> Result<bool, Fail> {
     let want = made(alloc, &[made_keys::built()], column(row, 3))?;
-    Ok(stand_in(alloc, sort_in(row, 0, 1, 2), 1)?.same(&want))
+    is_stand_in(alloc, row, &want)
 }
 
 #[test]
@@ -267,7 +271,9 @@ fn question(alloc: Global, row: &str) -> Result<KeyOrder, Fail> {
 fn is_made_again(made: Made, other: &Made) -> bool {
     let (asked, file) = made.into_parts();
     let again = Made::new(asked, file);
-    again.order().same(other.order()) && again.bytes() == other.bytes()
+    let is_same = again.order().same(other.order()) && again.bytes() == other.bytes();
+    let_go(again);
+    is_same
 }
 
 fn made_for(alloc: Global, order: &KeyOrder) -> Result<Made, Fail> {
@@ -300,22 +306,27 @@ fn is_answer(alloc: Global, order: &KeyOrder, want: &str) -> Result<bool, Fail> 
 }
 
 fn is_answered(alloc: Global, row: &str) -> Result<bool, Fail> {
-    is_answer(alloc, &question(alloc, row)?, column(row, 7))
+    let order = question(alloc, row)?;
+    let is_answer = is_answer(alloc, &order, column(row, 7));
+    let_go(order);
+    is_answer
 }
 
 #[test]
 fn makes_keys_by_the_row(rt: HostRuntime) -> Result<(), Fail> {
-    one_key_value();
     for row in &ANSWERS {
         passes(&rt, row, is_answered(rt.alloc(), row)?);
     }
+    one_key_value();
     Ok(())
 }
 
 fn is_signed_again(signed: SignedCsr, other: &SignedCsr) -> bool {
     let (order, signature) = signed.into_parts();
     let again = SignedCsr::new(order, signature);
-    again.order().same(other.order()) && again.signature() == other.signature()
+    let is_same = again.order().same(other.order()) && again.signature() == other.signature();
+    let_go(again);
+    is_same
 }
 
 fn body_order(alloc: Global, file: &str, body: &str) -> Result<CsrOrder, Fail> {

@@ -41,10 +41,10 @@ fn rules(alloc: Global) -> Result<Rules, Fail> {
 }
 
 fn judgement(alloc: Global) -> Result<Order, Fail> {
-    let rules = rules(alloc)?;
+    let request = Shared::new(alloc, request(alloc)?)?;
     Ok(Order::Judge(JudgeOrder {
-        request: Shared::new(alloc, request(alloc)?)?,
-        rules,
+        request,
+        rules: rules(alloc)?,
     }))
 }
 
@@ -96,7 +96,10 @@ fn raw(alloc: Global) -> Result<SignRow, Fail> {
 }
 
 fn is_row_copied(row: &SignRow) -> Result<bool, AllocError> {
-    Ok(row.copy()?.same(row))
+    let copy = row.copy()?;
+    let is_same = copy.same(row);
+    let_go(copy);
+    Ok(is_same)
 }
 
 #[test]
@@ -231,13 +234,16 @@ fn is_kept(rt: &impl Abort, material: &mut Material, web: &Key) -> Result<(), Al
     Ok(())
 }
 
+fn keeps(rt: &impl Abort, alloc: Global, material: &mut Material) -> Result<(), Fail> {
+    let web = key(alloc, Kind::Certificate, "web")?;
+    is_kept(rt, material, &web)?;
+    Ok(())
+}
+
 #[test]
 fn keeps_material(rt: HostRuntime) -> Result<(), Fail> {
-    let alloc = rt.alloc();
-    let web = key(alloc, Kind::Certificate, "web")?;
-    let mut material = material(alloc)?;
-    is_kept(&rt, &mut material, &web)?;
-    Ok(())
+    let mut material = material(rt.alloc())?;
+    keeps(&rt, rt.alloc(), &mut material)
 }
 
 fn issued(alloc: Global) -> Result<Signing, Fail> {
@@ -255,7 +261,10 @@ fn failed(alloc: Global) -> Result<Signing, Fail> {
 }
 
 fn is_answer_copied(answer: &Signing) -> Result<bool, AllocError> {
-    Ok(answer.copy()?.same(answer))
+    let copy = answer.copy()?;
+    let is_same = copy.same(answer);
+    let_go(copy);
+    Ok(is_same)
 }
 
 fn is_copied_and_gone(answer: Signing) -> Result<bool, AllocError> {

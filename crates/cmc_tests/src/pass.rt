@@ -16,18 +16,32 @@ fn named(alloc: Global, word: &str) -> Result<Shared<Secret>, Fail> {
     Ok(Shared::new(alloc, secret)?)
 }
 
-// Filled where they stand: views are wide to let go of at each `?`.
-fn see_secrets(alloc: Global, views: &mut Views) -> Result<(), Fail> {
-    views.next.push(named(alloc, "web-bbbbf")?)?;
-    views.next.push(named(alloc, "web-bbbbg")?)?;
-    views.secret = Some(named(alloc, "web-tls")?);
+fn see_next(alloc: Global, secrets: &mut Secrets, word: &str) -> Result<(), Fail> {
+    secrets.push(named(alloc, word)?)?;
     Ok(())
+}
+
+fn see_secret(alloc: Global, secret: &mut Option<Shared<Secret>>) -> Result<(), Fail> {
+    *secret = Some(named(alloc, "web-tls")?);
+    Ok(())
+}
+
+fn see_request(alloc: Global, requests: &mut Requests) -> Result<(), Fail> {
+    requests.push(Shared::new(alloc, request(alloc)?)?)?;
+    Ok(())
+}
+
+// Filled where they stand: views are wide to let go of at each `?`.
+fn see(alloc: Global, views: &mut Views) -> Result<(), Fail> {
+    see_next(alloc, &mut views.next, "web-bbbbf")?;
+    see_next(alloc, &mut views.next, "web-bbbbg")?;
+    see_secret(alloc, &mut views.secret)?;
+    see_request(alloc, &mut views.requests)
 }
 
 fn views(alloc: Global) -> Result<Views, Fail> {
     let mut views = Views::new(alloc);
-    see_secrets(alloc, &mut views)?;
-    views.requests.push(Shared::new(alloc, request(alloc)?)?)?;
+    see(alloc, &mut views)?;
     Ok(views)
 }
 
@@ -98,12 +112,27 @@ fn told_then(act: Act) -> &'static str {
     word
 }
 
-/// The copy of the act that was made, in a word.
-fn copied(made: Result<Act, Fail>) -> Result<&'static str, Fail> {
-    let act = made?;
-    let copy = act.copy();
+/// The act that this word tells.
+fn act_of(alloc: Global, word: &str) -> Result<Act, Fail> {
+    match word {
+        "call" => call(alloc),
+        "ask" => Ok(question(alloc)),
+        "issue" => plan(alloc),
+        "temporary" => temporary_plan(alloc),
+        _ => Ok(Act::Nothing),
+    }
+}
+
+fn told_of_copy(act: &Act) -> Result<&'static str, AllocError> {
+    Ok(told_then(act.copy()?))
+}
+
+/// The copy of the act of this word, in a word.
+fn copied(alloc: Global, word: &str) -> Result<&'static str, Fail> {
+    let act = act_of(alloc, word)?;
+    let word = told_of_copy(&act);
     let_go(act);
-    Ok(told_then(copy?))
+    Ok(word?)
 }
 
 fn call(alloc: Global) -> Result<Act, Fail> {
@@ -145,19 +174,14 @@ fn temporary_plan(alloc: Global) -> Result<Act, Fail> {
     }))
 }
 
+/// An act of each sort, in a word.
+static ACTS: [&str; 5] = ["nothing", "call", "ask", "issue", "temporary"];
+
 #[test]
 fn acts_are_copied(rt: HostRuntime) -> Result<(), Fail> {
-    let alloc = rt.alloc();
-    tells(&rt, "nothing", copied(Ok(Act::Nothing))?, "nothing");
-    tells(&rt, "call", copied(call(alloc))?, "call");
-    tells(&rt, "question", copied(Ok(question(alloc)))?, "ask");
-    tells(&rt, "plan", copied(plan(alloc))?, "issue");
-    tells(
-        &rt,
-        "temporary",
-        copied(temporary_plan(alloc))?,
-        "temporary",
-    );
+    for word in &ACTS {
+        tells(&rt, word, copied(rt.alloc(), word)?, word);
+    }
     Ok(())
 }
 

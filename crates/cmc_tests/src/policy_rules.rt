@@ -14,13 +14,23 @@ fn policy_of(alloc: Global) -> Result<Policy, AllocError> {
     Ok(policy)
 }
 
-#[test]
-fn copies_policies(rt: HostRuntime) -> Result<(), Fail> {
-    let alloc = rt.alloc();
+fn policies(alloc: Global) -> Result<Policies, AllocError> {
     let mut policies = Policies::new(alloc);
     policies.push(policy_of(alloc)?)?;
+    Ok(policies)
+}
+
+/// How many policies the copy has, and whether it is the same.
+fn copied(policies: &Policies) -> Result<(usize, bool), AllocError> {
     let copied = policies.copy()?;
-    passes(&rt, "one policy", copied.as_slice().len() == 1);
-    passes(&rt, "the same", copied.same(&policies));
+    Ok((copied.as_slice().len(), copied.same(policies)))
+}
+
+#[test]
+fn copies_policies(rt: HostRuntime) -> Result<(), Fail> {
+    let policies = policies(rt.alloc())?;
+    let (count, is_same) = copied(&policies)?;
+    passes(&rt, "one policy", count == 1);
+    passes(&rt, "the same", is_same);
     Ok(())
 }

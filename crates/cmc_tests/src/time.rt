@@ -1,3 +1,5 @@
+ghost use Rattle.cmc_time.specs.Asn1.{IsCertificateTime};
+
 use crate::checks::passes;
 use cmc_time::*;
 use std::alloc::{AllocError, Global};
@@ -42,16 +44,28 @@ fn is_printed(alloc: Global, text: &str, at: i64) -> Result<bool, AllocError> {
     Ok(true)
 }
 
+/// The text is of this moment.
+fn is_time(text: &str, at: i64) -> bool {
+    match read_rfc3339(text) {
+        Ok(read) => read == at,
+        Err(_) => false,
+    }
+}
+
 #[test]
 fn rfc_3339(rt: HostRuntime) -> Result<(), Fail> {
     for (text, at) in &TIMES {
-        passes(&rt, text, read_rfc3339(text).ok() == Some(*at));
+        passes(&rt, text, is_time(text, *at));
         passes(&rt, text, is_printed(rt.alloc(), text, *at)?);
     }
+    Ok(())
+}
+
+#[test]
+fn no_rfc_3339(rt: HostRuntime) {
     for text in &NO_TIMES {
         passes(&rt, text, read_rfc3339(text).is_err());
     }
-    Ok(())
 }
 
 /// The tag and the body of a time, and the moment.
@@ -72,16 +86,28 @@ static BODIES: [(u8, &str, Option<i64>); 13] = [
 ];
 
 #[test]
-fn times_of_certificates(rt: HostRuntime) -> Result<(), Fail> {
+fn times_of_certificates(rt: HostRuntime) {
     for (tag, body, at) in &BODIES {
         passes(&rt, body, asn1_time(*tag, body.as_bytes()).ok() == *at);
     }
     passes(&rt, "tag before 2050", asn1_time_tag(1_893_456_000) == 0x17);
-    let early = print_asn1_time(rt.alloc(), 1_893_456_000)?;
-    passes(&rt, "before 2050", early.as_str() == "300101000000Z");
     passes(&rt, "tag of 2050", asn1_time_tag(2_524_608_000) == 0x18);
-    let late = print_asn1_time(rt.alloc(), 2_524_608_000)?;
-    passes(&rt, "in 2050", late.as_str() == "20500101000000Z");
+}
+
+/// The moment is printed as the text.
+fn is_body(alloc: Global, at: i64, text: &str) -> Result<bool, AllocError>
+    requires { IsCertificateTime at }
+{
+    Ok(print_asn1_time(alloc, at)?.as_str() == text)
+}
+
+#[test]
+fn printed_times_of_certificates(rt: HostRuntime) -> Result<(), Fail> {
+    let alloc = rt.alloc();
+    let early = is_body(alloc, 1_893_456_000, "300101000000Z")?;
+    passes(&rt, "before 2050", early);
+    let late = is_body(alloc, 2_524_608_000, "20500101000000Z")?;
+    passes(&rt, "in 2050", late);
     Ok(())
 }
 
@@ -122,18 +148,32 @@ fn is_duration_of(alloc: Global, seconds: u64, printed: &str) -> Result<bool, Al
     Ok(print_duration(alloc, seconds)?.as_str() == printed)
 }
 
-fn is_duration(alloc: Global, text: &str, seconds: u64, printed: &str) -> Result<bool, AllocError> {
-    Ok(read_duration(text).ok() == Some(seconds) && is_duration_of(alloc, seconds, printed)?)
+/// The text is a duration of so many seconds.
+fn is_duration(text: &str, seconds: u64) -> bool {
+    match read_duration(text) {
+        Ok(read) => read == seconds,
+        Err(_) => false,
+    }
 }
 
 #[test]
 fn durations(rt: HostRuntime) -> Result<(), Fail> {
     for (text, seconds, printed) in &DURATIONS {
-        passes(&rt, text, is_duration(rt.alloc(), text, *seconds, printed)?);
+        passes(&rt, text, is_duration(text, *seconds));
+        passes(&rt, text, is_duration_of(rt.alloc(), *seconds, printed)?);
     }
+    Ok(())
+}
+
+#[test]
+fn no_durations(rt: HostRuntime) {
     for text in &NO_DURATIONS {
         passes(&rt, text, read_duration(text).is_err());
     }
+}
+
+#[test]
+fn the_longest_duration(rt: HostRuntime) -> Result<(), Fail> {
     let longest = is_duration_of(rt.alloc(), u64::MAX, "5124095576030431h0m15s")?;
     passes(&rt, "longest", longest);
     Ok(())

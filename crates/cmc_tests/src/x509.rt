@@ -20,47 +20,52 @@ fn digit(number: u8) -> char {
     }
 }
 
-fn hex(alloc: Global, octets: &[u8]) -> Result<String, AllocError> {
-    let mut text = String::new(alloc);
+// All that is told is added to one text by reference, so that no `?` lets go of more than one.
+fn push_hex(told: &mut String, octets: &[u8]) -> Result<(), AllocError> {
     for octet in octets {
-        text.push(digit(octet >> 4))?;
-        text.push(digit(octet & 15))?;
+        told.push(digit(octet >> 4))?;
+        told.push(digit(octet & 15))?;
     }
-    Ok(text)
+    Ok(())
 }
 
 fn text(octets: &[u8]) -> &str {
     str::from_utf8(octets).unwrap_or("not UTF-8")
 }
 
-fn kind_told(alloc: Global, key: &Spki<'_>) -> Result<String, AllocError> {
+fn push_size(alloc: Global, told: &mut String, bits: u32) -> Result<(), AllocError> {
+    let size = format!(in alloc; "RSA {bits}")?;
+    told.push_str(size.as_str())
+}
+
+fn push_kind(alloc: Global, told: &mut String, key: &Spki<'_>) -> Result<(), AllocError> {
     match key.kind() {
-        Some(KeyKind::Rsa { bits }) => format!(in alloc; "RSA {bits}"),
-        Some(KeyKind::P256) => String::from_str(alloc, "P-256"),
-        Some(KeyKind::P384) => String::from_str(alloc, "P-384"),
-        Some(KeyKind::P521) => String::from_str(alloc, "P-521"),
-        None => String::from_str(alloc, "other"),
+        Some(KeyKind::Rsa { bits }) => push_size(alloc, told, bits),
+        Some(KeyKind::P256) => told.push_str("P-256"),
+        Some(KeyKind::P384) => told.push_str("P-384"),
+        Some(KeyKind::P521) => told.push_str("P-521"),
+        None => told.push_str("other"),
     }
 }
 
-fn both_told(alloc: Global, first: &[u8], second: &[u8]) -> Result<String, AllocError> {
-    let first = hex(alloc, first)?;
-    let second = hex(alloc, second)?;
-    format!(in alloc; "{first} {second}")
+fn push_both(told: &mut String, first: &[u8], second: &[u8]) -> Result<(), AllocError> {
+    push_hex(told, first)?;
+    told.push(' ')?;
+    push_hex(told, second)
 }
 
-fn octets_told(alloc: Global, key: &Spki<'_>) -> Result<String, AllocError> {
+fn push_octets(told: &mut String, key: &Spki<'_>) -> Result<(), AllocError> {
     match key {
-        Spki::Rsa { modulus, exponent } => both_told(alloc, modulus, exponent),
-        Spki::Ec { curve: _, point } => hex(alloc, point),
-        Spki::Other { whole } => hex(alloc, whole),
+        Spki::Rsa { modulus, exponent } => push_both(told, modulus, exponent),
+        Spki::Ec { curve: _, point } => push_hex(told, point),
+        Spki::Other { whole } => push_hex(told, whole),
     }
 }
 
-fn key_told(alloc: Global, key: &Spki<'_>) -> Result<String, AllocError> {
-    let kind = kind_told(alloc, key)?;
-    let octets = octets_told(alloc, key)?;
-    format!(in alloc; "{kind} {octets}")
+fn push_key(alloc: Global, told: &mut String, key: &Spki<'_>) -> Result<(), AllocError> {
+    push_kind(alloc, told, key)?;
+    told.push(' ')?;
+    push_octets(told, key)
 }
 
 /// How openssl calls a name of this tag that is a text.
@@ -73,19 +78,30 @@ fn sort_of(tag: u8) -> Option<&'static str> {
     }
 }
 
-fn address_told(alloc: Global, body: &[u8]) -> Result<Option<String>, AllocError> {
-    match body {
-        [a, b, c, d] => Ok(Some(format!(in alloc; "IP Address:{a}.{b}.{c}.{d}")?)),
-        _ => Ok(None),
-    }
+/// Whether a name of this sort is told.
+fn is_told(tag: u8, body: &[u8]) -> bool {
+    sort_of(tag).is_some() || (tag == 0x87 && body.len() == 4)
 }
 
-/// A name as openssl prints it, and nothing for one of another sort.
-fn name_told(alloc: Global, tag: u8, body: &[u8]) -> Result<Option<String>, AllocError> {
+fn push_text(told: &mut String, sort: &str, text: &str) -> Result<(), AllocError> {
+    told.push_str(sort)?;
+    told.push(':')?;
+    told.push_str(text)
+}
+
+fn push_address(alloc: Global, told: &mut String, body: &[u8]) -> Result<(), AllocError> {
+    if let [a, b, c, d] = body {
+        let address = format!(in alloc; "IP Address:{a}.{b}.{c}.{d}")?;
+        told.push_str(address.as_str())?;
+    }
+    Ok(())
+}
+
+/// Adds a name as openssl prints it.
+fn push_told(alloc: Global, told: &mut String, tag: u8, body: &[u8]) -> Result<(), AllocError> {
     match sort_of(tag) {
-        Some(sort) => Ok(Some(format!(in alloc; "{sort}:{}", text(body))?)),
-        None if tag == 0x87 => address_told(alloc, body),
-        None => Ok(None),
+        Some(sort) => push_text(told, sort, text(body)),
+        None => push_address(alloc, told, body),
     }
 }
 
@@ -97,54 +113,70 @@ fn push_name(
     body: &[u8],
     is_first: bool,
 ) -> Result<bool, AllocError> {
-    let Some(name) = name_told(alloc, tag, body)? else {
+    if !is_told(tag, body) {
         return Ok(is_first);
-    };
+    }
     if !is_first {
         told.push_str(", ")?;
     }
-    told.push_str(&name)?;
+    push_told(alloc, told, tag, body)?;
     Ok(false)
 }
 
-/// The common name and the alternative names.
-fn names_told(alloc: Global, names: &Names<'_>) -> Result<String, AllocError>
+/// Adds the alternative names.
+fn push_alternative(alloc: Global, told: &mut String, names: &Names<'_>) -> Result<(), AllocError>
     requires { IsValueList names.now.alternative.now }
 {
-    let mut told = format!(in alloc; "{}; ", text(names.common.unwrap_or(b"none")))?;
     let mut rest = names.alternative;
     let mut is_first = true;
     while let Some((tag, body, behind)) = next_name(rest) {
         rest = behind;
-        is_first = push_name(alloc, &mut told, tag, body, is_first)?;
+        is_first = push_name(alloc, told, tag, body, is_first)?;
     }
-    Ok(told)
+    Ok(())
 }
 
-fn file_told(alloc: Global, input: &[u8]) -> Result<String, AllocError> {
-    match read_key(input) {
-        Ok(key) => key_told(alloc, &key),
-        Err(_) => String::from_str(alloc, "not of the form"),
-    }
-}
-
-/// The key and the names of a request or of a certificate.
-fn subject_told(alloc: Global, key: &Spki<'_>, names: &Names<'_>) -> Result<String, AllocError>
+/// Adds the key and the names of a request or of a certificate.
+fn push_subject(
+    alloc: Global,
+    told: &mut String,
+    key: &Spki<'_>,
+    names: &Names<'_>,
+) -> Result<(), AllocError>
     requires { IsValueList names.now.alternative.now }
 {
-    let key = key_told(alloc, key)?;
-    let names = names_told(alloc, names)?;
-    format!(in alloc; "{key}; {names}")
+    push_key(alloc, told, key)?;
+    told.push_str("; ")?;
+    told.push_str(text(names.common.unwrap_or(b"none")))?;
+    told.push_str("; ")?;
+    push_alternative(alloc, told, names)
 }
 
-fn request_told(alloc: Global, input: &[u8]) -> Result<String, AllocError> {
-    match read_csr(input) {
-        Ok(CsrFields { key, names }) => subject_told(alloc, &key, &names),
-        Err(_) => String::from_str(alloc, "not of the form"),
+fn push_file(alloc: Global, told: &mut String, input: &[u8]) -> Result<(), AllocError> {
+    match read_key(input) {
+        Ok(key) => push_key(alloc, told, &key),
+        Err(_) => told.push_str("not of the form"),
     }
 }
 
-fn certificate_told(alloc: Global, input: &[u8]) -> Result<String, AllocError> {
+fn push_request(alloc: Global, told: &mut String, input: &[u8]) -> Result<(), AllocError> {
+    match read_csr(input) {
+        Ok(CsrFields { key, names }) => push_subject(alloc, told, &key, &names),
+        Err(_) => told.push_str("not of the form"),
+    }
+}
+
+fn push_times(
+    alloc: Global,
+    told: &mut String,
+    not_before: i64,
+    not_after: i64,
+) -> Result<(), AllocError> {
+    let times = format!(in alloc; " {not_before} {not_after}; ")?;
+    told.push_str(times.as_str())
+}
+
+fn push_certificate(alloc: Global, told: &mut String, input: &[u8]) -> Result<(), AllocError> {
     match read_cert(input) {
         Ok(
             CertFields {
@@ -155,11 +187,11 @@ fn certificate_told(alloc: Global, input: &[u8]) -> Result<String, AllocError> {
                 names,
             },
         ) => {
-            let serial = hex(alloc, serial)?;
-            let subject = subject_told(alloc, &key, &names)?;
-            format!(in alloc; "{serial} {not_before} {not_after}; {subject}")
+            push_hex(told, serial)?;
+            push_times(alloc, told, not_before, not_after)?;
+            push_subject(alloc, told, &key, &names)
         }
-        Err(_) => String::from_str(alloc, "not of the form"),
+        Err(_) => told.push_str("not of the form"),
     }
 }
 
@@ -170,12 +202,18 @@ enum Sort {
     Certificate,
 }
 
-fn told(alloc: Global, sort: Sort, input: &[u8]) -> Result<String, AllocError> {
+fn push(alloc: Global, told: &mut String, sort: Sort, input: &[u8]) -> Result<(), AllocError> {
     match sort {
-        Sort::Key => file_told(alloc, input),
-        Sort::Request => request_told(alloc, input),
-        Sort::Certificate => certificate_told(alloc, input),
+        Sort::Key => push_file(alloc, told, input),
+        Sort::Request => push_request(alloc, told, input),
+        Sort::Certificate => push_certificate(alloc, told, input),
     }
+}
+
+fn told(alloc: Global, sort: Sort, input: &[u8]) -> Result<String, AllocError> {
+    let mut told = String::new(alloc);
+    push(alloc, &mut told, sort, input)?;
+    Ok(told)
 }
 
 fn row_told(alloc: Global, sort: Sort, row: &str) -> Result<String, AllocError> {

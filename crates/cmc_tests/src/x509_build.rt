@@ -12,6 +12,7 @@ use cmc_x509_build::{
     request_serves,
 };
 use std::alloc::Global;
+use std::process::Abort;
 use std::test::Fail;
 
 // The point of a P-256 key.
@@ -194,20 +195,30 @@ fn addresses(rt: HostRuntime) {
     }
 }
 
+fn copied_names(alloc: Global) -> Result<NameSet, Fail> {
+    let names = names(alloc)?;
+    Ok(names.copy()?)
+}
+
+// The copy comes by reference, so that no assertion has it in hand.
+fn are_names(rt: &impl Abort, copied: &NameSet) {
+    passes(rt, "common name", copied.common.as_str() == "example.com");
+    passes(rt, "addresses", copied.ips.as_slice().len() == 2);
+}
+
 #[test]
 fn copies_names(rt: HostRuntime) -> Result<(), Fail> {
+    let copied = copied_names(rt.alloc())?;
+    are_names(&rt, &copied);
     request_serves();
-    let copied = names(rt.alloc())?.copy()?;
-    passes(&rt, "common name", copied.common.as_str() == "example.com");
-    passes(&rt, "addresses", copied.ips.as_slice().len() == 2);
     Ok(())
 }
 
 #[test]
 fn copies_plans(rt: HostRuntime) -> Result<(), Fail> {
-    key_file_serves();
     let copied = plan(text(rt.alloc(), "ca")?).copy()?;
     passes(&rt, "issuer", copied.issuer.as_str() == "ca");
     passes(&rt, "end", copied.not_after == 2_524_608_000);
+    key_file_serves();
     Ok(())
 }
