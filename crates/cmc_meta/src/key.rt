@@ -1,13 +1,15 @@
 ghost use Rattle.std.proofs.Common.{rules};
 ghost use Rattle.std.specs.Cmp.{partial_order_from_own_ties};
-ghost use Rattle.std.specs.Cmp.Rules.{comparing};
+ghost use Rattle.std.specs.Cmp.Rules.{comparing, hashing};
+ghost use Rattle.std.specs.Hash as fed;
 ghost use Rattle.std.specs.Ordering.{nat_cmp, on, as_partial_cmp};
-ghost use Rattle.std.specs.Prelude.{◌≡◌, ◌↔◌, ◌==◌, IsTrue, IfOk};
+ghost use Rattle.std.specs.Prelude.{◌≡◌, ◌↔◌, ◌==◌, ◌∷◌, ◌++◌, IsTrue, IfOk};
 ghost use Rattle.cmc_meta.specs.Keys.{kind_rank};
 
 use crate::name::Name;
 use std::alloc::AllocError;
 use std::cmp::Ordering;
+use std::hash::{Hash, Hasher};
 
 /// The kinds of objects, in the order that keys have.
 #[derive(Clone, Copy)]
@@ -79,6 +81,16 @@ impl Ord for Kind {
 
     fn cmp(&self, other: &Kind) -> Ordering {
         self.rank().cmp(&other.rank())
+    }
+}
+
+impl Hash for Kind {
+    ghost hash_input = { λ kind. fed.u8 (kind_rank kind) };
+
+    ghost respects_eq = { Prim.search (hashing, rules) };
+
+    fn hash<H: Hasher>(&self, state: &mut H) {
+        state.write_u8(self.rank());
     }
 }
 
@@ -159,5 +171,17 @@ impl Ord for Key {
             },
             unequal => unequal,
         }
+    }
+}
+
+impl Hash for Key {
+    ghost hash_input = { λ key. fed.u8 (kind_rank key.kind) ++ fed.str key.namespace ++ fed.str key.name };
+
+    ghost respects_eq = { Prim.search (hashing, rules) };
+
+    fn hash<H: Hasher>(&self, state: &mut H) {
+        self.kind.hash(state);
+        self.namespace.hash(state);
+        self.name.hash(state);
     }
 }
