@@ -24,18 +24,12 @@ pub struct Standing {
     pub object: Option<Object>,
 }
 
-fn is_ok(reply: &Reply) -> bool
-    ensures { result ≡ is_accepted reply.now }
-{
-    matches!(reply, Reply::Ok { .. })
-}
-
 /// Whether the entry is an accepted write.
 fn is_written(entry: &Entry) -> bool
     ensures { result ≡ is_written entry.now }
 {
     match entry {
-        Entry::Call { reply, .. } => is_ok(reply),
+        Entry::Call { reply, .. } => reply.is_accepted(),
         _ => false,
     }
 }
@@ -52,7 +46,9 @@ fn call_of_write(alloc: Global, entry: &Entry) -> Result<Option<Call>, AllocErro
     ensures { IfOk result (λ c. c ≡ written_call entry.now) }
 {
     match entry {
-        Entry::Call { call, reply, .. } if is_ok(reply) => Ok(Some(settled(alloc, call, reply)?)),
+        Entry::Call { call, reply, .. } if reply.is_accepted() => Ok(Some(settled(
+            alloc, call, reply,
+        )?)),
         _ => Ok(None),
     }
 }

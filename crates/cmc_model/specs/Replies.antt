@@ -8,6 +8,7 @@ use Rattle.cmc_objects.specs.declared.call.Call.TheVariants.{Create, Update, Upd
 use Rattle.cmc_objects.specs.declared.call.Reply.{Reply}
 use Rattle.cmc_objects.specs.declared.call.Reply.TheVariants.{Ok, Unchanged, Found, Conflict, NotFound, AlreadyExists, Invalid, Unavailable}
 use Rattle.cmc_objects.specs.Objects.{key_of, name_of, version_of}
+pub use Rattle.cmc_objects.specs.Calls.{is_accepted, key_of_call}
 use Rattle.cmc_model.specs.Objects.{Objects, no_objects, object_at, with_object, without_object}
 use Rattle.cmc_model.specs.Stored.{created, updated, with_status, revised, restated}
 use Rattle.cmc_model.specs.Admission.{is_taken, refusing_rule}
@@ -78,25 +79,6 @@ IsReply faults s call reply =
     MatchBool (list_any (λ n. n == s.calls + 1) faults) (reply ≡ Unavailable (s.calls + 1)) (IsServed s.accepted s.objects call reply)
 
 -- ---- what stands after a call
-
--- a call that is answered Ok is an accepted write
-abbrev pub is_accepted : Reply → Bool
-is_accepted (Ok version name) = true
-is_accepted (Unchanged version) = false
-is_accepted (Found object) = false
-is_accepted (Conflict named have) = false
-is_accepted (NotFound at) = false
-is_accepted (AlreadyExists have) = false
-is_accepted (Invalid rule) = false
-is_accepted (Unavailable number) = false
-
--- the key that a call speaks of, where no name is to be generated
-abbrev pub key_of_call : Call → Key
-key_of_call (Create object generate) = key_of object
-key_of_call (Update object named) = key_of object
-key_of_call (UpdateStatus object named) = key_of object
-key_of_call (Delete key named) = key
-key_of_call (Get key) = key
 
 abbrev pub from_old : (Object → Object) → Option Object → Option Object
 from_old change None = None

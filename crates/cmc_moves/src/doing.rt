@@ -6,14 +6,12 @@ ghost use Rattle.cmc_objects.specs.declared.call.Call.{Call as CallValue};
 ghost use Rattle.std.specs.declared.option.Option.{Option as OptionValue};
 ghost use Rattle.cmc_rules.specs.Acts.{act, call_after};
 ghost use Rattle.cmc_rules.specs.Memory as memory;
-ghost use Rattle.cmc_model.specs.Replies as replies;
 ghost use Rattle.cmc_safety.specs.Acting.{MayAct};
 ghost use Rattle.cmc_moves.specs.Acting.{HasNext, HasSecret, HasStatus, IsDoingBy, asked_in};
 ghost use Rattle.cmc_moves.specs.Answers.{next_answer, outdated_at, value_entry};
 
 use crate::acts::{act_of, follow_of};
 use crate::moves::Stepped;
-use cmc_meta::Key;
 use cmc_objects::{Call, Cause, Entry, Order};
 use cmc_pass::{Act, Desk, Value};
 use cmc_rules::{Ending, OpenPass, Stage};
@@ -161,20 +159,4 @@ pub fn outdated_of(present: u64, began: u64, named: u64) -> Option<u64>
         return None;
     }
     Some(present)
-}
-
-/// The key that the call names; of a create with a generated name the key under the prefix.
-pub fn key_of_call(call: &Call) -> Result<Key, AllocError>
-    ensures { IfOk result (λ k. k ≡ replies.key_of_call call.now) }
-{
-    match call {
-        Call::Create {
-            object,
-            generate: _,
-        } => object.key(),
-        Call::Update { object, .. } => object.key(),
-        Call::UpdateStatus { object, .. } => object.key(),
-        Call::Delete { key, .. } => key.copy(),
-        Call::Get { key } => key.copy(),
-    }
 }

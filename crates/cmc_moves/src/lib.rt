@@ -11,8 +11,7 @@ mod user_writes;
 pub use acts::{act_of, follow_of};
 pub use deciding::{Begun, Decided, decide, decides_alone, is_undecided};
 pub use doing::{
-    Doing, Judged, answer_of, doing_of, ending_at, first_doing, key_of_call, let_go, outdated_of,
-    value_entry_of,
+    Doing, Judged, answer_of, doing_of, ending_at, first_doing, let_go, outdated_of, value_entry_of,
 };
 pub use moves::{Lack, Move, Stepped, answer_begin, answer_delivery, answer_script, answer_value};
 pub use user_writes::{answer, approve, deny, renew, request_for};

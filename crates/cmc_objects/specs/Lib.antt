@@ -1,3 +1,4 @@
+pub mod Calls
 pub mod Defaults
 pub mod Objects
 pub mod Roles

@@ -1,4 +1,5 @@
 ghost use Rattle.std.specs.Prelude.{◌≡◌, IfOk};
+ghost use Rattle.cmc_objects.specs.Calls as calls;
 
 use crate::object::Object;
 use cmc_meta::{Key, Name};
@@ -45,6 +46,22 @@ impl Call {
             Call::Get { key } => Ok(Call::Get { key: key.copy()? }),
         }
     }
+
+    /// The key that the call names; of a create with a generated name the key under the prefix. An error is one of memory.
+    pub fn key(&self) -> Result<Key, AllocError>
+        ensures { IfOk result (λ k. k ≡ calls.key_of_call self.now) }
+    {
+        match self {
+            Call::Create {
+                object,
+                generate: _,
+            } => object.key(),
+            Call::Update { object, .. } => object.key(),
+            Call::UpdateStatus { object, .. } => object.key(),
+            Call::Delete { key, .. } => key.copy(),
+            Call::Get { key } => key.copy(),
+        }
+    }
 }
 
 /// What the store answers to a call.
@@ -66,4 +83,13 @@ pub enum Reply {
     Invalid { rule: u32 },
     /// The call of this number was made to fail.
     Unavailable { number: u64 },
+}
+
+impl Reply {
+    /// Whether the call was an accepted write.
+    pub fn is_accepted(&self) -> bool
+        ensures { result ≡ calls.is_accepted self.now }
+    {
+        matches!(self, Reply::Ok { .. })
+    }
 }

@@ -24,6 +24,18 @@ pub enum Role {
 impl Role {
     ghost use Rattle.cmc_objects.specs.Roles.{role_rank};
 
+    /// All roles, in their order.
+    pub const ALL: [Role; 8] = [
+        Role::Trigger,
+        Role::KeyManager,
+        Role::RequestManager,
+        Role::Approver,
+        Role::Issuer,
+        Role::Issuing,
+        Role::Readiness,
+        Role::Revision,
+    ];
+
     /// The place in the order of roles, from 0.
     pub fn rank(self) -> u8
         ensures { result ≡ role_rank self }

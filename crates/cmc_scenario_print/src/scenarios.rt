@@ -24,17 +24,6 @@ const USUAL_EVENTS: u64 = 100_000;
 
 const USUAL_WINDOW: u64 = 1_000;
 
-const ALL_ROLES: [Role; 8] = [
-    Role::Trigger,
-    Role::KeyManager,
-    Role::RequestManager,
-    Role::Approver,
-    Role::Issuer,
-    Role::Issuing,
-    Role::Readiness,
-    Role::Revision,
-];
-
 fn numbers(alloc: Global, numbers: &[u64]) -> Result<Tree, AllocError>
     ensures { IfOk result (λ t. data_of t ≡ numbers_tree numbers.now) }
 {
@@ -80,7 +69,7 @@ fn runs(roles: &[Role], role: Role) -> bool
 fn all_run(roles: &[Role]) -> bool
     ensures { result ≡ is_every_role roles.now }
 {
-    ALL_ROLES.iter().all(|role| runs(roles, *role))
+    Role::ALL.iter().all(|role| runs(roles, *role))
 }
 
 fn put_roles(members: &mut Members, alloc: Global, roles: &[Role]) -> Result<(), AllocError>

@@ -116,7 +116,7 @@ impl Store {
         }
         let replied = serve(&mut self.catalogue, alloc, self.accepted, now, call)?;
         self.calls = number;
-        if is_ok(&replied.reply) {
+        if replied.reply.is_accepted() {
             self.accepted += 1;
         }
         Ok(replied)
@@ -127,12 +127,6 @@ fn stands_in(faults: &[u64], number: u64) -> bool
     ensures { result ≡ list_any (λ n. n == number) faults.now }
 {
     faults.iter().any(|n| *n == number)
-}
-
-fn is_ok(reply: &Reply) -> bool
-    ensures { result ≡ is_accepted reply.now }
-{
-    matches!(reply, Reply::Ok { .. })
 }
 
 #[tactic(auto, unfolding(cmc_model::specs::Replies::settled))]

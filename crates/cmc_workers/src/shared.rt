@@ -49,18 +49,6 @@ const ASKING_NOBODY: [Role; 4] = [
     Role::Revision,
 ];
 
-/// The roles, in their order.
-const ROLES: [Role; 8] = [
-    Role::Trigger,
-    Role::KeyManager,
-    Role::RequestManager,
-    Role::Approver,
-    Role::Issuer,
-    Role::Issuing,
-    Role::Readiness,
-    Role::Revision,
-];
-
 /// What lies under the lock.
 #[derive(Drop)]
 pub(crate) struct Shared {
@@ -354,7 +342,7 @@ impl Shared {
         if self.is_to_deliver(alloc)? {
             return Ok(None);
         }
-        first_of(alloc, &mut self.waking, &ROLES)
+        first_of(alloc, &mut self.waking, &Role::ALL)
     }
 
     /// Where the next pass may begin, and notes whose turn it is by that.

@@ -20,8 +20,8 @@ use crate::noting::{kind_written, log_write, note_write, stage_of, writes_stand_
 use crate::world::{World, has_room};
 use cmc_meta::Key;
 use cmc_moves::{
-    Doing, Judged, Lack, Stepped, answer_of, answer_value, doing_of, ending_at, key_of_call,
-    let_go, outdated_of, value_entry_of,
+    Doing, Judged, Lack, Stepped, answer_of, answer_value, doing_of, ending_at, let_go,
+    outdated_of, value_entry_of,
 };
 use cmc_objects::{Call, Cause, Entry, Order, Role, Who};
 use cmc_pass::{Desk, Given, Value};
@@ -190,7 +190,7 @@ fn keys_of(current: &OpenPass, call: &Call) -> Result<(Key, Key), AllocError>
     ensures key { IfOk result (λ k. k.0 ≡ current.now.key) }
     ensures named { IfOk result (λ k. k.1 ≡ replies.key_of_call call.now) }
 {
-    Ok((current.key.copy()?, key_of_call(call)?))
+    Ok((current.key.copy()?, call.key()?))
 }
 
 /// The call of the open pass, with what it needs to know of that. An error is one of memory.
