@@ -1,6 +1,5 @@
 -- Rows where the object of one key changes.
 use Rattle.std.proofs.Common.{◌≡◌, Option, Some, None, Bool, true, false, cond, refl, sym, ap, ◌∙◌, List, [], ◌∷◌}
-use Rattle.std.specs.BTreeMap.{is_at}
 use Rattle.std.specs.Cmp.{eq_by_cmp_equiv}
 use Rattle.std.specs.FinMap.{same_map, get-empty}
 use Rattle.std.specs.Map.{lookup}
@@ -26,8 +25,8 @@ pub object_at-slots : (es : Slotted) (q : Key) → object_at (objects_in es) q �
 unfolding objects_in slot_at
 object_at-slots [] q = get-empty key_cmp q
 object_at-slots (e ∷ es) q =
-    object_at-put (objects_in es) e.0 e.1 q ∙ ap (cond (eq_by_cmp key_cmp q e.0) e.1) (object_at-slots es q)
-    ∙ held_by (eq_by_cmp key_cmp q e.0) e.1 (lookup (is_at (key_cmp q)) es)
+    object_at-put (objects_in es) e.0 e.1 q ∙ ap (λ b. cond b e.1 (object_at (objects_in es) q)) (key_tie q e.0)
+    ∙ ap (cond (key_eq q e.0) e.1) (object_at-slots es q) ∙ held_by (key_eq q e.0) e.1 (lookup (key_eq q) es)
 
 pub objects_alike : (es fs : Slotted) → ((k : Key) → slot_at fs k ≡ slot_at es k) → objects_in fs ≡ objects_in es
 objects_alike es fs each = same_map key_cmp-total key_cmp-IsAntisymmetric (objects_in fs) (objects_in es) (λ q. object_at-slots fs q ∙ each q ∙ sym (object_at-slots es q))

@@ -1,44 +1,42 @@
 -- The index of Secrets where the row of one changes, and keys of a row that pass a test.
-use Rattle.std.proofs.Common.{◌≡◌, Option, Some, None, Bool, true, false, cond, refl, sym, ap, ◌∙◌, subst, List}
-use Rattle.std.specs.BTreeMap.{BTreeMap, WritesThrough, get_by, is_at}
+use Rattle.std.proofs.Common.{◌≡◌, Option, Some, Bool, true, false, cond, refl, sym, ap, ◌∙◌, List}
+use Rattle.std.specs.BTreeMap.{is_at}
+use Rattle.std.specs.HashMap.{HashMap, WritesThrough, get_by}
 use Rattle.std.specs.List.{filter}
 use Rattle.std.specs.Map.{lookup}
-use Rattle.std.specs.Ordering.{is_eq}
-use Rattle.std.specs.Prelude.{IsSome, if◌then◌else◌, is_some, ◌&&◌}
+use Rattle.std.specs.Prelude.{IsSome, if◌then◌else◌, ◌&&◌}
 use Rattle.std.proofs.lemmas.List.Kept.{IsStrictlySortedBy-filter}
 use Rattle.std.proofs.lemmas.Map.Views.{any-filter_same}
 use Rattle.cmc_meta.specs.declared.key.Key.{Key}
 use Rattle.cmc_meta.specs.Keys.{key_cmp, key_eq}
 use Rattle.cmc_informer.specs.Indexes.{AreKeys, Marked, Targeted, mark_in, mark_of, points}
-use Rattle.cmc_informer.proofs.OneMark.{key_tie, same_key}
+use Rattle.cmc_informer.proofs.OneMark.{equal_key, same_key}
 
-led_by : (b : Bool) (on : Marked) (es new : Targeted) (secret s k : Key) → is_eq (key_cmp secret s) ≡ b
-    → lookup (is_at (key_cmp s)) new ≡ cond b (Some on) (lookup (is_at (key_cmp s)) es) → points new s k ≡ (if b then mark_in on k else points es s k)
+led_by : (b : Bool) (on : Marked) (es new : Targeted) (s k : Key)
+    → lookup (key_eq s) new ≡ cond b (Some on) (lookup (key_eq s) es) → points new s k ≡ (if b then mark_in on k else points es s k)
 unfolding points
-led_by true on es new secret s k e at = ap (λ o. mark_of o k) at
-led_by false on es new secret s k e at = ap (λ o. mark_of o k) at
+led_by true on es new s k at = ap (λ o. mark_of o k) at
+led_by false on es new s k at = ap (λ o. mark_of o k) at
 
 -- an index of which one row is changed
-row_changed : (on : Marked) (es new : Targeted) (secret : Key) → ((q : Key) → lookup (is_at (key_cmp q)) new ≡ cond (is_eq (key_cmp secret q)) (Some on) (lookup (is_at (key_cmp q)) es))
+row_changed : (on : Marked) (es new : Targeted) (secret : Key) → ((q : Key) → lookup (key_eq q) new ≡ cond (key_eq secret q) (Some on) (lookup (key_eq q) es))
     → (s k : Key) → points new s k ≡ (if key_eq secret s then mark_in on k else points es s k)
-row_changed on es new secret each s k =
-    subst (λ b. points new s k ≡ (if b then mark_in on k else points es s k)) (key_tie secret s) (led_by (is_eq (key_cmp secret s)) on es new secret s k refl (each s))
+row_changed on es new secret each s k = led_by (key_eq secret s) on es new s k (each s)
 
-row_written : (m n : BTreeMap Key Marked) (secret : Key) (old on : Marked) → get_by (key_cmp secret) m ≡ Some old → WritesThrough key_cmp (key_cmp secret) m on n
+row_written : {S : Type 0} (m n : HashMap Key Marked S) (secret : Key) (old on : Marked) → get_by (key_eq secret) m ≡ Some old → WritesThrough key_eq (key_eq secret) m on n
     → (s k : Key) → points n.entries s k ≡ (if key_eq secret s then mark_in on k else points m.entries s k)
 row_written m n secret old on found through =
-    let some : IsSome (get_by (key_cmp secret) m) = rw found refl in
-    row_changed on m.entries n.entries secret (λ q. (through.3 some).0 q)
+    let some : IsSome (get_by (key_eq secret) m) = rw found refl in
+    row_changed on m.entries n.entries secret (through.3 some).0
 
-stood_by : (b : Bool) (row : Option Marked) (es : Targeted) (secret s k : Key) → is_eq (key_cmp secret s) ≡ b → lookup (is_at (key_cmp secret)) es ≡ row → (if b then mark_of row k else points es s k) ≡ points es s k
+stood_by : (b : Bool) (row : Option Marked) (es : Targeted) (secret s k : Key) → key_eq secret s ≡ b → lookup (key_eq secret) es ≡ row → (if b then mark_of row k else points es s k) ≡ points es s k
 unfolding points
-stood_by true row es secret s k e found = sym (ap (λ q. mark_of (lookup (is_at (key_cmp q)) es) k) (sym (same_key secret s e)) ∙ ap (λ o. mark_of o k) found)
+stood_by true row es secret s k e found = sym (ap (λ q. mark_of (lookup (key_eq q) es) k) (sym (equal_key secret s e)) ∙ ap (λ o. mark_of o k) found)
 stood_by false row es secret s k e found = refl
 
 -- what stood in the row is what the index had there
-stood : (row : Option Marked) (es : Targeted) (secret s k : Key) → lookup (is_at (key_cmp secret)) es ≡ row → (if key_eq secret s then mark_of row k else points es s k) ≡ points es s k
-stood row es secret s k found =
-    subst (λ b. (if b then mark_of row k else points es s k) ≡ points es s k) (key_tie secret s) (stood_by (is_eq (key_cmp secret s)) row es secret s k refl found)
+stood : (row : Option Marked) (es : Targeted) (secret s k : Key) → lookup (key_eq secret) es ≡ row → (if key_eq secret s then mark_of row k else points es s k) ≡ points es s k
+stood row es secret s k found = stood_by (key_eq secret s) row es secret s k refl found
 
 both : (a b old rest : Bool) → (if a then (if b then true else old) else rest) ≡ (if a && b then true else (if a then old else rest))
 both true true old rest = refl
@@ -46,31 +44,13 @@ both true false old rest = refl
 both false b old rest = refl
 
 -- a key is marked in the row
-pub mark_led : (m n : BTreeMap Key Marked) (secret key : Key) (old on : Marked) → get_by (key_cmp secret) m ≡ Some old → WritesThrough key_cmp (key_cmp secret) m on n
+pub mark_led : {S : Type 0} (m n : HashMap Key Marked S) (secret key : Key) (old on : Marked) → get_by (key_eq secret) m ≡ Some old → WritesThrough key_eq (key_eq secret) m on n
     → ((k : Key) → mark_in on k ≡ (if key_eq key k then true else mark_in old k))
     → (s k : Key) → points n.entries s k ≡ (if key_eq secret s && key_eq key k then true else points m.entries s k)
 mark_led m n secret key old on found through set s k =
     row_written m n secret old on found through s k ∙ ap (λ (b : Bool). if key_eq secret s then b else points m.entries s k) (set k)
     ∙ both (key_eq secret s) (key_eq key k) (mark_in old k) (points m.entries s k)
     ∙ ap (λ (b : Bool). if key_eq secret s && key_eq key k then true else b) (stood (Some old) m.entries secret s k found)
-
--- no key of the row is marked anew
-pub none_led : (m n : BTreeMap Key Marked) (secret : Key) (old on : Marked) → get_by (key_cmp secret) m ≡ Some old → WritesThrough key_cmp (key_cmp secret) m on n
-    → ((k : Key) → mark_in on k ≡ mark_in old k) → (s k : Key) → points n.entries s k ≡ points m.entries s k
-none_led m n secret old on found through same s k =
-    row_written m n secret old on found through s k ∙ ap (λ (b : Bool). if key_eq secret s then b else points m.entries s k) (same k)
-    ∙ stood (Some old) m.entries secret s k found
-
-none_from_test : (o : Option Marked) → is_some o ≡ false → o ≡ None
-none_from_test None h = refl
-none_from_test (Some marks) h = absurd (cc)
-
--- an index to which a row is added that leads to no key
-pub row_added : (es new : Targeted) (secret copy : Key) (empty : Marked) → is_some (lookup (is_at (key_cmp secret)) es) ≡ false → copy ≡ secret → ((k : Key) → mark_in empty k ≡ false)
-    → ((q : Key) → lookup (is_at (key_cmp q)) new ≡ cond (is_eq (key_cmp copy q)) (Some empty) (lookup (is_at (key_cmp q)) es)) → (s k : Key) → points new s k ≡ points es s k
-row_added es new secret copy empty absent same none each s k =
-    let no_row : lookup (is_at (key_cmp copy)) es ≡ None = ap (λ q. lookup (is_at (key_cmp q)) es) same ∙ none_from_test _ absent in
-    row_changed empty es new copy each s k ∙ ap (λ (b : Bool). if key_eq copy s then b else points es s k) (none k) ∙ stood None es copy s k no_row
 
 -- ---- the keys of a row that pass a test
 

@@ -1,6 +1,5 @@
 pub mod OneMark
 pub mod OneKey
-pub mod OneSlot
 pub mod Leading
 pub mod FoundAlike
 pub mod Exchanging

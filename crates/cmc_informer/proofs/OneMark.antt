@@ -20,6 +20,9 @@ key_tie a b = search (comparing, rules)
 pub same_key : (a b : Key) → is_eq (key_cmp a b) ≡ true → a ≡ b
 same_key a b h = key_cmp-IsAntisymmetric a b ((Equal-is (key_cmp a b)).0 h)
 
+pub equal_key : (a b : Key) → key_eq a b ≡ true → a ≡ b
+equal_key a b h = same_key a b (key_tie a b ∙ h)
+
 moved : (b : Bool) (on : Option Bool) (es new : Marked) (key k : Key) → is_eq (key_cmp key k) ≡ b
     → lookup (is_at (key_cmp k)) new ≡ cond b on (lookup (is_at (key_cmp k)) es) → mark_in new k ≡ (if b then is_on on else mark_in es k)
 unfolding mark_in

@@ -1,11 +1,10 @@
 -- What contracts see of a cache: objects in slots, and the indexes that lead to them.
 use Rattle.std.specs.Prelude.{◌≡◌, ℕ, ◌==◌, ◌&&◌, Bool, true, false, List, [], ◌∷◌, Option, Some, None, is_some}
-use Rattle.std.specs.BTreeMap.{is_at}
 use Rattle.std.specs.List.{list_any}
 use Rattle.std.specs.Map.{lookup}
 use Rattle.cmc_meta.specs.declared.key.Key.{Key}
 use Rattle.cmc_meta.specs.declared.key.Kind.TheVariants.{Secret}
-use Rattle.cmc_meta.specs.Keys.{key_cmp}
+use Rattle.cmc_meta.specs.Keys.{key_eq}
 use Rattle.cmc_meta.specs.declared.owners.OwnerRef.{OwnerRef}
 use Rattle.cmc_objects.specs.declared.object.Object.{Object}
 use Rattle.cmc_objects.specs.declared.object.Object.TheVariants.{Cert}
@@ -16,7 +15,7 @@ use Rattle.std.specs.Str.{bytes_eq}
 use Rattle.cmc_model.specs.declared.write.Write.{Write}
 use Rattle.cmc_informer.specs.Indexes.{Index, Targeted, has_room, points}
 
--- keys, in order, each with its object; one without is room alone
+-- keys, in no order, each with its object; one without is room alone
 abbrev pub Slotted : Type 0
 Slotted = List (Key × Option Object)
 
@@ -26,10 +25,10 @@ held_in (Some held) = held
 
 -- the object in the slot of the key
 unfoldable pub slot_at : Slotted → Key → Option Object
-slot_at slots key = held_in (lookup (is_at (key_cmp key)) slots)
+slot_at slots key = held_in (lookup (key_eq key) slots)
 
 unfoldable pub has_slot : Slotted → Key → Bool
-has_slot slots key = is_some (lookup (is_at (key_cmp key)) slots)
+has_slot slots key = is_some (lookup (key_eq key) slots)
 
 -- the objects that the slots hold
 unfoldable pub objects_in : Slotted → Objects

@@ -6,7 +6,7 @@ use Rattle.std.specs.List.Sorted.{IsStrictlySortedBy}
 use Rattle.std.specs.Map.{lookup}
 use Rattle.std.specs.Ordering.{nat_cmp}
 use Rattle.cmc_meta.specs.declared.key.Key.{Key}
-use Rattle.cmc_meta.specs.Keys.{key_cmp}
+use Rattle.cmc_meta.specs.Keys.{key_cmp, key_eq}
 
 -- keys, in order, each with whether it counts; one that does not is room alone
 abbrev pub Marked : Type 0
@@ -50,13 +50,13 @@ has_room index uid key = place_of (lookup (is_at (nat_cmp uid)) index) key
 abbrev pub KeepsRooms : Index → Index → Type 0
 KeepsRooms old new = (uid : ℕ) (key : Key) → has_room old uid key ≡ true → has_room new uid key ≡ true
 
--- the keys by the key of a Secret
+-- the keys by the key of a Secret, in no order of Secrets
 abbrev pub Targeted : Type 0
 Targeted = List (Key × Marked)
 
 -- whether the Secret leads to the key
 unfoldable pub points : Targeted → Key → Key → Bool
-points index secret key = mark_of (lookup (is_at (key_cmp secret)) index) key
+points index secret key = mark_of (lookup (key_eq secret) index) key
 
 -- where a Secret led, it leads still
 abbrev pub KeepsPoints : Targeted → Targeted → Type 0

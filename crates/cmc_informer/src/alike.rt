@@ -1,10 +1,8 @@
 //! Objects that every index finds in the same way: where one takes the place of the other, no index changes.
 ghost use Rattle.std.specs.Prelude.{◌≡◌, List, ℕ, Some, true};
-ghost use Rattle.cmc_informer.specs.Caches.{has_slot, is_targeting, slot_at};
+ghost use Rattle.cmc_informer.specs.Caches.{is_targeting};
 ghost use Rattle.cmc_informer.specs.Indexed.{AreFoundAlike};
 
-use crate::slots::Slots;
-use cmc_meta::Key;
 use cmc_objects::Object;
 
 fn same_secret(before: &Object, after: &Object) -> bool
@@ -30,12 +28,11 @@ fn found_alike(before: &Object, after: &Object) -> bool
         && same_secret(before, after)
 }
 
-/// Whether an object stands under the key that each index finds as it would find the new one.
-pub(crate) fn stands_alike(slots: &Slots, key: &Key, new: &Option<Object>) -> bool
-    ensures slot { result ≡ true → has_slot slots.now key.now ≡ true }
-    ensures alike { result ≡ true → AreFoundAlike (slot_at slots.now key.now) new.now }
+/// Whether both are objects, and each index finds them in the same way.
+pub(crate) fn are_alike(before: &Option<Object>, after: &Option<Object>) -> bool
+    ensures { result ≡ true → AreFoundAlike before.now after.now }
 {
-    match (slots.get(key), new) {
+    match (before, after) {
         (Some(before), Some(after)) => found_alike(before, after),
         _ => false,
     }

@@ -9,7 +9,6 @@ ghost use Rattle.cmc_informer.specs.Caches.{has_uid, is_owned_by, objects_in, wr
 ghost use Rattle.cmc_informer.specs.Indexed.{HasRoom, HasRoomFor, IsIndexed, KeepsRoom};
 ghost use Rattle.cmc_informer.specs.Indexes.{stands};
 
-use crate::alike::stands_alike;
 use crate::index::Index;
 use crate::owners::{move_owners, room_for_owners};
 use crate::slots::Slots;
@@ -76,7 +75,7 @@ pub(crate) fn make_room(
     ensures indexed { IsIndexed rows.new }
     ensures keeps { KeepsRoom rows.old rows.new }
 {
-    if stands_alike(&rows.slots, key, object) {
+    if rows.slots.stands_alike(key, object) {
         return Ok(());
     }
     make_new_room(alloc, rows, key, object)
@@ -93,14 +92,13 @@ fn reindex(rows: &mut Rows, key: &Key, object: &Option<Object>)
     ensures targets { rows.new.targets ≡ rows.old.targets }
     ensures keeps { KeepsRoom rows.old rows.new }
 {
-    if !stands_alike(&rows.slots, key, object) {
-        move_owners(&mut rows.owners, &rows.slots, object, key);
-        move_uid(&mut rows.uids, &rows.slots, object, key);
-    }
+    move_owners(&mut rows.owners, &rows.slots, object, key);
+    move_uid(&mut rows.uids, &rows.slots, object, key);
 }
 
-/// Puts the object under the key, or takes away the one that stands there. It takes no memory.
-pub(crate) fn change(rows: &mut Rows, key: &Key, object: Option<Object>)
+/// Puts the object under the key, or takes away the one that stands there, and the indexes go along. It takes
+/// no memory.
+fn change_indexed(rows: &mut Rows, key: &Key, object: Option<Object>)
     requires room { HasRoom rows.old key.now object }
     requires indexed { IsIndexed rows.old }
     ensures objects { objects_in rows.new.slots ≡ put_at (objects_in rows.old.slots) key.now object }
@@ -109,6 +107,20 @@ pub(crate) fn change(rows: &mut Rows, key: &Key, object: Option<Object>)
 {
     reindex(rows, key, &object);
     rows.slots.set(key, object);
+}
+
+/// Puts the object under the key, or takes away the one that stands there. Most objects that change are found
+/// as they were before, and then no index changes. It takes no memory.
+pub(crate) fn change(rows: &mut Rows, key: &Key, object: Option<Object>)
+    requires room { HasRoom rows.old key.now object }
+    requires indexed { IsIndexed rows.old }
+    ensures objects { objects_in rows.new.slots ≡ put_at (objects_in rows.old.slots) key.now object }
+    ensures indexed { IsIndexed rows.new }
+    ensures keeps { KeepsRoom rows.old rows.new }
+{
+    if let Err(object) = rows.slots.replace(key, object) {
+        change_indexed(rows, key, object);
+    }
 }
 
 fn copy_object(object: &Option<Object>) -> Result<Option<Object>, AllocError>

@@ -1,23 +1,26 @@
 //! Objects under their keys, and room for more.
 ghost use Rattle.std.specs.List.{filter};
 ghost use Rattle.std.specs.Option.{option_copied};
-ghost use Rattle.std.specs.Prelude.{◌≡◌, None, IfOk, OnOk, if◌then◌else◌, true};
+ghost use Rattle.std.specs.Prelude.{◌≡◌, None, IfErr, IfOk, OnErr, OnOk, if◌then◌else◌, true};
 ghost use Rattle.cmc_meta.specs.declared.key.Key.{Key as KeyValue};
 ghost use Rattle.cmc_meta.specs.Keys.{key_eq};
 ghost use Rattle.cmc_informer.specs.Caches.{has_slot, is_targeting, slot_at};
+ghost use Rattle.cmc_informer.specs.Indexed.{AreFoundAlike};
 
+use crate::alike::are_alike;
 use crate::keys::Keys;
 use cmc_meta::{Key, Name};
 use cmc_objects::Object;
 use std::alloc::{AllocError, Global};
-use std::collections::BTreeMap;
+use std::collections::HashMap;
 use std::marker::Model;
 
 /// A slot for each key that an object stands under, or stood under, or is to stand under. A slot that
-/// is emptied stays, so that it can be filled again without memory.
+/// is emptied stays, so that it can be filled again without memory. A slot is only ever looked for under
+/// its own key, and nobody asks for an order of slots: so they are hashed, and not sorted.
 #[derive(Drop)]
 pub(crate) struct Slots {
-    map: BTreeMap<Key, Option<Object>>,
+    map: HashMap<Key, Option<Object>>,
 }
 
 impl Model for Slots {
@@ -36,7 +39,7 @@ impl Slots {
         ensures { result ≡ [] }
     {
         Slots {
-            map: BTreeMap::new(alloc),
+            map: HashMap::new(alloc),
         }
     }
 
@@ -64,6 +67,38 @@ impl Slots {
         let key = key.copy()?;
         self.map.insert(key, None)?;
         Ok(())
+    }
+
+    /// Whether an object stands under the key that each index finds as it would find the new one.
+    #[tactic(auto, unfolding(crate::specs::Caches::slot_at, crate::specs::Caches::has_slot))]
+    pub(crate) fn stands_alike(&self, key: &Key, new: &Option<Object>) -> bool
+        ensures slot { result ≡ true → has_slot self.now key.now ≡ true }
+        ensures alike { result ≡ true → AreFoundAlike (slot_at self.now key.now) new.now }
+    {
+        match self.map.get(key) {
+            Some(before) => are_alike(before, new),
+            None => false,
+        }
+    }
+
+    /// Puts the object in the place of the one under the key, where each index finds both in the same way; else
+    /// it changes nothing, and gives the object back. It takes no memory.
+    #[tactic(auto, unfolding(crate::specs::Caches::slot_at, crate::specs::Caches::has_slot))]
+    pub(crate) fn replace(
+        &mut self,
+        key: &Key,
+        object: Option<Object>,
+    ) -> Result<(), Option<Object>>
+        ensures slots { OnOk result ((k : KeyValue) → slot_at self.new k ≡ (if key_eq key.now k then object else slot_at self.old k)) }
+        ensures alike { OnOk result (AreFoundAlike (slot_at self.old key.now) object) }
+        ensures back { IfErr result (λ given. given ≡ object) }
+        ensures err { OnErr result (self.new ≡ self.old) }
+        ensures keeps { (k : KeyValue) → has_slot self.old k ≡ true → has_slot self.new k ≡ true }
+    {
+        match self.map.get_mut(key) {
+            Some(slot) => exchange(slot, object),
+            None => Err(object),
+        }
     }
 
     /// Puts the object into the slot of the key, or empties it. It takes no memory.
@@ -107,6 +142,20 @@ fn targets(object: Option<&Object>, namespace: &Name, name: &Name) -> bool
         Some(Object::Cert(c)) => c.meta.namespace == *namespace && c.spec.secret_name == *name,
         _ => false,
     }
+}
+
+/// Puts the object into the slot, if each index finds it as the one that is there; else gives it back.
+fn exchange(slot: &mut Option<Object>, object: Option<Object>) -> Result<(), Option<Object>>
+    ensures slot { OnOk result (slot.new ≡ object) }
+    ensures alike { OnOk result (AreFoundAlike slot.old object) }
+    ensures back { IfErr result (λ given. given ≡ object) }
+    ensures err { OnErr result (slot.new ≡ slot.old) }
+{
+    if are_alike(slot, &object) {
+        fill(slot, object);
+        return Ok(());
+    }
+    Err(object)
 }
 
 fn fill(slot: &mut Option<Object>, object: Option<Object>)

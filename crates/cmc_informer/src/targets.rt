@@ -10,16 +10,16 @@ use crate::marks::Marks;
 use cmc_meta::{Key, Kind, Name};
 use cmc_objects::Object;
 use std::alloc::{AllocError, Global};
-use std::collections::BTreeMap;
+use std::collections::HashMap;
 use std::marker::Model;
 
 /// Under the key of a Secret, the keys of the Certificates that name it, and of some that did or were to.
 /// Whoever looks asks the objects which still do. So an entry goes in before its Certificate does, while
 /// memory may still run out, and none is ever taken out: one that is stale does no harm, and takes room as
-/// an emptied slot does.
+/// an emptied slot does. A Secret is only ever looked for under its own key, so they are hashed, and not sorted.
 #[derive(Drop)]
 pub(crate) struct Targets {
-    map: BTreeMap<Key, Marks>,
+    map: HashMap<Key, Marks>,
 }
 
 impl Model for Targets {
@@ -37,7 +37,7 @@ impl Targets {
         ensures { (s k : KeyValue) → points result s k ≡ false }
     {
         Targets {
-            map: BTreeMap::new(alloc),
+            map: HashMap::new(alloc),
         }
     }
 
