@@ -3,13 +3,13 @@
 #![tactic(auto)]
 
 mod acts;
-mod deciding;
+mod decision;
 mod doing;
 mod moves;
 mod user_writes;
 
 pub use acts::{act_of, follow_of};
-pub use deciding::{Begun, Decided, decide, decides_alone, is_undecided};
+pub use decision::{Begun, Decided, decide, decides_alone, is_undecided};
 pub use doing::{
     Doing, Judged, answer_of, doing_of, ending_at, first_doing, let_go, outdated_of, value_entry_of,
 };

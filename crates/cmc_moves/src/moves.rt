@@ -4,7 +4,7 @@ ghost use Rattle.cmc_pass.specs.Giving.{order_of};
 ghost use Rattle.cmc_moves.specs.Tables.{delivery_answer, begin_answer, script_answer, IsValueAnswer};
 ghost use Rattle.cmc_moves.specs.Answers as answers;
 
-use crate::deciding::Decided;
+use crate::decision::Decided;
 use cmc_meta::{Key, Kind};
 use cmc_objects::{Order, Role};
 use cmc_pass::Given;

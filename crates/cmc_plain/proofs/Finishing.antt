@@ -42,7 +42,7 @@ use Rattle.cmc_rules.specs.Runs.{IsRun, IsFinished}
 use Rattle.cmc_rules.specs.Sameness.{own_above}
 use Rattle.cmc_rules.specs.Passes.{IsWorking}
 use Rattle.cmc_safety.proofs.Moments.{scripted_low}
-use Rattle.cmc_world.proofs.Rest.{same_kind}
+use Rattle.cmc_world.proofs.AtRest.{same_kind}
 use Rattle.cmc_world.proofs.Elsewhere.{idle_elsewhere, none_held}
 use Rattle.cmc_plain.specs.Plain.{IsBehind, Fits, HasNoScript, HasNoPass, HasNoDelivery}
 use Rattle.cmc_world.proofs.Newest.{IsToldOfAll, views_newest}

@@ -15,7 +15,7 @@ use Rattle.std.specs.Ordering.{is_eq}
 use Rattle.cmc_meta.specs.declared.key.Key.{Key}
 use Rattle.cmc_meta.specs.Keys.{key_cmp, key_eq}
 use Rattle.cmc_model.proofs.Keys.{key_cmp-total, key_cmp-IsAntisymmetric}
-use Rattle.cmc_world.proofs.Rest.{key_eq-Decides}
+use Rattle.cmc_world.proofs.AtRest.{key_eq-Decides}
 use Rattle.cmc_plain.specs.Searches.{FindsFirst}
 
 pub tied_is_same : (a b : Key) → is_eq (key_cmp a b) ≡ true → a ≡ b

@@ -33,7 +33,7 @@ use Rattle.cmc_moves.specs.declared.moves.Move.{Move}
 use Rattle.cmc_moves.specs.declared.moves.Move.TheVariants as moves
 use Rattle.cmc_moves.specs.declared.moves.Stepped.{Stepped}
 use Rattle.cmc_moves.specs.declared.moves.Stepped.TheVariants as answers
-use Rattle.cmc_world.specs.Kept.{Seen, setting_of}
+use Rattle.cmc_world.specs.Kept.{Seen, setting_of, on}
 use Rattle.cmc_world.proofs.Standings.{same_role}
 use Rattle.cmc_plain.specs.Ready.{SeesSame}
 
@@ -212,4 +212,4 @@ pub holds_step : (Q : Claim) → IsLasting Q → (S : Meant) (old new : Seen) (m
 holds_step Q l S old new move (Ok answer) run was left same leaves failed holds =
     let here = subst (λ (u : Setup). IsRun (setting_of u) new.history) same run in
     subst (λ (u : Setup). HoldsOn Q S (setting_of u) new.history) (sym same) (holds_after Q l S (setting_of old.scenario) old.history move answer new.history here.legal was.legal left leaves holds)
-holds_step Q l S old new move (Err e) run was left same leaves failed holds = subst (λ (v : Seen). HoldsOn Q S (setting_of v.scenario) v.history) (sym failed) holds
+holds_step Q l S old new move (Err e) run was left same leaves failed holds = subst (λ (v : Seen). on (HoldsOn Q S) v) (sym failed) holds

@@ -29,7 +29,7 @@ use Rattle.cmc_moves.specs.declared.moves.Stepped.TheVariants.{Done, NotNow, End
 use Rattle.cmc_moves.specs.declared.moves.Lack.TheVariants.{ScriptOver, ScriptWaits, Stopped, NoInformer, Held, Current, NotAWrite, InProcess, OwnWrite, SameViews, NotQueued, NoPass}
 use Rattle.cmc_moves.specs.Answers.{Need, Bar, BarOf, Fits as HasRoom, outdated, entries_of, next_effect, kept_of, new_of, next_answer, asked_once, value_entry, AnswersScript, AnswersDelivery, AnswersBegin, AnswersOpen, AnswersGoing, AnswersGiven, Answers, Leaves}
 use Rattle.cmc_world.proofs.Leading.{new_may}
-use Rattle.cmc_world.proofs.Rest.{same_kind}
+use Rattle.cmc_world.proofs.AtRest.{same_kind}
 use Rattle.cmc_plain.specs.Plain.{IsStepReady, IsBehind, IsOfPresent, Fits, IsChosen}
 use Rattle.cmc_plain.specs.Driving.{IsNextWith, IsMadeFor, goes_on}
 use Rattle.cmc_plain.specs.Histories.{GrowsPlainly, entries_for}

@@ -16,7 +16,7 @@ use Rattle.cmc_rules.specs.Passes.{open_pass}
 use Rattle.cmc_model.proofs.Keys.{key_cmp-total, key_cmp-IsAntisymmetric}
 use Rattle.cmc_moves.specs.declared.moves.Move.{Move}
 use Rattle.cmc_moves.specs.declared.moves.Move.TheVariants.{Script, Deliver, Begin, Next, Give, Decide}
-use Rattle.cmc_world.proofs.Rest.{same_kind}
+use Rattle.cmc_world.proofs.AtRest.{same_kind}
 use Rattle.cmc_plain.specs.Plain.{IsOfPresent, IsFirstPass, IsFirstDelivery, IsFirstBegin, IsChosen, IsPlainMove}
 
 -- numbers of which neither is the lesser are one

@@ -34,7 +34,7 @@ use Rattle.cmc_moves.specs.declared.moves.Move.{Move}
 use Rattle.cmc_moves.specs.declared.moves.Move.TheVariants as moves
 use Rattle.cmc_moves.specs.declared.moves.Stepped.{Stepped}
 use Rattle.cmc_world.specs.Kept.{Seen, setting_of}
-use Rattle.cmc_world.proofs.Rest.{same_key}
+use Rattle.cmc_world.proofs.AtRest.{same_key}
 use Rattle.cmc_moves.proofs.Sounds.{any_desk}
 use Rattle.cmc_world.proofs.Standings.{same_role}
 use Rattle.cmc_moves.specs.Quiet.{IsQuiet, seen_last}

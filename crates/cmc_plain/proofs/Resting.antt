@@ -16,7 +16,7 @@ use Rattle.cmc_objects.specs.Watching.{kind_of_work}
 use Rattle.cmc_rules.specs.Legality.{IsLegal, IsOpen}
 use Rattle.cmc_rules.specs.Resting.{RestsOn, IsAtRest, IsToldAll, RestsOnKnown}
 use Rattle.cmc_world.specs.Rest.{EachKind}
-use Rattle.cmc_world.proofs.Rest.{each_kind, same_kind}
+use Rattle.cmc_world.proofs.AtRest.{each_kind, same_kind}
 use Rattle.cmc_plain.specs.declared.passes.Going.{Going}
 use Rattle.cmc_plain.specs.declared.deliveries.Delivery.{Delivery}
 use Rattle.cmc_plain.specs.Ready.{IsIdleOn}

@@ -19,7 +19,7 @@ use Rattle.cmc_model.specs.Summaries.{is_certificate, is_ready, is_waiting, says
 use Rattle.cmc_rules.specs.Sighting.{IsAmong}
 use Rattle.cmc_rules.proofs.Sighted.{stands_among}
 use Rattle.cmc_world.proofs.OneKind.{same_at}
-use Rattle.cmc_world.proofs.Rest.{key_eq-refl}
+use Rattle.cmc_world.proofs.AtRest.{key_eq-refl}
 use Rattle.cmc_plain.specs.Waits.{wait_at, with_wait, waits_among, summary_at}
 use Rattle.cmc_plain.specs.Named.{NamesEachWait, IsWhole}
 

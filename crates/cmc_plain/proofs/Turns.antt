@@ -12,8 +12,8 @@ use Rattle.cmc_moves.specs.Answers.{next_effect, entries_of}
 use Rattle.cmc_world.specs.Kept.{Seen, setting_of}
 use Rattle.cmc_plain.specs.Plain.{IsPlainMove}
 use Rattle.cmc_plain.specs.Histories.{IsPlainStep, LeadsPlainly, IsPlain, IsFull, entries_for}
-use Rattle.cmc_plain.specs.declared.driving.Driven.{Driven}
-use Rattle.cmc_plain.specs.declared.driving.Driven.TheVariants.{Finished, Spent}
+use Rattle.cmc_plain.specs.declared.run.Driven.{Driven}
+use Rattle.cmc_plain.specs.declared.run.Driven.TheVariants.{Finished, Spent}
 use Rattle.cmc_plain.specs.Driving.{GoesOn, IsDriving, IsDrained, IsDriven, EndsFrom, EndsPlainly, goes_on}
 use Rattle.cmc_plain.proofs.Determined.{grown_length}
 use Rattle.cmc_plain.proofs.Making.{ComesTo}

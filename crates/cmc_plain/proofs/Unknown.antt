@@ -29,7 +29,7 @@ use Rattle.cmc_rules.specs.Memory.{past, no_past, with_begin, with_ending, endin
 use Rattle.cmc_rules.specs.Legality.{IsLegal}
 use Rattle.cmc_world.proofs.Known.{neither, none_under}
 use Rattle.cmc_world.proofs.OneKind.{object_at-of_kind}
-use Rattle.cmc_world.proofs.Rest.{same_key}
+use Rattle.cmc_world.proofs.AtRest.{same_key}
 use Rattle.cmc_moves.proofs.Sounds.{each_sound}
 use Rattle.cmc_moves.specs.Quiet.{IsQuiet, no_views, seen_last}
 use Rattle.cmc_plain.proofs.Remembering.{last_called}

@@ -23,7 +23,7 @@ use Rattle.cmc_objects.specs.Watching.{kind_of_work}
 use Rattle.cmc_rules.specs.Scripting.{scripted, step_at}
 use Rattle.cmc_held.proofs.Numbered.{list_any-reverse}
 use Rattle.cmc_moves.specs.Answers.{next_effect}
-use Rattle.cmc_world.proofs.Rest.{same_key}
+use Rattle.cmc_world.proofs.AtRest.{same_key}
 use Rattle.cmc_plain.specs.Ready.{is_ready, Keeps, HasKnown, HasAllKnown, is_alarm, WakesAll}
 use Rattle.cmc_plain.specs.Searches.{EachBefore}
 use Rattle.cmc_plain.proofs.Ordering.{rank_low}

@@ -16,10 +16,10 @@ use Rattle.cmc_moves.specs.declared.moves.Move.TheVariants.{Next, Give}
 use Rattle.cmc_moves.specs.declared.moves.Stepped.{Stepped}
 use Rattle.cmc_moves.specs.declared.moves.Stepped.TheVariants.{Done, Order as Tells}
 use Rattle.cmc_world.specs.Kept.{Seen, setting_of}
-use Rattle.cmc_plain.specs.declared.driving.Turn.{Turn}
-use Rattle.cmc_plain.specs.declared.driving.Turn.TheVariants as turns
-use Rattle.cmc_plain.specs.declared.driving.Driven.{Driven}
-use Rattle.cmc_plain.specs.declared.driving.Driven.TheVariants.{Finished, Spent}
+use Rattle.cmc_plain.specs.declared.run.Turn.{Turn}
+use Rattle.cmc_plain.specs.declared.run.Turn.TheVariants as turns
+use Rattle.cmc_plain.specs.declared.run.Driven.{Driven}
+use Rattle.cmc_plain.specs.declared.run.Driven.TheVariants.{Finished, Spent}
 use Rattle.cmc_plain.specs.Histories.{IsPlainStep, IsPlain, IsFull}
 
 -- ---- values

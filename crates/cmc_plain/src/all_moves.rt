@@ -2,7 +2,7 @@
 ghost use Rattle.std.specs.Prelude.{◌≡◌, IfOk, OnErr};
 ghost use Rattle.cmc_pass.specs.Giving.{order_of, value_of};
 ghost use Rattle.cmc_pass.specs.Values.{IsValue};
-ghost use Rattle.cmc_world.specs.Kept.{setting_of};
+ghost use Rattle.cmc_world.specs.Kept.{on, setting_of};
 ghost use Rattle.cmc_world.specs.Leading.{IsRight, IsStep, Lead, LeadsSome};
 
 use cmc_moves::let_go;
@@ -46,7 +46,7 @@ fn is_right(step: &Move)
 
 /// Makes one move, whatever it is answered.
 fn make_one(world: &mut World, alloc: Global, step: Move) -> Result<(), AllocError>
-    ensures made { IfOk result (λ _. IsStep (setting_of world.old.scenario) world.old.history step world.new.history) }
+    ensures made { IfOk result (λ _. on IsStep world.old step world.new.history) }
     ensures scenario { world.new.scenario ≡ world.old.scenario }
     ensures err { OnErr result (world.new ≡ world.old) }
 {

@@ -8,7 +8,7 @@ ghost use Rattle.cmc_rules.specs.Memory.{past};
 ghost use Rattle.cmc_rules.specs.Positions.{positions};
 ghost use Rattle.cmc_rules.specs.Sameness as sameness;
 ghost use Rattle.cmc_rules.specs.Viewing.{views};
-ghost use Rattle.cmc_world.specs.Kept.{setting_of};
+ghost use Rattle.cmc_world.specs.Kept.{on};
 ghost use Rattle.cmc_moves.specs.Quiet.{IsQuiet};
 ghost use Rattle.cmc_objects.specs.Watching.{kind_of_work};
 ghost use Rattle.cmc_plain.specs.Plain as spec;
@@ -35,7 +35,7 @@ pub(crate) struct Beginning {
 
 /// Whether the key is one of the role's kind of work, and no pass of it on the key is open.
 pub(crate) fn is_free(world: &World, role: Role, key: &Key) -> bool
-    ensures { IsTrue result ↔ IsFree (setting_of world.now.scenario) world.now.history role key.now }
+    ensures { IsTrue result ↔ on IsFree world.now role key.now }
 {
     key.kind.same(kind_of_work(role)) && !world.passes().is_on(role, key)
 }
@@ -49,10 +49,10 @@ fn is_quiet(
     seen: &Views,
     known: &mut Known,
 ) -> Result<bool, AllocError>
-    requires before { Knows (setting_of world.now.scenario) world.now.history known.old }
-    requires sees { seen.now ≡ views (setting_of world.now.scenario) world.now.history role key.now }
-    ensures test { IfOk result (λ b. IsTrue b ↔ IsQuiet (setting_of world.now.scenario) world.now.history role key.now) }
-    ensures after { Knows (setting_of world.now.scenario) world.now.history known.new }
+    requires before { on Knows world.now known.old }
+    requires sees { seen.now ≡ on views world.now role key.now }
+    ensures test { IfOk result (λ b. IsTrue b ↔ on IsQuiet world.now role key.now) }
+    ensures after { on Knows world.now known.new }
 {
     if !world.saw_last(alloc, role, key, seen) {
         return Ok(false);
@@ -70,14 +70,14 @@ fn fits_seen(
     known: &mut Known,
     quiet: &mut Vec<Key>,
 ) -> Result<bool, AllocError>
-    requires before { Knows (setting_of world.now.scenario) world.now.history known.old }
-    requires quiet { IsOfEach (IsQuiet (setting_of world.now.scenario) world.now.history role) quiet.old.items }
-    requires sees { seen.now ≡ views (setting_of world.now.scenario) world.now.history role key.now }
-    requires running { histories.runs (setting_of world.now.scenario) world.now.history role ≡ true }
-    requires free { IsFree (setting_of world.now.scenario) world.now.history role key.now }
-    ensures fits { IfOk result (λ b. IsTrue b ↔ spec.Fits (setting_of world.now.scenario) world.now.history role key.now) }
-    ensures after { Knows (setting_of world.now.scenario) world.now.history known.new }
-    ensures quiet { IsOfEach (IsQuiet (setting_of world.now.scenario) world.now.history role) quiet.new.items }
+    requires before { on Knows world.now known.old }
+    requires quiet { IsOfEach (on IsQuiet world.now role) quiet.old.items }
+    requires sees { seen.now ≡ on views world.now role key.now }
+    requires running { on histories.runs world.now role ≡ true }
+    requires free { on IsFree world.now role key.now }
+    ensures fits { IfOk result (λ b. IsTrue b ↔ on spec.Fits world.now role key.now) }
+    ensures after { on Knows world.now known.new }
+    ensures quiet { IsOfEach (on IsQuiet world.now role) quiet.new.items }
 {
     world.is_run();
     if is_quiet(alloc, world, role, key, seen, known)? {
@@ -90,7 +90,7 @@ fn fits_seen(
 /// Whether the role was told of its own writes on the key. While it was not, no pass is due there, whatever it would see:
 /// so this is asked before views are made.
 pub(crate) fn knows_own(world: &World, role: Role, key: &Key) -> bool
-    ensures { result ≡ false → sameness.own_above (past (setting_of world.now.scenario) world.now.history role key.now).own (positions world.now.history role) ≡ None → ⊥ }
+    ensures { result ≡ false → sameness.own_above (on past world.now role key.now).own (positions world.now.history role) ≡ None → ⊥ }
 {
     match world.past(role, key) {
         Some(past) => own_above(past.own, world.told(role)).is_none(),
@@ -107,12 +107,12 @@ fn fits(
     known: &mut Known,
     quiet: &mut Vec<Key>,
 ) -> Result<bool, AllocError>
-    requires before { Knows (setting_of world.now.scenario) world.now.history known.old }
-    requires quiet { IsOfEach (IsQuiet (setting_of world.now.scenario) world.now.history role) quiet.old.items }
-    requires running { histories.runs (setting_of world.now.scenario) world.now.history role ≡ true }
-    ensures fits { IfOk result (λ b. IsTrue b ↔ spec.Fits (setting_of world.now.scenario) world.now.history role key.now) }
-    ensures after { Knows (setting_of world.now.scenario) world.now.history known.new }
-    ensures quiet { IsOfEach (IsQuiet (setting_of world.now.scenario) world.now.history role) quiet.new.items }
+    requires before { on Knows world.now known.old }
+    requires quiet { IsOfEach (on IsQuiet world.now role) quiet.old.items }
+    requires running { on histories.runs world.now role ≡ true }
+    ensures fits { IfOk result (λ b. IsTrue b ↔ on spec.Fits world.now role key.now) }
+    ensures after { on Knows world.now known.new }
+    ensures quiet { IsOfEach (on IsQuiet world.now role) quiet.new.items }
 {
     if !is_free(world, role, key) {
         return Ok(false);
@@ -134,13 +134,13 @@ fn first_among(
     known: &mut Known,
     quiet: &mut Vec<Key>,
 ) -> Result<Option<Key>, AllocError>
-    requires before { Knows (setting_of world.now.scenario) world.now.history known.old }
-    requires quiet { IsOfEach (IsQuiet (setting_of world.now.scenario) world.now.history role) quiet.old.items }
-    requires running { histories.runs (setting_of world.now.scenario) world.now.history role ≡ true }
-    requires others { (k : KeyValue) → k.kind ≡ kind_of_work role → contains key_cmp keys.now k ≡ false → IsQuiet (setting_of world.now.scenario) world.now.history role k }
-    ensures finds { IfOk result (λ k. FindsKey (setting_of world.now.scenario) world.now.history role k) }
-    ensures after { Knows (setting_of world.now.scenario) world.now.history known.new }
-    ensures quiet { IsOfEach (IsQuiet (setting_of world.now.scenario) world.now.history role) quiet.new.items }
+    requires before { on Knows world.now known.old }
+    requires quiet { IsOfEach (on IsQuiet world.now role) quiet.old.items }
+    requires running { on histories.runs world.now role ≡ true }
+    requires others { (k : KeyValue) → k.kind ≡ kind_of_work role → contains key_cmp keys.now k ≡ false → on IsQuiet world.now role k }
+    ensures finds { IfOk result (λ k. on FindsKey world.now role k) }
+    ensures after { on Knows world.now known.new }
+    ensures quiet { IsOfEach (on IsQuiet world.now role) quiet.new.items }
 {
     for key in keys.iter() {
         if fits(alloc, world, role, key, known, quiet)? {
@@ -152,9 +152,9 @@ fn first_among(
 
 /// Lets keys that are quiet be ready no more.
 fn leave(world: &World, role: Role, ready: &mut Ready, quiet: &[Key])
-    requires covers { Covers (setting_of world.now.scenario) world.now.history ready.old }
-    requires quiet { IsOfEach (IsQuiet (setting_of world.now.scenario) world.now.history role) quiet.now }
-    ensures { Covers (setting_of world.now.scenario) world.now.history ready.new }
+    requires covers { on Covers world.now ready.old }
+    requires quiet { IsOfEach (on IsQuiet world.now role) quiet.now }
+    ensures { on Covers world.now ready.new }
 {
     world.is_run();
     remove_each(ready, role, quiet);
@@ -168,11 +168,11 @@ fn first_key(
     ready: &mut Ready,
     known: &mut Known,
 ) -> Result<Option<Key>, AllocError>
-    requires before { Knows (setting_of world.now.scenario) world.now.history known.old }
-    requires covers { Covers (setting_of world.now.scenario) world.now.history ready.old }
-    ensures finds { IfOk result (λ k. FindsKey (setting_of world.now.scenario) world.now.history role k) }
-    ensures after { Knows (setting_of world.now.scenario) world.now.history known.new }
-    ensures covers { Covers (setting_of world.now.scenario) world.now.history ready.new }
+    requires before { on Knows world.now known.old }
+    requires covers { on Covers world.now ready.old }
+    ensures finds { IfOk result (λ k. on FindsKey world.now role k) }
+    ensures after { on Knows world.now known.new }
+    ensures covers { on Covers world.now ready.new }
 {
     if !world.runs(role) {
         return Ok(None);
@@ -195,11 +195,11 @@ pub(crate) fn first_begin(
     ready: &mut Ready,
     known: &mut Known,
 ) -> Result<Option<Beginning>, AllocError>
-    requires before { Knows (setting_of world.now.scenario) world.now.history known.old }
-    requires covers { Covers (setting_of world.now.scenario) world.now.history ready.old }
-    ensures finds { IfOk result (λ b. FindsBegin (setting_of world.now.scenario) world.now.history b) }
-    ensures after { Knows (setting_of world.now.scenario) world.now.history known.new }
-    ensures covers { Covers (setting_of world.now.scenario) world.now.history ready.new }
+    requires before { on Knows world.now known.old }
+    requires covers { on Covers world.now ready.old }
+    ensures finds { IfOk result (λ b. on FindsBegin world.now b) }
+    ensures after { on Knows world.now known.new }
+    ensures covers { on Covers world.now ready.new }
 {
     for place in 0..8 {
         let role = role_in(place);

@@ -3,7 +3,7 @@ ghost use Rattle.std.specs.Prelude.{◌≡◌, ◌↔◌, IsTrue, IfOk, false};
 ghost use Rattle.cmc_model.specs.Writes.{last_of_kind, writes};
 ghost use Rattle.cmc_rules.specs.Positions.{positions};
 ghost use Rattle.cmc_moves.specs.Answers.{AnswersDelivery};
-ghost use Rattle.cmc_world.specs.Kept.{setting_of};
+ghost use Rattle.cmc_world.specs.Kept.{on};
 ghost use Rattle.cmc_plain.specs.Plain.{IsBehind};
 ghost use Rattle.cmc_plain.specs.Searches.{FindsKind, FindsDelivery, IsNewest};
 
@@ -33,7 +33,7 @@ struct Newest {
 
 /// The newest accepted write of each kind. It is asked once for all roles.
 fn newest_of(world: &World) -> Newest
-    ensures { IsNewest (setting_of world.now.scenario) world.now.history result }
+    ensures { on IsNewest world.now result }
 {
     let log = world.log();
     Newest {
@@ -47,8 +47,8 @@ fn newest_of(world: &World) -> Newest
 /// little, and is asked of every role and kind before most moves.
 fn has_news(world: &World, told: Positions, role: Role, kind: Kind, to: u64) -> bool
     requires told { told ≡ positions world.now.history role }
-    requires newest { to ≡ last_of_kind kind (writes (setting_of world.now.scenario) world.now.history) }
-    ensures { result ≡ false → IsBehind (setting_of world.now.scenario) world.now.history role kind → ⊥ }
+    requires newest { to ≡ last_of_kind kind (on writes world.now) }
+    ensures { result ≡ false → on IsBehind world.now role kind → ⊥ }
 {
     at_kind(told, kind) < to && has_informer(role, kind)
 }
@@ -65,7 +65,7 @@ pub(crate) fn told_answer(
     kind: Kind,
     to: u64,
 ) -> Result<Stepped, AllocError>
-    ensures { IfOk result (λ a. AnswersDelivery (setting_of world.now.scenario) world.now.history role kind to a) }
+    ensures { IfOk result (λ a. on AnswersDelivery world.now role kind to a) }
 {
     let step = Move::Deliver { role, kind, to };
     let answer = world.answer(alloc, &step);
@@ -82,8 +82,8 @@ fn takes_delivery(
     kind: Kind,
     to: u64,
 ) -> Result<bool, AllocError>
-    requires { to ≡ last_of_kind kind (writes (setting_of world.now.scenario) world.now.history) }
-    ensures { IfOk result (λ b. IsTrue b ↔ IsBehind (setting_of world.now.scenario) world.now.history role kind) }
+    requires { to ≡ last_of_kind kind (on writes world.now) }
+    ensures { IfOk result (λ b. IsTrue b ↔ on IsBehind world.now role kind) }
 {
     Ok(is_accepted(told_answer(alloc, world, role, kind, to)?))
 }
@@ -98,8 +98,8 @@ fn is_behind(
     to: u64,
 ) -> Result<bool, AllocError>
     requires told { told ≡ positions world.now.history role }
-    requires newest { to ≡ last_of_kind kind (writes (setting_of world.now.scenario) world.now.history) }
-    ensures { IfOk result (λ b. IsTrue b ↔ IsBehind (setting_of world.now.scenario) world.now.history role kind) }
+    requires newest { to ≡ last_of_kind kind (on writes world.now) }
+    ensures { IfOk result (λ b. IsTrue b ↔ on IsBehind world.now role kind) }
 {
     if !has_news(world, told, role, kind, to) {
         return Ok(false);
@@ -114,8 +114,8 @@ fn first_kind(
     role: Role,
     newest: Newest,
 ) -> Result<Option<Kind>, AllocError>
-    requires { IsNewest (setting_of world.now.scenario) world.now.history newest }
-    ensures { IfOk result (λ k. FindsKind (setting_of world.now.scenario) world.now.history role k) }
+    requires { on IsNewest world.now newest }
+    ensures { IfOk result (λ k. on FindsKind world.now role k) }
 {
     let told = world.told(role);
     if is_behind(
@@ -151,7 +151,7 @@ fn first_kind(
 ///
 /// Want of memory alone.
 pub(crate) fn first_delivery(alloc: Global, world: &World) -> Result<Option<Delivery>, AllocError>
-    ensures { IfOk result (λ d. FindsDelivery (setting_of world.now.scenario) world.now.history d) }
+    ensures { IfOk result (λ d. on FindsDelivery world.now d) }
 {
     let newest = newest_of(world);
     for place in 0..8 {

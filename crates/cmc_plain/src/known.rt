@@ -8,7 +8,7 @@ ghost use Rattle.cmc_caches.specs.Affected.{is_among};
 ghost use Rattle.cmc_objects.specs.Watching.{kind_of_work};
 ghost use Rattle.cmc_rules.specs.Viewing.{views};
 ghost use Rattle.cmc_moves.specs.declared.moves.Move.TheVariants.{Script};
-ghost use Rattle.cmc_world.specs.Kept.{setting_of};
+ghost use Rattle.cmc_world.specs.Kept.{on};
 ghost use Rattle.cmc_plain.specs.Ready.{Busies, Forgets, Idles, IsIdleOn, IsOfEach, Knows, KnowsLess, is_ready};
 
 use crate::ready::{Ready, remove_each};
@@ -30,7 +30,7 @@ pub(crate) struct Known {
 impl Known {
     /// Nothing is known yet: all keys that accepted writes named are awake. An error is one of memory.
     pub(crate) fn new(alloc: Global, world: &World) -> Result<Known, AllocError>
-        ensures { IfOk result (λ known. Knows (setting_of world.now.scenario) world.now.history known) }
+        ensures { IfOk result (λ known. on Knows world.now known) }
     {
         Ok(Known {
             awake: all_ready(alloc, world)?,
@@ -60,7 +60,7 @@ impl Known {
     /// Wakes the keys that the next step of the script may wake. An error is one of memory.
     pub(crate) fn wake_for_script(&mut self, alloc: Global, world: &World) -> Result<(), AllocError>
         ensures less { KnowsLess self.old self.new }
-        ensures forgets { OnOk result (Forgets (setting_of world.now.scenario) world.now.history Script self.new) }
+        ensures forgets { OnOk result (on Forgets world.now Script self.new) }
     {
         let none = Ready::new(alloc)?;
         self.busy = none;
@@ -70,9 +70,9 @@ impl Known {
 
 /// Lets keys on which the role has nothing to do be awake no more.
 pub(crate) fn lull(world: &World, role: Role, awake: &mut Ready, idle: &[Key])
-    requires before { Idles (setting_of world.now.scenario) world.now.history awake.old }
-    requires idle { IsOfEach (IsIdleOn (setting_of world.now.scenario) world.now.history role) idle.now }
-    ensures { Idles (setting_of world.now.scenario) world.now.history awake.new }
+    requires before { on Idles world.now awake.old }
+    requires idle { IsOfEach (on IsIdleOn world.now role) idle.now }
+    ensures { on Idles world.now awake.new }
 {
     world.is_run();
     remove_each(awake, role, idle);
@@ -93,12 +93,12 @@ pub(crate) fn find_idle(
     busy: &mut Ready,
     idle: &mut Vec<Key>,
 ) -> Result<bool, AllocError>
-    requires busy { Busies (setting_of world.now.scenario) world.now.history busy.old }
-    requires idle { IsOfEach (IsIdleOn (setting_of world.now.scenario) world.now.history role) idle.old.items }
-    requires sees { seen.now ≡ views (setting_of world.now.scenario) world.now.history role key.now }
-    ensures test { IfOk result (λ b. IsTrue b ↔ IsIdleOn (setting_of world.now.scenario) world.now.history role key.now) }
-    ensures busy { Busies (setting_of world.now.scenario) world.now.history busy.new }
-    ensures idle { IsOfEach (IsIdleOn (setting_of world.now.scenario) world.now.history role) idle.new.items }
+    requires busy { on Busies world.now busy.old }
+    requires idle { IsOfEach (on IsIdleOn world.now role) idle.old.items }
+    requires sees { seen.now ≡ on views world.now role key.now }
+    ensures test { IfOk result (λ b. IsTrue b ↔ on IsIdleOn world.now role key.now) }
+    ensures busy { on Busies world.now busy.new }
+    ensures idle { IsOfEach (on IsIdleOn world.now role) idle.new.items }
 {
     world.can_act();
     if busy.keys(role).contains(key) {
@@ -125,10 +125,10 @@ pub(crate) fn is_idle(
     seen: &Views,
     known: &mut Known,
 ) -> Result<bool, AllocError>
-    requires before { Knows (setting_of world.now.scenario) world.now.history known.old }
-    requires sees { seen.now ≡ views (setting_of world.now.scenario) world.now.history role key.now }
-    ensures test { IfOk result (λ b. IsTrue b ↔ IsIdleOn (setting_of world.now.scenario) world.now.history role key.now) }
-    ensures after { Knows (setting_of world.now.scenario) world.now.history known.new }
+    requires before { on Knows world.now known.old }
+    requires sees { seen.now ≡ on views world.now role key.now }
+    ensures test { IfOk result (λ b. IsTrue b ↔ on IsIdleOn world.now role key.now) }
+    ensures after { on Knows world.now known.new }
 {
     if known.is_asleep(role, key) {
         return Ok(true);

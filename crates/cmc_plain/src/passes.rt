@@ -1,5 +1,5 @@
 //! The open pass of least number.
-ghost use Rattle.cmc_world.specs.Kept.{setting_of};
+ghost use Rattle.cmc_world.specs.Kept.{on};
 ghost use Rattle.cmc_plain.specs.Searches.{FindsPass};
 
 use cmc_world::World;
@@ -13,7 +13,7 @@ pub(crate) struct Going {
 
 /// The open pass of least number; `None` exactly where no pass is open.
 pub(crate) fn first_pass(world: &World) -> Option<Going>
-    ensures { FindsPass (setting_of world.now.scenario) world.now.history result }
+    ensures { on FindsPass world.now result }
 {
     match world.passes().by_number().first_key_value() {
         Some((number, pass)) => Some(Going {

@@ -2,7 +2,7 @@
 ghost use Rattle.std.specs.Prelude.{◌≡◌, IfOk, reverse};
 ghost use Rattle.cmc_rules.specs.Passes.{open_pass};
 ghost use Rattle.cmc_moves.specs.Answers.{kept_at, kept_of};
-ghost use Rattle.cmc_world.specs.Kept.{setting_of};
+ghost use Rattle.cmc_world.specs.Kept.{on};
 ghost use Rattle.cmc_plain.specs.Asking.{asks, ask_number, work_of};
 ghost use Rattle.cmc_plain.specs.Driving.{CanBeKept};
 
@@ -32,7 +32,7 @@ fn question_at(stage: &Stage) -> Result<Option<Order>, AllocError>
 ///
 /// Want of memory alone.
 pub fn question(world: &World, pass: u64) -> Result<Option<Order>, AllocError>
-    ensures kept { IfOk result (λ order. order ≡ kept_of (open_pass (setting_of world.now.scenario) world.now.history pass)) }
+    ensures kept { IfOk result (λ order. order ≡ kept_of (on open_pass world.now pass)) }
     ensures made { IfOk result CanBeKept }
 {
     world.is_run();

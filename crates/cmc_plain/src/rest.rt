@@ -7,7 +7,7 @@ ghost use Rattle.cmc_objects.specs.declared.role.Role.{Role as RoleValue};
 ghost use Rattle.cmc_objects.specs.Watching.{kind_of_work};
 ghost use Rattle.cmc_rules.specs.Resting.{IsAtRest, IsToldAll, RestsOnKnown, RestsOn};
 ghost use Rattle.cmc_rules.specs.Runs.{IsFinished};
-ghost use Rattle.cmc_world.specs.Kept.{setting_of};
+ghost use Rattle.cmc_world.specs.Kept.{on};
 ghost use Rattle.cmc_world.specs.Rest.{EachKind};
 ghost use Rattle.cmc_plain.specs.Plain.{HasNoDelivery, IsStepReady};
 ghost use Rattle.cmc_plain.specs.Ready.{Busies, IsIdleOn, IsOfEach, Knows};
@@ -35,12 +35,12 @@ fn rests_on(
     busy: &mut Ready,
     idle: &mut Vec<Key>,
 ) -> Result<bool, AllocError>
-    requires told { EachKind (IsToldAll (setting_of world.now.scenario) world.now.history role) }
-    requires busy { Busies (setting_of world.now.scenario) world.now.history busy.old }
-    requires idle { IsOfEach (IsIdleOn (setting_of world.now.scenario) world.now.history role) idle.old.items }
-    ensures rests { IfOk result (λ b. IsTrue b ↔ RestsOn (setting_of world.now.scenario) world.now.history role key.now) }
-    ensures busy { Busies (setting_of world.now.scenario) world.now.history busy.new }
-    ensures idle { IsOfEach (IsIdleOn (setting_of world.now.scenario) world.now.history role) idle.new.items }
+    requires told { EachKind (on IsToldAll world.now role) }
+    requires busy { on Busies world.now busy.old }
+    requires idle { IsOfEach (on IsIdleOn world.now role) idle.old.items }
+    ensures rests { IfOk result (λ b. IsTrue b ↔ on RestsOn world.now role key.now) }
+    ensures busy { on Busies world.now busy.new }
+    ensures idle { IsOfEach (on IsIdleOn world.now role) idle.new.items }
 {
     world.is_run();
     let seen = world.views(alloc, role, key)?;
@@ -63,13 +63,13 @@ fn rests_on_each(
     busy: &mut Ready,
     idle: &mut Vec<Key>,
 ) -> Result<bool, AllocError>
-    requires told { EachKind (IsToldAll (setting_of world.now.scenario) world.now.history role) }
-    requires others { (k : KeyValue) → k.kind ≡ kind_of_work role → contains key_cmp keys.now k ≡ false → IsIdleOn (setting_of world.now.scenario) world.now.history role k }
-    requires busy { Busies (setting_of world.now.scenario) world.now.history busy.old }
-    requires idle { IsOfEach (IsIdleOn (setting_of world.now.scenario) world.now.history role) idle.old.items }
-    ensures test { IfOk result (λ b. IsTrue b ↔ RestsOnKnown (setting_of world.now.scenario) world.now.history role) }
-    ensures busy { Busies (setting_of world.now.scenario) world.now.history busy.new }
-    ensures idle { IsOfEach (IsIdleOn (setting_of world.now.scenario) world.now.history role) idle.new.items }
+    requires told { EachKind (on IsToldAll world.now role) }
+    requires others { (k : KeyValue) → k.kind ≡ kind_of_work role → contains key_cmp keys.now k ≡ false → on IsIdleOn world.now role k }
+    requires busy { on Busies world.now busy.old }
+    requires idle { IsOfEach (on IsIdleOn world.now role) idle.old.items }
+    ensures test { IfOk result (λ b. IsTrue b ↔ on RestsOnKnown world.now role) }
+    ensures busy { on Busies world.now busy.new }
+    ensures idle { IsOfEach (on IsIdleOn world.now role) idle.new.items }
 {
     world.is_run();
     for key in keys.iter() {
@@ -83,10 +83,10 @@ fn rests_on_each(
 /// Whether the role has nothing to do on any key, if it runs. No role is behind. Keys on which it has nothing to do are
 /// awake no more.
 fn rests_in(alloc: Global, world: &World, role: Role, known: &mut Known) -> Result<bool, AllocError>
-    requires told { HasNoDelivery (setting_of world.now.scenario) world.now.history }
-    requires before { Knows (setting_of world.now.scenario) world.now.history known.old }
-    ensures test { IfOk result (λ b. IsTrue b ↔ RestsWhereRunning (setting_of world.now.scenario) world.now.history role) }
-    ensures after { Knows (setting_of world.now.scenario) world.now.history known.new }
+    requires told { on HasNoDelivery world.now }
+    requires before { on Knows world.now known.old }
+    ensures test { IfOk result (λ b. IsTrue b ↔ on RestsWhereRunning world.now role) }
+    ensures after { on Knows world.now known.new }
 {
     if !world.runs(role) {
         return Ok(true);
@@ -101,9 +101,9 @@ fn rests_in(alloc: Global, world: &World, role: Role, known: &mut Known) -> Resu
 /// Whether the role, which is not behind, runs with no informer held from it and is known to have something to do on a key:
 /// so it does not rest. It asks for no act.
 fn stirs(world: &World, role: Role, known: &Known) -> bool
-    requires told { HasNoDelivery (setting_of world.now.scenario) world.now.history }
-    requires before { Knows (setting_of world.now.scenario) world.now.history known.now }
-    ensures { result ≡ true → RestsWhereRunning (setting_of world.now.scenario) world.now.history role → ⊥ }
+    requires told { on HasNoDelivery world.now }
+    requires before { on Knows world.now known.now }
+    ensures { result ≡ true → on RestsWhereRunning world.now role → ⊥ }
 {
     world.is_run();
     match known.busy.keys(role).first() {
@@ -114,9 +114,9 @@ fn stirs(world: &World, role: Role, known: &Known) -> bool
 
 /// Whether it is known of some role that it does not rest. No role is behind.
 fn some_stirs(world: &World, known: &Known) -> bool
-    requires told { HasNoDelivery (setting_of world.now.scenario) world.now.history }
-    requires before { Knows (setting_of world.now.scenario) world.now.history known.now }
-    ensures { result ≡ true → ((role : RoleValue) → RestsWhereRunning (setting_of world.now.scenario) world.now.history role) → ⊥ }
+    requires told { on HasNoDelivery world.now }
+    requires before { on Knows world.now known.now }
+    ensures { result ≡ true → ((role : RoleValue) → on RestsWhereRunning world.now role) → ⊥ }
 {
     for place in 0..8 {
         if stirs(world, role_in(place), known) {
@@ -133,10 +133,10 @@ pub(crate) fn rests_in_each(
     world: &World,
     known: &mut Known,
 ) -> Result<bool, AllocError>
-    requires told { HasNoDelivery (setting_of world.now.scenario) world.now.history }
-    requires before { Knows (setting_of world.now.scenario) world.now.history known.old }
-    ensures test { IfOk result (λ b. IsTrue b ↔ ((role : RoleValue) → RestsWhereRunning (setting_of world.now.scenario) world.now.history role)) }
-    ensures after { Knows (setting_of world.now.scenario) world.now.history known.new }
+    requires told { on HasNoDelivery world.now }
+    requires before { on Knows world.now known.old }
+    ensures test { IfOk result (λ b. IsTrue b ↔ ((role : RoleValue) → on RestsWhereRunning world.now role)) }
+    ensures after { on Knows world.now known.new }
 {
     if some_stirs(world, known) {
         return Ok(false);
@@ -151,9 +151,9 @@ pub(crate) fn rests_in_each(
 
 /// Whether nothing is left to do.
 fn is_at_rest(alloc: Global, world: &World, known: &mut Known) -> Result<bool, AllocError>
-    requires before { Knows (setting_of world.now.scenario) world.now.history known.old }
-    ensures test { IfOk result (λ b. IsTrue b ↔ IsAtRest (setting_of world.now.scenario) world.now.history) }
-    ensures after { Knows (setting_of world.now.scenario) world.now.history known.new }
+    requires before { on Knows world.now known.old }
+    ensures test { IfOk result (λ b. IsTrue b ↔ on IsAtRest world.now) }
+    ensures after { on Knows world.now known.new }
 {
     if first_pass(world).is_some() {
         return Ok(false);
@@ -174,9 +174,9 @@ pub(crate) fn is_step_ready(
     world: &World,
     known: &mut Known,
 ) -> Result<bool, AllocError>
-    requires before { Knows (setting_of world.now.scenario) world.now.history known.old }
-    ensures test { IfOk result (λ b. IsTrue b ↔ IsStepReady (setting_of world.now.scenario) world.now.history) }
-    ensures after { Knows (setting_of world.now.scenario) world.now.history known.new }
+    requires before { on Knows world.now known.old }
+    ensures test { IfOk result (λ b. IsTrue b ↔ on IsStepReady world.now) }
+    ensures after { on Knows world.now known.new }
 {
     match awaited(world) {
         Awaits::Nothing => Ok(true),
@@ -196,9 +196,9 @@ pub(crate) fn is_finished(
     world: &World,
     known: &mut Known,
 ) -> Result<bool, AllocError>
-    requires before { Knows (setting_of world.now.scenario) world.now.history known.old }
-    ensures test { IfOk result (λ b. IsTrue b ↔ IsFinished (setting_of world.now.scenario) world.now.history) }
-    ensures after { Knows (setting_of world.now.scenario) world.now.history known.new }
+    requires before { on Knows world.now known.old }
+    ensures test { IfOk result (λ b. IsTrue b ↔ on IsFinished world.now) }
+    ensures after { on Knows world.now known.new }
 {
     if !world.has_made_all() {
         return Ok(false);

@@ -1,6 +1,6 @@
 //! What the next step of the script waits for, and which answers say that a move is possible.
 ghost use Rattle.std.specs.Prelude.{◌≡◌};
-ghost use Rattle.cmc_world.specs.Kept.{setting_of};
+ghost use Rattle.cmc_world.specs.Kept.{on};
 ghost use Rattle.cmc_plain.specs.Searches as words;
 ghost use Rattle.cmc_plain.specs.Searches.{IsAwaitedBy, IsAwaiting};
 
@@ -36,7 +36,7 @@ pub(crate) enum Awaits {
 
 /// What the step waits for.
 fn awaited_by(world: &World, step: &Step) -> Awaits
-    ensures { IsAwaitedBy (setting_of world.now.scenario) world.now.history step.now result }
+    ensures { on IsAwaitedBy world.now step.now result }
 {
     match step {
         Step::Apply { .. }
@@ -63,7 +63,7 @@ fn awaited_by(world: &World, step: &Step) -> Awaits
 
 /// What the next step of the script waits for. Whether all is at rest is not asked.
 pub(crate) fn awaited(world: &World) -> Awaits
-    ensures { IsAwaiting (setting_of world.now.scenario) world.now.history result }
+    ensures { on IsAwaiting world.now result }
 {
     match world.next_step() {
         Some(step) => awaited_by(world, step),

@@ -9,7 +9,7 @@ ghost use Rattle.cmc_rules.specs.Issuing as issuing;
 ghost use Rattle.cmc_rules.specs.Runs.{IsFinished};
 ghost use Rattle.cmc_rules.specs.Triggering as triggering;
 ghost use Rattle.cmc_rules.specs.Viewing as viewing;
-ghost use Rattle.cmc_world.specs.Kept.{setting_of};
+ghost use Rattle.cmc_world.specs.Kept.{on};
 ghost use Rattle.cmc_plain.specs.Waits as words;
 
 use crate::deliveries::told_answer;
@@ -137,7 +137,7 @@ fn is_refusal(answer: &Stepped) -> bool
 
 /// Whether the role does not run, or its informer of the kind is held.
 fn is_kept_from(alloc: Global, world: &World, role: Role, kind: Kind) -> Result<bool, AllocError>
-    ensures { IfOk result (λ b. b ≡ words.is_kept_from (setting_of world.now.scenario) world.now.history role kind) }
+    ensures { IfOk result (λ b. b ≡ on words.is_kept_from world.now role kind) }
 {
     let answer = told_answer(alloc, world, role, kind, 0)?;
     let refusal = is_refusal(&answer);
@@ -146,7 +146,7 @@ fn is_kept_from(alloc: Global, world: &World, role: Role, kind: Kind) -> Result<
 }
 
 fn is_hindered(alloc: Global, world: &World, role: Role) -> Result<bool, AllocError>
-    ensures { IfOk result (λ b. b ≡ words.is_hindered (setting_of world.now.scenario) world.now.history role) }
+    ensures { IfOk result (λ b. b ≡ on words.is_hindered world.now role) }
 {
     if is_kept_from(alloc, world, role, Kind::Certificate)? {
         return Ok(true);
@@ -158,7 +158,7 @@ fn is_hindered(alloc: Global, world: &World, role: Role) -> Result<bool, AllocEr
 }
 
 fn is_any_hindered(alloc: Global, world: &World, roles: &[Role]) -> Result<bool, AllocError>
-    ensures { IfOk result (λ b. b ≡ list_any (λ role. words.is_hindered (setting_of world.now.scenario) world.now.history role) roles.now) }
+    ensures { IfOk result (λ b. b ≡ list_any (λ role. on words.is_hindered world.now role) roles.now) }
 {
     for role in roles {
         if is_hindered(alloc, world, *role)? {
@@ -174,7 +174,7 @@ fn is_any_hindered(alloc: Global, world: &World, roles: &[Role]) -> Result<bool,
 ///
 /// Want of memory alone.
 pub(crate) fn is_stopped(alloc: Global, world: &World) -> Result<bool, AllocError>
-    ensures { IfOk result (λ b. b ≡ words.is_stopped (setting_of world.now.scenario) world.now.history) }
+    ensures { IfOk result (λ b. b ≡ on words.is_stopped world.now) }
 {
     let roles = [
         Role::Trigger,
@@ -193,9 +193,9 @@ pub(crate) fn is_stopped(alloc: Global, world: &World) -> Result<bool, AllocErro
 
 /// What there is to see of the key.
 fn present_views(alloc: Global, world: &World, key: &Key) -> Result<Views, AllocError>
-    requires finished { IsFinished (setting_of world.now.scenario) world.now.history }
-    requires free { words.is_stopped (setting_of world.now.scenario) world.now.history ≡ false }
-    ensures same { IfOk result (λ seen. seen ≡ viewing.present_views (setting_of world.now.scenario) world.now.history Issuing key.now) }
+    requires finished { on IsFinished world.now }
+    requires free { on words.is_stopped world.now ≡ false }
+    ensures same { IfOk result (λ seen. seen ≡ on viewing.present_views world.now Issuing key.now) }
     ensures dated { IfOk result (λ seen. HasDatedFailure seen) }
 {
     world.is_run();
@@ -204,9 +204,9 @@ fn present_views(alloc: Global, world: &World, key: &Key) -> Result<Views, Alloc
 }
 
 fn wait_seen(alloc: Global, world: &World, key: &Key) -> Result<Option<WaitName>, AllocError>
-    requires finished { IsFinished (setting_of world.now.scenario) world.now.history }
-    requires free { words.is_stopped (setting_of world.now.scenario) world.now.history ≡ false }
-    ensures { IfOk result (λ wait. wait ≡ words.wait_in (histories.moment (setting_of world.now.scenario) world.now.history) (viewing.present_views (setting_of world.now.scenario) world.now.history Issuing key.now)) }
+    requires finished { on IsFinished world.now }
+    requires free { on words.is_stopped world.now ≡ false }
+    ensures { IfOk result (λ wait. wait ≡ words.wait_in (on histories.moment world.now) (on viewing.present_views world.now Issuing key.now)) }
 {
     let seen = present_views(alloc, world, key)?;
     Ok(wait_in(world.moment(), &seen))
@@ -225,9 +225,9 @@ pub(crate) fn wait_at(
     stopped: bool,
     key: &Key,
 ) -> Result<Option<WaitName>, AllocError>
-    requires finished { IsFinished (setting_of world.now.scenario) world.now.history }
-    requires stopped { stopped ≡ words.is_stopped (setting_of world.now.scenario) world.now.history }
-    ensures { IfOk result (λ wait. wait ≡ words.wait_at (setting_of world.now.scenario) world.now.history key.now) }
+    requires finished { on IsFinished world.now }
+    requires stopped { stopped ≡ on words.is_stopped world.now }
+    ensures { IfOk result (λ wait. wait ≡ on words.wait_at world.now key.now) }
 {
     if stopped {
         return Ok(Some(WaitName::Stopped));

@@ -14,7 +14,7 @@ ghost use Rattle.cmc_objects.specs.Watching.{has_informer, kind_of_work};
 ghost use Rattle.cmc_rules.specs.Runs.{IsRun, IsFinished};
 ghost use Rattle.cmc_moves.specs.Answers.{Answers, Leaves};
 ghost use Rattle.cmc_moves.specs.Quiet.{IsQuiet};
-ghost use Rattle.cmc_world.specs.Kept.{setting_of};
+ghost use Rattle.cmc_world.specs.Kept.{on};
 ghost use Rattle.cmc_moves.specs.declared.moves.Move.TheVariants as moves;
 ghost use Rattle.cmc_plain.specs.Next.{IsNextDelivery, IsNextScript};
 ghost use Rattle.cmc_plain.specs.Plain.{IsPlainMove};
@@ -23,9 +23,9 @@ ghost use Rattle.cmc_plain.specs.Searches.{FindsFirst, HasWorkAbove};
 ghost use Rattle.cmc_plain.specs.Ready.{Covers, Forgets, HasKnown, Idles, IsAsleepOn, IsIdleBegin, IsReadyScript, IsToNewest, Keeps, KeepsIf, Knows, KnowsLess, LeavesQuiet, SeesSame, Wakes, WakesTold, is_ready};
 
 use crate::begins::Beginning;
-use crate::choosing::plain_by;
 use crate::deliveries::{Delivery, first_delivery};
 use crate::known::Known;
+use crate::next_move::plain_by;
 use crate::ready::Ready;
 use crate::rest::{is_finished, is_step_ready};
 use crate::roles::role_in;
@@ -54,7 +54,7 @@ pub struct Waking {
 }
 
 impl Model for Waking {
-    ghost use Rattle.cmc_world.specs.Kept.{Seen, setting_of};
+    ghost use Rattle.cmc_world.specs.Kept.{Seen, on};
     ghost use Rattle.std.specs.Prelude.{IfSome};
     ghost use Rattle.cmc_plain.specs.Ready.{Covers, Knows};
 
@@ -62,7 +62,7 @@ impl Model for Waking {
 
     ghost view = { λ w. w.world };
 
-    ghost invariant = { λ w. IfSome w.ready (Covers (setting_of w.world.scenario) w.world.history) × Knows (setting_of w.world.scenario) w.world.history w.known };
+    ghost invariant = { λ w. IfSome w.ready (on Covers w.world) × on Knows w.world w.known };
 }
 
 /// Makes the key ready for the role.
@@ -98,7 +98,7 @@ fn wake_each(ready: &mut Ready, role: Role, writes: &[Write]) -> Result<(), Allo
 /// Makes each key of the role's kind of work ready that an accepted write named.
 fn wake_known(world: &World, ready: &mut Ready, role: Role) -> Result<(), AllocError>
     ensures keeps { Keeps ready.old ready.new }
-    ensures wakes { OnOk result (HasKnown (setting_of world.now.scenario) world.now.history role ready.new) }
+    ensures wakes { OnOk result (on HasKnown world.now role ready.new) }
 {
     wake_each(ready, role, world.log().as_slice())
 }
@@ -106,7 +106,7 @@ fn wake_known(world: &World, ready: &mut Ready, role: Role) -> Result<(), AllocE
 /// Makes each key ready that an accepted write named, for each role.
 fn wake_all(world: &World, ready: &mut Ready) -> Result<(), AllocError>
     ensures keeps { Keeps ready.old ready.new }
-    ensures wakes { OnOk result (spec.HasAllKnown (setting_of world.now.scenario) world.now.history ready.new) }
+    ensures wakes { OnOk result (on spec.HasAllKnown world.now ready.new) }
 {
     for place in 0..8 {
         wake_known(world, ready, role_in(place))?;
@@ -124,7 +124,7 @@ fn is_alarm(step: Option<&Step>) -> bool
 /// Makes those keys ready that the next step of the script may wake.
 pub(crate) fn wake_for_script(world: &World, ready: &mut Ready) -> Result<(), AllocError>
     ensures keeps { Keeps ready.old ready.new }
-    ensures wakes { OnOk result (Wakes (setting_of world.now.scenario) world.now.history moves.Script ready.new) }
+    ensures wakes { OnOk result (on Wakes world.now moves.Script ready.new) }
 {
     if is_alarm(world.next_step()) {
         return wake_all(world, ready);
@@ -135,7 +135,7 @@ pub(crate) fn wake_for_script(world: &World, ready: &mut Ready) -> Result<(), Al
 /// The keys of which the role may see something new once it is told of all writes of the kind, which it looks at.
 fn affected(alloc: Global, world: &World, role: Role, kind: Kind) -> Result<Vec<Key>, AllocError>
     requires { has_informer role kind ≡ true }
-    ensures { IfOk result (λ keys. (k : KeyValue) → is_among keys.items k ≡ false → (to : ℕ) → last_of_kind kind (writes (setting_of world.now.scenario) world.now.history) ≤ to → SeesSame (setting_of world.now.scenario) world.now.history role kind to k) }
+    ensures { IfOk result (λ keys. (k : KeyValue) → is_among keys.items k ≡ false → (to : ℕ) → last_of_kind kind (on writes world.now) ≤ to → on SeesSame world.now role kind to k) }
 {
     world.is_run();
     let log = world.log();
@@ -171,7 +171,7 @@ fn wake_kept(ready: &mut Option<Ready>, role: Role, keys: &[Key]) -> Result<(), 
 /// Makes those keys ready that the next step of the script may wake, where keys are kept.
 fn wake_kept_for_script(world: &World, ready: &mut Option<Ready>) -> Result<(), AllocError>
     ensures keeps { KeepsIf ready.old ready.new }
-    ensures wakes { OnOk result (IfSome ready.new (Wakes (setting_of world.now.scenario) world.now.history moves.Script)) }
+    ensures wakes { OnOk result (IfSome ready.new (on Wakes world.now moves.Script)) }
 {
     match ready {
         Some(ready) => wake_for_script(world, ready),
@@ -190,9 +190,9 @@ fn wake_told(
 ) -> Result<(), AllocError>
     requires { has_informer role kind ≡ true }
     ensures keeps { KeepsIf ready.old ready.new }
-    ensures wakes { OnOk result ((to : ℕ) → last_of_kind kind (writes (setting_of world.now.scenario) world.now.history) ≤ to → IfSome ready.new (WakesTold (setting_of world.now.scenario) world.now.history role kind to)) }
+    ensures wakes { OnOk result ((to : ℕ) → last_of_kind kind (on writes world.now) ≤ to → IfSome ready.new (on WakesTold world.now role kind to)) }
     ensures less { KnowsLess known.old known.new }
-    ensures forgets { OnOk result ((to : ℕ) → last_of_kind kind (writes (setting_of world.now.scenario) world.now.history) ≤ to → Forgets (setting_of world.now.scenario) world.now.history (moves.Deliver role kind to) known.new) }
+    ensures forgets { OnOk result ((to : ℕ) → last_of_kind kind (on writes world.now) ≤ to → on Forgets world.now (moves.Deliver role kind to) known.new) }
 {
     let keys = affected(alloc, world, role, kind)?;
     known.wake(role, &keys)?;
@@ -207,11 +207,11 @@ fn wake_for(
     known: &mut Known,
     step: &Move,
 ) -> Result<(), AllocError>
-    requires { IsToNewest (setting_of world.now.scenario) world.now.history step.now }
+    requires { on IsToNewest world.now step.now }
     ensures keeps { KeepsIf ready.old ready.new }
-    ensures wakes { OnOk result (IfSome ready.new (Wakes (setting_of world.now.scenario) world.now.history step.now)) }
+    ensures wakes { OnOk result (IfSome ready.new (on Wakes world.now step.now)) }
     ensures less { KnowsLess known.old known.new }
-    ensures forgets { OnOk result (Forgets (setting_of world.now.scenario) world.now.history step.now known.new) }
+    ensures forgets { OnOk result (on Forgets world.now step.now known.new) }
 {
     match step {
         Move::Script => {
@@ -252,12 +252,12 @@ fn make_ready(
     known: &mut Known,
     step: &Move,
 ) -> Result<Option<Beginning>, AllocError>
-    requires { IsToNewest (setting_of world.now.scenario) world.now.history step.now }
+    requires { on IsToNewest world.now step.now }
     ensures begun { IfOk result (λ b. IsIdleBegin known.old step.now b) }
     ensures keeps { KeepsIf ready.old ready.new }
-    ensures wakes { OnOk result (IfSome ready.new (Wakes (setting_of world.now.scenario) world.now.history step.now)) }
+    ensures wakes { OnOk result (IfSome ready.new (on Wakes world.now step.now)) }
     ensures less { KnowsLess known.old known.new }
-    ensures forgets { OnOk result (Forgets (setting_of world.now.scenario) world.now.history step.now known.new) }
+    ensures forgets { OnOk result (on Forgets world.now step.now known.new) }
 {
     let begun = idle_begin(known, step)?;
     wake_for(alloc, world, ready, known, step)?;
@@ -266,9 +266,9 @@ fn make_ready(
 
 /// Lets the key, which is quiet, be ready for the role no more, where keys are kept.
 fn leave_kept(world: &World, ready: &mut Option<Ready>, role: Role, key: &Key)
-    requires covers { IfSome ready.old (Covers (setting_of world.now.scenario) world.now.history) }
-    requires quiet { IsQuiet (setting_of world.now.scenario) world.now.history role key.now }
-    ensures { IfSome ready.new (Covers (setting_of world.now.scenario) world.now.history) }
+    requires covers { IfSome ready.old (on Covers world.now) }
+    requires quiet { on IsQuiet world.now role key.now }
+    ensures { IfSome ready.new (on Covers world.now) }
 {
     world.is_run();
     if let Some(ready) = ready {
@@ -278,9 +278,9 @@ fn leave_kept(world: &World, ready: &mut Option<Ready>, role: Role, key: &Key)
 
 /// After a move that was answered so: the key of a pass that began with nothing to do is ready no more.
 fn leave_begun(world: &World, ready: &mut Option<Ready>, begun: Option<Beginning>, answer: &Stepped)
-    requires covers { IfSome ready.old (Covers (setting_of world.now.scenario) world.now.history) }
-    requires quiet { LeavesQuiet (setting_of world.now.scenario) world.now.history begun answer.now }
-    ensures { IfSome ready.new (Covers (setting_of world.now.scenario) world.now.history) }
+    requires covers { IfSome ready.old (on Covers world.now) }
+    requires quiet { on LeavesQuiet world.now begun answer.now }
+    ensures { IfSome ready.new (on Covers world.now) }
 {
     let Some(Beginning { role, key }) = begun else {
         return;
@@ -298,9 +298,9 @@ fn is_known_ready(
     known: &mut Known,
     step: &Move,
 ) -> Result<bool, AllocError>
-    requires before { Knows (setting_of world.now.scenario) world.now.history known.old }
-    ensures ready { IfOk result (λ b. b ≡ true → IsReadyScript (setting_of world.now.scenario) world.now.history step.now) }
-    ensures after { Knows (setting_of world.now.scenario) world.now.history known.new }
+    requires before { on Knows world.now known.old }
+    ensures ready { IfOk result (λ b. b ≡ true → on IsReadyScript world.now step.now) }
+    ensures after { on Knows world.now known.new }
 {
     match step {
         Move::Script => is_step_ready(alloc, world, known),
@@ -316,11 +316,11 @@ fn make_move(
     step: Move,
     ready: bool,
 ) -> Result<Stepped, AllocError>
-    requires { ready ≡ true → IsReadyScript (setting_of world.old.scenario) world.old.history step }
-    ensures answer { IfOk result (λ r. Answers (setting_of world.old.scenario) world.old.history step r) }
-    ensures leaves { IfOk result (λ r. Leaves (setting_of world.old.scenario) world.old.history step r world.new.history) }
+    requires { ready ≡ true → on IsReadyScript world.old step }
+    ensures answer { IfOk result (λ r. on Answers world.old step r) }
+    ensures leaves { IfOk result (λ r. on Leaves world.old step r world.new.history) }
     ensures scenario { world.new.scenario ≡ world.old.scenario }
-    ensures run { IsRun (setting_of world.new.scenario) world.new.history }
+    ensures run { on IsRun world.new }
     ensures err { OnErr result (world.new ≡ world.old) }
 {
     if ready {
@@ -336,8 +336,8 @@ fn make_move(
 ///
 /// Want of memory alone.
 pub(crate) fn all_ready(alloc: Global, world: &World) -> Result<Ready, AllocError>
-    ensures covers { IfOk result (λ ready. Covers (setting_of world.now.scenario) world.now.history ready) }
-    ensures idles { IfOk result (λ ready. Idles (setting_of world.now.scenario) world.now.history ready) }
+    ensures covers { IfOk result (λ ready. on Covers world.now ready) }
+    ensures idles { IfOk result (λ ready. on Idles world.now ready) }
 {
     let mut ready = Ready::new(alloc)?;
     world.is_run();
@@ -383,7 +383,7 @@ impl Waking {
     ///
     /// Want of memory alone.
     pub fn plain(&mut self, alloc: Global) -> Result<Option<Move>, AllocError>
-        ensures plain { IfOk result (λ m. IsPlainMove (setting_of self.old.scenario) self.old.history m) }
+        ensures plain { IfOk result (λ m. on IsPlainMove self.old m) }
         ensures same { self.new ≡ self.old }
     {
         plain_by(alloc, &self.world, &mut self.ready, &mut self.known)
@@ -396,7 +396,7 @@ impl Waking {
     ///
     /// Want of memory alone.
     pub fn next_script(&mut self, alloc: Global) -> Result<Option<Move>, AllocError>
-        ensures next { IfOk result (λ m. IsNextScript (setting_of self.old.scenario) self.old.history m) }
+        ensures next { IfOk result (λ m. on IsNextScript self.old m) }
         ensures same { self.new ≡ self.old }
     {
         if is_step_ready(alloc, &self.world, &mut self.known)? {
@@ -412,7 +412,7 @@ impl Waking {
     ///
     /// Want of memory alone.
     pub fn next_delivery(&self, alloc: Global) -> Result<Option<Move>, AllocError>
-        ensures { IfOk result (λ m. IsNextDelivery (setting_of self.now.scenario) self.now.history m) }
+        ensures { IfOk result (λ m. on IsNextDelivery self.now m) }
     {
         match first_delivery(alloc, &self.world)? {
             Some(Delivery { role, kind }) => {
@@ -436,7 +436,7 @@ impl Waking {
         role: Role,
         below: Option<&Key>,
     ) -> Result<Option<Key>, AllocError>
-        ensures work { IfOk result (λ k. FindsFirst (HasWorkAbove (setting_of self.old.scenario) self.old.history role (option_copied below.entry)) k) }
+        ensures work { IfOk result (λ k. FindsFirst (on HasWorkAbove self.old role (option_copied below.entry)) k) }
         ensures same { self.new ≡ self.old }
     {
         next_work(alloc, &self.world, role, below, &mut self.known)
@@ -449,7 +449,7 @@ impl Waking {
     ///
     /// Want of memory alone.
     pub fn is_finished(&mut self, alloc: Global) -> Result<bool, AllocError>
-        ensures finished { IfOk result (λ b. IsTrue b ↔ IsFinished (setting_of self.old.scenario) self.old.history) }
+        ensures finished { IfOk result (λ b. IsTrue b ↔ on IsFinished self.old) }
         ensures same { self.new ≡ self.old }
     {
         is_finished(alloc, &self.world, &mut self.known)
@@ -461,11 +461,11 @@ impl Waking {
     ///
     /// Want of memory alone, which leaves the world as it was.
     pub fn step(&mut self, alloc: Global, step: Move) -> Result<Stepped, AllocError>
-        requires { IsToNewest (setting_of self.old.scenario) self.old.history step }
-        ensures answer { IfOk result (λ r. Answers (setting_of self.old.scenario) self.old.history step r) }
-        ensures leaves { IfOk result (λ r. Leaves (setting_of self.old.scenario) self.old.history step r self.new.history) }
+        requires { on IsToNewest self.old step }
+        ensures answer { IfOk result (λ r. on Answers self.old step r) }
+        ensures leaves { IfOk result (λ r. on Leaves self.old step r self.new.history) }
         ensures scenario { self.new.scenario ≡ self.old.scenario }
-        ensures run { IsRun (setting_of self.new.scenario) self.new.history }
+        ensures run { on IsRun self.new }
         ensures err { OnErr result (self.new ≡ self.old) }
     {
         self.world.is_run();

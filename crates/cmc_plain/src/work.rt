@@ -11,7 +11,7 @@ ghost use Rattle.cmc_meta.specs.Keys.{key_cmp};
 ghost use Rattle.cmc_model.specs.Histories as histories;
 ghost use Rattle.cmc_objects.specs.Watching.{kind_of_work};
 ghost use Rattle.cmc_rules.specs.Viewing.{views};
-ghost use Rattle.cmc_world.specs.Kept.{setting_of};
+ghost use Rattle.cmc_world.specs.Kept.{on};
 ghost use Rattle.cmc_plain.specs.Ready.{Busies, IsIdleOn, IsOfEach, Knows};
 ghost use Rattle.cmc_plain.specs.Searches as spec;
 ghost use Rattle.cmc_plain.specs.Searches.{FindsFirst, HasWork, HasWorkAbove, IsFree};
@@ -39,14 +39,14 @@ fn has_work_seen(
     busy: &mut Ready,
     idle: &mut Vec<Key>,
 ) -> Result<bool, AllocError>
-    requires busy { Busies (setting_of world.now.scenario) world.now.history busy.old }
-    requires idle { IsOfEach (IsIdleOn (setting_of world.now.scenario) world.now.history role) idle.old.items }
-    requires sees { seen.now ≡ views (setting_of world.now.scenario) world.now.history role key.now }
-    requires running { histories.runs (setting_of world.now.scenario) world.now.history role ≡ true }
-    requires free { IsFree (setting_of world.now.scenario) world.now.history role key.now }
-    ensures work { IfOk result (λ b. IsTrue b ↔ HasWork (setting_of world.now.scenario) world.now.history role key.now) }
-    ensures busy { Busies (setting_of world.now.scenario) world.now.history busy.new }
-    ensures idle { IsOfEach (IsIdleOn (setting_of world.now.scenario) world.now.history role) idle.new.items }
+    requires busy { on Busies world.now busy.old }
+    requires idle { IsOfEach (on IsIdleOn world.now role) idle.old.items }
+    requires sees { seen.now ≡ on views world.now role key.now }
+    requires running { on histories.runs world.now role ≡ true }
+    requires free { on IsFree world.now role key.now }
+    ensures work { IfOk result (λ b. IsTrue b ↔ on HasWork world.now role key.now) }
+    ensures busy { on Busies world.now busy.new }
+    ensures idle { IsOfEach (on IsIdleOn world.now role) idle.new.items }
 {
     world.is_run();
     if find_idle(alloc, world, role, key, seen, busy, idle)? {
@@ -64,12 +64,12 @@ fn has_work(
     busy: &mut Ready,
     idle: &mut Vec<Key>,
 ) -> Result<bool, AllocError>
-    requires busy { Busies (setting_of world.now.scenario) world.now.history busy.old }
-    requires idle { IsOfEach (IsIdleOn (setting_of world.now.scenario) world.now.history role) idle.old.items }
-    requires running { histories.runs (setting_of world.now.scenario) world.now.history role ≡ true }
-    ensures work { IfOk result (λ b. IsTrue b ↔ HasWork (setting_of world.now.scenario) world.now.history role key.now) }
-    ensures busy { Busies (setting_of world.now.scenario) world.now.history busy.new }
-    ensures idle { IsOfEach (IsIdleOn (setting_of world.now.scenario) world.now.history role) idle.new.items }
+    requires busy { on Busies world.now busy.old }
+    requires idle { IsOfEach (on IsIdleOn world.now role) idle.old.items }
+    requires running { on histories.runs world.now role ≡ true }
+    ensures work { IfOk result (λ b. IsTrue b ↔ on HasWork world.now role key.now) }
+    ensures busy { on Busies world.now busy.new }
+    ensures idle { IsOfEach (on IsIdleOn world.now role) idle.new.items }
 {
     if !is_free(world, role, key) {
         return Ok(false);
@@ -112,12 +112,12 @@ fn has_work_above(
     busy: &mut Ready,
     idle: &mut Vec<Key>,
 ) -> Result<bool, AllocError>
-    requires busy { Busies (setting_of world.now.scenario) world.now.history busy.old }
-    requires idle { IsOfEach (IsIdleOn (setting_of world.now.scenario) world.now.history role) idle.old.items }
-    requires running { histories.runs (setting_of world.now.scenario) world.now.history role ≡ true }
-    ensures work { IfOk result (λ b. IsTrue b ↔ HasWorkAbove (setting_of world.now.scenario) world.now.history role (option_copied below.entry) key.now) }
-    ensures busy { Busies (setting_of world.now.scenario) world.now.history busy.new }
-    ensures idle { IsOfEach (IsIdleOn (setting_of world.now.scenario) world.now.history role) idle.new.items }
+    requires busy { on Busies world.now busy.old }
+    requires idle { IsOfEach (on IsIdleOn world.now role) idle.old.items }
+    requires running { on histories.runs world.now role ≡ true }
+    ensures work { IfOk result (λ b. IsTrue b ↔ on HasWorkAbove world.now role (option_copied below.entry) key.now) }
+    ensures busy { on Busies world.now busy.new }
+    ensures idle { IsOfEach (on IsIdleOn world.now role) idle.new.items }
 {
     if is_above(below, key) {
         return has_work(alloc, world, role, key, busy, idle);
@@ -136,13 +136,13 @@ fn work_among(
     busy: &mut Ready,
     idle: &mut Vec<Key>,
 ) -> Result<Option<Key>, AllocError>
-    requires busy { Busies (setting_of world.now.scenario) world.now.history busy.old }
-    requires idle { IsOfEach (IsIdleOn (setting_of world.now.scenario) world.now.history role) idle.old.items }
-    requires running { histories.runs (setting_of world.now.scenario) world.now.history role ≡ true }
-    requires others { (k : KeyValue) → k.kind ≡ kind_of_work role → contains key_cmp keys.now k ≡ false → IsIdleOn (setting_of world.now.scenario) world.now.history role k }
-    ensures work { IfOk result (λ k. FindsFirst (HasWorkAbove (setting_of world.now.scenario) world.now.history role (option_copied below.entry)) k) }
-    ensures busy { Busies (setting_of world.now.scenario) world.now.history busy.new }
-    ensures idle { IsOfEach (IsIdleOn (setting_of world.now.scenario) world.now.history role) idle.new.items }
+    requires busy { on Busies world.now busy.old }
+    requires idle { IsOfEach (on IsIdleOn world.now role) idle.old.items }
+    requires running { on histories.runs world.now role ≡ true }
+    requires others { (k : KeyValue) → k.kind ≡ kind_of_work role → contains key_cmp keys.now k ≡ false → on IsIdleOn world.now role k }
+    ensures work { IfOk result (λ k. FindsFirst (on HasWorkAbove world.now role (option_copied below.entry)) k) }
+    ensures busy { on Busies world.now busy.new }
+    ensures idle { IsOfEach (on IsIdleOn world.now role) idle.new.items }
 {
     for key in keys.range((start_above(below), Bound::Unbounded)) {
         if has_work_above(alloc, world, role, below, key, busy, idle)? {
@@ -165,9 +165,9 @@ pub(crate) fn next_work(
     below: Option<&Key>,
     known: &mut Known,
 ) -> Result<Option<Key>, AllocError>
-    requires before { Knows (setting_of world.now.scenario) world.now.history known.old }
-    ensures work { IfOk result (λ k. FindsFirst (HasWorkAbove (setting_of world.now.scenario) world.now.history role (option_copied below.entry)) k) }
-    ensures after { Knows (setting_of world.now.scenario) world.now.history known.new }
+    requires before { on Knows world.now known.old }
+    ensures work { IfOk result (λ k. FindsFirst (on HasWorkAbove world.now role (option_copied below.entry)) k) }
+    ensures after { on Knows world.now known.new }
 {
     if !world.runs(role) {
         return Ok(None);

@@ -3,8 +3,8 @@ use Rattle.std.proofs.Common.{◌≡◌, ◌∙◌, sym, subst}
 use Rattle.cmc_rules.specs.Runs.{IsFinished}
 use Rattle.cmc_setup.specs.Setups.{Setup}
 use Rattle.cmc_world.specs.Kept.{Seen, setting_of}
-use Rattle.cmc_plain.specs.declared.driving.Driven.{Driven}
-use Rattle.cmc_plain.specs.declared.driving.Driven.TheVariants.{Finished}
+use Rattle.cmc_plain.specs.declared.run.Driven.{Driven}
+use Rattle.cmc_plain.specs.declared.run.Driven.TheVariants.{Finished}
 use Rattle.cmc_plain.specs.Driving.{IsDrained}
 use Rattle.cmc_workers.specs.Driving.{IsFinishedOn}
 

@@ -14,8 +14,8 @@ use Rattle.cmc_plain.specs.declared.gate.Point.{Point}
 use Rattle.cmc_plain.specs.declared.gate.Work.TheVariants as works
 use Rattle.cmc_plain.specs.Driving.{CanBeMade, EndsPlainly}
 use Rattle.cmc_plain.specs.Histories.{IsFull}
-use Rattle.cmc_plain.specs.declared.driving.Driven.{Driven}
-use Rattle.cmc_plain.specs.declared.driving.Driven.TheVariants.{Finished, Spent}
+use Rattle.cmc_plain.specs.declared.run.Driven.{Driven}
+use Rattle.cmc_plain.specs.declared.run.Driven.TheVariants.{Finished, Spent}
 use Rattle.cmc_workers.specs.declared.errands.Errand.{Errand}
 use Rattle.cmc_workers.specs.declared.errands.Task.{Task}
 use Rattle.cmc_workers.specs.declared.errands.Task.TheVariants.{Value, Decision}

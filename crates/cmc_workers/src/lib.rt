@@ -1,10 +1,10 @@
 //! Runs by many threads: each takes passes of one world under a lock, and does the work that passes ask for outside of it.
 #![tactic(auto)]
 
-mod driving;
 mod errands;
+mod run;
 mod shared;
 mod threads;
 
 pub use cmc_plain::{Driven, Gate, NoGate, Point, Work, drive_plain};
-pub use driving::drive;
+pub use run::drive;

@@ -12,7 +12,7 @@ ghost use Rattle.std.specs.Prelude.{◌≡◌, ◌+◌, IfOk, IfSome, length, fa
 ghost use Rattle.cmc_rules.specs.Scripting.{scripted, step_at};
 ghost use Rattle.cmc_plain.specs.Plain.{HasNoDelivery};
 ghost use Rattle.cmc_plain.specs.Ready.{IsToNewest};
-ghost use Rattle.cmc_world.specs.Kept.{setting_of};
+ghost use Rattle.cmc_world.specs.Kept.{on};
 ghost use Rattle.cmc_workers.specs.Driving as spec;
 ghost use Rattle.cmc_workers.specs.Driving.{IsErrand};
 
@@ -147,7 +147,7 @@ impl Shared {
 
     /// Makes a move. Where its entries do not fit, all is over.
     fn make(&mut self, alloc: Global, step: Move) -> Result<Went, AllocError>
-        requires { IsToNewest (setting_of self.old.waking.scenario) self.old.waking.history step }
+        requires { on IsToNewest self.old.waking step }
         ensures { self.new.waking.scenario ≡ self.old.waking.scenario }
     {
         let answer = self.waking.step(alloc, step)?;
@@ -301,7 +301,7 @@ impl Shared {
 
     /// Whether a role is to be told of something.
     pub(crate) fn is_to_deliver(&self, alloc: Global) -> Result<bool, AllocError>
-        ensures { IfOk result (λ b. b ≡ false → HasNoDelivery (setting_of self.now.waking.scenario) self.now.waking.history) }
+        ensures { IfOk result (λ b. b ≡ false → on HasNoDelivery self.now.waking) }
     {
         match self.waking.next_delivery(alloc)? {
             Some(step) => {

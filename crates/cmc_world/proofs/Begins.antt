@@ -22,7 +22,7 @@ use Rattle.cmc_rules.specs.Legality.{IsBegin}
 use Rattle.cmc_rules.proofs.Positions.{begun_short}
 use Rattle.cmc_held.specs.declared.standings.Standing.{Standing}
 use Rattle.cmc_held.specs.Dues.{shown_positions}
-use Rattle.cmc_world.specs.declared.beginning.Prepared.{Prepared}
+use Rattle.cmc_world.specs.declared.begin.Prepared.{Prepared}
 use Rattle.cmc_moves.specs.declared.moves.Stepped.TheVariants.{Done}
 use Rattle.cmc_moves.specs.Answers.{AnswersBegin}
 use Rattle.cmc_world.specs.Kept.{Holdings, IsKept}

@@ -29,8 +29,8 @@ use Rattle.cmc_rules.specs.Following.{written}
 use Rattle.cmc_model.proofs.Writes.{writes_count}
 use Rattle.cmc_rules.proofs.Positions.{calls_short, accepted_short}
 use Rattle.cmc_held.specs.declared.standings.Standing.{Standing}
-use Rattle.cmc_world.specs.declared.going.Calling.{Calling}
-use Rattle.cmc_world.specs.declared.going.Closing.{Closing}
+use Rattle.cmc_world.specs.declared.advance.Calling.{Calling}
+use Rattle.cmc_world.specs.declared.advance.Closing.{Closing}
 use Rattle.cmc_world.specs.Going.{IsCalling, IsClosing}
 use Rattle.cmc_world.specs.Noting.{logged, counted, noted, CanCount}
 use Rattle.cmc_world.specs.Kept.{standing, Holdings, IsKept}

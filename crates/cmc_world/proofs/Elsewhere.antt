@@ -25,7 +25,7 @@ use Rattle.cmc_world.specs.Rest.{EachKind}
 use Rattle.cmc_world.proofs.Known.{neither}
 use Rattle.cmc_world.proofs.Newest.{IsToldOfAll, views_newest}
 use Rattle.cmc_world.proofs.OneKind.{object_at-of_kind}
-use Rattle.cmc_world.proofs.Rest.{each_kind, same_kind}
+use Rattle.cmc_world.proofs.AtRest.{each_kind, same_kind}
 
 -- ---- what is seen of such a key
 

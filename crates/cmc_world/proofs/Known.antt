@@ -15,7 +15,7 @@ use Rattle.cmc_model.proofs.Versions.{object_at-put}
 use Rattle.cmc_model.proofs.Writes.{writes_leave}
 use Rattle.cmc_world.specs.Kept.{Holdings, IsKept}
 use Rattle.cmc_world.proofs.OneKind.{same_at}
-use Rattle.cmc_world.proofs.Rest.{key_eq-refl}
+use Rattle.cmc_world.proofs.AtRest.{key_eq-refl}
 
 pub neither : (a b : Bool) → (a || b) ≡ false → (a ≡ false) × (b ≡ false)
 neither true b off = absurd (cc)

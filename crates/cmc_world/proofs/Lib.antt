@@ -1,7 +1,7 @@
 pub mod Looked
 pub mod Standings
 pub mod Origins
-pub mod Rest
+pub mod AtRest
 pub mod Caching
 pub mod Events
 pub mod Judging

@@ -26,7 +26,7 @@ use Rattle.cmc_moves.specs.Answers.{AnswersScript, entries_of, next_effect}
 use Rattle.cmc_world.specs.Kept.{Holdings, IsKept}
 use Rattle.cmc_world.specs.Rest.{EachRole, EachKind}
 use Rattle.cmc_moves.specs.Tables.{script_answer}
-use Rattle.cmc_world.proofs.Rest.{rests_in_by, at_rest_each}
+use Rattle.cmc_world.proofs.AtRest.{rests_in_by, at_rest_each}
 use Rattle.cmc_moves.proofs.Tables.{decided, script_answers}
 
 -- ---- open passes

@@ -14,8 +14,8 @@ use Rattle.cmc_moves.specs.Answers.{IsCalled}
 use Rattle.cmc_moves.specs.declared.doing.Doing.{Doing}
 use Rattle.cmc_moves.specs.declared.doing.Doing.TheVariants.{Call as Makes, Ask as Asks, End as Ends}
 use Rattle.cmc_world.specs.Kept.{Seen, setting_of}
-use Rattle.cmc_world.specs.declared.going.Calling.{Calling}
-use Rattle.cmc_world.specs.declared.going.Closing.{Closing}
+use Rattle.cmc_world.specs.declared.advance.Calling.{Calling}
+use Rattle.cmc_world.specs.declared.advance.Closing.{Closing}
 
 -- the pass, with the key that the call names
 pub record IsCalling (s : Setting) (h : List Entry) (n : ℕ) (call : Call) (c : Calling) : Type 0 where

@@ -47,6 +47,10 @@ setting_of u = record {
   rules = u.approver;
 }
 
+-- a word on a setting and a history, said of a world
+abbrev pub on {ℓ} : {A : Type ℓ} → (Setting → List Entry → A) → Seen → A
+on said world = said (setting_of world.scenario) world.history
+
 -- how the role stands after the history
 abbrev pub standing : Setting → List Entry → Role → Standing
 standing s h role = record {

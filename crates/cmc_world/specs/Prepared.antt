@@ -8,7 +8,7 @@ use Rattle.cmc_rules.specs.Positions.{positions}
 use Rattle.cmc_rules.specs.Viewing.{views}
 use Rattle.cmc_rules.specs.Origins.{begun}
 use Rattle.cmc_rules.specs.Passes.{new_pass}
-use Rattle.cmc_world.specs.declared.beginning.Prepared.{Prepared}
+use Rattle.cmc_world.specs.declared.begin.Prepared.{Prepared}
 
 -- the next pass of the role on the key, with what its entry and its role's memory take
 pub record IsPrepared (s : Setting) (h : List Entry) (role : Role) (named : Key) (p : Prepared) : Type 0 where

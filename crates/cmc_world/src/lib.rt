@@ -4,15 +4,15 @@
 //! following its script, each accepted write of a controller keeps its rights, and the history is safe.
 #![tactic(auto)]
 
-mod beginning;
-mod deciding;
-mod going;
-mod noting;
-mod quiet;
+mod advance;
+mod begin;
+mod decision;
+mod delivery;
+mod notes;
 mod readers;
-mod resting;
-mod scripting;
-mod telling;
+mod rest;
+mod script;
+mod work_queue;
 mod world;
 
 pub use cmc_moves::{Begun, Decided, Lack, Move, Stepped, decide, decides_alone};

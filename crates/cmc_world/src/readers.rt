@@ -15,7 +15,7 @@ ghost use Rattle.cmc_caches.specs.Told.{caches_at, caches_of};
 ghost use Rattle.cmc_held.specs.Open.{pass_at};
 ghost use Rattle.cmc_held.specs.Remembered.{past_or_new};
 ghost use Rattle.cmc_moves.specs.Answers.{Answers};
-ghost use Rattle.cmc_world.specs.Kept.{setting_of};
+ghost use Rattle.cmc_world.specs.Kept.{on};
 
 use crate::resting;
 use crate::world::World;
@@ -35,7 +35,7 @@ impl World {
     ///
     /// Want of memory alone.
     pub fn answer(&self, alloc: Global, step: &Move) -> Result<Stepped, AllocError>
-        ensures { IfOk result (λ a. Answers (setting_of self.now.scenario) self.now.history step.now a) }
+        ensures { IfOk result (λ a. on Answers self.now step.now a) }
     {
         match step {
             Move::Script => self.judge_script(alloc),
@@ -57,35 +57,35 @@ impl World {
 
     /// A law: all that the steps that were made have happen has happened.
     pub fn is_settled(&self)
-        ensures { owed (setting_of self.now.scenario) self.now.history ≡ None }
+        ensures { on owed self.now ≡ None }
     {
         let _entries = self.history.len();
     }
 
     /// The accepted writes.
     pub fn log(&self) -> &Log
-        ensures { result.now.writes ≡ writes (setting_of self.now.scenario) self.now.history }
+        ensures { result.now.writes ≡ on writes self.now }
     {
         &self.log
     }
 
     /// The passes that are open.
     pub fn passes(&self) -> &Passes
-        ensures { (n : ℕ) → pass_at result.now n ≡ open_pass (setting_of self.now.scenario) self.now.history n }
+        ensures { (n : ℕ) → pass_at result.now n ≡ on open_pass self.now n }
     {
         &self.passes
     }
 
     /// How many passes have begun: the number of the newest of them.
     pub fn passes_begun(&self) -> u64
-        ensures { result ≡ begun (setting_of self.now.scenario) self.now.history }
+        ensures { result ≡ on begun self.now }
     {
         self.origins.len()
     }
 
     /// What the role remembers of the key; `None` only where it did nothing on it since it started.
     pub fn past(&self, role: Role, key: &Key) -> Option<&Past>
-        ensures { past_or_new (option_copied result) ≡ past (setting_of self.now.scenario) self.now.history role key.now }
+        ensures { past_or_new (option_copied result) ≡ on past self.now role key.now }
     {
         self.pasts.get(role, key)
     }
@@ -103,28 +103,28 @@ impl World {
     ///
     /// Want of memory alone.
     pub fn views(&self, alloc: Global, role: Role, key: &Key) -> Result<Views, AllocError>
-        ensures { IfOk result (λ seen. seen ≡ views (setting_of self.now.scenario) self.now.history role key.now) }
+        ensures { IfOk result (λ seen. seen ≡ on views self.now role key.now) }
     {
         self.caches.views(alloc, role, key)
     }
 
     /// What each role was told of: of each kind, what the writes of the kind up to its position leave.
     pub fn caches(&self) -> &Caches
-        ensures { (role : RoleValue) → caches_of result.now role ≡ caches_at (writes (setting_of self.now.scenario) self.now.history) (positions self.now.history role) }
+        ensures { (role : RoleValue) → caches_of result.now role ≡ caches_at (on writes self.now) (positions self.now.history role) }
     {
         &self.caches
     }
 
     /// Whether the role runs.
     pub fn runs(&self, role: Role) -> bool
-        ensures { result ≡ spec.runs (setting_of self.now.scenario) self.now.history role }
+        ensures { result ≡ on spec.runs self.now role }
     {
         self.standings.get(role).running
     }
 
     /// The present moment, in seconds since the beginning of 1970.
     pub fn moment(&self) -> i64
-        ensures { result ≡ spec.moment (setting_of self.now.scenario) self.now.history }
+        ensures { result ≡ on spec.moment self.now }
     {
         self.moment
     }
@@ -132,7 +132,7 @@ impl World {
     /// Whether a pass of the role on the key that sees this would be due: the role was told of its own
     /// writes, and the pass would not be the last one again.
     pub fn is_due(&self, role: Role, key: &Key, seen: &Views) -> bool
-        ensures { IsTrue result ↔ IsDue (past (setting_of self.now.scenario) self.now.history role key.now) seen.now (spec.moment (setting_of self.now.scenario) self.now.history) (positions self.now.history role) }
+        ensures { IsTrue result ↔ IsDue (on past self.now role key.now) seen.now (on spec.moment self.now) (positions self.now.history role) }
     {
         resting::is_due(self.past(role, key), seen, self.moment(), self.told(role))
     }

@@ -16,7 +16,7 @@ ghost use Rattle.cmc_safety.specs.Acting.{MayAct, IsNeverInvalid};
 ghost use Rattle.cmc_safety.specs.Completing.{CompletesIssuing};
 ghost use Rattle.cmc_safety.specs.Formed.{IsFormed};
 ghost use Rattle.cmc_safety.specs.Standing.{IsInOrder};
-ghost use Rattle.cmc_world.specs.Kept.{setting_of};
+ghost use Rattle.cmc_world.specs.Kept.{on, setting_of};
 ghost use Rattle.cmc_world.specs.Leading.{Lead, Extends};
 ghost use Rattle.cmc_moves.specs.declared.moves.Move.{Move as MoveValue};
 ghost use Rattle.cmc_moves.specs.declared.moves.Move.TheVariants as moves;
@@ -76,7 +76,7 @@ impl Model for World {
     ghost use Rattle.cmc_held.specs.Questioned.{count_at};
     ghost use Rattle.cmc_held.specs.Remembered.{past_at};
     ghost use Rattle.cmc_held.specs.Standing.{standing_of};
-    ghost use Rattle.cmc_world.specs.Kept.{setting_of, Seen, IsKept};
+    ghost use Rattle.cmc_world.specs.Kept.{IsKept, Seen, on, setting_of};
 
     ghost Value = { Seen };
 
@@ -189,7 +189,7 @@ impl World {
 
     /// The map of the objects that stand, to go over them in order of key.
     pub fn objects(&self) -> &BTreeMap<Key, Object>
-        ensures { finite.entries (spec.objects (setting_of self.now.scenario) self.now.history) ≡ result.now.entries }
+        ensures { finite.entries (on spec.objects self.now) ≡ result.now.entries }
     {
         self.store.objects()
     }
@@ -197,7 +197,7 @@ impl World {
     /// How many times the role has begun: once where it runs from the beginning on, and once for each
     /// start of the script.
     pub fn incarnation(&self, role: Role) -> u64
-        ensures { result ≡ spec.incarnation (setting_of self.now.scenario) self.now.history role }
+        ensures { result ≡ on spec.incarnation self.now role }
     {
         self.standings.get(role).incarnation
     }
@@ -209,12 +209,12 @@ impl World {
     /// pass; a pass of issuing that has a plan and is left undisturbed carries it out whole; and each object that stands has
     /// its form, a revision that was counted, and moments that have passed.
     pub fn is_run(&self)
-        ensures run { IsRun (setting_of self.now.scenario) self.now.history }
-        ensures rights { KeepsRights (setting_of self.now.scenario) self.now.history }
-        ensures safe { IsSafe (setting_of self.now.scenario) self.now.history }
+        ensures run { on IsRun self.now }
+        ensures rights { on KeepsRights self.now }
+        ensures safe { on IsSafe self.now }
         ensures valid { IsNeverInvalid self.now.history }
-        ensures complete { CompletesIssuing (setting_of self.now.scenario) self.now.history }
-        ensures order { IsInOrder (setting_of self.now.scenario) self.now.history }
+        ensures complete { on CompletesIssuing self.now }
+        ensures order { on IsInOrder self.now }
     {
         let _entries = self.history.len();
     }
@@ -230,16 +230,16 @@ impl World {
     /// A law: what a role sees of a key, and what it would see if it was told of all, meets all that its controller takes
     /// for granted.
     pub fn can_act(&self)
-        ensures { (role : RoleValue) → (key : KeyValue) → MayAct (views (setting_of self.now.scenario) self.now.history role key) (spec.moment (setting_of self.now.scenario) self.now.history) (desk_at (setting_of self.now.scenario) self.now.history role (views (setting_of self.now.scenario) self.now.history role key)) }
+        ensures { (role : RoleValue) → (key : KeyValue) → MayAct (on views self.now role key) (on spec.moment self.now) (on desk_at self.now role (on views self.now role key)) }
     {
         self.is_run();
         self.is_formed();
     }
 
     fn make(&mut self, alloc: Global, step: Move) -> Result<Stepped, AllocError>
-        ensures answer { IfOk result (λ r. Answers (setting_of self.old.scenario) self.old.history step r) }
+        ensures answer { IfOk result (λ r. on Answers self.old step r) }
         ensures scenario { self.new.scenario ≡ self.old.scenario }
-        ensures leaves { IfOk result (λ r. Leaves (setting_of self.old.scenario) self.old.history step r self.new.history) }
+        ensures leaves { IfOk result (λ r. on Leaves self.old step r self.new.history) }
         ensures err { OnErr result (self.new ≡ self.old) }
     {
         match step {
@@ -273,12 +273,12 @@ impl World {
     ///
     /// Want of memory alone, which leaves the world as it was.
     pub fn step(&mut self, alloc: Global, step: Move) -> Result<Stepped, AllocError>
-        ensures answer { IfOk result (λ r. Answers (setting_of self.old.scenario) self.old.history step r) }
-        ensures leaves { IfOk result (λ r. Leaves (setting_of self.old.scenario) self.old.history step r self.new.history) }
+        ensures answer { IfOk result (λ r. on Answers self.old step r) }
+        ensures leaves { IfOk result (λ r. on Leaves self.old step r self.new.history) }
         ensures scenario { self.new.scenario ≡ self.old.scenario }
-        ensures run { IsRun (setting_of self.new.scenario) self.new.history }
-        ensures rights { KeepsRights (setting_of self.new.scenario) self.new.history }
-        ensures safe { IsSafe (setting_of self.new.scenario) self.new.history }
+        ensures run { on IsRun self.new }
+        ensures rights { on KeepsRights self.new }
+        ensures safe { on IsSafe self.new }
         ensures err { OnErr result (self.new ≡ self.old) }
     {
         self.is_run();
@@ -294,13 +294,13 @@ impl World {
     ///
     /// Want of memory alone, which leaves the world as it was.
     pub fn perform(&mut self, alloc: Global) -> Result<Stepped, AllocError>
-        requires { IsReady (setting_of self.old.scenario) self.old.history (step_at self.old.scenario.script (scripted self.old.history + 1)) }
-        ensures answer { IfOk result (λ r. Answers (setting_of self.old.scenario) self.old.history moves.Script r) }
-        ensures leaves { IfOk result (λ r. Leaves (setting_of self.old.scenario) self.old.history moves.Script r self.new.history) }
+        requires { on IsReady self.old (step_at self.old.scenario.script (scripted self.old.history + 1)) }
+        ensures answer { IfOk result (λ r. on Answers self.old moves.Script r) }
+        ensures leaves { IfOk result (λ r. on Leaves self.old moves.Script r self.new.history) }
         ensures scenario { self.new.scenario ≡ self.old.scenario }
-        ensures run { IsRun (setting_of self.new.scenario) self.new.history }
-        ensures rights { KeepsRights (setting_of self.new.scenario) self.new.history }
-        ensures safe { IsSafe (setting_of self.new.scenario) self.new.history }
+        ensures run { on IsRun self.new }
+        ensures rights { on KeepsRights self.new }
+        ensures safe { on IsSafe self.new }
         ensures err { OnErr result (self.new ≡ self.old) }
     {
         self.is_run();

@@ -7,7 +7,7 @@ ghost use Rattle.cmc_report.specs.Text.{joined};
 ghost use Rattle.cmc_plain.specs.Histories.{IsPlain};
 ghost use Rattle.cmc_rules.specs.Runs.{IsFinished};
 ghost use Rattle.cmc_scenario.specs.Loads.{load_setup};
-ghost use Rattle.cmc_world.specs.Kept.{setting_of};
+ghost use Rattle.cmc_world.specs.Kept.{on};
 ghost use Rattle.cmrun.specs.Headline.{Answers, IsLoadOf, IsRunOf, RunsOn};
 ghost use Rattle.cmrun.specs.Statuses.{Explains, ExplainsLoad, ExplainsRun, Leaves, LeavesRun, Refuses, RefusesValue, SpendsOn, exit_code, message_of, path_of, reads_failed, reads_nothing, writes_failed, writes_nothing};
 ghost use Rattle.cmrun.specs.Words.{command_of};
@@ -71,8 +71,8 @@ fn lines_of(
     world: &World,
 ) -> Result<Lines, AllocError>
     requires float_free { has_float (view value.now) ≡ false }
-    requires finished { IsFinished (setting_of world.now.scenario) world.now.history }
-    requires plain { workers ≡ 0 → IsPlain (setting_of world.now.scenario) world.now.history }
+    requires finished { on IsFinished world.now }
+    requires plain { workers ≡ 0 → on IsPlain world.now }
     ensures { IfOk result (λ lines. RunsOn workers alone (view value.now) world.now.scenario (joined lines)) }
 {
     world.is_run();

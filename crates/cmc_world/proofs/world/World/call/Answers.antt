@@ -14,7 +14,7 @@ use Rattle.cmc_held.specs.Open.{pass_at}
 use Rattle.cmc_held.specs.Remembered.{past_at}
 use Rattle.cmc_held.specs.Standing.{standing_of}
 use Rattle.cmc_world.specs.Going.{IsCalling}
-use Rattle.cmc_world.specs.Kept.{Seen, setting_of}
+use Rattle.cmc_world.specs.Kept.{Seen, on}
 use Rattle.cmc_world.specs.Noting.{logged, counted, noted}
 use Rattle.cmc_world.proofs.Calls.{kept_call, calls_fit, counts_fit, log_fits}
 use Rattle.cmc_world.proofs.Spare.{kept_spare}
@@ -61,8 +61,8 @@ invariant_of-self-2 c =
     (kept_call _ _ _ c.args.pass c.in_ok-calling.calling.call c.in_ok-calling.calling c.in_ok-replied.replied.reply c.in_ok-replied.replied.key c.in_ok-replied.replied.object c.stage_of-stage.result (to_z w64 (of_z w64 c.self.inside.moment)) (c.accepted-version.result + 1) (c.len-entry.result + 1)
     c.call.new.self.faults c.call.new.self.state c.log_write.new.log.writes (λ r. standing_of c.note_write.new.standings r) (λ n. pass_at c.advance.new.self n) (λ r k. past_at c.note_write.new.pasts r k)
     c.self.invariant
-    (subst (λ (v : Seen). IsCalling (setting_of v.scenario) v.history c.args.pass c.in_ok-calling.calling.call c.in_ok-calling.calling) (sym c.self.view_is) c.in_ok-calling.ensures.calling)
-    (subst (λ (v : Seen). MayCall (setting_of v.scenario) v.history (open_pass (setting_of v.scenario) v.history c.args.pass) c.in_ok-calling.calling.call) (sym c.self.view_is) (rw c.in_ok-calling.ensures.call c.requires.may))
+    (subst (λ (v : Seen). on IsCalling v c.args.pass c.in_ok-calling.calling.call c.in_ok-calling.calling) (sym c.self.view_is) c.in_ok-calling.ensures.calling)
+    (subst (λ (v : Seen). on MayCall v (on open_pass v c.args.pass) c.in_ok-calling.calling.call) (sym c.self.view_is) (rw c.in_ok-calling.ensures.call c.requires.may))
     (subst (λ (v : Seen). length v.history < v.scenario.events) (sym c.self.view_is) c.requires.room)
     (to_z-of_z w64 c.self.inside.moment (search rules))
     c.in_ok-replied.ensures.reply

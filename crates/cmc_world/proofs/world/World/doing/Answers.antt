@@ -4,7 +4,7 @@ use Rattle.cmc_rules.specs.Acts.{act, call_after}
 use Rattle.cmc_rules.specs.Desks.{desk}
 use Rattle.cmc_rules.specs.Passes.{open_pass}
 use Rattle.cmc_moves.specs.Acting.{IsDoingBy}
-use Rattle.cmc_world.specs.Kept.{Seen, first_desk, setting_of}
+use Rattle.cmc_world.specs.Kept.{Seen, first_desk, setting_of, on}
 use Rattle.cmc_world.proofs.NextSteps.{desk_is, may_on, next_on, doing_on}
 use Rattle.cmc_world.proofs.world.World.doing.Goals as goal
 
@@ -13,7 +13,7 @@ doing_of-requires-clause-acts c =
     let held = c.self.invariant.held in
     let s = setting_of c.self.inside.scenario in
     may_on s c.self.inside.history.entries c.args.pass c.args.current.now c.self.inside.desk held.formed held.run
-    (subst (λ (v : Seen). open_pass (setting_of v.scenario) v.history c.args.pass ≡ Some c.args.current.now) (sym c.self.view_is) c.requires.opened)
+    (subst (λ (v : Seen). on open_pass v c.args.pass ≡ Some c.args.current.now) (sym c.self.view_is) c.requires.opened)
     (desk_is s c.self.inside.history.entries c.args.current.now.role c.args.current.now.seen c.self.inside.questions c.self.inside.desk c.in_ok-asked.asked held.keys_asked held.answers_asked c.in_ok-asked.ensures
     (held.desk ∙ ap (λ (m : ℕ). record (first_desk s) { asked = m }) (sym c.if-asked-eq0.true)))
 
@@ -22,7 +22,7 @@ doing_of-requires-clause-goes c =
     let held = c.self.invariant.held in
     let s = setting_of c.self.inside.scenario in
     next_on s c.self.inside.history.entries c.args.pass c.args.current.now c.self.inside.desk held.run
-    (subst (λ (v : Seen). open_pass (setting_of v.scenario) v.history c.args.pass ≡ Some c.args.current.now) (sym c.self.view_is) c.requires.opened) c.requires.free
+    (subst (λ (v : Seen). on open_pass v c.args.pass ≡ Some c.args.current.now) (sym c.self.view_is) c.requires.opened) c.requires.free
     (desk_is s c.self.inside.history.entries c.args.current.now.role c.args.current.now.seen c.self.inside.questions c.self.inside.desk c.in_ok-asked.asked held.keys_asked held.answers_asked c.in_ok-asked.ensures
     (held.desk ∙ ap (λ (m : ℕ). record (first_desk s) { asked = m }) (sym c.if-asked-eq0.true)))
 
@@ -31,7 +31,7 @@ returns-then-asked-eq0 c =
     let held = c.self.invariant.held in
     let s = setting_of c.self.inside.scenario in
     let p = c.args.current.now in
-    subst (λ (v : Seen). IfOk c.doing_of.result (λ d. IsDoingBy p.stage (act p.role p.seen p.since (desk (setting_of v.scenario) v.history p.role p.seen)) (call_after p.role p.seen p.since) d)) c.self.view_is
+    subst (λ (v : Seen). IfOk c.doing_of.result (λ d. IsDoingBy p.stage (act p.role p.seen p.since (on desk v p.role p.seen)) (call_after p.role p.seen p.since) d)) c.self.view_is
     (doing_on s c.self.inside.history.entries p c.self.inside.desk c.doing_of.result
     (desk_is s c.self.inside.history.entries p.role p.seen c.self.inside.questions c.self.inside.desk c.in_ok-asked.asked held.keys_asked held.answers_asked c.in_ok-asked.ensures
     (held.desk ∙ ap (λ (m : ℕ). record (first_desk s) { asked = m }) (sym c.if-asked-eq0.true)))
@@ -42,7 +42,7 @@ doing_of-requires-2-clause-acts c =
     let held = c.self.invariant.held in
     let s = setting_of c.self.inside.scenario in
     may_on s c.self.inside.history.entries c.args.pass c.args.current.now (record { material = c.in_ok-copy.field-0; asked = c.in_ok-asked.asked; rules = c.in_ok-copy-2.field-0 }) held.formed held.run
-    (subst (λ (v : Seen). open_pass (setting_of v.scenario) v.history c.args.pass ≡ Some c.args.current.now) (sym c.self.view_is) c.requires.opened)
+    (subst (λ (v : Seen). on open_pass v c.args.pass ≡ Some c.args.current.now) (sym c.self.view_is) c.requires.opened)
     (desk_is s c.self.inside.history.entries c.args.current.now.role c.args.current.now.seen c.self.inside.questions _ c.in_ok-asked.asked held.keys_asked held.answers_asked c.in_ok-asked.ensures
     (λ i. record { material = (c.in_ok-copy.ensures ∙ ap (λ (x : Desk). x.material) held.desk) i; asked = c.in_ok-asked.asked; rules = (c.in_ok-copy-2.ensures ∙ ap (λ (x : Desk). x.rules) held.desk) i }))
 
@@ -51,7 +51,7 @@ doing_of-requires-2-clause-goes c =
     let held = c.self.invariant.held in
     let s = setting_of c.self.inside.scenario in
     next_on s c.self.inside.history.entries c.args.pass c.args.current.now (record { material = c.in_ok-copy.field-0; asked = c.in_ok-asked.asked; rules = c.in_ok-copy-2.field-0 }) held.run
-    (subst (λ (v : Seen). open_pass (setting_of v.scenario) v.history c.args.pass ≡ Some c.args.current.now) (sym c.self.view_is) c.requires.opened) c.requires.free
+    (subst (λ (v : Seen). on open_pass v c.args.pass ≡ Some c.args.current.now) (sym c.self.view_is) c.requires.opened) c.requires.free
     (desk_is s c.self.inside.history.entries c.args.current.now.role c.args.current.now.seen c.self.inside.questions _ c.in_ok-asked.asked held.keys_asked held.answers_asked c.in_ok-asked.ensures
     (λ i. record { material = (c.in_ok-copy.ensures ∙ ap (λ (x : Desk). x.material) held.desk) i; asked = c.in_ok-asked.asked; rules = (c.in_ok-copy-2.ensures ∙ ap (λ (x : Desk). x.rules) held.desk) i }))
 
@@ -60,7 +60,7 @@ returns c =
     let held = c.self.invariant.held in
     let s = setting_of c.self.inside.scenario in
     let p = c.args.current.now in
-    subst (λ (v : Seen). IfOk c.doing_of-2.result (λ d. IsDoingBy p.stage (act p.role p.seen p.since (desk (setting_of v.scenario) v.history p.role p.seen)) (call_after p.role p.seen p.since) d)) c.self.view_is
+    subst (λ (v : Seen). IfOk c.doing_of-2.result (λ d. IsDoingBy p.stage (act p.role p.seen p.since (on desk v p.role p.seen)) (call_after p.role p.seen p.since) d)) c.self.view_is
     (doing_on s c.self.inside.history.entries p (record { material = c.in_ok-copy.field-0; asked = c.in_ok-asked.asked; rules = c.in_ok-copy-2.field-0 }) c.doing_of-2.result
     (desk_is s c.self.inside.history.entries p.role p.seen c.self.inside.questions _ c.in_ok-asked.asked held.keys_asked held.answers_asked c.in_ok-asked.ensures
     (λ i. record { material = (c.in_ok-copy.ensures ∙ ap (λ (x : Desk). x.material) held.desk) i; asked = c.in_ok-asked.asked; rules = (c.in_ok-copy-2.ensures ∙ ap (λ (x : Desk). x.rules) held.desk) i }))

@@ -4,7 +4,7 @@ use Rattle.cmc_rules.specs.Causes.{MayEnd}
 use Rattle.cmc_held.specs.Open.{pass_at}
 use Rattle.cmc_held.specs.Remembered.{past_at}
 use Rattle.cmc_world.specs.Going.{IsClosing}
-use Rattle.cmc_world.specs.Kept.{Seen, setting_of}
+use Rattle.cmc_world.specs.Kept.{Seen, on}
 use Rattle.cmc_world.proofs.Calls.{kept_end}
 use Rattle.cmc_world.proofs.world.World.end.Goals as goal
 
@@ -12,7 +12,7 @@ pub invariant_of-self-2 : goal.invariant_of-self-2
 invariant_of-self-2 c =
     rw (c.push.ensures.entries, c.in_ok-reserve.ensures.same)
     (kept_end _ _ _ c.args.pass c.args.cause c.in_ok-closing.closing (λ n. pass_at c.close.new.self n) (λ r k. past_at c.ended.new.self r k) c.self.invariant
-    (subst (λ (v : Seen). IsClosing (setting_of v.scenario) v.history c.args.pass c.in_ok-closing.closing) (sym c.self.view_is) c.in_ok-closing.ensures)
-    (subst (λ (v : Seen). MayEnd (setting_of v.scenario) v.history (open_pass (setting_of v.scenario) v.history c.args.pass) c.args.cause) (sym c.self.view_is) c.requires.may)
+    (subst (λ (v : Seen). on IsClosing v c.args.pass c.in_ok-closing.closing) (sym c.self.view_is) c.in_ok-closing.ensures)
+    (subst (λ (v : Seen). on MayEnd v (on open_pass v c.args.pass) c.args.cause) (sym c.self.view_is) c.requires.may)
     (subst (λ (v : Seen). length v.history < v.scenario.events) (sym c.self.view_is) c.requires.room)
     c.close.ensures c.ended.ensures.past)

@@ -5,7 +5,7 @@ use Rattle.cmc_rules.specs.Resting.{IsIdle}
 use Rattle.cmc_rules.specs.Desks.{desk}
 use Rattle.cmc_model.specs.Histories.{moment}
 use Rattle.cmc_safety.specs.Acting.{MayAct}
-use Rattle.cmc_world.specs.Kept.{setting_of, Seen}
+use Rattle.cmc_world.specs.Kept.{setting_of, Seen, on}
 use Rattle.cmc_world.proofs.Idling.{idle_by, on_first_desk}
 use Rattle.cmc_world.proofs.world.World.is_idle.Goals as goal
 
@@ -13,10 +13,10 @@ pub has_nothing-requires : goal.has_nothing-requires
 has_nothing-requires c =
     rw (to_z-of_z w64 c.self.inside.moment (search rules), c.self.invariant.held.moment, c.self.invariant.held.desk)
     (on_first_desk (setting_of c.self.inside.scenario) c.args.seen.now _ _ c.self.invariant.held.formed
-    (subst (λ (v : Seen). MayAct c.args.seen.now (moment (setting_of v.scenario) v.history) (desk (setting_of v.scenario) v.history c.args.role c.args.seen.now)) (sym c.self.view_is) c.requires))
+    (subst (λ (v : Seen). MayAct c.args.seen.now (on moment v) (on desk v c.args.role c.args.seen.now)) (sym c.self.view_is) c.requires))
 
 pub returns : goal.returns
 returns c =
-    subst (λ (v : Seen). IfOk c.has_nothing.result (λ b. IsTrue b ↔ IsIdle (setting_of v.scenario) v.history c.args.role c.args.seen.now)) c.self.view_is
+    subst (λ (v : Seen). IfOk c.has_nothing.result (λ b. IsTrue b ↔ on IsIdle v c.args.role c.args.seen.now)) c.self.view_is
     (idle_by (setting_of c.self.inside.scenario) c.self.inside.history.entries c.args.role c.args.seen.now _ _ c.has_nothing.result
     (to_z-of_z w64 c.self.inside.moment (search rules) ∙ c.self.invariant.held.moment) c.self.invariant.held.desk c.has_nothing.ensures)

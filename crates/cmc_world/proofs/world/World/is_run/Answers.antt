@@ -9,17 +9,17 @@ use Rattle.cmc_safety.proofs.Completing.{completes}
 use Rattle.cmc_safety.proofs.Rights.{keeps_rights}
 use Rattle.cmc_safety.proofs.Safe.{safe}
 use Rattle.cmc_safety.proofs.Standing.{in_order}
-use Rattle.cmc_world.specs.Kept.{Seen, setting_of}
+use Rattle.cmc_world.specs.Kept.{Seen, on}
 use Rattle.cmc_moves.proofs.Sounds.{each_sound}
 use Rattle.cmc_world.proofs.world.World.is_run.Goals as goal
 
 pub returns-clause-rights : goal.returns-clause-rights
-returns-clause-rights c = subst (λ (v : Seen). KeepsRights (setting_of v.scenario) v.history) c.self.view_is (keeps_rights each_sound _ _ c.self.invariant.held.formed c.self.invariant.held.run)
+returns-clause-rights c = subst (λ (v : Seen). on KeepsRights v) c.self.view_is (keeps_rights each_sound _ _ c.self.invariant.held.formed c.self.invariant.held.run)
 
 pub returns-clause-safe : goal.returns-clause-safe
 returns-clause-safe c =
     let run = c.self.invariant.held.run in
-    subst (λ (v : Seen). IsSafe (setting_of v.scenario) v.history) c.self.view_is (safe each_sound _ _ c.self.invariant.held.formed run.legal run.caused run.follows)
+    subst (λ (v : Seen). on IsSafe v) c.self.view_is (safe each_sound _ _ c.self.invariant.held.formed run.legal run.caused run.follows)
 
 pub returns-clause-valid : goal.returns-clause-valid
 returns-clause-valid c =
@@ -29,9 +29,9 @@ returns-clause-valid c =
 pub returns-clause-complete : goal.returns-clause-complete
 returns-clause-complete c =
     let run = c.self.invariant.held.run in
-    subst (λ (v : Seen). CompletesIssuing (setting_of v.scenario) v.history) c.self.view_is (completes each_sound _ _ run.legal run.caused)
+    subst (λ (v : Seen). on CompletesIssuing v) c.self.view_is (completes each_sound _ _ run.legal run.caused)
 
 pub returns-clause-order : goal.returns-clause-order
 returns-clause-order c =
     let run = c.self.invariant.held.run in
-    subst (λ (v : Seen). IsInOrder (setting_of v.scenario) v.history) c.self.view_is (in_order each_sound _ _ c.self.invariant.held.formed run.legal run.caused run.follows)
+    subst (λ (v : Seen). on IsInOrder v) c.self.view_is (in_order each_sound _ _ c.self.invariant.held.formed run.legal run.caused run.follows)

@@ -2,7 +2,7 @@ use Rattle.std.proofs.Common.{◌≡◌, ◌∙◌, sym, subst, Some}
 use Rattle.cmc_rules.specs.Passes.{open_pass}
 use Rattle.cmc_moves.specs.declared.doing.Judged.TheVariants.{Does}
 use Rattle.cmc_moves.specs.Acting.{IsGoingOn}
-use Rattle.cmc_world.specs.Kept.{Seen, setting_of}
+use Rattle.cmc_world.specs.Kept.{Seen, setting_of, on}
 use Rattle.cmc_world.proofs.NextSteps.{does_going}
 use Rattle.cmc_moves.proofs.Decisions.{doing_decided, waits_not}
 use Rattle.cmc_world.proofs.world.World.judge_act.Goals as goal
@@ -10,8 +10,8 @@ use Rattle.cmc_world.proofs.world.World.judge_act.Goals as goal
 pub returns : goal.returns
 returns c =
     let p = c.args.current.now in
-    subst (λ (v : Seen). IsGoingOn (setting_of v.scenario) v.history c.args.pass (Does c.in_ok-doing.doing)) c.self.view_is
+    subst (λ (v : Seen). on IsGoingOn v c.args.pass (Does c.in_ok-doing.doing)) c.self.view_is
     (does_going (setting_of c.self.inside.scenario) c.self.inside.history.entries c.args.pass p c.in_ok-doing.doing c.len-entries.result c.events.result c.has_room.result
-    (subst (λ (v : Seen). open_pass (setting_of v.scenario) v.history c.args.pass ≡ Some p) (sym c.self.view_is) c.requires.opened) (waits_not p c.requires.undecided)
+    (subst (λ (v : Seen). on open_pass v c.args.pass ≡ Some p) (sym c.self.view_is) c.requires.opened) (waits_not p c.requires.undecided)
     (doing_decided (setting_of c.self.inside.scenario) c.self.inside.history.entries p c.args.decided.now _ c.in_ok-doing.doing c.requires.undecided c.requires.same c.act.ensures.decided (c.in_ok-copy.ensures ∙ c.act.ensures.value) c.in_ok-doing.ensures)
     c.len-entries.ensures c.events.ensures.value c.has_room.ensures c.if-not-has_room.false)

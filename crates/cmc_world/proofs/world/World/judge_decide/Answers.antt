@@ -3,7 +3,7 @@ use Rattle.std.specs.Option.{option_copied}
 use Rattle.cmc_rules.specs.Origins.{origin_at}
 use Rattle.cmc_moves.specs.Acting.{IsTaken, IsTaking}
 use Rattle.cmc_moves.specs.Answers.{outdated}
-use Rattle.cmc_world.specs.Kept.{Seen, setting_of}
+use Rattle.cmc_world.specs.Kept.{Seen, setting_of, on}
 use Rattle.cmc_moves.proofs.Decisions.{present_taken}
 use Rattle.cmc_world.proofs.world.World.judge_decide.Goals as goal
 
@@ -12,8 +12,8 @@ returns-in-Some-get c =
     let s = setting_of c.self.inside.scenario in
     let h = c.self.inside.history.entries in
     let held = c.self.invariant.held in
-    let late = subst (λ (v : Seen). c.outdated_origin.result ≡ outdated (setting_of v.scenario) v.history c.args.named c.get.result) (sym c.self.view_is) c.outdated_origin.ensures in
+    let late = subst (λ (v : Seen). c.outdated_origin.result ≡ on outdated v c.args.named c.get.result) (sym c.self.view_is) c.outdated_origin.ensures in
     let present = ap (outdated s h c.args.named) (ap (origin_at c.args.pass) (sym held.origins) ∙ sym c.get.ensures) ∙ sym late ∙ c.in_default.is in
-    subst (λ (v : Seen). IfOk c.judge_decided.result (λ j. IsTaken (setting_of v.scenario) v.history c.args.pass c.args.named c.args.decided.now j)) c.self.view_is
+    subst (λ (v : Seen). IfOk c.judge_decided.result (λ j. on IsTaken v c.args.pass c.args.named c.args.decided.now j)) c.self.view_is
     (present_taken s h c.args.pass c.args.named c.in-Some-get.open.now c.args.decided.now c.judge_decided.result present (sym (held.opened c.args.pass) ∙ sym c.get-2.ensures ∙ ap option_copied c.in-Some-get.is)
-    (subst (λ (v : Seen). IfOk c.judge_decided.result (λ j. IsTaking (setting_of v.scenario) v.history c.args.pass c.args.decided.now j)) (sym c.self.view_is) c.judge_decided.ensures))
+    (subst (λ (v : Seen). IfOk c.judge_decided.result (λ j. on IsTaking v c.args.pass c.args.decided.now j)) (sym c.self.view_is) c.judge_decided.ensures))

@@ -7,7 +7,7 @@ use Rattle.cmc_rules.specs.declared.effect.Effect.TheVariants as effects
 use Rattle.cmc_setup.specs.Setups.{IsSetup}
 use Rattle.cmc_moves.specs.declared.moves.Stepped.TheVariants as answers
 use Rattle.cmc_moves.specs.Answers as spec
-use Rattle.cmc_world.specs.Kept.{Seen, setting_of}
+use Rattle.cmc_world.specs.Kept.{Seen, setting_of, on}
 use Rattle.cmc_world.proofs.Stepping.{call_kept, calls_fit}
 use Rattle.cmc_world.proofs.world.World.make_call.Goals as goal
 
@@ -22,8 +22,8 @@ invariant_of-self-2 c =
     let h = c.self.inside.history.entries in
     let made = c.self.inside.made + 1 in
     let reply = c.in_ok-reply.field-0.reply in
-    let may = subst (λ (v : Seen). spec.AnswersScript (setting_of v.scenario) v.history answers.Done) (sym c.self.view_is) c.requires.may in
-    let due = subst (λ (v : Seen). spec.next_effect (setting_of v.scenario) v.history ≡ Some (effects.Call c.args.call)) (sym c.self.view_is) c.requires.effect in
+    let may = subst (λ (v : Seen). on spec.AnswersScript v answers.Done) (sym c.self.view_is) c.requires.may in
+    let due = subst (λ (v : Seen). on spec.next_effect v ≡ Some (effects.Call c.args.call)) (sym c.self.view_is) c.requires.effect in
     call_kept (setting_of u) h c.push-2.new.self.entries _ made c.args.call reply (to_z w64 (of_z w64 c.self.inside.moment)) c.call.new.self c.reserve-2.new.self.writes c.log_write.new.log.writes c.in_ok-reply.field-0.key c.in_ok-reply.field-0.object
     c.self.invariant may due refl (to_z-of_z w64 c.self.inside.moment (search rules)) c.reserve-2.ensures.same
     c.in_ok-reply.ensures.reply c.in_ok-reply.ensures.after c.in_ok-reply.ensures.key c.in_ok-reply.ensures.object c.log_write.ensures

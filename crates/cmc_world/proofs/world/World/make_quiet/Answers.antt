@@ -4,7 +4,7 @@ use Rattle.cmc_objects.specs.declared.entry.Entry.TheVariants as entries
 use Rattle.cmc_held.specs.Standing.{standing_of}
 use Rattle.cmc_moves.specs.declared.moves.Stepped.TheVariants as answers
 use Rattle.cmc_moves.specs.Answers as spec
-use Rattle.cmc_world.specs.Kept.{Seen, setting_of}
+use Rattle.cmc_world.specs.Kept.{Seen, setting_of, on}
 use Rattle.cmc_world.proofs.Stepping.{quiet_kept}
 use Rattle.cmc_world.proofs.world.World.make_quiet.Goals as goal
 
@@ -13,8 +13,8 @@ invariant_of-self-2 c =
     let u = c.self.inside.scenario in
     let h = c.self.inside.history.entries in
     let made = c.self.inside.made + 1 in
-    let may = subst (λ (v : Seen). spec.AnswersScript (setting_of v.scenario) v.history answers.Done) (sym c.self.view_is) c.requires.may in
-    let due = subst (λ (v : Seen). spec.next_effect (setting_of v.scenario) v.history ≡ None) (sym c.self.view_is) c.requires.effect in
+    let may = subst (λ (v : Seen). on spec.AnswersScript v answers.Done) (sym c.self.view_is) c.requires.may in
+    let due = subst (λ (v : Seen). on spec.next_effect v ≡ None) (sym c.self.view_is) c.requires.effect in
     quiet_kept (setting_of u) h c.push.new.self.entries _ made c.script-script.result.now (λ r. standing_of c.note_step_in.new.standings r) c.self.invariant may due refl
     c.script-script.ensures c.note_step_in.ensures
     (c.push.ensures.entries ∙ ap (λ (l : List Entry). entries.Script made ∷ l) c.reserve.ensures.same)

@@ -7,7 +7,7 @@ use Rattle.cmc_held.specs.Remembered.{past_at}
 use Rattle.cmc_held.specs.Standing.{standing_of}
 use Rattle.cmc_moves.specs.declared.moves.Stepped.TheVariants as answers
 use Rattle.cmc_moves.specs.Answers as spec
-use Rattle.cmc_world.specs.Kept.{Seen, setting_of}
+use Rattle.cmc_world.specs.Kept.{Seen, setting_of, on}
 use Rattle.std.specs.Prelude.{if◌then◌else◌}
 use Rattle.cmc_model.specs.Histories.{role_eq}
 use Rattle.cmc_rules.specs.Viewing.{Caches}
@@ -22,8 +22,8 @@ note_start-requires c =
 
 pub list_at-requires : goal.list_at-requires
 list_at-requires c =
-    let may = subst (λ (v : Seen). spec.AnswersScript (setting_of v.scenario) v.history answers.Done) (sym c.self.view_is) c.requires.may in
-    let due = subst (λ (v : Seen). spec.next_effect (setting_of v.scenario) v.history ≡ Some (effects.Start c.args.role c.args.at)) (sym c.self.view_is) c.requires.effect in
+    let may = subst (λ (v : Seen). on spec.AnswersScript v answers.Done) (sym c.self.view_is) c.requires.may in
+    let due = subst (λ (v : Seen). on spec.next_effect v ≡ Some (effects.Start c.args.role c.args.at)) (sym c.self.view_is) c.requires.effect in
     start_low _ _ _ c.args.role c.args.at c.self.invariant may due
 
 pub invariant_of-self-2 : goal.invariant_of-self-2
@@ -31,8 +31,8 @@ invariant_of-self-2 c =
     let u = c.self.inside.scenario in
     let h = c.self.inside.history.entries in
     let made = c.self.inside.made + 1 in
-    let may = subst (λ (v : Seen). spec.AnswersScript (setting_of v.scenario) v.history answers.Done) (sym c.self.view_is) c.requires.may in
-    let due = subst (λ (v : Seen). spec.next_effect (setting_of v.scenario) v.history ≡ Some (effects.Start c.args.role c.args.at)) (sym c.self.view_is) c.requires.effect in
+    let may = subst (λ (v : Seen). on spec.AnswersScript v answers.Done) (sym c.self.view_is) c.requires.may in
+    let due = subst (λ (v : Seen). on spec.next_effect v ≡ Some (effects.Start c.args.role c.args.at)) (sym c.self.view_is) c.requires.effect in
     start_kept (setting_of u) h c.push-2.new.self.entries _ made c.args.role c.args.at (λ r. standing_of c.note_start.new.standings r) (λ r. caches_of c.set.new.self r) (λ r key. past_at c.start.new.self r key) c.self.invariant may due refl
     c.note_start.ensures
     (λ r. c.set.ensures r ∙ ap (λ (x : Caches). if role_eq c.args.role r then x else caches_of c.self.inside.caches r) c.in_ok-caches.ensures)

@@ -6,7 +6,7 @@ use Rattle.cmc_held.specs.Open.{pass_at}
 use Rattle.cmc_held.specs.Standing.{standing_of}
 use Rattle.cmc_moves.specs.declared.moves.Stepped.TheVariants as answers
 use Rattle.cmc_moves.specs.Answers as spec
-use Rattle.cmc_world.specs.Kept.{Seen, setting_of}
+use Rattle.cmc_world.specs.Kept.{Seen, setting_of, on}
 use Rattle.cmc_world.proofs.Stepping.{stop_kept}
 use Rattle.cmc_world.proofs.world.World.make_stop.Goals as goal
 
@@ -15,8 +15,8 @@ invariant_of-self-2 c =
     let u = c.self.inside.scenario in
     let h = c.self.inside.history.entries in
     let made = c.self.inside.made + 1 in
-    let may = subst (λ (v : Seen). spec.AnswersScript (setting_of v.scenario) v.history answers.Done) (sym c.self.view_is) c.requires.may in
-    let due = subst (λ (v : Seen). spec.next_effect (setting_of v.scenario) v.history ≡ Some (effects.Stop c.args.role)) (sym c.self.view_is) c.requires.effect in
+    let may = subst (λ (v : Seen). on spec.AnswersScript v answers.Done) (sym c.self.view_is) c.requires.may in
+    let due = subst (λ (v : Seen). on spec.next_effect v ≡ Some (effects.Stop c.args.role)) (sym c.self.view_is) c.requires.effect in
     stop_kept (setting_of u) h c.push-2.new.self.entries _ made c.args.role (λ r. standing_of c.note_stop.new.standings r) (λ n. pass_at c.stop.new.self n) c.self.invariant may due refl
     c.note_stop.ensures c.stop.ensures
     (c.push-2.ensures.entries ∙ ap (λ (l : List Entry). entries.Stop c.args.role ∷ l) (c.push.ensures.entries ∙ ap (λ (l : List Entry). entries.Script made ∷ l) c.reserve.ensures.same))

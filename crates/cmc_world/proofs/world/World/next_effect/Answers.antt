@@ -8,7 +8,7 @@ use Rattle.cmc_rules.specs.declared.effect.Effect.{Effect}
 use Rattle.cmc_setup.specs.Forms.{is_step_form}
 use Rattle.cmc_setup.specs.Setups.{IsSetup, IsTickForm}
 use Rattle.cmc_moves.specs.Answers as spec
-use Rattle.cmc_world.specs.Kept.{Seen, setting_of}
+use Rattle.cmc_world.specs.Kept.{Seen, setting_of, on}
 use Rattle.cmc_world.specs.Scripted.{effect_in}
 use Rattle.cmc_safety.proofs.Moments.{moment_in_run}
 use Rattle.cmc_world.proofs.Stepping.{effect_kept}
@@ -34,7 +34,7 @@ returns-clause-effect c =
     let same = to_z-of_z w64 c.self.inside.moment (search rules) in
     let kept = effect_kept (setting_of u) h _ c.script_of.result.now c.self.invariant c.script_of.ensures.value in
     let is = ap (λ (m : ℤ). effect_in state.objects state.accepted m c.script_of.result.now c.self.inside.made) same ∙ kept in
-    subst (λ (v : Seen). IfOk c.effect_in.result (λ e. e ≡ spec.next_effect (setting_of v.scenario) v.history)) c.self.view_is
+    subst (λ (v : Seen). IfOk c.effect_in.result (λ e. e ≡ on spec.next_effect v)) c.self.view_is
     (subst (λ (x : Option Effect). IfOk c.effect_in.result (λ e. e ≡ x)) is c.effect_in.ensures)
 
 pub returns-clause-setup : goal.returns-clause-setup

@@ -2,10 +2,10 @@ use Rattle.std.proofs.Common.{◌≡◌, ◌∙◌, ap, sym, subst}
 use Rattle.std.specs.FinMap as finite
 use Rattle.cmc_model.specs.Replies.{State}
 use Rattle.cmc_model.specs.Histories.{objects}
-use Rattle.cmc_world.specs.Kept.{Seen, setting_of}
+use Rattle.cmc_world.specs.Kept.{Seen, on}
 use Rattle.cmc_world.proofs.world.World.objects.Goals as goal
 
 pub returns : goal.returns
 returns c =
-    subst (λ (v : Seen). finite.entries (objects (setting_of v.scenario) v.history) ≡ c.objects.result.now.entries) c.self.view_is
+    subst (λ (v : Seen). finite.entries (on objects v) ≡ c.objects.result.now.entries) c.self.view_is
     (ap (λ (st : State). finite.entries st.objects) (sym c.self.invariant.held.state) ∙ c.objects.ensures)

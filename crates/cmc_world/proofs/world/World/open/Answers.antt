@@ -10,7 +10,7 @@ use Rattle.cmc_held.specs.Open.{pass_at}
 use Rattle.cmc_held.specs.Remembered.{past_at}
 use Rattle.cmc_moves.specs.declared.moves.Stepped.TheVariants.{Done}
 use Rattle.cmc_moves.specs.Answers.{AnswersBegin}
-use Rattle.cmc_world.specs.Kept.{Seen, setting_of}
+use Rattle.cmc_world.specs.Kept.{Seen, on}
 use Rattle.cmc_world.specs.Prepared.{IsPrepared}
 use Rattle.cmc_world.proofs.Begins.{kept_open}
 use Rattle.cmc_world.proofs.Spare.{kept_spare}
@@ -36,8 +36,8 @@ pub invariant_of-self-2 : goal.invariant_of-self-2
 invariant_of-self-2 c =
     rw (c.push-2.ensures.entries, c.in_ok-reserve.ensures.same)
     (kept_open _ _ _ c.args.role c.args.prepared (to_z w64 (of_z w64 c.self.inside.moment)) (to_z w64 (of_z w64 c.self.inside.moment)) c.push.new.self.origins (λ n. pass_at c.open.new.self n) (λ r k. past_at c.begin.new.self r k) c.self.invariant (to_z-of_z w64 c.self.inside.moment (search rules)) (to_z-of_z w64 c.self.inside.moment (search rules))
-    (subst (λ (v : Seen). AnswersBegin (setting_of v.scenario) v.history c.args.role c.args.prepared.key Done) (sym c.self.view_is) c.requires.may)
-    (subst (λ (v : Seen). IsPrepared (setting_of v.scenario) v.history c.args.role c.args.prepared.key c.args.prepared) (sym c.self.view_is) c.requires.right)
+    (subst (λ (v : Seen). on AnswersBegin v c.args.role c.args.prepared.key Done) (sym c.self.view_is) c.requires.may)
+    (subst (λ (v : Seen). on IsPrepared v c.args.role c.args.prepared.key c.args.prepared) (sym c.self.view_is) c.requires.right)
     (c.push.ensures.origins ∙ ap (λ (l : List Origin). c.args.prepared.origin ∷ l) c.in_ok-reserve-2.ensures.same)
     c.in_ok-open.ensures.ok
     (λ r k. c.begin.ensures.past r k ∙ ap (λ (p : Past). if role_eq c.args.role r && key_eq c.args.prepared.key k then with_begin c.args.prepared.seen (to_z w64 (of_z w64 c.self.inside.moment)) p else p) (c.in_ok-ready.ensures.same r k)))

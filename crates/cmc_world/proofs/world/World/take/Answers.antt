@@ -7,14 +7,14 @@ use Rattle.cmc_rules.specs.declared.progress.Stage.TheVariants.{Given}
 use Rattle.cmc_rules.specs.Passes.{open_pass, with_stage}
 use Rattle.cmc_held.specs.Open.{pass_at}
 use Rattle.cmc_moves.specs.Answers.{kept_of}
-use Rattle.cmc_world.specs.Kept.{Seen, setting_of}
+use Rattle.cmc_world.specs.Kept.{Seen, on}
 use Rattle.cmc_world.proofs.Asking.{kept_given, staged_given}
 use Rattle.cmc_world.proofs.Leading.{given_may}
 use Rattle.cmc_world.proofs.world.World.take.Goals as goal
 
 pub invariant_of-self-2 : goal.invariant_of-self-2
 invariant_of-self-2 c =
-    let kept = subst (λ (v : Seen). kept_of (open_pass (setting_of v.scenario) v.history c.args.pass) ≡ Some (order_of c.args.given)) (sym c.self.view_is) c.requires.kept in
+    let kept = subst (λ (v : Seen). kept_of (on open_pass v c.args.pass) ≡ Some (order_of c.args.given)) (sym c.self.view_is) c.requires.kept in
     let may = given_may _ (order_of c.args.given) (value_of c.args.given) kept c.in_ok-taking.ensures.right in
     let order_is = c.into_parts-order.ensures.order ∙ c.in_ok-taking.ensures.order in
     let value_is = c.into_parts-order.ensures.value ∙ c.in_ok-taking.ensures.value in

@@ -1,0 +1,22 @@
+use Rattle.std.proofs.Common.{Option, sym, subst}
+use Rattle.cmc_moves.specs.declared.moves.Move.{Move}
+use Rattle.cmc_world.specs.Kept.{setting_of}
+use Rattle.cmc_plain.specs.declared.begins.Beginning.{Beginning}
+use Rattle.cmc_plain.specs.Plain.{IsPlainMove}
+use Rattle.cmc_plain.specs.Searches.{FindsBegin}
+use Rattle.cmc_plain.proofs.Chosen.{rest_first, some_begin}
+use Rattle.cmc_plain.proofs.next_move.first_to_begin.Goals as goal
+
+pub returns-then-branch-clause-plain : goal.returns-then-branch-clause-plain
+returns-then-branch-clause-plain c =
+    let s = setting_of c.args.world.now.scenario in
+    let h = c.args.world.now.history in
+    subst (λ (m : Option Move). IsPlainMove s h m) (sym c.at_rest.ensures)
+    (rest_first s h c.args.left c.in_ok-rests_in_each.field-0 c.is_run.ensures.run c.is_settled.ensures c.requires.left c.requires.closed c.requires.told c.in_ok-rests_in_each.ensures.test c.if-branch.true)
+
+pub unreachable-requires : goal.unreachable-requires
+unreachable-requires c =
+    let s = setting_of c.args.world.now.scenario in
+    let h = c.args.world.now.history in
+    some_begin s h c.args.left c.in_ok-rests_in_each.field-0 c.is_run.ensures.run c.is_settled.ensures c.requires.left c.requires.closed c.requires.told c.in_ok-rests_in_each.ensures.test c.if-branch.false
+    (subst (λ (found : Option Beginning). FindsBegin s h found) c.in-None.is c.in_ok-role.ensures.finds)

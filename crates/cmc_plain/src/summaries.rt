@@ -1,0 +1,152 @@
+//! What stands at the end of a run.
+ghost use Rattle.std.specs.List.{list_any};
+ghost use Rattle.std.specs.Prelude.{◌≡◌, ◌&&◌, ◌==◌, IfOk, count_by};
+ghost use Rattle.cmc_meta.specs.ConditionLists.{condition_rank, tri_eq};
+ghost use Rattle.cmc_meta.specs.declared.conditions.ConditionKind.TheVariants.{Ready};
+ghost use Rattle.cmc_meta.specs.declared.conditions.Tri.TheVariants.{True};
+ghost use Rattle.cmc_model.specs.Summaries.{says_ready, is_certificate, is_secret, is_ready, is_waiting};
+ghost use Rattle.cmc_rules.specs.Runs.{IsFinished};
+ghost use Rattle.cmc_world.specs.Kept.{on};
+ghost use Rattle.cmc_plain.specs.Waits.{is_stopped, waits_among, summary_among, summary_at};
+
+use crate::waits::{is_stopped, wait_at};
+use cmc_meta::{Condition, ConditionKind, Key, Tri};
+use cmc_objects::Object;
+use cmc_summary::{Summary, Waiting, Waits};
+use cmc_world::World;
+use std::alloc::{AllocError, Global};
+use std::collections::BTreeMap;
+
+type Objects = BTreeMap<Key, Object>;
+
+fn is_ready_condition(condition: &Condition) -> bool
+    ensures { result ≡ ((condition_rank condition.now.kind == condition_rank Ready) && tri_eq condition.now.status True) }
+{
+    matches!(condition.kind, ConditionKind::Ready) && matches!(condition.status, Tri::True)
+}
+
+fn are_ready(conditions: &[Condition]) -> bool
+    ensures { result ≡ says_ready conditions.now }
+{
+    conditions
+        .iter()
+        .any(|condition| is_ready_condition(condition))
+}
+
+fn counts_as_certificate(object: &Object) -> bool
+    ensures { result ≡ is_certificate object.now }
+{
+    matches!(object, Object::Cert(_))
+}
+
+fn counts_as_secret(object: &Object) -> bool
+    ensures { result ≡ is_secret object.now }
+{
+    matches!(object, Object::Secret(_))
+}
+
+fn counts_as_ready(object: &Object) -> bool
+    ensures { result ≡ is_ready object.now }
+{
+    match object {
+        Object::Cert(certificate) => are_ready(certificate.status.conditions.as_slice()),
+        _ => false,
+    }
+}
+
+fn counts_as_waiting(object: &Object) -> bool
+    ensures { result ≡ is_waiting object.now }
+{
+    match object {
+        Object::Cert(certificate) => !are_ready(certificate.status.conditions.as_slice()),
+        _ => false,
+    }
+}
+
+fn certificates(objects: &Objects) -> u64
+    ensures { result ≡ count_by (λ e. is_certificate e.1) objects.now.entries }
+{
+    objects
+        .iter()
+        .filter(|(_, object)| counts_as_certificate(object))
+        .count() as u64
+}
+
+fn ready(objects: &Objects) -> u64
+    ensures { result ≡ count_by (λ e. is_ready e.1) objects.now.entries }
+{
+    objects
+        .iter()
+        .filter(|(_, object)| counts_as_ready(object))
+        .count() as u64
+}
+
+fn secrets(objects: &Objects) -> u64
+    ensures { result ≡ count_by (λ e. is_secret e.1) objects.now.entries }
+{
+    objects
+        .iter()
+        .filter(|(_, object)| counts_as_secret(object))
+        .count() as u64
+}
+
+/// The Certificates that are not Ready, with what they wait for.
+fn waiting(
+    alloc: Global,
+    world: &World,
+    stopped: bool,
+    objects: &Objects,
+) -> Result<Waits, AllocError>
+    requires finished { on IsFinished world.now }
+    requires stopped { stopped ≡ on is_stopped world.now }
+    ensures { IfOk result (λ w. w ≡ on waits_among world.now objects.now.entries) }
+{
+    let mut waiting = Waits::new(alloc);
+    for (key, object) in objects.iter() {
+        if counts_as_waiting(object) {
+            if let Some(wait) = wait_at(alloc, world, stopped, key)? {
+                let certificate = key.copy()?;
+                waiting.push(Waiting { certificate, wait })?;
+            }
+        }
+    }
+    Ok(waiting)
+}
+
+/// The summary of these objects.
+fn summarize(
+    alloc: Global,
+    world: &World,
+    stopped: bool,
+    objects: &Objects,
+) -> Result<Summary, AllocError>
+    requires finished { on IsFinished world.now }
+    requires stopped { stopped ≡ on is_stopped world.now }
+    ensures { IfOk result (λ s. s ≡ on summary_among world.now objects.now.entries) }
+{
+    Ok(Summary {
+        certificates: certificates(objects),
+        ready: ready(objects),
+        secrets: secrets(objects),
+        waiting: waiting(alloc, world, stopped, objects)?,
+    })
+}
+
+/// The summary of a finished run: how many Certificates stand, how many of them are Ready, how many Secrets stand, and
+/// what each Certificate waits for that is not Ready, in order of key. Where some role does not run, or some informer
+/// is held, that is what each waits for. Else it is the first of these that is so: its last issuance failed and the
+/// moment lies in the back-off; it is being issued and there is no next key; its one next request is neither approved
+/// nor denied; that is issued, and the Secret of the Certificate's name for it holds a next key itself; that is
+/// approved, and its issuer has not answered or was not ready. Of each one of these is so, and none is left out
+/// (`each_wait_is_named`).
+///
+/// # Errors
+///
+/// Want of memory alone.
+pub fn summary(alloc: Global, world: &World) -> Result<Summary, AllocError>
+    requires { on IsFinished world.now }
+    ensures { IfOk result (λ s. s ≡ on summary_at world.now) }
+{
+    let stopped = is_stopped(alloc, world)?;
+    summarize(alloc, world, stopped, world.objects())
+}

@@ -1,0 +1,552 @@
+//! Passes go on: they ask, make their calls, and end.
+ghost use Rattle.std.specs.Prelude.{◌≡◌, ◌+◌, ◌<◌, ◌∷◌, ℕ, IfOk, OnOk, OnErr, None, Some, length};
+ghost use Rattle.cmc_pass.specs.Giving.{order_of, value_of};
+ghost use Rattle.cmc_pass.specs.Values.{IsValue};
+ghost use Rattle.cmc_rules.specs.Acts.{act, call_after};
+ghost use Rattle.cmc_rules.specs.Causes.{MayCall, MayAsk, MayEnd};
+ghost use Rattle.cmc_rules.specs.Legality.{IsOpen};
+ghost use Rattle.cmc_rules.specs.Desks.{desk as desk_at};
+ghost use Rattle.cmc_model.specs.Replies as replies;
+ghost use Rattle.cmc_rules.specs.Passes as spec;
+ghost use Rattle.cmc_moves.specs.Acting.{IsDoingBy, IsDoing, IsGoing, IsGoingOn, IsJudged};
+ghost use Rattle.cmc_world.specs.Going.{IsCalling, IsClosing, MadeCall, GoesOn};
+ghost use Rattle.cmc_moves.specs.Answers.{AnswersGive, AnswersGiven, AnswersNext, Leaves, is_done, kept_of, next_answer, outdated, value_entry};
+ghost use Rattle.cmc_moves.specs.Acting.{asked_in};
+ghost use Rattle.cmc_world.specs.Kept.{on};
+ghost use Rattle.cmc_moves.specs.declared.moves.Move.TheVariants as moves;
+ghost use Rattle.cmc_moves.specs.declared.moves.Stepped.TheVariants as answers;
+
+use crate::notes::{kind_written, log_write, note_write, stage_of, writes_stand_in};
+use crate::world::{World, has_room};
+use cmc_meta::Key;
+use cmc_moves::{
+    Doing, Judged, Lack, Stepped, answer_of, answer_value, doing_of, ending_at, let_go,
+    outdated_of, value_entry_of,
+};
+use cmc_objects::{Call, Cause, Entry, Order, Role, Who};
+use cmc_pass::{Desk, Given, Value};
+use cmc_rules::{Ending, OpenPass, Origin, Stage};
+use cmc_store::Replied;
+use std::alloc::{AllocError, Global};
+
+/// A call of a pass, with what it needs to know of the pass, and the key that it names.
+pub(crate) struct Calling {
+    pub role: Role,
+    pub key: Key,
+    pub named: Key,
+    pub stand_in: bool,
+    pub call: Call,
+}
+
+impl Drop for Calling {
+    fn drop(self) {
+        let Calling {
+            role: _role,
+            key: _key,
+            named: _named,
+            stand_in: _stand_in,
+            call,
+        } = self;
+        let_go(call);
+    }
+}
+
+impl Calling {
+    fn into_call(self) -> Call
+        ensures { result ≡ self.call }
+    {
+        let Calling {
+            role: _role,
+            key: _key,
+            named: _named,
+            stand_in: _stand_in,
+            call,
+        } = self;
+        call
+    }
+}
+
+/// What the end of a pass needs to know of it.
+pub(crate) struct Closing {
+    pub role: Role,
+    pub key: Key,
+    pub ending: Ending,
+}
+
+impl Drop for Closing {
+    fn drop(self) {
+        let Closing {
+            role: _role,
+            key: _key,
+            ending: _ending,
+        } = self;
+    }
+}
+
+/// A value that a pass is given, with its question and its entry.
+pub(crate) struct Taking {
+    pub order: Order,
+    pub value: Value,
+    pub entry: Entry,
+}
+
+impl Drop for Taking {
+    fn drop(self) {
+        let Taking {
+            order,
+            value,
+            entry,
+        } = self;
+        let_go(order);
+        let_go(value);
+        let_go(entry);
+    }
+}
+
+impl Taking {
+    /// What the pass of this number is given. An error is one of memory.
+    fn of(pass: u64, given: Given) -> Result<Taking, AllocError>
+        ensures order { IfOk result (λ t. t.order ≡ order_of given) }
+        ensures value { IfOk result (λ t. t.value ≡ value_of given) }
+        ensures entry { IfOk result (λ t. t.entry ≡ value_entry pass (value_of given)) }
+        ensures right { IfOk result (λ _. IsValue (order_of given) (value_of given)) }
+    {
+        let order = match given.order() {
+            Ok(order) => order,
+            Err(lack) => {
+                let_go(given);
+                return Err(lack);
+            }
+        };
+        let value = given.into_value();
+        match value_entry_of(pass, &value) {
+            Ok(entry) => Ok(Taking {
+                order,
+                value,
+                entry,
+            }),
+            Err(lack) => {
+                let_go(order);
+                let_go(value);
+                Err(lack)
+            }
+        }
+    }
+
+    fn into_parts(self) -> (Order, Value, Entry)
+        ensures order { result.0 ≡ self.order }
+        ensures value { result.1 ≡ self.value }
+        ensures entry { result.2 ≡ self.entry }
+    {
+        let Taking {
+            order,
+            value,
+            entry,
+        } = self;
+        (order, value, entry)
+    }
+}
+
+/// A question, and the same once more for the pass that waits for its value.
+pub(crate) struct Asking {
+    pub order: Order,
+    pub kept: Order,
+}
+
+impl Drop for Asking {
+    fn drop(self) {
+        let Asking { order, kept } = self;
+        let_go(order);
+        let_go(kept);
+    }
+}
+
+impl Asking {
+    /// An error is one of memory.
+    fn of(order: Order) -> Result<Asking, AllocError>
+        ensures order { IfOk result (λ a. a.order ≡ order) }
+        ensures kept { IfOk result (λ a. a.kept ≡ order) }
+    {
+        match order.copy() {
+            Ok(kept) => Ok(Asking { order, kept }),
+            Err(lack) => {
+                let_go(order);
+                Err(lack)
+            }
+        }
+    }
+
+    fn into_parts(self) -> (Order, Order)
+        ensures order { result.0 ≡ self.order }
+        ensures kept { result.1 ≡ self.kept }
+    {
+        let Asking { order, kept } = self;
+        (order, kept)
+    }
+}
+
+/// The key of the open pass, and that which the call names. An error is one of memory.
+fn keys_of(current: &OpenPass, call: &Call) -> Result<(Key, Key), AllocError>
+    ensures key { IfOk result (λ k. k.0 ≡ current.now.key) }
+    ensures named { IfOk result (λ k. k.1 ≡ replies.key_of_call call.now) }
+{
+    Ok((current.key.copy()?, call.key()?))
+}
+
+/// The call of the open pass, with what it needs to know of that. An error is one of memory.
+fn calling_of(current: &OpenPass, call: Call) -> Result<Calling, AllocError>
+    ensures role { IfOk result (λ c. c.role ≡ current.now.role) }
+    ensures key { IfOk result (λ c. c.key ≡ current.now.key) }
+    ensures named { IfOk result (λ c. c.named ≡ replies.key_of_call c.call) }
+    ensures stand_in { IfOk result (λ c. c.stand_in ≡ spec.writes_stand_in c.call) }
+    ensures call { IfOk result (λ c. c.call ≡ call) }
+{
+    match keys_of(current, &call) {
+        Ok((key, named)) => Ok(Calling {
+            role: current.role,
+            key,
+            named,
+            stand_in: writes_stand_in(&call),
+            call,
+        }),
+        Err(lack) => {
+            let_go(call);
+            Err(lack)
+        }
+    }
+}
+
+impl World {
+    pub(crate) fn outdated_origin(&self, origin: Option<Origin>, named: u64) -> Option<u64>
+        ensures { result ≡ on outdated self.now named origin }
+    {
+        match origin {
+            None => None,
+            Some(origin) => outdated_of(
+                self.standings.get(origin.role).incarnation,
+                origin.incarnation,
+                named,
+            ),
+        }
+    }
+
+    /// What the pass, which waits for no value, does next.
+    fn doing(&self, alloc: Global, pass: u64, current: &OpenPass) -> Result<Doing, AllocError>
+        requires opened { on spec.open_pass self.now pass ≡ Some current.now }
+        requires free { kept_of (Some current.now) ≡ None }
+        ensures { IfOk result (λ d. IsDoingBy current.now.stage (act current.now.role current.now.seen current.now.since (on desk_at self.now current.now.role current.now.seen)) (call_after current.now.role current.now.seen current.now.since) d) }
+    {
+        let asked = self.questions.asked_for(current.role, &current.seen)?;
+        if asked == 0 {
+            return doing_of(alloc, current, &self.desk);
+        }
+        let desk = Desk {
+            material: self.desk.material.copy()?,
+            asked,
+            rules: self.desk.rules.copy()?,
+        };
+        doing_of(alloc, current, &desk)
+    }
+
+    /// What the next move of the pass, which waits for no value, comes to.
+    fn judge_doing(
+        &self,
+        alloc: Global,
+        pass: u64,
+        current: &OpenPass,
+    ) -> Result<Judged, AllocError>
+        requires opened { on spec.open_pass self.now pass ≡ Some current.now }
+        requires free { kept_of (Some current.now) ≡ None }
+        ensures { IfOk result (λ j. on IsGoingOn self.now pass j) }
+    {
+        let doing = self.doing(alloc, pass, current)?;
+        let entries = self.history.len();
+        if !has_room(entries, self.scenario.events(), 1) {
+            let_go(doing);
+            return Ok(Judged::Answer(Stepped::Spent { entries }));
+        }
+        Ok(Judged::Does(doing))
+    }
+
+    /// What the next move of the open pass comes to.
+    fn judge_open(&self, alloc: Global, pass: u64, current: &OpenPass) -> Result<Judged, AllocError>
+        requires { on spec.open_pass self.now pass ≡ Some current.now }
+        ensures { IfOk result (λ j. on IsGoingOn self.now pass j) }
+    {
+        match &current.stage {
+            Stage::Asked { order } => Ok(Judged::Answer(Stepped::Order {
+                pass,
+                order: order.copy()?,
+            })),
+            _ => self.judge_doing(alloc, pass, current),
+        }
+    }
+
+    /// What the next move of the pass of this number comes to.
+    fn judge_next(&self, alloc: Global, pass: u64, named: u64) -> Result<Judged, AllocError>
+        ensures { IfOk result (λ j. on IsJudged self.now pass named j) }
+    {
+        if let Some(incarnation) = self.outdated_origin(self.origins.get(pass), named) {
+            return Ok(Judged::Answer(Stepped::Ended { incarnation }));
+        }
+        match self.passes.get(pass) {
+            Some(open) => self.judge_open(alloc, pass, open),
+            None => Ok(Judged::Answer(Stepped::NotNow(Lack::NoPass { pass }))),
+        }
+    }
+
+    /// What the pass of this number is answered as it goes on.
+    pub(crate) fn answer_next(
+        &self,
+        alloc: Global,
+        pass: u64,
+        named: u64,
+    ) -> Result<Stepped, AllocError>
+        ensures { IfOk result (λ a. on AnswersNext self.now pass named a) }
+    {
+        match self.judge_next(alloc, pass, named)? {
+            Judged::Answer(answer) => Ok(answer),
+            Judged::Does(doing) => {
+                let answer = answer_of(pass, &doing);
+                let_go(doing);
+                answer
+            }
+        }
+    }
+
+    /// What a value for the question of the open pass is answered.
+    fn judge_value(&self, current: &OpenPass, given: &Given) -> Result<Stepped, AllocError>
+        ensures { IfOk result (λ a. on AnswersGiven self.now (kept_of (Some current.now)) (order_of given.now) a) }
+    {
+        let Stage::Asked { order } = &current.stage else {
+            return Ok(Stepped::NotNow(Lack::NotAsked));
+        };
+        let entries = self.history.len();
+        let room = has_room(entries, self.scenario.events(), 1);
+        answer_value(order, given, entries, room)
+    }
+
+    /// What the pass of this number is answered where it is given this.
+    pub(crate) fn judge_give(
+        &self,
+        pass: u64,
+        named: u64,
+        given: &Given,
+    ) -> Result<Stepped, AllocError>
+        ensures { IfOk result (λ a. on AnswersGive self.now pass named given.now a) }
+    {
+        if let Some(incarnation) = self.outdated_origin(self.origins.get(pass), named) {
+            return Ok(Stepped::Ended { incarnation });
+        }
+        match self.passes.get(pass) {
+            Some(open) => self.judge_value(open, given),
+            None => Ok(Stepped::NotNow(Lack::NoPass { pass })),
+        }
+    }
+
+    fn calling(&self, pass: u64, call: Call) -> Result<Calling, AllocError>
+        requires { IsOpen (on spec.open_pass self.now pass) }
+        ensures calling { IfOk result (λ c. on IsCalling self.now pass c.call c) }
+        ensures call { IfOk result (λ c. c.call ≡ call) }
+    {
+        match self.passes.get(pass) {
+            Some(open) => calling_of(open, call),
+            None => unreachable!(),
+        }
+    }
+
+    /// Makes the call of an open pass.
+    fn call(&mut self, alloc: Global, pass: u64, call: Call) -> Result<(), AllocError>
+        requires may { on MayCall self.old (on spec.open_pass self.old pass) call }
+        requires room { length self.old.history < self.old.scenario.events }
+        ensures ok { OnOk result (MadeCall (Who.Pass pass) call self.old self.new) }
+        ensures err { OnErr result (self.new ≡ self.old) }
+    {
+        self.is_short();
+        let calling = self.calling(pass, call)?;
+        self.history.reserve(1)?;
+        self.log.reserve(1)?;
+        self.pasts.ready(calling.role, &calling.key)?;
+        let replied = self.store.call(alloc, self.moment, &calling.call)?;
+        let entry = self.history.len() + 1;
+        let stage = stage_of(
+            &self.passes,
+            pass,
+            calling.stand_in,
+            entry,
+            &self.log,
+            &calling.named,
+            &replied.reply,
+        );
+        let version = self.log.accepted() + 1;
+        let written = kind_written(&replied.key);
+        note_write(
+            &mut self.standings,
+            &mut self.pasts,
+            calling.role,
+            &calling.key,
+            written,
+            version,
+        );
+        self.passes.advance(pass, stage);
+        let Replied { reply, key, object } = replied;
+        log_write(&mut self.log, key, object);
+        self.history.push(Entry::Call {
+            who: Who::Pass(pass),
+            call: calling.into_call(),
+            reply,
+        });
+        Ok(())
+    }
+
+    fn closing(&self, pass: u64) -> Result<Closing, AllocError>
+        requires { IsOpen (on spec.open_pass self.now pass) }
+        ensures { IfOk result (λ c. on IsClosing self.now pass c) }
+    {
+        match self.passes.get(pass) {
+            Some(open) => Ok(Closing {
+                role: open.role,
+                key: open.key.copy()?,
+                ending: ending_at(&open.stage),
+            }),
+            None => unreachable!(),
+        }
+    }
+
+    /// Ends an open pass.
+    fn end(&mut self, pass: u64, cause: Cause) -> Result<(), AllocError>
+        requires may { on MayEnd self.old (on spec.open_pass self.old pass) cause }
+        requires room { length self.old.history < self.old.scenario.events }
+        ensures ok { OnOk result (self.new ≡ record { scenario = self.old.scenario; history = Entry.End pass cause ∷ self.old.history }) }
+        ensures err { OnErr result (self.new ≡ self.old) }
+    {
+        let closing = self.closing(pass)?;
+        self.history.reserve(1)?;
+        self.passes.close(pass);
+        self.pasts.ended(closing.role, &closing.key, closing.ending);
+        self.history.push(Entry::End { pass, cause });
+        Ok(())
+    }
+
+    /// Has an open pass ask its question.
+    fn ask(&mut self, pass: u64, order: Order) -> Result<(), AllocError>
+        requires stands { IsOpen (on spec.open_pass self.old pass) }
+        requires may { on MayAsk self.old (on spec.open_pass self.old pass) order }
+        requires room { length self.old.history < self.old.scenario.events }
+        ensures ok { OnOk result (self.new ≡ record { scenario = self.old.scenario; history = Entry.Ask pass order ∷ self.old.history }) }
+        ensures err { OnErr result (self.new ≡ self.old) }
+    {
+        self.is_short();
+        let asking = Asking::of(order)?;
+        self.history.reserve(1)?;
+        self.questions.note(&asking.order)?;
+        let (order, kept) = asking.into_parts();
+        self.passes.advance(pass, Stage::Asked { order: kept });
+        self.history.push(Entry::Ask { pass, order });
+        Ok(())
+    }
+
+    /// Gives an open pass the value of its question.
+    fn take(&mut self, pass: u64, given: Given) -> Result<(), AllocError>
+        requires kept { kept_of (on spec.open_pass self.old pass) ≡ Some (order_of given) }
+        requires room { length self.old.history < self.old.scenario.events }
+        ensures ok { OnOk result (self.new ≡ record { scenario = self.old.scenario; history = value_entry pass (value_of given) ∷ self.old.history }) }
+        ensures err { OnErr result (self.new ≡ self.old) }
+    {
+        let taking = Taking::of(pass, given)?;
+        self.history.reserve(1)?;
+        let (order, value, entry) = taking.into_parts();
+        self.passes.advance(pass, Stage::Given { order, value });
+        self.history.push(entry);
+        Ok(())
+    }
+
+    /// Has an open pass do what comes next of it.
+    fn go_on(&mut self, alloc: Global, pass: u64, doing: Doing) -> Result<(), AllocError>
+        requires stands { IsOpen (on spec.open_pass self.old pass) }
+        requires does { on IsDoing self.old pass doing }
+        requires room { length self.old.history < self.old.scenario.events }
+        ensures ok { OnOk result (GoesOn pass doing self.old self.new) }
+        ensures err { OnErr result (self.new ≡ self.old) }
+    {
+        match doing {
+            Doing::Call(call) => self.call(alloc, pass, call),
+            Doing::Ask(order) => self.ask(pass, order),
+            Doing::End(cause) => self.end(pass, cause),
+        }
+    }
+
+    /// Has an open pass do what comes next of it, and answers the move.
+    pub(crate) fn make_next(
+        &mut self,
+        alloc: Global,
+        pass: u64,
+        doing: Doing,
+    ) -> Result<Stepped, AllocError>
+        requires stands { IsOpen (on spec.open_pass self.old pass) }
+        requires goes { on IsGoing self.old pass doing }
+        ensures answer { IfOk result (λ r. r ≡ next_answer pass (asked_in doing)) }
+        ensures scenario { self.new.scenario ≡ self.old.scenario }
+        ensures leaves { IfOk result (λ r. (named : ℕ) → on Leaves self.old (moves.Next pass named) r self.new.history) }
+        ensures err { OnErr result (self.new ≡ self.old) }
+    {
+        let answer = match answer_of(pass, &doing) {
+            Ok(answer) => answer,
+            Err(lack) => {
+                let_go(doing);
+                return Err(lack);
+            }
+        };
+        match self.go_on(alloc, pass, doing) {
+            Ok(()) => Ok(answer),
+            Err(lack) => {
+                let_go(answer);
+                Err(lack)
+            }
+        }
+    }
+
+    pub(crate) fn step_next(
+        &mut self,
+        alloc: Global,
+        pass: u64,
+        named: u64,
+    ) -> Result<Stepped, AllocError>
+        ensures answer { IfOk result (λ r. on AnswersNext self.old pass named r) }
+        ensures scenario { self.new.scenario ≡ self.old.scenario }
+        ensures leaves { IfOk result (λ r. on Leaves self.old (moves.Next pass named) r self.new.history) }
+        ensures err { OnErr result (self.new ≡ self.old) }
+    {
+        match self.judge_next(alloc, pass, named)? {
+            Judged::Answer(answer) => Ok(answer),
+            Judged::Does(doing) => self.make_next(alloc, pass, doing),
+        }
+    }
+
+    pub(crate) fn step_give(
+        &mut self,
+        pass: u64,
+        named: u64,
+        given: Given,
+    ) -> Result<Stepped, AllocError>
+        ensures answer { IfOk result (λ r. on AnswersGive self.old pass named given r) }
+        ensures scenario { self.new.scenario ≡ self.old.scenario }
+        ensures leaves { IfOk result (λ r. on Leaves self.old (moves.Give pass named given) r self.new.history) }
+        ensures err { OnErr result (self.new ≡ self.old) }
+    {
+        let answer = match self.judge_give(pass, named, &given) {
+            Ok(answer) => answer,
+            Err(lack) => {
+                let_go(given);
+                return Err(lack);
+            }
+        };
+        if !answer.is_done() {
+            let_go(given);
+            return Ok(answer);
+        }
+        let_go(answer);
+        self.take(pass, given)?;
+        Ok(Stepped::Done)
+    }
+}
