@@ -3,7 +3,6 @@ pub mod Rows
 pub mod ByNumber
 pub mod Behind
 pub mod OpenOnes
-pub mod Memories
 pub mod RowsOfPasts
 pub mod Counting
 pub mod Lasts

@@ -1,16 +1,15 @@
 -- What each role remembers of each key.
 use Rattle.std.specs.Prelude.{◌≡◌, Bool, true, false, List, [], Option, Some, None, is_some, slice_index_or}
-use Rattle.std.specs.BTreeMap.{is_at}
 use Rattle.std.specs.Map.{lookup}
 use Rattle.cmc_meta.specs.declared.key.Key.{Key}
-use Rattle.cmc_meta.specs.Keys.{key_cmp}
+use Rattle.cmc_meta.specs.Keys.{key_eq}
 use Rattle.cmc_objects.specs.declared.role.Role.{Role}
 use Rattle.cmc_objects.specs.Roles.{role_rank}
 use Rattle.cmc_rules.specs.declared.progress.Past.{Past}
 use Rattle.cmc_model.specs.Histories.{role_eq}
 use Rattle.cmc_rules.specs.Memory.{no_past}
 
--- what is kept of one role, under the keys in order
+-- what is kept of one role, under the keys in no order
 abbrev pub Kept : Type 0
 Kept = List (Key × Past)
 
@@ -20,11 +19,11 @@ past_or_new (Some past) = past
 
 -- what one role remembers of the key
 unfoldable pub memory_at : Kept → Key → Past
-memory_at kept key = past_or_new (lookup (is_at (key_cmp key)) kept)
+memory_at kept key = past_or_new (lookup (key_eq key) kept)
 
 -- whether something is kept of the key, be it that nothing was done on it
 unfoldable pub is_noted : Kept → Key → Bool
-is_noted kept key = is_some (lookup (is_at (key_cmp key)) kept)
+is_noted kept key = is_some (lookup (key_eq key) kept)
 
 -- the rows stand in the order of roles
 unfoldable pub past_at : List Kept → Role → Key → Past

@@ -14,13 +14,14 @@ use cmc_objects::{Positions, Role};
 use cmc_pass::Views;
 use cmc_rules::{Ending, LastPass, Past};
 use std::alloc::{AllocError, Global};
-use std::collections::BTreeMap;
+use std::collections::HashMap;
 use std::marker::Model;
 
-/// What one role remembers; contracts see the list of the keys, in order, with what is kept of each.
+/// What one role remembers; contracts see the list of the keys, in no order, with what is kept of each. A key is
+/// only ever looked for by itself, and nobody asks for an order of keys: so they are hashed, and not sorted.
 #[derive(Drop)]
 struct Memory {
-    map: BTreeMap<Key, Past>,
+    map: HashMap<Key, Past>,
 }
 
 impl Model for Memory {
@@ -38,7 +39,7 @@ impl Memory {
         ensures { (k : KeyValue) → memory_at result k ≡ no_past }
     {
         Memory {
-            map: BTreeMap::new(alloc),
+            map: HashMap::new(alloc),
         }
     }
 
