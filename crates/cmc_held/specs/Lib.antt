@@ -1,5 +1,5 @@
 pub mod Logs
-pub mod Standing
+pub mod RoleState
 pub mod Came
 pub mod Dues
 pub mod Open

@@ -5,7 +5,7 @@ ghost use Rattle.cmc_rules.specs.Sameness.{EndsAlike, IsSame, IsStillBehind, own
 ghost use Rattle.cmc_objects.specs.Watching.{has_informer};
 ghost use Rattle.cmc_held.specs.Dues.{shown_positions};
 
-use crate::standings::at_kind;
+use crate::role_states::at_kind;
 use cmc_meta::Kind;
 use cmc_objects::{Positions, Role, has_informer};
 use cmc_pass::Views;

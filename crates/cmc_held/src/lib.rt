@@ -7,17 +7,17 @@ mod due;
 mod log;
 mod origins;
 mod passes;
-mod pasts;
 mod questions;
-mod standings;
+mod role_memories;
+mod role_states;
 
 pub use due::{is_same, own_above, shown_positions};
 pub use log::Log;
 pub use origins::Origins;
 pub use passes::Passes;
-pub use pasts::Pasts;
 pub use questions::Questions;
-pub use standings::{
-    Flags, Standing, Standings, at_kind, is_held, put_at_kind, told_of, with_held, with_told,
+pub use role_memories::RoleMemories;
+pub use role_states::{
+    Flags, RoleState, RoleStates, at_kind, is_held, put_at_kind, told_of, with_held, with_told,
     with_written, written_of,
 };

@@ -4,7 +4,7 @@ ghost use Rattle.std.specs.Prelude.{◌≡◌, ◌↔◌, ◌+◌, ◌<◌, ◌�
 ghost use Rattle.cmc_rules.specs.Legality.{IsOfKind};
 ghost use Rattle.cmc_model.specs.Writes as spec;
 
-use crate::standings::{at_kind, put_at_kind};
+use crate::role_states::{at_kind, put_at_kind};
 use cmc_meta::{Key, Kind};
 use cmc_model::Write;
 use cmc_objects::Positions;

@@ -34,7 +34,7 @@ use Rattle.cmc_world.specs.Rest.{EachKind}
 use Rattle.cmc_world.proofs.Elsewhere.{told_free, idle_rests}
 use Rattle.cmc_world.proofs.Newest.{IsToldOfAll, views_newest}
 use Rattle.cmc_world.proofs.AtRest.{key_eq-refl, same_key}
-use Rattle.cmc_world.proofs.Standings.{same_role}
+use Rattle.cmc_world.proofs.RoleStates.{same_role}
 use Rattle.cmc_plain.specs.declared.begins.Beginning.{Beginning}
 use Rattle.cmc_plain.specs.declared.known.Known.{Known}
 use Rattle.cmc_plain.specs.Plain.{HasNoDelivery}

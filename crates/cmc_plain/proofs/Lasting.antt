@@ -34,7 +34,7 @@ use Rattle.cmc_moves.specs.declared.moves.Move.TheVariants as moves
 use Rattle.cmc_moves.specs.declared.moves.Stepped.{Stepped}
 use Rattle.cmc_moves.specs.declared.moves.Stepped.TheVariants as answers
 use Rattle.cmc_world.specs.Kept.{Seen, setting_of, on}
-use Rattle.cmc_world.proofs.Standings.{same_role}
+use Rattle.cmc_world.proofs.RoleStates.{same_role}
 use Rattle.cmc_plain.specs.Ready.{SeesSame}
 
 -- ---- one entry

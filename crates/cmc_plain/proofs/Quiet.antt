@@ -36,7 +36,7 @@ use Rattle.cmc_moves.specs.declared.moves.Stepped.{Stepped}
 use Rattle.cmc_world.specs.Kept.{Seen, setting_of}
 use Rattle.cmc_world.proofs.AtRest.{same_key}
 use Rattle.cmc_moves.proofs.Sounds.{any_desk}
-use Rattle.cmc_world.proofs.Standings.{same_role}
+use Rattle.cmc_world.proofs.RoleStates.{same_role}
 use Rattle.cmc_moves.specs.Quiet.{IsQuiet, seen_last}
 use Rattle.cmc_plain.specs.Ready.{is_ready, Keeps, KeepsIf, HasKnown, Covers, Idles, IsIdleOn, IsOfEach, WakesAll, Wakes}
 use Rattle.cmc_plain.proofs.Lasting.{Anew, Claim, HoldsOn, IsLasting, LeavesAlone, LeavesKeys, Meant, holds_step, moment_alone, views_alone}

@@ -54,7 +54,7 @@ use Rattle.cmc_rules.proofs.Carrying.{over_call, over_ask, over_given, over_begi
 use Rattle.cmc_moves.proofs.Sounds.{any_desk}
 use Rattle.cmc_plain.proofs.ToldKinds.{calls_known}
 use Rattle.cmc_world.proofs.AtRest.{same_key, key_eq-refl}
-use Rattle.cmc_world.proofs.Standings.{same_role}
+use Rattle.cmc_world.proofs.RoleStates.{same_role}
 use Rattle.cmc_plain.proofs.Newer.{last_here, under_low, newest_known, known_more, known_grown, known_is, IsLowReply, low_reply}
 
 -- ---- which kinds roles call on

@@ -14,7 +14,7 @@ use Rattle.cmc_rules.specs.Passes.{open_pass, new_pass, unless_of, stage_after}
 use Rattle.cmc_rules.specs.Origins.{origins, origin_at}
 use Rattle.cmc_rules.specs.Legality.{IsLegal}
 use Rattle.cmc_rules.proofs.Carrying.{over_call, over_ask, over_given, over_begin, over_end, over_stop}
-use Rattle.cmc_world.proofs.Standings.{same_role}
+use Rattle.cmc_world.proofs.RoleStates.{same_role}
 
 -- ---- starts of stopped roles
 

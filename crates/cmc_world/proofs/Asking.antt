@@ -30,7 +30,7 @@ use Rattle.cmc_rules.specs.Following.{owed, FollowsEntry, Follows}
 use Rattle.cmc_caches.specs.Told.{caches_at}
 use Rattle.cmc_safety.proofs.MayAct.{asked_short}
 use Rattle.cmc_moves.specs.Answers.{kept_at, kept_of, value_entry}
-use Rattle.cmc_world.specs.Kept.{standing, Holdings, IsKept}
+use Rattle.cmc_world.specs.Kept.{role_state, Holdings, IsKept}
 
 -- ---- a question
 
@@ -50,7 +50,7 @@ kept_asked s h w n order opened keys answers k is may room staged keyed answered
     log = k.held.log;
     moment = k.held.moment;
     made = k.held.made;
-    standing = k.held.standing;
+    role_state = k.held.role_state;
     caches = k.held.caches;
     origins = k.held.origins;
     opened = λ m. staged m ∙ ap (λ (o : Option OpenPass). if m == n then option_map (with_stage (Asked order)) o else o) (k.held.opened m);
@@ -79,7 +79,7 @@ pub record IsSilent (s : Setting) (h : List Entry) (n : ℕ) (value : Value) (e 
   pub log : writes s (e ∷ h) ≡ writes s h
   pub moment : moment s (e ∷ h) ≡ moment s h
   pub made : scripted (e ∷ h) ≡ scripted h
-  pub standing : (role : Role) → standing s (e ∷ h) role ≡ standing s h role
+  pub role_state : (role : Role) → role_state s (e ∷ h) role ≡ role_state s h role
   pub positions : (role : Role) → positions (e ∷ h) role ≡ positions h role
   pub origins : origins s (e ∷ h) ≡ origins s h
   pub opened : (m : ℕ) → open_pass s (e ∷ h) m ≡ given m n value (open_pass s h m)
@@ -87,10 +87,10 @@ pub record IsSilent (s : Setting) (h : List Entry) (n : ℕ) (value : Value) (e 
   pub asked : (counts : Order → Bool) → asked counts (e ∷ h) ≡ asked counts h
 
 pub silent : (s : Setting) (h : List Entry) (n : ℕ) (value : Value) → IsSilent s h n value (value_entry n value)
-silent s h n (Made key) = record { legal = λ x. x; caused = λ x. x; follows = λ x. x; settled = refl; state = refl; log = refl; moment = refl; made = refl; standing = λ r. refl; positions = λ r. refl; origins = refl; opened = λ m. refl; past = λ r q. refl; asked = λ f. refl }
-silent s h n (Signed signature) = record { legal = λ x. x; caused = λ x. x; follows = λ x. x; settled = refl; state = refl; log = refl; moment = refl; made = refl; standing = λ r. refl; positions = λ r. refl; origins = refl; opened = λ m. refl; past = λ r q. refl; asked = λ f. refl }
-silent s h n (Answered answer) = record { legal = λ x. x; caused = λ x. x; follows = λ x. x; settled = refl; state = refl; log = refl; moment = refl; made = refl; standing = λ r. refl; positions = λ r. refl; origins = refl; opened = λ m. refl; past = λ r q. refl; asked = λ f. refl }
-silent s h n (Judged approved) = record { legal = λ x. x; caused = λ x. x; follows = λ x. x; settled = refl; state = refl; log = refl; moment = refl; made = refl; standing = λ r. refl; positions = λ r. refl; origins = refl; opened = λ m. refl; past = λ r q. refl; asked = λ f. refl }
+silent s h n (Made key) = record { legal = λ x. x; caused = λ x. x; follows = λ x. x; settled = refl; state = refl; log = refl; moment = refl; made = refl; role_state = λ r. refl; positions = λ r. refl; origins = refl; opened = λ m. refl; past = λ r q. refl; asked = λ f. refl }
+silent s h n (Signed signature) = record { legal = λ x. x; caused = λ x. x; follows = λ x. x; settled = refl; state = refl; log = refl; moment = refl; made = refl; role_state = λ r. refl; positions = λ r. refl; origins = refl; opened = λ m. refl; past = λ r q. refl; asked = λ f. refl }
+silent s h n (Answered answer) = record { legal = λ x. x; caused = λ x. x; follows = λ x. x; settled = refl; state = refl; log = refl; moment = refl; made = refl; role_state = λ r. refl; positions = λ r. refl; origins = refl; opened = λ m. refl; past = λ r q. refl; asked = λ f. refl }
+silent s h n (Judged approved) = record { legal = λ x. x; caused = λ x. x; follows = λ x. x; settled = refl; state = refl; log = refl; moment = refl; made = refl; role_state = λ r. refl; positions = λ r. refl; origins = refl; opened = λ m. refl; past = λ r q. refl; asked = λ f. refl }
 
 kept_silent : (s : Setting) (h : List Entry) (w : Holdings) (n : ℕ) (value : Value) (e : Entry) (opened : ℕ → Option OpenPass)
     → IsKept s h w → IsSilent s h n value e → IsOpen (open_pass s h n) → MayGive (open_pass s h n) value → length h < s.events
@@ -105,7 +105,7 @@ kept_silent s h w n value e opened k q is may room staged = record {
     log = k.held.log ∙ sym q.log;
     moment = k.held.moment ∙ sym q.moment;
     made = k.held.made ∙ sym q.made;
-    standing = λ r. k.held.standing r ∙ sym (q.standing r);
+    role_state = λ r. k.held.role_state r ∙ sym (q.role_state r);
     caches = λ r. k.held.caches r ∙ ap (λ (ws : List Write). caches_at ws (positions h r)) (sym q.log) ∙ ap (λ (at : Positions). caches_at (writes s (e ∷ h)) at) (sym (q.positions r));
     origins = k.held.origins ∙ sym q.origins;
     opened = λ m. staged m ∙ ap (given m n value) (k.held.opened m) ∙ sym (q.opened m);

@@ -20,7 +20,7 @@ use Rattle.cmc_rules.specs.Passes.{new_pass}
 use Rattle.cmc_rules.specs.Memory.{past, with_begin}
 use Rattle.cmc_rules.specs.Legality.{IsBegin}
 use Rattle.cmc_rules.proofs.Positions.{begun_short}
-use Rattle.cmc_held.specs.declared.standings.Standing.{Standing}
+use Rattle.cmc_held.specs.declared.role_states.RoleState.{RoleState}
 use Rattle.cmc_held.specs.Dues.{shown_positions}
 use Rattle.cmc_world.specs.declared.begin.Prepared.{Prepared}
 use Rattle.cmc_moves.specs.declared.moves.Stepped.TheVariants.{Done}
@@ -40,14 +40,14 @@ number_fits s h w n k short e =
     let low : begun s h ≤ length h = begun_short s h in
     omega (arith, same, low, short)
 
-pub prepared : (s : Setting) (h : List Entry) (w : Holdings) (role : Role) (key : Key) (t : Standing) (at : Positions) (seen : Views) (pass : OpenPass) (since : ℤ) (count : ℕ)
-    → IsKept s h w → t ≡ w.standing role → at ≡ shown_positions role t.told → seen ≡ views s h role key
+pub prepared : (s : Setting) (h : List Entry) (w : Holdings) (role : Role) (key : Key) (t : RoleState) (at : Positions) (seen : Views) (pass : OpenPass) (since : ℤ) (count : ℕ)
+    → IsKept s h w → t ≡ w.role_state role → at ≡ shown_positions role t.told → seen ≡ views s h role key
     → since ≡ w.moment → pass ≡ new_pass role key seen since → count ≡ length w.origins
     → IsPrepared s h role key (record { number = count + 1; origin = record { role = role; incarnation = t.incarnation }; pass = pass; seen = seen; key = key; at = at })
 prepared s h w role key t at seen pass since count k stood shown seen_is m p o =
     record {
       number = ap (λ (x : ℕ). x + 1) (counted s h w count k o);
-      origin = ap (λ (x : Standing). let y : Origin = record { role = role; incarnation = x.incarnation } in y) (stood ∙ k.held.standing role);
+      origin = ap (λ (x : RoleState). let y : Origin = record { role = role; incarnation = x.incarnation } in y) (stood ∙ k.held.role_state role);
       pass = p ∙ ap (λ (x : Views). new_pass role key x since) seen_is ∙ ap (λ (x : ℤ). new_pass role key (views s h role key) x) (m ∙ k.held.moment);
       seen = seen_is;
       key = refl;

@@ -22,12 +22,12 @@ use Rattle.cmc_rules.specs.Viewing.{Caches}
 use Rattle.cmc_rules.specs.Legality.{IsLegal}
 use Rattle.cmc_rules.proofs.Positions.{positions_low}
 use Rattle.cmc_held.specs.Dues.{shown_positions}
-use Rattle.cmc_held.specs.declared.standings.Standing.{Standing}
+use Rattle.cmc_held.specs.declared.role_states.RoleState.{RoleState}
 use Rattle.cmc_caches.specs.Told.{cached, caches_at, with_cached}
 use Rattle.cmc_world.specs.Changes.{each_at}
 use Rattle.cmc_world.specs.Kept.{Holdings, IsHeld, IsKept}
 use Rattle.cmc_world.proofs.Judging.{told_is}
-use Rattle.cmc_world.proofs.Standings.{same_role}
+use Rattle.cmc_world.proofs.RoleStates.{same_role}
 
 -- ---- a call moves no cache
 
@@ -131,12 +131,12 @@ cached_at ws h role kinds.CertificateRequest is = ap (λ (b : Bool). left kinds.
 cached_at ws h role kinds.Secret is = ap (λ (b : Bool). left kinds.Secret (if b then position h role kinds.Secret else 0) ws) is
 
 -- its position is so
-pub told_from : (s : Setting) (h : List Entry) (w : Holdings) (role : Role) (kind : Kind) (t : Standing) (from : ℕ) → IsKept s h w → t ≡ w.standing role → from ≡ position_of kind t.told → from ≡ position h role kind
-told_from s h w role kind t from k stands at = at ∙ ap (λ (x : Standing). position_of kind x.told) stands ∙ told_is s h w role kind k
+pub told_from : (s : Setting) (h : List Entry) (w : Holdings) (role : Role) (kind : Kind) (t : RoleState) (from : ℕ) → IsKept s h w → t ≡ w.role_state role → from ≡ position_of kind t.told → from ≡ position h role kind
+told_from s h w role kind t from k stands at = at ∙ ap (λ (x : RoleState). position_of kind x.told) stands ∙ told_is s h w role kind k
 
 -- the role has what its position says
-pub has_told : (s : Setting) (h : List Entry) (w : Holdings) (role : Role) (kind : Kind) (t : Standing) (from : ℕ) (items : List Write) → IsKept s h w → has_informer role kind ≡ true
-    → t ≡ w.standing role → from ≡ position_of kind t.told → reverse items ≡ w.log → cached kind (w.caches role) ≡ left kind from (reverse items)
+pub has_told : (s : Setting) (h : List Entry) (w : Holdings) (role : Role) (kind : Kind) (t : RoleState) (from : ℕ) (items : List Write) → IsKept s h w → has_informer role kind ≡ true
+    → t ≡ w.role_state role → from ≡ position_of kind t.told → reverse items ≡ w.log → cached kind (w.caches role) ≡ left kind from (reverse items)
 has_told s h w role kind t from items k is stands at back =
     ap (cached kind) (k.held.caches role) ∙ cached_at (writes s h) h role kind is
     ∙ ap (λ (p : ℕ). left kind p (writes s h)) (sym (told_from s h w role kind t from k stands at))

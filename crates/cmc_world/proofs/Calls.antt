@@ -28,12 +28,12 @@ use Rattle.cmc_rules.specs.Causes.{MayCall, MayEnd}
 use Rattle.cmc_rules.specs.Following.{written}
 use Rattle.cmc_model.proofs.Writes.{writes_count}
 use Rattle.cmc_rules.proofs.Positions.{calls_short, accepted_short}
-use Rattle.cmc_held.specs.declared.standings.Standing.{Standing}
+use Rattle.cmc_held.specs.declared.role_states.RoleState.{RoleState}
 use Rattle.cmc_world.specs.declared.advance.Calling.{Calling}
 use Rattle.cmc_world.specs.declared.advance.Closing.{Closing}
 use Rattle.cmc_world.specs.Going.{IsCalling, IsClosing}
 use Rattle.cmc_world.specs.Noting.{logged, counted, noted, CanCount}
-use Rattle.cmc_world.specs.Kept.{standing, Holdings, IsKept}
+use Rattle.cmc_world.specs.Kept.{role_state, Holdings, IsKept}
 use Rattle.cmc_world.proofs.Counts.{logged_called, counted_called, noted_called, written_short}
 use Rattle.cmc_world.proofs.Events.{kept_called, kept_ended}
 
@@ -44,14 +44,14 @@ calls_fit s h w k short =
     let calls : w.state.calls ≤ length h = subst (λ (st : State). st.calls ≤ length h) (sym k.held.state) (calls_short s h) in
     omega (arith, calls, short)
 
-written_is : (s : Setting) (h : List Entry) (role : Role) (kind : Kind) → position_of kind (standing s h role).written ≡ written s h role kind
+written_is : (s : Setting) (h : List Entry) (role : Role) (kind : Kind) → position_of kind (role_state s h role).written ≡ written s h role kind
 written_is s h role kinds.Certificate = refl
 written_is s h role other = refl
 
-pub counts_fit : (s : Setting) (h : List Entry) (w : Holdings) (role : Role) → IsKept s h w → length h ≤ 250000 → CanCount (w.standing role)
+pub counts_fit : (s : Setting) (h : List Entry) (w : Holdings) (role : Role) → IsKept s h w → length h ≤ 250000 → CanCount (w.role_state role)
 counts_fit s h w role k short = λ kind.
     let low : written s h role kind ≤ length h = written_short s h role kind in
-    let same : position_of kind (w.standing role).written ≡ written s h role kind = ap (λ (t : Standing). position_of kind t.written) (k.held.standing role) ∙ written_is s h role kind in
+    let same : position_of kind (w.role_state role).written ≡ written s h role kind = ap (λ (t : RoleState). position_of kind t.written) (k.held.role_state role) ∙ written_is s h role kind in
     rw same (omega (arith, low, short))
 
 pub log_fits : (s : Setting) (h : List Entry) (w : Holdings) (n : ℕ) → IsKept s h w → length h ≤ 250000 → n ≡ length w.log → n ≤ 250000
@@ -74,14 +74,14 @@ own_stage true m n p stage o is there = let same : m ≡ n = grind (arith, nat_t
 own_stage false m n p stage o is there = refl
 
 pub kept_call : (s : Setting) (h : List Entry) (w : Holdings) (n : ℕ) (call : Call) (c : Calling) (reply : Reply) (key : Option Key) (object : Option Object) (stage : Stage) (now : ℤ) (version entry : ℕ)
-    (fs : List ℕ) (st : State) (log : List Write) (t : Role → Standing) (opened : ℕ → Option OpenPass) (pasts : Role → Key → Past)
+    (fs : List ℕ) (st : State) (log : List Write) (t : Role → RoleState) (opened : ℕ → Option OpenPass) (pasts : Role → Key → Past)
     → IsKept s h w → IsCalling s h n call c → MayCall s h (open_pass s h n) call → length h < s.events → now ≡ w.moment
     → IsReply w.faults w.state call reply → fs ≡ w.faults → st ≡ state_after now w.state call reply → key ≡ key_written call reply → object ≡ object_written now w.state call reply
     → entry ≡ length h + 1 → ((p : OpenPass) → w.opened n ≡ Some p → stage ≡ stage_by p.seen.certificate c.stand_in p.stage entry c.named.kind (last_under c.named w.log) reply) → version ≡ length w.log + 1 → log ≡ logged key object w.log
-    → ((r : Role) → t r ≡ counted (option_map (λ (k : Key). k.kind) key) (role_eq c.role r) (w.standing c.role) (w.standing r))
+    → ((r : Role) → t r ≡ counted (option_map (λ (k : Key). k.kind) key) (role_eq c.role r) (w.role_state c.role) (w.role_state r))
     → ((m : ℕ) → opened m ≡ (if m == n then option_map (with_stage stage) (w.opened m) else w.opened m))
     → ((r : Role) (k : Key) → pasts r k ≡ noted (option_map (λ (q : Key). q.kind) key) version (role_eq c.role r && key_eq c.key k) (w.past r k))
-    → IsKept s (Called (Pass n) call reply ∷ h) (record w { faults = fs; state = st; log = log; standing = t; opened = opened; past = pasts })
+    → IsKept s (Called (Pass n) call reply ∷ h) (record w { faults = fs; state = st; log = log; role_state = t; opened = opened; past = pasts })
 kept_call s h w n call c reply key object stage now version entry fs st log t opened pasts k is may room at right f after named stored e staged v logged_is counted_is opened_is noted_is =
     let now_is : now ≡ moment s h = at ∙ k.held.moment in
     let version_is : version ≡ accepted s h + 1 = v ∙ ap (λ (ws : List Write). length ws + 1) k.held.log ∙ ap (λ (m : ℕ). m + 1) (writes_count s h) in
@@ -97,13 +97,13 @@ kept_call s h w n call c reply key object stage now version entry fs st log t op
     ∙ ap (λ (x : ℤ). logged (key_written call reply) (object_written x w.state call reply) w.log) now_is
     ∙ ap (λ (x : State). logged (key_written call reply) (object_written (moment s h) x call reply) w.log) k.held.state
     ∙ logged_called (moment s h) (state s h) call reply w.log in
-    subst (λ (x : List ℕ). IsKept s (Called (Pass n) call reply ∷ h) (record w { faults = x; state = st; log = log; standing = t; opened = opened; past = pasts })) (sym f)
+    subst (λ (x : List ℕ). IsKept s (Called (Pass n) call reply ∷ h) (record w { faults = x; state = st; log = log; role_state = t; opened = opened; past = pasts })) (sym f)
     (kept_called s h w n is.pass call reply st log t opened pasts k is.opened right_is (subst (λ (o : Option OpenPass). MayCall s h o call) is.opened may) room after_is log_is
     (λ r.
     counted_is r
-    ∙ ap (λ (x : Option Key). counted (option_map (λ (q : Key). q.kind) x) (role_eq c.role r) (w.standing c.role) (w.standing r)) named
-    ∙ ap (λ (x : Role). counted (option_map (λ (q : Key). q.kind) (key_written call reply)) (role_eq x r) (w.standing x) (w.standing r)) is.role
-    ∙ counted_called call reply (role_eq is.pass.role r) (w.standing is.pass.role) (w.standing r))
+    ∙ ap (λ (x : Option Key). counted (option_map (λ (q : Key). q.kind) x) (role_eq c.role r) (w.role_state c.role) (w.role_state r)) named
+    ∙ ap (λ (x : Role). counted (option_map (λ (q : Key). q.kind) (key_written call reply)) (role_eq x r) (w.role_state x) (w.role_state r)) is.role
+    ∙ counted_called call reply (role_eq is.pass.role r) (w.role_state is.pass.role) (w.role_state r))
     (λ m.
     opened_is m ∙ ap (λ (x : Stage). if m == n then option_map (with_stage x) (w.opened m) else w.opened m) stage_is
     ∙ own_stage (m == n) m n is.pass (stage_after s h call reply) (w.opened m) refl (λ same. ap w.opened same ∙ k.held.opened n ∙ is.opened))

@@ -30,28 +30,28 @@ use Rattle.cmc_rules.specs.Legality.{IsDelivery, IsListing, IsBegin, IsOpen, IsL
 use Rattle.cmc_rules.specs.Causes.{MayCall, MayEnd, IsCaused}
 use Rattle.cmc_rules.specs.Scripting.{scripted, step_at, held}
 use Rattle.cmc_rules.specs.Following.{owed, IsNextStep, Follows}
-use Rattle.cmc_held.specs.declared.standings.Standing.{Standing}
-use Rattle.cmc_world.specs.Kept.{standing, Holdings, IsHeld, IsKept}
+use Rattle.cmc_held.specs.declared.role_states.RoleState.{RoleState}
+use Rattle.cmc_world.specs.Kept.{role_state, Holdings, IsHeld, IsKept}
 use Rattle.cmc_world.specs.Changes.{telling, stopping, starting, writing, scripted_standing}
 use Rattle.cmc_held.specs.Dues.{shown_positions}
 use Rattle.cmc_rules.specs.Viewing.{Caches}
 use Rattle.cmc_caches.specs.Told.{caches_at}
 use Rattle.cmc_world.specs.Changes.{each_at}
 use Rattle.cmc_world.proofs.Caching.{IsTelling, caches_called, caches_delivered, caches_listed, caches_started}
-use Rattle.cmc_world.proofs.Standings.{standing_delivered, standing_listed, standing_stopped, standing_started, standing_scripted, standing_called}
+use Rattle.cmc_world.proofs.RoleStates.{standing_delivered, standing_listed, standing_stopped, standing_started, standing_scripted, standing_called}
 
 -- ---- roles are told
 
-one_other : (s : Setting) (h : List Entry) (w : Holdings) (f : Standing → Standing) (role r : Role) → IsHeld s h w
-    → (if role_eq role r then f (w.standing role) else w.standing r) ≡ (if role_eq role r then f (standing s h role) else standing s h r)
+one_other : (s : Setting) (h : List Entry) (w : Holdings) (f : RoleState → RoleState) (role r : Role) → IsHeld s h w
+    → (if role_eq role r then f (w.role_state role) else w.role_state r) ≡ (if role_eq role r then f (role_state s h role) else role_state s h r)
 one_other s h w f role r k =
-    ap (λ (t : Standing). if role_eq role r then f t else w.standing r) (k.standing role) ∙ ap (λ (t : Standing). if role_eq role r then f (standing s h role) else t) (k.standing r)
+    ap (λ (t : RoleState). if role_eq role r then f t else w.role_state r) (k.role_state role) ∙ ap (λ (t : RoleState). if role_eq role r then f (role_state s h role) else t) (k.role_state r)
 
-pub kept_delivered : (s : Setting) (h : List Entry) (w : Holdings) (role : Role) (kind : Kind) (to : ℕ) (t : Role → Standing) (c : Role → Caches)
+pub kept_delivered : (s : Setting) (h : List Entry) (w : Holdings) (role : Role) (kind : Kind) (to : ℕ) (t : Role → RoleState) (c : Role → Caches)
     → IsKept s h w → IsDelivery s h role kind to → held s h role kind ≡ false → length h < s.events
-    → ((r : Role) → t r ≡ (if role_eq role r then telling kind to (w.standing role) else w.standing r))
+    → ((r : Role) → t r ≡ (if role_eq role r then telling kind to (w.role_state role) else w.role_state r))
     → IsTelling w role kind to c
-    → IsKept s (Deliver role kind to ∷ h) (record w { standing = t; caches = c })
+    → IsKept s (Deliver role kind to ∷ h) (record w { role_state = t; caches = c })
 unfolding IsLegal IsCaused Follows
 kept_delivered s h w role kind to t c k may free room put told = record {
   held = record {
@@ -64,7 +64,7 @@ kept_delivered s h w role kind to t c k may free room put told = record {
     log = k.held.log;
     moment = k.held.moment;
     made = k.held.made;
-    standing = λ r. put r ∙ one_other s h w (telling kind to) role r k.held ∙ standing_delivered s h role kind to r;
+    role_state = λ r. put r ∙ one_other s h w (telling kind to) role r k.held ∙ standing_delivered s h role kind to r;
     caches = caches_delivered s h w role kind to c k.held may.informed told;
     origins = k.held.origins;
     opened = k.held.opened;
@@ -79,11 +79,11 @@ kept_delivered s h w role kind to t c k may free room put told = record {
   settled = refl;
 }
 
-pub kept_listed : (s : Setting) (h : List Entry) (w : Holdings) (role : Role) (kind : Kind) (to : ℕ) (t : Role → Standing) (c : Role → Caches)
+pub kept_listed : (s : Setting) (h : List Entry) (w : Holdings) (role : Role) (kind : Kind) (to : ℕ) (t : Role → RoleState) (c : Role → Caches)
     → IsKept s h w → IsListing s h role kind to → held s h role kind ≡ false → length h < s.events
-    → ((r : Role) → t r ≡ (if role_eq role r then telling kind to (w.standing role) else w.standing r))
+    → ((r : Role) → t r ≡ (if role_eq role r then telling kind to (w.role_state role) else w.role_state r))
     → IsTelling w role kind to c
-    → IsKept s (Listed role kind to ∷ h) (record w { standing = t; caches = c })
+    → IsKept s (Listed role kind to ∷ h) (record w { role_state = t; caches = c })
 unfolding IsLegal IsCaused Follows
 kept_listed s h w role kind to t c k may free room put told = record {
   held = record {
@@ -96,7 +96,7 @@ kept_listed s h w role kind to t c k may free room put told = record {
     log = k.held.log;
     moment = k.held.moment;
     made = k.held.made;
-    standing = λ r. put r ∙ one_other s h w (telling kind to) role r k.held ∙ standing_listed s h role kind to r;
+    role_state = λ r. put r ∙ one_other s h w (telling kind to) role r k.held ∙ standing_listed s h role kind to r;
     caches = caches_listed s h w role kind to c k.held may.informed told;
     origins = k.held.origins;
     opened = k.held.opened;
@@ -136,7 +136,7 @@ kept_begun s h w role key os opened pasts k may due room came put noted = record
     log = k.held.log;
     moment = k.held.moment;
     made = k.held.made;
-    standing = k.held.standing;
+    role_state = k.held.role_state;
     caches = k.held.caches;
     origins = came ∙ ap (λ (l : List Origin). let o : Origin = record { role = role; incarnation = incarnation s h role } in o ∷ l) k.held.origins;
     opened = λ n. put n ∙ ap (λ (p : Option OpenPass). if n == begun s h + 1 then Some (new_pass role key (views s h role key) (moment s h)) else p) (k.held.opened n);
@@ -156,14 +156,14 @@ past_of_call : (s : Setting) (h : List Entry) (n : ℕ) (p : OpenPass) (kind : K
     ≡ past_called s h r key (past s h r key) (Pass n) kind b
 past_of_call s h n p kind b r key is = ap (λ (o : Option OpenPass). if b && is_pass_of r key o then with_own kind (accepted s h + 1) (past s h r key) else past s h r key) (sym is)
 
-pub kept_called : (s : Setting) (h : List Entry) (w : Holdings) (n : ℕ) (p : OpenPass) (call : Call) (reply : Reply) (st : State) (log : List Write) (t : Role → Standing) (opened : ℕ → Option OpenPass) (pasts : Role → Key → Past)
+pub kept_called : (s : Setting) (h : List Entry) (w : Holdings) (n : ℕ) (p : OpenPass) (call : Call) (reply : Reply) (st : State) (log : List Write) (t : Role → RoleState) (opened : ℕ → Option OpenPass) (pasts : Role → Key → Past)
     → IsKept s h w → open_pass s h n ≡ Some p → IsReply s.faults (state s h) call reply → MayCall s h (Some p) call → length h < s.events
     → st ≡ state_after (moment s h) (state s h) call reply
     → log ≡ (if is_accepted reply then write_of (moment s h) (state s h) (settled call reply) ∷ w.log else w.log)
-    → ((r : Role) → t r ≡ (if is_accepted reply && role_eq p.role r then writing (key_of_call call).kind (w.standing p.role) else w.standing r))
+    → ((r : Role) → t r ≡ (if is_accepted reply && role_eq p.role r then writing (key_of_call call).kind (w.role_state p.role) else w.role_state r))
     → ((m : ℕ) → opened m ≡ (if m == n then option_map (λ (q : OpenPass). with_stage (stage_after s h call reply q) q) (w.opened m) else w.opened m))
     → ((r : Role) (k : Key) → pasts r k ≡ (if is_accepted reply && (role_eq p.role r && key_eq p.key k) then with_own (key_of_call call).kind (accepted s h + 1) (w.past r k) else w.past r k))
-    → IsKept s (Called (Pass n) call reply ∷ h) (record w { state = st; log = log; standing = t; opened = opened; past = pasts })
+    → IsKept s (Called (Pass n) call reply ∷ h) (record w { state = st; log = log; role_state = t; opened = opened; past = pasts })
 unfolding IsLegal IsCaused Follows
 kept_called s h w n p call reply st log t opened pasts k is right may room after logged counted staged noted = record {
   held = record {
@@ -176,10 +176,10 @@ kept_called s h w n p call reply st log t opened pasts k is right may room after
     log = logged ∙ ap (λ (l : List Write). if is_accepted reply then write_of (moment s h) (state s h) (settled call reply) ∷ l else l) k.held.log;
     moment = k.held.moment;
     made = k.held.made;
-    standing = λ r.
+    role_state = λ r.
         counted r
-        ∙ ap (λ (x : Standing). if is_accepted reply && role_eq p.role r then writing (key_of_call call).kind x else w.standing r) (k.held.standing p.role)
-        ∙ ap (λ (x : Standing). if is_accepted reply && role_eq p.role r then writing (key_of_call call).kind (standing s h p.role) else x) (k.held.standing r)
+        ∙ ap (λ (x : RoleState). if is_accepted reply && role_eq p.role r then writing (key_of_call call).kind x else w.role_state r) (k.held.role_state p.role)
+        ∙ ap (λ (x : RoleState). if is_accepted reply && role_eq p.role r then writing (key_of_call call).kind (role_state s h p.role) else x) (k.held.role_state r)
         ∙ standing_called s h n p call reply r is;
     caches = λ r. k.held.caches r ∙ caches_called s h (Pass n) call reply r k.held.run.legal;
     origins = k.held.origins;
@@ -220,7 +220,7 @@ kept_ended s h w n p cause opened pasts k is may room closed noted = record {
     log = k.held.log;
     moment = k.held.moment;
     made = k.held.made;
-    standing = k.held.standing;
+    role_state = k.held.role_state;
     caches = k.held.caches;
     origins = k.held.origins;
     opened = λ m. closed m ∙ ap (λ (o : Option OpenPass). if m == n then None else o) (k.held.opened m);
@@ -238,10 +238,10 @@ kept_ended s h w n p cause opened pasts k is may room closed noted = record {
 -- ---- steps of the script
 
 -- the entry of a step: what it has happen may still be owed
-pub held_scripted : (s : Setting) (h : List Entry) (w : Holdings) (step : Step) (made : ℕ) (t : Role → Standing)
+pub held_scripted : (s : Setting) (h : List Entry) (w : Holdings) (step : Step) (made : ℕ) (t : Role → RoleState)
     → IsKept s h w → IsNextStep s h (scripted h + 1) → step_at s.script (scripted h + 1) ≡ Some step → length h < s.events
-    → made ≡ w.made + 1 → ((r : Role) → t r ≡ scripted_standing step r (w.standing r))
-    → IsHeld s (Script (scripted h + 1) ∷ h) (record w { made = made; standing = t })
+    → made ≡ w.made + 1 → ((r : Role) → t r ≡ scripted_standing step r (w.role_state r))
+    → IsHeld s (Script (scripted h + 1) ∷ h) (record w { made = made; role_state = t })
 unfolding IsLegal IsCaused Follows
 held_scripted s h w step made t k next is room counted put = record {
   faults = k.held.faults;
@@ -253,7 +253,7 @@ held_scripted s h w step made t k next is room counted put = record {
   log = k.held.log;
   moment = k.held.moment;
   made = counted ∙ ap (λ n. n + 1) k.held.made;
-  standing = λ r. put r ∙ ap (scripted_standing step r) (k.held.standing r) ∙ standing_scripted s h (scripted h + 1) step r is;
+  role_state = λ r. put r ∙ ap (scripted_standing step r) (k.held.role_state r) ∙ standing_scripted s h (scripted h + 1) step r is;
   caches = k.held.caches;
   origins = k.held.origins;
   opened = k.held.opened;
@@ -284,7 +284,7 @@ kept_users s h w call reply st log k due right room after logged = record {
     log = logged ∙ ap (λ (l : List Write). if is_accepted reply then write_of (moment s h) (state s h) (settled call reply) ∷ l else l) k.log;
     moment = k.moment;
     made = k.made;
-    standing = λ r. k.standing r ∙ uncounted (is_accepted reply) s h r;
+    role_state = λ r. k.role_state r ∙ uncounted (is_accepted reply) s h r;
     caches = λ r. k.caches r ∙ caches_called s h User call reply r k.run.legal;
     origins = k.origins;
     opened = k.opened;
@@ -299,12 +299,12 @@ kept_users s h w call reply st log k due right room after logged = record {
   settled = refl;
 } where
   uncounted : (b : Bool) (s : Setting) (h : List Entry) (r : Role)
-      → standing s h r
-      ≡ record (standing s h r) {
+      → role_state s h r
+      ≡ record (role_state s h r) {
         written = record {
-          certificates = if b && false then (standing s h r).written.certificates + 1 else (standing s h r).written.certificates;
-          requests = if b && false then (standing s h r).written.requests + 1 else (standing s h r).written.requests;
-          secrets = if b && false then (standing s h r).written.secrets + 1 else (standing s h r).written.secrets;
+          certificates = if b && false then (role_state s h r).written.certificates + 1 else (role_state s h r).written.certificates;
+          requests = if b && false then (role_state s h r).written.requests + 1 else (role_state s h r).written.requests;
+          secrets = if b && false then (role_state s h r).written.secrets + 1 else (role_state s h r).written.secrets;
         };
       }
   uncounted true s h r = refl
@@ -325,7 +325,7 @@ kept_ticked s h w now k due room = record {
     log = k.log;
     moment = refl;
     made = k.made;
-    standing = k.standing;
+    role_state = k.role_state;
     caches = k.caches;
     origins = k.origins;
     opened = k.opened;
@@ -336,11 +336,11 @@ kept_ticked s h w now k due room = record {
 }
 
 -- a stop that is owed
-pub kept_stopped : (s : Setting) (h : List Entry) (w : Holdings) (role : Role) (t : Role → Standing) (opened : ℕ → Option OpenPass)
+pub kept_stopped : (s : Setting) (h : List Entry) (w : Holdings) (role : Role) (t : Role → RoleState) (opened : ℕ → Option OpenPass)
     → IsHeld s h w → owed s h ≡ Some (effects.Stop role) → length h < s.events
-    → ((r : Role) → t r ≡ (if role_eq role r then stopping (w.standing role) else w.standing r))
+    → ((r : Role) → t r ≡ (if role_eq role r then stopping (w.role_state role) else w.role_state r))
     → ((n : ℕ) → opened n ≡ unless_of role (w.opened n))
-    → IsKept s (Stop role ∷ h) (record w { standing = t; opened = opened })
+    → IsKept s (Stop role ∷ h) (record w { role_state = t; opened = opened })
 unfolding IsLegal IsCaused Follows
 kept_stopped s h w role t opened k due room put closed = record {
   held = record {
@@ -353,7 +353,7 @@ kept_stopped s h w role t opened k due room put closed = record {
     log = k.log;
     moment = k.moment;
     made = k.made;
-    standing = λ r. put r ∙ one_other s h w stopping role r k ∙ standing_stopped s h role r;
+    role_state = λ r. put r ∙ one_other s h w stopping role r k ∙ standing_stopped s h role r;
     caches = k.caches;
     origins = k.origins;
     opened = λ n. closed n ∙ ap (unless_of role) (k.opened n);
@@ -364,12 +364,12 @@ kept_stopped s h w role t opened k due room put closed = record {
 }
 
 -- a start that is owed
-pub kept_started : (s : Setting) (h : List Entry) (w : Holdings) (role : Role) (at : ℕ) (t : Role → Standing) (c : Role → Caches) (pasts : Role → Key → Past)
+pub kept_started : (s : Setting) (h : List Entry) (w : Holdings) (role : Role) (at : ℕ) (t : Role → RoleState) (c : Role → Caches) (pasts : Role → Key → Past)
     → IsHeld s h w → owed s h ≡ Some (effects.Start role at) → at ≤ accepted s h → length h < s.events
-    → ((r : Role) → t r ≡ (if role_eq role r then starting at (w.standing role) else w.standing r))
+    → ((r : Role) → t r ≡ (if role_eq role r then starting at (w.role_state role) else w.role_state r))
     → ((r : Role) → c r ≡ (if role_eq role r then caches_at w.log (shown_positions role (each_at at)) else w.caches r))
     → ((r : Role) (k : Key) → pasts r k ≡ (if role_eq role r then no_past else w.past r k))
-    → IsKept s (Start role at ∷ h) (record w { standing = t; caches = c; past = pasts })
+    → IsKept s (Start role at ∷ h) (record w { role_state = t; caches = c; past = pasts })
 unfolding IsLegal IsCaused Follows
 kept_started s h w role at t c pasts k due low room put told forgot = record {
   held = record {
@@ -382,7 +382,7 @@ kept_started s h w role at t c pasts k due low room put told forgot = record {
     log = k.log;
     moment = k.moment;
     made = k.made;
-    standing = λ r. put r ∙ one_other s h w (starting at) role r k ∙ standing_started s h role at r;
+    role_state = λ r. put r ∙ one_other s h w (starting at) role r k ∙ standing_started s h role at r;
     caches = caches_started s h w role at c k told;
     origins = k.origins;
     opened = k.opened;

@@ -1,5 +1,5 @@
 pub mod Looked
-pub mod Standings
+pub mod RoleStates
 pub mod Origins
 pub mod AtRest
 pub mod Caching

@@ -28,7 +28,7 @@ use Rattle.cmc_model.proofs.Writes.{writes_count}
 use Rattle.cmc_rules.proofs.Positions.{calls_short}
 use Rattle.cmc_setup.specs.Setups.{Setup, IsSetup}
 use Rattle.cmc_store.specs.Kept.{Kept}
-use Rattle.cmc_held.specs.declared.standings.Standing.{Standing}
+use Rattle.cmc_held.specs.declared.role_states.RoleState.{RoleState}
 use Rattle.cmc_moves.specs.declared.moves.Stepped.TheVariants.{Done}
 use Rattle.cmc_moves.specs.Answers.{AnswersScript, entries_of, next_effect}
 use Rattle.cmc_held.specs.Dues.{shown_positions}
@@ -49,9 +49,9 @@ pub calls_fit : (u : Setup) (h : List Entry) (w : Holdings) → IsSetup u → Is
 calls_fit u h w setup k = omega (arith, ap (λ (st : State). st.calls) k.held.state, calls_short (setting_of u) h, k.held.run.short, setup.most_events)
 
 -- a role can begin once more
-pub incarnation_fits : (u : Setup) (h : List Entry) (w : Holdings) (role : Role) → IsSetup u → IsKept (setting_of u) h w → (w.standing role).incarnation < 2 ^ 64 - 1
+pub incarnation_fits : (u : Setup) (h : List Entry) (w : Holdings) (role : Role) → IsSetup u → IsKept (setting_of u) h w → (w.role_state role).incarnation < 2 ^ 64 - 1
 incarnation_fits u h w role setup k =
-    omega (arith, ap (λ (t : Standing). t.incarnation) (k.held.standing role), incarnation_short (setting_of u) h role, k.held.run.short, setup.most_events)
+    omega (arith, ap (λ (t : RoleState). t.incarnation) (k.held.role_state role), incarnation_short (setting_of u) h role, k.held.run.short, setup.most_events)
 
 -- ---- what the next step has happen
 
@@ -83,7 +83,7 @@ next_step : (s : Setting) (h : List Entry) → owed s h ≡ None → MayStep s h
 next_step s h settled may = record { settled = settled; numbered = refl; stands = omega (arith, may.left); ready = may.ready }
 
 -- a step that has something happen holds nothing back
-unheld : (s : Setting) (h : List Entry) (step : Step) (effect : Effect) (r : Role) (t : Standing) → effect_of s h step ≡ Some effect → t ≡ scripted_standing step r t
+unheld : (s : Setting) (h : List Entry) (step : Step) (effect : Effect) (r : Role) (t : RoleState) → effect_of s h step ≡ Some effect → t ≡ scripted_standing step r t
 unfolding call_of
 unheld s h (steps.Hold role kind) effect r t has = absurd (cc has)
 unheld s h (steps.Release role kind) effect r t has = absurd (cc has)
@@ -97,7 +97,7 @@ step_made s h w made effect k may due counted =
     let can = may_step s h may in
     let room : length h + 2 ≤ s.events = subst (λ (o : Option Effect). length h + entries_of o ≤ s.events) due can.room in
     let next = next_is s h (step_at s.script (scripted h + 1)) (Some effect) refl can.left due in
-    (held_scripted s h w next.0 made w.standing k (next_step s h k.settled can) next.1.is (omega (arith, room)) counted (λ r. unheld s h next.0 effect r (w.standing r) next.1.has), omega (arith, room))
+    (held_scripted s h w next.0 made w.role_state k (next_step s h k.settled can) next.1.is (omega (arith, room)) counted (λ r. unheld s h next.0 effect r (w.role_state r) next.1.has), omega (arith, room))
 
 -- the step's entry has the next number
 numbered : (s : Setting) (h k : List Entry) (w : Holdings) (made : ℕ) (e : Entry) → IsHeld s h w → made ≡ w.made + 1 → k ≡ e ∷ Script made ∷ h → k ≡ e ∷ Script (scripted h + 1) ∷ h
@@ -106,19 +106,19 @@ numbered s h k w made e held counted grown = grown ∙ ap (λ n. e ∷ Script n 
 -- ---- the world after each kind of step
 
 -- a step that has nothing happen
-pub quiet_kept : (s : Setting) (h k : List Entry) (w : Holdings) (made : ℕ) (script : List Step) (t : Role → Standing)
+pub quiet_kept : (s : Setting) (h k : List Entry) (w : Holdings) (made : ℕ) (script : List Step) (t : Role → RoleState)
     → IsKept s h w → AnswersScript s h Done → next_effect s h ≡ None → made ≡ w.made + 1
-    → script ≡ s.script → ((r : Role) → t r ≡ standing_after (slice_get script w.made) r (w.standing r))
-    → k ≡ Script made ∷ h → IsKept s k (record w { made = made; standing = t })
+    → script ≡ s.script → ((r : Role) → t r ≡ standing_after (slice_get script w.made) r (w.role_state r))
+    → k ≡ Script made ∷ h → IsKept s k (record w { made = made; role_state = t })
 quiet_kept s h k w made script t kept may due counted same put grown =
     let can = may_step s h may in
     let room : length h + 1 ≤ s.events = subst (λ (o : Option Effect). length h + entries_of o ≤ s.events) due can.room in
     let next = next_is s h (step_at s.script (scripted h + 1)) None refl can.left due in
     let place : scripted h ≡ scripted h + 1 - 1 = omega arith in
     let found : slice_get script w.made ≡ Some next.0 = ap (λ l. slice_get l w.made) same ∙ ap (λ n. slice_get s.script n) (kept.held.made ∙ place) ∙ next.1.is in
-    let held = held_scripted s h w next.0 made t kept (next_step s h kept.settled can) next.1.is (omega (arith, room)) counted (λ r. put r ∙ ap (λ o. standing_after o r (w.standing r)) found) in
-    let new : IsKept s (Script (scripted h + 1) ∷ h) (record w { made = made; standing = t }) = record { held = held; settled = due } in
-    subst (λ l. IsKept s l (record w { made = made; standing = t })) (sym (grown ∙ ap (λ n. Script n ∷ h) (counted ∙ ap (λ n. n + 1) kept.held.made))) new
+    let held = held_scripted s h w next.0 made t kept (next_step s h kept.settled can) next.1.is (omega (arith, room)) counted (λ r. put r ∙ ap (λ o. standing_after o r (w.role_state r)) found) in
+    let new : IsKept s (Script (scripted h + 1) ∷ h) (record w { made = made; role_state = t }) = record { held = held; settled = due } in
+    subst (λ l. IsKept s l (record w { made = made; role_state = t })) (sym (grown ∙ ap (λ n. Script n ∷ h) (counted ∙ ap (λ n. n + 1) kept.held.made))) new
 
 -- a tick
 pub tick_kept : (s : Setting) (h k : List Entry) (w : Holdings) (made : ℕ) (at : ℤ)
@@ -130,14 +130,14 @@ tick_kept s h k w made at kept may due counted grown =
     (kept_ticked s (Script (scripted h + 1) ∷ h) (record w { made = made }) at stepped.0 due (omega (arith, stepped.1)))
 
 -- a stop
-pub stop_kept : (s : Setting) (h k : List Entry) (w : Holdings) (made : ℕ) (role : Role) (t : Role → Standing) (opened : ℕ → Option OpenPass)
+pub stop_kept : (s : Setting) (h k : List Entry) (w : Holdings) (made : ℕ) (role : Role) (t : Role → RoleState) (opened : ℕ → Option OpenPass)
     → IsKept s h w → AnswersScript s h Done → next_effect s h ≡ Some (effects.Stop role) → made ≡ w.made + 1
-    → ((r : Role) → t r ≡ (if role_eq role r then stopping (w.standing role) else w.standing r))
+    → ((r : Role) → t r ≡ (if role_eq role r then stopping (w.role_state role) else w.role_state r))
     → ((n : ℕ) → opened n ≡ unless_of role (w.opened n))
-    → k ≡ Stop role ∷ Script made ∷ h → IsKept s k (record w { made = made; standing = t; opened = opened })
+    → k ≡ Stop role ∷ Script made ∷ h → IsKept s k (record w { made = made; role_state = t; opened = opened })
 stop_kept s h k w made role t opened kept may due counted put closed grown =
     let stepped = step_made s h w made (effects.Stop role) kept may due counted in
-    subst (λ l. IsKept s l (record w { made = made; standing = t; opened = opened })) (sym (numbered s h k w made (Stop role) kept.held counted grown))
+    subst (λ l. IsKept s l (record w { made = made; role_state = t; opened = opened })) (sym (numbered s h k w made (Stop role) kept.held counted grown))
     (kept_stopped s (Script (scripted h + 1) ∷ h) (record w { made = made }) role t opened stepped.0 due (omega (arith, stepped.1)) put closed)
 
 -- a call is no start
@@ -168,16 +168,16 @@ start_low s h w role at kept may due =
     omega (arith, low, count)
 
 -- a start
-pub start_kept : (s : Setting) (h k : List Entry) (w : Holdings) (made : ℕ) (role : Role) (at : ℕ) (t : Role → Standing) (c : Role → Caches) (pasts : Role → Key → Past)
+pub start_kept : (s : Setting) (h k : List Entry) (w : Holdings) (made : ℕ) (role : Role) (at : ℕ) (t : Role → RoleState) (c : Role → Caches) (pasts : Role → Key → Past)
     → IsKept s h w → AnswersScript s h Done → next_effect s h ≡ Some (effects.Start role at) → made ≡ w.made + 1
-    → ((r : Role) → t r ≡ (if role_eq role r then starting at (w.standing role) else w.standing r))
+    → ((r : Role) → t r ≡ (if role_eq role r then starting at (w.role_state role) else w.role_state r))
     → ((r : Role) → c r ≡ (if role_eq role r then caches_at w.log (shown_positions role (each_at at)) else w.caches r))
     → ((r : Role) (key : Key) → pasts r key ≡ (if role_eq role r then no_past else w.past r key))
-    → k ≡ Start role at ∷ Script made ∷ h → IsKept s k (record w { made = made; standing = t; caches = c; past = pasts })
+    → k ≡ Start role at ∷ Script made ∷ h → IsKept s k (record w { made = made; role_state = t; caches = c; past = pasts })
 start_kept s h k w made role at t c pasts kept may due counted put told forgot grown =
     let stepped = step_made s h w made (effects.Start role at) kept may due counted in
     let next = next_is s h (step_at s.script (scripted h + 1)) (Some (effects.Start role at)) refl (may_step s h may).left due in
-    subst (λ l. IsKept s l (record w { made = made; standing = t; caches = c; past = pasts })) (sym (numbered s h k w made (Start role at) kept.held counted grown))
+    subst (λ l. IsKept s l (record w { made = made; role_state = t; caches = c; past = pasts })) (sym (numbered s h k w made (Start role at) kept.held counted grown))
     (kept_started s (Script (scripted h + 1) ∷ h) (record w { made = made }) role at t c pasts stepped.0 due (low_start s h next.0 role at next.1.has) (omega (arith, stepped.1)) put told forgot)
 
 logged_kept : (s : Setting) (h : List Entry) (w : Holdings) (call : Call) (reply : Reply) (now : ℤ) (log grown : List Write) (key : Option Key) (object : Option Object)

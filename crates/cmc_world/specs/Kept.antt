@@ -23,7 +23,7 @@ use Rattle.cmc_rules.specs.Runs.{IsRun}
 use Rattle.cmc_rules.specs.Desks.{asked}
 use Rattle.cmc_setup.specs.Setups.{Setup}
 use Rattle.cmc_safety.specs.Formed.{IsFormed}
-use Rattle.cmc_held.specs.declared.standings.Standing.{Standing}
+use Rattle.cmc_held.specs.declared.role_states.RoleState.{RoleState}
 use Rattle.cmc_held.specs.declared.questions.Subject.{Subject}
 use Rattle.cmc_held.specs.Questioned.{asks_key_at, asks_issuer_at}
 use Rattle.cmc_caches.specs.Told.{caches_at}
@@ -52,8 +52,8 @@ abbrev pub on {ℓ} : {A : Type ℓ} → (Setting → List Entry → A) → Seen
 on said world = said (setting_of world.scenario) world.history
 
 -- how the role stands after the history
-abbrev pub standing : Setting → List Entry → Role → Standing
-standing s h role = record {
+abbrev pub role_state : Setting → List Entry → Role → RoleState
+role_state s h role = record {
   running = runs s h role;
   incarnation = incarnation s h role;
   told = record { certificates = position h role kinds.Certificate; requests = position h role kinds.CertificateRequest; secrets = position h role kinds.Secret };
@@ -70,7 +70,7 @@ pub record Holdings : Type 0 where
   pub log : List Write
   pub moment : ℤ
   pub made : ℕ
-  pub standing : Role → Standing
+  pub role_state : Role → RoleState
   pub caches : Role → Caches
   pub origins : List Origin
   pub opened : ℕ → Option OpenPass
@@ -90,7 +90,7 @@ pub record IsHeld (s : Setting) (h : List Entry) (w : Holdings) : Type 0 where
   pub log : w.log ≡ writes s h
   pub moment : w.moment ≡ moment s h
   pub made : w.made ≡ scripted h
-  pub standing : (role : Role) → w.standing role ≡ standing s h role
+  pub role_state : (role : Role) → w.role_state role ≡ role_state s h role
   pub caches : (role : Role) → w.caches role ≡ caches_at (writes s h) (positions h role)
   pub origins : w.origins ≡ origins s h
   pub opened : (n : ℕ) → w.opened n ≡ open_pass s h n

@@ -7,7 +7,7 @@ use Rattle.cmc_model.specs.declared.write.Write.{Write}
 use Rattle.cmc_rules.specs.declared.progress.Past.{Past}
 use Rattle.cmc_rules.specs.Memory.{with_own}
 use Rattle.cmc_rules.specs.Positions.{position_of}
-use Rattle.cmc_held.specs.declared.standings.Standing.{Standing}
+use Rattle.cmc_held.specs.declared.role_states.RoleState.{RoleState}
 use Rattle.cmc_world.specs.Changes.{writing}
 
 -- the log with one more write where a key was written
@@ -16,7 +16,7 @@ logged None object ws = ws
 logged (Some key) object ws = record { key = key; object = object } ∷ ws
 
 -- how a role stands after a write of this kind, if there was one: the writer counts it, and any other stands as it did
-abbrev pub counted : Option Kind → Bool → Standing → Standing → Standing
+abbrev pub counted : Option Kind → Bool → RoleState → RoleState → RoleState
 counted None own writer other = other
 counted (Some kind) own writer other = if own then writing kind writer else other
 
@@ -26,5 +26,5 @@ noted None version own past = past
 noted (Some kind) version own past = if own then with_own kind version past else past
 
 -- one more write of each kind can be counted
-abbrev pub CanCount : Standing → Type 0
+abbrev pub CanCount : RoleState → Type 0
 CanCount t = (kind : Kind) → position_of kind t.written < 2 ^ 64 - 1

@@ -5,7 +5,7 @@ use Rattle.cmc_objects.specs.declared.entry.Step.{Step}
 use Rattle.cmc_rules.specs.declared.effect.Effect.{Effect}
 use Rattle.cmc_model.specs.Objects.{Objects}
 use Rattle.cmc_rules.specs.Following.{effect_on}
-use Rattle.cmc_held.specs.declared.standings.Standing.{Standing}
+use Rattle.cmc_held.specs.declared.role_states.RoleState.{RoleState}
 use Rattle.cmc_world.specs.Changes.{scripted_standing}
 
 -- what the step in this place of the script has happen, if there is one
@@ -13,6 +13,6 @@ abbrev pub effect_in : Objects → ℕ → ℤ → List Step → ℕ → Option 
 effect_in objects accepted moment script place = option_and_then (effect_on objects accepted moment) (slice_get script place)
 
 -- what a step, if there is one, makes of how a role stands
-abbrev pub standing_after : Option Step → Role → Standing → Standing
+abbrev pub standing_after : Option Step → Role → RoleState → RoleState
 standing_after None r t = t
 standing_after (Some step) r t = scripted_standing step r t

@@ -223,7 +223,7 @@ impl World {
         match origin {
             None => None,
             Some(origin) => outdated_of(
-                self.standings.get(origin.role).incarnation,
+                self.role_states.get(origin.role).incarnation,
                 origin.incarnation,
                 named,
             ),
@@ -366,7 +366,7 @@ impl World {
         let calling = self.calling(pass, call)?;
         self.history.reserve(1)?;
         self.log.reserve(1)?;
-        self.pasts.ready(calling.role, &calling.key)?;
+        self.memories.ready(calling.role, &calling.key)?;
         let replied = self.store.call(alloc, self.moment, &calling.call)?;
         let entry = self.history.len() + 1;
         let stage = stage_of(
@@ -381,8 +381,8 @@ impl World {
         let version = self.log.accepted() + 1;
         let written = kind_written(&replied.key);
         note_write(
-            &mut self.standings,
-            &mut self.pasts,
+            &mut self.role_states,
+            &mut self.memories,
             calling.role,
             &calling.key,
             written,
@@ -423,7 +423,8 @@ impl World {
         let closing = self.closing(pass)?;
         self.history.reserve(1)?;
         self.passes.close(pass);
-        self.pasts.ended(closing.role, &closing.key, closing.ending);
+        self.memories
+            .ended(closing.role, &closing.key, closing.ending);
         self.history.push(Entry::End { pass, cause });
         Ok(())
     }

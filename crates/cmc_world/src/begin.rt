@@ -120,10 +120,10 @@ impl World {
         requires { seen.now ≡ on views self.now role key.now }
         ensures { IfOk result (λ a. on AnswersBegin self.now role key.now a) }
     {
-        let standing = self.standings.get(role);
+        let standing = self.role_states.get(role);
         let at = shown_positions(role, standing.told);
         let working = self.passes.is_on(role, key);
-        let past = self.pasts.get(role, key);
+        let past = self.memories.get(role, key);
         let own = own_write(past, at);
         let same = is_again(past, seen, self.moment, at);
         let of_work = is_of_work(stands(&self.store, key), &self.log, role, key);
@@ -152,7 +152,7 @@ impl World {
         ensures { IfOk result (λ p. on IsPrepared self.now role key p) }
     {
         self.is_short();
-        let standing = self.standings.get(role);
+        let standing = self.role_states.get(role);
         let at = shown_positions(role, standing.told);
         let pass = opened(role, &key, &seen, self.moment)?;
         Ok(Prepared {
@@ -176,7 +176,7 @@ impl World {
     {
         self.history.reserve(1)?;
         self.origins.reserve(1)?;
-        self.pasts.ready(role, &prepared.key)?;
+        self.memories.ready(role, &prepared.key)?;
         let Prepared {
             number,
             origin,
@@ -187,7 +187,7 @@ impl World {
         } = prepared;
         let since = self.moment;
         self.passes.open(number, pass)?;
-        self.pasts.begin(role, &key, seen, since);
+        self.memories.begin(role, &key, seen, since);
         self.origins.push(origin);
         self.history.push(Entry::Begin {
             pass: number,

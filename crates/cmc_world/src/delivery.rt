@@ -37,7 +37,7 @@ impl World {
     pub(crate) fn judge_delivery(&self, role: Role, kind: Kind, to: u64) -> Stepped
         ensures { on AnswersDelivery self.now role kind to result }
     {
-        let standing = self.standings.get(role);
+        let standing = self.role_states.get(role);
         let position = told_of(standing, kind);
         let newest = self.log.last_of_kind(kind);
         let news = is_news(&self.log, position, to, kind);
@@ -60,7 +60,7 @@ impl World {
     fn reaches_back(&self, role: Role, kind: Kind) -> bool
         ensures { IsTrue result ↔ (on accepted self.now ≤ position self.now.history role kind + self.now.scenario.window) }
     {
-        let position = told_of(self.standings.get(role), kind);
+        let position = told_of(self.role_states.get(role), kind);
         reaches(self.log.accepted(), position, self.scenario.window())
     }
 
@@ -72,11 +72,11 @@ impl World {
         ensures err { OnErr result (self.new ≡ self.old) }
     {
         self.history.reserve(1)?;
-        let standing = self.standings.get(role);
+        let standing = self.role_states.get(role);
         let from = told_of(standing, kind);
         self.caches
             .tell(alloc, role, self.log.as_slice(), kind, from, to)?;
-        self.standings.set(role, with_told(standing, kind, to));
+        self.role_states.set(role, with_told(standing, kind, to));
         self.history.push(Entry::Deliver { role, kind, to });
         Ok(())
     }
@@ -89,11 +89,11 @@ impl World {
         ensures err { OnErr result (self.new ≡ self.old) }
     {
         self.history.reserve(1)?;
-        let standing = self.standings.get(role);
+        let standing = self.role_states.get(role);
         let from = told_of(standing, kind);
         self.caches
             .tell(alloc, role, self.log.as_slice(), kind, from, to)?;
-        self.standings.set(role, with_told(standing, kind, to));
+        self.role_states.set(role, with_told(standing, kind, to));
         self.history.push(Entry::List { role, kind, to });
         Ok(())
     }

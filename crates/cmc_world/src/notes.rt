@@ -11,11 +11,11 @@ ghost use Rattle.cmc_rules.specs.declared.progress.OpenPass.{OpenPass as OpenPas
 ghost use Rattle.cmc_rules.specs.Passes as spec;
 ghost use Rattle.cmc_held.specs.Open.{pass_at};
 ghost use Rattle.cmc_held.specs.Remembered.{is_ready, past_at};
-ghost use Rattle.cmc_held.specs.Standing.{standing_of};
+ghost use Rattle.cmc_held.specs.RoleStates.{role_state_of};
 ghost use Rattle.cmc_world.specs.Changes.{writing};
 ghost use Rattle.cmc_world.specs.Noting.{CanCount, counted, logged, noted};
 
-use cmc_held::{Log, Passes, Pasts, Standing, Standings, with_written, written_of};
+use cmc_held::{Log, Passes, RoleMemories, RoleState, RoleStates, with_written, written_of};
 use cmc_match::is_temporary;
 use cmc_meta::{Key, Kind};
 use cmc_model::Write;
@@ -156,26 +156,26 @@ pub(crate) fn kind_written(key: &Option<Key>) -> Option<Kind>
 /// Counts a write of a pass of the role on the key, and remembers it as this version, where the pass
 /// wrote an object of some kind. It takes no memory.
 pub(crate) fn note_write(
-    standings: &mut Standings,
-    pasts: &mut Pasts,
+    role_states: &mut RoleStates,
+    memories: &mut RoleMemories,
     role: Role,
     key: &Key,
     written: Option<Kind>,
     version: u64,
 )
-    requires ready { is_ready pasts.old role key.now ≡ true }
-    requires room { CanCount (standing_of standings.old role) }
-    ensures counted { (r : RoleValue) → standing_of standings.new r ≡ counted written (role_eq role r) (standing_of standings.old role) (standing_of standings.old r) }
-    ensures noted { (r : RoleValue) → (k : KeyValue) → past_at pasts.new r k ≡ noted written version (role_eq role r && key_eq key.now k) (past_at pasts.old r k) }
+    requires ready { is_ready memories.old role key.now ≡ true }
+    requires room { CanCount (role_state_of role_states.old role) }
+    ensures counted { (r : RoleValue) → role_state_of role_states.new r ≡ counted written (role_eq role r) (role_state_of role_states.old role) (role_state_of role_states.old r) }
+    ensures noted { (r : RoleValue) → (k : KeyValue) → past_at memories.new r k ≡ noted written version (role_eq role r && key_eq key.now k) (past_at memories.old r k) }
 {
     if let Some(kind) = written {
-        let standing = standings.get(role);
-        standings.set(role, one_more(standing, kind));
-        pasts.wrote(role, key, kind, version);
+        let standing = role_states.get(role);
+        role_states.set(role, one_more(standing, kind));
+        memories.wrote(role, key, kind, version);
     }
 }
 
-fn one_more(standing: Standing, kind: Kind) -> Standing
+fn one_more(standing: RoleState, kind: Kind) -> RoleState
     requires { CanCount standing }
     ensures { result ≡ writing kind standing }
 {

@@ -87,14 +87,14 @@ impl World {
     pub fn past(&self, role: Role, key: &Key) -> Option<&Past>
         ensures { past_or_new (option_copied result) ≡ on past self.now role key.now }
     {
-        self.pasts.get(role, key)
+        self.memories.get(role, key)
     }
 
     /// The newest write of each kind that the role is told of, 0 of each other kind.
     pub fn told(&self, role: Role) -> Positions
         ensures { result ≡ positions self.now.history role }
     {
-        shown_positions(role, self.standings.get(role).told)
+        shown_positions(role, self.role_states.get(role).told)
     }
 
     /// What the role sees of the key, by what it was told of.
@@ -119,7 +119,7 @@ impl World {
     pub fn runs(&self, role: Role) -> bool
         ensures { result ≡ on spec.runs self.now role }
     {
-        self.standings.get(role).running
+        self.role_states.get(role).running
     }
 
     /// The present moment, in seconds since the beginning of 1970.

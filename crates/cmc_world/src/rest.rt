@@ -23,7 +23,7 @@ ghost use Rattle.cmc_world.specs.Rest.{EachKind, RestsOnAll};
 ghost use Rattle.cmc_rules.specs.Resting.{IsToldAll, RestsIn};
 
 use crate::world::{World, has_room};
-use cmc_held::{Standing, is_held, is_same, own_above, told_of, written_of};
+use cmc_held::{RoleState, is_held, is_same, own_above, told_of, written_of};
 use cmc_meta::{Key, Kind};
 use cmc_model::Write;
 use cmc_moves::{Lack, Stepped, act_of, answer_script, request_for};
@@ -69,7 +69,7 @@ pub(crate) fn is_due(past: Option<&Past>, seen: &Views, now: i64, at: Positions)
 }
 
 /// Whether an informer of a role that stands so is held.
-fn has_held(standing: Standing) -> bool
+fn has_held(standing: RoleState) -> bool
     ensures { result ≡ (standing.held.certificates || (standing.held.requests || standing.held.secrets)) }
 {
     standing.held.certificates || standing.held.requests || standing.held.secrets
@@ -214,7 +214,7 @@ impl World {
     pub fn has_held_informer(&self, role: Role) -> bool
         ensures { result ≡ on scripting.has_held self.now role }
     {
-        has_held(self.standings.get(role))
+        has_held(self.role_states.get(role))
     }
 
     /// Whether the role, which was told of all that is not held from it, has nothing to do on the key.
@@ -240,7 +240,7 @@ impl World {
     fn is_told_all(&self, role: Role, kind: Kind) -> bool
         ensures { IsTrue result ↔ on IsToldAll self.now role kind }
     {
-        let standing = self.standings.get(role);
+        let standing = self.role_states.get(role);
         !has_informer(role, kind)
             || is_held(standing, kind)
             || self.log.last_of_kind(kind) <= told_of(standing, kind)
@@ -258,7 +258,7 @@ impl World {
     fn is_running(&self, role: Role) -> bool
         ensures { result ≡ on runs self.now role }
     {
-        self.standings.get(role).running
+        self.role_states.get(role).running
     }
 
     /// Whether the role, which was told of all that is not held from it, has nothing to do on any key that an
@@ -345,7 +345,7 @@ impl World {
     pub fn has_written(&self, role: Role, kind: Kind, writes: u64) -> bool
         ensures { IsTrue result ↔ (writes ≤ on following.written self.now role kind) }
     {
-        writes <= written_of(self.standings.get(role), kind)
+        writes <= written_of(self.role_states.get(role), kind)
     }
 
     /// Whether the count is reached, or all is at rest.

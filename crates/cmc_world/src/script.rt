@@ -13,7 +13,7 @@ ghost use Rattle.cmc_model.specs.Objects.{object_at};
 ghost use Rattle.cmc_rules.specs.Scripting.{scripted};
 ghost use Rattle.cmc_caches.specs.Told.{caches_at};
 ghost use Rattle.cmc_held.specs.Dues.{shown_positions};
-ghost use Rattle.cmc_held.specs.Standing.{standing_of};
+ghost use Rattle.cmc_held.specs.RoleStates.{role_state_of};
 ghost use Rattle.cmc_setup.specs.Forms.{is_step_form};
 ghost use Rattle.cmc_setup.specs.Setups.{IsSetup, IsTickForm, seconds_of};
 ghost use Rattle.cmc_world.specs.Going.{MadeCall};
@@ -28,7 +28,7 @@ ghost use Rattle.cmc_moves.specs.declared.moves.Stepped.TheVariants as answers;
 use crate::notes::log_write;
 use crate::world::World;
 use cmc_caches::RoleCaches;
-use cmc_held::{Log, Standing, Standings, shown_positions, with_held};
+use cmc_held::{Log, RoleState, RoleStates, shown_positions, with_held};
 use cmc_meta::Kind;
 use cmc_moves::{Stepped, answer, approve, deny, let_go, renew, request_for};
 use cmc_objects::{Call, Entry, Object, Positions, Role, Step, Who};
@@ -182,41 +182,41 @@ fn effect_in(
 }
 
 /// Holds deliveries of the kind back from the role, or no longer.
-fn set_held(standings: &mut Standings, role: Role, kind: Kind, held: bool)
-    ensures { (r : RoleValue) → standing_of standings.new r ≡ (if role_eq role r then keeping kind held (standing_of standings.old r) else standing_of standings.old r) }
+fn set_held(role_states: &mut RoleStates, role: Role, kind: Kind, held: bool)
+    ensures { (r : RoleValue) → role_state_of role_states.new r ≡ (if role_eq role r then keeping kind held (role_state_of role_states.old r) else role_state_of role_states.old r) }
 {
-    let standing = standings.get(role);
-    standings.set(role, with_held(standing, kind, held));
+    let standing = role_states.get(role);
+    role_states.set(role, with_held(standing, kind, held));
 }
 
 /// Lets the roles stand as the step leaves them.
-fn note_step(standings: &mut Standings, step: &Step)
-    ensures { (r : RoleValue) → standing_of standings.new r ≡ scripted_standing step.now r (standing_of standings.old r) }
+fn note_step(role_states: &mut RoleStates, step: &Step)
+    ensures { (r : RoleValue) → role_state_of role_states.new r ≡ scripted_standing step.now r (role_state_of role_states.old r) }
 {
     match step {
-        Step::Hold { role, kind } => set_held(standings, *role, *kind, true),
-        Step::Release { role, kind } => set_held(standings, *role, *kind, false),
+        Step::Hold { role, kind } => set_held(role_states, *role, *kind, true),
+        Step::Release { role, kind } => set_held(role_states, *role, *kind, false),
         _ => {}
     }
 }
 
 /// Lets the roles stand as the step in this place of the script leaves them.
-fn note_step_in(standings: &mut Standings, script: &[Step], place: u64)
-    ensures { (r : RoleValue) → standing_of standings.new r ≡ standing_after (slice_get script.now place) r (standing_of standings.old r) }
+fn note_step_in(role_states: &mut RoleStates, script: &[Step], place: u64)
+    ensures { (r : RoleValue) → role_state_of role_states.new r ≡ standing_after (slice_get script.now place) r (role_state_of role_states.old r) }
 {
     if let Some(step) = step_in(script, place) {
-        note_step(standings, step);
+        note_step(role_states, step);
     }
 }
 
 /// Lets the role be stopped.
-fn note_stop(standings: &mut Standings, role: Role)
-    ensures { (r : RoleValue) → standing_of standings.new r ≡ (if role_eq role r then stopping (standing_of standings.old role) else standing_of standings.old r) }
+fn note_stop(role_states: &mut RoleStates, role: Role)
+    ensures { (r : RoleValue) → role_state_of role_states.new r ≡ (if role_eq role r then stopping (role_state_of role_states.old role) else role_state_of role_states.old r) }
 {
-    let standing = standings.get(role);
-    standings.set(
+    let standing = role_states.get(role);
+    role_states.set(
         role,
-        Standing {
+        RoleState {
             running: false,
             ..standing
         },
@@ -244,11 +244,11 @@ fn list_at(alloc: Global, log: &Log, role: Role, at: u64) -> Result<RoleCaches, 
     RoleCaches::list(alloc, log.as_slice(), told)
 }
 
-fn started(standing: Standing, at: u64) -> Standing
+fn started(standing: RoleState, at: u64) -> RoleState
     requires { standing.incarnation < 2 ^ 64 - 1 }
     ensures { result ≡ starting at standing }
 {
-    Standing {
+    RoleState {
         running: true,
         incarnation: standing.incarnation + 1,
         told: all_at(at),
@@ -257,12 +257,12 @@ fn started(standing: Standing, at: u64) -> Standing
 }
 
 /// Lets the role run, having begun once more and been told of the first `at` writes.
-fn note_start(standings: &mut Standings, role: Role, at: u64)
-    requires { (standing_of standings.old role).incarnation < 2 ^ 64 - 1 }
-    ensures { (r : RoleValue) → standing_of standings.new r ≡ (if role_eq role r then starting at (standing_of standings.old role) else standing_of standings.old r) }
+fn note_start(role_states: &mut RoleStates, role: Role, at: u64)
+    requires { (role_state_of role_states.old role).incarnation < 2 ^ 64 - 1 }
+    ensures { (r : RoleValue) → role_state_of role_states.new r ≡ (if role_eq role r then starting at (role_state_of role_states.old role) else role_state_of role_states.old r) }
 {
-    let standing = standings.get(role);
-    standings.set(role, started(standing, at));
+    let standing = role_states.get(role);
+    role_states.set(role, started(standing, at));
 }
 
 impl World {
@@ -294,7 +294,7 @@ impl World {
     {
         self.history.reserve(1)?;
         let script = self.scenario.script();
-        note_step_in(&mut self.standings, script, self.made);
+        note_step_in(&mut self.role_states, script, self.made);
         self.made += 1;
         self.history.push(Entry::Script { step: self.made });
         Ok(())
@@ -348,7 +348,7 @@ impl World {
     {
         self.history.reserve(2)?;
         self.passes.stop(role);
-        note_stop(&mut self.standings, role);
+        note_stop(&mut self.role_states, role);
         self.made += 1;
         self.history.push(Entry::Script { step: self.made });
         self.history.push(Entry::Stop { role });
@@ -366,8 +366,8 @@ impl World {
         self.history.reserve(2)?;
         let caches = list_at(alloc, &self.log, role, at)?;
         self.caches.set(role, caches);
-        self.pasts.start(role);
-        note_start(&mut self.standings, role, at);
+        self.memories.start(role);
+        note_start(&mut self.role_states, role, at);
         self.made += 1;
         self.history.push(Entry::Script { step: self.made });
         self.history.push(Entry::Start { role, at });

@@ -24,7 +24,7 @@ ghost use Rattle.cmc_rules.specs.Following.{IsReady};
 ghost use Rattle.cmc_rules.specs.Scripting.{scripted, step_at};
 
 use cmc_caches::Caches;
-use cmc_held::{Log, Origins, Passes, Pasts, Questions, Standings};
+use cmc_held::{Log, Origins, Passes, Questions, RoleMemories, RoleStates};
 use cmc_history::History;
 use cmc_meta::{Key, Numbers};
 use cmc_moves::{Move, Stepped};
@@ -55,7 +55,7 @@ pub struct World {
     pub(crate) made: u64,
     /// Of each role whether it runs and in which incarnation, how far it was told of each kind, and which of its
     /// informers are held.
-    pub(crate) standings: Standings,
+    pub(crate) role_states: RoleStates,
     /// Of each role and kind the objects up to where it was told.
     pub(crate) caches: Caches,
     /// Of each pass that was begun its role and the incarnation in which it began.
@@ -63,7 +63,7 @@ pub struct World {
     /// The open passes under their numbers, each with what it saw and how far it has come.
     pub(crate) passes: Passes,
     /// Of each role and key the last pass and the own writes since the role's last start.
-    pub(crate) pasts: Pasts,
+    pub(crate) memories: RoleMemories,
     /// How many questions were asked for each Certificate's name.
     pub(crate) questions: Questions,
     /// The rows and the approver's rules of the scenario, with no question asked.
@@ -75,14 +75,14 @@ impl Model for World {
     ghost use Rattle.cmc_held.specs.Open.{pass_at};
     ghost use Rattle.cmc_held.specs.Questioned.{count_at};
     ghost use Rattle.cmc_held.specs.Remembered.{past_at};
-    ghost use Rattle.cmc_held.specs.Standing.{standing_of};
+    ghost use Rattle.cmc_held.specs.RoleStates.{role_state_of};
     ghost use Rattle.cmc_world.specs.Kept.{IsKept, Seen, on, setting_of};
 
     ghost Value = { Seen };
 
     ghost view = { λ w. record { scenario = w.scenario; history = w.history.entries } };
 
-    ghost invariant = { λ w. IsKept (setting_of w.scenario) w.history.entries (record { faults = w.store.faults; state = w.store.state; log = w.log.writes; moment = w.moment; made = w.made; standing = λ role. standing_of w.standings role; caches = λ role. caches_of w.caches role; origins = w.origins.origins; opened = λ n. pass_at w.passes n; past = λ role key. past_at w.pasts role key; keys_asked = count_at w.questions.keys; answers_asked = count_at w.questions.answers; desk = w.desk }) };
+    ghost invariant = { λ w. IsKept (setting_of w.scenario) w.history.entries (record { faults = w.store.faults; state = w.store.state; log = w.log.writes; moment = w.moment; made = w.made; role_state = λ role. role_state_of w.role_states role; caches = λ role. caches_of w.caches role; origins = w.origins.origins; opened = λ n. pass_at w.passes n; past = λ role key. past_at w.memories role key; keys_asked = count_at w.questions.keys; answers_asked = count_at w.questions.answers; desk = w.desk }) };
 }
 
 impl Drop for World {
@@ -94,11 +94,11 @@ impl Drop for World {
             history: _history,
             moment: _moment,
             made: _made,
-            standings: _standings,
+            role_states: _role_states,
             caches: _caches,
             origins: _origins,
             passes: _passes,
-            pasts: _pasts,
+            memories: _memories,
             questions: _questions,
             desk: _desk,
         } = self;
@@ -136,8 +136,8 @@ impl World {
         ensures { IfOk result (λ w. w ≡ record { scenario = scenario; history = [] }) }
     {
         let faults = numbers_of(alloc, scenario.faults())?;
-        let standings = Standings::new(alloc, scenario.roles())?;
-        let pasts = Pasts::new(alloc)?;
+        let role_states = RoleStates::new(alloc, scenario.roles())?;
+        let memories = RoleMemories::new(alloc)?;
         let caches = Caches::new(alloc)?;
         let moment = scenario.now();
         let material = scenario.material().copy()?;
@@ -155,11 +155,11 @@ impl World {
             history: History::new(alloc),
             moment,
             made: 0,
-            standings,
+            role_states,
             caches,
             origins: Origins::new(alloc),
             passes: Passes::new(alloc),
-            pasts,
+            memories,
             questions: Questions::new(alloc),
             desk,
         })
@@ -199,7 +199,7 @@ impl World {
     pub fn incarnation(&self, role: Role) -> u64
         ensures { result ≡ on spec.incarnation self.now role }
     {
-        self.standings.get(role).incarnation
+        self.role_states.get(role).incarnation
     }
 
     /// A law: whatever moves led to this world, its history is legal, caused, and follows the script with

@@ -12,7 +12,7 @@ use Rattle.cmc_rules.specs.Passes.{open_pass, stage_by}
 use Rattle.cmc_rules.specs.Causes.{MayCall}
 use Rattle.cmc_held.specs.Open.{pass_at}
 use Rattle.cmc_held.specs.Remembered.{past_at}
-use Rattle.cmc_held.specs.Standing.{standing_of}
+use Rattle.cmc_held.specs.RoleStates.{role_state_of}
 use Rattle.cmc_world.specs.Going.{IsCalling}
 use Rattle.cmc_world.specs.Kept.{Seen, on}
 use Rattle.cmc_world.specs.Noting.{logged, counted, noted}
@@ -59,7 +59,7 @@ pub invariant_of-self-2 : goal.invariant_of-self-2
 invariant_of-self-2 c =
     rw (c.push.ensures.entries, c.in_ok-reserve.ensures.same, c.into_call.ensures)
     (kept_call _ _ _ c.args.pass c.in_ok-calling.calling.call c.in_ok-calling.calling c.in_ok-replied.replied.reply c.in_ok-replied.replied.key c.in_ok-replied.replied.object c.stage_of-stage.result (to_z w64 (of_z w64 c.self.inside.moment)) (c.accepted-version.result + 1) (c.len-entry.result + 1)
-    c.call.new.self.faults c.call.new.self.state c.log_write.new.log.writes (λ r. standing_of c.note_write.new.standings r) (λ n. pass_at c.advance.new.self n) (λ r k. past_at c.note_write.new.pasts r k)
+    c.call.new.self.faults c.call.new.self.state c.log_write.new.log.writes (λ r. role_state_of c.note_write.new.role_states r) (λ n. pass_at c.advance.new.self n) (λ r k. past_at c.note_write.new.memories r k)
     c.self.invariant
     (subst (λ (v : Seen). on IsCalling v c.args.pass c.in_ok-calling.calling.call c.in_ok-calling.calling) (sym c.self.view_is) c.in_ok-calling.ensures.calling)
     (subst (λ (v : Seen). on MayCall v (on open_pass v c.args.pass) c.in_ok-calling.calling.call) (sym c.self.view_is) (rw c.in_ok-calling.ensures.call c.requires.may))
@@ -74,6 +74,6 @@ invariant_of-self-2 c =
     (λ p is. c.stage_of-stage.ensures p is ∙ ap (λ (l : List Write). stage_by p.seen.certificate c.in_ok-calling.calling.stand_in p.stage (c.len-entry.result + 1) c.in_ok-calling.calling.named.kind (last_under c.in_ok-calling.calling.named l) c.in_ok-replied.replied.reply) c.in_ok-reserve-2.ensures.same)
     (ap (λ (n : ℕ). n + 1) (c.accepted-version.ensures ∙ ap (λ (l : List Write). length l) c.in_ok-reserve-2.ensures.same))
     (c.log_write.ensures ∙ ap (λ (l : List Write). logged c.in_ok-replied.replied.key c.in_ok-replied.replied.object l) c.in_ok-reserve-2.ensures.same)
-    (λ r. c.note_write.ensures.counted r ∙ ap (λ (x : Option Kind). counted x (role_eq c.in_ok-calling.calling.role r) (standing_of c.self.inside.standings c.in_ok-calling.calling.role) (standing_of c.self.inside.standings r)) c.kind_written-written.ensures)
+    (λ r. c.note_write.ensures.counted r ∙ ap (λ (x : Option Kind). counted x (role_eq c.in_ok-calling.calling.role r) (role_state_of c.self.inside.role_states c.in_ok-calling.calling.role) (role_state_of c.self.inside.role_states r)) c.kind_written-written.ensures)
     c.advance.ensures
-    (λ r k. c.note_write.ensures.noted r k ∙ ap (λ (p : Past). noted c.kind_written-written.result (c.accepted-version.result + 1) (role_eq c.in_ok-calling.calling.role r && key_eq c.in_ok-calling.calling.key k) p) (c.in_ok-ready.ensures.same r k) ∙ ap (λ (x : Option Kind). noted x (c.accepted-version.result + 1) (role_eq c.in_ok-calling.calling.role r && key_eq c.in_ok-calling.calling.key k) (past_at c.self.inside.pasts r k)) c.kind_written-written.ensures))
+    (λ r k. c.note_write.ensures.noted r k ∙ ap (λ (p : Past). noted c.kind_written-written.result (c.accepted-version.result + 1) (role_eq c.in_ok-calling.calling.role r && key_eq c.in_ok-calling.calling.key k) p) (c.in_ok-ready.ensures.same r k) ∙ ap (λ (x : Option Kind). noted x (c.accepted-version.result + 1) (role_eq c.in_ok-calling.calling.role r && key_eq c.in_ok-calling.calling.key k) (past_at c.self.inside.memories r k)) c.kind_written-written.ensures))

@@ -4,7 +4,7 @@ use Rattle.cmc_objects.specs.declared.entry.Entry.TheVariants as entries
 use Rattle.cmc_rules.specs.declared.effect.Effect.TheVariants as effects
 use Rattle.cmc_setup.specs.Setups.{IsSetup}
 use Rattle.cmc_held.specs.Remembered.{past_at}
-use Rattle.cmc_held.specs.Standing.{standing_of}
+use Rattle.cmc_held.specs.RoleStates.{role_state_of}
 use Rattle.cmc_moves.specs.declared.moves.Stepped.TheVariants as answers
 use Rattle.cmc_moves.specs.Answers as spec
 use Rattle.cmc_world.specs.Kept.{Seen, setting_of, on}
@@ -33,7 +33,7 @@ invariant_of-self-2 c =
     let made = c.self.inside.made + 1 in
     let may = subst (λ (v : Seen). on spec.AnswersScript v answers.Done) (sym c.self.view_is) c.requires.may in
     let due = subst (λ (v : Seen). on spec.next_effect v ≡ Some (effects.Start c.args.role c.args.at)) (sym c.self.view_is) c.requires.effect in
-    start_kept (setting_of u) h c.push-2.new.self.entries _ made c.args.role c.args.at (λ r. standing_of c.note_start.new.standings r) (λ r. caches_of c.set.new.self r) (λ r key. past_at c.start.new.self r key) c.self.invariant may due refl
+    start_kept (setting_of u) h c.push-2.new.self.entries _ made c.args.role c.args.at (λ r. role_state_of c.note_start.new.role_states r) (λ r. caches_of c.set.new.self r) (λ r key. past_at c.start.new.self r key) c.self.invariant may due refl
     c.note_start.ensures
     (λ r. c.set.ensures r ∙ ap (λ (x : Caches). if role_eq c.args.role r then x else caches_of c.self.inside.caches r) c.in_ok-caches.ensures)
     c.start.ensures.past

@@ -8,7 +8,7 @@ use Rattle.cmc_caches.specs.Told.{caches_of}
 use Rattle.cmc_held.specs.Open.{pass_at}
 use Rattle.cmc_held.specs.Questioned.{count_at}
 use Rattle.cmc_held.specs.Remembered.{past_at}
-use Rattle.cmc_held.specs.Standing.{standing_of, first_standing}
+use Rattle.cmc_held.specs.RoleStates.{role_state_of, first_standing}
 use Rattle.cmc_world.proofs.Starting.{kept_new}
 use Rattle.cmc_world.proofs.world.World.new.Goals as goal
 
@@ -22,11 +22,11 @@ invariant_of-result c =
       log = c.new-5.result.writes;
       moment = to_z w64 (of_z w64 c.now-moment.result);
       made = 0;
-      standing = λ r. standing_of c.in_ok-standings.standings r;
+      role_state = λ r. role_state_of c.in_ok-role_states.role_states r;
       caches = λ r. caches_of c.in_ok-caches.caches r;
       origins = c.new-7.result.origins;
       opened = λ n. pass_at c.new-8.result n;
-      past = λ r k. past_at c.in_ok-pasts.pasts r k;
+      past = λ r k. past_at c.in_ok-memories.memories r k;
       keys_asked = count_at c.new-9.result.keys;
       answers_asked = count_at c.new-9.result.answers;
       desk = record { material = c.in_ok-material.material; asked = 0; rules = c.in_ok-rules.rules };
@@ -36,11 +36,11 @@ invariant_of-result c =
     c.new-5.ensures
     (to_z-of_z w64 c.now-moment.result (search rules) ∙ c.now-moment.ensures)
     refl
-    (λ r. c.in_ok-standings.ensures r ∙ ap (λ (l : List Role). first_standing (list_any (λ role. role_eq role r) l)) c.roles.ensures)
+    (λ r. c.in_ok-role_states.ensures r ∙ ap (λ (l : List Role). first_standing (list_any (λ role. role_eq role r) l)) c.roles.ensures)
     c.in_ok-caches.ensures
     c.new-7.ensures
     c.new-8.ensures
-    c.in_ok-pasts.ensures
+    c.in_ok-memories.ensures
     c.new-9.ensures.keys
     c.new-9.ensures.answers
     (λ i. record { material = (c.in_ok-material.ensures ∙ c.material.ensures) i; asked = 0; rules = (c.in_ok-rules.ensures ∙ c.approver.ensures) i })

@@ -5,8 +5,8 @@ use Rattle.cmc_meta.specs.declared.key.Kind.TheVariants.{Certificate, Certificat
 use Rattle.cmc_objects.specs.declared.role.Role.{Role}
 use Rattle.cmc_objects.specs.declared.entry.Positions.{Positions}
 use Rattle.cmc_objects.specs.Roles.{role_rank}
-use Rattle.cmc_held.specs.declared.standings.Flags.{Flags}
-use Rattle.cmc_held.specs.declared.standings.Standing.{Standing}
+use Rattle.cmc_held.specs.declared.role_states.Flags.{Flags}
+use Rattle.cmc_held.specs.declared.role_states.RoleState.{RoleState}
 
 abbrev pub no_positions : Positions
 no_positions = record { certificates = 0; requests = 0; secrets = 0 }
@@ -15,12 +15,12 @@ abbrev pub no_flags : Flags
 no_flags = record { certificates = false; requests = false; secrets = false }
 
 -- a role at the beginning: it has begun once, or is stopped
-abbrev pub first_standing : Bool → Standing
+abbrev pub first_standing : Bool → RoleState
 first_standing running = record { running = running; incarnation = if running then 1 else 0; told = no_positions; held = no_flags; written = no_positions }
 
 -- the rows stand in the order of roles
-unfoldable pub standing_of : List Standing → Role → Standing
-standing_of rows role = slice_index_or rows (role_rank role) (first_standing false)
+unfoldable pub role_state_of : List RoleState → Role → RoleState
+role_state_of rows role = slice_index_or rows (role_rank role) (first_standing false)
 
 abbrev pub flag_of : Kind → Flags → Bool
 flag_of Certificate flags = flags.certificates

@@ -8,7 +8,7 @@ ghost use Rattle.cmc_model.specs.Histories.{role_eq};
 ghost use Rattle.cmc_rules.specs.Memory.{no_past, with_begin, with_ending, with_own};
 ghost use Rattle.cmc_held.specs.Remembered.{is_noted, is_ready, memory_at, past_at, past_or_new, KeepsNoted, KeepsReady, KeepsReadyOfOthers};
 
-use crate::standings::put_at_kind;
+use crate::role_states::put_at_kind;
 use cmc_meta::{Key, Kind};
 use cmc_objects::{Positions, Role};
 use cmc_pass::Views;
@@ -20,11 +20,11 @@ use std::marker::Model;
 /// What one role remembers; contracts see the list of the keys, in no order, with what is kept of each. A key is
 /// only ever looked for by itself, and nobody asks for an order of keys: so they are hashed, and not sorted.
 #[derive(Drop)]
-struct Memory {
+struct RoleMemory {
     map: HashMap<Key, Past>,
 }
 
-impl Model for Memory {
+impl Model for RoleMemory {
     ghost use Rattle.cmc_held.specs.Remembered.{Kept};
 
     ghost Value = { Kept };
@@ -32,13 +32,13 @@ impl Model for Memory {
     ghost view = { λ m. m.map.entries };
 }
 
-impl Memory {
+impl RoleMemory {
     /// Nothing. It takes no memory.
     #[tactic(auto, unfolding(crate::specs::Remembered::memory_at))]
-    fn new(alloc: Global) -> Memory
+    fn new(alloc: Global) -> RoleMemory
         ensures { (k : KeyValue) → memory_at result k ≡ no_past }
     {
-        Memory {
+        RoleMemory {
             map: HashMap::new(alloc),
         }
     }
@@ -112,12 +112,12 @@ impl Memory {
 
 /// What each of the eight roles remembers. Contracts see the memories in the order of roles.
 #[derive(Drop)]
-pub struct Pasts {
+pub struct RoleMemories {
     /// Eight memories, one for each role, in the order of roles.
-    rows: Vec<Memory>,
+    rows: Vec<RoleMemory>,
 }
 
-impl Model for Pasts {
+impl Model for RoleMemories {
     ghost use Rattle.std.specs.Prelude.{◌≡◌, List, length};
     ghost use Rattle.cmc_held.specs.Remembered.{Kept};
 
@@ -128,22 +128,22 @@ impl Model for Pasts {
     ghost invariant = { λ p. length p.rows.items ≡ 8 };
 }
 
-impl Pasts {
+impl RoleMemories {
     /// No role remembers anything. An error is one of memory.
-    pub fn new(alloc: Global) -> Result<Pasts, AllocError>
+    pub fn new(alloc: Global) -> Result<RoleMemories, AllocError>
         ensures { IfOk result (λ t. (r : RoleValue) → (k : KeyValue) → past_at t r k ≡ no_past) }
     {
         let rows = vec![in alloc;
-            Memory::new(alloc),
-            Memory::new(alloc),
-            Memory::new(alloc),
-            Memory::new(alloc),
-            Memory::new(alloc),
-            Memory::new(alloc),
-            Memory::new(alloc),
-            Memory::new(alloc),
+            RoleMemory::new(alloc),
+            RoleMemory::new(alloc),
+            RoleMemory::new(alloc),
+            RoleMemory::new(alloc),
+            RoleMemory::new(alloc),
+            RoleMemory::new(alloc),
+            RoleMemory::new(alloc),
+            RoleMemory::new(alloc),
         ]?;
-        Ok(Pasts { rows })
+        Ok(RoleMemories { rows })
     }
 
     /// What the role remembers of the key; `None` only where it did nothing on it.

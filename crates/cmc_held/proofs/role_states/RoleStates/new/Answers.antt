@@ -1,8 +1,8 @@
-use Rattle.cmc_held.specs.Standing.{first_standing}
+use Rattle.cmc_held.specs.RoleStates.{first_standing}
 use Rattle.std.specs.List.{list_any}
 use Rattle.cmc_model.specs.Histories.{role_eq}
 use Rattle.cmc_held.proofs.Rows.{row_of_each}
-use Rattle.cmc_held.proofs.standings.Standings.new.Goals as goal
+use Rattle.cmc_held.proofs.role_states.RoleStates.new.Goals as goal
 
 pub returns : goal.returns
 returns c = λ r. rw (c.in_ok-rows.ensures.items, c.first_of.ensures, c.first_of-2.ensures, c.first_of-3.ensures, c.first_of-4.ensures, c.first_of-5.ensures, c.first_of-6.ensures, c.first_of-7.ensures, c.first_of-8.ensures)

@@ -5,7 +5,7 @@ ghost use Rattle.cmc_objects.specs.declared.role.Role.{Role as RoleValue};
 ghost use Rattle.cmc_model.specs.Histories.{role_eq};
 ghost use Rattle.cmc_rules.specs.Memory.{with_position};
 ghost use Rattle.cmc_rules.specs.Positions.{position_of};
-ghost use Rattle.cmc_held.specs.Standing.{first_standing, flag_of, standing_of, with_flag};
+ghost use Rattle.cmc_held.specs.RoleStates.{first_standing, flag_of, role_state_of, with_flag};
 
 use cmc_meta::Kind;
 use cmc_objects::{Positions, Role};
@@ -22,7 +22,7 @@ pub struct Flags {
 
 /// How one role stands.
 #[derive(Clone, Copy)]
-pub struct Standing {
+pub struct RoleState {
     /// Whether it runs.
     pub running: bool,
     /// How many times it has begun.
@@ -35,30 +35,30 @@ pub struct Standing {
     pub written: Positions,
 }
 
-/// How each of the eight roles stands. Contracts see the standings in the order of roles.
+/// How each of the eight roles stands. Contracts see the states in the order of roles.
 #[derive(Drop)]
-pub struct Standings {
-    /// Eight standings, one for each role, in the order of roles.
-    rows: Vec<Standing>,
+pub struct RoleStates {
+    /// Eight states, one for each role, in the order of roles.
+    rows: Vec<RoleState>,
 }
 
-impl Model for Standings {
+impl Model for RoleStates {
     ghost use Rattle.std.specs.Prelude.{◌≡◌, List, length};
-    ghost use Rattle.cmc_held.specs.declared.standings.Standing.{Standing};
+    ghost use Rattle.cmc_held.specs.declared.role_states.RoleState.{RoleState};
 
-    ghost Value = { List Standing };
+    ghost Value = { List RoleState };
 
     ghost view = { λ s. s.rows.items };
 
     ghost invariant = { λ s. length s.rows.items ≡ 8 };
 }
 
-impl Standings {
+impl RoleStates {
     /// The roles at the beginning: those of the list run and have begun once, all others are
     /// stopped, and nobody was told of anything. An error is one of memory.
-    #[tactic(auto, unfolding(crate::specs::Standing::standing_of))]
-    pub fn new(alloc: Global, running: &[Role]) -> Result<Standings, AllocError>
-        ensures { IfOk result (λ t. (r : RoleValue) → standing_of t r ≡ first_standing (list_any (λ role. role_eq role r) running.now)) }
+    #[tactic(auto, unfolding(crate::specs::RoleState::role_state_of))]
+    pub fn new(alloc: Global, running: &[Role]) -> Result<RoleStates, AllocError>
+        ensures { IfOk result (λ t. (r : RoleValue) → role_state_of t r ≡ first_standing (list_any (λ role. role_eq role r) running.now)) }
     {
         let rows = vec![in alloc;
             first_of(running, Role::Trigger),
@@ -70,21 +70,21 @@ impl Standings {
             first_of(running, Role::Readiness),
             first_of(running, Role::Revision),
         ]?;
-        Ok(Standings { rows })
+        Ok(RoleStates { rows })
     }
 
     /// How the role stands.
-    #[tactic(auto, unfolding(crate::specs::Standing::standing_of))]
-    pub fn get(&self, role: Role) -> Standing
-        ensures { result ≡ standing_of self.now role }
+    #[tactic(auto, unfolding(crate::specs::RoleState::role_state_of))]
+    pub fn get(&self, role: Role) -> RoleState
+        ensures { result ≡ role_state_of self.now role }
     {
         self.rows[role.rank() as usize]
     }
 
     /// Lets the role stand so, and changes no other. It takes no memory.
-    #[tactic(auto, unfolding(crate::specs::Standing::standing_of))]
-    pub fn set(&mut self, role: Role, standing: Standing)
-        ensures { (r : RoleValue) → standing_of self.new r ≡ (if role_eq role r then standing else standing_of self.old r) }
+    #[tactic(auto, unfolding(crate::specs::RoleState::role_state_of))]
+    pub fn set(&mut self, role: Role, standing: RoleState)
+        ensures { (r : RoleValue) → role_state_of self.new r ≡ (if role_eq role r then standing else role_state_of self.old r) }
     {
         self.rows[role.rank() as usize] = standing;
     }
@@ -96,13 +96,13 @@ fn is_among(running: &[Role], role: Role) -> bool
     running.iter().any(|other| other.rank() == role.rank())
 }
 
-fn first_of(running: &[Role], role: Role) -> Standing
+fn first_of(running: &[Role], role: Role) -> RoleState
     ensures { result ≡ first_standing (list_any (λ other. role_eq other role) running.now) }
 {
     first(is_among(running, role))
 }
 
-fn first(running: bool) -> Standing
+fn first(running: bool) -> RoleState
     ensures { result ≡ first_standing running }
 {
     let none = Positions {
@@ -115,7 +115,7 @@ fn first(running: bool) -> Standing
         requests: false,
         secrets: false,
     };
-    Standing {
+    RoleState {
         running,
         incarnation: if running { 1 } else { 0 },
         told: none,
@@ -125,24 +125,24 @@ fn first(running: bool) -> Standing
 }
 
 /// The newest write of the kind that the role was told of.
-pub fn told_of(standing: Standing, kind: Kind) -> u64
+pub fn told_of(standing: RoleState, kind: Kind) -> u64
     ensures { result ≡ position_of kind standing.told }
 {
     at_kind(standing.told, kind)
 }
 
 /// The same role, told of the kind up to this write.
-pub fn with_told(standing: Standing, kind: Kind, to: u64) -> Standing
+pub fn with_told(standing: RoleState, kind: Kind, to: u64) -> RoleState
     ensures { result ≡ record standing { told = with_position kind to standing.told } }
 {
-    Standing {
+    RoleState {
         told: put_at_kind(standing.told, kind, to),
         ..standing
     }
 }
 
 /// Whether deliveries of the kind are held back from the role.
-pub fn is_held(standing: Standing, kind: Kind) -> bool
+pub fn is_held(standing: RoleState, kind: Kind) -> bool
     ensures { result ≡ flag_of kind standing.held }
 {
     match kind {
@@ -153,27 +153,27 @@ pub fn is_held(standing: Standing, kind: Kind) -> bool
 }
 
 /// The same role, with deliveries of the kind held back or not.
-pub fn with_held(standing: Standing, kind: Kind, held: bool) -> Standing
+pub fn with_held(standing: RoleState, kind: Kind, held: bool) -> RoleState
     ensures { result ≡ record standing { held = with_flag kind held standing.held } }
 {
-    Standing {
+    RoleState {
         held: put_flag(standing.held, kind, held),
         ..standing
     }
 }
 
 /// How many writes of the kind count for the role.
-pub fn written_of(standing: Standing, kind: Kind) -> u64
+pub fn written_of(standing: RoleState, kind: Kind) -> u64
     ensures { result ≡ position_of kind standing.written }
 {
     at_kind(standing.written, kind)
 }
 
 /// The same role, with this count of writes of the kind.
-pub fn with_written(standing: Standing, kind: Kind, count: u64) -> Standing
+pub fn with_written(standing: RoleState, kind: Kind, count: u64) -> RoleState
     ensures { result ≡ record standing { written = with_position kind count standing.written } }
 {
-    Standing {
+    RoleState {
         written: put_at_kind(standing.written, kind, count),
         ..standing
     }
