@@ -33,7 +33,7 @@ own : IsNumeralModel (λ ds. all_ascii_digits ds ≡ true) (digits_value 10)
 own = numerals_by_value _ tells_all_ascii_digits
 
 -- a text without a needless zero
-record IsPlain (text : List ℕ) : Type 0 where
+record IsDecimalForm (text : List ℕ) : Type 0 where
   digits : all_ascii_digits text ≡ true
   some : 0 < length text
   no_zero : get_or text 0 0 ≡ 48 → length text ≡ 1
@@ -42,8 +42,8 @@ or_cases : (a b : Bool) → (a || not b) ≡ true → b ≡ true → a ≡ true
 or_cases true b h k = refl
 or_cases false b h k = absurd (false≢true (sym (ap not k) ∙ h))
 
-plain : (text : List ℕ) → is_decimal text ≡ true → IsPlain text
-plain text h =
+decimal_form : (text : List ℕ) → is_decimal text ≡ true → IsDecimalForm text
+decimal_form text h =
     let first = both_true _ _ h in
     let rest = both_true _ _ first.1 in
     record {
@@ -60,7 +60,7 @@ written : (text : List ℕ) (n : ℕ) → result_ok (decimal_in text) ≡ Some n
 written text n h =
     let found = number text (is_decimal text && ltb (digits_value 10 text) (2 ^ 64)) n h in
     let parts = both_true _ _ found.0 in
-    let is = plain text parts.0 in
+    let is = decimal_form text parts.0 in
     sym (decimal-digits_value own text is.digits is.some is.no_zero (ltb-true (digits_value 10 text) (2 ^ 64) parts.1)) ∙ ap decimal found.1
 
 with_mark : (b : Bool) (o : Option ℕ) (n : ℕ) → or_none b o ≡ Some n → o ≡ Some n

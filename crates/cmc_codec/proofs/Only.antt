@@ -10,7 +10,7 @@ use Rattle.cmc_cursor.specs.Readers.{found, name_at, short_text_at, small_count_
 use Rattle.cmc_print.specs.Trees.{natural}
 use Rattle.cmc_print.specs.Puts.{strings}
 use Rattle.cmc_print.specs.Printed.{duration_tree}
-use Rattle.cmc_codec.specs.Given.{worded_at, list_from, list_at, plain_text_at, duration_at, given_at, given_or, member_at, member_or, needed_at}
+use Rattle.cmc_codec.specs.Given.{worded_at, list_from, list_at, clean_text_at, duration_at, given_at, given_or, member_at, member_or, needed_at}
 use Rattle.cmc_codec.specs.MetadataForm.{sought_or, sought_needed}
 use Rattle.cmc_codec.specs.declared.given.Wording.{Wording}
 use Rattle.cmc_codec.specs.declared.given.Wording.TheVariants.{Any, Printable, Address}
@@ -50,8 +50,8 @@ short_text_only n t = kept _ t
 pub name_only : (t : List ℕ) → Only t (name_at (string t))
 name_only t = kept _ t
 
-pub plain_text_only : (t : List ℕ) → Only t (plain_text_at (string t))
-plain_text_only t = kept _ t
+pub clean_text_only : (t : List ℕ) → Only t (clean_text_at (string t))
+clean_text_only t = kept _ t
 
 worded_only : (wording : Wording) (t : List ℕ) → Only t (worded_at wording (string t))
 worded_only Any t = so refl

@@ -15,7 +15,7 @@ use Rattle.cmc_print.specs.Trees.{natural}
 use Rattle.cmc_print.specs.Words.{algorithm_name, encoding_name, rotation_name}
 use Rattle.cmc_print.specs.Puts.{strings, base64_text}
 use Rattle.cmc_print.specs.Printed.{duration_tree, issuer_tree, key_members, spec_tree, request_tree}
-use Rattle.cmc_codec.specs.Given.{list_at, plain_text_at, duration_at, choice_at, given_or}
+use Rattle.cmc_codec.specs.Given.{list_at, clean_text_at, duration_at, choice_at, given_or}
 use Rattle.cmc_codec.specs.declared.given.Wording.TheVariants.{Any, Printable, Address}
 use Rattle.cmc_codec.specs.CertificateForm.{issuer_at, no_key, key_at, subject_in, signing_in, terms_in, target_in, spec_at, request_spec_at}
 use Rattle.cmc_codec.specs.declared.certificate_in.Api.TheVariants.{V1}
@@ -23,7 +23,7 @@ use Rattle.cmc_codec.specs.Laws.{FitsSeconds}
 use Rattle.cmc_codec.proofs.Slots.{slots, some_option, some_object}
 use Rattle.cmc_codec.proofs.PrintedSpecs.{issuer_places, issuer_printed, algorithm_again, encoding_again, rotation_again, always_some, places_of_key, key_printed, empty_key, spec_places, places_of, subject_of, signing_of, terms_of, target_of, behind, spec_printed, places_of_request, request_printed}
 use Rattle.cmc_cursor.proofs.Always.{so}
-use Rattle.cmc_codec.proofs.Only.{Only, given, only_below, only_then, short_text_only, name_only, plain_text_only, list_only, small_count_only, duration_only, option_is, member_or_is, list_is, true_is, needed_is}
+use Rattle.cmc_codec.proofs.Only.{Only, given, only_below, only_then, short_text_only, name_only, clean_text_only, list_only, small_count_only, duration_only, option_is, member_or_is, list_is, true_is, needed_is}
 
 lasting : (o : Option ℕ) → FitsSeconds o → IfSome o (λ n. Only n (duration_at (duration_tree n)))
 lasting None h = tt
@@ -66,7 +66,7 @@ subject_only : (s : CertSpec) → IsLastingSpec s → Only (subject_of s, behind
 unfolding subject_in
 subject_only s is =
     let ps = spec_places (places_of s) in
-    (only_then _ _ _ _ (list_is plain_text_at string (codes "commonName") s.common_name (drop 1 ps) refl (plain_text_only s.common_name))
+    (only_then _ _ _ _ (list_is clean_text_at string (codes "commonName") s.common_name (drop 1 ps) refl (clean_text_only s.common_name))
     (only_then _ _ _ _ (list_is (list_at Printable) strings (codes "dnsNames") s.dns_names (drop 2 ps) refl (list_only Printable s.dns_names))
     (only_then _ _ _ _ (option_is duration_at duration_tree (codes "duration") s.duration (drop 3 ps) refl (lasting s.duration is.duration))
     (only_then _ _ _ _ (list_is (list_at Printable) strings (codes "emailAddresses") s.emails (drop 4 ps) refl (list_only Printable s.emails))

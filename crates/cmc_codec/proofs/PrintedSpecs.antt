@@ -18,7 +18,7 @@ use Rattle.cmc_print.specs.Trees.{natural}
 use Rattle.cmc_print.specs.Words.{algorithm_name, encoding_name, rotation_name}
 use Rattle.cmc_print.specs.Puts.{strings, base64_text}
 use Rattle.cmc_print.specs.Printed.{duration_tree, issuer_tree, key_members, put_references, put_names, put_terms, spec_tree, request_tree}
-use Rattle.cmc_codec.specs.Given.{list_at, plain_text_at, duration_at, choice_at, given_or}
+use Rattle.cmc_codec.specs.Given.{list_at, clean_text_at, duration_at, choice_at, given_or}
 use Rattle.cmc_codec.specs.declared.given.Wording.TheVariants.{Any, Printable, Address}
 use Rattle.cmc_codec.specs.CertificateForm.{issuer_at, no_key, key_at, subject_in, signing_in, terms_in, target_in, spec_at, request_spec_at}
 use Rattle.cmc_codec.specs.declared.certificate_in.Api.TheVariants.{V1}
@@ -138,7 +138,7 @@ IsDurationText o = IfSome o (λ n. duration_at (duration_tree n) ≡ Ok n)
 
 -- what is printed of a spec is of its form
 pub record IsSpec (s : CertSpec) : Type 0 where
-  pub common : plain_text_at (string s.common_name) ≡ Ok s.common_name
+  pub common : clean_text_at (string s.common_name) ≡ Ok s.common_name
   pub dns : list_at Printable (strings s.dns_names) ≡ Ok s.dns_names
   pub duration : IsDurationText s.duration
   pub emails : list_at Printable (strings s.emails) ≡ Ok s.emails
@@ -251,7 +251,7 @@ subject_again : (s : CertSpec) → IsSpec s → subject_in (codes "emailAddresse
 unfolding subject_in
 subject_again s is =
     let ps = spec_places (places_of s) in
-    (bind _ _ _ _ (list_next plain_text_at string (codes "commonName") s.common_name (drop 1 ps) refl is.common)
+    (bind _ _ _ _ (list_next clean_text_at string (codes "commonName") s.common_name (drop 1 ps) refl is.common)
     (bind _ _ _ _ (list_next (list_at Printable) strings (codes "dnsNames") s.dns_names (drop 2 ps) refl is.dns)
     (bind _ _ _ _ (option_next duration_at duration_tree (codes "duration") s.duration (drop 3 ps) refl is.duration)
     (bind _ _ _ _ (list_next (list_at Printable) strings (codes "emailAddresses") s.emails (drop 4 ps) refl is.emails)

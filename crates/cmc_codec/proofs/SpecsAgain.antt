@@ -13,7 +13,7 @@ use Rattle.cmc_cursor.specs.Readers.{name_at, short_text_at, small_count_at, fla
 use Rattle.cmc_print.specs.Trees.{natural}
 use Rattle.cmc_print.specs.Puts.{strings, base64_text}
 use Rattle.cmc_print.specs.Printed.{duration_tree}
-use Rattle.cmc_codec.specs.Given.{list_at, plain_text_at, duration_at, choice_at, member_at, member_or, needed_at}
+use Rattle.cmc_codec.specs.Given.{list_at, clean_text_at, duration_at, choice_at, member_at, member_or, needed_at}
 use Rattle.cmc_codec.specs.declared.given.Wording.{Wording}
 use Rattle.cmc_codec.specs.declared.given.Wording.TheVariants.{Any, Printable, Address}
 use Rattle.cmc_codec.specs.declared.certificate_in.Api.{Api}
@@ -61,11 +61,11 @@ key_so d =
     (λ rotation. after _ HasSize (member_at small_count_at (codes "size") rotation.1) _ (member_so IsNumber small_count_at (codes "size") rotation.1 values.small_count_again)
     (λ size is_size. next HasSize (at_end size.1) _ (λ end. so is_size))))))
 
-empty_again : plain_text_at (string []) ≡ Ok []
+empty_again : clean_text_at (string []) ≡ Ok []
 empty_again = rw (chars-nil) refl
 
 record IsSubject (p : Subject × List Field) : Type 0 where
-  common : plain_text_at (string p.0.common_name) ≡ Ok p.0.common_name
+  common : clean_text_at (string p.0.common_name) ≡ Ok p.0.common_name
   dns : IsListOf Printable p.0.dns_names
   duration : IfSome p.0.duration IsSeconds
   emails : IsListOf Printable p.0.emails
@@ -74,7 +74,7 @@ record IsSubject (p : Subject × List Field) : Type 0 where
 subject_so : (n : List ℕ) (fs : List Field) → readings.Always IsSubject (subject_in n fs)
 unfolding subject_in
 subject_so n fs =
-    after _ IsSubject (member_or [] plain_text_at (codes "commonName") fs) _ (member_or_so (λ t. plain_text_at (string t) ≡ Ok t) [] plain_text_at (codes "commonName") fs empty_again values.plain_text_again)
+    after _ IsSubject (member_or [] clean_text_at (codes "commonName") fs) _ (member_or_so (λ t. clean_text_at (string t) ≡ Ok t) [] clean_text_at (codes "commonName") fs empty_again values.clean_text_again)
     (λ common is_common. after _ IsSubject (member_or [] (list_at Printable) (codes "dnsNames") common.1) _ (member_or_so (IsListOf Printable) [] (list_at Printable) (codes "dnsNames") common.1 refl (values.list_again Printable))
     (λ dns is_dns. after _ IsSubject (member_at duration_at (codes "duration") dns.1) _ (member_so IsSeconds duration_at (codes "duration") dns.1 values.duration_is_again)
     (λ duration is_duration. after _ IsSubject (member_or [] (list_at Printable) n duration.1) _ (member_or_so (IsListOf Printable) [] (list_at Printable) n duration.1 refl (values.list_again Printable))

@@ -12,7 +12,7 @@ use Rattle.cmc_cursor.proofs.Always.{Always, so, failed, next, after, below}
 use Rattle.cmc_print.specs.Trees.{natural}
 use Rattle.cmc_print.specs.Puts.{strings}
 use Rattle.cmc_print.specs.Printed.{duration_tree}
-use Rattle.cmc_codec.specs.Given.{address_text_at, worded_at, list_from, list_at, plain_text_at, duration_at, given_at, given_or, member_at, member_or, needed_at}
+use Rattle.cmc_codec.specs.Given.{address_text_at, worded_at, list_from, list_at, clean_text_at, duration_at, given_at, given_or, member_at, member_or, needed_at}
 use Rattle.cmc_codec.specs.MetadataForm.{sought_or, sought_needed}
 use Rattle.cmc_codec.specs.declared.given.Wording.{Wording}
 use Rattle.cmc_codec.specs.declared.given.Wording.TheVariants.{Any, Printable, Address}
@@ -28,8 +28,8 @@ short_text_again n d = next _ (text_at d) _ (λ t. kept _ _ t (λ h. rw h refl))
 pub name_again : (d : Data) → Always (λ t. name_at (string t) ≡ Ok t) (name_at d)
 name_again d = next _ (text_at d) _ (λ t. kept _ _ t (λ h. rw h refl))
 
-pub plain_text_again : (d : Data) → Always (λ t. plain_text_at (string t) ≡ Ok t) (plain_text_at d)
-plain_text_again d = next _ (text_at d) _ (λ t. kept _ _ t (λ h. rw h refl))
+pub clean_text_again : (d : Data) → Always (λ t. clean_text_at (string t) ≡ Ok t) (clean_text_at d)
+clean_text_again d = next _ (text_at d) _ (λ t. kept _ _ t (λ h. rw h refl))
 
 text_again : (d : Data) → Always (λ t. text_at (string t) ≡ Ok t) (text_at d)
 text_again d = record { each = λ t e. refl }

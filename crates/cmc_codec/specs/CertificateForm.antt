@@ -10,7 +10,7 @@ use Rattle.cmc_objects.specs.declared.certificate.CertSpec.{CertSpec}
 use Rattle.cmc_objects.specs.declared.request.RequestSpec.{RequestSpec}
 use Rattle.cmc_cursor.specs.Reading.{Read, ◌>>=◌, Field, fields_at, at_end}
 use Rattle.cmc_cursor.specs.Readers.{name_at, short_text_at, small_count_at, flag_at, bytes_at}
-use Rattle.cmc_codec.specs.Given.{list_at, plain_text_at, duration_at, choice_at, member_at, member_or, needed_at}
+use Rattle.cmc_codec.specs.Given.{list_at, clean_text_at, duration_at, choice_at, member_at, member_or, needed_at}
 use Rattle.cmc_codec.specs.declared.given.Wording.TheVariants.{Any, Printable, Address}
 use Rattle.cmc_codec.specs.declared.certificate_in.Api.{Api}
 use Rattle.cmc_codec.specs.declared.certificate_in.Api.TheVariants.{V1, V1Alpha2}
@@ -52,7 +52,7 @@ key_at d = do
 -- What the certificate is asked for. The member with the email addresses has this name.
 unfoldable pub subject_in : List ℕ → List Field → Read (Subject × List Field)
 subject_in emails_name fs = do
-  common ← member_or [] plain_text_at (codes "commonName") fs
+  common ← member_or [] clean_text_at (codes "commonName") fs
   dns ← member_or [] (list_at Printable) (codes "dnsNames") common.1
   duration ← member_at duration_at (codes "duration") dns.1
   emails ← member_or [] (list_at Printable) emails_name duration.1

@@ -3,7 +3,7 @@ use Rattle.std.specs.Prelude.{ℕ, List, [], ◌∷◌, ◌+◌, decimal, if◌t
 use Rattle.std.specs.declared.option.Option.{Option}
 use Rattle.std.specs.Str.{bytes_eq}
 use Rattle.serde_json.specs.Data.{Data, null, boolean, number, string, array, object, Items, no_items, item}
-use Rattle.cmc_meta.specs.Wordings.{is_plain}
+use Rattle.cmc_meta.specs.Wordings.{is_clean}
 use Rattle.cmc_time.specs.DurationReading.{duration_seconds}
 use Rattle.cmc_x509_build.specs.Addresses.{address_at}
 use Rattle.cmc_cursor.specs.Reading.{Read, ◌>>=◌, under, Field, optional_at, required_at}
@@ -37,8 +37,8 @@ list_at wording (string s) = Err []
 list_at wording (object ms) = Err []
 
 -- A text without a control character.
-abbrev pub plain_text_at : Data → Read (List ℕ)
-plain_text_at d = text_at d >>= (λ t. if is_plain t then Ok t else Err [])
+abbrev pub clean_text_at : Data → Read (List ℕ)
+clean_text_at d = text_at d >>= (λ t. if is_clean t then Ok t else Err [])
 
 -- A duration as Go's time.Duration is written, in seconds.
 abbrev pub duration_at : Data → Read ℕ

@@ -7,8 +7,8 @@ ghost use Rattle.cmc_codec.specs.Given.{member_or, needed_at};
 ghost use Rattle.cmc_codec.specs.CertificateForm as forms;
 
 use crate::given::{
-    Wording, choice, given_choice, given_count, given_duration, given_flag, given_list,
-    given_plain_text, given_short_text, needed_name, needed_short_text,
+    Wording, choice, given_choice, given_clean_text, given_count, given_duration, given_flag,
+    given_list, given_short_text, needed_name, needed_short_text,
 };
 use cmc_cursor::{BadField, Fields, at, check_end, fields, optional, required};
 use cmc_meta::{Name, Text, Texts};
@@ -160,7 +160,7 @@ fn read_subject<'a, 'b>(
 ) -> Result<(Subject, Fields<'a, 'b>), BadField>
     ensures { Gives (λ p. (p.0, map shown p.1.now)) result (forms.subject_in emails_name.now (map shown rest.now)) }
 {
-    let (common_name, rest) = given_plain_text(alloc, rest, "commonName")?;
+    let (common_name, rest) = given_clean_text(alloc, rest, "commonName")?;
     let (dns_names, rest) = given_list(alloc, rest, "dnsNames", Wording::Printable)?;
     let (duration, rest) = given_duration(alloc, rest, "duration")?;
     let (emails, rest) = given_list(alloc, rest, emails_name, Wording::Printable)?;

@@ -5,13 +5,13 @@ ghost use Rattle.cmc_x509_build.specs.Addresses as addresses;
 ghost use Rattle.cmc_cursor.specs.Reading.{Gives, under};
 ghost use Rattle.cmc_cursor.specs.Readers.{bytes_at, flag_at, name_at, short_text_at, small_count_at};
 ghost use Rattle.cmc_cursor.specs.Seen.{shown};
-ghost use Rattle.cmc_codec.specs.Given.{address_text_at, worded_at, list_from, list_at, plain_text_at, duration_at, choice_at, member_at, member_or, needed_at};
+ghost use Rattle.cmc_codec.specs.Given.{address_text_at, worded_at, list_from, list_at, clean_text_at, duration_at, choice_at, member_at, member_or, needed_at};
 
 use cmc_cursor::{
     BadField, Fields, at, at_place, bytes, flag, name, optional, printable, required, short_text,
     small_count, text,
 };
-use cmc_meta::{Bytes, Name, Text, Texts, is_plain};
+use cmc_meta::{Bytes, Name, Text, Texts, is_clean};
 use cmc_time::read_duration;
 use cmc_x509_build::address_at;
 use serde_json::Value;
@@ -86,11 +86,11 @@ fn list(alloc: Global, wording: Wording, value: &Value) -> Result<Texts, BadFiel
     }
 }
 
-fn plain_text(alloc: Global, value: &Value) -> Result<Text, BadField>
-    ensures { Gives (λ t. t) result (plain_text_at (view value.now)) }
+fn clean_text(alloc: Global, value: &Value) -> Result<Text, BadField>
+    ensures { Gives (λ t. t) result (clean_text_at (view value.now)) }
 {
     match value.as_str() {
-        Some(text) if is_plain(text) => Ok(Text::from_str(alloc, text)?),
+        Some(text) if is_clean(text) => Ok(Text::from_str(alloc, text)?),
         _ => Err(BadField::Path(Text::new(alloc))),
     }
 }
@@ -139,16 +139,16 @@ pub fn given_list<'a, 'b>(
 }
 
 /// A text without a control character, empty where the member is left out.
-pub fn given_plain_text<'a, 'b>(
+pub fn given_clean_text<'a, 'b>(
     alloc: Global,
     rest: Fields<'a, 'b>,
     name: &str,
 ) -> Result<(Text, Fields<'a, 'b>), BadField>
-    ensures { Gives (λ p. (p.0, map shown p.1.now)) result (member_or [] plain_text_at name.now (map shown rest.now)) }
+    ensures { Gives (λ p. (p.0, map shown p.1.now)) result (member_or [] clean_text_at name.now (map shown rest.now)) }
 {
     match optional(alloc, rest, name)? {
         (None, rest) => Ok((Text::new(alloc), rest)),
-        (Some(value), rest) => Ok((at(alloc, name, plain_text(alloc, value))?, rest)),
+        (Some(value), rest) => Ok((at(alloc, name, clean_text(alloc, value))?, rest)),
     }
 }
 

@@ -49,8 +49,8 @@ fn rows_of<'a>(material: &'a Material, namespace: &Name, name: &[u8]) -> Option<
     None
 }
 
-fn plain_row(alloc: Global) -> SignRow
-    ensures { result ≡ orders.plain_row }
+fn default_row(alloc: Global) -> SignRow
+    ensures { result ≡ orders.default_row }
 {
     SignRow::Issue {
         seconds: None,
@@ -62,22 +62,22 @@ fn plain_row(alloc: Global) -> SignRow
 }
 
 fn last_in(rows: &[SignRow]) -> Option<&SignRow>
-    ensures { unwrap_or (option_copied result) orders.plain_row ≡ orders.last_or orders.plain_row rows.now }
+    ensures { unwrap_or (option_copied result) orders.default_row ≡ orders.last_or orders.default_row rows.now }
 {
     rows.last()
 }
 
 fn last_row(alloc: Global, rows: &[SignRow]) -> Result<SignRow, AllocError>
-    ensures { IfOk result (λ r. r ≡ orders.last_or orders.plain_row rows.now) }
+    ensures { IfOk result (λ r. r ≡ orders.last_or orders.default_row rows.now) }
 {
     match last_in(rows) {
-        None => Ok(plain_row(alloc)),
+        None => Ok(default_row(alloc)),
         Some(row) => row.copy(),
     }
 }
 
 fn row_in(alloc: Global, rows: &[SignRow], asked: u64) -> Result<SignRow, AllocError>
-    ensures { IfOk result (λ r. r ≡ unwrap_or (slice_get rows.now asked) (orders.last_or orders.plain_row rows.now)) }
+    ensures { IfOk result (λ r. r ≡ unwrap_or (slice_get rows.now asked) (orders.last_or orders.default_row rows.now)) }
 {
     match rows.get(asked as usize) {
         None => last_row(alloc, rows),
@@ -86,7 +86,7 @@ fn row_in(alloc: Global, rows: &[SignRow], asked: u64) -> Result<SignRow, AllocE
 }
 
 /// The answer that is set out for the question about the request before which that many were asked for its Certificate:
-/// the one in that place, counted from 0, past the end the last one, and where there is none a plain certificate.
+/// the one in that place, counted from 0, past the end the last one, and where there is none a certificate of the request alone.
 ///
 /// # Errors
 ///
@@ -105,7 +105,7 @@ pub fn reply_row(
         &request.meta.namespace,
         certificate_named(request),
     ) {
-        None => Ok(plain_row(alloc)),
+        None => Ok(default_row(alloc)),
         Some(rows) => row_in(alloc, rows.replies.as_slice(), asked),
     }
 }

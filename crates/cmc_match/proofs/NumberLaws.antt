@@ -57,7 +57,7 @@ own : IsNumeralModel (λ ds. all_ascii_digits ds ≡ true) (digits_value 10)
 own = numerals_by_value _ tells_all_ascii_digits
 
 -- a text without a needless zero
-record IsPlain (text : List ℕ) : Type 0 where
+record IsDecimalForm (text : List ℕ) : Type 0 where
   digits : all_ascii_digits text ≡ true
   some : 0 < length text
   no_zero : get_or text 0 0 ≡ 48 → length text ≡ 1
@@ -66,8 +66,8 @@ or_cases : (a b : Bool) → (a || not b) ≡ true → b ≡ true → a ≡ true
 or_cases true b h k = refl
 or_cases false b h k = absurd (false≢true (sym (ap not k) ∙ h))
 
-plain : (text : List ℕ) → is_decimal text ≡ true → IsPlain text
-plain text h =
+decimal_form : (text : List ℕ) → is_decimal text ≡ true → IsDecimalForm text
+decimal_form text h =
     let first = both_true _ _ h in
     let rest = both_true _ _ first.1 in
     record {
@@ -84,7 +84,7 @@ number_written text n h =
     elim (cases_Bool (is_decimal text && ltb (digits_value 10 text) (2 ^ 64))) [
       | inl test ↦
           let parts = both_true _ _ test in
-          let is = plain text parts.0 in
+          let is = decimal_form text parts.0 in
           let same : digits_value 10 text ≡ n = same_Some (digits_value 10 text) n (sym (rw test refl) ∙ h) in
           sym (decimal-digits_value own text is.digits is.some is.no_zero (ltb-true (digits_value 10 text) (2 ^ 64) parts.1)) ∙ ap decimal same
       | inr fails ↦ absurd (none-some n (sym (rw fails refl) ∙ h))

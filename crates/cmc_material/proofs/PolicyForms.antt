@@ -22,7 +22,7 @@ use Rattle.cmc_cursor.specs.Readers.{found, text_at, texts_at, flag_at, small_co
 use Rattle.cmc_material.specs.declared.policy.Limits.{Limits}
 use Rattle.cmc_material.specs.declared.policy.Named.{Named}
 use Rattle.cmc_material.specs.Lists.{numbered_below, member_or, member_option}
-use Rattle.cmc_material.specs.Approvers.{pattern_at, address_in, address_pattern_at, patterns_at, addresses_at, duration_at, is_rsa_at, named_in, limits_in, policy_of, policy_at, policies_at, every_issuer, approver_at, plain_approver}
+use Rattle.cmc_material.specs.Approvers.{pattern_at, address_in, address_pattern_at, patterns_at, addresses_at, duration_at, is_rsa_at, named_in, limits_in, policy_of, policy_at, policies_at, every_issuer, approver_at, default_approver}
 use Rattle.cmc_cursor.proofs.Always.{Always, so, failed, next, after, where_true, with_both, further}
 use Rattle.cmc_material.proofs.ListForms.{both, of_member_or, of_member_option, of_numbered_below, of_list, of_short_list}
 
@@ -198,5 +198,5 @@ of_rules : (d : Data) → Always IsApprover (approver_at d)
 unfolding approver_at
 of_rules d = next (IsApprover) (fields_at d) _ (λ fs. next (IsApprover) (optional_at (codes "issuers") fs) _ (λ first. next (IsApprover) (member_or every_issuer (codes "issuers") texts_at first.0) _ (λ issuers. next (IsApprover) (optional_at (codes "policies") first.1) _ (λ second. after (ArePolicies) (IsApprover) (member_or [] (codes "policies") policies_at second.0) _ (of_member_or ArePolicies [] (codes "policies") policies_at second.0 refl of_policies) (λ policies formed. next (IsApprover) (optional_at (codes "refuse") second.1) _ (λ third. next (IsApprover) (member_or [] (codes "refuse") texts_at third.0) _ (λ refuse. next (IsApprover) (at_end third.1) _ (λ end. so formed))))))))
 
-pub of_approver : (given : Option Data) → Always IsApprover (member_or plain_approver (codes "approver") approver_at given)
-of_approver given = of_member_or IsApprover plain_approver (codes "approver") approver_at given refl of_rules
+pub of_approver : (given : Option Data) → Always IsApprover (member_or default_approver (codes "approver") approver_at given)
+of_approver given = of_member_or IsApprover default_approver (codes "approver") approver_at given refl of_rules

@@ -132,5 +132,5 @@ approver_at d = do
   Ok (record { issuers = issuers; refuse = refuse; policies = policies })
 
 -- It refuses none and has no policies.
-abbrev pub plain_approver : Rules
-plain_approver = record { issuers = every_issuer; refuse = []; policies = [] }
+abbrev pub default_approver : Rules
+default_approver = record { issuers = every_issuer; refuse = []; policies = [] }

@@ -5,7 +5,7 @@ ghost use Rattle.cmc_cursor.specs.Reading.{Gives};
 ghost use Rattle.cmc_cursor.specs.Readers.{texts_at};
 ghost use Rattle.cmc_cursor.specs.Seen.{shown_option};
 ghost use Rattle.cmc_material.specs.Lists.{member_or};
-ghost use Rattle.cmc_material.specs.Approvers.{approver_at, every_issuer, plain_approver};
+ghost use Rattle.cmc_material.specs.Approvers.{approver_at, every_issuer, default_approver};
 
 use crate::policy::policies;
 use cmc_cursor::{BadField, at, check_end, fields, optional, texts};
@@ -62,7 +62,7 @@ fn rules(alloc: Global, value: &Value) -> Result<Rules, BadField>
 
 /// An approver that judges the requests of all issuers, refuses none and has no policies.
 pub fn usual_approver(alloc: Global) -> Result<Rules, AllocError>
-    ensures { IfOk result (λ r. r ≡ plain_approver) }
+    ensures { IfOk result (λ r. r ≡ default_approver) }
 {
     let issuers = all_issuers(alloc)?;
     Ok(Rules {
@@ -74,7 +74,7 @@ pub fn usual_approver(alloc: Global) -> Result<Rules, AllocError>
 
 /// The member `approver`.
 pub fn approver(alloc: Global, value: Option<&Value>) -> Result<Rules, BadField>
-    ensures { Gives (λ t. t) result (member_or plain_approver (codes "approver") approver_at (shown_option value.entry)) }
+    ensures { Gives (λ t. t) result (member_or default_approver (codes "approver") approver_at (shown_option value.entry)) }
 {
     match value {
         None => Ok(usual_approver(alloc)?),

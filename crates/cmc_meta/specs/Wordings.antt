@@ -13,5 +13,5 @@ abbrev pub is_printable_name : List ℕ → Bool
 is_printable_name t = nat_le 1 (length t) && (nat_le (length t) 253 && list_all is_printable t)
 
 -- a text without a control character
-abbrev pub is_plain : List ℕ → Bool
-is_plain t = not (list_any is_control (chars t))
+abbrev pub is_clean : List ℕ → Bool
+is_clean t = not (list_any is_control (chars t))

@@ -1,6 +1,6 @@
 //! Names, keys, metadata and conditions of Kubernetes objects.
 //!
-//! Each list type is a small newtype that contracts see as a plain list, or as pairs in order of key,
+//! Each list type is a small newtype that contracts see as a list, or as pairs in order of key,
 //! so that `≡` between two values speaks of their content alone.
 #![tactic(auto)]
 
@@ -26,4 +26,4 @@ pub use owners::{OwnerRef, Owners};
 pub use pairs::Pairs;
 pub use text::Text;
 pub use texts::Texts;
-pub use wording::{is_plain, is_printable_name};
+pub use wording::{is_clean, is_printable_name};

@@ -26,8 +26,8 @@ fn has_control(text: &str) -> bool
 }
 
 /// Whether the text has no control character: what a common name may be.
-pub fn is_plain(text: &str) -> bool
-    ensures { result ≡ spec.is_plain text.now }
+pub fn is_clean(text: &str) -> bool
+    ensures { result ≡ spec.is_clean text.now }
 {
     !has_control(text)
 }

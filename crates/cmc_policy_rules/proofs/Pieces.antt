@@ -1,31 +1,31 @@
 -- A pattern by its pieces: each stands for itself, and of the places of a piece the leftmost serves.
 use Rattle.std.proofs.Common.{◌≡◌, ℕ, suc, ◌==◌, Bool, false, List, [], ◌∷◌, ◌++◌, refl, sym, ◌∙◌, ap, subst, append_assoc, arith, ◌↔◌}
 use Rattle.std.proofs.lemmas.List.{append_cancel_left}
-use Rattle.cmc_policy_rules.specs.Matching.{star, EndsWith, StandsFor, Matches, IsPlain, IsCut, IsFirstPlace, StandsNowhere}
+use Rattle.cmc_policy_rules.specs.Matching.{star, EndsWith, StandsFor, Matches, IsStarless, IsCut, IsFirstPlace, StandsNowhere}
 
-first_plain : (byte : ℕ) (piece : List ℕ) → IsPlain (byte ∷ piece) → (byte == star) ≡ false
-first_plain byte piece plain = plain 0 0 (omega arith)
+first_starless : (byte : ℕ) (piece : List ℕ) → IsStarless (byte ∷ piece) → (byte == star) ≡ false
+first_starless byte piece starless = starless 0 0 (omega arith)
 
-rest_plain : (byte : ℕ) (piece : List ℕ) → IsPlain (byte ∷ piece) → IsPlain piece
-rest_plain byte piece plain = λ k d within. plain (suc k) d (omega arith)
+rest_starless : (byte : ℕ) (piece : List ℕ) → IsStarless (byte ∷ piece) → IsStarless piece
+rest_starless byte piece starless = λ k d within. starless (suc k) d (omega arith)
 
 -- a piece stands for itself
-pub piece_taken : (piece behind text : List ℕ) → IsPlain piece → Matches (piece ++ behind) text
+pub piece_taken : (piece behind text : List ℕ) → IsStarless piece → Matches (piece ++ behind) text
     → (rest : List ℕ) × (text ≡ piece ++ rest) × Matches behind rest
-piece_taken [] behind text plain matched = (text, refl, matched)
-piece_taken (byte ∷ piece) behind text plain matched =
-    let first : text ≡ byte ∷ matched.0 = subst (λ (v : Bool). StandsFor v byte text matched.0) (first_plain byte piece plain) matched.1 in
+piece_taken [] behind text starless matched = (text, refl, matched)
+piece_taken (byte ∷ piece) behind text starless matched =
+    let first : text ≡ byte ∷ matched.0 = subst (λ (v : Bool). StandsFor v byte text matched.0) (first_starless byte piece starless) matched.1 in
     let more : (rest : List ℕ) × (matched.0 ≡ piece ++ rest) × Matches behind rest =
-    piece_taken piece behind matched.0 (rest_plain byte piece plain) matched.2 in
+    piece_taken piece behind matched.0 (rest_starless byte piece starless) matched.2 in
     (more.0, first ∙ ap (λ (l : List ℕ). byte ∷ l) more.1, more.2)
 
-pub piece_given : (piece behind text rest : List ℕ) → IsPlain piece → text ≡ piece ++ rest → Matches behind rest
+pub piece_given : (piece behind text rest : List ℕ) → IsStarless piece → text ≡ piece ++ rest → Matches behind rest
     → Matches (piece ++ behind) text
-piece_given [] behind text rest plain same matched = subst (λ (l : List ℕ). Matches behind l) (sym same) matched
-piece_given (byte ∷ piece) behind text rest plain same matched = (
+piece_given [] behind text rest starless same matched = subst (λ (l : List ℕ). Matches behind l) (sym same) matched
+piece_given (byte ∷ piece) behind text rest starless same matched = (
   piece ++ rest,
-  subst (λ (v : Bool). StandsFor v byte text (piece ++ rest)) (sym (first_plain byte piece plain)) same,
-  piece_given piece behind (piece ++ rest) rest (rest_plain byte piece plain) refl matched,
+  subst (λ (v : Bool). StandsFor v byte text (piece ++ rest)) (sym (first_starless byte piece starless)) same,
+  piece_given piece behind (piece ++ rest) rest (rest_starless byte piece starless) refl matched,
 )
 
 pub ends_further : (text middle rest : List ℕ) → EndsWith text middle → EndsWith middle rest → EndsWith text rest
@@ -42,14 +42,14 @@ pub first_place : (pattern piece behind text rest : List ℕ) → IsCut pattern 
 first_place pattern piece behind text rest cut place = (
   (λ (later, ends, matched).
       let taken : (after : List ℕ) × (later ≡ piece ++ after) × Matches (star ∷ behind) after =
-      piece_taken piece (star ∷ behind) later cut.plain (subst (λ (p : List ℕ). Matches p later) cut.whole matched) in
+      piece_taken piece (star ∷ behind) later cut.starless (subst (λ (p : List ℕ). Matches p later) cut.whole matched) in
       star_more behind rest taken.0
       (place.leftmost taken.0 (subst (λ (l : List ℕ). EndsWith text l) taken.1 ends)) taken.2),
   (λ matched. (
     piece ++ rest,
     place.here,
     subst (λ (p : List ℕ). Matches p (piece ++ rest)) (sym cut.whole)
-        (piece_given piece (star ∷ behind) (piece ++ rest) rest cut.plain refl matched),
+        (piece_given piece (star ∷ behind) (piece ++ rest) rest cut.starless refl matched),
   )),
 )
 
@@ -58,30 +58,30 @@ pub no_place : (pattern piece behind text : List ℕ) → IsCut pattern piece be
     → StandsNowhere text piece → Matches (star ∷ pattern) text → ⊥
 no_place pattern piece behind text cut none (later, ends, matched) =
     let taken : (after : List ℕ) × (later ≡ piece ++ after) × Matches (star ∷ behind) after =
-    piece_taken piece (star ∷ behind) later cut.plain (subst (λ (p : List ℕ). Matches p later) cut.whole matched) in
+    piece_taken piece (star ∷ behind) later cut.starless (subst (λ (p : List ℕ). Matches p later) cut.whole matched) in
     none taken.0 (subst (λ (l : List ℕ). EndsWith text l) taken.1 ends)
 
 -- a pattern without a star matches itself alone
-pub plain_matches : (pattern text : List ℕ) → IsPlain pattern → Matches pattern text ↔ (text ≡ pattern)
-plain_matches [] text plain = ((λ same. same), (λ same. same))
-plain_matches (byte ∷ pattern) text plain = (
+pub starless_matches : (pattern text : List ℕ) → IsStarless pattern → Matches pattern text ↔ (text ≡ pattern)
+starless_matches [] text starless = ((λ same. same), (λ same. same))
+starless_matches (byte ∷ pattern) text starless = (
   (λ matched.
       let first : text ≡ byte ∷ matched.0 =
-      subst (λ (v : Bool). StandsFor v byte text matched.0) (first_plain byte pattern plain) matched.1 in
+      subst (λ (v : Bool). StandsFor v byte text matched.0) (first_starless byte pattern starless) matched.1 in
       first ∙ ap (λ (l : List ℕ). byte ∷ l)
-      ((plain_matches pattern matched.0 (rest_plain byte pattern plain)).0 matched.2)),
+      ((starless_matches pattern matched.0 (rest_starless byte pattern starless)).0 matched.2)),
   (λ same. (
     pattern,
-    subst (λ (v : Bool). StandsFor v byte text pattern) (sym (first_plain byte pattern plain)) same,
-    (plain_matches pattern pattern (rest_plain byte pattern plain)).1 refl,
+    subst (λ (v : Bool). StandsFor v byte text pattern) (sym (first_starless byte pattern starless)) same,
+    (starless_matches pattern pattern (rest_starless byte pattern starless)).1 refl,
   )),
 )
 
 -- behind a star it matches the texts that end with it
-pub plain_end : (pattern text : List ℕ) → IsPlain pattern → Matches (star ∷ pattern) text ↔ EndsWith text pattern
-plain_end pattern text plain = (
-  (λ (rest, ends, matched). subst (λ (l : List ℕ). EndsWith text l) ((plain_matches pattern rest plain).0 matched) ends),
-  (λ ends. (pattern, ends, (plain_matches pattern pattern plain).1 refl)),
+pub starless_end : (pattern text : List ℕ) → IsStarless pattern → Matches (star ∷ pattern) text ↔ EndsWith text pattern
+starless_end pattern text starless = (
+  (λ (rest, ends, matched). subst (λ (l : List ℕ). EndsWith text l) ((starless_matches pattern rest starless).0 matched) ends),
+  (λ ends. (pattern, ends, (starless_matches pattern pattern starless).1 refl)),
 )
 
 -- a pattern that begins with a piece
@@ -89,10 +89,10 @@ pub front_piece : (pattern piece behind text rest : List ℕ) → IsCut pattern 
     → Matches (star ∷ behind) rest ↔ Matches pattern text
 front_piece pattern piece behind text rest cut same = (
   (λ matched. subst (λ (p : List ℕ). Matches p text) (sym cut.whole)
-      (piece_given piece (star ∷ behind) text rest cut.plain same matched)),
+      (piece_given piece (star ∷ behind) text rest cut.starless same matched)),
   (λ matched.
       let taken : (after : List ℕ) × (text ≡ piece ++ after) × Matches (star ∷ behind) after =
-      piece_taken piece (star ∷ behind) text cut.plain (subst (λ (p : List ℕ). Matches p text) cut.whole matched) in
+      piece_taken piece (star ∷ behind) text cut.starless (subst (λ (p : List ℕ). Matches p text) cut.whole matched) in
       subst (λ (l : List ℕ). Matches (star ∷ behind) l)
       (append_cancel_left piece taken.0 rest (sym taken.1 ∙ same)) taken.2),
 )
@@ -102,5 +102,5 @@ pub other_front : (pattern piece behind text : List ℕ) → IsCut pattern piece
     → ((rest : List ℕ) → text ≡ piece ++ rest → ⊥) → Matches pattern text → ⊥
 other_front pattern piece behind text cut other matched =
     let taken : (after : List ℕ) × (text ≡ piece ++ after) × Matches (star ∷ behind) after =
-    piece_taken piece (star ∷ behind) text cut.plain (subst (λ (p : List ℕ). Matches p text) cut.whole matched) in
+    piece_taken piece (star ∷ behind) text cut.starless (subst (λ (p : List ℕ). Matches p text) cut.whole matched) in
     other taken.0 taken.1

@@ -40,13 +40,13 @@ is_match [] text = is_empty text
 is_match (byte ∷ pattern) text = is_begun (byte == star) byte (is_match pattern) text
 
 -- bytes without a star
-abbrev pub IsPlain : List ℕ → Type 0
-IsPlain bytes = All (λ byte. (byte == star) ≡ false) bytes
+abbrev pub IsStarless : List ℕ → Type 0
+IsStarless bytes = All (λ byte. (byte == star) ≡ false) bytes
 
 -- the pattern is a piece without a star, a star, and what stands behind it
 pub record IsCut (pattern piece behind : List ℕ) : Type 0 where
   pub whole : pattern ≡ piece ++ (star ∷ behind)
-  pub plain : IsPlain piece
+  pub starless : IsStarless piece
 
 -- the piece stands in the text before the rest, and nowhere further to the left
 pub record IsFirstPlace (text piece rest : List ℕ) : Type 0 where

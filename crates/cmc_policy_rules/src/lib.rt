@@ -1,7 +1,7 @@
 //! Approval policies: which certificate requests may be approved (a profile of the CertificateRequestPolicy of
 //! cert-manager's approver-policy).
 //!
-//! Each list type is a small newtype that contracts see as a plain list.
+//! Each list type is a small newtype that contracts see as a list.
 #![tactic(auto)]
 
 mod allowing;

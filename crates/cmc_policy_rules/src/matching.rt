@@ -1,6 +1,6 @@
 //! Patterns in which `*` stands for any bytes.
 ghost use Rattle.std.specs.Prelude.{◌≡◌, ◌↔◌, ◌∷◌, IsTrue, MatchOption};
-ghost use Rattle.cmc_policy_rules.specs.Matching.{star, Matches, is_match, IsPlain, IsCut, IsFirstPlace, StandsNowhere};
+ghost use Rattle.cmc_policy_rules.specs.Matching.{star, Matches, is_match, IsStarless, IsCut, IsFirstPlace, StandsNowhere};
 
 /// Whether the text matches the pattern: each `*` stands for any bytes, also for none, and each other byte for
 /// itself (approver-policy: `*` is the only wildcard). It takes time in proportion to the product of both
@@ -43,7 +43,7 @@ fn matches_behind_star(pattern: &[u8], text: &[u8]) -> bool
 
 // The bytes before the first star, and those behind it; None where there is no star.
 fn cut(pattern: &[u8]) -> Option<(&[u8], &[u8])>
-    ensures { MatchOption result (IsPlain pattern.now) (λ parts. IsCut pattern.now parts.0.now parts.1.now) }
+    ensures { MatchOption result (IsStarless pattern.now) (λ parts. IsCut pattern.now parts.0.now parts.1.now) }
 {
     let at = pattern.iter().position(|byte| *byte == b'*')?;
     Some((&pattern[..at], &pattern[at + 1..]))

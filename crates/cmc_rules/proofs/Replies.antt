@@ -9,7 +9,7 @@ use Rattle.cmc_objects.specs.declared.rows.Rows.{Rows}
 use Rattle.cmc_objects.specs.declared.rows.SignRow.{SignRow}
 use Rattle.cmc_objects.specs.Materials.{rows_at}
 use Rattle.cmc_objects.specs.Requests.{is_row_form}
-use Rattle.cmc_rules.specs.Orders.{plain_row, last_or, reply_row_in, reply_row}
+use Rattle.cmc_rules.specs.Orders.{default_row, last_or, reply_row_in, reply_row}
 
 both : (a b : Bool) → (a && b) ≡ true → (a ≡ true) × (b ≡ true)
 both true b h = (refl, h)
@@ -39,7 +39,7 @@ found_form test (e ∷ es) sought gives all =
 
 in_form : (rows : Option Rows) (asked : ℕ) → HasForms rows → is_row_form (reply_row_in rows asked) ≡ true
 in_form None asked all = refl
-in_form (Some rows) asked all = row_form rows.replies asked (last_or plain_row rows.replies) (last_form rows.replies plain_row refl all) all
+in_form (Some rows) asked all = row_form rows.replies asked (last_or default_row rows.replies) (last_form rows.replies default_row refl all) all
 
 -- whatever test the entries pass, if it gives the form of their rows
 pub reply_row_form : (test : Key × Rows → Bool) (material : List (Key × Rows)) (certificate : Key) (asked : ℕ) → ((e : Key × Rows) → test e ≡ true → list_all is_row_form e.1.replies ≡ true) → list_all test material ≡ true

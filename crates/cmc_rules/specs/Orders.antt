@@ -17,17 +17,17 @@ unfoldable pub key_row : List (Key × Rows) → Key → ℕ → KeyRow
 key_row material certificate asked = key_row_in (rows_at material certificate) asked
 
 -- a certificate of the duration that the request asks for, and no CA's
-abbrev pub plain_row : SignRow
-plain_row = Issue None 0 None None []
+abbrev pub default_row : SignRow
+default_row = Issue None 0 None None []
 
 abbrev pub last_or : SignRow → List SignRow → SignRow
 last_or row [] = row
 last_or row (next ∷ rows) = last_or next rows
 
--- past the end the last row holds, and where there is none a plain one
+-- past the end the last row holds, and where there is none the default one
 abbrev pub reply_row_in : Option Rows → ℕ → SignRow
-reply_row_in None asked = plain_row
-reply_row_in (Some rows) asked = unwrap_or (slice_get rows.replies asked) (last_or plain_row rows.replies)
+reply_row_in None asked = default_row
+reply_row_in (Some rows) asked = unwrap_or (slice_get rows.replies asked) (last_or default_row rows.replies)
 
 unfoldable pub reply_row : List (Key × Rows) → Key → ℕ → SignRow
 reply_row material certificate asked = reply_row_in (rows_at material certificate) asked

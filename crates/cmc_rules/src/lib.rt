@@ -1,4 +1,4 @@
-//! What roles see, do and may do, and which histories are runs: the definitions, with the plain types that they
+//! What roles see, do and may do, and which histories are runs: the definitions, with the types that they
 //! compute.
 #![tactic(auto)]
 

@@ -7,7 +7,7 @@ use Rattle.std.proofs.lemmas.Bool.Decides.{nat_tests}
 use Rattle.std.proofs.lemmas.List.{append-nil, length-append}
 use Rattle.std.proofs.lemmas.List.Sums.{sum_by-cons}
 use Rattle.cmc_meta.specs.Names.{is_alphanumeric, is_label_byte, is_label, labels_from, has_labels, is_subdomain}
-use Rattle.cmc_meta.specs.Wordings.{is_printable, is_printable_name, is_plain}
+use Rattle.cmc_meta.specs.Wordings.{is_printable, is_printable_name, is_clean}
 use Rattle.cmc_objects.specs.declared.entry.Step.{Step}
 use Rattle.cmc_objects.specs.declared.entry.Step.TheVariants.{Settle, Tick}
 use Rattle.cmc_setup.specs.Forms.{is_step_form}
@@ -15,7 +15,7 @@ use Rattle.cmc_setup.specs.Holds.{AreHeldInTurn, none_held}
 use Rattle.cmc_setup.specs.Setups.{IsSetup, IsTickForm, IsOrderlyFrom, ticked, seconds_of}
 use Rattle.cmc_scenario.specs.Roles.{all_roles}
 use Rattle.cmc_scenario.specs.Loads.{load_name, load_secret, load_host, load_setup, load_step, loads, rests}
-use Rattle.cmc_scenario.proofs.ReadForms.{empty_is_plain}
+use Rattle.cmc_scenario.proofs.ReadForms.{empty_is_clean}
 
 -- ---- names
 
@@ -84,7 +84,7 @@ host_is_printable n below = host_of (n / 100 / 10) (n / 100 % 10) (n % 100 / 10)
 
 -- but for its host, a generated Certificate has the form by computation
 load_form : (i : ℕ) → i < 10000 → is_step_form (load_step i) ≡ true
-load_form i below = both (is_plain []) _ empty_is_plain (both (list_all is_printable_name (load_host i ∷ [])) true (both (is_printable_name (load_host i)) true (host_is_printable i below) refl) refl)
+load_form i below = both (is_clean []) _ empty_is_clean (both (list_all is_printable_name (load_host i ∷ [])) true (both (is_printable_name (load_host i)) true (host_is_printable i below) refl) refl)
 
 -- ---- the script
 

@@ -7,7 +7,7 @@ use Rattle.std.specs.Str.{bytes_eq}
 use Rattle.std.proofs.lemmas.Bool.Decides.{nat_tests}
 use Rattle.std.proofs.lemmas.Str.{chars-nil}
 use Rattle.serde_json.specs.Data.{Data, null, boolean, number, string, array, object, Items, no_items, item}
-use Rattle.cmc_meta.specs.Wordings.{is_plain, is_printable_name}
+use Rattle.cmc_meta.specs.Wordings.{is_clean, is_printable_name}
 use Rattle.cmc_time.specs.Durations.{longest, IsDuration}
 use Rattle.cmc_time.specs.DurationReading.{duration_seconds}
 use Rattle.cmc_time.proofs.DurationLaws.{duration_found}
@@ -20,7 +20,7 @@ use Rattle.cmc_objects.specs.Requests.{is_short_text, is_short_option, is_issuer
 use Rattle.cmc_setup.specs.ObjectForms.{is_address_text, are_subject_names, are_certificate_terms, is_object_form}
 use Rattle.cmc_cursor.specs.Reading.{Read, ◌>>=◌, under, Field, fields_at, optional_at, required_at, at_end}
 use Rattle.cmc_cursor.specs.Readers.{found, text_at, word_at, name_at, flag_at, bytes_at, small_count_at, parts_at, passes, text_member, short_text_at}
-use Rattle.cmc_codec.specs.Given.{worded_at, list_from, list_at, plain_text_at, duration_at, choice_at, given_at, member_at, member_or, needed_at}
+use Rattle.cmc_codec.specs.Given.{worded_at, list_from, list_at, clean_text_at, duration_at, choice_at, given_at, member_at, member_or, needed_at}
 use Rattle.cmc_codec.specs.MetadataForm.{head_at}
 use Rattle.cmc_codec.specs.CertificateForm.{api_at, issuer_at, no_key, key_at, subject_in, signing_in, terms_in, old_terms_in, spec_of, emails_name, uris_name, api_terms_in, target_in, spec_at, request_spec_at, old_request_spec_at, api_request_spec_at}
 use Rattle.cmc_codec.specs.ObjectForm.{status_last, certificate_in, request_in, secret_in, any_version_at, stranger_in, object_in, applied_at}
@@ -71,14 +71,14 @@ of_short_member name fs = of_member IsShort (λ (o : Option (List ℕ)). is_shor
 of_tested : (test : List ℕ → Bool) (d : Data) → Always (λ t. test t ≡ true) (text_at d >>= (λ t. if test t then Ok t else Err []))
 of_tested test d = next (λ t. test t ≡ true) (text_at d) (λ t. if test t then Ok t else Err []) (λ t. where_true (λ u. test u ≡ true) (test t) (Ok t) [] (λ e. so e))
 
-abbrev IsPlain : List ℕ → Type 0
-IsPlain text = is_plain text ≡ true
+abbrev IsClean : List ℕ → Type 0
+IsClean text = is_clean text ≡ true
 
-pub empty_is_plain : is_plain [] ≡ true
-empty_is_plain = rw (chars-nil) refl
+pub empty_is_clean : is_clean [] ≡ true
+empty_is_clean = rw (chars-nil) refl
 
-of_plain_text : (d : Data) → Always IsPlain (plain_text_at d)
-of_plain_text d = of_tested is_plain d
+of_clean_text : (d : Data) → Always IsClean (clean_text_at d)
+of_clean_text d = of_tested is_clean d
 
 of_printable : (d : Data) → Always (λ t. is_printable_name t ≡ true) (worded_at Printable d)
 of_printable d = of_tested is_printable_name d
@@ -147,7 +147,7 @@ of_signing fs = next IsSigning (member_or false flag_at (codes "isCA") fs) _ (λ
 -- ---- Certificates
 
 record IsSubjectForm (subject : Subject) : Type 0 where
-  common : is_plain subject.common_name ≡ true
+  common : is_clean subject.common_name ≡ true
   dns : list_all is_printable_name subject.dns_names ≡ true
   duration : is_duration_form subject.duration ≡ true
   emails : list_all is_printable_name subject.emails ≡ true
@@ -159,12 +159,12 @@ IsSubject p = IsSubjectForm p.0
 of_subject : (emails : List ℕ) (fs : List Field) → Always IsSubject (subject_in emails fs)
 unfolding subject_in
 of_subject emails fs =
-    after _ IsSubject (member_or [] plain_text_at (codes "commonName") fs) _ (member_or_so IsPlain [] plain_text_at (codes "commonName") fs empty_is_plain of_plain_text)
+    after _ IsSubject (member_or [] clean_text_at (codes "commonName") fs) _ (member_or_so IsClean [] clean_text_at (codes "commonName") fs empty_is_clean of_clean_text)
     (λ common plain. after _ IsSubject (member_or [] (list_at Printable) (codes "dnsNames") common.1) _ (of_texts_member Printable is_printable_name of_printable (codes "dnsNames") common.1)
     (λ dns are_dns. after IsDurationMember IsSubject (member_at duration_at (codes "duration") dns.1) _ (of_duration_member (codes "duration") dns.1)
     (λ duration is_short. after _ IsSubject (member_or [] (list_at Printable) emails duration.1) _ (of_texts_member Printable is_printable_name of_printable emails duration.1)
     (λ mails are_mails. after _ IsSubject (member_or [] (list_at Address) (codes "ipAddresses") mails.1) _ (of_texts_member Address is_address_text of_address (codes "ipAddresses") mails.1)
-    (λ addresses are_addresses. so (record { common = plain; dns = are_dns; duration = is_short; emails = are_mails; addresses = are_addresses }))))))
+    (λ addresses are_addresses. so (record { common = clean; dns = are_dns; duration = is_short; emails = are_mails; addresses = are_addresses }))))))
 
 abbrev IsTerms : Terms × List Field → Type 0
 IsTerms p = is_duration_form p.0.renew_before ≡ true
@@ -203,7 +203,7 @@ IsSpec spec = (are_certificate_terms spec && are_subject_names spec) ≡ true
 
 names_formed : (subject : Subject) (signing : Signing) (terms : Terms) (target : Target) → IsSubjectForm subject → list_all is_printable_name target.uris ≡ true → are_subject_names (spec_of subject signing terms target) ≡ true
 names_formed subject signing terms target is uris =
-    both (is_plain subject.common_name) _ is.common
+    both (is_clean subject.common_name) _ is.common
     (both (list_all is_printable_name subject.dns_names) _ is.dns
     (both (list_all is_address_text subject.ip_addresses) _ is.addresses
     (both (list_all is_printable_name target.uris) (list_all is_printable_name subject.emails) uris is.emails)))

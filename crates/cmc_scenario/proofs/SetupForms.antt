@@ -15,7 +15,7 @@ use Rattle.cmc_setup.proofs.Turns.{orderly, held, ends}
 use Rattle.cmc_setup.proofs.Orders.{in_order_put}
 use Rattle.cmc_cursor.specs.Reading.{◌>>=◌, under, Field, optional_at, at_end}
 use Rattle.cmc_cursor.specs.Readers.{found, text_at, count_at}
-use Rattle.cmc_material.specs.Approvers.{approver_at, plain_approver}
+use Rattle.cmc_material.specs.Approvers.{approver_at, default_approver}
 use Rattle.cmc_material.specs.Lists.{member_or}
 use Rattle.cmc_material.specs.MaterialRows.{material_at}
 use Rattle.cmc_scenario.specs.Roles.{role_at, roles_with, named_roles_at, roles_at, all_roles}
@@ -172,7 +172,7 @@ IsWorld p = IsWorldForm p.0
 
 pub of_world : (fs : List Field) → Always IsWorld (world_in fs)
 unfolding world_in
-of_world fs = next (IsWorld) (optional_at (codes "approver") fs) _ (λ first. after (IsApprover) (IsWorld) (member_or plain_approver (codes "approver") approver_at first.0) _ (of_approver first.0) (λ approver is_approver. next (IsWorld) (optional_at (codes "events") first.1) _ (λ second. after (IsSize) (IsWorld) (member_or 100000 (codes "events") size_at second.0) _ (of_size 100000 (codes "events") second.0 refl) (λ events is_size. next (IsWorld) (optional_at (codes "faults") second.1) _ (λ third. after (RiseFrom 0) (IsWorld) (member_or [] (codes "faults") faults_at third.0) _ (of_member_or (RiseFrom 0) [] (codes "faults") faults_at third.0 tt of_faults) (λ faults rise. next (IsWorld) (optional_at (codes "material") third.1) _ (λ fourth. after (IsMaterial) (IsWorld) (member_or [] (codes "material") material_at fourth.0) _ (of_material fourth.0) (λ material is_material. so (record { approver = is_approver; events = is_size; faults = rise; material = is_material })))))))))
+of_world fs = next (IsWorld) (optional_at (codes "approver") fs) _ (λ first. after (IsApprover) (IsWorld) (member_or default_approver (codes "approver") approver_at first.0) _ (of_approver first.0) (λ approver is_approver. next (IsWorld) (optional_at (codes "events") first.1) _ (λ second. after (IsSize) (IsWorld) (member_or 100000 (codes "events") size_at second.0) _ (of_size 100000 (codes "events") second.0 refl) (λ events is_size. next (IsWorld) (optional_at (codes "faults") second.1) _ (λ third. after (RiseFrom 0) (IsWorld) (member_or [] (codes "faults") faults_at third.0) _ (of_member_or (RiseFrom 0) [] (codes "faults") faults_at third.0 tt of_faults) (λ faults rise. next (IsWorld) (optional_at (codes "material") third.1) _ (λ fourth. after (IsMaterial) (IsWorld) (member_or [] (codes "material") material_at fourth.0) _ (of_material fourth.0) (λ material is_material. so (record { approver = is_approver; events = is_size; faults = rise; material = is_material })))))))))
 
 pub record IsBeginningForm (beginning : Beginning) : Type 0 where
   pub moment : IsInRun beginning.moment

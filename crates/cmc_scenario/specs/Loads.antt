@@ -9,7 +9,7 @@ use Rattle.cmc_objects.specs.declared.object.Object.TheVariants.{Cert}
 use Rattle.cmc_objects.specs.declared.entry.Step.{Step}
 use Rattle.cmc_objects.specs.declared.entry.Step.TheVariants.{Apply, Tick, Settle}
 use Rattle.cmc_setup.specs.Setups.{Setup}
-use Rattle.cmc_material.specs.Approvers.{plain_approver}
+use Rattle.cmc_material.specs.Approvers.{default_approver}
 use Rattle.cmc_scenario.specs.Roles.{all_roles}
 use Rattle.cmc_scenario.specs.Scenarios.{usual_moment}
 
@@ -66,7 +66,7 @@ load_setup count = record {
   moment = usual_moment;
   roles = all_roles;
   faults = [];
-  approver = plain_approver;
+  approver = default_approver;
   material = [];
   script = loads count ++ rests;
 }

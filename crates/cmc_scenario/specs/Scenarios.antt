@@ -9,7 +9,7 @@ use Rattle.cmc_cursor.specs.Readers.{found, text_at, count_at, floats_at}
 use Rattle.cmc_setup.specs.Setups.{Setup, first_moment, last_moment}
 use Rattle.cmc_setup.specs.Stages.{first_stage}
 use Rattle.cmc_setup.specs.declared.scenario.Scenario.{Scenario}
-use Rattle.cmc_material.specs.Approvers.{approver_at, plain_approver}
+use Rattle.cmc_material.specs.Approvers.{approver_at, default_approver}
 use Rattle.cmc_material.specs.Lists.{member_or, bounded_at}
 use Rattle.cmc_material.specs.MaterialRows.{material_at}
 use Rattle.cmc_scenario.specs.Roles.{roles_at}
@@ -55,7 +55,7 @@ moment_at d = text_at d >>= moment_in
 unfoldable pub world_in : List Field → Read (World × List Field)
 world_in fs = do
   first ← optional_at (codes "approver") fs
-  approver ← member_or plain_approver (codes "approver") approver_at first.0
+  approver ← member_or default_approver (codes "approver") approver_at first.0
   second ← optional_at (codes "events") first.1
   events ← member_or 100000 (codes "events") size_at second.0
   third ← optional_at (codes "faults") second.1

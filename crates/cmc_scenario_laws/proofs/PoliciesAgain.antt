@@ -249,11 +249,11 @@ policy_again p given =
 
 -- ---- policies that were read
 
-abbrev pub IsPlain : Policy → Type 0
-IsPlain p = IsTextual p × HasOctets p
+abbrev pub IsReadable : Policy → Type 0
+IsReadable p = IsTextual p × HasOctets p
 
 abbrev pub IsPolicyAgain : Policy → Type 0
-IsPolicyAgain = Again IsPlain policy_at policy_tree
+IsPolicyAgain = Again IsReadable policy_at policy_tree
 
 abbrev AreUsagesAgain : List (List ℕ) → Type 0
 AreUsagesAgain usages = AreTexts usages → member_or [] (codes "usages") patterns_at (some_list patterns_tree usages) ≡ Ok usages
@@ -262,20 +262,20 @@ name_again : (name : List ℕ) → IsUtf8 name → text_at (pattern_tree name) �
 name_again name text = rw (utf8_lossy-IsUtf8 name text) refl
 
 given_of : (named : Named × List Field) (limits : Limits × List Field) (name : List ℕ) (uris : Option (List (List ℕ))) (usages : List (List ℕ)) → IsNamed named → AreLimits limits → IfSome uris ArePatternsAgain → AreUsagesAgain usages
-    → IsPlain (policy_of named.0 limits.0 name uris usages) → IsGiven (policy_of named.0 limits.0 name uris usages)
-given_of named limits name uris usages is_named are_limits are_uris are_usages plain = record {
-  common = given_again AreTexts patterns_at patterns_tree (codes "commonName") named.0.common is_named.common plain.0.common;
-  dns = given_again AreTexts patterns_at patterns_tree (codes "dnsNames") named.0.dns is_named.dns plain.0.dns;
-  emails = given_again AreTexts patterns_at patterns_tree (codes "emailAddresses") named.0.emails is_named.emails plain.0.emails;
-  ips = given_again AreOctets addresses_at addresses_tree (codes "ipAddresses") named.0.ips is_named.ips plain.1;
-  issuers = are_limits.issuers plain.0.issuers;
+    → IsReadable (policy_of named.0 limits.0 name uris usages) → IsGiven (policy_of named.0 limits.0 name uris usages)
+given_of named limits name uris usages is_named are_limits are_uris are_usages readable = record {
+  common = given_again AreTexts patterns_at patterns_tree (codes "commonName") named.0.common is_named.common readable.0.common;
+  dns = given_again AreTexts patterns_at patterns_tree (codes "dnsNames") named.0.dns is_named.dns readable.0.dns;
+  emails = given_again AreTexts patterns_at patterns_tree (codes "emailAddresses") named.0.emails is_named.emails readable.0.emails;
+  ips = given_again AreOctets addresses_at addresses_tree (codes "ipAddresses") named.0.ips is_named.ips readable.1;
+  issuers = are_limits.issuers readable.0.issuers;
   max = are_limits.max;
   max_size = are_limits.max_size;
   min = are_limits.min;
   min_size = are_limits.min_size;
-  name = name_again name plain.0.name;
-  uris = given_again AreTexts patterns_at patterns_tree (codes "uris") uris are_uris plain.0.uris;
-  usages = are_usages plain.0.usages;
+  name = name_again name readable.0.name;
+  uris = given_again AreTexts patterns_at patterns_tree (codes "uris") uris are_uris readable.0.uris;
+  usages = are_usages readable.0.usages;
 }
 
 pub policy_so : (d : Data) → Always IsPolicyAgain (policy_at d)
@@ -288,4 +288,4 @@ policy_so d =
     (λ name. next IsPolicyAgain (optional_at (codes "uris") given.1) _ (λ first. after (λ o. IfSome o ArePatternsAgain) IsPolicyAgain (member_option (codes "uris") patterns_at first.0) _ (option_so ArePatternsAgain (codes "uris") patterns_at first.0 patterns_so)
     (λ uris are_uris. next IsPolicyAgain (optional_at (codes "usages") first.1) _ (λ second. after AreUsagesAgain IsPolicyAgain (member_or [] (codes "usages") patterns_at second.0) _ (list_so IsUtf8 patterns_at pattern_tree (codes "usages") second.0 patterns_so)
     (λ usages are_usages. next IsPolicyAgain (at_end second.1) _
-    (λ end. so (λ plain. policy_again (policy_of named.0 limits.0 name uris usages) (given_of named limits name uris usages is_named are_limits are_uris are_usages plain))))))))))))
+    (λ end. so (λ readable. policy_again (policy_of named.0 limits.0 name uris usages) (given_of named limits name uris usages is_named are_limits are_uris are_usages readable))))))))))))

@@ -19,7 +19,7 @@ use Rattle.cmc_print.specs.Trees.{natural}
 use Rattle.cmc_print.specs.Printed.{moment_tree}
 use Rattle.cmc_print.specs.Words.{has_rfc3339, moment_text}
 use Rattle.cmc_codec.proofs.Slots.{slots, start, bind, next_is, some_list, put_list_is, some_object, put_object_is}
-use Rattle.cmc_material.specs.Approvers.{approver_at, plain_approver}
+use Rattle.cmc_material.specs.Approvers.{approver_at, default_approver}
 use Rattle.cmc_material.specs.Lists.{member_or}
 use Rattle.cmc_material.specs.MaterialRows.{material_at}
 use Rattle.cmc_scenario.specs.Roles.{roles_at}
@@ -145,7 +145,7 @@ record IsWorld (p : World × List Field) : Type 0 where
 world_so : (fs : List Field) → Always IsWorld (world_in fs)
 unfolding world_in
 world_so fs =
-    next IsWorld (optional_at (codes "approver") fs) _ (λ first. after IsApproverGiven IsWorld (member_or plain_approver (codes "approver") approver_at first.0) _ (approver_given_so first.0)
+    next IsWorld (optional_at (codes "approver") fs) _ (λ first. after IsApproverGiven IsWorld (member_or default_approver (codes "approver") approver_at first.0) _ (approver_given_so first.0)
     (λ approver is_approver. next IsWorld (optional_at (codes "events") first.1) _ (λ second. after (IsSizeGiven 100000 (codes "events")) IsWorld (member_or 100000 (codes "events") size_at second.0) _ (events_so second.0)
     (λ events is_events. next IsWorld (optional_at (codes "faults") second.1) _ (λ third. after AreFaultsGiven IsWorld (member_or [] (codes "faults") faults_at third.0) _ (faults_so third.0)
     (λ faults are_faults. next IsWorld (optional_at (codes "material") third.1) _ (λ fourth. after IsMaterialAgain IsWorld (member_or [] (codes "material") material_at fourth.0) _ (material_so fourth.0)
@@ -194,7 +194,7 @@ scenario_printed s =
 -- ---- what is read of the print
 
 record IsGiven (s : Setup) : Type 0 where
-  approver : member_or plain_approver (codes "approver") approver_at (some_object (approver_members s.approver)) ≡ Ok s.approver
+  approver : member_or default_approver (codes "approver") approver_at (some_object (approver_members s.approver)) ≡ Ok s.approver
   events : IsSizeGiven 100000 (codes "events") s.events
   faults : AreFaultsGiven s.faults
   material : member_or [] (codes "material") material_at (some_list material_tree s.material) ≡ Ok s.material
@@ -246,7 +246,7 @@ setup_again s given =
 -- ---- scenarios that were read
 
 -- what is so of each scenario, and of the texts of this one
-pub record IsPlain (s : Setup) : Type 0 where
+pub record IsReadable (s : Setup) : Type 0 where
   pub texts : AreTextual s.approver.policies
   pub octets : HaveOctets s.approver.policies
   pub order : AreRowsInOrder s.material
@@ -254,18 +254,18 @@ pub record IsPlain (s : Setup) : Type 0 where
   pub steps : HaveStepBytes s.script
 
 abbrev pub IsSetupAgain : Setup → Type 0
-IsSetupAgain s = IsPlain s → members_at (scenario_tree s) ≡ Ok s
+IsSetupAgain s = IsReadable s → members_at (scenario_tree s) ≡ Ok s
 
 given_of : (world : World × List Field) (beginning : Beginning × List Field) (script : List Step) (window : ℕ) → IsWorld world → IsStart beginning → IsScriptAgain (first_stage beginning.0.roles beginning.0.moment) script → IsSizeGiven 1000 (codes "window") window
-    → IsPlain (setup_of world.0 beginning.0 script window) → IsGiven (setup_of world.0 beginning.0 script window)
-given_of world beginning script window is_world is_start is_script is_window plain = record {
-  approver = is_world.approver plain.texts plain.octets;
+    → IsReadable (setup_of world.0 beginning.0 script window) → IsGiven (setup_of world.0 beginning.0 script window)
+given_of world beginning script window is_world is_start is_script is_window readable = record {
+  approver = is_world.approver readable.texts readable.octets;
   events = is_world.events;
   faults = is_world.faults;
-  material = is_world.material plain.order plain.rows;
+  material = is_world.material readable.order readable.rows;
   now = is_start.0;
   roles = roles_given beginning.0.roles is_start.1.roles;
-  script = is_script plain.steps;
+  script = is_script readable.steps;
   window = is_window;
 }
 
@@ -279,7 +279,7 @@ setup_so fs =
     (λ script is_script. next IsSetupAgain (optional_at (codes "window") first.1) _
     (λ second. after (IsSizeGiven 1000 (codes "window")) IsSetupAgain (member_or 1000 (codes "window") size_at second.0) _ (window_so second.0)
     (λ window is_window. next IsSetupAgain (at_end second.1) _
-    (λ end. so (λ plain. setup_again (setup_of world.0 beginning.0 script window) (given_of world beginning script window is_world is_start is_script is_window plain)))))))))
+    (λ end. so (λ readable. setup_again (setup_of world.0 beginning.0 script window) (given_of world beginning script window is_world is_start is_script is_window readable)))))))))
 
 pub members_so : (d : Data) → Always IsSetupAgain (members_at d)
 unfolding members_at

@@ -1,7 +1,7 @@
 -- The forms of objects, as reading gives them: what of them the types of their fields do not say.
 use Rattle.std.specs.Prelude.{ℕ, List, Bool, true, ◌&&◌, is_some}
 use Rattle.std.specs.List.{list_all}
-use Rattle.cmc_meta.specs.Wordings.{is_plain, is_printable_name}
+use Rattle.cmc_meta.specs.Wordings.{is_clean, is_printable_name}
 use Rattle.cmc_x509_build.specs.Addresses.{address_at}
 use Rattle.cmc_objects.specs.declared.certificate.Certificate.{Certificate}
 use Rattle.cmc_objects.specs.declared.certificate.CertSpec.{CertSpec}
@@ -16,7 +16,7 @@ is_address_text text = is_some (address_at text)
 -- the names of the subject: a common name without control characters, printable DNS names, URIs and emails, and IP addresses
 abbrev pub are_subject_names : CertSpec → Bool
 are_subject_names spec =
-    is_plain spec.common_name
+    is_clean spec.common_name
     && (list_all is_printable_name spec.dns_names
     && (list_all is_address_text spec.ip_addresses
     && (list_all is_printable_name spec.uris

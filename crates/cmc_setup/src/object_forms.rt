@@ -5,7 +5,7 @@ ghost use Rattle.cmc_meta.specs.Wordings as wordings;
 ghost use Rattle.cmc_objects.specs.Requests.{is_duration_form, is_issuer_form, is_request_form, is_short_text, is_short_option};
 ghost use Rattle.cmc_setup.specs.ObjectForms as spec;
 
-use cmc_meta::{Text, is_plain, is_printable_name};
+use cmc_meta::{Text, is_clean, is_printable_name};
 use cmc_objects::{CertSpec, Certificate, CertificateRequest, IssuerRef, Object};
 use cmc_x509_build::address_at;
 
@@ -66,7 +66,7 @@ fn are_addresses(texts: &[Text]) -> bool
 fn are_subject_names(certificate: &CertSpec) -> bool
     ensures { result ≡ spec.are_subject_names certificate.now }
 {
-    is_plain(certificate.common_name.as_str())
+    is_clean(certificate.common_name.as_str())
         && are_printable(certificate.dns_names.as_slice())
         && are_addresses(certificate.ip_addresses.as_slice())
         && are_printable(certificate.uris.as_slice())

@@ -1,14 +1,14 @@
 use Rattle.std.proofs.Common.{None, Some, sym}
 use Rattle.std.proofs.lemmas.Bool.Decides.{Decides-eqb}
 use Rattle.std.proofs.lemmas.Slice.Eq.{slice_eq-Decides, strip_prefix_is}
-use Rattle.cmc_policy_rules.proofs.Pieces.{front_piece, other_front, plain_matches}
+use Rattle.cmc_policy_rules.proofs.Pieces.{front_piece, other_front, starless_matches}
 use Rattle.cmc_policy_rules.proofs.matching.fits.Goals as goal
 
 pub returns-in_default : goal.returns-in_default
 returns-in_default c =
-    let plain = plain_matches c.args.pattern.now c.args.text.now c.in_default.ensures in
+    let starless = starless_matches c.args.pattern.now c.args.text.now c.in_default.ensures in
     let same = slice_eq-Decides Decides-eqb c.args.pattern.now c.args.text.now c.eq.result c.eq.ensures in
-    ((λ yes. plain.1 (sym (same.0 yes))), (λ matched. same.1 (sym (plain.0 matched))))
+    ((λ yes. starless.1 (sym (same.0 yes))), (λ matched. same.1 (sym (starless.0 matched))))
 
 pub returns-in-Some-strip_prefix : goal.returns-in-Some-strip_prefix
 returns-in-Some-strip_prefix c =

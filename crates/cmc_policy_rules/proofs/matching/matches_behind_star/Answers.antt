@@ -1,6 +1,6 @@
 use Rattle.std.proofs.lemmas.Bool.Decides.{Decides-eqb}
 use Rattle.std.proofs.lemmas.Slice.Eq.{ends_is}
-use Rattle.cmc_policy_rules.proofs.Pieces.{first_place, no_place, plain_end}
+use Rattle.cmc_policy_rules.proofs.Pieces.{first_place, no_place, starless_end}
 use Rattle.cmc_policy_rules.proofs.matching.matches_behind_star.Goals as goal
 
 pub returns-in_default-find : goal.returns-in_default-find
@@ -16,8 +16,8 @@ loop-piece-preserved c =
 
 pub returns : goal.returns
 returns c =
-    let plain = plain_end c.loop-piece.left.now c.loop-piece.rest.now c.in_default.ensures in
+    let starless = starless_end c.loop-piece.left.now c.loop-piece.rest.now c.in_default.ensures in
     let ends = ends_is Decides-eqb c.loop-piece.rest.now c.loop-piece.left.now c.ends_with.result c.ends_with.ensures.value in (
-      (λ yes. c.loop-piece.invariant.0 (plain.1 (_, ends.0 yes))),
-      (λ matched. let at = plain.0 (c.loop-piece.invariant.1 matched) in ends.1 at.0 at.1),
+      (λ yes. c.loop-piece.invariant.0 (starless.1 (_, ends.0 yes))),
+      (λ matched. let at = starless.0 (c.loop-piece.invariant.1 matched) in ends.1 at.0 at.1),
     )
