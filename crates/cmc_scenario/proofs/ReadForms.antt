@@ -160,7 +160,7 @@ of_subject : (emails : List ℕ) (fs : List Field) → Always IsSubject (subject
 unfolding subject_in
 of_subject emails fs =
     after _ IsSubject (member_or [] clean_text_at (codes "commonName") fs) _ (member_or_so IsClean [] clean_text_at (codes "commonName") fs empty_is_clean of_clean_text)
-    (λ common plain. after _ IsSubject (member_or [] (list_at Printable) (codes "dnsNames") common.1) _ (of_texts_member Printable is_printable_name of_printable (codes "dnsNames") common.1)
+    (λ common clean. after _ IsSubject (member_or [] (list_at Printable) (codes "dnsNames") common.1) _ (of_texts_member Printable is_printable_name of_printable (codes "dnsNames") common.1)
     (λ dns are_dns. after IsDurationMember IsSubject (member_at duration_at (codes "duration") dns.1) _ (of_duration_member (codes "duration") dns.1)
     (λ duration is_short. after _ IsSubject (member_or [] (list_at Printable) emails duration.1) _ (of_texts_member Printable is_printable_name of_printable emails duration.1)
     (λ mails are_mails. after _ IsSubject (member_or [] (list_at Address) (codes "ipAddresses") mails.1) _ (of_texts_member Address is_address_text of_address (codes "ipAddresses") mails.1)
