@@ -7,13 +7,14 @@ ghost use Rattle.cmc_store.specs.Claims as spec;
 use cmc_meta::{Key, Kind, Name};
 use cmc_objects::Object;
 use std::alloc::{AllocError, Global};
-use std::collections::BTreeMap;
+use std::collections::HashMap;
 use std::marker::Model;
 
-/// The names of Certificates under the keys of the Secrets that they name; contracts see a finite map.
+/// The names of Certificates under the keys of the Secrets that they name; contracts see a finite map. A Secret
+/// is only ever looked for under its own key, and nobody asks for an order: so they are hashed, and not sorted.
 #[derive(Drop)]
 pub struct Claims {
-    map: BTreeMap<Key, Name>,
+    map: HashMap<Key, Name>,
 }
 
 impl Model for Claims {
@@ -35,7 +36,7 @@ impl Claims {
         ensures { result ≡ spec.no_claims }
     {
         Claims {
-            map: BTreeMap::new(alloc),
+            map: HashMap::new(alloc),
         }
     }
 
