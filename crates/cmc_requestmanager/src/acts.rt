@@ -1,14 +1,15 @@
 //! The act, by the first line of the table that fits.
 ghost use Rattle.std.specs.List.{last_or};
 ghost use Rattle.std.specs.Option.{option_copied};
-ghost use Rattle.std.specs.Prelude.{◌≡◌, None, Some, IfOk, option_map, if◌then◌else◌};
+ghost use Rattle.std.specs.Prelude.{◌≡◌, ◌↔◌, None, Some, IfOk, IsTrue, option_map, if◌then◌else◌};
 ghost use Rattle.cmc_der.specs.Keys.{key_shown};
+ghost use Rattle.cmc_pass.specs.declared.pass.Act.TheVariants.{Nothing};
+ghost use Rattle.cmc_requestmanager.specs.Choosing.{act_of};
 ghost use Rattle.cmc_rules.specs.NextRequests as next_words;
 ghost use Rattle.cmc_rules.specs.RequestManaging as table;
 ghost use Rattle.cmc_rules.specs.Revising as revising;
 
-use crate::calls::delete_call;
-use crate::questions::ask_signature;
+use crate::choices::{Choice, build, is_nothing};
 use cmc_match::key_fits;
 use cmc_meta::Bytes;
 use cmc_next::{
@@ -67,109 +68,119 @@ fn last_next<'a>(
     last
 }
 
-fn delete_of(request: Option<&Shared<CertificateRequest>>) -> Result<Act, AllocError>
-    ensures { IfOk result (λ a. a ≡ revising.delete_of (option_copied request.entry)) }
+fn delete_of<'a>(request: Option<&'a Shared<CertificateRequest>>) -> Choice<'a>
+    ensures { act_of result ≡ revising.delete_of (option_copied request.entry) }
 {
     match request {
-        None => Ok(Act::Nothing),
-        Some(request) => delete_call(request),
+        None => Choice::Nothing,
+        Some(request) => Choice::Delete { request },
     }
 }
 
-fn ask_with(
-    alloc: Global,
-    certificate: &Certificate,
-    file: &Bytes,
-    key: Option<Spki<'_>>,
-) -> Result<Act, AllocError>
-    ensures { IfOk result (λ a. a ≡ table.ask_with certificate.now file.now (option_map key_shown key.entry)) }
+fn ask_with<'a>(certificate: &'a Certificate, file: &'a Bytes, key: Option<Spki<'a>>) -> Choice<'a>
+    ensures { act_of result ≡ table.ask_with certificate.now file.now (option_map key_shown key.entry) }
 {
     match key {
-        None => Ok(Act::Nothing),
-        Some(key) => ask_signature(alloc, certificate, file, &key),
+        None => Choice::Nothing,
+        Some(key) => Choice::Ask {
+            certificate,
+            file,
+            key,
+        },
     }
 }
 
-fn by_count(
-    alloc: Global,
-    certificate: &Certificate,
-    file: &Bytes,
-    requests: &[Shared<CertificateRequest>],
-) -> Result<Act, AllocError>
+fn by_count<'a>(
+    certificate: &'a Certificate,
+    file: &'a Bytes,
+    requests: &'a [Shared<CertificateRequest>],
+) -> Choice<'a>
     requires { next_words.HasNextRevision (Some certificate.now) }
-    ensures { IfOk result (λ a. a ≡ table.by_count certificate.now file.now (next_words.next_requests certificate.now requests.now)) }
+    ensures { act_of result ≡ table.by_count certificate.now file.now (next_words.next_requests certificate.now requests.now) }
 {
     let count = next_count(certificate, requests);
     if count == 0 {
-        ask_with(alloc, certificate, file, key_public(file.as_slice()))
+        ask_with(certificate, file, key_public(file.as_slice()))
     } else if count == 1 {
-        Ok(Act::Nothing)
+        Choice::Nothing
     } else {
         delete_of(last_next(certificate, requests))
     }
 }
 
-fn by_stale(
-    alloc: Global,
-    certificate: &Certificate,
-    file: &Bytes,
-    requests: &[Shared<CertificateRequest>],
-) -> Result<Act, AllocError>
+fn by_stale<'a>(
+    certificate: &'a Certificate,
+    file: &'a Bytes,
+    requests: &'a [Shared<CertificateRequest>],
+) -> Choice<'a>
     requires { next_words.HasNextRevision (Some certificate.now) }
-    ensures { IfOk result (λ a. a ≡ table.by_stale certificate.now file.now requests.now (table.stale_request certificate.now file.now requests.now)) }
+    ensures { act_of result ≡ table.by_stale certificate.now file.now requests.now (table.stale_request certificate.now file.now requests.now) }
 {
     match stale_request(certificate, file.as_slice(), requests) {
-        None => by_count(alloc, certificate, file, requests),
-        Some(stale) => delete_call(stale),
+        None => by_count(certificate, file, requests),
+        Some(request) => Choice::Delete { request },
     }
 }
 
-fn with_file(
-    alloc: Global,
-    certificate: &Certificate,
-    requests: &[Shared<CertificateRequest>],
-    file: Option<&Bytes>,
-) -> Result<Act, AllocError>
+fn with_file<'a>(
+    certificate: &'a Certificate,
+    requests: &'a [Shared<CertificateRequest>],
+    file: Option<&'a Bytes>,
+) -> Choice<'a>
     requires { next_words.HasNextRevision (Some certificate.now) }
-    ensures { IfOk result (λ a. a ≡ table.with_file certificate.now requests.now (option_copied file.entry)) }
+    ensures { act_of result ≡ table.with_file certificate.now requests.now (option_copied file.entry) }
 {
     match file {
         Some(file) if key_fits(&certificate.spec.key, file.as_slice()) => {
-            by_stale(alloc, certificate, file, requests)
+            by_stale(certificate, file, requests)
         }
-        _ => Ok(Act::Nothing),
+        _ => Choice::Nothing,
     }
 }
 
-fn with_key(
-    alloc: Global,
-    certificate: &Certificate,
-    requests: &[Shared<CertificateRequest>],
-    secret: Option<&Shared<Secret>>,
-) -> Result<Act, AllocError>
+fn with_key<'a>(
+    certificate: &'a Certificate,
+    requests: &'a [Shared<CertificateRequest>],
+    secret: Option<&'a Shared<Secret>>,
+) -> Choice<'a>
     requires { next_words.HasNextRevision (Some certificate.now) }
-    ensures { IfOk result (λ a. a ≡ table.with_key certificate.now requests.now (option_copied secret.entry)) }
+    ensures { act_of result ≡ table.with_key certificate.now requests.now (option_copied secret.entry) }
 {
     match secret {
-        None => Ok(Act::Nothing),
-        Some(secret) => with_file(alloc, certificate, requests, key_in(secret)),
+        None => Choice::Nothing,
+        Some(secret) => with_file(certificate, requests, key_in(secret)),
     }
 }
 
-fn request_for(
-    alloc: Global,
-    certificate: &Certificate,
-    next: &[Shared<Secret>],
-    requests: &[Shared<CertificateRequest>],
-) -> Result<Act, AllocError>
+fn request_for<'a>(
+    certificate: &'a Certificate,
+    next: &'a [Shared<Secret>],
+    requests: &'a [Shared<CertificateRequest>],
+) -> Choice<'a>
     requires { next_words.HasNextRevision (Some certificate.now) }
-    ensures { IfOk result (λ a. a ≡ table.request_for certificate.now next.now requests.now) }
+    ensures { act_of result ≡ table.request_for certificate.now next.now requests.now }
 {
     if !is_issuing(certificate) {
-        return Ok(Act::Nothing);
+        return Choice::Nothing;
     }
     let secret = named_key(&certificate.status.next_key, next);
-    with_key(alloc, certificate, requests, secret)
+    with_key(certificate, requests, secret)
+}
+
+/// What the controller chooses to do on these views.
+#[tactic(auto, unfolding(cmc_rules::specs::RequestManaging::request_manager))]
+fn choose<'a>(views: &'a Views) -> Choice<'a>
+    requires { next_words.HasNextRevision views.now.certificate }
+    ensures { act_of result ≡ table.request_manager views.now }
+{
+    match &views.certificate {
+        None => Choice::Nothing,
+        Some(certificate) => request_for(
+            certificate,
+            views.next.as_slice(),
+            views.requests.as_slice(),
+        ),
+    }
 }
 
 /// What the controller does on these views; it looks at neither the moment `now` nor the desk.
@@ -189,19 +200,21 @@ fn request_for(
 /// # Errors
 ///
 /// Want of memory alone.
-#[tactic(auto, unfolding(cmc_rules::specs::RequestManaging::request_manager))]
 pub fn act(alloc: Global, views: &Views, now: i64, desk: &Desk) -> Result<Act, AllocError>
     requires { next_words.HasNextRevision views.now.certificate }
     ensures { IfOk result (λ a. a ≡ table.request_manager views.now) }
 {
     let (_now, _desk) = (now, desk);
-    match &views.certificate {
-        None => Ok(Act::Nothing),
-        Some(certificate) => request_for(
-            alloc,
-            certificate,
-            views.next.as_slice(),
-            views.requests.as_slice(),
-        ),
-    }
+    build(alloc, choose(views))
+}
+
+/// Whether the controller has nothing to do on these views: whether its act is none. It takes no memory, since it builds
+/// nothing of the act.
+///
+/// The revision that stands is below 2^63.
+pub fn is_idle(views: &Views) -> bool
+    requires { next_words.HasNextRevision views.now.certificate }
+    ensures { IsTrue result ↔ (table.request_manager views.now ≡ Nothing) }
+{
+    is_nothing(choose(views))
 }

@@ -3,10 +3,11 @@
 
 mod acts;
 mod calls;
+mod choices;
 mod following;
 mod laws;
 mod questions;
 
-pub use acts::act;
+pub use acts::{act, is_idle};
 pub use following::{follow, then};
 pub use laws::is_sound;
