@@ -1,15 +1,16 @@
 //! The act, by the first line of the table that fits.
 ghost use Rattle.std.specs.Option.{option_copied};
-ghost use Rattle.std.specs.Prelude.{◌≡◌, IfOk, Some, codes, true};
+ghost use Rattle.std.specs.Prelude.{◌≡◌, ◌↔◌, ℤ, IfOk, IsTrue, Some, true};
 ghost use Rattle.cmc_objects.specs.Requests.{is_run_time};
+ghost use Rattle.cmc_pass.specs.declared.pass.Act.TheVariants.{Nothing};
+ghost use Rattle.cmc_issuing.specs.Choosing.{act_of};
 ghost use Rattle.cmc_rules.specs.Issuing as table;
 ghost use Rattle.cmc_rules.specs.NextRequests.{HasNextRevision};
 
+use crate::choices::{Choice, build, is_nothing};
 use crate::deciding::{
     fails_now, is_certified, is_granted, is_kept_for_keys, lacks_certificate, refusal,
 };
-use crate::plans::{issue_plan, temporary_plan};
-use crate::statuses::failure;
 use cmc_answers::temporary;
 use cmc_match::{asks_for_temporary, key_fits, next_request};
 use cmc_meta::Bytes;
@@ -21,45 +22,39 @@ use std::alloc::{AllocError, Global};
 /// The largest certificate that is read, in octets.
 const MAX_CERTIFICATE: usize = 16_777_216;
 
-fn stand_in_with(
-    alloc: Global,
+fn stand_in_with<'a>(
     certificate: &Certificate,
-    file: &Bytes,
+    file: &'a Bytes,
     target: &Option<Shared<Secret>>,
     stand_in: Option<Bytes>,
-) -> Result<Act, AllocError>
-    ensures { IfOk result (λ a. a ≡ table.stand_in_with certificate.now file.now target.now stand_in) }
+) -> Choice<'a>
+    ensures { (moment : ℤ) → act_of moment certificate.now target.now result ≡ table.stand_in_with certificate.now file.now target.now stand_in }
 {
     match stand_in {
-        None => Ok(Act::Nothing),
-        Some(stand_in) => {
-            if stand_in.as_slice().len() <= MAX_CERTIFICATE {
-                let plan = temporary_plan(alloc, certificate, file, &stand_in, target)?;
-                Ok(Act::Temporary(plan))
-            } else {
-                Ok(Act::Nothing)
-            }
+        Some(stand_in) if stand_in.as_slice().len() <= MAX_CERTIFICATE => {
+            Choice::Temporary { file, stand_in }
         }
+        _ => Choice::Nothing,
     }
 }
 
-fn while_waiting(
+fn while_waiting<'a>(
     alloc: Global,
     moment: i64,
     certificate: &Certificate,
-    file: &Bytes,
+    file: &'a Bytes,
     target: &Option<Shared<Secret>>,
     request: &CertificateRequest,
-) -> Result<Act, AllocError>
+) -> Result<Choice<'a>, AllocError>
     requires { is_run_time moment ≡ true }
-    ensures { IfOk result (λ a. a ≡ table.while_waiting moment certificate.now file.now target.now request.now) }
+    ensures { IfOk result (λ choice. act_of moment certificate.now target.now choice ≡ table.while_waiting moment certificate.now file.now target.now request.now) }
 {
     let stands_in = asks_for_temporary(certificate)
         && !is_denied(request)
         && !is_kept_for_keys(target)
         && lacks_certificate(file.as_slice(), target);
     if !stands_in {
-        return Ok(Act::Nothing);
+        return Ok(Choice::Nothing);
     }
     let stand_in = temporary(
         alloc,
@@ -67,126 +62,140 @@ fn while_waiting(
         file.as_slice(),
         moment,
     )?;
-    stand_in_with(alloc, certificate, file, target, stand_in)
+    Ok(stand_in_with(certificate, file, target, stand_in))
 }
 
-/// The certificate is not readable, or its public key is not that of the next key.
-fn with_foreign(alloc: Global, moment: i64, certificate: &Certificate) -> Result<Act, AllocError>
-    ensures { IfOk result (λ a. a ≡ table.failure moment (codes "InvalidCertificate") certificate.now) }
-{
-    failure(alloc, moment, "InvalidCertificate", certificate)
-}
-
-fn with_granted(
-    alloc: Global,
-    moment: i64,
+/// A certificate that is not readable, or whose public key is not that of the next key, ends the issuance with a failure.
+fn with_granted<'a>(
     certificate: &Certificate,
-    file: &Bytes,
+    file: &'a Bytes,
     target: &Option<Shared<Secret>>,
-    request: &CertificateRequest,
-) -> Result<Act, AllocError>
-    requires { HasNextRevision (Some certificate.now) }
-    ensures { IfOk result (λ a. a ≡ table.with_granted moment certificate.now file.now target.now request.now) }
+    request: &'a CertificateRequest,
+) -> Choice<'a>
+    ensures { (moment : ℤ) → act_of moment certificate.now target.now result ≡ table.with_granted moment certificate.now file.now target.now request.now }
 {
     if !is_certified(file.as_slice(), request.status.certificate.as_slice()) {
-        return with_foreign(alloc, moment, certificate);
+        return Choice::Fail {
+            reason: "InvalidCertificate",
+        };
     }
     if is_kept_for_keys(target) {
-        return Ok(Act::Nothing);
+        return Choice::Nothing;
     }
-    let plan = issue_plan(alloc, moment, certificate, file, request, target)?;
-    Ok(Act::Issue(plan))
+    Choice::Issue { file, request }
 }
 
-fn with_wanted(
+fn with_wanted<'a>(
     alloc: Global,
     moment: i64,
     certificate: &Certificate,
-    file: &Bytes,
+    file: &'a Bytes,
     target: &Option<Shared<Secret>>,
-    request: &CertificateRequest,
-) -> Result<Act, AllocError>
-    requires time { is_run_time moment ≡ true }
-    requires revision { HasNextRevision (Some certificate.now) }
-    ensures { IfOk result (λ a. a ≡ table.with_wanted moment certificate.now file.now target.now request.now) }
+    request: &'a CertificateRequest,
+) -> Result<Choice<'a>, AllocError>
+    requires { is_run_time moment ≡ true }
+    ensures { IfOk result (λ choice. act_of moment certificate.now target.now choice ≡ table.with_wanted moment certificate.now file.now target.now request.now) }
 {
     if is_refused(request) {
         if fails_now(certificate, request) {
-            return failure(alloc, moment, refusal(request), certificate);
+            return Ok(Choice::Fail {
+                reason: refusal(request),
+            });
         }
-        return Ok(Act::Nothing);
+        return Ok(Choice::Nothing);
     }
     if is_granted(request) {
-        return with_granted(alloc, moment, certificate, file, target, request);
+        return Ok(with_granted(certificate, file, target, request));
     }
     while_waiting(alloc, moment, certificate, file, target, request)
 }
 
-fn with_request(
+fn with_request<'a>(
     alloc: Global,
     moment: i64,
     certificate: &Certificate,
-    file: &Bytes,
+    file: &'a Bytes,
     target: &Option<Shared<Secret>>,
-    request: Option<&Shared<CertificateRequest>>,
-) -> Result<Act, AllocError>
-    requires time { is_run_time moment ≡ true }
-    requires revision { HasNextRevision (Some certificate.now) }
-    ensures { IfOk result (λ a. a ≡ table.with_request moment certificate.now file.now target.now (option_copied request.entry)) }
+    request: Option<&'a Shared<CertificateRequest>>,
+) -> Result<Choice<'a>, AllocError>
+    requires { is_run_time moment ≡ true }
+    ensures { IfOk result (λ choice. act_of moment certificate.now target.now choice ≡ table.with_request moment certificate.now file.now target.now (option_copied request.entry)) }
 {
     match request {
-        None => Ok(Act::Nothing),
+        None => Ok(Choice::Nothing),
         Some(request) => {
             if is_wanted(certificate, file.as_slice(), request) {
                 with_wanted(alloc, moment, certificate, file, target, request)
             } else {
-                Ok(Act::Nothing)
+                Ok(Choice::Nothing)
             }
         }
     }
 }
 
-fn with_file(
+fn with_file<'a>(
     alloc: Global,
     moment: i64,
     certificate: &Certificate,
     target: &Option<Shared<Secret>>,
-    requests: &[Shared<CertificateRequest>],
-    file: Option<&Bytes>,
-) -> Result<Act, AllocError>
-    requires time { is_run_time moment ≡ true }
-    requires revision { HasNextRevision (Some certificate.now) }
-    ensures { IfOk result (λ a. a ≡ table.with_file moment certificate.now target.now requests.now (option_copied file.entry)) }
+    requests: &'a [Shared<CertificateRequest>],
+    file: Option<&'a Bytes>,
+) -> Result<Choice<'a>, AllocError>
+    requires { is_run_time moment ≡ true }
+    ensures { IfOk result (λ choice. act_of moment certificate.now target.now choice ≡ table.with_file moment certificate.now target.now requests.now (option_copied file.entry)) }
 {
     match file {
-        None => Ok(Act::Nothing),
+        None => Ok(Choice::Nothing),
         Some(file) => {
             if key_fits(&certificate.spec.key, file.as_slice()) {
                 let request = next_request(certificate.status.revision, requests);
                 with_request(alloc, moment, certificate, file, target, request)
             } else {
-                Ok(Act::Nothing)
+                Ok(Choice::Nothing)
             }
         }
     }
 }
 
-fn with_key_of(
+fn with_key_of<'a>(
     alloc: Global,
     moment: i64,
     certificate: &Certificate,
     target: &Option<Shared<Secret>>,
-    requests: &[Shared<CertificateRequest>],
-    key: Option<&Shared<Secret>>,
-) -> Result<Act, AllocError>
-    requires time { is_run_time moment ≡ true }
-    requires revision { HasNextRevision (Some certificate.now) }
-    ensures { IfOk result (λ a. a ≡ table.with_key_of moment certificate.now target.now requests.now (option_copied key.entry)) }
+    requests: &'a [Shared<CertificateRequest>],
+    key: Option<&'a Shared<Secret>>,
+) -> Result<Choice<'a>, AllocError>
+    requires { is_run_time moment ≡ true }
+    ensures { IfOk result (λ choice. act_of moment certificate.now target.now choice ≡ table.with_key_of moment certificate.now target.now requests.now (option_copied key.entry)) }
 {
     match key {
-        None => Ok(Act::Nothing),
+        None => Ok(Choice::Nothing),
         Some(key) => with_file(alloc, moment, certificate, target, requests, key_in(key)),
     }
+}
+
+/// What the controller chooses to do for the Certificate of the views.
+fn choose<'a>(
+    alloc: Global,
+    moment: i64,
+    certificate: &Certificate,
+    views: &'a Views,
+) -> Result<Choice<'a>, AllocError>
+    requires { is_run_time moment ≡ true }
+    ensures { IfOk result (λ choice. act_of moment certificate.now views.now.secret choice ≡ table.issuing_of moment views.now.next views.now.secret views.now.requests (Some certificate.now)) }
+{
+    if !is_issuing(certificate) {
+        return Ok(Choice::Nothing);
+    }
+    let key = named_key(&certificate.status.next_key, views.next.as_slice());
+    with_key_of(
+        alloc,
+        moment,
+        certificate,
+        &views.secret,
+        views.requests.as_slice(),
+        key,
+    )
 }
 
 /// What the controller does for the Certificate that it sees (the issuing controller of cert-manager): nothing where
@@ -211,16 +220,25 @@ pub fn act(alloc: Global, views: &Views, now: i64, _desk: &Desk) -> Result<Act, 
     let Some(certificate) = &views.certificate else {
         return Ok(Act::Nothing);
     };
-    if !is_issuing(certificate) {
-        return Ok(Act::Nothing);
-    }
-    let key = named_key(&certificate.status.next_key, views.next.as_slice());
-    with_key_of(
-        alloc,
-        now,
-        certificate,
-        &views.secret,
-        views.requests.as_slice(),
-        key,
-    )
+    let choice = choose(alloc, now, certificate, views)?;
+    build(alloc, now, certificate, &views.secret, &choice)
+}
+
+/// Whether the controller has nothing to do on these views at the moment `now`: whether its act is none. It builds
+/// nothing of the act but a certificate that stands in.
+///
+/// # Errors
+///
+/// Want of memory alone.
+#[tactic(auto, unfolding(cmc_rules::specs::Issuing::issuing))]
+pub fn is_idle(alloc: Global, views: &Views, now: i64) -> Result<bool, AllocError>
+    requires time { is_run_time now ≡ true }
+    requires revision { HasNextRevision views.now.certificate }
+    ensures { IfOk result (λ idle. IsTrue idle ↔ (table.issuing views.now now ≡ Nothing)) }
+{
+    let Some(certificate) = &views.certificate else {
+        return Ok(true);
+    };
+    let choice = choose(alloc, now, certificate, views)?;
+    Ok(is_nothing(&choice))
 }

@@ -3,11 +3,14 @@
 #![tactic(auto)]
 
 mod acts;
+mod choices;
 mod deciding;
 mod laws;
 mod plans;
 mod secrets;
 mod statuses;
+mod writes;
 
-pub use acts::act;
+pub use acts::{act, is_idle};
 pub use laws::is_sound;
+pub use writes::{secret_of, status_of};

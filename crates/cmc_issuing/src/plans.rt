@@ -1,5 +1,5 @@
 //! The plans of the controller: calls in order, behind the live read of the Certificate.
-ghost use Rattle.std.specs.Prelude.{◌≡◌, IfOk, Some};
+ghost use Rattle.std.specs.Prelude.{◌≡◌, [], IfOk, Some, false, true};
 ghost use Rattle.cmc_objects.specs.declared.object.Object.TheVariants.{Cert};
 ghost use Rattle.cmc_objects.specs.Objects as objects;
 ghost use Rattle.cmc_rules.specs.Issuing as table;
@@ -8,7 +8,7 @@ ghost use Rattle.cmc_rules.specs.NextRequests.{HasNextRevision};
 use crate::secrets::{Content, secret_call};
 use crate::statuses::issued_call;
 use cmc_meta::{Bytes, Key, Kind};
-use cmc_objects::{Certificate, CertificateRequest, Secret, Shared};
+use cmc_objects::{Call, Certificate, CertificateRequest, Secret, Shared};
 use cmc_pass::{IssuePlan, TemporaryPlan};
 use std::alloc::{AllocError, Global};
 
@@ -20,6 +20,25 @@ fn key_of(certificate: &Certificate) -> Result<Key, AllocError>
         namespace: certificate.meta.namespace.copy()?,
         name: certificate.meta.name.copy()?,
     })
+}
+
+/// The write of the Secret at the end of an issuance: the key of the file and the certificate of the request.
+pub fn issued_secret(
+    alloc: Global,
+    certificate: &Certificate,
+    file: &Bytes,
+    request: &CertificateRequest,
+    target: &Option<Shared<Secret>>,
+) -> Result<Call, AllocError>
+    ensures { IfOk result (λ c. c ≡ table.secret_call false certificate.now file.now request.now.status.certificate request.now.status.ca target.now) }
+{
+    let content = Content {
+        stand_in: false,
+        key: file,
+        certificate: &request.status.certificate,
+        ca: &request.status.ca,
+    };
+    secret_call(alloc, certificate, &content, target)
 }
 
 /// The end of an issuance: the Secret with the key of the file and the certificate of the request, and the status.
@@ -35,14 +54,8 @@ pub fn issue_plan(
     requires { HasNextRevision (Some certificate.now) }
     ensures { IfOk result (λ p. p ≡ table.issue_plan moment certificate.now file.now request.now target.now) }
 {
-    let content = Content {
-        stand_in: false,
-        key: file,
-        certificate: &request.status.certificate,
-        ca: &request.status.ca,
-    };
     let get = key_of(certificate)?;
-    let secret = secret_call(alloc, certificate, &content, target)?;
+    let secret = issued_secret(alloc, certificate, file, request, target)?;
     let status = issued_call(alloc, moment, certificate)?;
     Ok(IssuePlan {
         get,
@@ -50,6 +63,26 @@ pub fn issue_plan(
         secret,
         status,
     })
+}
+
+/// The write of the Secret with the key of the file and a certificate that stands in.
+pub fn marked_secret(
+    alloc: Global,
+    certificate: &Certificate,
+    file: &Bytes,
+    stand_in: &Bytes,
+    target: &Option<Shared<Secret>>,
+) -> Result<Call, AllocError>
+    ensures { IfOk result (λ c. c ≡ table.secret_call true certificate.now file.now stand_in.now [] target.now) }
+{
+    let none = Bytes::new(alloc);
+    let content = Content {
+        stand_in: true,
+        key: file,
+        certificate: stand_in,
+        ca: &none,
+    };
+    secret_call(alloc, certificate, &content, target)
 }
 
 /// The Secret with the key of the file and a certificate that stands in.
@@ -63,15 +96,8 @@ pub fn temporary_plan(
 ) -> Result<TemporaryPlan, AllocError>
     ensures { IfOk result (λ p. p ≡ table.temporary_plan certificate.now file.now stand_in.now target.now) }
 {
-    let none = Bytes::new(alloc);
-    let content = Content {
-        stand_in: true,
-        key: file,
-        certificate: stand_in,
-        ca: &none,
-    };
     let get = key_of(certificate)?;
-    let secret = secret_call(alloc, certificate, &content, target)?;
+    let secret = marked_secret(alloc, certificate, file, stand_in, target)?;
     Ok(TemporaryPlan {
         get,
         version: certificate.meta.version,

@@ -1,9 +1,11 @@
 //! What the roles do, and what they call for the values of their questions.
-ghost use Rattle.std.specs.Prelude.{◌≡◌, IfOk, IsSome, Some};
+ghost use Rattle.std.specs.Prelude.{◌≡◌, ◌↔◌, IfOk, IsSome, IsTrue, Some};
+ghost use Rattle.cmc_pass.specs.declared.pass.Act.TheVariants.{Nothing};
 ghost use Rattle.cmc_rules.specs.Acts as acts;
 ghost use Rattle.cmc_rules.specs.NextRequests.{HasNextRevision};
 ghost use Rattle.cmc_safety.specs.Acting.{MayAct};
 
+use crate::doing::let_go;
 use cmc_objects::{Call, Order, Role};
 use cmc_pass::{Act, Desk, Value, Views};
 use std::alloc::{AllocError, Global};
@@ -29,6 +31,39 @@ pub fn act_of(
         Role::Issuing => cmc_issuing::act(alloc, seen, now, desk),
         Role::Readiness => cmc_status::act_readiness(alloc, seen, now, desk),
         Role::Revision => cmc_status::act_revision(alloc, seen, now, desk),
+    }
+}
+
+/// Whether the act is none. It lets go of the act.
+fn is_nothing(does: Act) -> bool
+    ensures { IsTrue result ↔ (does ≡ Nothing) }
+{
+    let nothing = matches!(does, Act::Nothing);
+    let_go(does);
+    nothing
+}
+
+/// Whether the role has nothing to do on these views at the moment `now`, in seconds since 1970-01-01T00:00:00Z: whether
+/// its act is none. Those roles whose acts are dear to build tell so without building them.
+///
+/// # Errors
+///
+/// Want of memory alone.
+#[tactic(auto, unfolding(cmc_rules::specs::Acts::act))]
+pub fn is_idle_of(
+    alloc: Global,
+    role: Role,
+    seen: &Views,
+    now: i64,
+    desk: &Desk,
+) -> Result<bool, AllocError>
+    requires { MayAct seen.now now desk.now }
+    ensures { IfOk result (λ b. IsTrue b ↔ (acts.act role seen.now now desk.now ≡ Nothing)) }
+{
+    match role {
+        Role::RequestManager => Ok(cmc_requestmanager::is_idle(seen)),
+        Role::Issuing => cmc_issuing::is_idle(alloc, seen, now),
+        _ => Ok(is_nothing(act_of(alloc, role, seen, now, desk)?)),
     }
 }
 

@@ -12,8 +12,8 @@ ghost use Rattle.cmc_moves.specs.Answers.{next_answer, outdated_at, value_entry}
 
 use crate::acts::{act_of, follow_of};
 use crate::moves::Stepped;
-use cmc_objects::{Call, Cause, Entry, Order};
-use cmc_pass::{Act, Desk, Value};
+use cmc_objects::{Call, Cause, Entry, Order, Role};
+use cmc_pass::{Act, Desk, Value, Views};
 use cmc_rules::{Ending, OpenPass, Stage};
 use std::alloc::{AllocError, Global};
 
@@ -76,6 +76,44 @@ fn status_doing(does: Act) -> Result<Doing, AllocError>
     }
 }
 
+/// The Secret of the plan that is the role's act on these views. The role that issues gives it without the plan.
+#[tactic(auto, unfolding(cmc_rules::specs::Acts::act))]
+fn secret_next(
+    alloc: Global,
+    role: Role,
+    seen: &Views,
+    since: i64,
+    desk: &Desk,
+) -> Result<Doing, AllocError>
+    requires acts { MayAct seen.now since desk.now }
+    requires plan { HasSecret (act role seen.now since desk.now) }
+    ensures { IfOk result (λ d. (after : OrderValue → ValueGiven → OptionValue CallValue) → IsDoingBy Stage.Read (act role seen.now since desk.now) after d) }
+{
+    match role {
+        Role::Issuing => Ok(Doing::Call(cmc_issuing::secret_of(alloc, seen, since)?)),
+        _ => secret_doing(act_of(alloc, role, seen, since, desk)?),
+    }
+}
+
+/// The status of the plan that is the role's act on these views. The role that issues gives it without the plan.
+#[tactic(auto, unfolding(cmc_rules::specs::Acts::act))]
+fn status_next(
+    alloc: Global,
+    role: Role,
+    seen: &Views,
+    since: i64,
+    desk: &Desk,
+) -> Result<Doing, AllocError>
+    requires acts { MayAct seen.now since desk.now }
+    requires plan { HasStatus (act role seen.now since desk.now) }
+    ensures { IfOk result (λ d. (after : OrderValue → ValueGiven → OptionValue CallValue) → IsDoingBy Stage.Saved (act role seen.now since desk.now) after d) }
+{
+    match role {
+        Role::Issuing => Ok(Doing::Call(cmc_issuing::status_of(alloc, seen, since)?)),
+        _ => status_doing(act_of(alloc, role, seen, since, desk)?),
+    }
+}
+
 /// What comes next of the pass, where its role decides by this desk.
 pub fn doing_of(alloc: Global, pass: &OpenPass, desk: &Desk) -> Result<Doing, AllocError>
     requires acts { MayAct pass.now.seen pass.now.since desk.now }
@@ -87,8 +125,8 @@ pub fn doing_of(alloc: Global, pass: &OpenPass, desk: &Desk) -> Result<Doing, Al
         Stage::Given { order, value } => Ok(Doing::Call(follow_of(
             alloc, pass.role, &pass.seen, pass.since, order, value,
         )?)),
-        Stage::Read => secret_doing(act_of(alloc, pass.role, &pass.seen, pass.since, desk)?),
-        Stage::Saved => status_doing(act_of(alloc, pass.role, &pass.seen, pass.since, desk)?),
+        Stage::Read => secret_next(alloc, pass.role, &pass.seen, pass.since, desk),
+        Stage::Saved => status_next(alloc, pass.role, &pass.seen, pass.since, desk),
         Stage::Wrote => Ok(Doing::End(Cause::Wrote)),
         Stage::Refused { entry, .. } => Ok(Doing::End(Cause::Stopper(*entry))),
         _ => unreachable!(),

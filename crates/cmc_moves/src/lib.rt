@@ -8,7 +8,7 @@ mod doing;
 mod moves;
 mod user_writes;
 
-pub use acts::{act_of, follow_of};
+pub use acts::{act_of, follow_of, is_idle_of};
 pub use decision::{Begun, Decided, decide, decides_alone, is_undecided};
 pub use doing::{
     Doing, Judged, answer_of, doing_of, ending_at, first_doing, let_go, outdated_of, value_entry_of,

@@ -2,8 +2,6 @@
 ghost use Rattle.std.specs.Option.{option_copied};
 ghost use Rattle.std.specs.Prelude.{◌≡◌, ◌↔◌, ◌⊎◌, ◌+◌, ◌≤◌, ◌||◌, ℕ, ℤ, Some, None, IsTrue, IfOk, All, length, if◌then◌else◌};
 ghost use Rattle.cmc_model.specs.declared.write.Write.{Write as WriteValue};
-ghost use Rattle.cmc_pass.specs.declared.pass.Act.TheVariants.{Nothing};
-ghost use Rattle.cmc_rules.specs.Acts as acts;
 ghost use Rattle.cmc_rules.specs.Following as following;
 ghost use Rattle.cmc_rules.specs.UserWrites as writes_of;
 ghost use Rattle.cmc_model.specs.Histories.{moment, runs};
@@ -26,30 +24,13 @@ use crate::world::{World, has_room};
 use cmc_held::{RoleState, is_held, is_same, own_above, told_of, written_of};
 use cmc_meta::{Key, Kind};
 use cmc_model::Write;
-use cmc_moves::{Lack, Stepped, act_of, answer_script, request_for};
+use cmc_moves::{Lack, Stepped, answer_script, is_idle_of, request_for};
 use cmc_objects::{Object, Positions, Role, Step, has_informer, kind_of_work};
-use cmc_pass::{Act, Desk, Views};
+use cmc_pass::Views;
 use cmc_rules::Past;
 use cmc_store::Store;
 use std::alloc::{AllocError, Global};
 use std::collections::BTreeSet;
-
-/// Whether the role has nothing to do where it sees this and decides by this desk.
-fn has_nothing(
-    alloc: Global,
-    role: Role,
-    seen: &Views,
-    now: i64,
-    desk: &Desk,
-) -> Result<bool, AllocError>
-    requires { MayAct seen.now now desk.now }
-    ensures { IfOk result (λ b. IsTrue b ↔ (acts.act role seen.now now desk.now ≡ Nothing)) }
-{
-    match act_of(alloc, role, seen, now, desk)? {
-        Act::Nothing => Ok(true),
-        _ => Ok(false),
-    }
-}
 
 /// Whether a role that has done this on the key may begin a pass on it that sees this.
 fn is_due_after(past: &Past, seen: &Views, now: i64, at: Positions) -> bool
@@ -189,7 +170,7 @@ impl World {
         requires { MayAct seen.now (on moment self.now) (on desk_at self.now role seen.now) }
         ensures { IfOk result (λ b. IsTrue b ↔ on spec.IsIdle self.now role seen.now) }
     {
-        has_nothing(alloc, role, seen, self.moment, &self.desk)
+        is_idle_of(alloc, role, seen, self.moment, &self.desk)
     }
 
     /// Whether the role, which sees this of the key, has nothing to do there, or may not begin.

@@ -9,14 +9,14 @@ use Rattle.cmc_world.specs.Kept.{setting_of, Seen, on}
 use Rattle.cmc_world.proofs.Idling.{idle_by, on_first_desk}
 use Rattle.cmc_world.proofs.world.World.is_idle.Goals as goal
 
-pub has_nothing-requires : goal.has_nothing-requires
-has_nothing-requires c =
+pub is_idle_of-requires : goal.is_idle_of-requires
+is_idle_of-requires c =
     rw (to_z-of_z w64 c.self.inside.moment (search rules), c.self.invariant.held.moment, c.self.invariant.held.desk)
     (on_first_desk (setting_of c.self.inside.scenario) c.args.seen.now _ _ c.self.invariant.held.formed
     (subst (λ (v : Seen). MayAct c.args.seen.now (on moment v) (on desk v c.args.role c.args.seen.now)) (sym c.self.view_is) c.requires))
 
 pub returns : goal.returns
 returns c =
-    subst (λ (v : Seen). IfOk c.has_nothing.result (λ b. IsTrue b ↔ on IsIdle v c.args.role c.args.seen.now)) c.self.view_is
-    (idle_by (setting_of c.self.inside.scenario) c.self.inside.history.entries c.args.role c.args.seen.now _ _ c.has_nothing.result
-    (to_z-of_z w64 c.self.inside.moment (search rules) ∙ c.self.invariant.held.moment) c.self.invariant.held.desk c.has_nothing.ensures)
+    subst (λ (v : Seen). IfOk c.is_idle_of.result (λ b. IsTrue b ↔ on IsIdle v c.args.role c.args.seen.now)) c.self.view_is
+    (idle_by (setting_of c.self.inside.scenario) c.self.inside.history.entries c.args.role c.args.seen.now _ _ c.is_idle_of.result
+    (to_z-of_z w64 c.self.inside.moment (search rules) ∙ c.self.invariant.held.moment) c.self.invariant.held.desk c.is_idle_of.ensures)

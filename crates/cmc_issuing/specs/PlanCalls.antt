@@ -1,0 +1,16 @@
+-- The writes of a plan.
+use Rattle.std.specs.Prelude.{Option, Some, None}
+use Rattle.cmc_objects.specs.declared.call.Call.{Call}
+use Rattle.cmc_pass.specs.declared.pass.Act.{Act}
+use Rattle.cmc_pass.specs.declared.pass.Act.TheVariants.{Issue, Temporary}
+
+-- the write of the Secret, where the act has one
+abbrev pub secret_of : Act → Option Call
+secret_of (Issue plan) = Some plan.secret
+secret_of (Temporary plan) = Some plan.secret
+secret_of other = None
+
+-- and that of the status behind it
+abbrev pub status_of : Act → Option Call
+status_of (Issue plan) = Some plan.status
+status_of other = None
