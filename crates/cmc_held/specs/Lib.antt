@@ -1,5 +1,5 @@
 pub mod Logs
-pub mod RoleState
+pub mod RoleStates
 pub mod Came
 pub mod Dues
 pub mod Open
