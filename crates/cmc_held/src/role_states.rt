@@ -56,7 +56,7 @@ impl Model for RoleStates {
 impl RoleStates {
     /// The roles at the beginning: those of the list run and have begun once, all others are
     /// stopped, and nobody was told of anything. An error is one of memory.
-    #[tactic(auto, unfolding(crate::specs::RoleState::role_state_of))]
+    #[tactic(auto, unfolding(crate::specs::RoleStates::role_state_of))]
     pub fn new(alloc: Global, running: &[Role]) -> Result<RoleStates, AllocError>
         ensures { IfOk result (λ t. (r : RoleValue) → role_state_of t r ≡ first_standing (list_any (λ role. role_eq role r) running.now)) }
     {
@@ -74,7 +74,7 @@ impl RoleStates {
     }
 
     /// How the role stands.
-    #[tactic(auto, unfolding(crate::specs::RoleState::role_state_of))]
+    #[tactic(auto, unfolding(crate::specs::RoleStates::role_state_of))]
     pub fn get(&self, role: Role) -> RoleState
         ensures { result ≡ role_state_of self.now role }
     {
@@ -82,7 +82,7 @@ impl RoleStates {
     }
 
     /// Lets the role stand so, and changes no other. It takes no memory.
-    #[tactic(auto, unfolding(crate::specs::RoleState::role_state_of))]
+    #[tactic(auto, unfolding(crate::specs::RoleStates::role_state_of))]
     pub fn set(&mut self, role: Role, standing: RoleState)
         ensures { (r : RoleValue) → role_state_of self.new r ≡ (if role_eq role r then standing else role_state_of self.old r) }
     {
