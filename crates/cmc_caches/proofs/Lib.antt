@@ -7,3 +7,4 @@ pub mod Touching
 pub mod Gathering
 pub mod Seeing
 pub mod Naming
+pub mod EachRole

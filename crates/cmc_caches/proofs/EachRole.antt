@@ -1,0 +1,19 @@
+-- What each of the eight roles was told of.
+use Rattle.std.proofs.Common.{◌≡◌, ◌∙◌, List, [], ◌∷◌, ap}
+use Rattle.cmc_objects.specs.declared.role.Role.{Role}
+use Rattle.cmc_objects.specs.declared.role.Role.TheVariants.{Trigger, KeyManager, RequestManager, Approver, Issuer, Issuing, Readiness, Revision}
+use Rattle.cmc_rules.specs.Viewing.{Caches}
+use Rattle.cmc_caches.specs.Told.{caches_of, nothing_told}
+
+-- where eight rows are those of roles that were told nothing
+pub told_nothing : (rows : List Caches) (a b c d e f g h : Caches) → rows ≡ a ∷ b ∷ c ∷ d ∷ e ∷ f ∷ g ∷ h ∷ [] → a ≡ nothing_told → b ≡ nothing_told → c ≡ nothing_told → d ≡ nothing_told → e ≡ nothing_told → f ≡ nothing_told
+    → g ≡ nothing_told → h ≡ nothing_told → (role : Role) → caches_of rows role ≡ nothing_told
+unfolding caches_of
+told_nothing rows a b c d e f g h is p q r s t u v w Trigger = ap (λ (l : List Caches). caches_of l Trigger) is ∙ p
+told_nothing rows a b c d e f g h is p q r s t u v w KeyManager = ap (λ (l : List Caches). caches_of l KeyManager) is ∙ q
+told_nothing rows a b c d e f g h is p q r s t u v w RequestManager = ap (λ (l : List Caches). caches_of l RequestManager) is ∙ r
+told_nothing rows a b c d e f g h is p q r s t u v w Approver = ap (λ (l : List Caches). caches_of l Approver) is ∙ s
+told_nothing rows a b c d e f g h is p q r s t u v w Issuer = ap (λ (l : List Caches). caches_of l Issuer) is ∙ t
+told_nothing rows a b c d e f g h is p q r s t u v w Issuing = ap (λ (l : List Caches). caches_of l Issuing) is ∙ u
+told_nothing rows a b c d e f g h is p q r s t u v w Readiness = ap (λ (l : List Caches). caches_of l Readiness) is ∙ v
+told_nothing rows a b c d e f g h is p q r s t u v w Revision = ap (λ (l : List Caches). caches_of l Revision) is ∙ w
