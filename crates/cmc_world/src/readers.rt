@@ -17,7 +17,7 @@ ghost use Rattle.cmc_held.specs.Remembered.{past_or_new};
 ghost use Rattle.cmc_moves.specs.Answers.{Answers};
 ghost use Rattle.cmc_world.specs.Kept.{on};
 
-use crate::resting;
+use crate::rest;
 use crate::world::World;
 use cmc_caches::Caches;
 use cmc_held::{Log, Passes, shown_positions};
@@ -134,6 +134,6 @@ impl World {
     pub fn is_due(&self, role: Role, key: &Key, seen: &Views) -> bool
         ensures { IsTrue result ↔ IsDue (on past self.now role key.now) seen.now (on spec.moment self.now) (positions self.now.history role) }
     {
-        resting::is_due(self.past(role, key), seen, self.moment(), self.told(role))
+        rest::is_due(self.past(role, key), seen, self.moment(), self.told(role))
     }
 }
