@@ -3,7 +3,7 @@ ghost use Rattle.std.specs.Ordering.{nat_cmp};
 ghost use Rattle.std.specs.Prelude.{◌≡◌, ◌↔◌, ◌==◌, [], IsTrue, IfOk, OnOk, OnErr};
 ghost use Rattle.cmc_meta.specs.ConditionLists.{condition_rank, condition_at, kept_since, place_in, renewed, tri_eq};
 
-use crate::items::{copy_items, same_items, Item};
+use crate::items::{Item, copy_items, same_items};
 use crate::text::Text;
 use std::alloc::{AllocError, Global};
 use std::cmp::Ordering;

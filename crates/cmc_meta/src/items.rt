@@ -32,7 +32,7 @@ impl<T> Model for Items<T> {
     ghost view = { λ t. t.items.items };
 }
 
-impl<T: Item> Items<T> {
+impl<T: Drop> Items<T> {
     /// No items. It takes no memory.
     pub fn new(alloc: Global) -> Items<T>
         ensures { result ≡ [] }
@@ -57,7 +57,9 @@ impl<T: Item> Items<T> {
     {
         self.items.as_slice()
     }
+}
 
+impl<T: Item> Items<T> {
     /// An equal list.
     pub fn copy(&self) -> Result<Items<T>, AllocError>
         ensures { IfOk result (λ t. t ≡ self.now) }
@@ -99,4 +101,25 @@ pub fn same_items<T: Item>(left: &[T], right: &[T]) -> bool
         }
     }
     true
+}
+
+/// An equal value, where there is one.
+pub fn copy_optional<T: Item>(value: &Option<T>) -> Result<Option<T>, AllocError>
+    ensures { IfOk result (λ v. v ≡ value.now) }
+{
+    match value {
+        Some(value) => Ok(Some(value.copy()?)),
+        None => Ok(None),
+    }
+}
+
+/// Whether both are equal, or neither is there.
+pub fn same_optional<T: Item>(left: &Option<T>, right: &Option<T>) -> bool
+    ensures { IsTrue result ↔ (left.now ≡ right.now) }
+{
+    match (left, right) {
+        (Some(left), Some(right)) => left.same(right),
+        (None, None) => true,
+        _ => false,
+    }
 }

@@ -19,7 +19,7 @@ mod wording;
 
 pub use bytes::Bytes;
 pub use conditions::{Condition, ConditionKind, Conditions, Tri};
-pub use items::{copy_items, same_items, Item, Items};
+pub use items::{Item, Items, copy_items, copy_optional, same_items, same_optional};
 pub use key::{Key, Kind};
 pub use name::{BadName, Name};
 pub use numbers::Numbers;
