@@ -77,6 +77,16 @@ impl<T: Item> Items<T> {
     }
 }
 
+impl<T: Item> Item for Items<T> {
+    fn copy(&self) -> Result<Items<T>, AllocError> {
+        Items::copy(self)
+    }
+
+    fn same(&self, other: &Items<T>) -> bool {
+        Items::same(self, other)
+    }
+}
+
 /// A copy of each item, in the same order.
 pub fn copy_items<T: Item>(alloc: Global, items: &[T]) -> Result<Vec<T>, AllocError>
     ensures { IfOk result (λ v. v.items ≡ items.now) }
