@@ -3,6 +3,7 @@ ghost use Rattle.std.specs.Ordering.{nat_cmp};
 ghost use Rattle.std.specs.Prelude.{◌≡◌, ◌↔◌, ◌==◌, [], IsTrue, IfOk, OnOk, OnErr};
 ghost use Rattle.cmc_meta.specs.ConditionLists.{condition_rank, condition_at, kept_since, place_in, renewed, tri_eq};
 
+use crate::items::{Item, copy_items, same_items};
 use crate::text::Text;
 use std::alloc::{AllocError, Global};
 use std::cmp::Ordering;
@@ -107,6 +108,16 @@ impl Condition {
     }
 }
 
+impl Item for Condition {
+    fn copy(&self) -> Result<Condition, AllocError> {
+        Condition::copy(self)
+    }
+
+    fn same(&self, other: &Condition) -> bool {
+        Condition::same(self, other)
+    }
+}
+
 /// The conditions of a status, in order of kind, each kind at most once.
 #[derive(Drop)]
 pub struct Conditions {
@@ -178,7 +189,7 @@ impl Conditions {
         ensures { IfOk result (λ c. c ≡ self.now) }
     {
         Ok(Conditions {
-            items: copy_conditions(*self.items.allocator(), self.items.as_slice())?,
+            items: copy_items(*self.items.allocator(), self.items.as_slice())?,
         })
     }
 
@@ -186,32 +197,8 @@ impl Conditions {
     pub fn same(&self, other: &Conditions) -> bool
         ensures { IsTrue result ↔ (self.now ≡ other.now) }
     {
-        same_conditions(self.items.as_slice(), other.items.as_slice())
+        same_items(self.items.as_slice(), other.items.as_slice())
     }
-}
-
-fn copy_conditions(alloc: Global, conditions: &[Condition]) -> Result<Vec<Condition>, AllocError>
-    ensures { IfOk result (λ v. v.items ≡ conditions.now) }
-{
-    let mut items = Vec::new(alloc);
-    for condition in conditions {
-        items.push(condition.copy()?)?;
-    }
-    Ok(items)
-}
-
-fn same_conditions(left: &[Condition], right: &[Condition]) -> bool
-    ensures { IsTrue result ↔ (left.now ≡ right.now) }
-{
-    if left.len() != right.len() {
-        return false;
-    }
-    for (i, condition) in left.iter().enumerate() {
-        if !condition.same(&right[i]) {
-            return false;
-        }
-    }
-    true
 }
 
 fn find_kind(conditions: &[Condition], kind: ConditionKind) -> Option<&Condition>

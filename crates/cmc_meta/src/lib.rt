@@ -6,6 +6,7 @@
 
 mod bytes;
 mod conditions;
+mod items;
 mod key;
 mod name;
 mod numbers;
@@ -18,6 +19,7 @@ mod wording;
 
 pub use bytes::Bytes;
 pub use conditions::{Condition, ConditionKind, Conditions, Tri};
+pub use items::{Item, Items, copy_items, copy_optional, same_items, same_optional};
 pub use key::{Key, Kind};
 pub use name::{BadName, Name};
 pub use numbers::Numbers;

@@ -10,6 +10,7 @@ ghost use Rattle.std.specs.Prelude.{◌≡◌, ◌↔◌, ◌<◌, ℕ, true, fa
 ghost use Rattle.std.specs.String.{string_bytes};
 ghost use Rattle.cmc_meta.specs.Names.{is_alphanumeric, is_label_byte, is_label, has_labels, is_subdomain, leading, are_short};
 
+use crate::items::Item;
 use std::alloc::{AllocError, Global};
 use std::cmp::Ordering;
 use std::hash::{Hash, Hasher};
@@ -206,6 +207,16 @@ impl Name {
             Ordering::Equal if self.is_short_as(other) => Ordering::Equal,
             Ordering::Equal => self.text.as_str().cmp(other.text.as_str()),
         }
+    }
+}
+
+impl Item for Name {
+    fn copy(&self) -> Result<Name, AllocError> {
+        Name::copy(self)
+    }
+
+    fn same(&self, other: &Name) -> bool {
+        Name::same(self, other)
     }
 }
 

@@ -2,8 +2,8 @@ ghost use Rattle.std.specs.Prelude.{◌≡◌, ◌↔◌, IsTrue, IfOk};
 
 use crate::issuer::IssuerRef;
 use crate::key_spec::KeySpec;
-use crate::optional::{copy_name, same_moment, same_name, same_u32, same_u64};
-use cmc_meta::{Conditions, Name, ObjectMeta, Text, Texts};
+use crate::optional::{same_moment, same_u32, same_u64};
+use cmc_meta::{Conditions, Name, ObjectMeta, Text, Texts, copy_optional, same_optional};
 use std::alloc::{AllocError, Global};
 
 /// The spec of a Certificate (cert-manager.io/v1 `CertificateSpec`).
@@ -139,7 +139,7 @@ impl CertStatus {
             not_after: self.not_after,
             renewal: self.renewal,
             revision: self.revision,
-            next_key: copy_name(&self.next_key)?,
+            next_key: copy_optional(&self.next_key)?,
         })
     }
 
@@ -154,7 +154,7 @@ impl CertStatus {
             && same_moment(self.not_after, other.not_after)
             && same_moment(self.renewal, other.renewal)
             && same_u64(self.revision, other.revision)
-            && same_name(&self.next_key, &other.next_key)
+            && same_optional(&self.next_key, &other.next_key)
     }
 }
 

@@ -1,7 +1,6 @@
 ghost use Rattle.std.specs.Prelude.{◌≡◌, ◌↔◌, IsTrue, IfOk};
 
-use crate::optional::{copy_text, same_text};
-use cmc_meta::Text;
+use cmc_meta::{Text, copy_optional, same_optional};
 use std::alloc::AllocError;
 
 /// The issuer that a Certificate or a CertificateRequest names (cert-manager.io/v1 `issuerRef`).
@@ -43,8 +42,8 @@ impl IssuerRef {
     {
         Ok(IssuerRef {
             name: self.name.copy()?,
-            kind: copy_text(&self.kind)?,
-            group: copy_text(&self.group)?,
+            kind: copy_optional(&self.kind)?,
+            group: copy_optional(&self.group)?,
         })
     }
 
@@ -53,7 +52,7 @@ impl IssuerRef {
         ensures { IsTrue result ↔ (self.now ≡ other.now) }
     {
         self.name.same(&other.name)
-            && same_text(&self.kind, &other.kind)
-            && same_text(&self.group, &other.group)
+            && same_optional(&self.kind, &other.kind)
+            && same_optional(&self.group, &other.group)
     }
 }

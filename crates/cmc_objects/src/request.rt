@@ -2,7 +2,7 @@ ghost use Rattle.std.specs.Prelude.{◌≡◌, ◌↔◌, IsTrue, IfOk};
 
 use crate::issuer::IssuerRef;
 use crate::optional::{same_moment, same_u64};
-use cmc_meta::{Bytes, Conditions, ObjectMeta, Texts};
+use cmc_meta::{Bytes, Conditions, Item, ObjectMeta, Texts};
 use std::alloc::{AllocError, Global};
 
 /// The spec of a CertificateRequest (cert-manager.io/v1 `CertificateRequestSpec`).
@@ -140,6 +140,16 @@ impl Drop for RequestStatus {
             ca: _ca,
             failure: _failure,
         } = self;
+    }
+}
+
+impl Item for CertificateRequest {
+    fn copy(&self) -> Result<CertificateRequest, AllocError> {
+        CertificateRequest::copy(self)
+    }
+
+    fn same(&self, other: &CertificateRequest) -> bool {
+        CertificateRequest::same(self, other)
     }
 }
 

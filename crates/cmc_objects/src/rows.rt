@@ -1,9 +1,8 @@
-ghost use Rattle.std.specs.Prelude.{◌≡◌, ◌↔◌, ◌++◌, ◌∷◌, [], IsTrue, IfOk, OnOk, OnErr};
+ghost use Rattle.std.specs.Prelude.{◌≡◌, ◌↔◌, IsTrue, IfOk};
 
 use crate::optional::same_u64;
-use cmc_meta::{Bytes, Text};
-use std::alloc::{AllocError, Global};
-use std::marker::Model;
+use cmc_meta::{Bytes, Item, Items, Text};
+use std::alloc::AllocError;
 
 /// What a scenario says of one private key that is asked for.
 #[derive(Drop)]
@@ -140,125 +139,29 @@ impl SignRow {
 }
 
 /// The key rows of a Certificate, in the order of its questions.
-#[derive(Drop)]
-pub struct KeyRows {
-    items: Vec<KeyRow>,
-}
+pub type KeyRows = Items<KeyRow>;
 
-impl Model for KeyRows {
-    ghost use Rattle.std.specs.Prelude.{List};
-    ghost use Rattle.cmc_objects.specs.declared.rows.KeyRow.{KeyRow};
-
-    ghost Value = { List KeyRow };
-
-    ghost view = { λ t. t.items.items };
-}
-
-impl KeyRows {
-    /// No rows. It takes no memory.
-    pub fn new(alloc: Global) -> KeyRows
-        ensures { result ≡ [] }
-    {
-        KeyRows {
-            items: Vec::new(alloc),
-        }
+impl Item for KeyRow {
+    fn copy(&self) -> Result<KeyRow, AllocError> {
+        KeyRow::copy(self)
     }
 
-    /// Adds a row at the end.
-    pub fn push(&mut self, row: KeyRow) -> Result<(), AllocError>
-        ensures ok { OnOk result (self.new ≡ self.old ++ row ∷ []) }
-        ensures err { OnErr result (self.new ≡ self.old) }
-    {
-        self.items.push(row)?;
-        Ok(())
-    }
-
-    /// The rows, as a slice.
-    pub fn as_slice(&self) -> &[KeyRow]
-        ensures { result.now ≡ self.now }
-    {
-        self.items.as_slice()
-    }
-
-    /// An equal list.
-    pub fn copy(&self) -> Result<KeyRows, AllocError>
-        ensures { IfOk result (λ r. r ≡ self.now) }
-    {
-        Ok(KeyRows {
-            items: copy_key_rows(*self.items.allocator(), self.items.as_slice())?,
-        })
+    fn same(&self, other: &KeyRow) -> bool {
+        KeyRow::same(self, other)
     }
 }
 
 /// The reply rows of a Certificate, in the order of its questions.
-#[derive(Drop)]
-pub struct SignRows {
-    items: Vec<SignRow>,
-}
+pub type SignRows = Items<SignRow>;
 
-impl Model for SignRows {
-    ghost use Rattle.std.specs.Prelude.{List};
-    ghost use Rattle.cmc_objects.specs.declared.rows.SignRow.{SignRow};
-
-    ghost Value = { List SignRow };
-
-    ghost view = { λ t. t.items.items };
-}
-
-impl SignRows {
-    /// No rows. It takes no memory.
-    pub fn new(alloc: Global) -> SignRows
-        ensures { result ≡ [] }
-    {
-        SignRows {
-            items: Vec::new(alloc),
-        }
+impl Item for SignRow {
+    fn copy(&self) -> Result<SignRow, AllocError> {
+        SignRow::copy(self)
     }
 
-    /// Adds a row at the end.
-    pub fn push(&mut self, row: SignRow) -> Result<(), AllocError>
-        ensures ok { OnOk result (self.new ≡ self.old ++ row ∷ []) }
-        ensures err { OnErr result (self.new ≡ self.old) }
-    {
-        self.items.push(row)?;
-        Ok(())
+    fn same(&self, other: &SignRow) -> bool {
+        SignRow::same(self, other)
     }
-
-    /// The rows, as a slice.
-    pub fn as_slice(&self) -> &[SignRow]
-        ensures { result.now ≡ self.now }
-    {
-        self.items.as_slice()
-    }
-
-    /// An equal list.
-    pub fn copy(&self) -> Result<SignRows, AllocError>
-        ensures { IfOk result (λ r. r ≡ self.now) }
-    {
-        Ok(SignRows {
-            items: copy_sign_rows(*self.items.allocator(), self.items.as_slice())?,
-        })
-    }
-}
-
-fn copy_key_rows(alloc: Global, rows: &[KeyRow]) -> Result<Vec<KeyRow>, AllocError>
-    ensures { IfOk result (λ v. v.items ≡ rows.now) }
-{
-    let mut items = Vec::new(alloc);
-    for row in rows {
-        items.push(row.copy()?)?;
-    }
-    Ok(items)
-}
-
-fn copy_sign_rows(alloc: Global, rows: &[SignRow]) -> Result<Vec<SignRow>, AllocError>
-    ensures { IfOk result (λ v. v.items ≡ rows.now) }
-{
-    let mut items = Vec::new(alloc);
-    for row in rows {
-        items.push(row.copy()?)?;
-    }
-    Ok(items)
 }
 
 /// What a scenario says of the keys and the issuer of one Certificate.

@@ -1,7 +1,7 @@
 ghost use Rattle.std.specs.Prelude.{◌≡◌, ◌↔◌, IsTrue, IfOk};
 
 use crate::parts::Parts;
-use cmc_meta::{ObjectMeta, Text};
+use cmc_meta::{Item, ObjectMeta, Text};
 use std::alloc::AllocError;
 
 /// A v1 Secret.
@@ -32,6 +32,16 @@ impl Secret {
         self.meta.same(&other.meta)
             && self.kind_text.same(&other.kind_text)
             && self.parts.same(&other.parts)
+    }
+}
+
+impl Item for Secret {
+    fn copy(&self) -> Result<Secret, AllocError> {
+        Secret::copy(self)
+    }
+
+    fn same(&self, other: &Secret) -> bool {
+        Secret::same(self, other)
     }
 }
 

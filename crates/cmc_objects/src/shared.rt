@@ -1,6 +1,7 @@
 //! Values that several holders share.
 ghost use Rattle.std.specs.Prelude.{◌≡◌, IfOk, MatchResult};
 
+use cmc_meta::Item;
 use std::alloc::{AllocError, Global};
 use std::marker::Model;
 use std::ops::Deref;
@@ -61,5 +62,15 @@ impl<T> Deref for Shared<T> {
         ensures { result.now ≡ self.now }
     {
         self.value.as_ref()
+    }
+}
+
+impl<T: Item> Item for Shared<T> {
+    fn copy(&self) -> Result<Shared<T>, AllocError> {
+        Shared::copy(self)
+    }
+
+    fn same(&self, other: &Shared<T>) -> bool {
+        self.value.as_ref().same(other.value.as_ref())
     }
 }

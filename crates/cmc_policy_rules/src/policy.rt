@@ -1,9 +1,10 @@
 //! One approval policy.
 ghost use Rattle.std.specs.Prelude.{◌≡◌, ◌↔◌, IsTrue, IfOk};
 
-use crate::optional::{copy_patterns, same_bool, same_patterns, same_u32, same_u64};
+use crate::optional::{same_bool, same_u32, same_u64};
 use crate::pattern::Pattern;
 use crate::patterns::Patterns;
+use cmc_meta::{copy_optional, same_optional};
 use std::alloc::AllocError;
 
 /// Which requests a policy is for, and what such a request may ask (approver-policy's
@@ -43,11 +44,11 @@ impl Policy {
         Ok(Policy {
             name: self.name.copy()?,
             issuers: self.issuers.copy()?,
-            common: copy_patterns(&self.common)?,
-            dns: copy_patterns(&self.dns)?,
-            ips: copy_patterns(&self.ips)?,
-            uris: copy_patterns(&self.uris)?,
-            emails: copy_patterns(&self.emails)?,
+            common: copy_optional(&self.common)?,
+            dns: copy_optional(&self.dns)?,
+            ips: copy_optional(&self.ips)?,
+            uris: copy_optional(&self.uris)?,
+            emails: copy_optional(&self.emails)?,
             usages: self.usages.copy()?,
             ca: self.ca,
             min: self.min,
@@ -64,11 +65,11 @@ impl Policy {
     {
         self.name.same(&other.name)
             && self.issuers.same(&other.issuers)
-            && same_patterns(&self.common, &other.common)
-            && same_patterns(&self.dns, &other.dns)
-            && same_patterns(&self.ips, &other.ips)
-            && same_patterns(&self.uris, &other.uris)
-            && same_patterns(&self.emails, &other.emails)
+            && same_optional(&self.common, &other.common)
+            && same_optional(&self.dns, &other.dns)
+            && same_optional(&self.ips, &other.ips)
+            && same_optional(&self.uris, &other.uris)
+            && same_optional(&self.emails, &other.emails)
             && self.usages.same(&other.usages)
             && self.ca == other.ca
             && same_u64(self.min, other.min)
