@@ -3,7 +3,7 @@ ghost use Rattle.std.specs.Prelude.{◌≡◌, ◌↔◌, IsTrue, IfOk};
 use crate::issuer::IssuerRef;
 use crate::key_spec::KeySpec;
 use crate::optional::{same_moment, same_u32, same_u64};
-use cmc_meta::{Conditions, Name, ObjectMeta, Text, Texts, copy_optional, same_optional};
+use cmc_meta::{Conditions, Item, Name, ObjectMeta, Text, Texts, copy_optional, same_optional};
 use std::alloc::{AllocError, Global};
 
 /// The spec of a Certificate (cert-manager.io/v1 `CertificateSpec`).
@@ -177,6 +177,16 @@ impl Certificate {
         self.meta.same(&other.meta)
             && self.spec.same(&other.spec)
             && self.status.same(&other.status)
+    }
+}
+
+impl Item for Certificate {
+    fn copy(&self) -> Result<Certificate, AllocError> {
+        Certificate::copy(self)
+    }
+
+    fn same(&self, other: &Certificate) -> bool {
+        Certificate::same(self, other)
     }
 }
 

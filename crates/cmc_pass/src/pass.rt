@@ -1,180 +1,15 @@
 //! What a pass of a controller sees, and what it does.
-ghost use Rattle.std.specs.Prelude.{◌≡◌, ◌↔◌, ◌++◌, ◌∷◌, [], None, IsTrue, IfOk, OnOk, OnErr};
+ghost use Rattle.std.specs.Prelude.{◌≡◌, ◌↔◌, [], None, IsTrue, IfOk};
 
-use cmc_meta::Key;
+use cmc_meta::{Items, Key, copy_optional, same_optional};
 use cmc_objects::{Call, Certificate, CertificateRequest, Material, Order, Rules, Secret, Shared};
 use std::alloc::{AllocError, Global};
-use std::marker::Model;
 
 /// Secrets in order of name; contracts see the list.
-#[derive(Drop)]
-pub struct Secrets {
-    items: Vec<Shared<Secret>>,
-}
-
-impl Model for Secrets {
-    ghost use Rattle.std.specs.Prelude.{List};
-    ghost use Rattle.cmc_objects.specs.declared.secret.Secret.{Secret};
-
-    ghost Value = { List Secret };
-
-    ghost view = { λ s. s.items.items };
-}
-
-impl Secrets {
-    /// No Secrets. It takes no memory.
-    pub fn new(alloc: Global) -> Secrets
-        ensures { result ≡ [] }
-    {
-        Secrets {
-            items: Vec::new(alloc),
-        }
-    }
-
-    /// Adds a Secret at the end, where its name has to stand.
-    pub fn push(&mut self, secret: Shared<Secret>) -> Result<(), AllocError>
-        ensures ok { OnOk result (self.new ≡ self.old ++ secret ∷ []) }
-        ensures err { OnErr result (self.new ≡ self.old) }
-    {
-        self.items.push(secret)?;
-        Ok(())
-    }
-
-    /// The Secrets, as a slice.
-    pub fn as_slice(&self) -> &[Shared<Secret>]
-        ensures { result.now ≡ self.now }
-    {
-        self.items.as_slice()
-    }
-
-    /// Equal Secrets.
-    pub fn copy(&self) -> Result<Secrets, AllocError>
-        ensures { IfOk result (λ s. s ≡ self.now) }
-    {
-        Ok(Secrets {
-            items: copy_secrets(*self.items.allocator(), self.items.as_slice())?,
-        })
-    }
-
-    /// Whether both are equal, one after another.
-    pub fn same(&self, other: &Secrets) -> bool
-        ensures { IsTrue result ↔ (self.now ≡ other.now) }
-    {
-        same_secrets(self.items.as_slice(), other.items.as_slice())
-    }
-}
-
-fn same_secrets(left: &[Shared<Secret>], right: &[Shared<Secret>]) -> bool
-    ensures { IsTrue result ↔ (left.now ≡ right.now) }
-{
-    if left.len() != right.len() {
-        return false;
-    }
-    for (i, item) in left.iter().enumerate() {
-        if !item.same(&right[i]) {
-            return false;
-        }
-    }
-    true
-}
-
-fn copy_secrets(
-    alloc: Global,
-    secrets: &[Shared<Secret>],
-) -> Result<Vec<Shared<Secret>>, AllocError>
-    ensures { IfOk result (λ v. v.items ≡ secrets.now) }
-{
-    let mut items = Vec::new(alloc);
-    for secret in secrets {
-        items.push(secret.copy()?)?;
-    }
-    Ok(items)
-}
+pub type Secrets = Items<Shared<Secret>>;
 
 /// CertificateRequests in order of name; contracts see the list.
-#[derive(Drop)]
-pub struct Requests {
-    items: Vec<Shared<CertificateRequest>>,
-}
-
-impl Model for Requests {
-    ghost use Rattle.std.specs.Prelude.{List};
-    ghost use Rattle.cmc_objects.specs.declared.request.CertificateRequest.{CertificateRequest};
-
-    ghost Value = { List CertificateRequest };
-
-    ghost view = { λ r. r.items.items };
-}
-
-impl Requests {
-    /// No CertificateRequests. It takes no memory.
-    pub fn new(alloc: Global) -> Requests
-        ensures { result ≡ [] }
-    {
-        Requests {
-            items: Vec::new(alloc),
-        }
-    }
-
-    /// Adds a CertificateRequest at the end, where its name has to stand.
-    pub fn push(&mut self, request: Shared<CertificateRequest>) -> Result<(), AllocError>
-        ensures ok { OnOk result (self.new ≡ self.old ++ request ∷ []) }
-        ensures err { OnErr result (self.new ≡ self.old) }
-    {
-        self.items.push(request)?;
-        Ok(())
-    }
-
-    /// The CertificateRequests, as a slice.
-    pub fn as_slice(&self) -> &[Shared<CertificateRequest>]
-        ensures { result.now ≡ self.now }
-    {
-        self.items.as_slice()
-    }
-
-    /// Equal CertificateRequests.
-    pub fn copy(&self) -> Result<Requests, AllocError>
-        ensures { IfOk result (λ r. r ≡ self.now) }
-    {
-        Ok(Requests {
-            items: copy_requests(*self.items.allocator(), self.items.as_slice())?,
-        })
-    }
-
-    /// Whether both are equal, one after another.
-    pub fn same(&self, other: &Requests) -> bool
-        ensures { IsTrue result ↔ (self.now ≡ other.now) }
-    {
-        same_requests(self.items.as_slice(), other.items.as_slice())
-    }
-}
-
-fn same_requests(left: &[Shared<CertificateRequest>], right: &[Shared<CertificateRequest>]) -> bool
-    ensures { IsTrue result ↔ (left.now ≡ right.now) }
-{
-    if left.len() != right.len() {
-        return false;
-    }
-    for (i, item) in left.iter().enumerate() {
-        if !item.same(&right[i]) {
-            return false;
-        }
-    }
-    true
-}
-
-fn copy_requests(
-    alloc: Global,
-    requests: &[Shared<CertificateRequest>],
-) -> Result<Vec<Shared<CertificateRequest>>, AllocError>
-    ensures { IfOk result (λ v. v.items ≡ requests.now) }
-{
-    let mut items = Vec::new(alloc);
-    for request in requests {
-        items.push(request.copy()?)?;
-    }
-    Ok(items)
-}
+pub type Requests = Items<Shared<CertificateRequest>>;
 
 /// What a controller sees of its key as a pass begins. A part that the controller does not look at is empty.
 pub struct Views {
@@ -208,9 +43,9 @@ impl Views {
     pub fn copy(&self) -> Result<Views, AllocError>
         ensures { IfOk result (λ v. v ≡ self.now) }
     {
-        let certificate = copy_certificate(&self.certificate)?;
-        let secret = copy_secret(&self.secret)?;
-        let request = copy_request(&self.request)?;
+        let certificate = copy_optional(&self.certificate)?;
+        let secret = copy_optional(&self.secret)?;
+        let request = copy_optional(&self.request)?;
         Ok(Views {
             certificate,
             secret,
@@ -224,75 +59,11 @@ impl Views {
     pub fn same(&self, other: &Views) -> bool
         ensures { IsTrue result ↔ (self.now ≡ other.now) }
     {
-        same_certificate(&self.certificate, &other.certificate)
-            && same_secret(&self.secret, &other.secret)
+        same_optional(&self.certificate, &other.certificate)
+            && same_optional(&self.secret, &other.secret)
             && self.next.same(&other.next)
             && self.requests.same(&other.requests)
-            && same_request(&self.request, &other.request)
-    }
-}
-
-fn same_certificate(left: &Option<Shared<Certificate>>, right: &Option<Shared<Certificate>>) -> bool
-    ensures { IsTrue result ↔ (left.now ≡ right.now) }
-{
-    match (left, right) {
-        (Some(left), Some(right)) => left.same(right),
-        (None, None) => true,
-        _ => false,
-    }
-}
-
-fn same_secret(left: &Option<Shared<Secret>>, right: &Option<Shared<Secret>>) -> bool
-    ensures { IsTrue result ↔ (left.now ≡ right.now) }
-{
-    match (left, right) {
-        (Some(left), Some(right)) => left.same(right),
-        (None, None) => true,
-        _ => false,
-    }
-}
-
-fn same_request(
-    left: &Option<Shared<CertificateRequest>>,
-    right: &Option<Shared<CertificateRequest>>,
-) -> bool
-    ensures { IsTrue result ↔ (left.now ≡ right.now) }
-{
-    match (left, right) {
-        (Some(left), Some(right)) => left.same(right),
-        (None, None) => true,
-        _ => false,
-    }
-}
-
-fn copy_certificate(
-    certificate: &Option<Shared<Certificate>>,
-) -> Result<Option<Shared<Certificate>>, AllocError>
-    ensures { IfOk result (λ c. c ≡ certificate.now) }
-{
-    match certificate {
-        Some(certificate) => Ok(Some(certificate.copy()?)),
-        None => Ok(None),
-    }
-}
-
-fn copy_secret(secret: &Option<Shared<Secret>>) -> Result<Option<Shared<Secret>>, AllocError>
-    ensures { IfOk result (λ s. s ≡ secret.now) }
-{
-    match secret {
-        Some(secret) => Ok(Some(secret.copy()?)),
-        None => Ok(None),
-    }
-}
-
-fn copy_request(
-    request: &Option<Shared<CertificateRequest>>,
-) -> Result<Option<Shared<CertificateRequest>>, AllocError>
-    ensures { IfOk result (λ r. r ≡ request.now) }
-{
-    match request {
-        Some(request) => Ok(Some(request.copy()?)),
-        None => Ok(None),
+            && same_optional(&self.request, &other.request)
     }
 }
 

@@ -1,5 +1,0 @@
-use Rattle.std.proofs.Common.{◌≡◌, take, length}
-use Rattle.cmc_pass.proofs.pass.same_requests.Given as goal
-
-abbrev pub invariant-loop-i : goal.invariant-loop-i
-invariant-loop-i l = (take l.i l.left ≡ take l.i l.right) × (length l.left ≡ length l.right)
