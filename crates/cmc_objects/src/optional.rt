@@ -1,5 +1,5 @@
-// Copies and comparisons of optional values, one function a type, so that the long chains of
-// comparisons above need no case of their own.
+// Comparisons of optional numbers, one function a type, so that the long chains of comparisons above need no case of
+// their own.
 ghost use Rattle.std.specs.Prelude.{◌≡◌, ◌↔◌, IsTrue};
 
 pub fn same_u32(left: Option<u32>, right: Option<u32>) -> bool
