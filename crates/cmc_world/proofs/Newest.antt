@@ -21,7 +21,7 @@ use Rattle.cmc_objects.specs.Watching.{works_on_requests, looks_at_secret, looks
 use Rattle.cmc_rules.specs.Positions.{position}
 use Rattle.cmc_rules.specs.Viewing.{certificate_in, request_in, secret_in, next_in, owned_in, certificate_at, request_at, target_at, next_of, requests_of, of_certificate, views_of, views_in, views, present_views}
 use Rattle.cmc_rules.specs.Legality.{IsLegal}
-use Rattle.cmc_model.proofs.Versions.{role_state}
+use Rattle.cmc_model.proofs.Versions.{standing}
 use Rattle.cmc_rules.proofs.Versions.{version_keyed}
 use Rattle.cmc_model.proofs.Writes.{writes_leave}
 use Rattle.cmc_world.proofs.OneKind.{of_kind-oldest, object_at-of_kind, entries-of_kind, filter_map-where}
@@ -60,7 +60,7 @@ owned_of_requests c (Secret o) off = refl
 no_part : {A : Type 0} (s : Setting) (h : List Entry) (kind : Kind) (f : Object → Option A) → IsLegal s h → IsOfOnly kind f
     → (q : Key) (o : Object) → object_at (contents (writes s h)) q ≡ Some o → kind_eq q.kind kind ≡ false → f o ≡ None
 no_part s h kind f legal only q o is off =
-    only o (ap (λ (k : Key). kind_eq k.kind kind) (version_keyed s h q o legal (role_state (writes s h) q o is)) ∙ off)
+    only o (ap (λ (k : Key). kind_eq k.kind kind) (version_keyed s h q o legal (standing (writes s h) q o is)) ∙ off)
 
 -- ---- one object, and all
 

@@ -8,7 +8,7 @@ use Rattle.cmc_safety.proofs.Barred.{never_invalid}
 use Rattle.cmc_safety.proofs.Completing.{completes}
 use Rattle.cmc_safety.proofs.Rights.{keeps_rights}
 use Rattle.cmc_safety.proofs.Safe.{safe}
-use Rattle.cmc_safety.proofs.RoleState.{in_order}
+use Rattle.cmc_safety.proofs.Standing.{in_order}
 use Rattle.cmc_world.specs.Kept.{Seen, on}
 use Rattle.cmc_moves.proofs.Sounds.{each_sound}
 use Rattle.cmc_world.proofs.world.World.is_run.Goals as goal

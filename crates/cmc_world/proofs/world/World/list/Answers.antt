@@ -17,7 +17,7 @@ use Rattle.cmc_world.proofs.world.World.list.Goals as goal
 pub tell-requires-clause-above : goal.tell-requires-clause-above
 tell-requires-clause-above c =
     let may = subst (λ (v : Seen). on IsListing v c.args.role c.args.kind c.args.to) (sym c.self.view_is) c.requires.may in
-    let at = told_from _ _ _ c.args.role c.args.kind c.get-role_state.result c.told_of-from.result c.self.invariant c.get-role_state.ensures c.told_of-from.ensures in
+    let at = told_from _ _ _ c.args.role c.args.kind c.get-standing.result c.told_of-from.result c.self.invariant c.get-standing.ensures c.told_of-from.ensures in
     omega (arith, at, may.beyond, may.newest)
 
 pub tell-requires-clause-within : goal.tell-requires-clause-within
@@ -29,7 +29,7 @@ tell-requires-clause-within c =
 pub tell-requires-clause-holds : goal.tell-requires-clause-holds
 tell-requires-clause-holds c =
     let may = subst (λ (v : Seen). on IsListing v c.args.role c.args.kind c.args.to) (sym c.self.view_is) c.requires.may in
-    has_told _ _ _ c.args.role c.args.kind c.get-role_state.result c.told_of-from.result c.as_slice.result.now c.self.invariant may.informed c.get-role_state.ensures c.told_of-from.ensures c.as_slice.ensures
+    has_told _ _ _ c.args.role c.args.kind c.get-standing.result c.told_of-from.result c.as_slice.result.now c.self.invariant may.informed c.get-standing.ensures c.told_of-from.ensures c.as_slice.ensures
 
 pub invariant_of-self-2 : goal.invariant_of-self-2
 invariant_of-self-2 c =
@@ -38,5 +38,5 @@ invariant_of-self-2 c =
     (subst (λ (v : Seen). on IsListing v c.args.role c.args.kind c.args.to) (sym c.self.view_is) c.requires.may)
     (subst (λ (v : Seen). on held v c.args.role c.args.kind ≡ false) (sym c.self.view_is) c.requires.free)
     (subst (λ (v : Seen). length v.history < v.scenario.events) (sym c.self.view_is) c.requires.room)
-    (λ r. c.set.ensures r ∙ ap (λ (t : RoleState). if role_eq c.args.role r then t else role_state_of c.self.inside.role_states r) (c.with_told.ensures ∙ ap (telling c.args.kind c.args.to) c.get-role_state.ensures))
+    (λ r. c.set.ensures r ∙ ap (λ (t : RoleState). if role_eq c.args.role r then t else role_state_of c.self.inside.role_states r) (c.with_told.ensures ∙ ap (telling c.args.kind c.args.to) c.get-standing.ensures))
     (λ r. c.in_ok-tell.ensures.ok r ∙ ap (λ (ws : List Write). if role_eq c.args.role r then with_cached c.args.kind (contents (of_kind c.args.kind (oldest c.args.to ws))) (caches_of c.self.inside.caches c.args.role) else caches_of c.self.inside.caches r) c.as_slice.ensures))

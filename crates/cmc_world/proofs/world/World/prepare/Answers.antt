@@ -14,9 +14,9 @@ overflow_add-result c =
 pub returns : goal.returns
 returns c =
     subst
-    (λ (v : Seen). on IsPrepared v c.args.role c.args.key (record { number = c.len.result + 1; origin = record { role = c.args.role; incarnation = c.get-role_state.result.incarnation }; pass = c.in_ok-pass.pass; seen = c.args.seen; key = c.args.key; at = c.shown_positions-at.result }))
+    (λ (v : Seen). on IsPrepared v c.args.role c.args.key (record { number = c.len.result + 1; origin = record { role = c.args.role; incarnation = c.get-standing.result.incarnation }; pass = c.in_ok-pass.pass; seen = c.args.seen; key = c.args.key; at = c.shown_positions-at.result }))
     c.self.view_is
-    (prepared _ _ _ c.args.role c.args.key c.get-role_state.result c.shown_positions-at.result c.args.seen c.in_ok-pass.pass (to_z w64 (of_z w64 c.self.inside.moment)) c.len.result
-    c.self.invariant c.get-role_state.ensures c.shown_positions-at.ensures
+    (prepared _ _ _ c.args.role c.args.key c.get-standing.result c.shown_positions-at.result c.args.seen c.in_ok-pass.pass (to_z w64 (of_z w64 c.self.inside.moment)) c.len.result
+    c.self.invariant c.get-standing.ensures c.shown_positions-at.ensures
     (subst (λ (v : Seen). c.args.seen ≡ on views v c.args.role c.args.key) (sym c.self.view_is) c.requires)
     (to_z-of_z w64 c.self.inside.moment (search rules)) c.in_ok-pass.ensures c.len.ensures)
