@@ -62,9 +62,3 @@ each_of_one_key kind ws m left own uid j k at_j at_k =
 -- in a legal history no uid is given under two keys
 pub legal_uids : (s : Setting) (h : List Entry) → IsLegal s h → HaveOwnUids (writes s h)
 legal_uids s h legal j k o p a b same = uid_has_one_key s h j k o p legal a b same
-
--- a role that was told of what the history says was told of Certificates so
-pub told_certificates : (s : Setting) (h : List Entry) (ws : List Write) (role : Role) (caches : Caches) → reverse ws ≡ writes s h → caches ≡ caches_at (writes s h) (positions h role)
-    → AreLeft Certificate ws (cached Certificate caches)
-told_certificates s h ws role caches log is =
-    (position_told h role Certificate, ap (λ (c : Caches). c.certificates) is ∙ ap (λ (l : List Write). contents (of_kind Certificate (oldest (position_told h role Certificate) l))) (sym log))

@@ -21,9 +21,6 @@ or_left a b is = ap (λ x. x || b) is
 or_right : (a b : Bool) → b ≡ true → (a || b) ≡ true
 or_right a b is = ap (λ x. a || x) is ∙ or-true a
 
-pub keeps_more : (old more new : List Key) → new ≡ old ++ more → KeepsKeys old new
-keeps_more old more new is q among = ap (λ (l : List Key). is_among l q) is ∙ list_any-append (is_at (key_cmp q)) old more ∙ or_left (is_among old q) (is_among more q) among
-
 pub among_more : (old more new : List Key) (q : Key) → new ≡ old ++ more → is_among more q ≡ true → is_among new q ≡ true
 among_more old more new q is among = ap (λ (l : List Key). is_among l q) is ∙ list_any-append (is_at (key_cmp q)) old more ∙ or_right (is_among old q) (is_among more q) among
 
@@ -32,15 +29,6 @@ itself k = ap (λ r. is_eq r || false) (tied_itself key_cmp-total k)
 
 pub among_last : (old new : List Key) (last q : Key) → new ≡ old ++ last ∷ [] → last ≡ q → is_among new q ≡ true
 among_last old new last q is same = among_more old (last ∷ []) new q is (subst (λ (k : Key). is_among (k ∷ []) q ≡ true) (sym same) (itself q))
-
--- one uid more
-pub uids_more : (m : Objects) (before : List ℕ) (u : ℕ) (old new : List Key) → AreListedByUid m before old → KeepsKeys old new → ((k : Key) → has_uid u (object_at m k) ≡ true → is_among new k ≡ true)
-    → AreListedByUid m (before ++ u ∷ []) new
-uids_more m before u old new listed keeps more v among k is =
-    elim (or_cases (is_one_of before v) ((u == v) || false) (sym (list_any-append (λ x. x == v) before (u ∷ [])) ∙ among)) [
-      | inl was ↦ keeps k (listed v was k is)
-      | inr here ↦ more k (subst (λ (x : ℕ). has_uid x (object_at m k) ≡ true) (sym (eqb-true u v (sym (or-false (u == v)) ∙ here))) is)
-    ]
 
 -- one Secret more
 pub secrets_more : (m : Objects) (before : List Key) (s : Key) (old new : List Key) → AreListedBySecret m before old → KeepsKeys old new

@@ -93,9 +93,6 @@ stand_under_named kind ws m left key is =
 
 -- ---- keys that are added
 
-pub adds_none : (m : Objects) (keys : List Key) → AddsStanding m keys keys
-adds_none m keys k among = inl among
-
 pub adds_on : (m : Objects) (one two three : List Key) → AddsStanding m one two → AddsStanding m two three → AddsStanding m one three
 adds_on m one two three first then_more k among = elim (then_more k among) [ inl old ↦ first k old | inr stands ↦ inr stands ]
 
@@ -106,17 +103,9 @@ adds_last m old new last is stands k among =
       | inr here ↦ inr (ap (λ (q : Key). is_some (object_at m q)) (same_key k last (sym (or-false (is_eq (key_cmp k last))) ∙ here)) ∙ stands)
     ]
 
-pub adds_all : (m : Objects) (old more new : List Key) → new ≡ old ++ more → ((k : Key) → is_among more k ≡ true → is_some (object_at m k) ≡ true) → AddsStanding m old new
-adds_all m old more new is stand k among =
-    elim (or_cases (is_among old k) (is_among more k) (sym (list_any-append (is_at (key_cmp k)) old more) ∙ ap (λ (l : List Key). is_among l k) (sym is) ∙ among)) [ inl had ↦ inl had | inr here ↦ inr (stand k here) ]
-
 pub stands_with_uid : (uid : ℕ) (o : Option Object) → has_uid uid o ≡ true → is_some o ≡ true
 stands_with_uid uid None is = is
 stands_with_uid uid (Some x) is = refl
-
-pub stands_targeting : (namespace name : List ℕ) (o : Option Object) → is_targeting namespace name o ≡ true → is_some o ≡ true
-stands_targeting namespace name None is = is
-stands_targeting namespace name (Some x) is = refl
 
 -- ---- the role's work
 

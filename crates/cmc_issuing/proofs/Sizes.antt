@@ -70,10 +70,6 @@ unfolding last_passing
 passing_grows p q zero f = omega arith
 passing_grows p q (suc n) f = passing_by (p (suc n)) (q (suc n)) n (last_passing p n) (last_passing q n) (f (suc n)) (passing_grows p q n f) (passing_within p n)
 
-le_by : (a b : ℤ) (t : Bool) → int_le a b ≡ t → (t ≡ false → ⊥) → int_le a b ≡ true
-le_by a b true e f = e
-le_by a b false e f = absurd (f refl)
-
 below : (a b c : ℤ) → int_le a b ≡ true → int_le b c ≡ true → int_le a c ≡ true
 below a b c h k = grind (arith, ints)
 

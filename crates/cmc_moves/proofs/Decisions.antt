@@ -108,9 +108,6 @@ settled s h n p d is off = (inl (λ on. no_more (subst IsUndecided is on), refl)
   no_more : is_undecided p ≡ true → ⊥
   no_more on = absurd (cc (on, off))
 
-pub saw_others : (s : Setting) (h : List Entry) (n : ℕ) (p : OpenPass) (d : Decision) → open_pass s h n ≡ Some p → is_undecided p ≡ true → (SawSame d (Some p) → ⊥) → IsTaking s h n d (Answer (OtherViews n))
-saw_others s h n p d is undecided other = (inr (subst IsUndecided (sym is) undecided, inl (λ saw. other (subst (SawSame d) is saw), refl)), tt)
-
 pub takes : (s : Setting) (h : List Entry) (n : ℕ) (p : OpenPass) (d : Decision) (j : Judged) → open_pass s h n ≡ Some p → is_undecided p ≡ true → SawSame d (Some p) → IsGoingOn s h n j → IsTaking s h n d j
 takes s h n p d (Answer answer) is undecided saw (going, quiet) = (inr (subst IsUndecided (sym is) undecided, inr (subst (SawSame d) (sym is) saw, going)), quiet)
 takes s h n p d (Does doing) is undecided saw (going, goes) = (inr (subst IsUndecided (sym is) undecided, inr (subst (SawSame d) (sym is) saw, going)), goes)

@@ -104,9 +104,6 @@ begin_answers s h role key answer true false same is_queued room on busy is q d 
 
 -- ---- the pass of a number
 
-pub ended_first : (s : Setting) (h : List Entry) (pass named present : ℕ) (rest : Type 0) → outdated s h named (origin_at pass (origins s h)) ≡ Some present → AnswersOpen s h pass named (Ended present) rest
-ended_first s h pass named present rest is = rw is refl
-
 pub no_pass : (s : Setting) (h : List Entry) (pass named : ℕ) (rest : Type 0) → outdated s h named (origin_at pass (origins s h)) ≡ None → open_pass s h pass ≡ None → AnswersOpen s h pass named (NotNow (NoPass pass)) rest
 no_pass s h pass named rest present none = rw present (inl (λ is. subst IsOpen none is, refl))
 

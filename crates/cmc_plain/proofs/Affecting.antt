@@ -135,18 +135,6 @@ told_stays s h role kind keys rows same others to low = record {
 
 -- ---- keys that are taken out
 
--- of the role they are gone
-pub gone_each : (role : Role) (keys : List Key) (old new : List (BTreeSet Key)) → ((r : Role) (k : Key) → is_ready new r k ≡ (not (role_eq role r && is_among keys k) && is_ready old r k))
-    → (k : Key) → is_ready new role k ≡ true → is_among keys k ≡ false
-gone_each role keys old new each k on =
-    out (is_among keys k) (ap (λ (b : Bool). not (b && is_among keys k)) (sym (role_itself role)) ∙ (and_parts (not (role_eq role role && is_among keys k)) (is_ready old role k) (sym (each role k) ∙ on)).0) where
-      out : (b : Bool) → not (true && b) ≡ true → b ≡ false
-      out true is = absurd (cc is)
-      out false is = refl
-
-pub fewer_each : (role : Role) (keys : List Key) (old new : List (BTreeSet Key)) → ((r : Role) (k : Key) → is_ready new r k ≡ (not (role_eq role r && is_among keys k) && is_ready old r k)) → Keeps new old
-fewer_each role keys old new each r k on = (and_parts (not (role_eq role r && is_among keys k)) (is_ready old r k) (sym (each r k) ∙ on)).1
-
 both_out : (a b c o : Bool) → (not (a && c) && (not (a && b) && o)) ≡ (not (a && (b || (c || false))) && o)
 both_out true true true o = refl
 both_out true true false o = refl

@@ -18,18 +18,6 @@ use Rattle.cmc_plain.specs.Searches.{IsAwaitedBy, IsAwaiting}
 
 -- ---- one step
 
--- until so many writes were made, or all is at rest
-pub until_waits : (s : Setting) (h : List Entry) (step : Step) (role : Role) (kind : Kind) (count : ℕ) (has : Bool) → step ≡ steps.Until role kind count → (IsTrue has ↔ (count ≤ written s h role kind)) → has ≡ false
-    → IsAwaitedBy s h step Rest
-until_waits s h step role kind count has is e off =
-    subst (λ (x : Step). (IsAtRest s h → IsReady s h (Some x)) × (IsReady s h (Some x) → IsAtRest s h)) (sym is) ((λ rest. inr rest), of) where
-      of : (count ≤ written s h role kind) ⊎ IsAtRest s h → IsAtRest s h
-      of (inl low) = let on = e.1 low in absurd (cc (on, off))
-      of (inr rest) = rest
-
-pub settle_waits : (s : Setting) (h : List Entry) (step : Step) → step ≡ steps.Settle → IsAwaitedBy s h step Rest
-settle_waits s h step is = subst (λ (x : Step). (IsAtRest s h → IsReady s h (Some x)) × (IsReady s h (Some x) → IsAtRest s h)) (sym is) ((λ rest. rest), (λ rest. rest))
-
 -- ---- the next step
 
 step_left : (s : Setting) (i : ℕ) (x : Step) → slice_get s.script i ≡ Some x
@@ -46,11 +34,6 @@ ready_by s h step is = (
   λ ready. subst (IsReady s h) is ready.ready,
 )
 
-pub awaiting_by : (s : Setting) (h : List Entry) (step : Step) (a : Awaits) → step_at s.script (scripted h + 1) ≡ Some step → IsAwaitedBy s h step a → IsAwaiting s h a
-awaiting_by s h step Nothing is waits = (ready_by s h step is).0 waits
-awaiting_by s h step Rest is waits = ((λ rest. (ready_by s h step is).0 (waits.0 rest)), (λ ready. waits.1 ((ready_by s h step is).1 ready)))
-awaiting_by s h step Never is waits = absurd waits
-
 step_beyond : (s : Setting) (i : ℕ) → slice_get s.script i ≡ None
     → ((y : Step) × (i < length s.script) × (slice_get s.script i ≡ Some y) × (get_or s.script i y ≡ y)) ⊎ ((length s.script ≤ i) × (slice_get s.script i ≡ None)) → length s.script ≤ i
 step_beyond s i is (inl found) = let some = found.2 in absurd (cc (is, some))
@@ -61,11 +44,5 @@ none_left s h is ready = let i : ℕ = scripted h + 1 - 1 in let low = step_beyo
 
 -- ---- whether it is ready
 
-pub ready_now : (s : Setting) (h : List Entry) (a : Awaits) → IsAwaiting s h a → a ≡ Nothing → IsTrue true ↔ IsStepReady s h
-ready_now s h a waits is = (λ on. subst (IsAwaiting s h) is waits, λ ready. refl)
-
 pub ready_at_rest : (s : Setting) (h : List Entry) (a : Awaits) (b : Bool) → IsAwaiting s h a → a ≡ Rest → (IsTrue b ↔ IsAtRest s h) → IsTrue b ↔ IsStepReady s h
 ready_at_rest s h a b waits is rest = let w = subst (IsAwaiting s h) is waits in ((λ on. w.0 (rest.0 on)), (λ ready. rest.1 (w.1 ready)))
-
-pub ready_never : (s : Setting) (h : List Entry) (a : Awaits) → IsAwaiting s h a → a ≡ Never → IsTrue false ↔ IsStepReady s h
-ready_never s h a waits is = let w = subst (IsAwaiting s h) is waits in ((λ bad. absurd (cc)), (λ ready. absurd (w ready)))

@@ -75,9 +75,6 @@ busies_fewer s h old new fewer busies role key on = busies role key (fewer role 
 
 -- ---- all that is known
 
-pub knows_less : (s : Setting) (h : List Entry) (old new : Known) → KnowsLess old new → Knows s h old → Knows s h new
-knows_less s h old new less knows = record { idle = idles_more s h old.awake new.awake less.awake knows.idle; busy = busies_fewer s h old.busy new.busy less.busy knows.busy }
-
 -- after a step that is answered, and where memory ran out
 pub knows_step : (old new : Seen) (move : Move) (r : Result Stepped AllocError) (before known : Known) → IsRun (setting_of new.scenario) new.history → IsRun (setting_of old.scenario) old.history → KnowsLess before known
     → Forgets (setting_of old.scenario) old.history move known → new.scenario ≡ old.scenario → IfOk r (λ answer. Leaves (setting_of old.scenario) old.history move answer new.history) → OnErr r (new ≡ old)
@@ -177,10 +174,6 @@ begins_asleep known move role key None is asleep = tt
 begins_asleep known move role key (Some b) is asleep =
     subst (λ (r : Role). (move ≡ moves.Begin r b.key) × (b.key.kind ≡ kind_of_work r) × (is_ready known.awake r b.key ≡ false)) (sym asleep.0)
     (subst (λ (k : Key). (move ≡ moves.Begin role k) × (k.kind ≡ kind_of_work role) × (is_ready known.awake role k ≡ false)) (sym asleep.1) (is, asleep.2, asleep.3))
-
-pub done_is : (answer : Stepped) (b : Bool) → b ≡ is_done answer → b ≡ true → answer ≡ answers.Done
-done_is answers.Done b is on = refl
-done_is other b is on = absurd (cc (is, on))
 
 -- where it was known that the role has nothing to do there, and the pass was begun
 pub leaves_quiet : (s : Setting) (h k : List Entry) (known : Known) (move : Move) (begun : Option Beginning) (answer : Stepped) → Knows s h known → IsIdleBegin known move begun → Leaves s h move answer k → LeavesQuiet s k begun answer

@@ -195,12 +195,6 @@ covers_step old new move r before rows run was keeps woken same leaves failed co
     holds_step IsQuiet quiet_lasts (IsBeside rows) old new move r run was (leaves_beside IsQuiet unknown_quiet (setting_of old.scenario) old.history move rows woken) same leaves failed
     (λ r k o. covers_more (setting_of old.scenario) old.history before rows keeps covers r k o.0 o.1) role key (work, off)
 
--- where keys are kept
-pub covers_kept : (s : Setting) (h : List Entry) (old new : Option (List (BTreeSet Key))) → KeepsIf old new → IfSome old (Covers s h) → IfSome new (Covers s h)
-covers_kept s h old None keeps covers = tt
-covers_kept s h None (Some new) lost covers = absurd lost
-covers_kept s h (Some old) (Some new) keeps covers = covers_more s h old new keeps covers
-
 pub covers_step_kept : (old new : Seen) (move : Move) (r : Result Stepped AllocError) (before rows : Option (List (BTreeSet Key))) → IsRun (setting_of new.scenario) new.history → IsRun (setting_of old.scenario) old.history
     → KeepsIf before rows → IfSome rows (Wakes (setting_of old.scenario) old.history move) → new.scenario ≡ old.scenario
     → IfOk r (λ answer. Leaves (setting_of old.scenario) old.history move answer new.history) → OnErr r (new ≡ old) → IfSome before (Covers (setting_of old.scenario) old.history)

@@ -84,8 +84,3 @@ key_removed rows place role row new key is put r k =
 cleared : (b : Bool) (rows : List (BTreeSet Key)) (r : Role) (new : BTreeSet Key) (k : Key) → contains key_cmp new k ≡ false → cond b (contains key_cmp new k) (is_ready rows r k) ≡ (not b && is_ready rows r k)
 cleared true rows r new k none = none
 cleared false rows r new k none = refl
-
--- no key is left in the row
-pub row_cleared : (rows : List (BTreeSet Key)) (place : ℕ) (role : Role) (row new : BTreeSet Key) → IsRow rows place role row → ((k : Key) → contains key_cmp new k ≡ false)
-    → (r : Role) (k : Key) → is_ready (set rows place new) r k ≡ (not (role_eq role r) && is_ready rows r k)
-row_cleared rows place role row new is none r k = at_row (role_eq role r) rows place role r row new k refl is ∙ cleared (role_eq role r) rows r new k (none k)

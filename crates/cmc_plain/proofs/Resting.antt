@@ -72,21 +72,11 @@ rests_not s h role key b legal all e off = (
 pub told_kinds : (s : Setting) (h : List Entry) (role : Role) → HasNoDelivery s h → runs s h role ≡ true → EachKind (IsToldAll s h role)
 told_kinds s h role none running = (each_kind (IsToldAll s h role)).1 (λ kind informed free. told s h none role kind running informed free)
 
-pub rests_stopped : (s : Setting) (h : List Entry) (role : Role) → runs s h role ≡ false → IsTrue true ↔ RestsWhereRunning s h role
-rests_stopped s h role off = (λ on running. absurd (cc (running, off)), λ rests. refl)
-
 -- ---- all is at rest
 
 pub pass_open : (s : Setting) (h : List Entry) (found : Option Going) → is_some found ≡ true → FindsPass s h found → IsAtRest s h → ⊥
 pass_open s h None some finds rest = absurd (cc some)
 pass_open s h (Some g) some finds rest = subst IsOpen (rest.closed g.pass) finds.0.stands
-
-pub rest_bars_pass : (s : Setting) (h : List Entry) (found : Option Going) → is_some found ≡ true → FindsPass s h found → IsTrue false ↔ IsAtRest s h
-rest_bars_pass s h found some finds = (λ bad. absurd (cc), λ rest. absurd (pass_open s h found some finds rest))
-
-pub none_open : (s : Setting) (h : List Entry) (found : Option Going) → is_some found ≡ false → FindsPass s h found → HasNoPass s h
-none_open s h None none finds = finds
-none_open s h (Some g) none finds = absurd (cc none)
 
 role_behind : (s : Setting) (h : List Entry) (role : Role) (kind : Kind) → IsBehind s h role kind → IsAtRest s h → ⊥
 role_behind s h role kind b rest =
@@ -97,13 +87,6 @@ role_behind s h role kind b rest =
 pub one_behind : (s : Setting) (h : List Entry) (found : Option Delivery) → is_some found ≡ true → FindsDelivery s h found → IsAtRest s h → ⊥
 one_behind s h None some finds rest = absurd (cc some)
 one_behind s h (Some d) some finds rest = role_behind s h d.role d.kind finds.behind rest
-
-pub rest_bars_delivery : (s : Setting) (h : List Entry) (found : Option Delivery) → is_some found ≡ true → FindsDelivery s h found → IsTrue false ↔ IsAtRest s h
-rest_bars_delivery s h found some finds = (λ bad. absurd (cc), λ rest. absurd (one_behind s h found some finds rest))
-
-pub none_behind : (s : Setting) (h : List Entry) (found : Option Delivery) → is_some found ≡ false → FindsDelivery s h found → HasNoDelivery s h
-none_behind s h None none finds = finds
-none_behind s h (Some d) none finds = absurd (cc none)
 
 pub at_rest_by : (s : Setting) (h : List Entry) (b : Bool) → HasNoPass s h → HasNoDelivery s h → (IsTrue b ↔ ((role : Role) → RestsWhereRunning s h role)) → IsTrue b ↔ IsAtRest s h
 at_rest_by s h b no_pass no_delivery e = (

@@ -33,10 +33,6 @@ use Rattle.cmc_plain.proofs.Ordering.{rank_low}
 pub keeps_twice : (a b c : List (BTreeSet Key)) → Keeps a b → Keeps b c → Keeps a c
 keeps_twice a b c one two role key on = two role key (one role key on)
 
--- a key is added
-pub keeps_added : (old new : List (BTreeSet Key)) (role : Role) (key : Key) → ((r : Role) (k : Key) → is_ready new r k ≡ (role_eq role r && key_eq key k || is_ready old r k)) → Keeps old new
-keeps_added old new role key each r k on = each r k ∙ or_right (role_eq role r && key_eq key k) (is_ready old r k) on
-
 -- ---- the keys of writes
 
 -- each key of the role's work that one of the writes named is ready
@@ -76,18 +72,6 @@ one_more : (P : Role → Type 0) (n : ℕ) (role r : Role) (b : Bool) → role_r
 one_more P n role r true is here before low e = before r (grind (arith, nat_tests))
 one_more P n role r false is here before low e = subst P (sym (role_of_rank r role (grind (arith, nat_tests)))) here
 
-pub each_before_more : (P : Role → Type 0) (n : ℕ) (role : Role) → role_rank role ≡ n → P role → EachBefore P n → EachBefore P (n + 1)
-each_before_more P n role is here before r low = one_more P n role r (nat_lt (role_rank r) n) is here before low refl
-
-pub each_of_all : (P : Role → Type 0) (n : ℕ) → n ≡ 8 → EachBefore P n → (role : Role) → P role
-each_of_all P n all before role = let low = rank_low role in before role (omega (arith, low, all))
-
-pub known_kept : (s : Setting) (h : List Entry) (role : Role) (old new : List (BTreeSet Key)) → Keeps old new → HasKnown s h role old → HasKnown s h role new
-known_kept s h role old new keeps has key work known = keeps role key (has key work known)
-
-pub before_kept : (s : Setting) (h : List Entry) (n : ℕ) (old new : List (BTreeSet Key)) → Keeps old new → EachBefore (λ r. HasKnown s h r old) n → EachBefore (λ r. HasKnown s h r new) n
-before_kept s h n old new keeps before r low = known_kept s h r old new keeps (before r low)
-
 -- ---- the script
 
 by_besides : (s : Setting) (h : List Entry) (rows : List (BTreeSet Key)) (n : ℕ) (step : Step) → is_alarm (Some step) ≡ false → WakesAll s h (effect_besides n (moment s h) step) rows
@@ -113,19 +97,12 @@ by_step : (o : Option Step) (s : Setting) (h : List Entry) (rows : List (BTreeSe
 by_step None s h rows quiet = tt
 by_step (Some step) s h rows quiet = by_call (call_of (moment s h) (objects s h) step) s h rows (effect_besides (accepted s h) (moment s h) step) (by_besides s h rows (accepted s h) step quiet)
 
--- any other step wakes no key
-pub wakes_none : (s : Setting) (h : List Entry) (rows : List (BTreeSet Key)) → is_alarm (step_at s.script (scripted h + 1)) ≡ false → WakesAll s h (next_effect s h) rows
-wakes_none s h rows quiet = by_step (step_at s.script (scripted h + 1)) s h rows quiet
-
 by_effect : (effect : Option Effect) (s : Setting) (h : List Entry) (rows : List (BTreeSet Key)) → HasAllKnown s h rows → WakesAll s h effect rows
 by_effect None s h rows has = tt
 by_effect (Some (effects.Call call)) s h rows has = tt
 by_effect (Some (effects.Tick now)) s h rows has = has
 by_effect (Some (effects.Stop role)) s h rows has = tt
 by_effect (Some (effects.Start role at)) s h rows has = has
-
-pub wakes_each : (s : Setting) (h : List Entry) (rows : List (BTreeSet Key)) → HasAllKnown s h rows → WakesAll s h (next_effect s h) rows
-wakes_each s h rows has = by_effect (next_effect s h) s h rows has
 
 -- ---- a call at the end
 

@@ -48,12 +48,6 @@ unchanged true f es key k e is none =
     old ∙ sym is ∙ ap f (sym old)
 unchanged false f es key k e is none = refl
 
--- a map without the key, where the change leaves a key of which nothing is kept
-pub row_absent : (f : Row → Row) (es : List (Key × Row)) (key : Key) → f no_row ≡ no_row → lookup (is_at (key_cmp key)) es ≡ None
-    → (k : Key) → row_in es k ≡ (if key_eq key k then f (row_in es k) else row_in es k)
-row_absent f es key is none k =
-    subst (λ b. row_in es k ≡ (if b then f (row_in es k) else row_in es k)) (key_tie key k) (unchanged (is_eq (key_cmp key k)) f es key k refl is none)
-
 added : (b : Bool) (es new : List (Key × Row)) (key k : Key) → is_eq (key_cmp key k) ≡ b → lookup (is_at (key_cmp key)) es ≡ None
     → lookup (is_at (key_cmp k)) new ≡ cond b (Some no_row) (lookup (is_at (key_cmp k)) es) → row_in new k ≡ row_in es k
 unfolding row_in
@@ -78,11 +72,6 @@ row_added es new key copy row absent same is each k =
 none_kept : (o : Option Row) → is_some o ≡ true → o ≡ None → ⊥
 none_kept None h none = absurd (cc)
 none_kept (Some row) h none = absurd (cc)
-
--- of a key with room a row is kept
-pub row_is_kept : (es : List (Key × Row)) (key : Key) → has_row es key ≡ true → lookup (is_at (key_cmp key)) es ≡ None → ⊥
-unfolding has_row
-row_is_kept es key has none = none_kept _ has none
 
 some_of : (o : Option Row) (row : Row) → o ≡ Some row → is_some o ≡ true
 some_of o row is = ap is_some is

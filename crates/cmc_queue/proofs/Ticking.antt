@@ -37,9 +37,6 @@ pub record IsTicking (now : ℤ) (old rows : List (Key × Row)) (due : List (ℤ
   pub each : (k : Key) → (row_in rows k ≡ row_in old k) ⊎ (row_in rows k ≡ ticked now (row_in old k))
   pub timed : IsTimed rows due
 
-pub ticking_from : (now : ℤ) (rows : List (Key × Row)) (due : List (ℤ × Key)) → IsTimed rows due → IsTicking now rows rows due
-ticking_from now rows due timed = record { each = λ k. inl refl; timed = timed }
-
 one_row : (b : Bool) (now : ℤ) (before was is : Row) → is ≡ (if b then ticked now was else was) → (was ≡ before) ⊎ (was ≡ ticked now before) → (is ≡ before) ⊎ (is ≡ ticked now before)
 one_row true now before was is e (inl same) = inr (e ∙ ap (ticked now) same)
 one_row true now before was is e (inr done) = inr (e ∙ ap (ticked now) done ∙ twice now before)

@@ -271,28 +271,3 @@ follows_secret sound s h n p run opened is =
 -- whatever the act is, a pass begins by it or ends
 abbrev GoesOnBy : Stage → Act → (Order → Value → Option Call) → Type 0
 GoesOnBy stage does after = ((call : Call) × IsNextCall stage does after call) ⊎ (((order : Order) × AsksBy stage does order) ⊎ ((cause : Cause) × EndsBy stage does cause))
-
-goes_on_fresh : (does : Act) (after : Order → Value → Option Call) → GoesOnBy Fresh does after
-goes_on_fresh Nothing after = inr (inr (causes.Nothing, (refl, refl)))
-goes_on_fresh (Calls first) after = inl (first, refl)
-goes_on_fresh (Asks order) after = inr (inl (order, refl))
-goes_on_fresh (Issue plan) after = inl (Get plan.get, refl)
-goes_on_fresh (Temporary plan) after = inl (Get plan.get, refl)
-
--- where a call follows the values, the live read and the Secret of an issuance
-goes_on_by : (stage : Stage) (does : Act) (after : Order → Value → Option Call) → IsUnbarred stage → IsAnswered stage → ((order : Order) (value : Value) → stage ≡ Given order value → (call : Call) × (after order value ≡ Some call))
-    → (stage ≡ Read → (call : Call) × IsNextCall Read does after call) → (stage ≡ Saved → (call : Call) × IsNextCall Saved does after call) → GoesOnBy stage does after
-goes_on_by Fresh does after unbarred answered value read saved = goes_on_fresh does after
-goes_on_by (Asked order) does after unbarred answered value read saved = absurd answered
-goes_on_by (Given order given) does after unbarred answered value read saved = inl (value order given refl)
-goes_on_by Read does after unbarred answered value read saved = inl (read refl)
-goes_on_by Saved does after unbarred answered value read saved = inl (saved refl)
-goes_on_by Wrote does after unbarred answered value read saved = inr (inr (causes.Wrote, refl))
-goes_on_by (Refused entry obstacle) does after unbarred answered value read saved = inr (inr (causes.Stopper entry, refl))
-goes_on_by Barred does after unbarred answered value read saved = absurd unbarred
-
--- an open pass of a run that waits for no value may call, ask or end
-pub can_go_on : AreSound → (s : Setting) (h : List Entry) (n : ℕ) (p : OpenPass) → IsRun s h → open_pass s h n ≡ Some p → IsAnswered p.stage → CanGoOn s h p
-can_go_on sound s h n p run opened answered =
-    goes_on_by p.stage (act_of s h p) (after_of p) (of_open IsNotBarred (open_pass s h n) p opened (never_barred sound s h n run.legal run.caused)) answered
-    (λ order value is. follows_value sound s h n p order value run opened is) (λ is. follows_read sound s h n p run opened is) (λ is. follows_secret sound s h n p run opened is)

@@ -71,7 +71,3 @@ may_act_pass sound s h n p formed run opened =
 -- a role, on what it sees of a key
 pub may_act_views : AreSound → (s : Setting) (h : List Entry) → IsFormed s → IsRun s h → (role : Role) (key : Key) → MayAct (views s h role key) (moment s h) (desk s h role (views s h role key))
 may_act_views sound s h formed run role key = may_act sound s h role (views s h role key) (moment s h) formed run (views_known s h role key) (moment_in_run s h formed run.follows)
-
--- and on what there is to see
-pub may_act_present : AreSound → (s : Setting) (h : List Entry) → IsFormed s → IsRun s h → (role : Role) (key : Key) → MayAct (present_views s h role key) (moment s h) (desk s h role (present_views s h role key))
-may_act_present sound s h formed run role key = may_act sound s h role (present_views s h role key) (moment s h) formed run (present_known s h role key) (moment_in_run s h formed run.follows)

@@ -40,16 +40,6 @@ one_more front s code next n vs v all within is one before =
     let given = one stage before.is in
     record { stage = stage_after stage s; is = given.1; rest = pushed front s (steps_from (n + 1) (stage_after stage s) (items_view (drop (n + 1) vs))) ∙ (rw given.0 at opened) }
 
--- a step that failed
-pub not_read : (front : List Step) (code : Code) (path : List ℕ) (n : ℕ) (vs : List Value) (v : Value) (all : Read (List Step)) → n < length vs → v ≡ get_or vs n v
-    → ((before : Stage) → IsStage code before → numbered_step_at n before (view v) ≡ Err path)
-    → IsReadSoFar front code n (drop n vs) all → all ≡ Err path
-not_read front code path n vs v all within is one before =
-    let split : drop n vs ≡ v ∷ drop (n + 1) vs = at_place vs n v within is in
-    let stage : Stage = before.stage in
-    let opened : with_front front (numbered_step_at n stage (view v) >>= (λ t. steps_from (n + 1) (stage_after stage t) (items_view (drop (n + 1) vs)) >>= (λ ss. Ok (t ∷ ss)))) ≡ all = rw split at before.rest in
-    sym (rw (one stage before.is) at opened)
-
 pub all_read : (front : List Step) (code : Code) (n : ℕ) (vs : List Value) (all : Read (List Step)) → length vs ≤ n → IsReadSoFar front code n (drop n vs) all → all ≡ Ok front
 all_read front code n vs all past before =
     let none : drop n vs ≡ [] = drop_all n vs past in

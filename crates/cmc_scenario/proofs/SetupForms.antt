@@ -218,8 +218,3 @@ is_setup world beginning script window is_world begins is_script is_size =
       material = is_world.material;
       steps = is_script.forms;
     }
-
--- what is read is a scenario
-pub of_setup : (fs : List Field) → Always IsSetup (setup_in fs)
-unfolding setup_in
-of_setup fs = after (IsWorld) (IsSetup) (world_in fs) _ (of_world fs) (λ world is_world. after (IsBeginning) (IsSetup) (beginning_in world.1) _ (of_beginning world.1) (λ beginning begins. next (IsSetup) (optional_at (codes "script") beginning.1) _ (λ first. after (IsScript (first_stage beginning.0.roles beginning.0.moment)) (IsSetup) (script_at (first_stage beginning.0.roles beginning.0.moment) first.0) _ (of_script (first_stage beginning.0.roles beginning.0.moment) first.0) (λ script is_script. next (IsSetup) (optional_at (codes "window") first.1) _ (λ second. after (IsSize) (IsSetup) (member_or 1000 (codes "window") size_at second.0) _ (of_size 1000 (codes "window") second.0 refl) (λ window is_size. next (IsSetup) (at_end second.1) _ (λ end. so (is_setup world.0 beginning.0 script window is_world begins is_script is_size))))))))

@@ -128,8 +128,3 @@ revision_sound = record {
   absent = λ seen now desk is. none seen is.certificate;
   idle = λ seen t u d e rules quiet le is. is;
 }
-
--- whatever it sees
-pub revision_within : (seen : Views) (now : ℤ) (desk : Desk) → IsWithin Revision (call_after Revision seen now) seen now (act Revision seen now desk)
-unfolding act
-revision_within seen now desk = within seen now

@@ -227,8 +227,3 @@ readiness_sound = record {
   absent = λ seen now desk is. none seen now is.certificate;
   idle = λ seen t u d e rules quiet le is. idle seen t u quiet le is;
 }
-
--- whatever it sees
-pub readiness_within : (seen : Views) (now : ℤ) (desk : Desk) → IsWithin Readiness (call_after Readiness seen now) seen now (act Readiness seen now desk)
-unfolding act
-readiness_within seen now desk = within seen now desk

@@ -51,9 +51,6 @@ abbrev room_for : ℕ → ℕ
 room_for zero = 1
 room_for (suc n) = 27 * room_for n
 
-none_or : Bool → ℕ → List ℕ → List ℕ
-none_or b x xs = if b then [] else x ∷ xs
-
 zero_is : (n least : ℕ) → ((n == 0) && (least == 0)) ≡ true → n ≡ 0
 zero_is n least h = eqb-true n 0 (both (n == 0) (least == 0) h).0
 

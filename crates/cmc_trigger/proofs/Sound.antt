@@ -194,8 +194,3 @@ trigger_sound = record {
   absent = λ seen now desk is. none seen now is.certificate;
   idle = λ seen t u d e rules quiet le is. idle seen t u quiet is;
 }
-
--- whatever it sees
-pub trigger_within : (seen : Views) (now : ℤ) (desk : Desk) → IsWithin Trigger (call_after Trigger seen now) seen now (act Trigger seen now desk)
-unfolding act
-trigger_within seen now desk = within seen now desk

@@ -91,12 +91,6 @@ pub none_told : (own : Option ℕ) → is_some own ≡ false → own ≡ None
 none_told None off = refl
 none_told (Some v) off = absurd (cc)
 
--- a role that may not begin on a key is paused there
-pub paused_undue : (s : Setting) (h : List Entry) (role : Role) (key : Key) (seen : Views) (due : Bool) → seen ≡ views s h role key
-    → (IsTrue due ↔ IsDue (past s h role key) seen (moment s h) (positions h role)) → due ≡ false → IsTrue true ↔ IsPaused s h role key
-paused_undue s h role key seen due sees e off =
-    (λ on. inr (λ is. let on : due ≡ true = e.1 (subst (λ (v : Views). IsDue (past s h role key) v (moment s h) (positions h role)) (sym sees) is) in absurd (cc (on, off))), λ paused. refl)
-
 idle_or : (b : Bool) (Idle Due : Type 0) → (IsTrue b ↔ Idle) → Due → IsTrue b ↔ (Idle ⊎ (Due → ⊥))
 idle_or b Idle Due e due = (λ on. inl (e.0 on), λ x. by x) where
   by : Idle ⊎ (Due → ⊥) → IsTrue b

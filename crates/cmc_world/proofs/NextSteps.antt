@@ -156,13 +156,6 @@ doing_of s h n p (Ends cause) is does = subst (λ (o : Option OpenPass). MayEnd 
 kept_none : (s : Setting) (h : List Entry) (n : ℕ) (p : OpenPass) → open_pass s h n ≡ Some p → kept_of (Some p) ≡ None → kept_of (open_pass s h n) ≡ None
 kept_none s h n p is free = ap kept_of is ∙ free
 
--- no entry more fits
-pub spent_going : (s : Setting) (h : List Entry) (n : ℕ) (p : OpenPass) (entries events : ℕ) (room : Bool) → open_pass s h n ≡ Some p → kept_of (Some p) ≡ None → entries ≡ length h → events ≡ s.events
-    → (IsTrue room ↔ (entries + 1 ≤ events)) → room ≡ false → IsGoingOn s h n (Answer (Spent entries))
-spent_going s h n p entries events room is free counted most fits off =
-    let over : length h + 1 ≤ s.events → ⊥ = λ low. let on : room ≡ true = fits.1 (subst (λ (m : ℕ). m + 1 ≤ events) (sym counted) (subst (λ (m : ℕ). length h + 1 ≤ m) (sym most) low)) in absurd (cc (on, off)) in
-    rw (kept_none s h n p is free, counted) (inl (over, refl), tt)
-
 -- and else the pass does what comes next
 pub does_going : (s : Setting) (h : List Entry) (n : ℕ) (p : OpenPass) (d : Doing) (entries events : ℕ) (room : Bool) → open_pass s h n ≡ Some p → kept_of (Some p) ≡ None
     → IsDoingBy p.stage (act p.role p.seen p.since (desk s h p.role p.seen)) (call_after p.role p.seen p.since) d → entries ≡ length h → events ≡ s.events → (IsTrue room ↔ (entries + 1 ≤ events)) → room ≡ true
@@ -176,10 +169,6 @@ does_going s h n p d entries events room is free does counted most fits on =
     ) where
       going_new : (kept new : Option Order) → kept ≡ None → new ≡ asked_in d → length h + 1 ≤ s.events → AnswersGoing s h n kept new (next_answer n (asked_in d))
       going_new kept new none is low = rw (none, is) (inr (low, refl))
-
--- a question whose value is waited for is told again
-pub told_again : (s : Setting) (h : List Entry) (n : ℕ) (p : OpenPass) (order : Order) → open_pass s h n ≡ Some p → kept_of (Some p) ≡ Some order → IsGoingOn s h n (Answer (Tells n order))
-told_again s h n p order is kept = let same : kept_of (open_pass s h n) ≡ Some order = ap kept_of is ∙ kept in rw same (refl, refl)
 
 -- the answer of a move that has the pass do this
 pub answer_by : (s : Setting) (h : List Entry) (pass named : ℕ) (j : Judged) (d : Doing) (r : Result Stepped AllocError) → IsJudged s h pass named j → j ≡ Does d → IfOk r (λ a. a ≡ next_answer pass (asked_in d)) → IfOk r (λ a. AnswersNext s h pass named a)
@@ -197,9 +186,3 @@ quiet_left s h pass named other quiet = refl
 -- an answer that leaves all as it was
 pub leaves_quiet : (s : Setting) (h k : List Entry) (pass named : ℕ) (answer : Stepped) → IsNoMove (kept_of (open_pass s h pass)) answer → k ≡ h → Leaves s h (Next pass named) answer k
 leaves_quiet s h k pass named answer quiet same = subst (λ (l : List Entry). Leaves s h (Next pass named) answer l) (sym same) (quiet_left s h pass named answer quiet)
-
--- what a pass has done is what its move leaves
-pub leaves_done : (s : Setting) (h k : List Entry) (pass named : ℕ) (d : Doing) (e : Entry) → IsGoing s h pass d → IsDone s h pass d e → k ≡ e ∷ h → Leaves s h (Next pass named) (next_answer pass (asked_in d)) k
-leaves_done s h k pass named (Makes call) e goes (reply, right, is) grown = (e, inl (call, goes.does, (reply, right, is)), grown)
-leaves_done s h k pass named (Asks order) e goes is grown = grown ∙ ap (λ (x : Entry). x ∷ h) is ∙ sym (ap (λ (o : Option Order). asked_once o pass order h) goes.free)
-leaves_done s h k pass named (Ends cause) e goes is grown = (e, inr (cause, goes.does, is), grown)

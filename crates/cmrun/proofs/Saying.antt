@@ -15,40 +15,10 @@ use Rattle.cmrun.specs.declared.words.Command.TheVariants.{Run, Load}
 abbrev no_command : Option Command
 no_command = None
 
-nothing_then : {T : Type 0} (o : Option T) → option_and_then (λ (x : T). no_command) o ≡ no_command
-nothing_then None = refl
-nothing_then (Some x) = refl
-
 neither : (a b : Bool) (r l : Option Command) → r ≡ None → l ≡ None → (if a then r else if b then l else None) ≡ None
 neither true b r l h k = h
 neither false true r l h k = k
 neither false false r l h k = refl
-
--- a second value, a second `--summary`, a second other word
-pub workers_again : (first value again : List ℕ) (values others : List (List ℕ)) (summaries : ℕ)
-    → command_said first (record { workers = value ∷ again ∷ values; summaries = summaries; others = others }) ≡ None
-workers_again first value again values others summaries = neither _ _ _ _ refl refl
-
-pub summary_again : (first : List ℕ) (workers others : List (List ℕ)) (more : ℕ)
-    → command_said first (record { workers = workers; summaries = suc (suc more); others = others }) ≡ None
-summary_again first workers others more = neither _ _ _ _ (nothing_then (workers_in workers)) (nothing_then (workers_in workers))
-
-others_none : (o : Option ℕ) (p : Option Bool) (first again : List ℕ) (words : List (List ℕ))
-    → option_and_then (λ workers. option_and_then (λ summary. run_in workers summary (first ∷ again ∷ words)) p) o ≡ None
-others_none None p first again words = refl
-others_none (Some w) None first again words = refl
-others_none (Some w) (Some s) first again words = refl
-
-counts_none : (o : Option ℕ) (p : Option Bool)
-    → option_and_then (λ (workers : ℕ). option_and_then (λ (summary : Bool). no_command) p) o ≡ no_command
-counts_none None p = refl
-counts_none (Some w) None = refl
-counts_none (Some w) (Some s) = refl
-
-pub other_again : (first word again : List ℕ) (workers words : List (List ℕ)) (summaries : ℕ)
-    → command_said first (record { workers = workers; summaries = summaries; others = word ∷ again ∷ words }) ≡ None
-other_again first word again workers words summaries =
-    neither _ _ _ _ (others_none (workers_in workers) (summary_in summaries) word again words) (counts_none (workers_in workers) (summary_in summaries))
 
 -- the word holds a value, is `--summary`, or is another
 pub word_value : (s : Said) (word value : List ℕ) (r : Option Said) → word ≡ codes "--workers=" ++ value
