@@ -4,22 +4,17 @@ use Rattle.std.proofs.lemmas.Bool.{eqb-true}
 use Rattle.std.specs.Prelude.{if◌then◌else◌, nat_le}
 use Rattle.cmc_meta.specs.declared.key.Key.{Key}
 use Rattle.cmc_meta.specs.declared.key.Kind.{Kind}
-use Rattle.cmc_meta.specs.declared.key.Kind.TheVariants.{Certificate}
 use Rattle.cmc_objects.specs.declared.object.Object.{Object}
-use Rattle.cmc_objects.specs.declared.role.Role.{Role}
 use Rattle.cmc_objects.specs.declared.entry.Entry.{Entry}
 use Rattle.cmc_model.specs.declared.write.Write.{Write}
 use Rattle.cmc_model.specs.Objects.{Objects, object_at}
 use Rattle.cmc_model.specs.Histories.{Setting}
 use Rattle.cmc_model.specs.Versions.{uid_of, IsVersion}
-use Rattle.cmc_model.specs.Writes.{contents, kind_eq, of_kind, oldest, writes}
+use Rattle.cmc_model.specs.Writes.{kind_eq, of_kind, oldest, writes}
 use Rattle.cmc_model.proofs.Versions.{standing}
 use Rattle.cmc_rules.specs.Legality.{IsLegal}
-use Rattle.cmc_rules.specs.Positions.{position_told, positions}
-use Rattle.cmc_rules.specs.Viewing.{Caches}
 use Rattle.cmc_rules.proofs.Versions.{uid_has_one_key}
 use Rattle.cmc_informer.specs.Caches.{has_uid}
-use Rattle.cmc_caches.specs.Told.{cached, caches_at}
 use Rattle.cmc_caches.specs.Affected.{AreLeft, HaveOwnUids, IsEachUidOfOneKey}
 
 -- ---- what stands is a version of a write

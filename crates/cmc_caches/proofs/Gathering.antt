@@ -1,19 +1,19 @@
 -- Lists of keys that grow.
 use Rattle.std.proofs.Common.{◌≡◌, inl, inr, ℕ, Bool, true, false, List, [], ◌∷◌, ◌++◌, sym, ap, ◌∙◌, subst}
 use Rattle.std.proofs.Math.Bool.{or-false, or-true}
-use Rattle.std.proofs.lemmas.Bool.{eqb-true, or_cases}
+use Rattle.std.proofs.lemmas.Bool.{or_cases}
 use Rattle.std.proofs.lemmas.List.Folds.{list_any-append}
 use Rattle.std.specs.BTreeMap.{is_at}
 use Rattle.std.specs.Cmp.{tied_itself}
 use Rattle.std.specs.Ordering.{is_eq}
-use Rattle.std.specs.Prelude.{◌||◌, ◌==◌}
+use Rattle.std.specs.Prelude.{◌||◌}
 use Rattle.cmc_meta.specs.declared.key.Key.{Key}
 use Rattle.cmc_meta.specs.Keys.{key_cmp}
 use Rattle.cmc_model.specs.Objects.{Objects, object_at}
 use Rattle.cmc_model.proofs.Keys.{key_cmp-total}
-use Rattle.cmc_informer.specs.Caches.{has_uid, is_targeting}
+use Rattle.cmc_informer.specs.Caches.{is_targeting}
 use Rattle.cmc_informer.proofs.OneMark.{same_key}
-use Rattle.cmc_caches.specs.Affected.{AreListedBySecret, AreListedByUid, KeepsKeys, is_among, is_one_of}
+use Rattle.cmc_caches.specs.Affected.{AreListedBySecret, KeepsKeys, is_among}
 
 or_left : (a b : Bool) → a ≡ true → (a || b) ≡ true
 or_left a b is = ap (λ x. x || b) is

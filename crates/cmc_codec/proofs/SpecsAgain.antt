@@ -25,7 +25,7 @@ use Rattle.cmc_codec.specs.declared.certificate_in.Target.{Target}
 use Rattle.cmc_codec.specs.CertificateForm.{issuer_at, no_key, key_at, subject_in, signing_in, terms_in, old_terms_in, api_terms_in, target_in, spec_at, emails_name, uris_name, request_spec_at, old_request_spec_at, api_request_spec_at}
 use Rattle.cmc_codec.proofs.ValuesAgain as values
 use Rattle.cmc_cursor.proofs.Always as readings
-use Rattle.cmc_cursor.proofs.Always.{so, failed, next, after}
+use Rattle.cmc_cursor.proofs.Always.{so, next, after}
 use Rattle.cmc_codec.proofs.ValuesAgain.{member_or_so, member_so, needed_so}
 use Rattle.cmc_codec.proofs.PrintedSpecs.{IsIssuer, IsSize, IsSpec, IsRequestSpec}
 

@@ -1,5 +1,5 @@
 -- One more is counted under a name, and under no other.
-use Rattle.std.proofs.Common.{◌≡◌, ℕ, ◌+◌, Bool, true, false, Option, Some, None, cond, refl, sym, ap, subst, ◌∙◌, rules, Ordering, Less, Equal, Greater}
+use Rattle.std.proofs.Common.{◌≡◌, ℕ, ◌+◌, Bool, true, false, Some, cond, refl, ap, subst, ◌∙◌, rules, Ordering, Less, Equal, Greater}
 use Rattle.std.specs.Prelude.{if◌then◌else◌, unwrap_or}
 use Rattle.std.specs.BTreeMap.{is_at}
 use Rattle.std.specs.Cmp.Rules.{comparing}

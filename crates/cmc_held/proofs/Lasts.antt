@@ -1,5 +1,5 @@
 -- The last write of each kind, as writes are added.
-use Rattle.std.proofs.Common.{◌≡◌, ℕ, ◌+◌, List, [], ◌∷◌, ◌++◌, length, Bool, true, false, refl, sym, ap, ◌∙◌, arith}
+use Rattle.std.proofs.Common.{◌≡◌, ℕ, ◌+◌, List, [], ◌∷◌, ◌++◌, length, refl, sym, ap, ◌∙◌, arith}
 use Rattle.std.proofs.lemmas.List.{length-reverse, reverse-append}
 use Rattle.std.specs.Prelude.{if◌then◌else◌, reverse, Result, Ok, Err, IsOk, is_ok}
 use Rattle.cmc_meta.specs.declared.key.Kind.{Kind}

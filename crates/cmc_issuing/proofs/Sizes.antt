@@ -1,18 +1,18 @@
 -- A stand-in certificate that begins later is never shorter: its two times are UTCTime up to 2049, and GeneralizedTime, which
 -- has two digits more, from 2050 on.
-use Rattle.std.proofs.Common.{◌≡◌, ◌≤◌, ◌<◌, ◌+◌, ◌/◌, ℕ, zero, suc, ℤ, pos, negsuc, ◌+ℤ◌, int_le, List, [], ◌∷◌, ◌++◌, length, length-append, Bool, true, false, cond, nat_lt, Some, refl, sym, ap, ◌∙◌, inl, inr, arith}
+use Rattle.std.proofs.Common.{◌≡◌, ◌≤◌, ◌+◌, ℕ, zero, suc, ℤ, pos, negsuc, ◌+ℤ◌, int_le, List, [], ◌∷◌, ◌++◌, length, length-append, Bool, true, false, cond, nat_lt, Some, refl, arith}
 use Rattle.std.specs.Prelude.{codes}
 use Rattle.std.specs.Int.{int_div_euclid}
 use Rattle.std.proofs.lemmas.Int.{ints}
 use Rattle.std.proofs.lemmas.Bool.Decides.{nat_tests}
 use Rattle.jiff_core.specs.Calendar.{days_from_civil}
 use Rattle.cmc_der.specs.Building.{length_octets, value}
-use Rattle.cmc_der.specs.Keys.{PublicKey, SubjectNames, CertificateFields}
+use Rattle.cmc_der.specs.Keys.{PublicKey, SubjectNames}
 use Rattle.cmc_time.specs.declared.moment.Moment.{Moment}
 use Rattle.cmc_time.specs.Asn1.{utc_time_text, generalized_time_text, asn1_tag, asn1_text}
 use Rattle.cmc_time.specs.Moment.{last_passing, year_of, moment_of}
 use Rattle.cmc_x509_build.specs.Octets.{signature_algorithm, signed_octets, name_octets}
-use Rattle.cmc_x509_build.specs.Certificates.{time_octets, validity_octets, head_octets, first_octets, subject_octets, fields_of, certificate_body}
+use Rattle.cmc_x509_build.specs.Certificates.{time_octets, validity_octets, head_octets, first_octets, subject_octets, certificate_body}
 use Rattle.cmc_keys.proofs.SignatureLaws.{signature_size}
 use Rattle.cmc_answers.specs.Signings.{certificate_of}
 use Rattle.cmc_answers.specs.Temporary.{temporary_plan}

@@ -1,7 +1,7 @@
 -- The table of issuing, line by line.
 use Rattle.std.proofs.Common.{◌≡◌, ◌&&◌, ◌==◌, eqb-true, ℕ, ℤ, List, [], ◌∷◌, Option, Some, None, Bool, true, false, not, refl, sym, ap, ◌∙◌}
 use Rattle.std.proofs.lemmas.Slice.Eq.{bytes_eq-Decides}
-use Rattle.std.specs.Prelude.{codes, find, length, nat_le, unwrap_or, if◌then◌else◌}
+use Rattle.std.specs.Prelude.{codes, find, length, nat_le, if◌then◌else◌}
 use Rattle.std.specs.Str.{bytes_eq}
 use Rattle.cmc_meta.specs.declared.conditions.Condition.{Condition}
 use Rattle.cmc_meta.specs.declared.conditions.ConditionKind.{ConditionKind}
@@ -29,7 +29,7 @@ use Rattle.cmc_pass.specs.declared.value.Value.{Value}
 use Rattle.cmc_rules.specs.Triggering.{is_issuing}
 use Rattle.cmc_rules.specs.NextKeys.{is_named, named_key}
 use Rattle.cmc_rules.specs.NextRequests.{is_wanted, is_refused}
-use Rattle.cmc_rules.specs.Issuing.{issued_status, status_call, failure, secret_call, issue_plan, temporary_plan, says_issued, is_granted, fails_now, refusal, is_certified, is_kept_for_keys, lacks_certificate, stand_in_with, while_waiting, with_granted, with_wanted, with_request, with_file, with_key_of, issuing_of, issuing}
+use Rattle.cmc_rules.specs.Issuing.{issued_status, failure, issue_plan, temporary_plan, says_issued, is_granted, fails_now, refusal, is_certified, is_kept_for_keys, lacks_certificate, stand_in_with, while_waiting, with_granted, with_wanted, with_request, with_file, with_key_of, issuing_of, issuing}
 use Rattle.cmc_rules.specs.Safety.{IsIssued}
 use Rattle.cmc_rules.specs.Sighting.{IsWellSeen}
 use Rattle.cmc_rules.specs.Sound.{IsPrepared, IsSigned, IsMarked, IsIssuance, IsStandingIn, IsWithin}
@@ -37,7 +37,7 @@ use Rattle.cmc_rules.proofs.Sights.{found_among}
 use Rattle.cmc_rules.proofs.Lines.{by_test}
 use Rattle.cmc_issuing.proofs.StatusWrites.{failing, raising, is_status}
 use Rattle.cmc_issuing.proofs.SecretWrites.{secret_written, secret_unmarked, secret_marked}
-use Rattle.cmc_issuing.proofs.Targets.{certified, stands_in, signed_of, marked_of}
+use Rattle.cmc_issuing.proofs.Targets.{stands_in, signed_of, marked_of}
 
 abbrev After : Type 0
 After = Order → Value → Option Call

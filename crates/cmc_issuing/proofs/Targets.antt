@@ -1,7 +1,6 @@
 -- The Secret has one public key with its certificate and its request.
 use Rattle.std.proofs.Common.{◌≡◌, ℕ, ℤ, List, [], Bool, true, false, Option, Some, None, refl, sym, subst, ◌≤◌, arith}
 use Rattle.std.specs.Prelude.{length, nat_le, if◌then◌else◌}
-use Rattle.std.proofs.lemmas.Bool.{cases_Bool}
 use Rattle.std.proofs.lemmas.Bool.Decides.{nat_tests}
 use Rattle.cmc_der.specs.Keys.{PublicKey, CertificateFields, RequestFields}
 use Rattle.cmc_x509.specs.KeyFiles.{IsKeyFile}

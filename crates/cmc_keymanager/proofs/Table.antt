@@ -13,20 +13,20 @@ use Rattle.cmc_objects.specs.declared.orders.Order.TheVariants as orders
 use Rattle.cmc_objects.specs.declared.role.Role.TheVariants.{KeyManager}
 use Rattle.cmc_objects.specs.Defaults.{key_algorithm, key_size, key_rotation}
 use Rattle.cmc_keys.specs.Kinds.{allows_size}
-use Rattle.cmc_match.specs.Facts.{key_in, fits}
+use Rattle.cmc_match.specs.Facts.{fits}
 use Rattle.cmc_model.specs.Admission.{is_size_of, certificate_rules}
 use Rattle.cmc_model.proofs.Admission.{all_pass}
 use Rattle.cmc_pass.specs.declared.pass.Views.{Views}
 use Rattle.cmc_pass.specs.declared.pass.Desk.{Desk}
 use Rattle.cmc_pass.specs.declared.pass.Act.{Act}
-use Rattle.cmc_pass.specs.declared.pass.Act.TheVariants.{Nothing, Call as Calls}
+use Rattle.cmc_pass.specs.declared.pass.Act.TheVariants.{Nothing}
 use Rattle.cmc_pass.specs.declared.value.Value.{Value}
 use Rattle.cmc_pass.specs.declared.value.Value.TheVariants.{Made, Signed, Answered, Judged}
 use Rattle.cmc_pass.specs.Values.{IsValue}
 use Rattle.cmc_rules.specs.Admitted.{MeetsRules}
 use Rattle.cmc_rules.specs.Triggering.{is_issuing}
 use Rattle.cmc_rules.specs.NextKeys.{is_named, has_fitting_key}
-use Rattle.cmc_rules.specs.KeyManaging.{drop_call, make_call, name_call, key_order, ask_key, target_key, reused, rotated, only_key, dropped, while_issuing, unnamed, while_idle, keys_of, key_manager, kept_for, key_after}
+use Rattle.cmc_rules.specs.KeyManaging.{drop_call, make_call, key_order, ask_key, target_key, reused, rotated, only_key, dropped, while_issuing, unnamed, while_idle, keys_of, key_manager, kept_for, key_after}
 use Rattle.cmc_rules.specs.Sighting.{IsAmong, IsWellSeen}
 use Rattle.cmc_rules.specs.Sound.{IsFollowed, IsWithin}
 use Rattle.cmc_rules.proofs.Sights.{seen_certificate, found_among}

@@ -32,7 +32,7 @@ use Rattle.cmc_moves.specs.declared.doing.Judged.TheVariants.{Answer, Does}
 use Rattle.cmc_moves.specs.declared.moves.Lack.TheVariants.{Settled}
 use Rattle.cmc_moves.specs.declared.moves.Move.TheVariants.{Next, Decide}
 use Rattle.cmc_moves.specs.declared.moves.Stepped.{Stepped}
-use Rattle.cmc_moves.specs.declared.moves.Stepped.TheVariants.{Done, Order as Tells, NotNow, OtherViews}
+use Rattle.cmc_moves.specs.declared.moves.Stepped.TheVariants.{Done, Order as Tells, NotNow}
 use Rattle.cmc_moves.specs.Acting.{IsDoingBy, IsGoingOn, IsTaking, IsTaken, asked_in}
 use Rattle.cmc_moves.specs.Answers.{AnswersDecided, AnswersDecide, Leaves, kept_of, next_answer, outdated}
 use Rattle.cmc_moves.specs.Decisions.{BegunPass, Decision, IsDecided, IsUndecided, SawSame, bare_desk, decides_alone, is_fresh, is_undecided}

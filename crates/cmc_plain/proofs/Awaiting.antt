@@ -1,20 +1,17 @@
 -- What the script waits for, and when the run is finished.
-use Rattle.std.proofs.Common.{◌≡◌, ◌⊎◌, ◌+◌, ◌-◌, ◌<◌, ◌≤◌, ℕ, List, length, Some, None, Bool, true, false, refl, sym, subst, inl, inr, arith, get_or}
+use Rattle.std.proofs.Common.{◌≡◌, ◌⊎◌, ◌+◌, ◌-◌, ◌<◌, ◌≤◌, ℕ, List, length, Some, None, Bool, sym, subst, inl, inr, arith, get_or}
 use Rattle.std.proofs.lemmas.Option.{slice_get_cases}
 use Rattle.std.specs.Prelude.{◌↔◌, IsTrue, slice_get}
-use Rattle.cmc_meta.specs.declared.key.Kind.{Kind}
-use Rattle.cmc_objects.specs.declared.role.Role.{Role}
 use Rattle.cmc_objects.specs.declared.entry.Entry.{Entry}
 use Rattle.cmc_objects.specs.declared.entry.Step.{Step}
-use Rattle.cmc_objects.specs.declared.entry.Step.TheVariants as steps
 use Rattle.cmc_model.specs.Histories.{Setting}
-use Rattle.cmc_rules.specs.Following.{written, IsReady}
+use Rattle.cmc_rules.specs.Following.{IsReady}
 use Rattle.cmc_rules.specs.Resting.{IsAtRest}
 use Rattle.cmc_rules.specs.Scripting.{scripted, step_at}
 use Rattle.cmc_plain.specs.declared.scripts.Awaits.{Awaits}
-use Rattle.cmc_plain.specs.declared.scripts.Awaits.TheVariants.{Nothing, Rest, Never}
+use Rattle.cmc_plain.specs.declared.scripts.Awaits.TheVariants.{Rest}
 use Rattle.cmc_plain.specs.Plain.{IsStepReady, HasNoScript}
-use Rattle.cmc_plain.specs.Searches.{IsAwaitedBy, IsAwaiting}
+use Rattle.cmc_plain.specs.Searches.{IsAwaiting}
 
 -- ---- one step
 

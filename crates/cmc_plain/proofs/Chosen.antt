@@ -1,23 +1,17 @@
 -- What the search finds is the plain move.
-use Rattle.std.proofs.Common.{◌≡◌, ℕ, List, Some, None, Bool, true, false, refl, subst, arith}
+use Rattle.std.proofs.Common.{◌≡◌, ℕ, List, Some, None, Bool, true, false, arith}
 use Rattle.std.specs.Prelude.{◌↔◌, IsTrue, MatchBool, if◌then◌else◌}
 use Rattle.cmc_objects.specs.declared.role.Role.{Role}
 use Rattle.cmc_objects.specs.declared.entry.Entry.{Entry}
 use Rattle.cmc_model.specs.Histories.{Setting}
-use Rattle.cmc_model.specs.Writes.{last_of_kind, writes}
 use Rattle.cmc_rules.specs.Following.{owed}
 use Rattle.cmc_rules.specs.Resting.{IsAtRest}
-use Rattle.cmc_rules.specs.Runs.{IsRun, IsFinished}
-use Rattle.cmc_moves.specs.declared.moves.Move.TheVariants.{Script, Next, Deliver, Begin}
-use Rattle.cmc_plain.specs.declared.begins.Beginning.{Beginning}
-use Rattle.cmc_plain.specs.declared.deliveries.Delivery.{Delivery}
-use Rattle.cmc_plain.specs.declared.passes.Going.{Going}
-use Rattle.cmc_plain.specs.declared.scripts.Awaits.{Awaits}
-use Rattle.cmc_plain.specs.declared.scripts.Awaits.TheVariants.{Nothing, Rest, Never}
+use Rattle.cmc_rules.specs.Runs.{IsRun}
+use Rattle.cmc_moves.specs.declared.moves.Move.TheVariants.{Script}
 use Rattle.cmc_plain.specs.Plain.{IsStepReady, HasNoScript, HasNoPass, HasNoDelivery, IsPlainMove}
-use Rattle.cmc_plain.specs.Searches.{FindsPass, FindsDelivery, FindsBegin, IsAwaiting, IsLeft, RestsWhereRunning}
+use Rattle.cmc_plain.specs.Searches.{FindsBegin, IsLeft, RestsWhereRunning}
 use Rattle.cmc_plain.proofs.Finishing.{nothing_left, finished_at_rest}
-use Rattle.cmc_plain.proofs.Resting.{at_rest_by, one_behind, pass_open}
+use Rattle.cmc_plain.proofs.Resting.{at_rest_by}
 
 -- ---- the script
 

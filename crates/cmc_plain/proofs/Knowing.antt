@@ -23,12 +23,11 @@ use Rattle.cmc_rules.specs.Runs.{IsRun}
 use Rattle.cmc_rules.specs.Sameness.{IsDue}
 use Rattle.cmc_rules.specs.Scripting.{has_held}
 use Rattle.cmc_rules.specs.Viewing.{views, present_views}
-use Rattle.cmc_moves.specs.Answers.{is_done, Grows, Leaves, beginning, next_effect}
+use Rattle.cmc_moves.specs.Answers.{Grows, Leaves, beginning, next_effect}
 use Rattle.cmc_moves.specs.Quiet.{IsQuiet, seen_last}
 use Rattle.cmc_moves.specs.declared.moves.Move.{Move}
 use Rattle.cmc_moves.specs.declared.moves.Move.TheVariants as moves
 use Rattle.cmc_moves.specs.declared.moves.Stepped.{Stepped}
-use Rattle.cmc_moves.specs.declared.moves.Stepped.TheVariants as answers
 use Rattle.cmc_world.specs.Kept.{Seen, setting_of}
 use Rattle.cmc_world.specs.Rest.{EachKind}
 use Rattle.cmc_world.proofs.Elsewhere.{told_free, idle_rests}
@@ -41,7 +40,7 @@ use Rattle.cmc_plain.specs.Plain.{HasNoDelivery}
 use Rattle.cmc_plain.specs.Ready.{is_ready, Busies, Forgets, IsAsleepOn, IsIdleBegin, IsIdleOn, Keeps, Knows, KnowsLess, LeavesBusy, LeavesQuiet}
 use Rattle.cmc_plain.specs.Searches.{RestsWhereRunning}
 use Rattle.cmc_plain.proofs.Lasting.{Anew, Claim, IsLasting, LeavesKeys, Meant, holds_step, moment_alone, role_itself, views_alone}
-use Rattle.cmc_plain.proofs.Quiet.{idle_at, idles_more, idles_step}
+use Rattle.cmc_plain.proofs.Quiet.{idle_at, idles_step}
 use Rattle.cmc_plain.proofs.Resting.{known_or, told_kinds}
 
 -- ---- something to do

@@ -35,14 +35,14 @@ use Rattle.cmc_rules.specs.Readying as readying
 use Rattle.cmc_rules.specs.Revising as revising
 use Rattle.cmc_rules.specs.NextKeys.{named_key}
 use Rattle.cmc_rules.specs.NextRequests.{next_requests}
-use Rattle.cmc_rules.specs.Triggering.{trigger, for_certificate, for_reason, issue_call, with_issuing}
+use Rattle.cmc_rules.specs.Triggering.{trigger, for_certificate, for_reason, issue_call}
 use Rattle.cmc_rules.specs.KeyManaging.{key_manager, key_after, name_call, drop_call, ask_key, make_call}
 use Rattle.cmc_rules.specs.RequestManaging.{request_manager, request_after, ask_signature, make_request}
-use Rattle.cmc_rules.specs.Approving.{approver, judged_after, ask_judgement, judge_call, approval, denied_for, verdict_on, verdict_by, verdict_of}
+use Rattle.cmc_rules.specs.Approving.{approver, judged_after, ask_judgement, judge_call, approval, denied_for, verdict_by, verdict_of}
 use Rattle.cmc_rules.specs.Granting.{issuer, answered_after, ask_issuer}
 use Rattle.cmc_rules.specs.Issuing.{issuing, failure, issue_plan, temporary_plan, secret_call}
-use Rattle.cmc_rules.specs.Readying.{readiness, ready_call, ready_by}
-use Rattle.cmc_rules.specs.Revising.{revise, delete_call, delete_of, oldest_of}
+use Rattle.cmc_rules.specs.Readying.{readiness, ready_call}
+use Rattle.cmc_rules.specs.Revising.{revise, delete_call, delete_of}
 use Rattle.cmc_plain.proofs.Outcomes.{HasOutcome, IsAnsweredCall, outcome_judged, outcome_denied, outcome_answered}
 
 -- ---- acts

@@ -42,7 +42,7 @@ use Rattle.cmc_rules.specs.RequestManaging as managing
 use Rattle.cmc_rules.specs.RequestManaging.{ask_signature, is_stale, stale_request}
 use Rattle.cmc_rules.specs.Revising.{delete_call, delete_of}
 use Rattle.cmc_rules.specs.Granting as granting
-use Rattle.cmc_rules.specs.Granting.{gives, ask_issuer}
+use Rattle.cmc_rules.specs.Granting.{gives}
 use Rattle.cmc_rules.specs.Issuing as issuance
 use Rattle.cmc_rules.specs.Issuing.{says_issued, is_granted, is_kept_for_keys, is_certified, failure, issue_plan, fails_now}
 use Rattle.cmc_rules.specs.Readying.{ready_condition, ready_by, ready_call, is_settled, says, ready_of}

@@ -1,8 +1,7 @@
 -- Which keys are made ready, and that the others stay quiet.
 use Rattle.std.proofs.Common.{◌≡◌, ◌+◌, ◌<◌, ℕ, List, [], ◌∷◌, ◌++◌, Option, Some, None, Bool, true, false, refl, sym, ap, subst, ◌∙◌, arith, option_and_then}
-use Rattle.std.proofs.lemmas.Bool.{or_right}
 use Rattle.std.proofs.lemmas.Bool.Decides.{nat_tests}
-use Rattle.std.specs.Prelude.{◌&&◌, ◌||◌, nat_lt, reverse, Result, Ok, Err, OnOk}
+use Rattle.std.specs.Prelude.{◌||◌, nat_lt, reverse, Result, Ok, Err, OnOk}
 use Rattle.std.specs.BTreeSet.{BTreeSet}
 use Rattle.cmc_meta.specs.declared.key.Key.{Key}
 use Rattle.cmc_meta.specs.Keys.{key_eq}
@@ -14,19 +13,16 @@ use Rattle.cmc_objects.specs.declared.entry.Step.TheVariants as steps
 use Rattle.cmc_objects.specs.Roles.{role_rank}
 use Rattle.cmc_objects.proofs.Ranks.{role_of_rank}
 use Rattle.cmc_model.specs.declared.write.Write.{Write}
-use Rattle.cmc_model.specs.Histories.{Setting, accepted, moment, objects, role_eq}
+use Rattle.cmc_model.specs.Histories.{Setting, accepted, moment, objects}
 use Rattle.cmc_model.specs.Writes.{writes, is_known}
 use Rattle.cmc_rules.specs.declared.effect.Effect.{Effect}
 use Rattle.cmc_rules.specs.declared.effect.Effect.TheVariants as effects
 use Rattle.cmc_rules.specs.Following.{call_or, call_of, effect_besides, effect_of}
 use Rattle.cmc_objects.specs.Watching.{kind_of_work}
-use Rattle.cmc_rules.specs.Scripting.{scripted, step_at}
 use Rattle.cmc_held.proofs.Numbered.{list_any-reverse}
-use Rattle.cmc_moves.specs.Answers.{next_effect}
 use Rattle.cmc_world.proofs.AtRest.{same_key}
 use Rattle.cmc_plain.specs.Ready.{is_ready, Keeps, HasKnown, HasAllKnown, is_alarm, WakesAll}
 use Rattle.cmc_plain.specs.Searches.{EachBefore}
-use Rattle.cmc_plain.proofs.Ordering.{rank_low}
 
 -- ---- sets that grow
 

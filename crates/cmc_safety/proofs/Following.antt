@@ -1,18 +1,15 @@
 -- Each open pass that waits for no value can go on: a call follows the value that was given, the live read, and the Secret of an issuance.
-use Rattle.std.proofs.Common.{◌≡◌, ◌==◌, ◌⊎◌, ℕ, ℤ, ◌+◌, List, [], ◌∷◌, length, Option, Some, Bool, true, false, refl, sym, ap, subst, ◌∙◌, inl, inr}
+use Rattle.std.proofs.Common.{◌≡◌, ◌==◌, ℕ, ℤ, ◌+◌, List, [], ◌∷◌, length, Option, Some, Bool, true, false, refl, sym, ap, subst, ◌∙◌}
 use Rattle.std.specs.Prelude.{IfSome, IsSome}
 use Rattle.cmc_meta.specs.declared.key.Kind.{Kind}
 use Rattle.cmc_objects.specs.declared.certificate.Certificate.{Certificate}
 use Rattle.cmc_objects.specs.declared.object.Object.{Object}
 use Rattle.cmc_objects.specs.declared.call.Call.{Call}
-use Rattle.cmc_objects.specs.declared.call.Call.TheVariants.{Get}
 use Rattle.cmc_objects.specs.declared.call.Reply.{Reply}
 use Rattle.cmc_objects.specs.declared.call.Reply.TheVariants.{Ok, Unchanged, Found}
 use Rattle.cmc_objects.specs.declared.orders.Order.{Order}
 use Rattle.cmc_objects.specs.declared.role.Role.{Role}
 use Rattle.cmc_objects.specs.declared.role.Role.TheVariants as roles
-use Rattle.cmc_objects.specs.declared.entry.Cause.{Cause}
-use Rattle.cmc_objects.specs.declared.entry.Cause.TheVariants as causes
 use Rattle.cmc_objects.specs.declared.entry.Who.TheVariants.{User, Pass}
 use Rattle.cmc_objects.specs.declared.entry.Entry.{Entry}
 use Rattle.cmc_objects.specs.declared.entry.Entry.TheVariants.{Call as Called, Begin, Ask, Made, Signed, Answered, Judged, End, Stop}
@@ -36,15 +33,13 @@ use Rattle.cmc_rules.specs.Desks.{desk}
 use Rattle.cmc_rules.specs.Viewing.{views}
 use Rattle.cmc_rules.specs.Passes.{open_pass, gone_on, is_as_seen, new_pass, stage_read, stage_written, stage_by, stage_after, stage_given, writes_stand_in}
 use Rattle.cmc_rules.specs.Legality.{IsLegal}
-use Rattle.cmc_rules.specs.Causes.{act_of, after_of, IsNextCall, AsksBy, EndsBy, MayCall, IsCaused}
+use Rattle.cmc_rules.specs.Causes.{act_of, after_of, IsNextCall, MayCall, IsCaused}
 use Rattle.cmc_rules.specs.Runs.{IsRun}
 use Rattle.cmc_rules.specs.Sound.{IsOrdinary, IsAnswer, IsWithin}
 use Rattle.cmc_rules.proofs.Carrying.{over_ask, over_given, over_begin, over_end, over_stop}
 use Rattle.cmc_rules.proofs.WellSeen.{SawAll, saw_all}
-use Rattle.cmc_safety.specs.Acting.{IsUnbarred, IsNotBarred, IsAnswered, CanGoOn}
 use Rattle.cmc_safety.proofs.NextCalls.{IsFollowedAt, ReadsObject, found_is_read, following_call, no_read}
 use Rattle.cmc_safety.proofs.Course.{AreSound, of_open, with_equation, over_own_entry, same_number, HasComeTo, has_come, within_act, followed_at, next_call, live_at}
-use Rattle.cmc_safety.proofs.Barred.{never_barred}
 
 -- ---- what is still to be called
 
@@ -265,9 +260,3 @@ pub follows_secret : AreSound → (s : Setting) (h : List Entry) (n : ℕ) (p : 
 follows_secret sound s h n p run opened is =
     let way = subst (λ (t : Stage). IsOnItsWay t p.role (issuing p.seen p.since)) is (open_way sound s h n p run opened) in
     status_next (act_of s h p) (after_of p) (subst WritesStatus (sym (act_is p.role p.seen p.since (desk s h p.role p.seen) way.0)) way.1)
-
--- ---- it goes on
-
--- whatever the act is, a pass begins by it or ends
-abbrev GoesOnBy : Stage → Act → (Order → Value → Option Call) → Type 0
-GoesOnBy stage does after = ((call : Call) × IsNextCall stage does after call) ⊎ (((order : Order) × AsksBy stage does order) ⊎ ((cause : Cause) × EndsBy stage does cause))

@@ -12,11 +12,11 @@ use Rattle.cmc_pass.specs.declared.pass.Views.{Views}
 use Rattle.cmc_model.specs.Histories.{Setting, moment}
 use Rattle.cmc_model.specs.Writes.{writes}
 use Rattle.cmc_rules.specs.declared.progress.OpenPass.{OpenPass}
-use Rattle.cmc_rules.specs.Viewing.{views, present_views}
+use Rattle.cmc_rules.specs.Viewing.{views}
 use Rattle.cmc_rules.specs.Desks.{asks_key, asks_issuer, asked, asked_before, desk}
 use Rattle.cmc_rules.specs.Passes.{open_pass}
 use Rattle.cmc_rules.specs.Runs.{IsRun}
-use Rattle.cmc_rules.proofs.Sighted.{AreKnown, SawKnown, saw_known, views_known, present_known}
+use Rattle.cmc_rules.proofs.Sighted.{AreKnown, SawKnown, saw_known, views_known}
 use Rattle.cmc_safety.specs.Formed.{IsFormed}
 use Rattle.cmc_safety.specs.Acting.{MayAct}
 use Rattle.cmc_safety.proofs.Course.{AreSound, of_open}

@@ -13,14 +13,14 @@ use Rattle.cmc_setup.specs.Setups.{IsSetup, IsTickForm, RiseFrom, AreInOrder, fi
 use Rattle.cmc_setup.specs.Stages.{Stage, AreInTurn, first_stage, is_in_turn, stage_after}
 use Rattle.cmc_setup.proofs.Turns.{orderly, held, ends}
 use Rattle.cmc_setup.proofs.Orders.{in_order_put}
-use Rattle.cmc_cursor.specs.Reading.{◌>>=◌, under, Field, optional_at, at_end}
+use Rattle.cmc_cursor.specs.Reading.{◌>>=◌, under, Field, optional_at}
 use Rattle.cmc_cursor.specs.Readers.{found, text_at, count_at}
 use Rattle.cmc_material.specs.Approvers.{approver_at, default_approver}
 use Rattle.cmc_material.specs.Lists.{member_or}
 use Rattle.cmc_material.specs.MaterialRows.{material_at}
 use Rattle.cmc_scenario.specs.Roles.{role_at, roles_with, named_roles_at, roles_at, all_roles}
 use Rattle.cmc_scenario.specs.Scripts.{in_turn, step_at, numbered_step_at, steps_from, steps_at, script_at}
-use Rattle.cmc_scenario.specs.Scenarios.{size_at, rising_at, rising_from, faults_at, in_run, moment_in, moment_at, world_in, usual_moment, beginning_in, setup_of, setup_in}
+use Rattle.cmc_scenario.specs.Scenarios.{size_at, rising_at, rising_from, faults_at, in_run, moment_in, moment_at, world_in, usual_moment, beginning_in, setup_of}
 use Rattle.cmc_scenario.specs.declared.members.World.{World}
 use Rattle.cmc_scenario.specs.declared.members.Beginning.{Beginning}
 use Rattle.cmc_cursor.proofs.Always.{Always, so, failed, next, after, below, where_true}

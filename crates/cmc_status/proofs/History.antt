@@ -1,5 +1,5 @@
 -- The record of laws of the revision controller, and the search for the oldest request.
-use Rattle.std.proofs.Common.{◌≡◌, ℕ, ℤ, Bool, true, false, List, [], ◌∷◌, Option, Some, None, refl, sym, ap, subst, ◌∙◌, inl, inr, cond, int_le}
+use Rattle.std.proofs.Common.{◌≡◌, ℕ, ℤ, Bool, true, false, List, [], ◌∷◌, Option, Some, None, refl, sym, ap, ◌∙◌, inl, inr, cond}
 use Rattle.std.specs.Prelude.{if◌then◌else◌, filter, length, nat_lt, drop, slice_index_or, ◌+◌, ◌<◌, ◌≤◌}
 use Rattle.std.proofs.lemmas.List.{drop_more, drop_all}
 use Rattle.cmc_meta.specs.declared.conditions.ConditionKind.TheVariants.{Issuing}
@@ -12,7 +12,7 @@ use Rattle.cmc_pass.specs.declared.pass.Views.{Views}
 use Rattle.cmc_pass.specs.declared.pass.Desk.{Desk}
 use Rattle.cmc_pass.specs.declared.pass.Act.{Act}
 use Rattle.cmc_pass.specs.declared.pass.Act.TheVariants.{Nothing}
-use Rattle.cmc_rules.specs.Revising.{counts, revision, older_of, oldest_from, oldest_of, delete_call, delete_of, above_limit, by_limit, revise_of, revise}
+use Rattle.cmc_rules.specs.Revising.{counts, revision, older_of, oldest_from, oldest_of, delete_call, delete_of, by_limit, revise_of, revise}
 use Rattle.cmc_rules.specs.Acts.{act, call_after}
 use Rattle.cmc_rules.specs.Sighting.{IsPartOf, OnSeen}
 use Rattle.cmc_rules.specs.Sound.{IsWithin, shown, IsSound}

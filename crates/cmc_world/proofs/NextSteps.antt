@@ -1,5 +1,5 @@
 -- What an open pass does next, and what its move is answered.
-use Rattle.std.proofs.Common.{◌≡◌, ℕ, ◌+◌, ◌≤◌, refl, sym, ap, subst, ◌∙◌, List, [], ◌∷◌, length, Option, Some, None, IfOk, Result, inl, inr, arith}
+use Rattle.std.proofs.Common.{◌≡◌, ℕ, ◌+◌, ◌≤◌, refl, sym, ap, subst, ◌∙◌, List, [], ◌∷◌, length, Option, Some, None, IfOk, Result, inr, arith}
 use Rattle.std.proofs.lemmas.Result.{IfOk-weaker}
 use Rattle.std.specs.Prelude.{◌↔◌, IsTrue, IsSome, Bool, true, false}
 use Rattle.std.specs.declared.alloc.AllocError.{AllocError}
@@ -37,13 +37,12 @@ use Rattle.cmc_safety.proofs.Following.{has_following, follows_read, follows_sec
 use Rattle.cmc_moves.specs.declared.doing.Doing.{Doing}
 use Rattle.cmc_moves.specs.declared.doing.Doing.TheVariants.{Call as Makes, Ask as Asks, End as Ends}
 use Rattle.cmc_moves.specs.declared.doing.Judged.{Judged}
-use Rattle.cmc_moves.specs.declared.doing.Judged.TheVariants.{Answer, Does}
+use Rattle.cmc_moves.specs.declared.doing.Judged.TheVariants.{Does}
 use Rattle.cmc_moves.specs.declared.moves.Move.TheVariants.{Next}
 use Rattle.cmc_moves.specs.declared.moves.Stepped.{Stepped}
-use Rattle.cmc_moves.specs.declared.moves.Stepped.TheVariants.{Done, Order as Tells, Spent}
+use Rattle.cmc_moves.specs.declared.moves.Stepped.TheVariants.{Done, Order as Tells}
 use Rattle.cmc_moves.specs.Answers.{kept_at, kept_of, new_at, new_of, next_answer, AnswersGoing, AnswersNext, Leaves, asked_once}
-use Rattle.cmc_moves.specs.Acting.{HasSecret, HasStatus, HasNext, IsDoingBy, IsDoing, IsGoing, IsGoingOn, IsJudged, IsNoMove, asked_in}
-use Rattle.cmc_world.specs.Going.{IsDone}
+use Rattle.cmc_moves.specs.Acting.{HasSecret, HasStatus, HasNext, IsDoingBy, IsDoing, IsGoingOn, IsJudged, IsNoMove, asked_in}
 use Rattle.cmc_world.specs.Kept.{first_desk}
 use Rattle.cmc_moves.proofs.Sounds.{each_sound}
 

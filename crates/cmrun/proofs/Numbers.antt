@@ -1,10 +1,9 @@
 -- What std's parse of a number says of the number that a text writes between two bounds.
-use Rattle.std.proofs.Common.{◌≡◌, ℕ, ◌^◌, Option, Some, None, ltb, ◌∙◌, ◌<◌, ◌≤◌, ◌&&◌, List, [], ◌∷◌, Bool, true, false, length, refl, ap, sym, subst, arith, inl, inr}
+use Rattle.std.proofs.Common.{◌≡◌, ℕ, ◌^◌, Option, Some, None, ◌<◌, ◌≤◌, ◌&&◌, List, [], ◌∷◌, Bool, true, false, length, refl, ap, arith}
 use Rattle.std.specs.Char.{is_digit, digit_value}
 use Rattle.std.specs.List.{list_all}
 use Rattle.std.specs.Str.Parse.{AllDigits, IsNumeral, digits_value, without_leading_plus}
 use Rattle.std.specs.Prelude.{nat_lt, nat_le, if◌then◌else◌}
-use Rattle.std.proofs.lemmas.Bool.{cases_Bool}
 use Rattle.std.proofs.lemmas.Bool.Decides.{nat_tests}
 use Rattle.cmrun.specs.Words.{is_numeral, number_in}
 

@@ -1,5 +1,5 @@
 -- Parts of what is written.
-use Rattle.std.proofs.Common.{zero, suc, get_or, arith, String, Global, string_bytes, ◌≡◌, ℕ, ◌+◌, ◌<◌, ◌≤◌, Ok, Err, IfErr, List, [], ◌∷◌, ◌++◌, length, take, drop, None, Some, refl, sym, ap, ◌∙◌, subst, append_assoc, append-nil, take-append-drop, length-append}
+use Rattle.std.proofs.Common.{zero, suc, get_or, arith, String, Global, string_bytes, ◌≡◌, ℕ, ◌+◌, ◌<◌, ◌≤◌, Ok, Err, IfErr, List, [], ◌∷◌, ◌++◌, length, take, drop, None, Some, refl, sym, ap, ◌∙◌, subst, append_assoc, take-append-drop, length-append}
 use Rattle.std.proofs.Math.Seq.{take-append-add, take-append_seam}
 use Rattle.std.specs.declared.option.Option.{Option}
 use Rattle.std.specs.declared.result.Result.{Result}

@@ -1,16 +1,15 @@
 -- What one word more does to what was said, and which command is said at the end.
-use Rattle.std.proofs.Common.{◌≡◌, ◌<◌, ◌≤◌, ◌⊎◌, inl, inr, arith, get_or, ℕ, zero, suc, Option, Some, None, List, [], ◌∷◌, ◌++◌, length, drop, Bool, true, false, refl, ap, sym, subst, Bor, ◌∙◌}
-use Rattle.std.specs.Prelude.{map, codes, string_bytes, String, nat_eq, if◌then◌else◌, option_and_then}
+use Rattle.std.proofs.Common.{◌≡◌, arith, ℕ, Option, None, List, [], ◌∷◌, ◌++◌, length, drop, Bool, true, false, refl, ap, sym, subst, Bor}
+use Rattle.std.specs.Prelude.{map, codes, string_bytes, String, nat_eq, if◌then◌else◌}
 use Rattle.std.specs.declared.alloc.Global.{Global}
 use Rattle.std.specs.List.{starts_with}
 use Rattle.std.specs.Str.{bytes_eq}
 use Rattle.std.proofs.lemmas.Bool.Decides.{Decides-eqb}
 use Rattle.std.proofs.lemmas.Slice.Eq.{starts_is}
-use Rattle.cmrun.specs.Words.{Given, with_value, with_word, with_summary, with_other, given_by, workers_in, summary_in, count_in, run_in, command_said, number_in}
-use Rattle.cmrun.specs.Said.{listed, one_more, told, Takes, TakesNext, IsSaidBy}
+use Rattle.cmrun.specs.Words.{Given, with_value, with_word, with_summary, with_other, given_by, command_said}
+use Rattle.cmrun.specs.Said.{told, Takes, TakesNext}
 use Rattle.cmrun.specs.declared.words.Said.{Said}
 use Rattle.cmrun.specs.declared.words.Command.{Command}
-use Rattle.cmrun.specs.declared.words.Command.TheVariants.{Run, Load}
 
 abbrev no_command : Option Command
 no_command = None

@@ -1,4 +1,4 @@
-use Rattle.std.proofs.Common.{◌∙◌, sym, refl, arith}
+use Rattle.std.proofs.Common.{refl, arith}
 use Rattle.cmc_held.proofs.Backwards.{under_here, under_before, under_none}
 use Rattle.cmc_held.proofs.log.last_under.Goals as goal
 

@@ -1,6 +1,4 @@
-use Rattle.std.proofs.Common.{◌≡◌, refl, sym, ◌∙◌}
-use Rattle.std.specs.Option.{option_copied}
-use Rattle.cmc_rules.specs.Revising as spec
+use Rattle.std.proofs.Common.{refl}
 use Rattle.cmc_status.proofs.History.{one_more, none_left}
 use Rattle.cmc_status.proofs.revising.oldest_in.Goals as goal
 

@@ -1,6 +1,4 @@
-use Rattle.std.proofs.Common.{sym, subst, reverse, List}
-use Rattle.cmc_model.specs.declared.write.Write.{Write}
-use Rattle.cmc_held.proofs.Lasts.{AreLast, none_last}
+use Rattle.cmc_held.proofs.Lasts.{none_last}
 use Rattle.cmc_held.proofs.log.Log.new.Goals as goal
 
 pub invariant_of-result : goal.invariant_of-result

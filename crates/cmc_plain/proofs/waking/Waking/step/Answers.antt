@@ -1,4 +1,3 @@
-use Rattle.cmc_world.specs.Kept.{setting_of}
 use Rattle.cmc_plain.proofs.Knowing.{knows_step}
 use Rattle.cmc_plain.proofs.Quiet.{covers_step_kept}
 use Rattle.cmc_plain.proofs.waking.Waking.step.Goals as goal

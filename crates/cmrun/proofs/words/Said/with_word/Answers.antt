@@ -1,5 +1,5 @@
 use Rattle.std.proofs.Common.{sym, ◌∙◌}
-use Rattle.cmrun.proofs.Saying.{word_value, word_summary, word_other}
+use Rattle.cmrun.proofs.Saying.{word_other}
 use Rattle.cmrun.proofs.words.Said.with_word.Goals as goal
 
 pub returns : goal.returns
