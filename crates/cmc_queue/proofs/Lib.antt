@@ -1,7 +1,6 @@
 pub mod Keys
 pub mod OneRow
-pub mod Due
-pub mod Reached
+pub mod Places
 pub mod Ticking
 pub mod Moving
 pub mod Found

@@ -1,5 +1,6 @@
 -- What the rows are while keys are made ready that wait for a version.
-use Rattle.std.proofs.Common.{◌≡◌, ◌⊎◌, inl, inr, ℕ, Bool, true, false, List, Option, Some, None, refl, sym, ap, ◌∙◌, subst}
+use Rattle.std.proofs.Common.{◌≡◌, ◌⊎◌, ℕ, Bool, true, false, List, Option, Some, None, refl, subst}
+use Rattle.std.specs.Ordering.{nat_cmp}
 use Rattle.std.specs.Prelude.{if◌then◌else◌, nat_le, ◌==◌, ◌&&◌}
 use Rattle.cmc_meta.specs.declared.key.Key.{Key}
 use Rattle.cmc_meta.specs.declared.key.Kind.{Kind}
@@ -8,7 +9,8 @@ use Rattle.cmc_queue.specs.declared.row.Parked.{Parked}
 use Rattle.cmc_queue.specs.declared.row.Row.{Row}
 use Rattle.cmc_queue.specs.Rows.{row_in, moved, is_reached}
 use Rattle.cmc_queue.specs.Queues.{is_listed, IsParked, StayAbove}
-use Rattle.cmc_queue.proofs.Ticking.{equal_keys}
+use Rattle.cmc_queue.proofs.OneRow.{come, one_row}
+use Rattle.cmc_queue.proofs.Places.{late_left, other_left, AreLeft}
 
 same_twice : (b : Bool) (kind : Kind) (to : ℕ) (row : Row) → is_reached kind to row.parked ≡ b
     → moved kind to (if b then record row { ready = true; parked = None } else row) ≡ (if b then record row { ready = true; parked = None } else row)
@@ -38,12 +40,6 @@ pub record IsMoving (kind : Kind) (to : ℕ) (old rows : List (Key × Row)) (ver
   pub each : (k : Key) → (row_in rows k ≡ row_in old k) ⊎ (row_in rows k ≡ moved kind to (row_in old k))
   pub parked : IsParked kind rows versions
 
-one_row : (b : Bool) (kind : Kind) (to : ℕ) (before was is : Row) → is ≡ (if b then moved kind to was else was) → (was ≡ before) ⊎ (was ≡ moved kind to before) → (is ≡ before) ⊎ (is ≡ moved kind to before)
-one_row true kind to before was is e (inl same) = inr (e ∙ ap (moved kind to) same)
-one_row true kind to before was is e (inr done) = inr (e ∙ ap (moved kind to) done ∙ twice kind to before)
-one_row false kind to before was is e (inl same) = inl (e ∙ same)
-one_row false kind to before was is e (inr done) = inr (e ∙ done)
-
 above : (b : Bool) (n to : ℕ) → b ≡ true → (b && nat_le n to) ≡ false → nat_le n to ≡ false
 above true n to e off = off
 above false n to e off = absurd (cc e)
@@ -53,25 +49,14 @@ still_listed : (b : Bool) (kind : Kind) (to : ℕ) (key k : Key) (was is : Row) 
     → (is_listed versions p.version k ≡ true → (is_listed left p.version k ≡ true) ⊎ ((p.version ≡ popped) × (k ≡ key))) → is_listed left p.version k ≡ true
 still_listed true kind to key k was is p popped versions left e row parked of_kind low listed others =
     let before = still_parked kind to was p (subst (λ (r : Row). r.parked ≡ Some p) row parked) in
-    elim (others (listed before.0)) [
-      | inl stays ↦ stays
-      | inr same ↦
-          let here : nat_le p.version to ≡ true = subst (λ (n : ℕ). nat_le n to ≡ true) (sym same.0) low in
-          let off : nat_le p.version to ≡ false = above (kind_rank p.kind == kind_rank kind) p.version to of_kind before.1 in
-          absurd (cc (here, off))
-    ]
-still_listed false kind to key k was is p popped versions left e row parked of_kind low listed others =
-    elim (others (listed (subst (λ (r : Row). r.parked ≡ Some p) row parked))) [
-      | inl stays ↦ stays
-      | inr same ↦ let here : key_eq key k ≡ true = subst (λ (q : Key). key_eq q k ≡ true) same.1 (equal_keys k) in absurd (cc (here, e))
-    ]
+    late_left nat_cmp nat_le to p.version (popped, key) k left (above (kind_rank p.kind == kind_rank kind) p.version to of_kind before.1) low (others (listed before.0))
+still_listed false kind to key k was is p popped versions left e row parked of_kind low listed others = other_left key k e (others (listed (subst (λ (r : Row). r.parked ≡ Some p) row parked)))
 
 -- one more key is taken out, and its row is moved
-pub moving_on : (kind : Kind) (to : ℕ) (old rows new : List (Key × Row)) (versions left : List (ℕ × Key)) (q : ℕ × Key) → IsMoving kind to old rows versions → nat_le q.0 to ≡ true
-    → ((n : ℕ) (k : Key) → is_listed versions n k ≡ true → (is_listed left n k ≡ true) ⊎ ((n ≡ q.0) × (k ≡ q.1)))
+pub moving_on : (kind : Kind) (to : ℕ) (old rows new : List (Key × Row)) (versions left : List (ℕ × Key)) (q : ℕ × Key) → IsMoving kind to old rows versions → nat_le q.0 to ≡ true → AreLeft nat_cmp versions left q
     → ((k : Key) → row_in new k ≡ (if key_eq q.1 k then moved kind to (row_in rows k) else row_in rows k)) → IsMoving kind to old new left
 moving_on kind to old rows new versions left q so low others each = record {
-  each = λ k. one_row (key_eq q.1 k) kind to (row_in old k) (row_in rows k) (row_in new k) (each k) (so.each k);
+  each = λ k. one_row (key_eq q.1 k) (moved kind to) (twice kind to) (row_in old k) (row_in rows k) (row_in new k) (each k) (so.each k);
   parked = λ k p is of_kind.
       still_listed (key_eq q.1 k) kind to q.1 k (row_in rows k) (row_in new k) p q.0 versions left refl (each k) is of_kind low (λ was. so.parked k p was of_kind) (others p.version k);
 }
@@ -83,22 +68,13 @@ not_reached (Some p) kind to none = by_kind (kind_rank p.kind == kind_rank kind)
   by_kind true e = none p refl e
   by_kind false e = refl
 
-come : (kind : Kind) (to : ℕ) (before is : Row) → is_reached kind to is.parked ≡ false → (is ≡ before) ⊎ (is ≡ moved kind to before) → is ≡ moved kind to before
-come kind to before is none (inl same) = same ∙ sym (untouched kind to before (subst (λ (r : Row). is_reached kind to r.parked ≡ false) same none))
-come kind to before is none (inr done) = done
-
 -- where no version that is reached is left, all rows are moved
 pub moved_all : (kind : Kind) (to : ℕ) (old rows : List (Key × Row)) (versions : List (ℕ × Key)) → IsMoving kind to old rows versions → ((n : ℕ) (k : Key) → is_listed versions n k ≡ true → nat_le n to ≡ false)
     → (k : Key) → row_in rows k ≡ moved kind to (row_in old k)
-moved_all kind to old rows versions so none k = come kind to (row_in old k) (row_in rows k) (not_reached _ kind to (λ p is of_kind. none p.version k (so.parked k p is of_kind))) (so.each k)
+moved_all kind to old rows versions so none k = come (moved kind to) (row_in old k) (row_in rows k) (untouched kind to (row_in rows k) (not_reached _ kind to (λ p is of_kind. none p.version k (so.parked k p is of_kind)))) (so.each k)
 
 -- ---- places
 
-stays_left : (to n : ℕ) (q : ℕ × Key) (k : Key) (left : List (ℕ × Key)) → nat_le n to ≡ false → nat_le q.0 to ≡ true → (is_listed left n k ≡ true) ⊎ ((n ≡ q.0) × (k ≡ q.1)) → is_listed left n k ≡ true
-stays_left to n q k left high low (inl stays) = stays
-stays_left to n q k left high low (inr same) = let here : nat_le n to ≡ true = subst (λ (m : ℕ). nat_le m to ≡ true) (sym same.0) low in absurd (cc (here, high))
-
 -- one more key is taken out, and each place above the version stays
-pub above_stay : (to : ℕ) (first versions left : List (ℕ × Key)) (q : ℕ × Key) → StayAbove to first versions → nat_le q.0 to ≡ true
-    → ((n : ℕ) (k : Key) → is_listed versions n k ≡ true → (is_listed left n k ≡ true) ⊎ ((n ≡ q.0) × (k ≡ q.1))) → StayAbove to first left
-above_stay to first versions left q stay low others n k high listed = stays_left to n q k left high low (others n k (stay n k high listed))
+pub above_stay : (to : ℕ) (first versions left : List (ℕ × Key)) (q : ℕ × Key) → StayAbove to first versions → nat_le q.0 to ≡ true → AreLeft nat_cmp versions left q → StayAbove to first left
+above_stay to first versions left q stay low others n k high listed = late_left nat_cmp nat_le to n q k left high low (others n k (stay n k high listed))

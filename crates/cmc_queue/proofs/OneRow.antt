@@ -1,6 +1,7 @@
 -- The row of one key changes, and of no other.
-use Rattle.std.proofs.Common.{◌≡◌, Option, Some, None, Bool, true, false, cond, refl, sym, ap, ◌∙◌, subst, rules, Ordering, Less, Equal, Greater}
+use Rattle.std.proofs.Common.{◌≡◌, ◌⊎◌, inl, inr, Option, Some, None, Bool, true, false, cond, refl, sym, ap, ◌∙◌, subst, rules, Ordering, Less, Equal, Greater}
 use Rattle.std.specs.BTreeMap.{BTreeMap, WritesThrough, get_by, is_at}
+use Rattle.std.specs.Cmp.{tied_itself}
 use Rattle.std.specs.Cmp.Rules.{comparing}
 use Rattle.std.specs.Map.{lookup}
 use Rattle.std.specs.Ordering.{is_eq}
@@ -9,19 +10,34 @@ use Rattle.cmc_meta.specs.declared.key.Key.{Key}
 use Rattle.cmc_meta.specs.Keys.{key_cmp, key_eq}
 use Rattle.cmc_queue.specs.declared.row.Row.{Row}
 use Rattle.cmc_queue.specs.Rows.{no_row, row_in, row_or_new, has_row}
-use Rattle.cmc_queue.proofs.Keys.{key_cmp-IsAntisymmetric}
+use Rattle.cmc_queue.proofs.Keys.{key_cmp-IsAntisymmetric, key_cmp-total}
 
 -- keys that tie in the order are those that the test finds equal
 pub key_tie : (a b : Key) → is_eq (key_cmp a b) ≡ key_eq a b
 key_tie a b = search (comparing, rules)
 
-tied : (o : Ordering) → is_eq o ≡ true → o ≡ Equal
+pub tied : (o : Ordering) → is_eq o ≡ true → o ≡ Equal
 tied Less h = absurd (cc)
 tied Equal h = refl
 tied Greater h = absurd (cc)
 
 pub same_key : (a b : Key) → is_eq (key_cmp a b) ≡ true → a ≡ b
 same_key a b h = key_cmp-IsAntisymmetric a b (tied (key_cmp a b) h)
+
+pub equal_keys : (k : Key) → key_eq k k ≡ true
+equal_keys k = sym (key_tie k k) ∙ ap is_eq (tied_itself key_cmp-total k)
+
+-- a row that is as before or f of that stays so where it becomes f of itself
+pub one_row : (b : Bool) (f : Row → Row) → ((r : Row) → f (f r) ≡ f r) → (before was is : Row) → is ≡ (if b then f was else was) → (was ≡ before) ⊎ (was ≡ f before) → (is ≡ before) ⊎ (is ≡ f before)
+one_row true f twice before was is e (inl same) = inr (e ∙ ap f same)
+one_row true f twice before was is e (inr done) = inr (e ∙ ap f done ∙ twice before)
+one_row false f twice before was is e (inl same) = inl (e ∙ same)
+one_row false f twice before was is e (inr done) = inr (e ∙ done)
+
+-- and it is f of that where f leaves it
+pub come : (f : Row → Row) (before is : Row) → f is ≡ is → (is ≡ before) ⊎ (is ≡ f before) → is ≡ f before
+come f before is none (inl same) = sym none ∙ ap f same
+come f before is none (inr done) = done
 
 chosen : (b : Bool) (f : Row → Row) (es new : List (Key × Row)) (key k : Key) → is_eq (key_cmp key k) ≡ b
     → lookup (is_at (key_cmp k)) new ≡ cond b (Some (f (row_in es key))) (lookup (is_at (key_cmp k)) es) → row_in new k ≡ (if b then f (row_in es k) else row_in es k)

@@ -1,15 +1,14 @@
 -- What the rows are while keys are made ready whose moments have come.
-use Rattle.std.proofs.Common.{◌≡◌, ◌⊎◌, inl, inr, ℤ, Bool, true, false, List, Option, Some, None, refl, sym, ap, ◌∙◌, subst, int_le}
-use Rattle.std.specs.Cmp.{tied_itself}
-use Rattle.std.specs.Ordering.{is_eq}
+use Rattle.std.proofs.Common.{◌≡◌, ◌⊎◌, ℤ, Bool, true, false, List, Option, Some, None, refl, subst, int_le}
+use Rattle.std.specs.Ordering.{int_cmp}
 use Rattle.std.specs.Prelude.{if◌then◌else◌}
 use Rattle.cmc_meta.specs.declared.key.Key.{Key}
 use Rattle.cmc_meta.specs.Keys.{key_eq}
 use Rattle.cmc_queue.specs.declared.row.Row.{Row}
 use Rattle.cmc_queue.specs.Rows.{row_in, ticked, is_due}
 use Rattle.cmc_queue.specs.Queues.{is_noted, IsTimed, StayAfter}
-use Rattle.cmc_queue.proofs.Keys.{key_cmp-total}
-use Rattle.cmc_queue.proofs.OneRow.{key_tie}
+use Rattle.cmc_queue.proofs.OneRow.{come, one_row}
+use Rattle.cmc_queue.proofs.Places.{late_left, other_left, AreLeft}
 
 same_twice : (b : Bool) (now : ℤ) (row : Row) → is_due now row.timed ≡ b → ticked now (if b then record row { ready = true; timed = None } else row) ≡ (if b then record row { ready = true; timed = None } else row)
 unfolding ticked
@@ -37,35 +36,17 @@ pub record IsTicking (now : ℤ) (old rows : List (Key × Row)) (due : List (ℤ
   pub each : (k : Key) → (row_in rows k ≡ row_in old k) ⊎ (row_in rows k ≡ ticked now (row_in old k))
   pub timed : IsTimed rows due
 
-one_row : (b : Bool) (now : ℤ) (before was is : Row) → is ≡ (if b then ticked now was else was) → (was ≡ before) ⊎ (was ≡ ticked now before) → (is ≡ before) ⊎ (is ≡ ticked now before)
-one_row true now before was is e (inl same) = inr (e ∙ ap (ticked now) same)
-one_row true now before was is e (inr done) = inr (e ∙ ap (ticked now) done ∙ twice now before)
-one_row false now before was is e (inl same) = inl (e ∙ same)
-one_row false now before was is e (inr done) = inr (e ∙ done)
-
-pub equal_keys : (k : Key) → key_eq k k ≡ true
-equal_keys k = sym (key_tie k k) ∙ ap is_eq (tied_itself key_cmp-total k)
-
 still_noted : (b : Bool) (now : ℤ) (key k : Key) (was is : Row) (at popped : ℤ) (due left : List (ℤ × Key)) → key_eq key k ≡ b → is ≡ (if b then ticked now was else was) → is.timed ≡ Some at
     → int_le popped now ≡ true → (was.timed ≡ Some at → is_noted due at k ≡ true) → (is_noted due at k ≡ true → (is_noted left at k ≡ true) ⊎ ((at ≡ popped) × (k ≡ key))) → is_noted left at k ≡ true
 still_noted true now key k was is at popped due left e row timed low noted others =
-    let before = still_timed now was at (subst (λ (r : Row). r.timed ≡ Some at) row timed) in
-    elim (others (noted before.0)) [
-      | inl stays ↦ stays
-      | inr same ↦ let here : int_le at now ≡ true = subst (λ (t : ℤ). int_le t now ≡ true) (sym same.0) low in absurd (cc (here, before.1))
-    ]
-still_noted false now key k was is at popped due left e row timed low noted others =
-    elim (others (noted (subst (λ (r : Row). r.timed ≡ Some at) row timed))) [
-      | inl stays ↦ stays
-      | inr same ↦ let here : key_eq key k ≡ true = subst (λ (q : Key). key_eq q k ≡ true) same.1 (equal_keys k) in absurd (cc (here, e))
-    ]
+    let before = still_timed now was at (subst (λ (r : Row). r.timed ≡ Some at) row timed) in late_left int_cmp int_le now at (popped, key) k left before.1 low (others (noted before.0))
+still_noted false now key k was is at popped due left e row timed low noted others = other_left key k e (others (noted (subst (λ (r : Row). r.timed ≡ Some at) row timed)))
 
 -- one more key is taken out, and its row comes to the moment
-pub ticking_on : (now : ℤ) (old rows new : List (Key × Row)) (due left : List (ℤ × Key)) (p : ℤ × Key) → IsTicking now old rows due → int_le p.0 now ≡ true
-    → ((at : ℤ) (k : Key) → is_noted due at k ≡ true → (is_noted left at k ≡ true) ⊎ ((at ≡ p.0) × (k ≡ p.1)))
+pub ticking_on : (now : ℤ) (old rows new : List (Key × Row)) (due left : List (ℤ × Key)) (p : ℤ × Key) → IsTicking now old rows due → int_le p.0 now ≡ true → AreLeft int_cmp due left p
     → ((k : Key) → row_in new k ≡ (if key_eq p.1 k then ticked now (row_in rows k) else row_in rows k)) → IsTicking now old new left
 ticking_on now old rows new due left p so low others each = record {
-  each = λ k. one_row (key_eq p.1 k) now (row_in old k) (row_in rows k) (row_in new k) (each k) (so.each k);
+  each = λ k. one_row (key_eq p.1 k) (ticked now) (twice now) (row_in old k) (row_in rows k) (row_in new k) (each k) (so.each k);
   timed = λ k at is. still_noted (key_eq p.1 k) now p.1 k (row_in rows k) (row_in new k) at p.0 due left refl (each k) is low (so.timed k at) (others at k);
 }
 
@@ -73,22 +54,13 @@ not_due : (o : Option ℤ) (now : ℤ) → ((at : ℤ) → o ≡ Some at → int
 not_due None now none = refl
 not_due (Some at) now none = none at refl
 
-come : (now : ℤ) (before is : Row) → is_due now is.timed ≡ false → (is ≡ before) ⊎ (is ≡ ticked now before) → is ≡ ticked now before
-come now before is none (inl same) = same ∙ sym (untouched now before (subst (λ (r : Row). is_due now r.timed ≡ false) same none))
-come now before is none (inr done) = done
-
 -- where no moment that has come is left, all rows have come to it
 pub ticked_all : (now : ℤ) (old rows : List (Key × Row)) (due : List (ℤ × Key)) → IsTicking now old rows due → ((at : ℤ) (k : Key) → is_noted due at k ≡ true → int_le at now ≡ false)
     → (k : Key) → row_in rows k ≡ ticked now (row_in old k)
-ticked_all now old rows due so none k = come now (row_in old k) (row_in rows k) (not_due _ now (λ at is. none at k (so.timed k at is))) (so.each k)
+ticked_all now old rows due so none k = come (ticked now) (row_in old k) (row_in rows k) (untouched now (row_in rows k) (not_due _ now (λ at is. none at k (so.timed k at is)))) (so.each k)
 
 -- ---- places
 
-stays_left : (now at : ℤ) (p : ℤ × Key) (k : Key) (left : List (ℤ × Key)) → int_le at now ≡ false → int_le p.0 now ≡ true → (is_noted left at k ≡ true) ⊎ ((at ≡ p.0) × (k ≡ p.1)) → is_noted left at k ≡ true
-stays_left now at p k left late low (inl stays) = stays
-stays_left now at p k left late low (inr same) = let here : int_le at now ≡ true = subst (λ (t : ℤ). int_le t now ≡ true) (sym same.0) low in absurd (cc (here, late))
-
 -- one more key is taken out, and each place behind the moment stays
-pub later_stay : (now : ℤ) (first due left : List (ℤ × Key)) (p : ℤ × Key) → StayAfter now first due → int_le p.0 now ≡ true
-    → ((at : ℤ) (k : Key) → is_noted due at k ≡ true → (is_noted left at k ≡ true) ⊎ ((at ≡ p.0) × (k ≡ p.1))) → StayAfter now first left
-later_stay now first due left p stay low others at k late noted = stays_left now at p k left late low (others at k (stay at k late noted))
+pub later_stay : (now : ℤ) (first due left : List (ℤ × Key)) (p : ℤ × Key) → StayAfter now first due → int_le p.0 now ≡ true → AreLeft int_cmp due left p → StayAfter now first left
+later_stay now first due left p stay low others at k late noted = late_left int_cmp int_le now at p k left late low (others at k (stay at k late noted))

@@ -2,6 +2,7 @@
 use Rattle.std.specs.Prelude.{◌≡◌, ℕ, ℤ, ◌==◌, Bool, true, false, List, [], ◌∷◌, ◌+◌, Option, Some, None, if◌then◌else◌, int_le, nat_le}
 use Rattle.std.specs.List.{list_any}
 use Rattle.std.specs.Ordering.{int_cmp, nat_cmp, is_eq, ordering_then}
+use Rattle.std.specs.declared.cmp.Ordering.{Ordering}
 use Rattle.std.specs.declared.cmp.Ordering.TheVariants.{Less}
 use Rattle.cmc_meta.specs.declared.key.Key.{Key}
 use Rattle.cmc_meta.specs.declared.key.Kind.{Kind}
@@ -42,13 +43,17 @@ is_offered q key = is_free (row_of q key)
 
 -- ---- room
 
+-- whether the key stands with what it waits for, in the order of that
+unfoldable pub has_place : {T : Type 0} → (T → T → Ordering) → List (T × Key) → T → Key → Bool
+has_place cmp places at key = list_any (λ q. is_eq (ordering_then (cmp at q.0) (key_cmp key q.1))) places
+
 -- whether the moment stands with the key
-unfoldable pub is_noted : List (ℤ × Key) → ℤ → Key → Bool
-is_noted due at key = list_any (λ q. is_eq (ordering_then (int_cmp at q.0) (key_cmp key q.1))) due
+abbrev pub is_noted : List (ℤ × Key) → ℤ → Key → Bool
+is_noted = has_place int_cmp
 
 -- whether the version stands with the key
-unfoldable pub is_listed : List (ℕ × Key) → ℕ → Key → Bool
-is_listed versions version key = list_any (λ q. is_eq (ordering_then (nat_cmp version q.0) (key_cmp key q.1))) versions
+abbrev pub is_listed : List (ℕ × Key) → ℕ → Key → Bool
+is_listed = has_place nat_cmp
 
 -- the places for versions of the kind
 abbrev pub versions_of : Work → Kind → List (ℕ × Key)
