@@ -13,7 +13,7 @@ use Rattle.cmc_print.specs.Printed.{object_tree}
 use Rattle.cmc_report.specs.Trees.{lone, ok_members, conflict_tree, reply_tree, call_key, call_name, who_tree, put_written, put_version, put_call, entry_tree}
 use Rattle.cmc_writer.specs.Adding.{Row, with_value, with_rows}
 use Rattle.cmc_writer.proofs.Placed.{placed, has_place, IsBuilt, is_none, is_put}
-use Rattle.cmc_writer.proofs.Written.{text_written}
+use Rattle.cmc_writer.proofs.Written.{object_written, text_written}
 use Rattle.cmc_object_lines.proofs.Laws.{of_rows}
 use Rattle.cmc_report.specs.Rows.{written_row, version_row, ok_rows, call_head, call_tail}
 
@@ -32,16 +32,13 @@ is_version (Delete k None) b h = is_put (codes "version") None b h
 is_version (Delete k (Some v)) b h = is_put (codes "version") (Some (natural v)) b h
 is_version (Get k) b h = is_put (codes "version") None b h
 
-ok_built : (call : Call) (version : ℕ) (name : List ℕ) → IsBuilt (ok_members call version name) (ok_rows call version name)
-ok_built (Create o generate) version name = is_put (codes "name") (Some (string name)) (is_put (codes "ok") (Some (natural version)) is_none refl) refl
-ok_built (Update o v) version name = is_put (codes "name") None (is_put (codes "ok") (Some (natural version)) is_none refl) refl
-ok_built (UpdateStatus o v) version name = is_put (codes "name") None (is_put (codes "ok") (Some (natural version)) is_none refl) refl
-ok_built (Delete k v) version name = is_put (codes "name") None (is_put (codes "ok") (Some (natural version)) is_none refl) refl
-ok_built (Get k) version name = is_put (codes "name") None (is_put (codes "ok") (Some (natural version)) is_none refl) refl
-
 pub ok_written : (ts : List Token) (call : Call) (version : ℕ) (name : List ℕ)
     → with_rows (ts ++ begin_object ∷ []) (ok_rows call version name) ++ end_object ∷ [] ≡ with_value ts (object (ok_members call version name))
-ok_written ts call version name = of_rows ts (ok_rows call version name) (ok_members call version name) (ok_built call version name)
+ok_written ts (Create o generate) version name = object_written ts (ok_rows (Create o generate) version name)
+ok_written ts (Update o v) version name = object_written ts (ok_rows (Update o v) version name)
+ok_written ts (UpdateStatus o v) version name = object_written ts (ok_rows (UpdateStatus o v) version name)
+ok_written ts (Delete k v) version name = object_written ts (ok_rows (Delete k v) version name)
+ok_written ts (Get k) version name = object_written ts (ok_rows (Get k) version name)
 
 pub lone_written : (ts : List Token) (name : List ℕ) (n : ℕ) → with_rows (ts ++ begin_object ∷ []) ((name, Some (natural n)) ∷ []) ++ end_object ∷ [] ≡ with_value ts (lone name n)
 lone_written ts name n = of_rows ts ((name, Some (natural n)) ∷ []) _ (is_put name (Some (natural n)) is_none refl)

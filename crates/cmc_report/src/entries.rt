@@ -17,7 +17,7 @@ use cmc_print::{kind_word, role_word};
 use cmc_writer::Printer;
 use std::alloc::{AllocError, Global};
 
-#[tactic(auto, using(crate::proofs::EntryLaws::script_written))]
+#[tactic(auto, using(crate::proofs::EntryLaws::entry_written))]
 fn write_script(printer: &mut Printer, number: u64, step: u64) -> Result<(), AllocError>
     ensures { OnOk result (printer.new ≡ with_value printer.old (entry_tree number (entries.Script step))) }
 {
@@ -126,7 +126,7 @@ fn add_begin_tail(
     printer.text_row("role", role_word(role))
 }
 
-#[tactic(auto, using(crate::proofs::EntryLaws::begin_written))]
+#[tactic(auto, using(crate::proofs::EntryLaws::entry_written))]
 fn write_begin(
     printer: &mut Printer,
     alloc: Global,
@@ -145,7 +145,7 @@ fn write_begin(
     printer.end_object()
 }
 
-#[tactic(auto, using(crate::proofs::EntryLaws::ask_written))]
+#[tactic(auto, using(crate::proofs::EntryLaws::entry_written))]
 fn write_ask(
     printer: &mut Printer,
     alloc: Global,
@@ -163,7 +163,7 @@ fn write_ask(
     printer.end_object()
 }
 
-#[tactic(auto, using(crate::proofs::EntryLaws::made_written))]
+#[tactic(auto, using(crate::proofs::EntryLaws::entry_written))]
 fn write_made(
     printer: &mut Printer,
     alloc: Global,
@@ -181,7 +181,7 @@ fn write_made(
     printer.end_object()
 }
 
-#[tactic(auto, using(crate::proofs::EntryLaws::signed_written))]
+#[tactic(auto, using(crate::proofs::EntryLaws::entry_written))]
 fn write_signed(
     printer: &mut Printer,
     alloc: Global,
@@ -199,7 +199,7 @@ fn write_signed(
     printer.end_object()
 }
 
-#[tactic(auto, using(crate::proofs::EntryLaws::answered_written))]
+#[tactic(auto, using(crate::proofs::EntryLaws::entry_written))]
 fn write_answered(
     printer: &mut Printer,
     alloc: Global,
@@ -217,7 +217,7 @@ fn write_answered(
     printer.end_object()
 }
 
-#[tactic(auto, using(crate::proofs::EntryLaws::judged_written))]
+#[tactic(auto, using(crate::proofs::EntryLaws::entry_written))]
 fn write_judged(printer: &mut Printer, number: u64, pass: u64, yes: bool) -> Result<(), AllocError>
     ensures { OnOk result (printer.new ≡ with_value printer.old (entry_tree number (entries.Judged pass yes))) }
 {
@@ -247,7 +247,7 @@ fn cause_row(printer: &mut Printer, cause: Cause) -> Result<(), AllocError>
     write_cause(printer, cause)
 }
 
-#[tactic(auto, using(crate::proofs::EntryLaws::end_written))]
+#[tactic(auto, using(crate::proofs::EntryLaws::entry_written))]
 fn write_end(printer: &mut Printer, number: u64, pass: u64, cause: Cause) -> Result<(), AllocError>
     ensures { OnOk result (printer.new ≡ with_value printer.old (entry_tree number (entries.End pass cause))) }
 {
@@ -259,7 +259,7 @@ fn write_end(printer: &mut Printer, number: u64, pass: u64, cause: Cause) -> Res
     printer.end_object()
 }
 
-#[tactic(auto, using(crate::proofs::EntryLaws::stop_written))]
+#[tactic(auto, using(crate::proofs::EntryLaws::entry_written))]
 fn write_stop(printer: &mut Printer, number: u64, role: Role) -> Result<(), AllocError>
     ensures { OnOk result (printer.new ≡ with_value printer.old (entry_tree number (entries.Stop role))) }
 {
@@ -270,7 +270,7 @@ fn write_stop(printer: &mut Printer, number: u64, role: Role) -> Result<(), Allo
     printer.end_object()
 }
 
-#[tactic(auto, using(crate::proofs::EntryLaws::start_written))]
+#[tactic(auto, using(crate::proofs::EntryLaws::entry_written))]
 fn write_start(printer: &mut Printer, number: u64, role: Role, at: u64) -> Result<(), AllocError>
     ensures { OnOk result (printer.new ≡ with_value printer.old (entry_tree number (entries.Start role at))) }
 {
@@ -282,7 +282,7 @@ fn write_start(printer: &mut Printer, number: u64, role: Role, at: u64) -> Resul
     printer.end_object()
 }
 
-#[tactic(auto, using(crate::proofs::EntryLaws::tick_written))]
+#[tactic(auto, using(crate::proofs::EntryLaws::entry_written))]
 fn write_tick(printer: &mut Printer, alloc: Global, number: u64, now: i64) -> Result<(), AllocError>
     ensures { OnOk result (printer.new ≡ with_value printer.old (entry_tree number (entries.Tick now))) }
 {
