@@ -1,15 +1,25 @@
--- What a drain leaves of the world that threads gave back.
-use Rattle.std.proofs.Common.{◌≡◌, ◌∙◌, sym, subst}
+-- What a drain leaves of the world that threads gave back, and what a run by one hand comes to.
+use Rattle.std.proofs.Common.{◌≡◌, ◌∙◌, sym, subst, IfOk, Result}
+use Rattle.std.proofs.lemmas.Result.{IfOk-weaker}
+use Rattle.std.specs.declared.alloc.AllocError.{AllocError}
 use Rattle.cmc_rules.specs.Runs.{IsFinished}
 use Rattle.cmc_setup.specs.Setups.{Setup}
 use Rattle.cmc_world.specs.Kept.{Seen, setting_of}
 use Rattle.cmc_plain.specs.declared.run.Driven.{Driven}
-use Rattle.cmc_plain.specs.declared.run.Driven.TheVariants.{Finished}
-use Rattle.cmc_plain.specs.Driving.{IsDrained}
-use Rattle.cmc_workers.specs.Driving.{IsFinishedOn}
+use Rattle.cmc_plain.specs.declared.run.Driven.TheVariants.{Finished, Spent}
+use Rattle.cmc_plain.specs.Driving.{IsDrained, IsDriven}
+use Rattle.cmc_workers.specs.Driving.{Drives, IsFinishedOn}
 
 -- a finished world that is one of the scenario
 pub finished_on : (setup : Setup) (start world : Seen) (d : Driven) → IsDrained start d → d ≡ Finished world → world.scenario ≡ setup → IsFinishedOn setup world
 finished_on setup start world d drained is same =
     let e = subst (IsDrained start) is drained in
     record { same = same; finished = subst (λ (u : Setup). IsFinished (setting_of u) world.history) (sym e.same ∙ same) e.comes }
+
+by_end : (setup : Setup) (d : Driven) → IsDriven setup d → Drives setup d
+by_end setup (Finished world) e = record { same = e.same; finished = e.comes }
+by_end setup (Spent world) e = e
+
+-- a run by the plain order is one of those that threads may come to
+pub driven_drives : (setup : Setup) (r : Result Driven AllocError) → IfOk r (λ d. IsDriven setup d) → IfOk r (λ d. Drives setup d)
+driven_drives setup r driven = IfOk-weaker r _ _ (λ d is. by_end setup d is) driven
