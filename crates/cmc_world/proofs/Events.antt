@@ -1,5 +1,5 @@
 -- What a world holds stays what its history says, with each entry that a move adds.
-use Rattle.std.proofs.Common.{◌≡◌, ℕ, ℤ, ◌+◌, ◌<◌, ◌≤◌, Bool, true, false, List, ◌∷◌, length, Option, Some, None, refl, sym, ap, subst, ◌∙◌, arith}
+use Rattle.std.proofs.Common.{◌≡◌, ℕ, ℤ, ◌+◌, ◌<◌, ◌≤◌, Bool, true, false, List, ◌∷◌, length, Option, Some, None, refl, sym, ap, subst, ◌∙◌}
 use Rattle.std.specs.Prelude.{◌==◌, ◌&&◌, if◌then◌else◌, option_map}
 use Rattle.cmc_meta.specs.declared.key.Key.{Key}
 use Rattle.cmc_meta.specs.declared.key.Kind.{Kind}
@@ -22,14 +22,14 @@ use Rattle.cmc_model.specs.Histories.{Setting, moment, state, accepted, incarnat
 use Rattle.cmc_model.specs.Writes.{write_of}
 use Rattle.cmc_rules.specs.Positions.{positions}
 use Rattle.cmc_rules.specs.Viewing.{views}
-use Rattle.cmc_rules.specs.Origins.{begun}
+use Rattle.cmc_rules.specs.Origins.{begun, origins}
 use Rattle.cmc_rules.specs.Passes.{open_pass, stage_after, with_stage, unless_of, new_pass, is_pass_of}
 use Rattle.cmc_rules.specs.Memory.{past, no_past, with_begin, with_own, with_ending, ending_at, ending_of, past_called}
 use Rattle.cmc_rules.specs.Sameness.{IsDue}
-use Rattle.cmc_rules.specs.Legality.{IsDelivery, IsListing, IsBegin, IsOpen, IsLegal}
-use Rattle.cmc_rules.specs.Causes.{MayCall, MayEnd, IsCaused}
+use Rattle.cmc_rules.specs.Legality.{IsDelivery, IsListing, IsBegin, IsOpen}
+use Rattle.cmc_rules.specs.Causes.{MayCall, MayEnd}
 use Rattle.cmc_rules.specs.Scripting.{scripted, step_at, held}
-use Rattle.cmc_rules.specs.Following.{owed, IsNextStep, Follows}
+use Rattle.cmc_rules.specs.Following.{owed, IsNextStep}
 use Rattle.cmc_held.specs.declared.role_states.RoleState.{RoleState}
 use Rattle.cmc_world.specs.Kept.{role_state, Holdings, IsHeld, IsKept}
 use Rattle.cmc_world.specs.Changes.{telling, stopping, starting, writing, scripted_standing}
@@ -39,8 +39,7 @@ use Rattle.cmc_caches.specs.Told.{caches_at}
 use Rattle.cmc_world.specs.Changes.{each_at}
 use Rattle.cmc_world.proofs.Caching.{IsTelling, caches_called, caches_delivered, caches_listed, caches_started}
 use Rattle.cmc_world.proofs.RoleStates.{standing_delivered, standing_listed, standing_stopped, standing_started, standing_scripted, standing_called}
-
--- ---- roles are told
+use Rattle.cmc_world.proofs.Said.{are_said, held_by, run_on}
 
 one_other : (s : Setting) (h : List Entry) (w : Holdings) (f : RoleState → RoleState) (role r : Role) → IsHeld s h w
     → (if role_eq role r then f (w.role_state role) else w.role_state r) ≡ (if role_eq role r then f (role_state s h role) else role_state s h r)
@@ -52,66 +51,12 @@ pub kept_delivered : (s : Setting) (h : List Entry) (w : Holdings) (role : Role)
     → ((r : Role) → t r ≡ (if role_eq role r then telling kind to (w.role_state role) else w.role_state r))
     → IsTelling w role kind to c
     → IsKept s (Deliver role kind to ∷ h) (record w { role_state = t; caches = c })
-unfolding IsLegal IsCaused Follows
 kept_delivered s h w role kind to t c k may free room put told = record {
-  held = record {
-    faults = k.held.faults;
-    formed = k.held.formed;
-    keys_asked = k.held.keys_asked;
-    answers_asked = k.held.answers_asked;
-    desk = k.held.desk;
-    state = k.held.state;
-    log = k.held.log;
-    moment = k.held.moment;
-    made = k.held.made;
-    role_state = λ r. put r ∙ one_other s h w (telling kind to) role r k.held ∙ standing_delivered s h role kind to r;
-    caches = caches_delivered s h w role kind to c k.held may.informed told;
-    origins = k.held.origins;
-    opened = k.held.opened;
-    past = k.held.past;
-    run = record {
-      legal = (may, k.held.run.legal);
-      caused = (tt, k.held.run.caused);
-      follows = (record { settled = k.settled; free = free }, k.held.run.follows);
-      short = omega (arith, room);
-    };
-  };
+  held = held_by s (Deliver role kind to ∷ h) (record w { role_state = t; caches = c })
+      (λ i. record (are_said s h w k.held i) { role_state = λ r. (put r ∙ one_other s h w (telling kind to) role r k.held ∙ standing_delivered s h role kind to r) i; caches = λ r. caches_delivered s h w role kind to c k.held may.informed told r i })
+      (run_on s h (Deliver role kind to) k.held.run may tt (record { settled = k.settled; free = free }) room) k.held.formed;
   settled = refl;
 }
-
-pub kept_listed : (s : Setting) (h : List Entry) (w : Holdings) (role : Role) (kind : Kind) (to : ℕ) (t : Role → RoleState) (c : Role → Caches)
-    → IsKept s h w → IsListing s h role kind to → held s h role kind ≡ false → length h < s.events
-    → ((r : Role) → t r ≡ (if role_eq role r then telling kind to (w.role_state role) else w.role_state r))
-    → IsTelling w role kind to c
-    → IsKept s (Listed role kind to ∷ h) (record w { role_state = t; caches = c })
-unfolding IsLegal IsCaused Follows
-kept_listed s h w role kind to t c k may free room put told = record {
-  held = record {
-    faults = k.held.faults;
-    formed = k.held.formed;
-    keys_asked = k.held.keys_asked;
-    answers_asked = k.held.answers_asked;
-    desk = k.held.desk;
-    state = k.held.state;
-    log = k.held.log;
-    moment = k.held.moment;
-    made = k.held.made;
-    role_state = λ r. put r ∙ one_other s h w (telling kind to) role r k.held ∙ standing_listed s h role kind to r;
-    caches = caches_listed s h w role kind to c k.held may.informed told;
-    origins = k.held.origins;
-    opened = k.held.opened;
-    past = k.held.past;
-    run = record {
-      legal = (may, k.held.run.legal);
-      caused = (tt, k.held.run.caused);
-      follows = (record { settled = k.settled; free = free }, k.held.run.follows);
-      short = omega (arith, room);
-    };
-  };
-  settled = refl;
-}
-
--- ---- passes
 
 one_past : (s : Setting) (h : List Entry) (w : Holdings) (b : Bool) (f : Past → Past) (r : Role) (key : Key) → IsHeld s h w
     → (if b then f (w.past r key) else w.past r key) ≡ (if b then f (past s h r key) else past s h r key)
@@ -124,30 +69,33 @@ pub kept_begun : (s : Setting) (h : List Entry) (w : Holdings) (role : Role) (ke
     → ((n : ℕ) → opened n ≡ (if n == begun s h + 1 then Some (new_pass role key (views s h role key) (moment s h)) else w.opened n))
     → ((r : Role) (k : Key) → pasts r k ≡ (if role_eq role r && key_eq key k then with_begin (views s h role key) (moment s h) (w.past r k) else w.past r k))
     → IsKept s (Begin (begun s h + 1) role key (positions h role) (moment s h) ∷ h) (record w { origins = os; opened = opened; past = pasts })
-unfolding IsLegal IsCaused Follows
 kept_begun s h w role key os opened pasts k may due room came put noted = record {
-  held = record {
-    faults = k.held.faults;
-    formed = k.held.formed;
-    keys_asked = k.held.keys_asked;
-    answers_asked = k.held.answers_asked;
-    desk = k.held.desk;
-    state = k.held.state;
-    log = k.held.log;
-    moment = k.held.moment;
-    made = k.held.made;
-    role_state = k.held.role_state;
-    caches = k.held.caches;
-    origins = came ∙ ap (λ (l : List Origin). let o : Origin = record { role = role; incarnation = incarnation s h role } in o ∷ l) k.held.origins;
-    opened = λ n. put n ∙ ap (λ (p : Option OpenPass). if n == begun s h + 1 then Some (new_pass role key (views s h role key) (moment s h)) else p) (k.held.opened n);
-    past = λ r q. noted r q ∙ one_past s h w (role_eq role r && key_eq key q) (with_begin (views s h role key) (moment s h)) r q k.held;
-    run = record {
-      legal = (may, k.held.run.legal);
-      caused = (due, k.held.run.caused);
-      follows = (k.settled, k.held.run.follows);
-      short = omega (arith, room);
-    };
-  };
+  held = held_by s (Begin (begun s h + 1) role key (positions h role) (moment s h) ∷ h) (record w { origins = os; opened = opened; past = pasts })
+      (λ i. record (are_said s h w k.held i) {
+        origins = (came ∙ ap (λ (l : List Origin). let o : Origin = record { role = role; incarnation = incarnation s h role } in o ∷ l) k.held.origins) i;
+        opened = λ n. (put n ∙ ap (λ (p : Option OpenPass). if n == begun s h + 1 then Some (new_pass role key (views s h role key) (moment s h)) else p) (k.held.opened n)) i;
+        past = λ r q. (noted r q ∙ one_past s h w (role_eq role r && key_eq key q) (with_begin (views s h role key) (moment s h)) r q k.held) i;
+      })
+      (run_on s h (Begin (begun s h + 1) role key (positions h role) (moment s h)) k.held.run may due k.settled room) k.held.formed;
+  settled = refl;
+}
+
+pub kept_ticked : (s : Setting) (h : List Entry) (w : Holdings) (now : ℤ) → IsHeld s h w → owed s h ≡ Some (effects.Tick now) → length h < s.events
+    → IsKept s (Tick now ∷ h) (record w { moment = now })
+kept_ticked s h w now k due room = record {
+  held = held_by s (Tick now ∷ h) (record w { moment = now }) (λ i. record (are_said s h w k i) { moment = now }) (run_on s h (Tick now) k.run tt tt due room) k.formed;
+  settled = refl;
+}
+
+pub kept_listed : (s : Setting) (h : List Entry) (w : Holdings) (role : Role) (kind : Kind) (to : ℕ) (t : Role → RoleState) (c : Role → Caches)
+    → IsKept s h w → IsListing s h role kind to → held s h role kind ≡ false → length h < s.events
+    → ((r : Role) → t r ≡ (if role_eq role r then telling kind to (w.role_state role) else w.role_state r))
+    → IsTelling w role kind to c
+    → IsKept s (Listed role kind to ∷ h) (record w { role_state = t; caches = c })
+kept_listed s h w role kind to t c k may free room put told = record {
+  held = held_by s (Listed role kind to ∷ h) (record w { role_state = t; caches = c })
+      (λ i. record (are_said s h w k.held i) { role_state = λ r. (put r ∙ one_other s h w (telling kind to) role r k.held ∙ standing_listed s h role kind to r) i; caches = λ r. caches_listed s h w role kind to c k.held may.informed told r i })
+      (run_on s h (Listed role kind to) k.held.run may tt (record { settled = k.settled; free = free }) room) k.held.formed;
   settled = refl;
 }
 
@@ -164,37 +112,24 @@ pub kept_called : (s : Setting) (h : List Entry) (w : Holdings) (n : ℕ) (p : O
     → ((m : ℕ) → opened m ≡ (if m == n then option_map (λ (q : OpenPass). with_stage (stage_after s h call reply q) q) (w.opened m) else w.opened m))
     → ((r : Role) (k : Key) → pasts r k ≡ (if is_accepted reply && (role_eq p.role r && key_eq p.key k) then with_own (key_of_call call).kind (accepted s h + 1) (w.past r k) else w.past r k))
     → IsKept s (Called (Pass n) call reply ∷ h) (record w { state = st; log = log; role_state = t; opened = opened; past = pasts })
-unfolding IsLegal IsCaused Follows
 kept_called s h w n p call reply st log t opened pasts k is right may room after logged counted staged noted = record {
-  held = record {
-    faults = k.held.faults;
-    formed = k.held.formed;
-    keys_asked = k.held.keys_asked;
-    answers_asked = k.held.answers_asked;
-    desk = k.held.desk;
-    state = after;
-    log = logged ∙ ap (λ (l : List Write). if is_accepted reply then write_of (moment s h) (state s h) (settled call reply) ∷ l else l) k.held.log;
-    moment = k.held.moment;
-    made = k.held.made;
-    role_state = λ r.
-        counted r
-        ∙ ap (λ (x : RoleState). if is_accepted reply && role_eq p.role r then writing (key_of_call call).kind x else w.role_state r) (k.held.role_state p.role)
-        ∙ ap (λ (x : RoleState). if is_accepted reply && role_eq p.role r then writing (key_of_call call).kind (role_state s h p.role) else x) (k.held.role_state r)
-        ∙ standing_called s h n p call reply r is;
-    caches = λ r. k.held.caches r ∙ caches_called s h (Pass n) call reply r k.held.run.legal;
-    origins = k.held.origins;
-    opened = λ m. staged m ∙ ap (λ (o : Option OpenPass). if m == n then option_map (λ (q : OpenPass). with_stage (stage_after s h call reply q) q) o else o) (k.held.opened m);
-    past = λ r q.
-        noted r q
-        ∙ one_past s h w (is_accepted reply && (role_eq p.role r && key_eq p.key q)) (with_own (key_of_call call).kind (accepted s h + 1)) r q k.held
-        ∙ past_of_call s h n p (key_of_call call).kind (is_accepted reply) r q is;
-    run = record {
-      legal = ((right, subst IsOpen (sym is) tt), k.held.run.legal);
-      caused = (subst (λ (o : Option OpenPass). MayCall s h o call) (sym is) may, k.held.run.caused);
-      follows = (k.settled, k.held.run.follows);
-      short = omega (arith, room);
-    };
-  };
+  held = held_by s (Called (Pass n) call reply ∷ h) (record w { state = st; log = log; role_state = t; opened = opened; past = pasts })
+      (λ i. record (are_said s h w k.held i) {
+        state = after i;
+        log = (logged ∙ ap (λ (l : List Write). if is_accepted reply then write_of (moment s h) (state s h) (settled call reply) ∷ l else l) k.held.log) i;
+        role_state = λ r.
+            (counted r
+            ∙ ap (λ (x : RoleState). if is_accepted reply && role_eq p.role r then writing (key_of_call call).kind x else w.role_state r) (k.held.role_state p.role)
+            ∙ ap (λ (x : RoleState). if is_accepted reply && role_eq p.role r then writing (key_of_call call).kind (role_state s h p.role) else x) (k.held.role_state r)
+            ∙ standing_called s h n p call reply r is) i;
+        caches = λ r. (k.held.caches r ∙ caches_called s h (Pass n) call reply r k.held.run.legal) i;
+        opened = λ m. (staged m ∙ ap (λ (o : Option OpenPass). if m == n then option_map (λ (q : OpenPass). with_stage (stage_after s h call reply q) q) o else o) (k.held.opened m)) i;
+        past = λ r q.
+            (noted r q
+            ∙ one_past s h w (is_accepted reply && (role_eq p.role r && key_eq p.key q)) (with_own (key_of_call call).kind (accepted s h + 1)) r q k.held
+            ∙ past_of_call s h n p (key_of_call call).kind (is_accepted reply) r q is) i;
+      })
+      (run_on s h (Called (Pass n) call reply) k.held.run (right, subst IsOpen (sym is) tt) (subst (λ (o : Option OpenPass). MayCall s h o call) (sym is) may) k.settled room) k.held.formed;
   settled = refl;
 }
 
@@ -208,94 +143,42 @@ pub kept_ended : (s : Setting) (h : List Entry) (w : Holdings) (n : ℕ) (p : Op
     → ((m : ℕ) → opened m ≡ (if m == n then None else w.opened m))
     → ((r : Role) (k : Key) → pasts r k ≡ (if role_eq p.role r && key_eq p.key k then with_ending (ending_at p.stage) (w.past r k) else w.past r k))
     → IsKept s (End n cause ∷ h) (record w { opened = opened; past = pasts })
-unfolding IsLegal IsCaused Follows
 kept_ended s h w n p cause opened pasts k is may room closed noted = record {
-  held = record {
-    faults = k.held.faults;
-    formed = k.held.formed;
-    keys_asked = k.held.keys_asked;
-    answers_asked = k.held.answers_asked;
-    desk = k.held.desk;
-    state = k.held.state;
-    log = k.held.log;
-    moment = k.held.moment;
-    made = k.held.made;
-    role_state = k.held.role_state;
-    caches = k.held.caches;
-    origins = k.held.origins;
-    opened = λ m. closed m ∙ ap (λ (o : Option OpenPass). if m == n then None else o) (k.held.opened m);
-    past = λ r q. noted r q ∙ one_past s h w (role_eq p.role r && key_eq p.key q) (with_ending (ending_at p.stage)) r q k.held ∙ past_of_end s h n p r q is;
-    run = record {
-      legal = (subst IsOpen (sym is) tt, k.held.run.legal);
-      caused = (subst (λ (o : Option OpenPass). MayEnd s h o cause) (sym is) may, k.held.run.caused);
-      follows = (k.settled, k.held.run.follows);
-      short = omega (arith, room);
-    };
-  };
+  held = held_by s (End n cause ∷ h) (record w { opened = opened; past = pasts })
+      (λ i. record (are_said s h w k.held i) {
+        opened = λ m. (closed m ∙ ap (λ (o : Option OpenPass). if m == n then None else o) (k.held.opened m)) i;
+        past = λ r q. (noted r q ∙ one_past s h w (role_eq p.role r && key_eq p.key q) (with_ending (ending_at p.stage)) r q k.held ∙ past_of_end s h n p r q is) i;
+      })
+      (run_on s h (End n cause) k.held.run (subst IsOpen (sym is) tt) (subst (λ (o : Option OpenPass). MayEnd s h o cause) (sym is) may) k.settled room) k.held.formed;
   settled = refl;
 }
 
--- ---- steps of the script
-
--- the entry of a step: what it has happen may still be owed
 pub held_scripted : (s : Setting) (h : List Entry) (w : Holdings) (step : Step) (made : ℕ) (t : Role → RoleState)
     → IsKept s h w → IsNextStep s h (scripted h + 1) → step_at s.script (scripted h + 1) ≡ Some step → length h < s.events
     → made ≡ w.made + 1 → ((r : Role) → t r ≡ scripted_standing step r (w.role_state r))
     → IsHeld s (Script (scripted h + 1) ∷ h) (record w { made = made; role_state = t })
-unfolding IsLegal IsCaused Follows
-held_scripted s h w step made t k next is room counted put = record {
-  faults = k.held.faults;
-  formed = k.held.formed;
-  keys_asked = k.held.keys_asked;
-  answers_asked = k.held.answers_asked;
-  desk = k.held.desk;
-  state = k.held.state;
-  log = k.held.log;
-  moment = k.held.moment;
-  made = counted ∙ ap (λ n. n + 1) k.held.made;
-  role_state = λ r. put r ∙ ap (scripted_standing step r) (k.held.role_state r) ∙ standing_scripted s h (scripted h + 1) step r is;
-  caches = k.held.caches;
-  origins = k.held.origins;
-  opened = k.held.opened;
-  past = k.held.past;
-  run = record {
-    legal = (tt, k.held.run.legal);
-    caused = (tt, k.held.run.caused);
-    follows = (next, k.held.run.follows);
-    short = omega (arith, room);
-  };
-}
+held_scripted s h w step made t k next is room counted put =
+    held_by s (Script (scripted h + 1) ∷ h) (record w { made = made; role_state = t })
+    (λ i. record (are_said s h w k.held i) {
+      made = (counted ∙ ap (λ n. n + 1) k.held.made) i;
+      role_state = λ r. (put r ∙ ap (scripted_standing step r) (k.held.role_state r) ∙ standing_scripted s h (scripted h + 1) step r is) i;
+    })
+    (run_on s h (Script (scripted h + 1)) k.held.run tt tt next room) k.held.formed
 
--- a user's call that is owed
 pub kept_users : (s : Setting) (h : List Entry) (w : Holdings) (call : Call) (reply : Reply) (st : State) (log : List Write)
     → IsHeld s h w → owed s h ≡ Some (effects.Call call) → IsReply s.faults (state s h) call reply → length h < s.events
     → st ≡ state_after (moment s h) (state s h) call reply
     → log ≡ (if is_accepted reply then write_of (moment s h) (state s h) (settled call reply) ∷ w.log else w.log)
     → IsKept s (Called User call reply ∷ h) (record w { state = st; log = log })
-unfolding IsLegal IsCaused Follows
 kept_users s h w call reply st log k due right room after logged = record {
-  held = record {
-    faults = k.faults;
-    formed = k.formed;
-    keys_asked = k.keys_asked;
-    answers_asked = k.answers_asked;
-    desk = k.desk;
-    state = after;
-    log = logged ∙ ap (λ (l : List Write). if is_accepted reply then write_of (moment s h) (state s h) (settled call reply) ∷ l else l) k.log;
-    moment = k.moment;
-    made = k.made;
-    role_state = λ r. k.role_state r ∙ uncounted (is_accepted reply) s h r;
-    caches = λ r. k.caches r ∙ caches_called s h User call reply r k.run.legal;
-    origins = k.origins;
-    opened = k.opened;
-    past = k.past;
-    run = record {
-      legal = ((right, tt), k.run.legal);
-      caused = (tt, k.run.caused);
-      follows = (due, k.run.follows);
-      short = omega (arith, room);
-    };
-  };
+  held = held_by s (Called User call reply ∷ h) (record w { state = st; log = log })
+      (λ i. record (are_said s h w k i) {
+        state = after i;
+        log = (logged ∙ ap (λ (l : List Write). if is_accepted reply then write_of (moment s h) (state s h) (settled call reply) ∷ l else l) k.log) i;
+        role_state = λ r. (k.role_state r ∙ uncounted (is_accepted reply) s h r) i;
+        caches = λ r. (k.caches r ∙ caches_called s h User call reply r k.run.legal) i;
+      })
+      (run_on s h (Called User call reply) k.run (right, tt) tt due room) k.formed;
   settled = refl;
 } where
   uncounted : (b : Bool) (s : Setting) (h : List Entry) (r : Role)
@@ -310,84 +193,31 @@ kept_users s h w call reply st log k due right room after logged = record {
   uncounted true s h r = refl
   uncounted false s h r = refl
 
--- a tick that is owed
-pub kept_ticked : (s : Setting) (h : List Entry) (w : Holdings) (now : ℤ) → IsHeld s h w → owed s h ≡ Some (effects.Tick now) → length h < s.events
-    → IsKept s (Tick now ∷ h) (record w { moment = now })
-unfolding IsLegal IsCaused Follows
-kept_ticked s h w now k due room = record {
-  held = record {
-    faults = k.faults;
-    formed = k.formed;
-    keys_asked = k.keys_asked;
-    answers_asked = k.answers_asked;
-    desk = k.desk;
-    state = k.state;
-    log = k.log;
-    moment = refl;
-    made = k.made;
-    role_state = k.role_state;
-    caches = k.caches;
-    origins = k.origins;
-    opened = k.opened;
-    past = k.past;
-    run = record { legal = (tt, k.run.legal); caused = (tt, k.run.caused); follows = (due, k.run.follows); short = omega (arith, room) };
-  };
-  settled = refl;
-}
-
--- a stop that is owed
 pub kept_stopped : (s : Setting) (h : List Entry) (w : Holdings) (role : Role) (t : Role → RoleState) (opened : ℕ → Option OpenPass)
     → IsHeld s h w → owed s h ≡ Some (effects.Stop role) → length h < s.events
     → ((r : Role) → t r ≡ (if role_eq role r then stopping (w.role_state role) else w.role_state r))
     → ((n : ℕ) → opened n ≡ unless_of role (w.opened n))
     → IsKept s (Stop role ∷ h) (record w { role_state = t; opened = opened })
-unfolding IsLegal IsCaused Follows
 kept_stopped s h w role t opened k due room put closed = record {
-  held = record {
-    faults = k.faults;
-    formed = k.formed;
-    keys_asked = k.keys_asked;
-    answers_asked = k.answers_asked;
-    desk = k.desk;
-    state = k.state;
-    log = k.log;
-    moment = k.moment;
-    made = k.made;
-    role_state = λ r. put r ∙ one_other s h w stopping role r k ∙ standing_stopped s h role r;
-    caches = k.caches;
-    origins = k.origins;
-    opened = λ n. closed n ∙ ap (unless_of role) (k.opened n);
-    past = k.past;
-    run = record { legal = (tt, k.run.legal); caused = (tt, k.run.caused); follows = (due, k.run.follows); short = omega (arith, room) };
-  };
+  held = held_by s (Stop role ∷ h) (record w { role_state = t; opened = opened })
+      (λ i. record (are_said s h w k i) { role_state = λ r. (put r ∙ one_other s h w stopping role r k ∙ standing_stopped s h role r) i; opened = λ n. (closed n ∙ ap (unless_of role) (k.opened n)) i })
+      (run_on s h (Stop role) k.run tt tt due room) k.formed;
   settled = refl;
 }
 
--- a start that is owed
 pub kept_started : (s : Setting) (h : List Entry) (w : Holdings) (role : Role) (at : ℕ) (t : Role → RoleState) (c : Role → Caches) (pasts : Role → Key → Past)
     → IsHeld s h w → owed s h ≡ Some (effects.Start role at) → at ≤ accepted s h → length h < s.events
     → ((r : Role) → t r ≡ (if role_eq role r then starting at (w.role_state role) else w.role_state r))
     → ((r : Role) → c r ≡ (if role_eq role r then caches_at w.log (shown_positions role (each_at at)) else w.caches r))
     → ((r : Role) (k : Key) → pasts r k ≡ (if role_eq role r then no_past else w.past r k))
     → IsKept s (Start role at ∷ h) (record w { role_state = t; caches = c; past = pasts })
-unfolding IsLegal IsCaused Follows
 kept_started s h w role at t c pasts k due low room put told forgot = record {
-  held = record {
-    faults = k.faults;
-    formed = k.formed;
-    keys_asked = k.keys_asked;
-    answers_asked = k.answers_asked;
-    desk = k.desk;
-    state = k.state;
-    log = k.log;
-    moment = k.moment;
-    made = k.made;
-    role_state = λ r. put r ∙ one_other s h w (starting at) role r k ∙ standing_started s h role at r;
-    caches = caches_started s h w role at c k told;
-    origins = k.origins;
-    opened = k.opened;
-    past = λ r q. forgot r q ∙ ap (λ (p : Past). if role_eq role r then no_past else p) (k.past r q);
-    run = record { legal = (low, k.run.legal); caused = (tt, k.run.caused); follows = (due, k.run.follows); short = omega (arith, room) };
-  };
+  held = held_by s (Start role at ∷ h) (record w { role_state = t; caches = c; past = pasts })
+      (λ i. record (are_said s h w k i) {
+        role_state = λ r. (put r ∙ one_other s h w (starting at) role r k ∙ standing_started s h role at r) i;
+        caches = λ r. caches_started s h w role at c k told r i;
+        past = λ r q. (forgot r q ∙ ap (λ (p : Past). if role_eq role r then no_past else p) (k.past r q)) i;
+      })
+      (run_on s h (Start role at) k.run low tt due room) k.formed;
   settled = refl;
 }

@@ -3,6 +3,7 @@ pub mod RoleStates
 pub mod Origins
 pub mod AtRest
 pub mod Caching
+pub mod Said
 pub mod Events
 pub mod Judging
 pub mod Asking
