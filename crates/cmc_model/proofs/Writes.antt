@@ -93,12 +93,6 @@ oldest-replayed ws i d h =
     let place : length ws - 1 - (length (reverse ws) - 1 - i) ≡ i = omega (arith, h, n) in
     step ∙ ap (λ (w : Write). w ∷ oldest i (reverse ws)) (at ∙ ap (λ (p : ℕ). get_or ws p d) place)
 
--- one more write is replayed
-pub contents-next : (ws : List Write) (i : ℕ) (d : Write) → i < length ws
-    → contents (oldest (i + 1) (reverse ws)) ≡ put_at (contents (oldest i (reverse ws))) (get_or ws i d).key (get_or ws i d).object
-unfolding contents
-contents-next ws i d h = ap contents (oldest-replayed ws i d h)
-
 one_more : (kind : Kind) (w : Write) (ws : List Write) (b : Bool) → kind_eq w.key.kind kind ≡ b
     → contents (of_kind kind (w ∷ ws)) ≡ (if b then put_at (contents (of_kind kind ws)) w.key w.object else contents (of_kind kind ws))
 unfolding contents

@@ -1,27 +1,24 @@
 -- All is at rest by the keys that are ready: on each other key of its work a role has nothing to do.
-use Rattle.std.proofs.Common.{◌≡◌, List, [], ◌∷◌, Option, Some, None, Bool, true, false, refl, sym, subst, arith}
-use Rattle.std.specs.Prelude.{◌↔◌, ◌||◌, IsTrue, is_some}
+use Rattle.std.proofs.Common.{◌≡◌, List, [], ◌∷◌, Bool, true, false, refl, sym, subst}
+use Rattle.std.specs.Prelude.{◌↔◌, ◌||◌, IsTrue}
 use Rattle.std.specs.BTreeMap.{is_at}
 use Rattle.std.specs.BTreeSet.{BTreeSet, contains}
 use Rattle.std.specs.List.{list_any}
 use Rattle.std.specs.Ordering.{is_eq}
 use Rattle.cmc_meta.specs.declared.key.Key.{Key}
-use Rattle.cmc_meta.specs.declared.key.Kind.{Kind}
 use Rattle.cmc_meta.specs.Keys.{key_cmp}
 use Rattle.cmc_objects.specs.declared.role.Role.{Role}
 use Rattle.cmc_objects.specs.declared.entry.Entry.{Entry}
 use Rattle.cmc_model.specs.Histories.{Setting, runs}
 use Rattle.cmc_model.specs.Writes.{writes, is_known, kind_eq}
 use Rattle.cmc_objects.specs.Watching.{kind_of_work}
-use Rattle.cmc_rules.specs.Legality.{IsLegal, IsOpen}
+use Rattle.cmc_rules.specs.Legality.{IsLegal}
 use Rattle.cmc_rules.specs.Resting.{RestsOn, IsAtRest, IsToldAll, RestsOnKnown}
 use Rattle.cmc_world.specs.Rest.{EachKind}
 use Rattle.cmc_world.proofs.AtRest.{each_kind, same_kind}
-use Rattle.cmc_plain.specs.declared.passes.Going.{Going}
-use Rattle.cmc_plain.specs.declared.deliveries.Delivery.{Delivery}
 use Rattle.cmc_plain.specs.Ready.{IsIdleOn}
-use Rattle.cmc_plain.specs.Plain.{HasNoPass, HasNoDelivery, IsBehind}
-use Rattle.cmc_plain.specs.Searches.{FindsPass, FindsDelivery, RestsWhereRunning}
+use Rattle.cmc_plain.specs.Plain.{HasNoPass, HasNoDelivery}
+use Rattle.cmc_plain.specs.Searches.{RestsWhereRunning}
 use Rattle.cmc_world.proofs.Elsewhere.{told_free, idle_elsewhere, idle_rests}
 use Rattle.cmc_plain.proofs.Finishing.{closed, told}
 use Rattle.cmc_plain.proofs.Keys.{tied_is_same}
@@ -73,20 +70,6 @@ pub told_kinds : (s : Setting) (h : List Entry) (role : Role) → HasNoDelivery 
 told_kinds s h role none running = (each_kind (IsToldAll s h role)).1 (λ kind informed free. told s h none role kind running informed free)
 
 -- ---- all is at rest
-
-pub pass_open : (s : Setting) (h : List Entry) (found : Option Going) → is_some found ≡ true → FindsPass s h found → IsAtRest s h → ⊥
-pass_open s h None some finds rest = absurd (cc some)
-pass_open s h (Some g) some finds rest = subst IsOpen (rest.closed g.pass) finds.0.stands
-
-role_behind : (s : Setting) (h : List Entry) (role : Role) (kind : Kind) → IsBehind s h role kind → IsAtRest s h → ⊥
-role_behind s h role kind b rest =
-    let low = (rest.rests role b.running).0 kind b.informed b.free in
-    let above = b.behind in
-    absurd (omega (arith, low, above))
-
-pub one_behind : (s : Setting) (h : List Entry) (found : Option Delivery) → is_some found ≡ true → FindsDelivery s h found → IsAtRest s h → ⊥
-one_behind s h None some finds rest = absurd (cc some)
-one_behind s h (Some d) some finds rest = role_behind s h d.role d.kind finds.behind rest
 
 pub at_rest_by : (s : Setting) (h : List Entry) (b : Bool) → HasNoPass s h → HasNoDelivery s h → (IsTrue b ↔ ((role : Role) → RestsWhereRunning s h role)) → IsTrue b ↔ IsAtRest s h
 at_rest_by s h b no_pass no_delivery e = (

@@ -13,10 +13,8 @@ use Rattle.cmc_model.specs.Objects.{object_at}
 use Rattle.cmc_model.specs.Histories.{Setting}
 use Rattle.cmc_model.specs.Writes.{writes, oldest, of_kind, kind_eq, write_at}
 use Rattle.cmc_rules.specs.Positions.{position, cache}
-use Rattle.cmc_rules.specs.Legality.{IsLegal}
 use Rattle.cmc_model.specs.Versions.{IsVersion, HasVersion}
 use Rattle.cmc_model.proofs.Versions.{IsLawful, lawful_object, standing}
-use Rattle.cmc_rules.proofs.Versions.{lawful}
 
 -- ---- what is seen
 
@@ -57,7 +55,3 @@ placed : (ws : List Write) (p : ℕ) (v : Write) (o : Object) → IsLawful ws �
 unfolding write_at
 placed [] p v o law is stood = absurd (cc)
 placed (w ∷ ws) p v o law is stood = here (length (w ∷ ws) == p) w v ws p o refl law (λ there. placed ws p v o law.1 there stood) is stood
-
--- the object of the accepted write of number p has the version p
-pub version_is_place : (s : Setting) (h : List Entry) (p : ℕ) (w : Write) (o : Object) → IsLegal s h → write_at p (writes s h) ≡ Some w → w.object ≡ Some o → version_of o ≡ p
-version_is_place s h p w o legal is stood = placed (writes s h) p w o (lawful s h legal) is stood

@@ -36,7 +36,7 @@ use Rattle.cmc_model.specs.Accepting.{IsFounded}
 use Rattle.cmc_model.specs.Histories.{Setting, moment, state, objects, accepted}
 use Rattle.cmc_model.specs.Writes.{writes, write_of}
 use Rattle.cmc_objects.specs.Watching.{works_on_requests, looks_at_secret, looks_at_next, looks_at_requests}
-use Rattle.cmc_rules.specs.Viewing.{Caches, caches, certificate_in, request_in, secret_in, certificate_at, request_at, target_at, is_owned, has_next_label, next_in, owned_in, next_of, requests_of, of_certificate, views_of, views_in, views, present_views}
+use Rattle.cmc_rules.specs.Viewing.{Caches, caches, certificate_in, request_in, secret_in, certificate_at, request_at, target_at, is_owned, has_next_label, next_in, owned_in, next_of, requests_of, of_certificate, views_of, views_in, views}
 use Rattle.cmc_rules.specs.Passes.{open_pass, called, new_pass, stage_after}
 use Rattle.cmc_rules.specs.Legality.{IsLegal}
 use Rattle.cmc_model.specs.Versions.{IsVersion, HasVersion}
@@ -229,12 +229,6 @@ views_known s h role key = known_views (writes s h) role (caches s h role) key (
   requests = λ k o is. (k, seen_is_version s h role kinds.CertificateRequest k o is);
   secrets = λ k o is. (k, seen_is_version s h role kinds.Secret k o is);
 })
-
--- and all that there is to see
-pub present_known : (s : Setting) (h : List Entry) (role : Role) (key : Key) → AreKnown (writes s h) (present_views s h role key)
-present_known s h role key =
-    let known : IsKnownCache (writes s h) (objects s h) = λ k o is. (k, stands_is_version s h k o is) in
-    known_views (writes s h) role (record { certificates = objects s h; requests = objects s h; secrets = objects s h }) key (record { certificates = known; requests = known; secrets = known })
 
 -- ---- what open passes saw
 

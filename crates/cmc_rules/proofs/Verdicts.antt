@@ -142,9 +142,6 @@ other_unsettled cs new k off = any_same (λ c. is_of k c && not (tri_eq c.status
 other_stands : (cs : List Condition) (new : Condition) (k : ConditionKind) → (condition_rank new.kind == condition_rank k) ≡ false → stands k (transitioned cs new) ≡ stands k cs
 other_stands cs new k off = any_same (is_of k) cs new (apart new.kind k off)
 
-other_found : (cs : List Condition) (new : Condition) (k : ConditionKind) → (condition_rank new.kind == condition_rank k) ≡ false → condition_at (transitioned cs new) k ≡ condition_at cs k
-other_found cs new k off = find_same (is_of k) cs new (apart new.kind k off)
-
 -- ---- the rules
 
 passes_by : (a b c : Bool) → a ≡ false → b ≡ false → c ≡ false → least_failing ((9, a) ∷ (10, b) ∷ (11, c) ∷ []) ≡ None
@@ -185,13 +182,6 @@ denial_passes cs new kind status settled approved denied =
 unchanged : (o : Option Condition) → is_lost o o ≡ false
 unchanged None = refl
 unchanged (Some c) = ap not ((condition_eq-Decides c c).1 refl)
-
-pub other_passes : (cs : List Condition) (new : Condition) → (condition_rank new.kind == condition_rank Approved) ≡ false → (condition_rank new.kind == condition_rank Denied) ≡ false → AreSettled cs
-    → least_failing (verdict_rules cs (transitioned cs new)) ≡ None
-other_passes cs new a d settled =
-    passes_by _ _ _ (or_both _ _ (other_unsettled cs new Approved a ∙ settled.approved) (other_unsettled cs new Denied d ∙ settled.denied))
-    (rw (other_stands cs new Approved a, other_stands cs new Denied d) settled.one)
-    (or_both _ _ (ap (is_lost (condition_at cs Approved)) (other_found cs new Approved a) ∙ unchanged (condition_at cs Approved)) (ap (is_lost (condition_at cs Denied)) (other_found cs new Denied d) ∙ unchanged (condition_at cs Denied)))
 
 -- ---- conditions that differ in one kind alone
 

@@ -1,18 +1,18 @@
 -- In legal histories versions count up, a uid is the version of a create, and no uid stands under two keys.
-use Rattle.std.proofs.Common.{◌≡◌, ◌≤◌, List, [], ◌∷◌, Some, refl, ap, ◌∙◌, arith}
+use Rattle.std.proofs.Common.{◌≡◌, ◌≤◌, List, [], ◌∷◌, Some, refl, ap, ◌∙◌}
 use Rattle.cmc_meta.specs.declared.key.Key.{Key}
 use Rattle.cmc_objects.specs.declared.object.Object.{Object}
 use Rattle.cmc_objects.specs.declared.entry.Entry.{Entry}
 use Rattle.cmc_objects.specs.declared.entry.Entry.TheVariants.{Call as Called}
-use Rattle.cmc_objects.specs.Objects.{key_of, version_of}
+use Rattle.cmc_objects.specs.Objects.{key_of}
 use Rattle.cmc_model.specs.Objects.{Objects, object_at}
 use Rattle.cmc_model.specs.Replies.{is_accepted}
-use Rattle.cmc_model.specs.Histories.{Setting, moment, state, objects, accepted}
+use Rattle.cmc_model.specs.Histories.{Setting, moment, state, objects}
 use Rattle.cmc_model.specs.Writes.{writes}
 use Rattle.cmc_rules.specs.Legality.{IsLegal}
 use Rattle.cmc_model.specs.Versions.{uid_of, HasVersion}
 use Rattle.cmc_model.proofs.Writes.{writes_count, writes_leave}
-use Rattle.cmc_model.proofs.Versions.{IsLawful, lawful_called, standing, versions_low, keyed, uids_low, one_key}
+use Rattle.cmc_model.proofs.Versions.{IsLawful, lawful_called, standing, keyed, one_key}
 
 pub lawful : (s : Setting) (h : List Entry) → IsLegal s h → IsLawful (writes s h)
 unfolding IsLegal
@@ -26,17 +26,9 @@ lawful s (other ∷ h) legal = lawful s h legal.1
 pub stands_is_version : (s : Setting) (h : List Entry) (key : Key) (o : Object) → object_at (objects s h) key ≡ Some o → HasVersion s h key o
 stands_is_version s h key o is = standing (writes s h) key o (ap (λ (m : Objects). object_at m key) (writes_leave s h) ∙ is)
 
--- versions count the accepted writes
-pub version_accepted : (s : Setting) (h : List Entry) (key : Key) (o : Object) → IsLegal s h → HasVersion s h key o → version_of o ≤ accepted s h
-version_accepted s h key o legal has = omega (arith, versions_low (writes s h) key o (lawful s h legal) has, writes_count s h)
-
 -- a version stands under its own key
 pub version_keyed : (s : Setting) (h : List Entry) (key : Key) (o : Object) → IsLegal s h → HasVersion s h key o → key_of o ≡ key
 version_keyed s h key o legal has = keyed (writes s h) key o (lawful s h legal) has
-
--- a uid is the number of an accepted write
-pub uid_accepted : (s : Setting) (h : List Entry) (key : Key) (o : Object) → IsLegal s h → HasVersion s h key o → uid_of o ≤ accepted s h
-uid_accepted s h key o legal has = omega (arith, uids_low (writes s h) key o (lawful s h legal) has, writes_count s h)
 
 -- no uid stands under two keys
 pub uid_has_one_key : (s : Setting) (h : List Entry) (j k : Key) (o p : Object) → IsLegal s h → HasVersion s h j o → HasVersion s h k p → uid_of o ≡ uid_of p → j ≡ k

@@ -17,20 +17,20 @@ use Rattle.cmc_pass.specs.declared.pass.Views.{Views}
 use Rattle.cmc_pass.specs.declared.value.Value.TheVariants as values
 use Rattle.cmc_model.specs.declared.write.Write.{Write}
 use Rattle.cmc_model.specs.Objects.{Objects, object_at}
-use Rattle.cmc_model.specs.Histories.{Setting, objects}
+use Rattle.cmc_model.specs.Histories.{Setting}
 use Rattle.cmc_model.specs.Writes.{writes}
 use Rattle.cmc_rules.specs.declared.progress.OpenPass.{OpenPass}
 use Rattle.cmc_rules.specs.Admitted.{MeetsRules}
 use Rattle.cmc_objects.specs.Watching.{works_on_requests, looks_at_secret, looks_at_next, looks_at_requests}
-use Rattle.cmc_rules.specs.Viewing.{Caches, caches, secret_in, certificate_at, target_at, is_owned, has_next_label, next_in, owned_in, next_of, requests_of, of_certificate, views_of, views_in, views, present_views}
+use Rattle.cmc_rules.specs.Viewing.{Caches, caches, secret_in, certificate_at, target_at, is_owned, has_next_label, next_in, owned_in, next_of, requests_of, of_certificate, views_of, views_in, views}
 use Rattle.cmc_rules.specs.Passes.{open_pass, new_pass, stage_after}
 use Rattle.cmc_rules.specs.Legality.{IsLegal}
 use Rattle.cmc_rules.specs.Sighting.{IsAmong, IsSeen, IsWellSeen}
 use Rattle.cmc_rules.proofs.Admitted.{versions_meet}
 use Rattle.cmc_rules.proofs.Carrying.{over_call, over_ask, over_given, over_begin, over_end, over_stop}
 use Rattle.cmc_rules.proofs.Seen.{seen_is_version}
-use Rattle.cmc_rules.proofs.Sighted.{AreKnown, SawKnown, picked, saw_known, views_known, present_known}
-use Rattle.cmc_rules.proofs.Versions.{stands_is_version, version_keyed}
+use Rattle.cmc_rules.proofs.Sighted.{AreKnown, SawKnown, picked, saw_known, views_known}
+use Rattle.cmc_rules.proofs.Versions.{version_keyed}
 
 -- a part of a Certificate is one of the Certificate that there is
 pub record IsPartOfOne {A : Type 0} (f : Certificate → List A) (x : Option Certificate) (y : A) : Type 0 where
@@ -117,11 +117,6 @@ pub views_well : (s : Setting) (h : List Entry) (role : Role) (key : Key) → Is
 views_well s h role key legal =
     well_in role (caches s h role) key (λ k o is. version_keyed s h k o legal (seen_is_version s h role kinds.Secret k o is))
     (known_meets s h (views s h role key) legal (views_known s h role key))
-
-pub present_well : (s : Setting) (h : List Entry) (role : Role) (key : Key) → IsLegal s h → IsWellSeen (present_views s h role key)
-present_well s h role key legal =
-    well_in role (record { certificates = objects s h; requests = objects s h; secrets = objects s h }) key (λ k o is. version_keyed s h k o legal (stands_is_version s h k o is))
-    (known_meets s h (present_views s h role key) legal (present_known s h role key))
 
 -- ---- what open passes saw
 

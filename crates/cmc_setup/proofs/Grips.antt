@@ -23,12 +23,6 @@ gripped flags new held kind role on grip is may changed same =
     λ k r. changed k r ∙ ap (λ (b : Bool). if is_informer kind role k r then on else b) (same k r) in
     subst (λ (g : Grip). (may_grip held g ≡ true) × AreSame new (held_after held g)) is (told, after)
 
-pub not_gripped : (flags held : Held) (kind : Kind) (role : Role) (on : Bool) (grip : Grip) → Some (kind, (role, on)) ≡ grip → may_grip flags (Some (kind, (role, on))) ≡ false
-    → AreSame flags held → may_grip held grip ≡ false
-not_gripped flags held kind role on grip is may same =
-    let told : may_grip held (Some (kind, (role, on))) ≡ false = subst (λ (b : Bool). (if on then has_informer role kind && not b else b) ≡ false) (same kind role) may in
-    subst (λ (g : Grip). may_grip held g ≡ false) is told
-
 both_ways : (b : Bool) → b ≡ false → b ≡ true → ⊥
 both_ways true is other = absurd (cc)
 both_ways false is other = absurd (cc)

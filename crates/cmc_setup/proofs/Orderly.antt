@@ -74,14 +74,6 @@ switched flags new before role on has switch is found other changed tells =
     let turn : may_switch before (Some (role, on)) ≡ true = subst (λ (b : Bool). (if on then not b else b) ≡ true) same (unlike has on other) in
     subst (λ (s : Option (Role × Bool)). (may_switch before s ≡ true) × Tells new (running_after before s)) is (turn, tells_after flags new before role on tells changed)
 
--- one of a role that does
-pub not_switched : (flags : Role → Bool) (before : List Role) (role : Role) (on has : Bool) (switch : Option (Role × Bool)) → Some (role, on) ≡ switch → has ≡ flags role → beq has on ≡ true
-    → Tells flags before → may_switch before switch ≡ false
-not_switched flags before role on has switch is found other tells =
-    let same : has ≡ is_among before role = found ∙ tells.each role in
-    let turn : may_switch before (Some (role, on)) ≡ false = subst (λ (b : Bool). (if on then not b else b) ≡ false) same (alike has on other) in
-    subst (λ (s : Option (Role × Bool)). may_switch before s ≡ false) is turn
-
 -- the two ways to say that a step is in turn
 off : (b : Bool) → not b ≡ true → b ≡ false
 off true is = absurd (cc)

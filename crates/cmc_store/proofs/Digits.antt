@@ -10,15 +10,6 @@ use Rattle.cmc_meta.specs.Names.{is_alphanumeric}
 use Rattle.cmc_model.specs.Generated.{digits, low_digits, suffix}
 use Rattle.cmc_store.proofs.Bytes.{all_at, all_reversed}
 
--- one turn of the loop
-pub low_none : (room least n : ℕ) → room ≡ 0 → low_digits room least n ≡ []
-low_none zero least n is = refl
-low_none (suc room) least n is = absurd (omega (arith, is))
-
-pub low_end : (room least n : ℕ) → ((n == 0) && (least == 0)) ≡ true → low_digits room least n ≡ []
-low_end zero least n is = refl
-low_end (suc room) least n is = ap (λ (b : Bool). if b then [] else (slice_index digits (n % 27) ∷ low_digits room (least - 1) (n / 27))) is
-
 pub low_more : (room left least n : ℕ) → room ≡ left + 1 → ((n == 0) && (least == 0)) ≡ false → low_digits room least n ≡ slice_index digits (n % 27) ∷ low_digits left (least - 1) (n / 27)
 low_more zero left least n is off = absurd (omega (arith, is))
 low_more (suc room) left least n is off =

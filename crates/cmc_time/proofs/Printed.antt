@@ -1,30 +1,16 @@
 -- What is printed of a time is a text of it.
-use Rattle.std.proofs.Common.{◌≡◌, ◌≤◌, inl, inr, ℕ, Bool, true, false, cond, nat_lt, List, Some, ℤ, pos, neg_ℤ, ◌≤ℤ◌, refl, arith}
+use Rattle.std.proofs.Common.{◌≡◌, ◌≤◌, inl, inr, ℕ, Bool, true, false, cond, nat_lt, List, ℤ, pos, neg_ℤ, ◌≤ℤ◌, refl, arith}
 use Rattle.std.proofs.lemmas.Bool.{cases_order}
 use Rattle.jiff_core.specs.Calendar.{day_count}
 use Rattle.jiff_core.proofs.MarchLemmas.{day_count-early}
 use Rattle.jiff_core.proofs.SignedLemmas.{signed_arith}
 use Rattle.jiff_core.proofs.CalendarLemmas.{days_from_civil-day_count, day_count-lt_year}
-use Rattle.cmc_time.specs.Moment.{IsMoment, IsPrintable, moment_of, seconds_of}
-use Rattle.cmc_time.specs.Rfc3339.{IsRfc3339, rfc3339}
-use Rattle.cmc_time.specs.Reading.{rfc3339_seconds, asn1_seconds}
+use Rattle.cmc_time.specs.Moment.{IsMoment, moment_of, seconds_of}
 use Rattle.cmc_time.specs.Asn1.{IsAsn1Time, IsCertificateTime, asn1_tag, asn1_text, utc_time_tag, generalized_time_tag, utc_time_text, generalized_time_text}
 use Rattle.cmc_time.proofs.Exists.{moment_of_is}
-use Rattle.cmc_time.proofs.Rfc3339Laws.{rfc3339_again}
-use Rattle.cmc_time.proofs.Asn1Laws.{asn1_again}
 use Rattle.cmc_time.proofs.Inverse.{civil_date}
 use Rattle.cmc_time.specs.declared.moment.Moment.{Moment}
 use borrow.Author.Tests.{ltb-true, ltb-false}
-
-pub rfc3339_is_text : (at : ℤ) → IsPrintable at → IsRfc3339 (rfc3339 at) at
-unfolding rfc3339
-rfc3339_is_text at h =
-    let found = moment_of_is at h in
-    record { moment = moment_of at; is_real = found.0; written = refl; lies_at = found.1 }
-
--- so it is read as that time
-pub rfc3339_read_back : (at : ℤ) → IsPrintable at → rfc3339_seconds (rfc3339 at) ≡ Some at
-rfc3339_read_back at h = rfc3339_again (rfc3339 at) at (rfc3339_is_text at h)
 
 day_count-year_1950 : day_count (pos 1950) 1 1 ≡ 4_364_648
 day_count-year_1950 = day_count-early (pos 1950) 11949 1 1 refl (omega arith) (omega arith) (omega arith)
@@ -59,7 +45,3 @@ asn1_is_text at h = go (nat_lt (moment_of at).year 2050) refl
     go false late =
         let found = moment_of_is at (omega (arith, signed_arith), h.1) in
         inr (refl, record { moment = moment_of at; is_real = found.0; low = ltb-false (moment_of at).year 2050 late; written = refl; lies_at = found.1 })
-
--- so the body is read as that time
-pub asn1_read_back : (at : ℤ) → IsCertificateTime at → asn1_seconds (asn1_tag at) (asn1_text at) ≡ Some at
-asn1_read_back at h = asn1_again (asn1_tag at) (asn1_text at) at (asn1_is_text at h)

@@ -2,7 +2,7 @@
 use Rattle.std.proofs.Common.{◌≡◌, ℕ, true, leb, List, [], ◌∷◌, length, Option, Some, None, Result, Ok, Err, refl, sym, ap, subst, ◌∙◌, inl, inr}
 use Rattle.std.proofs.lemmas.Bool.{eqb-true, eq-eqb, cases_Bool, leb-true, le-leb}
 use Rattle.std.specs.Str.{bytes_eq}
-use Rattle.std.specs.Prelude.{◌↔◌, IfOk, IfSome, IsErr, IsNone}
+use Rattle.std.specs.Prelude.{◌↔◌, IfOk, IsErr}
 use Rattle.cmc_der.specs.declared.fields.Spki.{Spki}
 use Rattle.cmc_x509.specs.declared.taking.NotForm.{NotForm}
 use Rattle.cmc_der.specs.declared.fields.KeyKind.{KeyKind}
@@ -11,13 +11,13 @@ use Rattle.cmc_der.specs.Values.{IsValue}
 use Rattle.cmc_der.specs.Keys.{PublicKey, RsaKey, EcKey, OtherKey, same_kind, key_shown}
 use Rattle.cmc_x509.specs.declared.oids.TheConstants.{RSA_ENCRYPTION, EC_PUBLIC_KEY}
 use Rattle.cmc_x509.specs.declared.taking.TheConstants.{MAX_INPUT}
-use Rattle.cmc_x509.specs.Taking.{Gives, GivesSome, Value, BeginsWithOptional, ◌>>=◌, take_at, end_at, only_at, optional_at}
+use Rattle.cmc_x509.specs.Taking.{Gives, Value, BeginsWithOptional, ◌>>=◌, take_at, end_at, only_at, optional_at}
 use Rattle.cmc_x509.specs.Lists.{first_at}
 use Rattle.cmc_x509.specs.Names.{IsRequestAttribute}
 use Rattle.cmc_x509.specs.PublicKeys.{AlgorithmIdentifier, BeginsWithInteger, NamesCurve}
 use Rattle.cmc_x509.specs.KeyFiles.{IsIntegers, IsRsaPrivateKey, IsAgreed, IsEcPrivateKey, IsAround, IsHeldKey, AreAttributes, IsPrivateKeyInfo, IsPrivateKey, IsKeyFile}
 use Rattle.cmc_x509.specs.ReadNames.{request_attribute_of}
-use Rattle.cmc_x509.specs.ReadKeys.{algorithm_at, integer_at, positive_at, version_at, curve_named, curve_of, is_null, bits_of, three_at, six_at, rsa_private_at, agreed, curve_inside_at, agreed_curve, ec_private_at, attributes_at, around_of, held_key_at, private_key_info_at, or_else, private_key_at, key_file_at}
+use Rattle.cmc_x509.specs.ReadKeys.{algorithm_at, integer_at, positive_at, version_at, curve_named, curve_of, is_null, bits_of, three_at, six_at, rsa_private_at, curve_inside_at, agreed_curve, ec_private_at, attributes_at, around_of, held_key_at, private_key_info_at, or_else, private_key_at, key_file_at}
 use Rattle.cmc_x509.proofs.TakingLaws.{some, some_is, bind_some, guard_some, take_found, take_again, take_other, end_found, end_again, only_found, only_again, optional_found, optional_again, bytes_same, same_bytes}
 use Rattle.cmc_x509.proofs.ListLaws.{list_found, list_again}
 use Rattle.cmc_x509.proofs.NameLaws.{request_attribute_found, request_attribute_again}
@@ -125,10 +125,6 @@ kind_itself (Rsa m) = eq-eqb m m refl
 kind_itself P256 = refl
 kind_itself P384 = refl
 kind_itself P521 = refl
-
-agreed_found : (around : Option KeyKind) (c d : KeyKind) → agreed around c ≡ Some d → c ≡ d
-agreed_found None c d e = some_is c d e
-agreed_found (Some a) c d e = some_is c d (guard_some (same_kind a c) (Some c) d e).1
 
 inside_found : (around : Option KeyKind) (inside : List ℕ) (d : KeyKind) → curve_inside_at around inside ≡ Some d → IsAgreed around (Some inside) d
 unfolding curve_inside_at
@@ -352,20 +348,9 @@ answer_found (Err d) bs e = tt
 pub answer_only : (r : Result Spki NotForm) (bs : List ℕ) → Gives key_shown r (key_file_at bs) → (key : PublicKey) → IsKeyFile bs key → Gives key_shown r (Some key)
 answer_only r bs e key h = rw (key_file_again bs key h) at e
 
-pub public_found : (r : Option Spki) (bs : List ℕ) → GivesSome key_shown r (key_file_at bs) → IfSome r (λ k. IsKeyFile bs (key_shown k))
-public_found (Some k) bs e = key_file_found bs (key_shown k) e
-public_found None bs e = tt
-
-pub public_only : (r : Option Spki) (bs : List ℕ) → GivesSome key_shown r (key_file_at bs) → (key : PublicKey) → IsKeyFile bs key → GivesSome key_shown r (Some key)
-public_only r bs e key h = rw (key_file_again bs key h) at e
-
 none_is_not : (k : PublicKey) (r : Option PublicKey) → r ≡ nothing → r ≡ some k → ⊥
 none_is_not k r e f = let z : nothing ≡ some k = sym e ∙ f in cc
 
 pub answer_refused : (r : Result Spki NotForm) (bs : List ℕ) → Gives key_shown r (key_file_at bs) → IsErr r ↔ ((k : PublicKey) → IsKeyFile bs k → ⊥)
 answer_refused (Ok k) bs e = (λ h. absurd cc, λ h. absurd (h (key_shown k) (key_file_found bs (key_shown k) e)))
 answer_refused (Err d) bs e = (λ h k f. none_is_not k (key_file_at bs) e (key_file_again bs k f), λ h. refl)
-
-pub public_refused : (r : Option Spki) (bs : List ℕ) → GivesSome key_shown r (key_file_at bs) → IsNone r ↔ ((k : PublicKey) → IsKeyFile bs k → ⊥)
-public_refused (Some k) bs e = (λ h. absurd cc, λ h. absurd (h (key_shown k) (key_file_found bs (key_shown k) e)))
-public_refused None bs e = (λ h k f. none_is_not k (key_file_at bs) e (key_file_again bs k f), λ h. refl)

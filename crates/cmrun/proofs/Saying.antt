@@ -19,21 +19,10 @@ neither true b r l h k = h
 neither false true r l h k = k
 neither false false r l h k = refl
 
--- the word holds a value, is `--summary`, or is another
-pub word_value : (s : Said) (word value : List ℕ) (r : Option Said) → word ≡ codes "--workers=" ++ value
-    → Takes s (with_value value) r → Takes s (with_word word) r
-word_value s word value r h t = subst (λ (w : List ℕ). Takes s (with_word w) r) (sym h) t
-
 no_value : (word front : List ℕ) → ((rest : List ℕ) → word ≡ front ++ rest → ⊥)
     → (b : Bool) → b ≡ starts_with nat_eq word front → b ≡ false
 no_value word front h true e = absurd (h _ ((starts_is Decides-eqb word front true e).0 refl))
 no_value word front h false e = refl
-
-pub word_summary : (s : Said) (word : List ℕ) (r : Option Said) → ((rest : List ℕ) → word ≡ codes "--workers=" ++ rest → ⊥) → bytes_eq word (codes "--summary") ≡ true
-    → Takes s with_summary r → Takes s (with_word word) r
-word_summary s word r h k t =
-    subst (λ (b : Bool). Takes s (λ g. if b then with_value (drop 10 word) g else if bytes_eq word (codes "--summary") then with_summary g else with_other word g) r) (sym (no_value word (codes "--workers=") h _ refl))
-    (subst (λ (b : Bool). Takes s (λ g. if b then with_summary g else with_other word g) r) (sym k) t)
 
 pub word_other : (s : Said) (word : List ℕ) (r : Option Said) → ((rest : List ℕ) → word ≡ codes "--workers=" ++ rest → ⊥) → bytes_eq word (codes "--summary") ≡ false
     → Takes s (with_other word) r → Takes s (with_word word) r
