@@ -71,6 +71,7 @@ fn put(alloc: Global, out: &mut Vec<u8>, tag: u8, body: &[u8]) -> Result<(), All
     ensures err { OnErr result (out.new.items ≡ out.old.items) }
 {
     let head = header(alloc, tag, body.len())?;
+    out.reserve(head.len() + body.len())?;
     append(out, &head, body)
 }
 

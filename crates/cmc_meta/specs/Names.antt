@@ -1,5 +1,6 @@
 -- The form of names: DNS subdomains of RFC 1123, as Kubernetes asks of object names.
 use Rattle.std.specs.Prelude.{◌≡◌, ◌<◌, ℕ, zero, suc, ◌+◌, ◌*◌, List, [], ◌∷◌, ◌++◌, Bool, true, ◌&&◌, ◌||◌, ◌==◌, ◌-◌, nat_le, nat_lt, if◌then◌else◌, length, slice_index}
+use Rattle.std.specs.Hash as fed
 use Rattle.std.specs.List.{list_all}
 
 -- a lower-case letter or a digit
@@ -46,3 +47,7 @@ IsName number text = IsNamed number text
 -- both texts are of one length, and so short that the number has all of their bytes
 abbrev pub are_short : List ℕ → List ℕ → Bool
 are_short xs ys = nat_le (length xs) 8 && (length xs == length ys)
+
+-- what a name is hashed by: the number alone where it has all of the text's bytes
+abbrev pub hashed : List ℕ → fed.HashWrites
+hashed text = if nat_le (length text) 8 then fed.u64 (leading 8 text) else fed.str text

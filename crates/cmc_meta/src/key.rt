@@ -5,6 +5,7 @@ ghost use Rattle.std.specs.Hash as fed;
 ghost use Rattle.std.specs.Ordering.{nat_cmp, on, as_partial_cmp};
 ghost use Rattle.std.specs.Prelude.{◌≡◌, ◌↔◌, ◌==◌, ◌∷◌, ◌++◌, IsTrue, IfOk};
 ghost use Rattle.cmc_meta.specs.Keys.{kind_rank};
+ghost use Rattle.cmc_meta.specs.Names.{hashed};
 
 use crate::name::Name;
 use std::alloc::AllocError;
@@ -175,7 +176,7 @@ impl Ord for Key {
 }
 
 impl Hash for Key {
-    ghost hash_input = { λ key. fed.u8 (kind_rank key.kind) ++ fed.str key.namespace ++ fed.str key.name };
+    ghost hash_input = { λ key. fed.u8 (kind_rank key.kind) ++ hashed key.namespace ++ hashed key.name };
 
     ghost respects_eq = { Prim.search (hashing, rules) };
 

@@ -3,12 +3,11 @@ ghost use Rattle.std.specs.Arc.{arc_value};
 ghost use Rattle.std.specs.Cmp.{partial_order_from_own_ties};
 ghost use Rattle.std.specs.Cmp.Lexicographic.{slice_cmp, pointwise};
 ghost use Rattle.std.specs.Cmp.Rules.{comparing, hashing};
-ghost use Rattle.std.specs.Hash as fed;
 ghost use Rattle.std.specs.List.{list_all};
 ghost use Rattle.std.specs.Ordering.{nat_cmp, as_partial_cmp};
 ghost use Rattle.std.specs.Prelude.{◌≡◌, ◌↔◌, ◌<◌, ℕ, true, false, IsTrue, IfOk, IsErrOf, nat_eq, slice_index};
 ghost use Rattle.std.specs.String.{string_bytes};
-ghost use Rattle.cmc_meta.specs.Names.{is_alphanumeric, is_label_byte, is_label, has_labels, is_subdomain, leading, are_short};
+ghost use Rattle.cmc_meta.specs.Names.{is_alphanumeric, is_label_byte, is_label, has_labels, is_subdomain, leading, are_short, hashed};
 
 use crate::items::Item;
 use std::alloc::{AllocError, Global};
@@ -259,11 +258,16 @@ impl Ord for Name {
 }
 
 impl Hash for Name {
-    ghost hash_input = { fed.str };
+    ghost hash_input = { hashed };
 
     ghost respects_eq = { Prim.search (hashing, rules) };
 
+    #[tactic(auto, unfolding(crate::specs::Names::IsName))]
     fn hash<H: Hasher>(&self, state: &mut H) {
-        self.text.as_str().hash(state);
+        if self.text.len() <= 8 {
+            state.write_u64(self.first);
+        } else {
+            self.text.as_str().hash(state);
+        }
     }
 }
