@@ -1,10 +1,11 @@
 //! The algorithm and the size of a key.
-ghost use Rattle.std.specs.Prelude.{◌≡◌, ◌↔◌, IsTrue};
+ghost use Rattle.std.specs.Prelude.{◌≡◌, ◌↔◌, IsTrue, Some};
+ghost use Rattle.cmc_der.specs.Keys.{key_shown};
 ghost use Rattle.cmc_keys.specs.Kinds as spec;
 ghost use Rattle.cmc_keys.specs.Kinds.{IsKeyOf};
 
 use cmc_objects::Algorithm;
-use cmc_x509::{KeyKind, key_public};
+use cmc_x509::{KeyKind, Spki, key_public};
 
 /// Whether a key of this algorithm may be asked for in this size (cert-manager.io/v1 API reference,
 /// `privateKey.size`): RSA moduli of 2048, 3072, 4096 and 8192 bits, and the curves P-256, P-384 and P-521.
@@ -56,13 +57,20 @@ fn is_kind_of(algorithm: Algorithm, size: u32, kind: Option<KeyKind>) -> bool
     }
 }
 
+/// Whether the public key has this algorithm and size. It takes no memory.
+pub fn is_public_of(algorithm: Algorithm, size: u32, key: &Spki<'_>) -> bool
+    ensures { result ≡ spec.is_public_of algorithm size (Some (key_shown key.now)) }
+{
+    is_kind_of(algorithm, size, key.kind())
+}
+
 #[tactic(auto, unfolding(crate::specs::Kinds::is_key_of))]
 fn fits(algorithm: Algorithm, size: u32, octets: &[u8]) -> bool
     ensures { result ≡ spec.is_key_of algorithm size octets.now }
 {
     match key_public(octets) {
         None => false,
-        Some(key) => is_kind_of(algorithm, size, key.kind()),
+        Some(key) => is_public_of(algorithm, size, &key),
     }
 }
 

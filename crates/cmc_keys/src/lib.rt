@@ -10,7 +10,7 @@ mod oids;
 mod scripted;
 mod synthetic;
 
-pub use kinds::{is_allowed_size, is_key_of};
+pub use kinds::{is_allowed_size, is_key_of, is_public_of};
 pub use made::{Made, SignedCsr};
 pub use maker::KeyMaker;
 pub use scripted::{ScriptedKeys, one_key_value};

@@ -6,3 +6,4 @@ pub mod TimeLaws
 pub mod PairLaws
 pub mod NumberLaws
 pub mod FactLaws
+pub mod ReadLaws

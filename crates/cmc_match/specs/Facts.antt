@@ -2,7 +2,7 @@
 use Rattle.std.specs.Prelude.{◌≡◌, ◌≢◌, ◌<◌, ◌⊎◌, length, ℕ, ℤ, pos, Bool, true, false, not, ◌&&◌, List, [], ◌∷◌, codes, Option, Some, None, if◌then◌else◌}
 use Rattle.std.specs.Str.{bytes_eq}
 use Rattle.cmc_meta.specs.PairLists.{text_at}
-use Rattle.cmc_der.specs.Keys.{PublicKey, CertificateFields}
+use Rattle.cmc_der.specs.Keys.{PublicKey, CertificateFields, RequestFields}
 use Rattle.cmc_x509.specs.KeyFiles.{IsKeyFile}
 use Rattle.cmc_x509.specs.ReadKeys.{key_file_at}
 use Rattle.cmc_x509.specs.Certificates.{IsCertificate}
@@ -15,9 +15,9 @@ use Rattle.cmc_objects.specs.declared.certificate.Certificate.{Certificate}
 use Rattle.cmc_objects.specs.declared.request.CertificateRequest.{CertificateRequest}
 use Rattle.cmc_objects.specs.Defaults.{issuer_kind, issuer_group, key_algorithm, key_size}
 use Rattle.cmc_policies.specs.Reasons.{Known}
-use Rattle.cmc_keys.specs.Kinds.{IsKeyOf, is_key_of}
+use Rattle.cmc_keys.specs.Kinds.{IsKeyOf, is_key_of, is_public_of}
 use Rattle.cmc_match.specs.Marks.{has_text, is_temporary}
-use Rattle.cmc_match.specs.Matching.{HasKey, is_one_key, matches, has_key}
+use Rattle.cmc_match.specs.Matching.{HasKey, is_one_key, is_one_of, matches, has_key}
 use Rattle.cmc_match.specs.Revisions.{current_request}
 
 -- the private key of the Secret, and its certificate, both in DER
@@ -131,6 +131,11 @@ abbrev pub is_requested : KeySpec → Option (List ℕ) → Option CertificateRe
 is_requested spec None current = false
 is_requested spec (Some key) None = false
 is_requested spec (Some key) (Some request) = fits spec key && has_key request key
+
+-- the same of what was read of the key and of the current request's certification request
+abbrev pub is_requested_as_read : KeySpec → Option PublicKey → Option RequestFields → Bool
+is_requested_as_read spec None asked = false
+is_requested_as_read spec (Some key) asked = is_public_of (key_algorithm spec) (key_size spec) (Some key) && is_one_of (Some key) asked
 
 unfoldable pub has_requested_key : KeySpec → Option Secret → Option CertificateRequest → Bool
 has_requested_key spec None current = false

@@ -1,12 +1,13 @@
 //! What is known of the Secret of a Certificate.
 ghost use Rattle.std.specs.Option.{option_copied};
 ghost use Rattle.std.specs.Prelude.{◌≡◌, ◌↔◌, ◌≤ℤ◌, ℕ, List, pos, true, false, IsTrue, option_map, IfSome, Some};
-ghost use Rattle.cmc_der.specs.Keys.{CertificateFields, cert_shown};
-ghost use Rattle.cmc_x509.specs.ReadKeys.{key_file_at};
+ghost use Rattle.cmc_der.specs.Keys.{CertificateFields, cert_shown, csr_shown, key_shown};
+ghost use Rattle.cmc_x509.specs.Lists.{IsValueList};
 ghost use Rattle.cmc_x509.specs.ReadCertificates.{certificate_at};
 ghost use Rattle.cmc_time.specs.Asn1.{IsCertificateTime};
 ghost use Rattle.cmc_policies.specs.Reasons.{known};
 ghost use Rattle.cmc_match.specs.Facts as words;
+ghost use Rattle.cmc_match.specs.Matching.{key_read, request_read};
 ghost use Rattle.cmc_match.specs.Facts.{IsPair, IsFilled, NamesIssuer, NamesOwner, HasRequestedKey};
 ghost use Rattle.cmc_objects.specs.declared.issuer.IssuerRef.{IssuerRef};
 ghost use Rattle.cmc_objects.specs.declared.secret.Secret.{Secret};
@@ -14,22 +15,26 @@ ghost use Rattle.cmc_objects.specs.declared.key_spec.KeySpec.{KeySpec};
 ghost use Rattle.cmc_objects.specs.declared.request.CertificateRequest.{CertificateRequest};
 
 use crate::marks::{has_text, is_temporary, part_under, text_under};
-use crate::matching::{is_one_key, key_fits, request_has_key, request_matches};
+use crate::matching::{fields_of, is_one_key, is_one_of, matches_as_read, public_of};
 use crate::revisions::current_request;
+use cmc_keys::is_public_of;
 use cmc_meta::{Bytes, Name};
 use cmc_objects::{CertSpec, Certificate, CertificateRequest, IssuerRef, KeySpec, Secret, Shared};
 use cmc_policies::Facts;
-use cmc_x509::{CertFields, read_cert, read_key};
+use cmc_x509::{CertFields, CsrFields, Spki, read_cert};
 
-fn certificate_with_key<'a>(key: &[u8], certificate: &'a [u8]) -> Option<CertFields<'a>>
-    ensures { option_map cert_shown result ≡ words.with_key (key_file_at key.now) (certificate_at certificate.now) }
+fn certificate_with_key<'a>(
+    public: &Option<Spki<'_>>,
+    certificate: &'a [u8],
+) -> Option<CertFields<'a>>
+    ensures { option_map cert_shown result ≡ words.with_key (option_map key_shown public.now) (certificate_at certificate.now) }
 {
-    match read_key(key) {
-        Err(_) => None,
-        Ok(public) => match read_cert(certificate) {
+    match public {
+        None => None,
+        Some(public) => match read_cert(certificate) {
             Err(_) => None,
             Ok(fields) => {
-                if is_one_key(&public, &fields.key) {
+                if is_one_key(public, &fields.key) {
                     Some(fields)
                 } else {
                     None
@@ -39,26 +44,58 @@ fn certificate_with_key<'a>(key: &[u8], certificate: &'a [u8]) -> Option<CertFie
     }
 }
 
-fn pair_of<'a>(key: Option<&Bytes>, certificate: Option<&'a Bytes>) -> Option<CertFields<'a>>
+fn pair_of<'a>(
+    key: Option<&Bytes>,
+    public: &Option<Spki<'_>>,
+    certificate: Option<&'a Bytes>,
+) -> Option<CertFields<'a>>
+    requires { option_map key_shown public.now ≡ key_read (option_copied key) }
     ensures { option_map cert_shown result ≡ words.pair_of (option_copied key.entry) (option_copied certificate.entry) }
 {
     match key {
         None => None,
-        Some(key) => match certificate {
+        Some(_key) => match certificate {
             None => None,
-            Some(certificate) => certificate_with_key(key.as_slice(), certificate.as_slice()),
+            Some(certificate) => certificate_with_key(public, certificate.as_slice()),
         },
     }
 }
 
+/// The public key of the file, if there is one and it is readable.
+fn public_in<'a>(key: Option<&'a Bytes>) -> Option<Spki<'a>>
+    ensures { option_map key_shown result ≡ key_read (option_copied key.entry) }
+{
+    match key {
+        None => None,
+        Some(key) => public_of(key.as_slice()),
+    }
+}
+
+/// The pair, where this is the public key of the Secret's key.
 #[tactic(auto, unfolding(crate::specs::Facts::pair_in))]
-fn pair<'a>(secret: &'a Secret) -> Option<CertFields<'a>>
+fn pair_with<'a>(secret: &'a Secret, public: &Option<Spki<'_>>) -> Option<CertFields<'a>>
+    requires { option_map key_shown public.now ≡ key_read (words.key_in secret.now) }
     ensures { option_map cert_shown result ≡ words.pair_in secret.now }
 {
     pair_of(
         part_under(&secret.parts, "tls.key"),
+        public,
         part_under(&secret.parts, "tls.crt"),
     )
+}
+
+/// The pair, as `pair_in` has it, where this is the public key of the Secret's key.
+fn pair_as_read<'a>(secret: &'a Secret, public: &Option<Spki<'_>>) -> Option<CertFields<'a>>
+    requires { option_map key_shown public.now ≡ key_read (words.key_in secret.now) }
+    ensures means { (fields : CertificateFields) →
+        (option_map cert_shown result ≡ Some fields) ↔ IsPair secret.now fields }
+    ensures value { option_map cert_shown result ≡ words.pair_in secret.now }
+
+    ensures ordered { IfSome result (λ fields. fields.not_before ≤ℤ fields.not_after) }
+    ensures begins_in_range { IfSome result (λ fields. IsCertificateTime fields.not_before) }
+    ensures ends_in_range { IfSome result (λ fields. IsCertificateTime fields.not_after) }
+{
+    pair_with(secret, public)
 }
 
 /// The fields of the Secret's certificate, where its key (`tls.key`) and its certificate (`tls.crt`) are readable and
@@ -72,7 +109,7 @@ pub fn pair_in<'a>(secret: &'a Secret) -> Option<CertFields<'a>>
     ensures begins_in_range { IfSome result (λ fields. IsCertificateTime fields.not_before) }
     ensures ends_in_range { IfSome result (λ fields. IsCertificateTime fields.not_after) }
 {
-    pair(secret)
+    pair_as_read(secret, &public_in(part_under(&secret.parts, "tls.key")))
 }
 
 /// Whether the key and the certificate of a Secret are a pair, and the validity of the certificate.
@@ -86,12 +123,13 @@ struct Paired {
     ghost ends_in_range: { IsCertificateTime not_after },
 }
 
-fn pair_facts(secret: &Secret) -> Paired
+fn pair_facts(secret: &Secret, public: &Option<Spki<'_>>) -> Paired
+    requires { option_map key_shown public.now ≡ key_read (words.key_in secret.now) }
     ensures pair { result.pair ≡ words.is_paired (words.pair_in secret.now) }
     ensures begins { result.not_before ≡ words.begins (words.pair_in secret.now) }
     ensures ends { result.not_after ≡ words.ends (words.pair_in secret.now) }
 {
-    match pair_in(secret) {
+    match pair_as_read(secret, public) {
         None => Paired {
             pair: false,
             not_before: 0,
@@ -153,41 +191,60 @@ fn names_owner(name: &Name, secret: &Secret) -> bool
     }
 }
 
-fn is_requested(
-    spec: &KeySpec,
-    key: Option<&Bytes>,
-    current: Option<&Shared<CertificateRequest>>,
-) -> bool
-    ensures { result ≡ words.is_requested spec.now (option_copied key.entry) (option_copied current.entry) }
+/// What was read of the current request's certification request, if there is one.
+fn asked_of<'a>(current: Option<&'a Shared<CertificateRequest>>) -> Option<CsrFields<'a>>
+    ensures fields { option_map csr_shown result ≡ request_read (option_copied current.entry) }
+    ensures names { IfSome result (λ fields. IsValueList fields.names.alternative.now) }
 {
-    match key {
-        None => false,
-        Some(key) => match current {
-            None => false,
-            Some(request) => {
-                key_fits(spec, key.as_slice()) && request_has_key(request, key.as_slice())
-            }
-        },
+    match current {
+        None => None,
+        Some(request) => fields_of(request),
     }
 }
 
-#[tactic(auto, unfolding(crate::specs::Facts::has_requested_key))]
+fn is_requested_as_read(
+    spec: &KeySpec,
+    public: &Option<Spki<'_>>,
+    asked: &Option<CsrFields<'_>>,
+) -> bool
+    ensures { result ≡ words.is_requested_as_read spec.now (option_map key_shown public.now) (option_map csr_shown asked.now) }
+{
+    match public {
+        None => false,
+        Some(key) => {
+            is_public_of(spec.algorithm_at_use(), spec.size_at_use(), key)
+                && is_one_of(public, asked)
+        }
+    }
+}
+
+#[tactic(auto, using(crate::proofs::ReadLaws::requested_as_read))]
 fn has_requested_key(
     spec: &KeySpec,
     secret: &Secret,
     current: Option<&Shared<CertificateRequest>>,
+    public: &Option<Spki<'_>>,
+    asked: &Option<CsrFields<'_>>,
 ) -> bool
+    requires public { option_map key_shown public.now ≡ key_read (words.key_in secret.now) }
+    requires asked { option_map csr_shown asked.now ≡ request_read (option_copied current) }
     ensures { result ≡ words.has_requested_key spec.now (Some secret.now) (option_copied current.entry) }
 {
-    is_requested(spec, part_under(&secret.parts, "tls.key"), current)
+    is_requested_as_read(spec, public, asked)
 }
 
-fn is_unchanged(spec: &CertSpec, current: Option<&Shared<CertificateRequest>>) -> bool
+fn is_unchanged(
+    spec: &CertSpec,
+    current: Option<&Shared<CertificateRequest>>,
+    asked: &Option<CsrFields<'_>>,
+) -> bool
+    requires read { option_map csr_shown asked.now ≡ request_read (option_copied current) }
+    requires names { IfSome asked.now (λ fields. IsValueList fields.names.alternative.now) }
     ensures { result ≡ words.is_unchanged spec.now (option_copied current.entry) }
 {
     match current {
         None => true,
-        Some(request) => request_matches(spec, request),
+        Some(request) => matches_as_read(spec, request, asked),
     }
 }
 
@@ -226,15 +283,18 @@ fn facts_in(
 ) -> Facts
     ensures { known result ≡ words.known_of spec.now name.now (Some secret.now) (option_copied current.entry) }
 {
-    let paired = pair_facts(secret);
+    // Each of the two files is read once for all checks.
+    let public = public_in(part_under(&secret.parts, "tls.key"));
+    let asked = asked_of(current);
+    let paired = pair_facts(secret, &public);
     Facts {
         secret: true,
         filled: is_filled(secret),
         pair: paired.pair,
         issuer: names_issuer(&spec.issuer, secret),
         owner: names_owner(name, secret),
-        kind: has_requested_key(&spec.key, secret, current),
-        request: is_unchanged(spec, current),
+        kind: has_requested_key(&spec.key, secret, current, &public, &asked),
+        request: is_unchanged(spec, current, &asked),
         not_before: paired.not_before,
         not_after: paired.not_after,
     }
@@ -253,7 +313,7 @@ pub fn facts_of(
     ensures { known result ≡ words.known_of spec.now name.now (option_copied secret.entry) (option_copied current.entry) }
 {
     match secret {
-        None => facts_without(is_unchanged(spec, current)),
+        None => facts_without(is_unchanged(spec, current, &asked_of(current))),
         Some(secret) => facts_in(spec, name, secret, current),
     }
 }

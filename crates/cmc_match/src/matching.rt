@@ -1,6 +1,7 @@
 //! Whether a key and a CertificateRequest fit a Certificate.
-ghost use Rattle.std.specs.Prelude.{◌≡◌, ◌↔◌, IsTrue};
-ghost use Rattle.cmc_der.specs.Keys.{key_shown};
+ghost use Rattle.std.specs.Prelude.{◌≡◌, ◌↔◌, ◌&&◌, IfSome, IsTrue, option_map};
+ghost use Rattle.cmc_der.specs.Keys.{csr_shown, key_shown};
+ghost use Rattle.cmc_x509.specs.Lists.{IsValueList};
 ghost use Rattle.cmc_x509.specs.ReadKeys.{key_file_at};
 ghost use Rattle.cmc_x509.specs.ReadCertificates.{request_at};
 ghost use Rattle.cmc_objects.specs.Defaults.{certificate_duration, key_algorithm, key_size};
@@ -12,7 +13,7 @@ use crate::names::has_names;
 use crate::sets::is_same_set;
 use cmc_keys::is_key_of;
 use cmc_objects::{CertSpec, CertificateRequest, IssuerRef, KeySpec, RequestSpec};
-use cmc_x509::{Spki, read_csr, read_key};
+use cmc_x509::{CsrFields, Spki, read_csr, read_key};
 
 /// Whether the octets are a file of a private key of the algorithm and the size that are asked for, in whichever
 /// encoding.
@@ -56,20 +57,42 @@ fn has_terms(spec: &CertSpec, request: &RequestSpec) -> bool
         && is_same_set(spec.usages.as_slice(), request.usages.as_slice())
 }
 
-fn asks_for_names(spec: &CertSpec, request: &[u8]) -> bool
-    ensures { result ≡ words.asks_for_names spec.now (request_at request.now) }
+/// What is read of a certification request: `None` exactly where it is not readable.
+pub(crate) fn fields_of<'a>(request: &'a CertificateRequest) -> Option<CsrFields<'a>>
+    ensures fields { option_map csr_shown result ≡ request_at request.now.spec.request }
+    ensures names { IfSome result (λ fields. IsValueList fields.names.alternative.now) }
 {
-    match read_csr(request) {
-        Err(_) => false,
-        Ok(fields) => has_names(spec, &fields.names),
+    read_csr(request.spec.request.as_slice()).ok()
+}
+
+fn asks_for_names(spec: &CertSpec, asked: &Option<CsrFields<'_>>) -> bool
+    requires { IfSome asked.now (λ fields. IsValueList fields.names.alternative.now) }
+    ensures { result ≡ words.asks_for_names spec.now (option_map csr_shown asked.now) }
+{
+    match asked {
+        None => false,
+        Some(fields) => has_names(spec, &fields.names),
     }
 }
 
+/// Whether the request asks for what the specification asks for, where this was read of its certification request.
 #[tactic(auto, unfolding(crate::specs::Matching::matches))]
+pub(crate) fn matches_as_read(
+    spec: &CertSpec,
+    request: &CertificateRequest,
+    asked: &Option<CsrFields<'_>>,
+) -> bool
+    requires read { option_map csr_shown asked.now ≡ request_at request.now.spec.request }
+    requires names { IfSome asked.now (λ fields. IsValueList fields.names.alternative.now) }
+    ensures { result ≡ words.matches spec.now request.now }
+{
+    asks_for_names(spec, asked) && has_terms(spec, &request.spec)
+}
+
 fn matches(spec: &CertSpec, request: &CertificateRequest) -> bool
     ensures { result ≡ words.matches spec.now request.now }
 {
-    asks_for_names(spec, request.spec.request.as_slice()) && has_terms(spec, &request.spec)
+    matches_as_read(spec, request, &fields_of(request))
 }
 
 /// Whether the request asks for what the specification asks for: its certification request is readable and has the
@@ -90,17 +113,52 @@ pub fn is_one_key(left: &Spki<'_>, right: &Spki<'_>) -> bool
     left.same(right)
 }
 
+/// The public key of a key file: `None` exactly where it is not readable.
+pub(crate) fn public_of<'a>(file: &'a [u8]) -> Option<Spki<'a>>
+    ensures { option_map key_shown result ≡ key_file_at file.now }
+{
+    read_key(file).ok()
+}
+
+/// Whether both were read, and have one public key.
+pub(crate) fn is_one_of(key: &Option<Spki<'_>>, asked: &Option<CsrFields<'_>>) -> bool
+    ensures { result ≡ words.is_one_of (option_map key_shown key.now) (option_map csr_shown asked.now) }
+{
+    match (key, asked) {
+        (Some(key), Some(fields)) => is_one_key(key, &fields.key),
+        _ => false,
+    }
+}
+
 #[tactic(auto, unfolding(crate::specs::Matching::has_key))]
 fn has_key(request: &CertificateRequest, file: &[u8]) -> bool
     ensures { result ≡ words.has_key request.now file.now }
 {
-    match read_key(file) {
-        Err(_) => false,
-        Ok(key) => match read_csr(request.spec.request.as_slice()) {
-            Err(_) => false,
-            Ok(fields) => is_one_key(&key, &fields.key),
-        },
-    }
+    is_one_of(&public_of(file), &fields_of(request))
+}
+
+#[tactic(auto, unfolding(crate::specs::Matching::has_key))]
+fn has_key_as_read(request: &CertificateRequest, file: &[u8], asked: &Option<CsrFields<'_>>) -> bool
+    requires { option_map csr_shown asked.now ≡ request_at request.now.spec.request }
+    ensures { result ≡ words.has_key request.now file.now }
+{
+    is_one_of(&public_of(file), asked)
+}
+
+fn answers(spec: &CertSpec, request: &CertificateRequest, file: &[u8]) -> bool
+    ensures { result ≡ (words.matches spec.now request.now && words.has_key request.now file.now) }
+{
+    let asked = fields_of(request);
+    matches_as_read(spec, request, &asked) && has_key_as_read(request, file, &asked)
+}
+
+/// Whether the request asks for what the specification asks for, with the key of this file: `request_matches` and
+/// `request_has_key` in one, which reads the certification request once.
+pub fn request_answers(spec: &CertSpec, request: &CertificateRequest, file: &[u8]) -> bool
+    ensures means { IsTrue result ↔ (Matches spec.now request.now × HasKey request.now file.now) }
+    ensures value { result ≡ (words.matches spec.now request.now && words.has_key request.now file.now) }
+{
+    answers(spec, request, file)
 }
 
 /// Whether the request's certification request and the file of a private key are readable, and have one public key.

@@ -3,7 +3,7 @@ ghost use Rattle.std.specs.Option.{option_copied};
 ghost use Rattle.std.specs.Prelude.{◌≡◌, Some, length};
 ghost use Rattle.cmc_rules.specs.NextRequests as words;
 
-use cmc_match::{is_of, request_has_key, request_matches};
+use cmc_match::{is_of, request_answers};
 use cmc_meta::{Condition, ConditionKind, Tri};
 use cmc_objects::{Certificate, CertificateRequest, Shared};
 
@@ -31,7 +31,7 @@ pub fn next_count(certificate: &Certificate, requests: &[Shared<CertificateReque
 pub fn is_wanted(certificate: &Certificate, file: &[u8], request: &CertificateRequest) -> bool
     ensures { result ≡ words.is_wanted certificate.now file.now request.now }
 {
-    request_matches(&certificate.spec, request) && request_has_key(request, file)
+    request_answers(&certificate.spec, request, file)
 }
 
 fn says_refused(ready: Option<&Condition>) -> bool

@@ -1,6 +1,5 @@
 -- The revision behind the greatest u64 is nobody's.
-use Rattle.std.proofs.Common.{◌≡◌, ◌≤◌, ◌+◌, ◌^◌, sym, arith}
-use Rattle.std.specs.Prelude.{unwrap_or}
+use Rattle.std.proofs.Common.{sym, arith}
 use Rattle.cmc_match.proofs.NumberLaws.{nothing_above}
 use Rattle.cmc_match.proofs.revisions.next_request.Goals as goal
 
