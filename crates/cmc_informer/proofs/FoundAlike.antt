@@ -2,8 +2,7 @@
 use Rattle.std.proofs.Common.{◌≡◌, ℕ, Option, Some, None, Bool, true, false, refl, sym, ap, ◌∙◌}
 use Rattle.std.specs.BTreeMap.{is_at}
 use Rattle.std.specs.Map.{lookup}
-use Rattle.std.specs.Ordering.{nat_cmp}
-use Rattle.std.specs.Prelude.{is_some, if◌then◌else◌}
+use Rattle.std.specs.Prelude.{is_some, nat_eq, if◌then◌else◌}
 use Rattle.cmc_meta.specs.declared.key.Key.{Key}
 use Rattle.cmc_meta.specs.Keys.{key_cmp, key_eq}
 use Rattle.cmc_objects.specs.declared.object.Object.{Object}
@@ -25,7 +24,7 @@ place_of_mark (Some marks) key is = on_some (lookup (is_at (key_cmp key)) marks)
 -- where a key stands, there is room for it
 room_of_mark : (index : Index) (uid : ℕ) (key : Key) → stands index uid key ≡ true → has_room index uid key ≡ true
 unfolding stands has_room
-room_of_mark index uid key is = place_of_mark (lookup (is_at (nat_cmp uid)) index) key is
+room_of_mark index uid key is = place_of_mark (lookup (nat_eq uid) index) key is
 
 -- there is room for an object that is found as the one that stands there
 pub room_for_alike : (rows : Rows) (key : Key) (object : Option Object) → IsIndexed rows → has_slot rows.slots key ≡ true → AreFoundAlike (slot_at rows.slots key) object → HasRoom rows key object

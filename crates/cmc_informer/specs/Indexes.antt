@@ -1,10 +1,9 @@
 -- What contracts see of the indexes: from uids to keys, and from Secrets to keys.
-use Rattle.std.specs.Prelude.{◌≡◌, ℕ, Bool, true, false, List, [], ◌∷◌, Option, Some, None, is_some, if◌then◌else◌}
+use Rattle.std.specs.Prelude.{◌≡◌, ℕ, Bool, true, false, List, [], ◌∷◌, Option, Some, None, is_some, nat_eq, if◌then◌else◌}
 use Rattle.std.specs.BTreeMap.{is_at}
 use Rattle.std.specs.List.{list_any}
 use Rattle.std.specs.List.Sorted.{IsStrictlySortedBy}
 use Rattle.std.specs.Map.{lookup}
-use Rattle.std.specs.Ordering.{nat_cmp}
 use Rattle.cmc_meta.specs.declared.key.Key.{Key}
 use Rattle.cmc_meta.specs.Keys.{key_cmp, key_eq}
 
@@ -27,7 +26,7 @@ abbrev pub on_keys : Marked → List Key
 on_keys [] = []
 on_keys (e ∷ es) = if e.1 then e.0 ∷ on_keys es else on_keys es
 
--- the keys by uid
+-- the keys by uid, in no order of uids
 abbrev pub Index : Type 0
 Index = List (ℕ × Marked)
 
@@ -41,10 +40,10 @@ place_of (Some marks) key = has_place marks key
 
 -- whether the key stands under the uid, and whether it can without memory
 unfoldable pub stands : Index → ℕ → Key → Bool
-stands index uid key = mark_of (lookup (is_at (nat_cmp uid)) index) key
+stands index uid key = mark_of (lookup (nat_eq uid) index) key
 
 unfoldable pub has_room : Index → ℕ → Key → Bool
-has_room index uid key = place_of (lookup (is_at (nat_cmp uid)) index) key
+has_room index uid key = place_of (lookup (nat_eq uid) index) key
 
 -- no room is lost
 abbrev pub KeepsRooms : Index → Index → Type 0

@@ -1,6 +1,7 @@
 //! An index from uids to keys.
+ghost use Rattle.std.specs.Map.{lookup};
 ghost use Rattle.std.specs.Option.{option_copied};
-ghost use Rattle.std.specs.Prelude.{◌≡◌, ◌&&◌, ◌==◌, ℕ, IfOk, OnOk, if◌then◌else◌, true, false};
+ghost use Rattle.std.specs.Prelude.{◌≡◌, ◌&&◌, ◌==◌, ℕ, None, nat_eq, IfOk, OnOk, if◌then◌else◌, true, false};
 ghost use Rattle.cmc_meta.specs.declared.key.Key.{Key as KeyValue};
 ghost use Rattle.cmc_meta.specs.Keys.{key_eq};
 ghost use Rattle.cmc_informer.specs.Indexes.{AreKeys, Finds, KeepsRooms, has_room, stands};
@@ -9,13 +10,14 @@ use crate::keys::Keys;
 use crate::marks::Marks;
 use cmc_meta::Key;
 use std::alloc::{AllocError, Global};
-use std::collections::BTreeMap;
+use std::collections::HashMap;
 use std::marker::Model;
 
-/// Keys under uids.
+/// Keys under uids. A row is only ever looked for under its own uid, and nobody asks for an order of uids: so
+/// they are hashed, and not sorted.
 #[derive(Drop)]
 pub(crate) struct Index {
-    map: BTreeMap<u64, Marks>,
+    map: HashMap<u64, Marks>,
 }
 
 impl Model for Index {
@@ -33,7 +35,7 @@ impl Index {
         ensures { (u : ℕ) → (k : KeyValue) → stands result u k ≡ false }
     {
         Index {
-            map: BTreeMap::new(alloc),
+            map: HashMap::new(alloc),
         }
     }
 
@@ -48,16 +50,18 @@ impl Index {
         }
     }
 
-    /// Makes a row for the uid, and changes nothing else. An error is one of memory.
-    #[tactic(auto, unfolding(crate::specs::Indexes::stands, crate::specs::Indexes::has_room, crate::specs::Indexes::mark_in, crate::specs::Indexes::has_place))]
-    fn row(&mut self, alloc: Global, uid: u64) -> Result<(), AllocError>
+    /// Makes a row for the uid, with room for the key, and changes nothing else. The room is made before the row
+    /// goes in, and there must be no row of the uid yet, for it would be lost. An error is one of memory.
+    #[tactic(auto, unfolding(crate::specs::Indexes::stands, crate::specs::Indexes::has_room))]
+    fn row(&mut self, alloc: Global, uid: u64, key: &Key) -> Result<(), AllocError>
+        requires { lookup (nat_eq uid) self.old ≡ None }
+        ensures room { OnOk result (has_room self.new uid key.now ≡ true) }
         ensures same { (u : ℕ) → (k : KeyValue) → stands self.new u k ≡ stands self.old u k }
         ensures keeps { KeepsRooms self.old self.new }
     {
-        if self.map.contains_key(&uid) {
-            return Ok(());
-        }
-        self.map.insert(uid, Marks::new())?;
+        let mut marks = Marks::new();
+        marks.room(alloc, key)?;
+        self.map.insert(uid, marks)?;
         Ok(())
     }
 
@@ -68,10 +72,9 @@ impl Index {
         ensures same { (u : ℕ) → (k : KeyValue) → stands self.new u k ≡ stands self.old u k }
         ensures keeps { KeepsRooms self.old self.new }
     {
-        self.row(alloc, uid)?;
         match self.map.get_mut(&uid) {
             Some(marks) => marks.room(alloc, key),
-            None => Err(AllocError),
+            None => self.row(alloc, uid, key),
         }
     }
 
