@@ -4,6 +4,5 @@ pub mod ByNumber
 pub mod Behind
 pub mod OpenOnes
 pub mod RowsOfPasts
-pub mod Counting
 pub mod Lasts
 pub mod Backwards

@@ -1,10 +1,7 @@
 -- How many questions were asked for each Certificate's name.
 use Rattle.std.specs.Prelude.{ℕ, ◌&&◌, Bool, false, List, Option, Some, None, nat_eq, unwrap_or}
-use Rattle.std.specs.declared.cmp.Ordering.{Ordering}
-use Rattle.std.specs.BTreeMap.{is_at}
-use Rattle.std.specs.Cmp.Lexicographic.{slice_cmp, pointwise}
+use Rattle.std.specs.Cmp.Lexicographic.{pointwise}
 use Rattle.std.specs.Map.{lookup}
-use Rattle.std.specs.Ordering.{nat_cmp, on, then_cmp}
 use Rattle.cmc_objects.specs.declared.certificate.Certificate.{Certificate}
 use Rattle.cmc_objects.specs.declared.request.CertificateRequest.{CertificateRequest}
 use Rattle.cmc_objects.specs.declared.orders.Order.{Order}
@@ -16,19 +13,16 @@ use Rattle.cmc_rules.specs.Desks.{certificate_named}
 use Rattle.cmc_held.specs.declared.questions.Subject.{Subject}
 
 -- a Certificate's name in its namespace; a request can state any text as one
-abbrev pub subject_cmp : Subject → Subject → Ordering
-subject_cmp = then_cmp (on (λ s. s.namespace) (slice_cmp nat_cmp)) (on (λ s. s.name) (slice_cmp nat_cmp))
-
 abbrev pub subject_eq : Subject → Subject → Bool
 subject_eq a b = pointwise nat_eq a.namespace b.namespace && pointwise nat_eq a.name b.name
 
--- the counts, under the names in order
+-- the counts, under the names in no order
 abbrev pub Counts : Type 0
 Counts = List (Subject × ℕ)
 
 -- how many were counted under the name
 unfoldable pub count_at : Counts → Subject → ℕ
-count_at counts subject = unwrap_or (lookup (is_at (subject_cmp subject)) counts) 0
+count_at counts subject = unwrap_or (lookup (subject_eq subject) counts) 0
 
 -- the questions for keys, and those to issuers
 pub record Questioned : Type 0 where

@@ -1,11 +1,11 @@
 //! How many questions were asked: they are numbered by the Certificates that they are for.
 ghost use Rattle.std.proofs.Common.{rules};
-ghost use Rattle.std.specs.Cmp.{partial_order_from_own_ties};
-ghost use Rattle.std.specs.Cmp.Rules.{comparing};
-ghost use Rattle.std.specs.Ordering.{as_partial_cmp};
-ghost use Rattle.std.specs.Prelude.{◌≡◌, ◌<◌, ◌^◌, ◌+◌, ◌-◌, IfOk, OnErr, OnOk, Some, if◌then◌else◌};
+ghost use Rattle.std.specs.Cmp.Rules.{comparing, hashing};
+ghost use Rattle.std.specs.Hash as fed;
+ghost use Rattle.std.specs.Prelude.{◌≡◌, ◌<◌, ◌^◌, ◌+◌, ◌-◌, ◌++◌, IfOk, OnErr, OnOk, if◌then◌else◌};
+ghost use Rattle.cmc_meta.specs.Names.{hashed};
 ghost use Rattle.cmc_held.specs.declared.questions.Subject.{Subject as SubjectValue};
-ghost use Rattle.cmc_held.specs.Questioned.{subject_cmp, subject_eq};
+ghost use Rattle.cmc_held.specs.Questioned.{subject_eq};
 ghost use Rattle.cmc_rules.specs.Desks as desks;
 ghost use Rattle.cmc_held.specs.Questioned as spec;
 
@@ -14,8 +14,8 @@ use cmc_meta::{Name, Text};
 use cmc_objects::{Certificate, CertificateRequest, Order, Role, Shared};
 use cmc_pass::Views;
 use std::alloc::{AllocError, Global};
-use std::cmp::Ordering;
-use std::collections::BTreeMap;
+use std::collections::HashMap;
+use std::hash::{Hash, Hasher};
 use std::marker::Model;
 
 /// A Certificate's name in its namespace, as a question states it: an annotation can hold any text.
@@ -41,40 +41,22 @@ impl Eq for Subject {
     ghost laws = { Prim.search (comparing, rules) };
 }
 
-impl PartialOrd for Subject {
-    ghost use Rattle.cmc_held.specs.Questioned.{subject_cmp};
+impl Hash for Subject {
+    ghost hash_input = { λ subject. hashed subject.namespace ++ fed.str subject.name };
 
-    ghost partial_cmp = { as_partial_cmp subject_cmp };
+    ghost respects_eq = { Prim.search (hashing, rules) };
 
-    ghost laws = { partial_order_from_own_ties (Prim.search (comparing, rules)) (Prim.search (comparing, rules)) };
-
-    fn partial_cmp(&self, other: &Subject) -> Option<Ordering> {
-        Some(self.cmp(other))
+    fn hash<H: Hasher>(&self, state: &mut H) {
+        self.namespace.hash(state);
+        self.name.as_str().hash(state);
     }
 }
 
-impl Ord for Subject {
-    ghost use Rattle.cmc_held.specs.Questioned.{subject_cmp};
-
-    ghost cmp = { subject_cmp };
-
-    ghost total = { Prim.search (comparing, rules) };
-
-    ghost matches_partial_cmp = { Prim.search (comparing, rules) };
-
-    ghost matches_eq = { Prim.search (comparing, rules) };
-
-    fn cmp(&self, other: &Subject) -> Ordering {
-        self.namespace
-            .cmp(&other.namespace)
-            .then(self.name.cmp(&other.name))
-    }
-}
-
-/// Counts under the names of Certificates.
+/// Counts under the names of Certificates. A name is only ever looked for by itself, and nobody asks for an order of
+/// names: so they are hashed, and not sorted.
 #[derive(Drop)]
 struct Counts {
-    map: BTreeMap<Subject, u64>,
+    map: HashMap<Subject, u64>,
 }
 
 impl Model for Counts {
@@ -91,7 +73,7 @@ impl Counts {
         ensures { (k : SubjectValue) → spec.count_at result k ≡ 0 }
     {
         Counts {
-            map: BTreeMap::new(alloc),
+            map: HashMap::new(alloc),
         }
     }
 
@@ -112,8 +94,11 @@ impl Counts {
         ensures ok { OnOk result ((k : SubjectValue) → spec.count_at self.new k ≡ (if subject_eq subject k then spec.count_at self.old k + 1 else spec.count_at self.old k)) }
         ensures err { OnErr result (self.new ≡ self.old) }
     {
-        let count = self.get(&subject);
-        self.map.insert(subject, count + 1)?;
+        if let Some(count) = self.map.get_mut(&subject) {
+            *count += 1;
+            return Ok(());
+        }
+        self.map.insert(subject, 1)?;
         Ok(())
     }
 }

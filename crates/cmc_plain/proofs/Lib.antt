@@ -25,6 +25,7 @@ pub mod Asked
 pub mod Unknown
 pub mod Lasting
 pub mod Quiet
+pub mod KeyRows
 pub mod ReadyRows
 pub mod Woken
 pub mod Resting

@@ -3,7 +3,6 @@ use Rattle.std.proofs.Common.{◌≡◌, ℕ, ◌<◌, ◌≢◌, List, length, 
 use Rattle.std.proofs.lemmas.Bool.Decides.{nat_tests}
 use Rattle.std.proofs.lemmas.List.{get_or_read}
 use Rattle.std.specs.Prelude.{◌&&◌, ◌||◌, not}
-use Rattle.std.specs.BTreeMap.{is_at}
 use Rattle.std.specs.BTreeSet.{BTreeSet, contains}
 use Rattle.cmc_meta.specs.declared.key.Key.{Key}
 use Rattle.cmc_meta.specs.Keys.{key_cmp, key_eq}
@@ -12,7 +11,6 @@ use Rattle.cmc_objects.specs.declared.role.Role.TheVariants.{Trigger}
 use Rattle.cmc_objects.specs.Roles.{role_rank}
 use Rattle.cmc_model.specs.Histories.{role_eq}
 use Rattle.cmc_plain.specs.Ready.{no_keys, is_ready}
-use Rattle.cmc_plain.proofs.Keys.{one_test}
 
 rank_low : (r : Role) → role_rank r < 8
 rank_low Trigger = omega arith
@@ -49,38 +47,26 @@ was_row rows place role r row k e is =
     let same : place ≡ role_rank r = grind (arith, nat_tests) in
     ap (λ (m : BTreeSet Key). contains key_cmp m k) is.stands ∙ ap (λ (j : ℕ). contains key_cmp (get_or rows j no_keys) k) same
 
-chosen : (a b : Bool) → cond a true b ≡ (a || b)
-chosen true b = refl
-chosen false b = refl
-
 added : (b : Bool) (rows : List (BTreeSet Key)) (role r : Role) (row new : BTreeSet Key) (key k : Key) → (b ≡ true → contains key_cmp row k ≡ is_ready rows r k)
-    → contains key_cmp new k ≡ cond (is_at (key_cmp key) k) true (contains key_cmp row k) → cond b (contains key_cmp new k) (is_ready rows r k) ≡ (b && key_eq key k || is_ready rows r k)
-added true rows role r row new key k was put = put ∙ ap (λ (t : Bool). cond t true (contains key_cmp row k)) (one_test key k) ∙ chosen (key_eq key k) (contains key_cmp row k) ∙ ap (λ (t : Bool). key_eq key k || t) (was refl)
+    → contains key_cmp new k ≡ (key_eq key k || contains key_cmp row k) → cond b (contains key_cmp new k) (is_ready rows r k) ≡ (b && key_eq key k || is_ready rows r k)
+added true rows role r row new key k was put = put ∙ ap (λ (t : Bool). key_eq key k || t) (was refl)
 added false rows role r row new key k was put = refl
 
 -- a key is added to the row
 pub key_added : (rows : List (BTreeSet Key)) (place : ℕ) (role : Role) (row new : BTreeSet Key) (key : Key) → IsRow rows place role row
-    → ((k : Key) → contains key_cmp new k ≡ cond (is_at (key_cmp key) k) true (contains key_cmp row k))
+    → ((k : Key) → contains key_cmp new k ≡ (key_eq key k || contains key_cmp row k))
     → (r : Role) (k : Key) → is_ready (set rows place new) r k ≡ (role_eq role r && key_eq key k || is_ready rows r k)
 key_added rows place role row new key is put r k =
     at_row (role_eq role r) rows place role r row new k refl is ∙ added (role_eq role r) rows role r row new key k (λ e. was_row rows place role r row k e is) (put k)
 
-taken : (t b : Bool) → cond t false b ≡ (not t && b)
-taken true b = refl
-taken false b = refl
-
 removed : (b : Bool) (rows : List (BTreeSet Key)) (role r : Role) (row new : BTreeSet Key) (key k : Key) → (b ≡ true → contains key_cmp row k ≡ is_ready rows r k)
-    → contains key_cmp new k ≡ cond (is_at (key_cmp key) k) false (contains key_cmp row k) → cond b (contains key_cmp new k) (is_ready rows r k) ≡ (not (b && key_eq key k) && is_ready rows r k)
-removed true rows role r row new key k was put = put ∙ ap (λ (t : Bool). cond t false (contains key_cmp row k)) (one_test key k) ∙ taken (key_eq key k) (contains key_cmp row k) ∙ ap (λ (t : Bool). not (key_eq key k) && t) (was refl)
+    → contains key_cmp new k ≡ (not (key_eq key k) && contains key_cmp row k) → cond b (contains key_cmp new k) (is_ready rows r k) ≡ (not (b && key_eq key k) && is_ready rows r k)
+removed true rows role r row new key k was put = put ∙ ap (λ (t : Bool). not (key_eq key k) && t) (was refl)
 removed false rows role r row new key k was put = refl
 
 -- a key is taken from the row
 pub key_removed : (rows : List (BTreeSet Key)) (place : ℕ) (role : Role) (row new : BTreeSet Key) (key : Key) → IsRow rows place role row
-    → ((k : Key) → contains key_cmp new k ≡ cond (is_at (key_cmp key) k) false (contains key_cmp row k))
+    → ((k : Key) → contains key_cmp new k ≡ (not (key_eq key k) && contains key_cmp row k))
     → (r : Role) (k : Key) → is_ready (set rows place new) r k ≡ (not (role_eq role r && key_eq key k) && is_ready rows r k)
 key_removed rows place role row new key is put r k =
     at_row (role_eq role r) rows place role r row new k refl is ∙ removed (role_eq role r) rows role r row new key k (λ e. was_row rows place role r row k e is) (put k)
-
-cleared : (b : Bool) (rows : List (BTreeSet Key)) (r : Role) (new : BTreeSet Key) (k : Key) → contains key_cmp new k ≡ false → cond b (contains key_cmp new k) (is_ready rows r k) ≡ (not b && is_ready rows r k)
-cleared true rows r new k none = none
-cleared false rows r new k none = refl

@@ -4,6 +4,7 @@ pub mod Histories
 pub mod Driving
 pub mod Waits
 pub mod Named
+pub mod KeyRows
 pub mod Ready
 pub mod Asking
 pub mod Next

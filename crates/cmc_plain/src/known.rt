@@ -43,7 +43,7 @@ impl Known {
         ensures kind { result ≡ true → key.now.kind ≡ kind_of_work role }
         ensures asleep { result ≡ true → is_ready self.now.awake role key.now ≡ false }
     {
-        key.kind.same(kind_of_work(role)) && !self.awake.keys(role).contains(key)
+        key.kind.same(kind_of_work(role)) && !self.awake.has(role, key)
     }
 
     /// Wakes each of the keys for the role. An error is one of memory.
@@ -101,7 +101,7 @@ pub(crate) fn find_idle(
     ensures idle { IsOfEach (on IsIdleOn world.now role) idle.new.items }
 {
     world.can_act();
-    if busy.keys(role).contains(key) {
+    if busy.has(role, key) {
         return Ok(false);
     }
     if world.is_idle(alloc, role, seen)? {

@@ -5,6 +5,7 @@ mod all_moves;
 mod begins;
 mod deliveries;
 mod gate;
+mod key_row;
 mod known;
 mod laws;
 mod next_move;

@@ -8,6 +8,7 @@ ghost use Rattle.cmc_objects.specs.declared.role.Role.{Role as RoleValue};
 ghost use Rattle.cmc_caches.specs.Affected.{is_among};
 ghost use Rattle.cmc_plain.specs.Ready.{is_ready};
 
+use crate::key_row::KeyRow;
 use cmc_meta::Key;
 use cmc_objects::Role;
 use std::alloc::{AllocError, Global};
@@ -17,7 +18,7 @@ use std::marker::Model;
 /// A set of keys for each of the eight roles. Contracts see the sets in the order of roles.
 #[derive(Drop)]
 pub(crate) struct Ready {
-    rows: Vec<BTreeSet<Key>>,
+    rows: Vec<KeyRow>,
 }
 
 impl Model for Ready {
@@ -39,14 +40,14 @@ impl Ready {
         ensures { IfOk result (λ rows. (r : RoleValue) → (k : KeyValue) → is_ready rows r k ≡ false) }
     {
         let rows = vec![in alloc;
-            BTreeSet::new(alloc),
-            BTreeSet::new(alloc),
-            BTreeSet::new(alloc),
-            BTreeSet::new(alloc),
-            BTreeSet::new(alloc),
-            BTreeSet::new(alloc),
-            BTreeSet::new(alloc),
-            BTreeSet::new(alloc),
+            KeyRow::new(alloc),
+            KeyRow::new(alloc),
+            KeyRow::new(alloc),
+            KeyRow::new(alloc),
+            KeyRow::new(alloc),
+            KeyRow::new(alloc),
+            KeyRow::new(alloc),
+            KeyRow::new(alloc),
         ]?;
         Ok(Ready { rows })
     }
@@ -56,7 +57,15 @@ impl Ready {
     pub(crate) fn keys(&self, role: Role) -> &BTreeSet<Key>
         ensures { (k : KeyValue) → contains key_cmp result.now k ≡ is_ready self.now role k }
     {
-        &self.rows[role.rank() as usize]
+        self.rows[role.rank() as usize].keys()
+    }
+
+    /// Whether the key is ready for the role. It costs no search in the order of keys.
+    #[tactic(auto, unfolding(crate::specs::Ready::is_ready))]
+    pub(crate) fn has(&self, role: Role, key: &Key) -> bool
+        ensures { result ≡ is_ready self.now role key.now }
+    {
+        self.rows[role.rank() as usize].has(key)
     }
 
     /// Makes the key ready for the role. An error is one of memory, and leaves all as it was.
@@ -65,8 +74,7 @@ impl Ready {
         ensures ok { OnOk result ((r : RoleValue) → (k : KeyValue) → is_ready self.new r k ≡ (role_eq role r && key_eq key k || is_ready self.old r k)) }
         ensures err { OnErr result (self.new ≡ self.old) }
     {
-        self.rows[role.rank() as usize].insert(key)?;
-        Ok(())
+        self.rows[role.rank() as usize].add(key)
     }
 
     /// Lets the key be ready for the role no more.

@@ -65,11 +65,14 @@ impl Model for Waking {
     ghost invariant = { λ w. IfSome w.ready (on Covers w.world) × on Knows w.world w.known };
 }
 
-/// Makes the key ready for the role.
+/// Makes the key ready for the role. Most keys are so already, and are not copied.
 fn wake(ready: &mut Ready, role: Role, key: &Key) -> Result<(), AllocError>
     ensures keeps { Keeps ready.old ready.new }
     ensures wakes { OnOk result (is_ready ready.new role key.now ≡ true) }
 {
+    if ready.has(role, key) {
+        return Ok(());
+    }
     ready.add(role, key.copy()?)
 }
 

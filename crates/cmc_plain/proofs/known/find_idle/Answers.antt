@@ -19,10 +19,10 @@ is_idle-requires c =
     let h = c.args.world.now.history in
     subst (λ (v : Views). MayAct v (moment s h) (desk s h c.args.role v)) (sym c.requires.sees) (c.can_act.ensures c.args.role c.args.key.now)
 
-pub returns-then-contains-clause-test : goal.returns-then-contains-clause-test
-returns-then-contains-clause-test c =
+pub returns-then-has-clause-test : goal.returns-then-has-clause-test
+returns-then-has-clause-test c =
     busy_by (setting_of c.args.world.now.scenario) c.args.world.now.history c.args.role c.args.key.now c.args.busy.now c.requires.busy
-    (sym (c.keys.ensures c.args.key.now) ∙ sym c.contains.ensures ∙ c.if-contains.true)
+    (sym c.has.ensures ∙ c.if-has.true)
 
 pub returns-then-branch-clause-test : goal.returns-then-branch-clause-test
 returns-then-branch-clause-test c =
