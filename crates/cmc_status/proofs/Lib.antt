@@ -1,2 +1,3 @@
 pub mod Readiness
 pub mod History
+pub mod KnownTimes

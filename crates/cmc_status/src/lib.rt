@@ -10,5 +10,5 @@ mod revising;
 
 pub use laws::{is_readiness_sound, is_revision_sound};
 pub use readying::act_readiness;
-pub use reasons::reason_for;
+pub use reasons::{Judged, Times, judge};
 pub use revising::act_revision;

@@ -1,4 +1,4 @@
-//! Whether a Certificate is ready, and how long its certificate is valid.
+//! What the readiness controller writes.
 ghost use Rattle.std.specs.Option.{option_copied};
 ghost use Rattle.std.specs.Prelude.{◌≡◌, ◌++◌, ◌&&◌, IfOk, Some, codes};
 ghost use Rattle.cmc_meta.specs.declared.conditions.ConditionKind.TheVariants as kinds;
@@ -7,60 +7,16 @@ ghost use Rattle.cmc_objects.specs.declared.call.Call.TheVariants.{UpdateStatus}
 ghost use Rattle.cmc_objects.specs.declared.object.Object.TheVariants.{Cert};
 ghost use Rattle.cmc_pass.specs.declared.pass.Act.TheVariants.{Call as Calls};
 ghost use Rattle.cmc_objects.specs.declared.role.Role.TheVariants as roles;
-ghost use Rattle.cmc_match.specs.Facts.{pair_at};
 ghost use Rattle.cmc_policies.specs.Reasons.{reason_name};
 ghost use Rattle.cmc_rules.specs.Acts as acts;
 ghost use Rattle.cmc_rules.specs.Readying as spec;
 
-use crate::reasons::reason_for;
-use cmc_match::pair_in;
+use crate::reasons::{Judged, Times, judge};
 use cmc_meta::{Condition, ConditionKind, Text, Tri};
 use cmc_objects::{Call, CertStatus, Certificate, CertificateRequest, Object, Secret, Shared};
 use cmc_pass::{Act, Desk, Views};
-use cmc_policies::{Frame, Reason, Renew, renewal_time};
+use cmc_policies::{Frame, Reason, Renew};
 use std::alloc::{AllocError, Global};
-
-/// What the status says of the certificate that stands: when it begins and ends, and when it is renewed.
-#[derive(Clone, Copy)]
-pub struct Times {
-    pub not_before: Option<i64>,
-    pub not_after: Option<i64>,
-    pub renewal: Option<i64>,
-}
-
-fn times_in(secret: &Secret, renew: Renew) -> Times
-    ensures before { result.not_before ≡ spec.begins_at (pair_at (Some secret.now)) }
-    ensures after { result.not_after ≡ spec.ends_at (pair_at (Some secret.now)) }
-    ensures renewal { result.renewal ≡ spec.renews_at renew (pair_at (Some secret.now)) }
-{
-    match pair_in(secret) {
-        None => Times {
-            not_before: None,
-            not_after: None,
-            renewal: None,
-        },
-        Some(fields) => Times {
-            not_before: Some(fields.not_before),
-            not_after: Some(fields.not_after),
-            renewal: Some(renewal_time(fields.not_before, fields.not_after, renew)),
-        },
-    }
-}
-
-fn times_of(secret: &Option<Shared<Secret>>, renew: Renew) -> Times
-    ensures before { result.not_before ≡ spec.begins_at (pair_at secret.now) }
-    ensures after { result.not_after ≡ spec.ends_at (pair_at secret.now) }
-    ensures renewal { result.renewal ≡ spec.renews_at renew (pair_at secret.now) }
-{
-    match secret {
-        None => Times {
-            not_before: None,
-            not_after: None,
-            renewal: None,
-        },
-        Some(secret) => times_in(secret, renew),
-    }
-}
 
 fn message(alloc: Global, reason: Reason) -> Result<Text, AllocError>
     ensures { IfOk result (λ t. t ≡ codes "Certificate is not ready: " ++ reason_name reason) }
@@ -165,23 +121,6 @@ fn with_status(
 }
 
 #[tactic(auto, unfolding(cmc_rules::specs::Readying::is_settled, cmc_rules::specs::Readying::ready_call, cmc_rules::specs::Readying::ready_status))]
-fn ready_by(
-    alloc: Global,
-    condition: Condition,
-    renew: Renew,
-    secret: &Option<Shared<Secret>>,
-    certificate: &Certificate,
-) -> Result<Act, AllocError>
-    ensures { IfOk result (λ a. a ≡ spec.ready_by condition renew (pair_at secret.now) certificate.now) }
-{
-    let times = times_of(secret, renew);
-    if is_settled(&condition, times, &certificate.status) {
-        return Ok(Act::Nothing);
-    }
-    let status = status_with(condition, times, &certificate.status)?;
-    with_status(alloc, certificate, status)
-}
-
 fn ready_of(
     alloc: Global,
     moment: i64,
@@ -196,9 +135,13 @@ fn ready_of(
         certificate.spec.renew_before,
     );
     let frame = Frame { now: moment, renew };
-    let reason = reason_for(frame, certificate, secret, requests);
+    let Judged { reason, times } = judge(frame, certificate, secret.as_ref(), requests);
     let condition = condition(alloc, moment, reason)?;
-    ready_by(alloc, condition, renew, secret, certificate)
+    if is_settled(&condition, times, &certificate.status) {
+        return Ok(Act::Nothing);
+    }
+    let status = status_with(condition, times, &certificate.status)?;
+    with_status(alloc, certificate, status)
 }
 
 /// What the readiness controller does on these views at the moment `now`, in seconds since 1970-01-01T00:00:00Z.

@@ -1,11 +1,15 @@
-//! Why a Certificate is not ready.
-ghost use Rattle.std.specs.Prelude.{◌≡◌};
+//! Why a Certificate is not ready, and how long its certificate is valid.
+ghost use Rattle.std.specs.Option.{option_copied};
+ghost use Rattle.std.specs.Prelude.{◌≡◌, if◌then◌else◌, None, Some};
+ghost use Rattle.cmc_match.specs.Facts.{pair_at};
 ghost use Rattle.cmc_policies.specs.Reasons.{first_of, known};
+ghost use Rattle.cmc_policies.specs.Renewal.{renewal};
 ghost use Rattle.cmc_rules.specs.Chains.{readiness_chain, readiness_reason};
+ghost use Rattle.cmc_rules.specs.Readying as spec;
 
 use cmc_match::facts_for;
 use cmc_objects::{Certificate, CertificateRequest, Secret, Shared};
-use cmc_policies::{Chain, Check, Empty, Facts, Frame, Link, Reason};
+use cmc_policies::{Chain, Check, Empty, Facts, Frame, Link, Reason, Renew, renewal_time};
 
 // The row of checks. Each closure captures no more than the frame.
 fn first_reason(frame: Frame, facts: &Facts) -> Option<Reason>
@@ -29,16 +33,59 @@ fn first_reason(frame: Frame, facts: &Facts) -> Option<Reason>
     Link::new(absent, Link::new(missing, Link::new(unpaired, of_request))).first(facts)
 }
 
+/// What the status says of the certificate that stands: when it begins and ends, and when it is renewed.
+#[derive(Clone, Copy)]
+pub struct Times {
+    pub not_before: Option<i64>,
+    pub not_after: Option<i64>,
+    pub renewal: Option<i64>,
+}
+
+fn times_of(facts: Facts, renew: Renew) -> Times
+    ensures before { result.not_before ≡ (if facts.pair then Some facts.not_before else None) }
+    ensures after { result.not_after ≡ (if facts.pair then Some facts.not_after else None) }
+    ensures renewal { result.renewal ≡ (if facts.pair then Some (renewal facts.not_before facts.not_after renew) else None) }
+{
+    if facts.pair {
+        Times {
+            not_before: Some(facts.not_before),
+            not_after: Some(facts.not_after),
+            renewal: Some(renewal_time(facts.not_before, facts.not_after, renew)),
+        }
+    } else {
+        Times {
+            not_before: None,
+            not_after: None,
+            renewal: None,
+        }
+    }
+}
+
+/// Why a Certificate is not ready, and the times of the certificate that stands.
+#[derive(Clone, Copy)]
+pub struct Judged {
+    pub reason: Option<Reason>,
+    pub times: Times,
+}
+
 /// Why the Certificate is not ready, judged in the frame: the first that holds of DoesNotExist, MissingData,
 /// InvalidKeyPair, SecretMismatch, RequestChanged, Expired, of its Secret and the current one of its requests. `None`
-/// exactly where it is ready.
-pub fn reason_for(
+/// exactly where it is ready. And the times of the certificate that the Secret's key is a pair with, none where there is
+/// no pair. Key, certificate and certification request are read once for all of this.
+pub fn judge(
     frame: Frame,
     certificate: &Certificate,
-    secret: &Option<Shared<Secret>>,
+    secret: Option<&Shared<Secret>>,
     requests: &[Shared<CertificateRequest>],
-) -> Option<Reason>
-    ensures { result ≡ readiness_reason frame certificate.now secret.now requests.now }
+) -> Judged
+    ensures reason { result.reason ≡ readiness_reason frame certificate.now (option_copied secret.entry) requests.now }
+    ensures before { result.times.not_before ≡ spec.begins_at (pair_at (option_copied secret.entry)) }
+    ensures after { result.times.not_after ≡ spec.ends_at (pair_at (option_copied secret.entry)) }
+    ensures renewal { result.times.renewal ≡ spec.renews_at frame.renew (pair_at (option_copied secret.entry)) }
 {
-    first_reason(frame, &facts_for(certificate, secret.as_ref(), requests))
+    let facts = facts_for(certificate, secret, requests);
+    Judged {
+        reason: first_reason(frame, &facts),
+        times: times_of(facts, frame.renew),
+    }
 }
