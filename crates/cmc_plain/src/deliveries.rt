@@ -144,6 +144,21 @@ fn first_kind(
     Ok(None)
 }
 
+/// The first kind in which the role is behind; `None` exactly where it is behind in none.
+///
+/// # Errors
+///
+/// Want of memory alone.
+pub(crate) fn first_kind_of(
+    alloc: Global,
+    world: &World,
+    role: Role,
+) -> Result<Option<Kind>, AllocError>
+    ensures { IfOk result (λ k. on FindsKind world.now role k) }
+{
+    first_kind(alloc, world, role, newest_of(world))
+}
+
 /// The first role that is behind in a kind, with the first such kind; `None` exactly where there is
 /// none.
 ///

@@ -16,14 +16,14 @@ ghost use Rattle.cmc_moves.specs.Answers.{Answers, Leaves};
 ghost use Rattle.cmc_moves.specs.Quiet.{IsQuiet};
 ghost use Rattle.cmc_world.specs.Kept.{on};
 ghost use Rattle.cmc_moves.specs.declared.moves.Move.TheVariants as moves;
-ghost use Rattle.cmc_plain.specs.Next.{IsNextDelivery, IsNextScript};
+ghost use Rattle.cmc_plain.specs.Next.{IsNextDelivery, IsNextDeliveryTo, IsNextScript};
 ghost use Rattle.cmc_plain.specs.Plain.{IsPlainMove};
 ghost use Rattle.cmc_plain.specs.Ready as spec;
 ghost use Rattle.cmc_plain.specs.Searches.{FindsFirst, HasWorkAbove};
 ghost use Rattle.cmc_plain.specs.Ready.{Covers, Forgets, HasKnown, Idles, IsAsleepOn, IsIdleBegin, IsReadyScript, IsToNewest, Keeps, KeepsIf, Knows, KnowsLess, LeavesQuiet, SeesSame, Wakes, WakesTold, is_ready};
 
 use crate::begins::Beginning;
-use crate::deliveries::{Delivery, first_delivery};
+use crate::deliveries::{Delivery, first_delivery, first_kind_of};
 use crate::known::Known;
 use crate::next_move::plain_by;
 use crate::ready::Ready;
@@ -419,6 +419,24 @@ impl Waking {
     {
         match first_delivery(alloc, &self.world)? {
             Some(Delivery { role, kind }) => {
+                let to = self.world.log().last_of_kind(kind);
+                Ok(Some(Move::Deliver { role, kind, to }))
+            }
+            None => Ok(None),
+        }
+    }
+
+    /// The delivery to the role of the newest accepted write of the first kind of which it was not told; `None` exactly where
+    /// it does not run, or was told of all that is not held from it.
+    ///
+    /// # Errors
+    ///
+    /// Want of memory alone.
+    pub fn next_delivery_to(&self, alloc: Global, role: Role) -> Result<Option<Move>, AllocError>
+        ensures { IfOk result (λ m. on IsNextDeliveryTo self.now role m) }
+    {
+        match first_kind_of(alloc, &self.world, role)? {
+            Some(kind) => {
                 let to = self.world.log().last_of_kind(kind);
                 Ok(Some(Move::Deliver { role, kind, to }))
             }

@@ -1,14 +1,15 @@
 //! What lies under the lock, and what a thread does while it holds it.
 //!
 //! Each change is a step of the world, so whatever the threads do, the history is one of a run: the world's type keeps
-//! that. A pass begins only where its role has something to do, and roles take turns: once a role has begun a pass it goes
-//! on with its further keys, and another begins only once all is delivered, since it would begin on views that are old by
-//! then, and come to nothing or meet a conflict.
+//! that. A pass begins only where its role has something to do, and roles take turns in their order, which is that of an
+//! issuance: once a role has begun a pass it goes on with its further keys, and then the next role has its turn. Before it is
+//! looked whether a role has something to do it is told of all that happened, and not before: a pass on views that are old
+//! would come to nothing or meet a conflict, and a look after each write that concerns a key would mostly find nothing.
 //!
 //! While all other workers are away with questions, the one that is left would be the last to go, and nobody would use the
 //! lock. So it turns to roles that ask nobody first, and takes a question along only where these have nothing to do.
 ghost use Rattle.std.specs.Option.{option_copied};
-ghost use Rattle.std.specs.Prelude.{◌≡◌, ◌+◌, IfOk, IfSome, length, false};
+ghost use Rattle.std.specs.Prelude.{◌≡◌, ◌≤◌, ◌+◌, IfOk, IfSome, length, false};
 ghost use Rattle.cmc_rules.specs.Scripting.{scripted, step_at};
 ghost use Rattle.cmc_plain.specs.Plain.{HasNoDelivery};
 ghost use Rattle.cmc_plain.specs.Ready.{IsToNewest};
@@ -58,6 +59,8 @@ pub(crate) struct Shared {
     turn: Option<Turn>,
     /// Whose turn it is for a worker that is left alone.
     aside: Option<Turn>,
+    /// Which role is to be told next of what it was not told.
+    wanted: Role,
     /// How many workers there are.
     workers: u32,
     /// How many of them are away with a question.
@@ -104,16 +107,77 @@ fn next_in(
     }
 }
 
-/// The first key of the first of the roles that has something to do.
-fn first_of(alloc: Global, waking: &mut Waking, roles: &[Role]) -> Result<Option<Turn>, AllocError>
+/// What a look for the next pass comes to.
+#[derive(Drop)]
+enum Found {
+    /// A pass may begin there.
+    Work(Turn),
+    /// The role has to be told of something first.
+    Behind(Role),
+    /// Nothing is to be done.
+    Nothing,
+}
+
+/// The first key of the role that has something to do, where the role has nothing to be told of before.
+fn first_of(alloc: Global, waking: &mut Waking, role: Role) -> Result<Found, AllocError>
+    ensures { waking.new ≡ waking.old }
+{
+    if let Some(step) = waking.next_delivery_to(alloc, role)? {
+        let_go(step);
+        return Ok(Found::Behind(role));
+    }
+    match waking.next_work(alloc, role, None)? {
+        Some(key) => Ok(Found::Work(Turn { role, key })),
+        None => Ok(Found::Nothing),
+    }
+}
+
+/// What the first of the roles comes to that has something to do, or to be told of.
+fn first_among(alloc: Global, waking: &mut Waking, roles: &[Role]) -> Result<Found, AllocError>
     ensures { waking.new ≡ waking.old }
 {
     for role in roles {
-        if let Some(key) = waking.next_work(alloc, *role, None)? {
-            return Ok(Some(Turn { role: *role, key }));
+        match first_of(alloc, waking, *role)? {
+            Found::Nothing => {}
+            found => return Ok(found),
         }
     }
-    Ok(None)
+    Ok(Found::Nothing)
+}
+
+/// How many of the roles stand before that of the turn.
+fn places_before(roles: &[Role], turn: &Option<Turn>) -> usize
+    ensures { result ≤ length roles.now }
+{
+    let Some(Turn { role, key: _ }) = turn else {
+        return 0;
+    };
+    for (place, other) in roles.iter().enumerate() {
+        if other.same(*role) {
+            return place;
+        }
+    }
+    0
+}
+
+/// Where the next pass may begin: on a further key of the role whose turn it is, or of the first role, from this one on and
+/// all round, that has something to do. What a role wrote is often what it has to go on with, so it is asked again first.
+fn next_in_turn(
+    alloc: Global,
+    waking: &mut Waking,
+    turn: &Option<Turn>,
+    roles: &[Role],
+) -> Result<Found, AllocError>
+    ensures { waking.new ≡ waking.old }
+{
+    if let Some(next) = next_in(alloc, waking, turn)? {
+        return Ok(Found::Work(next));
+    }
+    let (before, from) = roles.split_at(places_before(roles, turn));
+    match first_among(alloc, waking, from)? {
+        Found::Nothing => first_among(alloc, waking, before),
+        found => Ok(found),
+    }
 }
 
 impl Shared {
@@ -125,6 +189,7 @@ impl Shared {
             waking,
             turn: None,
             aside: None,
+            wanted: Role::Trigger,
             workers,
             away: 0,
             over: false,
@@ -317,52 +382,43 @@ impl Shared {
         self.away > 0 && self.away.saturating_add(1) >= self.workers
     }
 
-    /// Where a pass may begin of a role that asks nobody; `None` where none of them has something to do, or not before
-    /// something is delivered.
-    fn next_aside(&mut self, alloc: Global) -> Result<Option<Turn>, AllocError>
+    /// Where a pass of a role may begin that asks nobody, and notes whose turn it is by that, or who has to be told.
+    fn next_aside(&mut self, alloc: Global) -> Result<Found, AllocError>
         ensures { self.new.waking ≡ self.old.waking }
     {
-        if let Some(turn) = next_in(alloc, &mut self.waking, &self.aside)? {
-            return Ok(Some(turn));
+        let found = next_in_turn(alloc, &mut self.waking, &self.aside, &ASKING_NOBODY)?;
+        match &found {
+            Found::Work(turn) => self.aside = Some(turn.copy()?),
+            Found::Behind(role) => self.wanted = *role,
+            Found::Nothing => {}
         }
-        if self.is_to_deliver(alloc)? {
-            return Ok(None);
-        }
-        first_of(alloc, &mut self.waking, &ASKING_NOBODY)
+        Ok(found)
     }
 
-    /// Where the next pass may begin: on a further key of the role whose turn it is, or, where all is delivered, on the
-    /// first key of the first role that has something to do. `None` where no role has, or not before something is delivered.
-    fn next_in_line(&mut self, alloc: Global) -> Result<Option<Turn>, AllocError>
+    /// Where a pass of any role may begin, and notes whose turn it is by that, or who has to be told.
+    fn next_in_line(&mut self, alloc: Global) -> Result<Found, AllocError>
         ensures { self.new.waking ≡ self.old.waking }
     {
-        if let Some(turn) = next_in(alloc, &mut self.waking, &self.turn)? {
-            return Ok(Some(turn));
+        let found = next_in_turn(alloc, &mut self.waking, &self.turn, &Role::ALL)?;
+        match &found {
+            Found::Work(turn) => self.turn = Some(turn.copy()?),
+            Found::Behind(role) => self.wanted = *role,
+            Found::Nothing => {}
         }
-        if self.is_to_deliver(alloc)? {
-            return Ok(None);
-        }
-        first_of(alloc, &mut self.waking, &Role::ALL)
+        Ok(found)
     }
 
-    /// Where the next pass may begin, and notes whose turn it is by that.
-    fn next_turn(&mut self, alloc: Global) -> Result<Option<Turn>, AllocError>
+    /// Where the next pass may begin.
+    fn next_turn(&mut self, alloc: Global) -> Result<Found, AllocError>
         ensures { self.new.waking ≡ self.old.waking }
     {
         if self.is_alone() {
-            if let Some(turn) = self.next_aside(alloc)? {
-                self.aside = Some(turn.copy()?);
-                return Ok(Some(turn));
-            }
-            if self.is_to_deliver(alloc)? {
-                return Ok(None);
+            match self.next_aside(alloc)? {
+                Found::Nothing => {}
+                found => return Ok(found),
             }
         }
-        let Some(turn) = self.next_in_line(alloc)? else {
-            return Ok(None);
-        };
-        self.turn = Some(turn.copy()?);
-        Ok(Some(turn))
+        self.next_in_line(alloc)
     }
 
     /// Begins a pass; `None` where it is not begun.
@@ -385,8 +441,8 @@ impl Shared {
         ensures { self.new.waking.scenario ≡ self.old.waking.scenario }
     {
         match self.next_turn(alloc)? {
-            Some(turn) => self.begin_on(alloc, turn),
-            None => Ok(None),
+            Found::Work(turn) => self.begin_on(alloc, turn),
+            Found::Behind(_) | Found::Nothing => Ok(None),
         }
     }
 
@@ -426,12 +482,12 @@ impl Shared {
         self.take(alloc)
     }
 
-    /// Tells each role of all that it was not told of and that is not held from it.
+    /// Tells the role that is wanted of all that it was not told of and that is not held from it.
     pub(crate) fn deliver(&mut self, alloc: Global) -> Result<(), AllocError>
         ensures { self.new.waking.scenario ≡ self.old.waking.scenario }
     {
         for _delivery in 0..=self.limit() {
-            let Some(step) = self.waking.next_delivery(alloc)? else {
+            let Some(step) = self.waking.next_delivery_to(alloc, self.wanted)? else {
                 return Ok(());
             };
             if !matches!(self.make(alloc, step)?, Went::On) {
