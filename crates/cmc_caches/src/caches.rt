@@ -1,5 +1,5 @@
 //! What all roles were told of.
-ghost use Rattle.std.specs.Prelude.{◌≡◌, ◌≤◌, IfOk, OnOk, OnErr, length, reverse, if◌then◌else◌};
+ghost use Rattle.std.specs.Prelude.{◌≡◌, ◌<◌, ◌≤◌, IfOk, OnOk, OnErr, length, reverse, if◌then◌else◌, slice_set, vec_len};
 ghost use Rattle.cmc_objects.specs.declared.role.Role.{Role as RoleValue};
 ghost use Rattle.cmc_model.specs.Histories.{role_eq};
 ghost use Rattle.cmc_model.specs.Writes as spec;
@@ -37,6 +37,15 @@ impl Model for Caches {
     ghost view = { λ c. c.rows.items };
 
     ghost invariant = { λ c. length c.rows.items ≡ 8 };
+}
+
+/// Puts the row in the place of another. A function of its own for any rows: to let go of what a role was told, maps of
+/// maps, is nothing that a search for a proof should look into.
+fn put_row<T: Drop>(rows: &mut Vec<T>, place: usize, row: T)
+    requires { place < vec_len rows.old }
+    ensures { rows.new.items ≡ slice_set rows.old.items place row }
+{
+    rows[place] = row;
 }
 
 impl Caches {
@@ -85,7 +94,7 @@ impl Caches {
     pub fn set(&mut self, role: Role, caches: RoleCaches)
         ensures { (r : RoleValue) → caches_of self.new r ≡ (if role_eq role r then caches else caches_of self.old r) }
     {
-        self.rows[role.rank() as usize] = caches;
+        put_row(&mut self.rows, role.rank() as usize, caches);
     }
 
     /// What the role sees of the key. An `Err` is want of memory.
