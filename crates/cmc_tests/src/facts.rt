@@ -3,10 +3,11 @@
 use crate::checks::{passes, tells};
 use crate::values::{column, least_spec, made, name, number, text};
 use crate::{made_certificates, made_keys, made_requests, whole};
+use cmc_keys::is_public_of;
 use cmc_match::{
     asks_for_temporary, facts_mean, facts_of, has_names, has_text, is_next_key, is_one_key,
-    is_same_set, is_temporary, key_fits, pair_in, part_under, request_has_key, request_matches,
-    revision_of, text_under,
+    is_same_set, is_temporary, key_fits, pair_in, part_under, request_answers, request_has_key,
+    request_matches, revision_of, text_under,
 };
 use cmc_meta::{Bytes, Pairs, Text, Texts};
 use cmc_objects::{
@@ -384,16 +385,26 @@ fn key_spec(row: &str) -> KeySpec {
     }
 }
 
-fn is_fitting(alloc: Global, row: &str) -> Result<bool, Fail> {
+fn is_public_fitting(spec: &KeySpec, file: &[u8]) -> bool {
+    match read_key(file) {
+        Ok(key) => is_public_of(spec.algorithm_at_use(), spec.size_at_use(), &key),
+        Err(_) => false,
+    }
+}
+
+/// Whether the row's file fits, and whether its public key does.
+fn is_fitting(alloc: Global, row: &str) -> Result<(bool, bool), Fail> {
     let file = key_called(alloc, column(row, 2))?;
-    Ok(key_fits(&key_spec(row), file.as_slice()))
+    let spec = key_spec(row);
+    let octets = file.as_slice();
+    Ok((key_fits(&spec, octets), is_public_fitting(&spec, octets)))
 }
 
 #[test]
 fn fits_keys(rt: HostRuntime) -> Result<(), Fail> {
     for row in &KEYS {
         let want = is_wanted(column(row, 3));
-        passes(&rt, row, is_fitting(rt.alloc(), row)? == want);
+        passes(&rt, row, is_fitting(rt.alloc(), row)? == (want, want));
     }
     Ok(())
 }
@@ -435,6 +446,29 @@ fn finds_the_key_of_a_request(rt: HostRuntime) -> Result<(), Fail> {
         let (by_request, by_fields) = has_key(alloc, request, file.as_slice())?;
         passes(&rt, key, by_request == *want);
         passes(&rt, request, by_fields == *want);
+    }
+    Ok(())
+}
+
+/// A request, a key file, and whether the request asks for all that the whole spec asks for, with that key.
+static ANSWERS: [(&str, &str, bool); 5] = [
+    ("P-256, all names", "p256 as ECPrivateKey", true),
+    ("P-256, all names", "p256 as PrivateKeyInfo", true),
+    ("P-256, all names", "p384 as ECPrivateKey", false),
+    ("P-384, no names", "p384 as PrivateKeyInfo", false),
+    ("P-256, all names", "empty", false),
+];
+
+fn answers(alloc: Global, request: &str, key: &str) -> Result<bool, Fail> {
+    let asked = asking_called(alloc, request)?;
+    let file = key_called(alloc, key)?;
+    Ok(request_answers(&whole_spec(alloc)?, &asked, file.as_slice()))
+}
+
+#[test]
+fn finds_the_request_that_answers(rt: HostRuntime) -> Result<(), Fail> {
+    for (request, key, want) in &ANSWERS {
+        passes(&rt, key, answers(rt.alloc(), request, key)? == *want);
     }
     Ok(())
 }
