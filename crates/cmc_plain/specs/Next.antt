@@ -6,6 +6,7 @@ use Rattle.cmc_model.specs.Writes.{writes, last_of_kind}
 use Rattle.cmc_moves.specs.declared.moves.Move.{Move}
 use Rattle.cmc_moves.specs.declared.moves.Move.TheVariants.{Script, Deliver}
 use Rattle.cmc_plain.specs.Plain.{IsStepReady, IsFirstDelivery, HasNoScript, HasNoDelivery}
+use Rattle.cmc_objects.specs.declared.role.Role.{Role}
 use Rattle.cmc_plain.specs.Searches.{FindsKind}
 
 -- the next step of the script, which does not wait
