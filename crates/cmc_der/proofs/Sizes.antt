@@ -32,7 +32,7 @@ closed_fits levels after body octets len c h =
     let before : held (b ∷ reverse after) + length body ≤ len = subst P turned h in
     rw (c.2) (omega (arith, before, length-append (b.1) (value b.0 body), value_size b.0 body))
 
-trimmed_size : (bytes : List ℕ) → length (trimmed bytes) ≤ length bytes
+pub trimmed_size : (bytes : List ℕ) → length (trimmed bytes) ≤ length bytes
 trimmed_size [] = omega arith
 trimmed_size (b ∷ bs) = elim (ltb 0 b) as (λ v. length (cond v (b ∷ bs) (trimmed bs)) ≤ length (b ∷ bs)) [ true ↦ omega arith | false ↦ omega (arith, trimmed_size bs) ]
 

@@ -8,4 +8,4 @@ mod writing;
 
 pub use fields::{CertFields, CsrFields, KeyKind, Names, Spki, bits_are_fewest};
 pub use reading::{DerFault, Tlv, no_proper_prefix, read_one};
-pub use writing::{Writer, number_is_shortest, written_is_read};
+pub use writing::{Writer, number_is_shortest, put_integer, put_value, written_is_read};

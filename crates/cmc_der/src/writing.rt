@@ -8,96 +8,99 @@ use crate::fields::without_zeros;
 use std::alloc::{AllocError, Global};
 use std::marker::Model;
 
-/// The first octets of a value: its identifier octet and its length octets.
-#[tactic(auto, unfolding(crate::specs::Building::length_octets))]
-fn header(alloc: Global, tag: u8, len: usize) -> Result<Vec<u8>, AllocError>
-    requires { len < 2 ^ 32 }
-    ensures { IfOk result (λ v. v.items ≡ tag ∷ length_octets len) }
+/// Three pieces more, all or none; the octets are moved at most once.
+fn append(out: &mut Vec<u8>, head: &[u8], front: &[u8], back: &[u8]) -> Result<(), AllocError>
+    requires { length head.now + length front.now + length back.now < 2 ^ 33 }
+    ensures ok { OnOk result (out.new.items ≡ out.old.items ++ (head.now ++ (front.now ++ back.now))) }
+    ensures err { OnErr result (out.new.items ≡ out.old.items) }
 {
-    let n = len as u32;
+    out.reserve(head.len() + front.len() + back.len())?;
+    out.extend_from_slice(head).unwrap();
+    out.extend_from_slice(front).unwrap();
+    out.extend_from_slice(back).unwrap();
+    Ok(())
+}
+
+/// One value more: its tag, its length octets and its contents octets, which are those of `front` and of `back`.
+#[tactic(auto, unfolding(crate::specs::Building::value, crate::specs::Building::length_octets))]
+fn put(out: &mut Vec<u8>, tag: u8, front: &[u8], back: &[u8]) -> Result<(), AllocError>
+    requires { length front.now + length back.now < 2 ^ 32 }
+    ensures ok { OnOk result (out.new.items ≡ out.old.items ++ value tag (front.now ++ back.now)) }
+    ensures err { OnErr result (out.new.items ≡ out.old.items) }
+{
+    let n = (front.len() + back.len()) as u32;
+    let low = (n % 256) as u8;
     if n < 128 {
-        Vec::from_slice(alloc, &[tag, n as u8])
+        append(out, &[tag, n as u8], front, back)
     } else if n < 256 {
-        Vec::from_slice(alloc, &[tag, 129, n as u8])
+        append(out, &[tag, 129, n as u8], front, back)
     } else if n < 65536 {
-        Vec::from_slice(alloc, &[tag, 130, (n / 256) as u8, (n % 256) as u8])
+        append(out, &[tag, 130, (n / 256) as u8, low], front, back)
     } else if n < 16777216 {
-        Vec::from_slice(
-            alloc,
-            &[
-                tag,
-                131,
-                (n / 65536) as u8,
-                (n / 256 % 256) as u8,
-                (n % 256) as u8,
-            ],
+        let middle = (n / 256 % 256) as u8;
+        append(
+            out,
+            &[tag, 131, (n / 65536) as u8, middle, low],
+            front,
+            back,
         )
     } else {
-        Vec::from_slice(
-            alloc,
-            &[
-                tag,
-                132,
-                (n / 16777216) as u8,
-                (n / 65536 % 256) as u8,
-                (n / 256 % 256) as u8,
-                (n % 256) as u8,
-            ],
+        let high = (n / 65536 % 256) as u8;
+        let middle = (n / 256 % 256) as u8;
+        append(
+            out,
+            &[tag, 132, (n / 16777216) as u8, high, middle, low],
+            front,
+            back,
         )
     }
 }
 
-/// Two pieces more, both or none.
-fn append(out: &mut Vec<u8>, first: &[u8], second: &[u8]) -> Result<(), AllocError>
-    ensures ok { OnOk result (out.new.items ≡ out.old.items ++ (first.now ++ second.now)) }
+/// An INTEGER more, of the octets of a number without zeros in front.
+fn put_signed(out: &mut Vec<u8>, octets: &[u8]) -> Result<(), AllocError>
+    requires { length octets.now + 1 < 2 ^ 32 }
+    ensures ok { OnOk result (out.new.items ≡ out.old.items ++ value 2 (signed octets.now)) }
     ensures err { OnErr result (out.new.items ≡ out.old.items) }
-{
-    let before = out.len();
-    out.extend_from_slice(first)?;
-    match out.extend_from_slice(second) {
-        Ok(()) => Ok(()),
-        Err(e) => {
-            out.truncate(before);
-            Err(e)
-        }
-    }
-}
-
-/// One value more.
-#[tactic(auto, unfolding(crate::specs::Building::value))]
-fn put(alloc: Global, out: &mut Vec<u8>, tag: u8, body: &[u8]) -> Result<(), AllocError>
-    requires { length body.now < 2 ^ 32 }
-    ensures ok { OnOk result (out.new.items ≡ out.old.items ++ value tag body.now) }
-    ensures err { OnErr result (out.new.items ≡ out.old.items) }
-{
-    let head = header(alloc, tag, body.len())?;
-    out.reserve(head.len() + body.len())?;
-    append(out, &head, body)
-}
-
-/// A zero octet, and these octets behind it.
-fn behind_zero(alloc: Global, octets: &[u8]) -> Result<Vec<u8>, AllocError>
-    ensures { IfOk result (λ v. v.items ≡ 0 ∷ octets.now) }
-{
-    let mut body = Vec::from_slice(alloc, &[0])?;
-    body.extend_from_slice(octets)?;
-    Ok(body)
-}
-
-/// The contents octets of an INTEGER, of the octets of a number without zeros in front.
-fn signed_of(alloc: Global, octets: &[u8]) -> Result<Vec<u8>, AllocError>
-    ensures { IfOk result (λ v. v.items ≡ signed octets.now) }
 {
     match octets {
-        [] => Vec::from_slice(alloc, &[0]),
+        [] => put(out, 2, &[0], octets),
         [first, ..] => {
             if *first < 128 {
-                Vec::from_slice(alloc, octets)
+                put(out, 2, &[], octets)
             } else {
-                behind_zero(alloc, octets)
+                put(out, 2, &[0], octets)
             }
         }
     }
+}
+
+/// Writes a value with this tag behind the octets: its contents octets are those of `front` and of `back` behind
+/// them. The octets grow at most once.
+///
+/// # Errors
+///
+/// Only where there is no memory, and then the octets are as they were.
+pub fn put_value(octets: &mut Vec<u8>, tag: u8, front: &[u8], back: &[u8]) -> Result<(), AllocError>
+    requires tag { tag % 32 ≢ 31 }
+    requires fits { length front.now + length back.now < 2 ^ 32 }
+    ensures ok { OnOk result (octets.new.items ≡ octets.old.items ++ value tag (front.now ++ back.now)) }
+    ensures err { OnErr result (octets.new.items ≡ octets.old.items) }
+{
+    put(octets, tag, front, back)
+}
+
+/// Writes an INTEGER behind the octets (X.690, 8.3): the number without a sign that `bytes` spell, the highest
+/// first, in the fewest octets. No bytes spell 0.
+///
+/// # Errors
+///
+/// Only where there is no memory, and then the octets are as they were.
+pub fn put_integer(octets: &mut Vec<u8>, bytes: &[u8]) -> Result<(), AllocError>
+    requires { length bytes.now + 1 < 2 ^ 32 }
+    ensures ok { OnOk result (octets.new.items ≡ octets.old.items ++ value 2 (integer_of bytes.now)) }
+    ensures err { OnErr result (octets.new.items ≡ octets.old.items) }
+{
+    put_signed(octets, without_zeros(bytes))
 }
 
 /// A begun value: its tag, and the octets that stood before it.
@@ -115,12 +118,12 @@ impl Model for Level {
 
 impl Level {
     /// Writes the value that ends behind the octets before it.
-    fn put_after(&mut self, alloc: Global, body: &[u8]) -> Result<(), AllocError>
+    fn put_after(&mut self, body: &[u8]) -> Result<(), AllocError>
         requires { length body.now < 2 ^ 32 }
         ensures ok { OnOk result (self.new ≡ (self.old.0, self.old.1 ++ value self.old.0 body.now)) }
         ensures err { OnErr result (self.new ≡ self.old) }
     {
-        put(alloc, &mut self.before, self.tag, body)
+        put(&mut self.before, self.tag, &[], body)
     }
 
     fn into_octets(self) -> Vec<u8>
@@ -132,11 +135,7 @@ impl Level {
 }
 
 /// The innermost begun value ends.
-fn close_level(
-    levels: &mut Vec<Level>,
-    octets: &mut Vec<u8>,
-    alloc: Global,
-) -> Result<(), AllocError>
+fn close_level(levels: &mut Vec<Level>, octets: &mut Vec<u8>) -> Result<(), AllocError>
     requires begun { 0 < vec_len levels.old }
     requires fits { length octets.old.items < 2 ^ 32 }
     ensures ok { OnOk result (Closes levels.old.items levels.new.items octets.old.items octets.new.items) }
@@ -146,7 +145,7 @@ fn close_level(
         None => unreachable!(),
         Some(level) => {
             let mut level = level;
-            match level.put_after(alloc, octets) {
+            match level.put_after(octets) {
                 Ok(()) => {
                     *octets = level.into_octets();
                     Ok(())
@@ -238,12 +237,12 @@ impl Writer {
     /// # Errors
     ///
     /// Only where there is no memory.
-    pub fn end(&mut self, alloc: Global) -> Result<(), AllocError>
+    pub fn end(&mut self, _alloc: Global) -> Result<(), AllocError>
         requires { 0 < length self.old.outer }
         ensures ok { OnOk result (self.new ≡ closed self.old) }
         ensures err { OnErr result (self.new ≡ self.old) }
     {
-        close_level(&mut self.levels, &mut self.octets, alloc)?;
+        close_level(&mut self.levels, &mut self.octets)?;
         Ok(())
     }
 
@@ -253,13 +252,12 @@ impl Writer {
     /// # Errors
     ///
     /// Only where there is no memory.
-    pub fn integer(&mut self, alloc: Global, bytes: &[u8]) -> Result<(), AllocError>
+    pub fn integer(&mut self, _alloc: Global, bytes: &[u8]) -> Result<(), AllocError>
         requires { self.old.len + length bytes.now + 8 < 2 ^ 31 }
         ensures ok { OnOk result (self.new ≡ added 2 (integer_of bytes.now) (length bytes.now) self.old) }
         ensures err { OnErr result (self.new ≡ self.old) }
     {
-        let body = signed_of(alloc, without_zeros(bytes))?;
-        put(alloc, &mut self.octets, 2, &body)?;
+        put_integer(&mut self.octets, bytes)?;
         self.len += bytes.len() as u64 + 8;
         Ok(())
     }
@@ -282,13 +280,12 @@ impl Writer {
     /// # Errors
     ///
     /// Only where there is no memory.
-    pub fn bits(&mut self, alloc: Global, bytes: &[u8]) -> Result<(), AllocError>
+    pub fn bits(&mut self, _alloc: Global, bytes: &[u8]) -> Result<(), AllocError>
         requires { self.old.len + length bytes.now + 8 < 2 ^ 31 }
         ensures ok { OnOk result (self.new ≡ added 3 (0 ∷ bytes.now) (length bytes.now) self.old) }
         ensures err { OnErr result (self.new ≡ self.old) }
     {
-        let body = behind_zero(alloc, bytes)?;
-        put(alloc, &mut self.octets, 3, &body)?;
+        put(&mut self.octets, 3, &[0], bytes)?;
         self.len += bytes.len() as u64 + 8;
         Ok(())
     }
@@ -298,13 +295,13 @@ impl Writer {
     /// # Errors
     ///
     /// Only where there is no memory.
-    pub fn octets(&mut self, alloc: Global, tag: u8, bytes: &[u8]) -> Result<(), AllocError>
+    pub fn octets(&mut self, _alloc: Global, tag: u8, bytes: &[u8]) -> Result<(), AllocError>
         requires tag { tag % 32 ≢ 31 }
         requires fits { self.old.len + length bytes.now + 8 < 2 ^ 31 }
         ensures ok { OnOk result (self.new ≡ added tag bytes.now (length bytes.now) self.old) }
         ensures err { OnErr result (self.new ≡ self.old) }
     {
-        put(alloc, &mut self.octets, tag, bytes)?;
+        put(&mut self.octets, tag, &[], bytes)?;
         self.len += bytes.len() as u64 + 8;
         Ok(())
     }

@@ -6,4 +6,4 @@ use Rattle.cmc_der.proofs.writing.Writer.bits.Goals as goal
 pub invariant_of-self-2 : goal.invariant_of-self-2
 invariant_of-self-2 c =
     let len = ap (λ (b : Building). b.len) c.self.view_is in
-    rw (c.in_ok-put.ensures.ok, c.deref.ensures.value, c.in_ok-body.ensures) (added_fits 3 (reverse c.self.inside.levels.items) c.self.inside.octets.items (0 ∷ c.args.bytes.now) c.self.inside.len (length c.args.bytes.now) (omega arith) c.self.invariant.0, omega (arith, len, c.requires))
+    rw (c.in_ok-put.ensures.ok) (added_fits 3 (reverse c.self.inside.levels.items) c.self.inside.octets.items (0 ∷ c.args.bytes.now) c.self.inside.len (length c.args.bytes.now) (omega arith) c.self.invariant.0, omega (arith, len, c.requires))
