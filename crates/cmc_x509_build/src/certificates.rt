@@ -1,5 +1,5 @@
 //! Certificates.
-ghost use Rattle.std.specs.Prelude.{◌≡◌, ◌≤◌, ◌++◌, ℕ, ℤ, length, IfOk, ◌≤ℤ◌};
+ghost use Rattle.std.specs.Prelude.{◌≡◌, ◌≤◌, ◌++◌, ℕ, ℤ, length, Some, IfOk, OnOk, ◌≤ℤ◌};
 ghost use Rattle.cmc_der.specs.Integers.{integer_of};
 ghost use Rattle.cmc_der.specs.Building.{value};
 ghost use Rattle.cmc_der.specs.Keys.{key_shown, names_shown, csr_shown, CertificateFields};
@@ -8,17 +8,22 @@ ghost use Rattle.cmc_x509.specs.Lists.{IsValueList};
 ghost use Rattle.cmc_x509.specs.Certificates.{IsCertificate};
 ghost use Rattle.cmc_x509.specs.declared.taking.TheConstants.{MAX_INPUT};
 ghost use Rattle.cmc_x509_build.specs.Keys.{IsWritable};
-ghost use Rattle.cmc_x509_build.specs.Octets.{signed_octets};
+ghost use Rattle.cmc_x509_build.specs.Octets.{signed_octets, name_octets};
 ghost use Rattle.cmc_x509_build.specs.Certificates as spec;
 
-use crate::keys::spki_octets;
-use crate::names::{alternative_extension, name_octets};
-use crate::pieces::{integer, joined, value_of};
-use crate::signatures::{signature_algorithm, signed};
+use crate::keys::push_spki;
+use crate::names::{push_alternative_extension, push_name};
+use crate::pieces::{push_integer, push_nested, push_value};
+use crate::signatures::{push_algorithm, signed};
 use cmc_der::{CsrFields, Names, Spki};
 use cmc_meta::{Bytes, Text};
 use cmc_time::{asn1_time_tag, print_asn1_time};
 use std::alloc::{AllocError, Global};
+
+// Room for the two times of a certificate, and for a body of some names and a common key: what is longer grows.
+const PART: usize = 64;
+
+const BODY: usize = 512;
 
 /// What a certificate says that its request does not: the serial number, the issuer's common name, and the first
 /// and the last moment of its validity, in seconds since 1970-01-01T00:00:00Z.
@@ -44,67 +49,92 @@ impl CertPlan {
     }
 }
 
-fn time_octets(alloc: Global, at: i64) -> Result<Vec<u8>, AllocError>
+fn push_time(alloc: Global, octets: &mut Vec<u8>, at: i64) -> Result<(), AllocError>
     requires { IsCertificateTime at }
-    ensures { IfOk result (λ octets. octets.items ≡ spec.time_octets at) }
+    ensures { OnOk result (octets.new.items ≡ octets.old.items ++ spec.time_octets at) }
 {
     let text = print_asn1_time(alloc, at)?;
-    value_of(alloc, asn1_time_tag(at), text.as_bytes())
+    push_value(octets, asn1_time_tag(at), text.as_bytes())
 }
 
-fn validity(alloc: Global, not_before: i64, not_after: i64) -> Result<Vec<u8>, AllocError>
+fn push_validity(
+    alloc: Global,
+    octets: &mut Vec<u8>,
+    not_before: i64,
+    not_after: i64,
+) -> Result<(), AllocError>
     requires begins_in_range { IsCertificateTime not_before }
     requires ends_in_range { IsCertificateTime not_after }
-    ensures { IfOk result (λ octets. octets.items ≡ spec.validity_octets not_before not_after) }
+    ensures { OnOk result (octets.new.items
+        ≡ octets.old.items ++ spec.validity_octets not_before not_after) }
 {
-    let times = joined(
-        time_octets(alloc, not_before)?,
-        time_octets(alloc, not_after)?,
-    )?;
-    value_of(alloc, 48, &times)
+    let mut times = Vec::with_capacity(alloc, PART)?;
+    push_time(alloc, &mut times, not_before)?;
+    push_time(alloc, &mut times, not_after)?;
+    push_value(octets, 48, &times)
 }
 
 // [0] with v3, serialNumber and signature.
-fn first_octets(alloc: Global, serial: u64) -> Result<Vec<u8>, AllocError>
-    ensures { IfOk result (λ octets. octets.items ≡ spec.first_octets (spec.serial_octets serial)) }
+fn push_first(alloc: Global, octets: &mut Vec<u8>, serial: u64) -> Result<(), AllocError>
+    ensures { OnOk result (octets.new.items
+        ≡ octets.old.items ++ spec.first_octets (spec.serial_octets serial)) }
 {
-    let version = value_of(alloc, 160, &value_of(alloc, 2, &[2])?)?;
-    let number = integer(alloc, &serial.to_be_bytes())?;
-    joined(version, joined(number, signature_algorithm(alloc)?)?)
+    push_nested(alloc, octets, 160, 2, &[2])?;
+    push_integer(octets, &serial.to_be_bytes())?;
+    push_algorithm(alloc, octets)
+}
+
+// The issuer and the validity.
+fn push_issuer(alloc: Global, octets: &mut Vec<u8>, plan: &CertPlan) -> Result<(), AllocError>
+    requires begins_in_range { IsCertificateTime plan.now.not_before }
+    requires ends_in_range { IsCertificateTime plan.now.not_after }
+    ensures { OnOk result (octets.new.items ≡ octets.old.items ++ (name_octets (Some plan.now.issuer)
+        ++ spec.validity_octets plan.now.not_before plan.now.not_after)) }
+{
+    push_name(alloc, octets, Some(plan.issuer.as_slice()))?;
+    push_validity(alloc, octets, plan.not_before, plan.not_after)
 }
 
 // The parts before the subject.
-fn head_octets(alloc: Global, plan: &CertPlan) -> Result<Vec<u8>, AllocError>
+fn push_head(alloc: Global, octets: &mut Vec<u8>, plan: &CertPlan) -> Result<(), AllocError>
     requires begins_in_range { IsCertificateTime plan.now.not_before }
     requires ends_in_range { IsCertificateTime plan.now.not_after }
-    ensures { IfOk result (λ octets. octets.items ≡ spec.head_octets
+    ensures { OnOk result (octets.new.items ≡ octets.old.items ++ spec.head_octets
         (spec.serial_octets plan.now.serial) plan.now.issuer plan.now.not_before plan.now.not_after) }
 {
-    let issuer = name_octets(alloc, Some(plan.issuer.as_slice()))?;
-    let times = validity(alloc, plan.not_before, plan.not_after)?;
-    joined(first_octets(alloc, plan.serial)?, joined(issuer, times)?)
+    push_first(alloc, octets, plan.serial)?;
+    push_issuer(alloc, octets, plan)
 }
 
 // [3] with the alternative names, where there are any.
-fn extensions_of(alloc: Global, alternative: &[u8]) -> Result<Vec<u8>, AllocError>
-    ensures { IfOk result (λ octets. octets.items ≡ spec.extensions_of alternative.now) }
+fn push_extensions(
+    alloc: Global,
+    octets: &mut Vec<u8>,
+    alternative: &[u8],
+) -> Result<(), AllocError>
+    ensures { OnOk result (octets.new.items ≡ octets.old.items ++ spec.extensions_of alternative.now) }
 {
     if alternative.is_empty() {
-        return Ok(Vec::new(alloc));
+        return Ok(());
     }
-    let extension = alternative_extension(alloc, alternative)?;
-    let extensions = value_of(alloc, 48, &extension)?;
-    value_of(alloc, 163, &extensions)
+    let mut extension = Vec::new(alloc);
+    push_alternative_extension(alloc, &mut extension, alternative)?;
+    push_nested(alloc, octets, 163, 48, &extension)
 }
 
 // The parts from the subject on.
-fn subject_octets(alloc: Global, names: &Names<'_>, key: &Spki<'_>) -> Result<Vec<u8>, AllocError>
-    ensures { IfOk result (λ octets. octets.items
-        ≡ spec.subject_octets (names_shown names.now) (key_shown key.now)) }
+fn push_subject(
+    alloc: Global,
+    octets: &mut Vec<u8>,
+    names: &Names<'_>,
+    key: &Spki<'_>,
+) -> Result<(), AllocError>
+    ensures { OnOk result (octets.new.items
+        ≡ octets.old.items ++ spec.subject_octets (names_shown names.now) (key_shown key.now)) }
 {
-    let extensions = extensions_of(alloc, names.alternative)?;
-    let tail = joined(spki_octets(alloc, key)?, extensions)?;
-    joined(name_octets(alloc, names.common)?, tail)
+    push_name(alloc, octets, names.common)?;
+    push_spki(alloc, octets, key)?;
+    push_extensions(alloc, octets, names.alternative)
 }
 
 #[tactic(auto, unfolding(crate::specs::Certificates::certificate_body))]
@@ -119,9 +149,11 @@ fn built(
     ensures { IfOk result (λ body. body ≡ spec.certificate_body plan.now.issuer
         (spec.fields_of plan.now (names_shown csr.now.names) (key_shown key.now))) }
 {
-    let subject = subject_octets(alloc, &csr.names, key)?;
-    let parts = joined(head_octets(alloc, plan)?, subject)?;
-    let body = value_of(alloc, 48, &parts)?;
+    let mut parts = Vec::with_capacity(alloc, BODY)?;
+    push_head(alloc, &mut parts, plan)?;
+    push_subject(alloc, &mut parts, &csr.names, key)?;
+    let mut body = Vec::new(alloc);
+    push_value(&mut body, 48, &parts)?;
     Bytes::from_slice(alloc, &body)
 }
 

@@ -1,63 +1,95 @@
 //! Public keys.
-ghost use Rattle.std.specs.Prelude.{◌≡◌, ◌≢◌, IfOk};
+ghost use Rattle.std.specs.Prelude.{◌≡◌, ◌≢◌, ◌++◌, ◌∷◌, [], OnOk};
 ghost use Rattle.cmc_der.specs.Keys.{key_shown, OtherKey};
 ghost use Rattle.cmc_x509_build.specs.Octets as spec;
+ghost use Rattle.cmc_x509_build.specs.declared.oids.TheConstants.{RSA_ENCRYPTION, EC_PUBLIC_KEY};
 ghost use Rattle.cmc_der.specs.Building.{value};
 
 use crate::oids;
-use crate::pieces::{bits, integer, joined, value_of};
+use crate::pieces::{push_bits, push_integer, push_value};
 use cmc_der::{KeyKind, Spki};
 use std::alloc::{AllocError, Global};
 
-fn rsa_octets(alloc: Global, modulus: &[u8], exponent: &[u8]) -> Result<Vec<u8>, AllocError>
-    ensures { IfOk result (λ octets. octets.items ≡ spec.rsa_octets modulus.now exponent.now) }
+// Room for an AlgorithmIdentifier and what stands round a key: one that needs more grows.
+const AROUND: usize = 64;
+
+fn push_rsa(
+    alloc: Global,
+    octets: &mut Vec<u8>,
+    modulus: &[u8],
+    exponent: &[u8],
+) -> Result<(), AllocError>
+    ensures { OnOk result (octets.new.items
+        ≡ octets.old.items ++ spec.rsa_octets modulus.now exponent.now) }
 {
-    let numbers = joined(integer(alloc, modulus)?, integer(alloc, exponent)?)?;
-    value_of(alloc, 48, &numbers)
+    let mut numbers = Vec::with_capacity(alloc, modulus.len() + AROUND)?;
+    push_integer(&mut numbers, modulus)?;
+    push_integer(&mut numbers, exponent)?;
+    push_value(octets, 48, &numbers)
 }
 
-fn curve_oid(alloc: Global, curve: KeyKind) -> Result<Vec<u8>, AllocError>
-    ensures { IfOk result (λ octets. octets.items ≡ value 6 (spec.curve_oid curve)) }
+fn push_curve(octets: &mut Vec<u8>, curve: KeyKind) -> Result<(), AllocError>
+    ensures { OnOk result (octets.new.items ≡ octets.old.items ++ value 6 (spec.curve_oid curve)) }
 {
     match curve {
-        KeyKind::P256 => value_of(alloc, 6, &oids::SECP256R1),
-        KeyKind::P384 => value_of(alloc, 6, &oids::SECP384R1),
-        KeyKind::P521 => value_of(alloc, 6, &oids::SECP521R1),
-        KeyKind::Rsa { .. } => value_of(alloc, 6, &[]),
+        KeyKind::P256 => push_value(octets, 6, &oids::SECP256R1),
+        KeyKind::P384 => push_value(octets, 6, &oids::SECP384R1),
+        KeyKind::P521 => push_value(octets, 6, &oids::SECP521R1),
+        KeyKind::Rsa { .. } => push_value(octets, 6, &[]),
     }
 }
 
-// SubjectPublicKeyInfo of an algorithm, its parameter and the octets of a key.
-fn key_info(
-    alloc: Global,
-    algorithm: &[u8],
-    parameter: Vec<u8>,
-    key: &[u8],
-) -> Result<Vec<u8>, AllocError>
-    ensures { IfOk result (λ octets. octets.items
-        ≡ spec.key_info algorithm.now parameter.items key.now) }
+// SubjectPublicKeyInfo of the algorithm with its parameter, and the octets of a key.
+fn push_key(alloc: Global, octets: &mut Vec<u8>, named: &[u8], key: &[u8]) -> Result<(), AllocError>
+    ensures { OnOk result (octets.new.items
+        ≡ octets.old.items ++ value 48 (value 48 named.now ++ value 3 (0 ∷ key.now))) }
 {
-    let named = joined(value_of(alloc, 6, algorithm)?, parameter)?;
-    let identifier = value_of(alloc, 48, &named)?;
-    let parts = joined(identifier, bits(alloc, key)?)?;
-    value_of(alloc, 48, &parts)
+    let mut parts = Vec::with_capacity(alloc, key.len() + AROUND)?;
+    push_value(&mut parts, 48, named)?;
+    push_bits(&mut parts, key)?;
+    push_value(octets, 48, &parts)
+}
+
+fn push_rsa_key(
+    alloc: Global,
+    octets: &mut Vec<u8>,
+    modulus: &[u8],
+    exponent: &[u8],
+) -> Result<(), AllocError>
+    ensures { OnOk result (octets.new.items ≡ octets.old.items
+        ++ spec.key_info RSA_ENCRYPTION (value 5 []) (spec.rsa_octets modulus.now exponent.now)) }
+{
+    let mut named = Vec::with_capacity(alloc, AROUND)?;
+    push_value(&mut named, 6, &oids::RSA_ENCRYPTION)?;
+    push_value(&mut named, 5, &[])?;
+    let mut key = Vec::new(alloc);
+    push_rsa(alloc, &mut key, modulus, exponent)?;
+    push_key(alloc, octets, &named, &key)
+}
+
+fn push_curve_key(
+    alloc: Global,
+    octets: &mut Vec<u8>,
+    curve: KeyKind,
+    point: &[u8],
+) -> Result<(), AllocError>
+    ensures { OnOk result (octets.new.items ≡ octets.old.items
+        ++ spec.key_info EC_PUBLIC_KEY (value 6 (spec.curve_oid curve)) point.now) }
+{
+    let mut named = Vec::with_capacity(alloc, AROUND)?;
+    push_value(&mut named, 6, &oids::EC_PUBLIC_KEY)?;
+    push_curve(&mut named, curve)?;
+    push_key(alloc, octets, &named, point)
 }
 
 /// SubjectPublicKeyInfo of the key (RFC 5280, 4.1.2.7): that of another algorithm is copied as it is.
 #[tactic(auto, unfolding(crate::specs::Octets::spki_octets))]
-pub fn spki_octets(alloc: Global, key: &Spki<'_>) -> Result<Vec<u8>, AllocError>
-    ensures { IfOk result (λ octets. octets.items ≡ spec.spki_octets (key_shown key.now)) }
+pub fn push_spki(alloc: Global, octets: &mut Vec<u8>, key: &Spki<'_>) -> Result<(), AllocError>
+    ensures { OnOk result (octets.new.items ≡ octets.old.items ++ spec.spki_octets (key_shown key.now)) }
 {
     match *key {
-        Spki::Rsa { modulus, exponent } => {
-            let octets = rsa_octets(alloc, modulus, exponent)?;
-            let parameter = value_of(alloc, 5, &[])?;
-            key_info(alloc, &oids::RSA_ENCRYPTION, parameter, &octets)
-        }
-        Spki::Ec { curve, point } => {
-            let parameter = curve_oid(alloc, curve)?;
-            key_info(alloc, &oids::EC_PUBLIC_KEY, parameter, point)
-        }
-        Spki::Other { whole } => Vec::from_slice(alloc, whole),
+        Spki::Rsa { modulus, exponent } => push_rsa_key(alloc, octets, modulus, exponent),
+        Spki::Ec { curve, point } => push_curve_key(alloc, octets, curve, point),
+        Spki::Other { whole } => octets.extend_from_slice(whole),
     }
 }

@@ -1,20 +1,26 @@
 //! Certification requests.
-ghost use Rattle.std.specs.Prelude.{◌≡◌, ◌≤◌, ◌++◌, List, ℕ, length, IfOk};
+ghost use Rattle.std.specs.Prelude.{◌≡◌, ◌≤◌, ◌++◌, List, ℕ, length, IfOk, OnOk};
+ghost use Rattle.cmc_der.specs.Building.{value};
 ghost use Rattle.cmc_der.specs.Keys.{key_shown, text_shown, PublicKey, RequestFields};
 ghost use Rattle.cmc_x509.specs.Certificates.{IsRequest};
 ghost use Rattle.cmc_x509.specs.declared.taking.TheConstants.{MAX_INPUT};
 ghost use Rattle.cmc_x509_build.specs.Requests as spec;
 ghost use Rattle.cmc_x509_build.specs.Keys.{IsWritable};
-ghost use Rattle.cmc_x509_build.specs.Octets.{signed_octets};
+ghost use Rattle.cmc_x509_build.specs.Octets.{signed_octets, name_octets, spki_octets};
 
-use crate::keys::spki_octets;
-use crate::names::{alternative_extension, name_octets, push_addresses, push_names};
+use crate::keys::push_spki;
+use crate::names::{push_addresses, push_alternative_extension, push_name, push_names};
 use crate::oids;
-use crate::pieces::{joined, value_of};
+use crate::pieces::{push_nested, push_value};
 use crate::signatures::signed;
 use cmc_der::Spki;
 use cmc_meta::{Bytes, Text, Texts};
 use std::alloc::{AllocError, Global};
+
+// Room for a few names, and for a body of these and a common key: what is longer grows.
+const NAMES: usize = 64;
+
+const BODY: usize = 512;
 
 /// What a request names its subject: a common name, empty for none, DNS names, IP addresses as texts, URIs and
 /// email addresses.
@@ -58,23 +64,28 @@ impl NameSet {
 fn alternative_of(alloc: Global, names: &NameSet) -> Result<Vec<u8>, AllocError>
     ensures { IfOk result (λ octets. octets.items ≡ spec.alternative_of names.now) }
 {
-    let dns = push_names(alloc, Vec::new(alloc), 130, names.dns.as_slice())?;
-    let ips = push_addresses(alloc, dns, names.ips.as_slice())?;
-    let uris = push_names(alloc, ips, 134, names.uris.as_slice())?;
-    push_names(alloc, uris, 129, names.emails.as_slice())
+    let dns = push_names(Vec::with_capacity(alloc, NAMES)?, 130, names.dns.as_slice())?;
+    let ips = push_addresses(dns, names.ips.as_slice())?;
+    let uris = push_names(ips, 134, names.uris.as_slice())?;
+    push_names(uris, 129, names.emails.as_slice())
 }
 
-fn attributes_of(alloc: Global, alternative: &[u8]) -> Result<Vec<u8>, AllocError>
-    ensures { IfOk result (λ octets. octets.items ≡ spec.attributes_of alternative.now) }
+fn push_attributes(
+    alloc: Global,
+    octets: &mut Vec<u8>,
+    alternative: &[u8],
+) -> Result<(), AllocError>
+    ensures { OnOk result (octets.new.items ≡ octets.old.items ++ spec.attributes_of alternative.now) }
 {
     if alternative.is_empty() {
-        return Ok(Vec::new(alloc));
+        return Ok(());
     }
-    let extension = alternative_extension(alloc, alternative)?;
-    let extensions = value_of(alloc, 48, &extension)?;
-    let set = value_of(alloc, 49, &extensions)?;
-    let parts = joined(value_of(alloc, 6, &oids::EXTENSION_REQUEST)?, set)?;
-    value_of(alloc, 48, &parts)
+    let mut extension = Vec::new(alloc);
+    push_alternative_extension(alloc, &mut extension, alternative)?;
+    let mut parts = Vec::with_capacity(alloc, extension.len() + NAMES)?;
+    push_value(&mut parts, 6, &oids::EXTENSION_REQUEST)?;
+    push_nested(alloc, &mut parts, 49, 48, &extension)?;
+    push_value(octets, 48, &parts)
 }
 
 fn common_of(names: &NameSet) -> Option<&[u8]>
@@ -88,25 +99,36 @@ fn common_of(names: &NameSet) -> Option<&[u8]>
     }
 }
 
-#[tactic(auto, unfolding(crate::specs::Requests::request_body))]
-fn body_octets(alloc: Global, key: &Spki<'_>, names: &NameSet) -> Result<Vec<u8>, AllocError>
-    ensures { IfOk result (λ octets. octets.items
-        ≡ spec.request_body (record { key = key_shown key.now; names = spec.names_of names.now })) }
+// What stands behind the version.
+fn push_subject(
+    alloc: Global,
+    octets: &mut Vec<u8>,
+    key: &Spki<'_>,
+    names: &NameSet,
+) -> Result<(), AllocError>
+    ensures { OnOk result (octets.new.items ≡ octets.old.items
+        ++ (name_octets (spec.common_of names.now.common) ++ (spki_octets (key_shown key.now)
+        ++ value 160 (spec.attributes_of (spec.alternative_of names.now))))) }
 {
     let alternative = alternative_of(alloc, names)?;
-    let attributes = attributes_of(alloc, &alternative)?;
-    let tail = joined(spki_octets(alloc, key)?, value_of(alloc, 160, &attributes)?)?;
-    let subject = joined(name_octets(alloc, common_of(names))?, tail)?;
-    let parts = joined(value_of(alloc, 2, &[0])?, subject)?;
-    value_of(alloc, 48, &parts)
+    let mut attributes = Vec::new(alloc);
+    push_attributes(alloc, &mut attributes, &alternative)?;
+    push_name(alloc, octets, common_of(names))?;
+    push_spki(alloc, octets, key)?;
+    push_value(octets, 160, &attributes)
 }
 
+#[tactic(auto, unfolding(crate::specs::Requests::request_body))]
 fn built(alloc: Global, key: &Spki<'_>, names: &NameSet) -> Result<Bytes, AllocError>
     ensures { IfOk result (λ body. body
         ≡ spec.request_body (record { key = key_shown key.now; names = spec.names_of names.now })) }
 {
-    let octets = body_octets(alloc, key, names)?;
-    Bytes::from_slice(alloc, &octets)
+    let mut parts = Vec::with_capacity(alloc, BODY)?;
+    push_value(&mut parts, 2, &[0])?;
+    push_subject(alloc, &mut parts, key, names)?;
+    let mut body = Vec::new(alloc);
+    push_value(&mut body, 48, &parts)?;
+    Bytes::from_slice(alloc, &body)
 }
 
 /// CertificationRequestInfo of the key and the names (RFC 2986, 4.1): version 0, the common name as a UTF8String
