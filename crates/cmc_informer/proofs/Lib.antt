@@ -7,4 +7,5 @@ pub mod Changing
 pub mod Targeting
 pub mod Rooms
 pub mod Preparing
+pub mod LastWrites
 pub mod Changes

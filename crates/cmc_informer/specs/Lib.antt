@@ -4,3 +4,4 @@ pub mod Caches
 pub mod Indexed
 pub mod Watching
 pub mod Informing
+pub mod Superseding

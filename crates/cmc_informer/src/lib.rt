@@ -9,6 +9,7 @@ mod cache;
 mod index;
 mod informer;
 mod keys;
+mod latest;
 mod mark_map;
 mod marks;
 mod owners;

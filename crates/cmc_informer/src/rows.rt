@@ -3,13 +3,16 @@ ghost use Rattle.std.specs.Prelude.{◌≡◌, ◌≤◌, ℕ, ◌++◌, ◌∷�
 ghost use Rattle.cmc_model.specs.Replies.{put_at};
 ghost use Rattle.cmc_model.specs.Objects.{no_objects};
 ghost use Rattle.cmc_model.specs.Writes as spec;
+ghost use Rattle.cmc_model.specs.Writes.{is_known};
 ghost use Rattle.cmc_meta.specs.declared.key.Key.{Key as KeyValue};
 ghost use Rattle.cmc_meta.specs.Keys.{key_eq};
 ghost use Rattle.cmc_informer.specs.Caches.{has_uid, is_owned_by, objects_in, written};
 ghost use Rattle.cmc_informer.specs.Indexed.{HasRoom, HasRoomFor, IsIndexed, KeepsRoom};
 ghost use Rattle.cmc_informer.specs.Indexes.{stands};
+ghost use Rattle.cmc_informer.specs.Superseding.{has_seen, with_older, writes_of};
 
 use crate::index::Index;
+use crate::latest::{Change, SeenKeys};
 use crate::owners::{move_owners, room_for_owners};
 use crate::slots::Slots;
 use crate::targets::{Targets, room_for_target};
@@ -132,71 +135,88 @@ fn copy_object(object: &Option<Object>) -> Result<Option<Object>, AllocError>
     }
 }
 
-fn copy_write(write: &Write) -> Result<Write, AllocError>
-    ensures { IfOk result (λ w. w ≡ write.now) }
-{
-    Ok(Write {
-        key: write.key.copy()?,
-        object: copy_object(&write.object)?,
-    })
-}
-
-/// Makes room for the write where it is one of the kind, and adds a copy of it to the changes.
-fn prepare_one(
+/// Makes room for the write, and adds it to the changes.
+fn prepare_new<'a>(
     alloc: Global,
     rows: &mut Rows,
-    changes: &mut Vec<Write>,
-    write: &Write,
-    kind: Kind,
+    changes: &mut Vec<Change<'a>>,
+    write: &'a Write,
 ) -> Result<(), AllocError>
-    requires room { HasRoomFor rows.old changes.old.items }
+    requires room { HasRoomFor rows.old (writes_of changes.old.items) }
     requires indexed { IsIndexed rows.old }
-    ensures changes { OnOk result (changes.new.items ≡ (if spec.kind_eq write.now.key.kind kind then changes.old.items ++ write.now ∷ [] else changes.old.items)) }
-    ensures room { OnOk result (HasRoomFor rows.new changes.new.items) }
+    ensures changes { OnOk result (writes_of changes.new.items ≡ writes_of changes.old.items ++ write.now ∷ []) }
+    ensures room { OnOk result (HasRoomFor rows.new (writes_of changes.new.items)) }
     ensures same { objects_in rows.new.slots ≡ objects_in rows.old.slots }
     ensures indexed { IsIndexed rows.new }
 {
-    if write.key.kind == kind {
-        make_room(alloc, rows, &write.key, &write.object)?;
-        changes.push(copy_write(write)?)?;
+    make_room(alloc, rows, &write.key, &write.object)?;
+    let object = copy_object(&write.object)?;
+    let key = &write.key;
+    changes.push(Change { key, object })?;
+    Ok(())
+}
+
+/// Makes room for the write and adds it to the changes, where it is one of the kind, and no later one is under its key.
+fn prepare_one<'a>(
+    alloc: Global,
+    rows: &mut Rows,
+    seen: &mut SeenKeys<'a>,
+    changes: &mut Vec<Change<'a>>,
+    write: &'a Write,
+    kind: Kind,
+) -> Result<(), AllocError>
+    requires room { HasRoomFor rows.old (writes_of changes.old.items) }
+    requires indexed { IsIndexed rows.old }
+    requires seen { (k : KeyValue) → has_seen seen.old k ≡ is_known k (writes_of changes.old.items) }
+    ensures changes { OnOk result (writes_of changes.new.items ≡ with_older kind write.now (writes_of changes.old.items)) }
+    ensures room { OnOk result (HasRoomFor rows.new (writes_of changes.new.items)) }
+    ensures same { objects_in rows.new.slots ≡ objects_in rows.old.slots }
+    ensures indexed { IsIndexed rows.new }
+    ensures seen { OnOk result ((k : KeyValue) → has_seen seen.new k ≡ is_known k (writes_of changes.new.items)) }
+{
+    if write.key.kind == kind && seen.add(&write.key)? {
+        prepare_new(alloc, rows, changes, write)?;
     }
     Ok(())
 }
 
-/// Makes room for the writes of the kind above the one version and up to the other, and answers copies
-/// of them, the oldest first. An error is one of memory.
-pub(crate) fn prepare(
+/// Makes room for the writes of the kind above the one version and up to the other, and answers what they leave
+/// to be done: of each key the last of them alone. An error is one of memory.
+pub(crate) fn prepare<'a>(
     alloc: Global,
     rows: &mut Rows,
-    writes: &[Write],
+    writes: &'a [Write],
     kind: Kind,
     from: u64,
     to: u64,
-) -> Result<Vec<Write>, AllocError>
+) -> Result<Vec<Change<'a>>, AllocError>
     requires above { from ≤ to }
     requires within { to ≤ length writes.now }
     requires indexed { IsIndexed rows.old }
-    ensures changes { IfOk result (λ ws. reverse ws.items ++ spec.of_kind kind (spec.oldest from (reverse writes.now)) ≡ spec.of_kind kind (spec.oldest to (reverse writes.now))) }
-    ensures room { IfOk result (λ ws. HasRoomFor rows.new ws.items) }
+    ensures changes { IfOk result (λ cs. written (spec.contents (spec.of_kind kind (spec.oldest from (reverse writes.now)))) (writes_of cs.items) ≡ spec.contents (spec.of_kind kind (spec.oldest to (reverse writes.now)))) }
+    ensures room { IfOk result (λ cs. HasRoomFor rows.new (writes_of cs.items)) }
     ensures same { objects_in rows.new.slots ≡ objects_in rows.old.slots }
     ensures indexed { IsIndexed rows.new }
 {
-    let mut changes = Vec::new(alloc);
-    for place in from..to {
-        prepare_one(alloc, rows, &mut changes, &writes[place as usize], kind)?;
+    let count = (to - from) as usize;
+    let mut changes = Vec::with_capacity(alloc, count)?;
+    let mut seen = SeenKeys::new(alloc, count)?;
+    for place in (from..to).rev() {
+        let write = &writes[place as usize];
+        prepare_one(alloc, rows, &mut seen, &mut changes, write, kind)?;
     }
     Ok(changes)
 }
 
-/// Makes the changes in their order. It takes no memory.
-pub(crate) fn make(rows: &mut Rows, changes: Vec<Write>)
-    requires room { HasRoomFor rows.old changes.items }
+/// Makes the changes. It takes no memory.
+pub(crate) fn make(rows: &mut Rows, changes: Vec<Change<'_>>)
+    requires room { HasRoomFor rows.old (writes_of changes.items) }
     requires indexed { IsIndexed rows.old }
-    ensures objects { objects_in rows.new.slots ≡ written (objects_in rows.old.slots) changes.items }
+    ensures objects { objects_in rows.new.slots ≡ written (objects_in rows.old.slots) (writes_of changes.entry.items) }
     ensures indexed { IsIndexed rows.new }
 {
-    for write in changes {
-        let Write { key, object } = write;
-        change(rows, &key, object);
+    for it in changes {
+        let Change { key, object } = it;
+        change(rows, key, object);
     }
 }

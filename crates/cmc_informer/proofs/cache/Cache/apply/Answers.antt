@@ -1,9 +1,10 @@
-use Rattle.std.proofs.Common.{◌∙◌}
-use Rattle.cmc_informer.specs.Caches.{objects_in}
-use Rattle.cmc_informer.proofs.Preparing.{written_to}
+use Rattle.std.proofs.Common.{ap, ◌∙◌}
+use Rattle.cmc_model.specs.Objects.{Objects}
+use Rattle.cmc_informer.specs.Caches.{objects_in, written}
+use Rattle.cmc_informer.specs.Superseding.{writes_of}
 use Rattle.cmc_informer.proofs.cache.Cache.apply.Goals as goal
 
 pub returns-clause-ok : goal.returns-clause-ok
 returns-clause-ok c =
     c.make.ensures.objects
-    ∙ written_to (objects_in c.prepare.new.rows.slots) _ c.in_ok-changes.changes.items _ (c.in_ok-changes.ensures.same ∙ c.self.view_is ∙ c.requires.holds) c.in_ok-changes.ensures.changes
+    ∙ ap (λ (m : Objects). written m (writes_of c.in_ok-changes.changes.items)) (c.in_ok-changes.ensures.same ∙ c.self.view_is ∙ c.requires.holds) ∙ c.in_ok-changes.ensures.changes
