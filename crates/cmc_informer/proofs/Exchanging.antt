@@ -31,3 +31,12 @@ pub reindexed : {U : Type 0} (index cleared new : U → Key → Bool) (was is : 
     → (u : U) (k : Key) → new u k ≡ (if key_eq key k then is u else index u k)
 reindexed index cleared new was is key stood first then_put u k =
     reindexed_by (key_eq key k) index cleared new was is key k u refl (stood u) (first u k) (then_put u k)
+
+alike_by : {U : Type 0} (b : Bool) (index : U → Key → Bool) (was is : U → Bool) (key k : Key) (u : U) → key_eq key k ≡ b → index u key ≡ was u → is u ≡ was u → index u k ≡ (if b then is u else index u k)
+alike_by true index was is key k u e stood same = ap (index u) (sym (equal_key key k e)) ∙ stood ∙ sym same
+alike_by false index was is key k u e stood same = refl
+
+-- where the key is to stand in the rows in which it stood, nothing has to be changed
+pub stands_alike : {U : Type 0} (index : U → Key → Bool) (was is : U → Bool) (key : Key) → ((u : U) → index u key ≡ was u) → ((u : U) → is u ≡ was u)
+    → (u : U) (k : Key) → index u k ≡ (if key_eq key k then is u else index u k)
+stands_alike index was is key stood same u k = alike_by (key_eq key k) index was is key k u refl (stood u) (same u)

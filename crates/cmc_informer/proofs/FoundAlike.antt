@@ -1,16 +1,15 @@
 -- Objects that every index finds in the same way.
-use Rattle.std.proofs.Common.{◌≡◌, ℕ, Option, Some, None, Bool, true, false, refl, sym, ap, ◌∙◌}
+use Rattle.std.proofs.Common.{◌≡◌, ℕ, Option, Some, None, Bool, true, refl, sym, ap, ◌∙◌}
 use Rattle.std.specs.BTreeMap.{is_at}
 use Rattle.std.specs.Map.{lookup}
-use Rattle.std.specs.Prelude.{is_some, nat_eq, if◌then◌else◌}
+use Rattle.std.specs.Prelude.{is_some, nat_eq}
 use Rattle.cmc_meta.specs.declared.key.Key.{Key}
-use Rattle.cmc_meta.specs.Keys.{key_cmp, key_eq}
+use Rattle.cmc_meta.specs.Keys.{key_cmp}
 use Rattle.cmc_objects.specs.declared.object.Object.{Object}
 use Rattle.cmc_informer.specs.Caches.{Slotted, has_slot, has_uid, is_owned_by, is_targeting, slot_at}
 use Rattle.cmc_informer.specs.Indexed.{AreFoundAlike, HasRoom, IsIndexed}
 use Rattle.cmc_informer.specs.Indexes.{Index, Marked, has_place, has_room, is_on, mark_in, mark_of, place_of, stands}
 use Rattle.cmc_informer.specs.declared.rows.Rows.{Rows}
-use Rattle.cmc_informer.proofs.OneMark.{equal_key}
 
 on_some : (mark : Option Bool) → is_on mark ≡ true → is_some mark ≡ true
 on_some None is = absurd (cc is)
@@ -35,21 +34,10 @@ room_for_alike rows key object indexed slot alike = record {
   by_secret = λ namespace name is. indexed.by_secret key namespace name (sym (alike.by_secret namespace name) ∙ is);
 }
 
-alike_by : (b : Bool) (finds : Option Object → Bool) (es : Slotted) (key k : Key) (object : Option Object) → key_eq key k ≡ b → finds object ≡ finds (slot_at es key)
-    → finds (if b then object else slot_at es k) ≡ finds (slot_at es k)
-alike_by true finds es key k object e alike = alike ∙ ap (λ (q : Key). finds (slot_at es q)) (equal_key key k e)
-alike_by false finds es key k object e alike = refl
-
--- what asks for the object of a slot gets the same answer where one that is found alike is put into its place
-alike_in : (finds : Option Object → Bool) (es fs : Slotted) (key : Key) (object : Option Object) → finds object ≡ finds (slot_at es key)
-    → ((k : Key) → slot_at fs k ≡ (if key_eq key k then object else slot_at es k)) → (k : Key) → finds (slot_at fs k) ≡ finds (slot_at es k)
-alike_in finds es fs key object alike put k = ap finds (put k) ∙ alike_by (key_eq key k) finds es key k object refl alike
-
--- so the indexes that led to the one lead to the other
-pub indexed_alike : (rows : Rows) (fs : Slotted) (key : Key) (object : Option Object) → IsIndexed rows → AreFoundAlike (slot_at rows.slots key) object
-    → ((k : Key) → slot_at fs k ≡ (if key_eq key k then object else slot_at rows.slots k)) → IsIndexed (record rows { slots = fs })
-indexed_alike rows fs key object indexed alike put = record {
-  by_owner = λ uid k. indexed.by_owner uid k ∙ sym (alike_in (is_owned_by uid) rows.slots fs key object (alike.by_owner uid) put k);
-  by_uid = λ uid k. indexed.by_uid uid k ∙ sym (alike_in (has_uid uid) rows.slots fs key object (alike.by_uid uid) put k);
-  by_secret = λ k namespace name is. indexed.by_secret k namespace name (sym (alike_in (is_targeting namespace name) rows.slots fs key object (alike.by_secret namespace name) put k) ∙ is);
+-- where each slot holds what it held, the indexes lead where they should
+pub indexed_same : (rows : Rows) (fs : Slotted) → IsIndexed rows → ((k : Key) → slot_at fs k ≡ slot_at rows.slots k) → IsIndexed (record rows { slots = fs })
+indexed_same rows fs indexed same = record {
+  by_owner = λ uid k. indexed.by_owner uid k ∙ ap (is_owned_by uid) (sym (same k));
+  by_uid = λ uid k. indexed.by_uid uid k ∙ ap (has_uid uid) (sym (same k));
+  by_secret = λ k namespace name is. indexed.by_secret k namespace name (ap (is_targeting namespace name) (sym (same k)) ∙ is);
 }

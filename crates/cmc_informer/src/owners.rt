@@ -2,11 +2,10 @@
 ghost use Rattle.std.specs.Prelude.{◌≡◌, ◌&&◌, ℕ, OnOk, if◌then◌else◌, true, false};
 ghost use Rattle.cmc_meta.specs.declared.key.Key.{Key as KeyValue};
 ghost use Rattle.cmc_meta.specs.Keys.{key_eq};
-ghost use Rattle.cmc_informer.specs.Caches.{HasRooms, is_owned_by, names, slot_at};
+ghost use Rattle.cmc_informer.specs.Caches.{HasRooms, is_owned_by, names};
 ghost use Rattle.cmc_informer.specs.Indexes.{KeepsRooms, has_room, stands};
 
 use crate::index::Index;
-use crate::slots::Slots;
 use cmc_meta::{Key, OwnerRef};
 use cmc_objects::Object;
 use std::alloc::{AllocError, Global};
@@ -73,23 +72,28 @@ fn enter(index: &mut Index, object: &Option<Object>, key: &Key)
     }
 }
 
-fn leave(index: &mut Index, slots: &Slots, key: &Key)
-    ensures stands { (u : ℕ) → (k : KeyValue) → stands index.new u k ≡ (if is_owned_by u (slot_at slots.now key.now) && key_eq key.now k then false else stands index.old u k) }
+fn leave(index: &mut Index, object: &Option<Object>, key: &Key)
+    ensures stands { (u : ℕ) → (k : KeyValue) → stands index.new u k ≡ (if is_owned_by u object.now && key_eq key.now k then false else stands index.old u k) }
     ensures keeps { KeepsRooms index.old index.new }
 {
-    if let Some(object) = slots.get(key) {
+    if let Some(object) = object {
         clear_under(index, object.meta().owners.as_slice(), key);
     }
 }
 
-/// The key comes to stand under the owners of the new object, and no longer under those of the one that
-/// is in its slot. It takes no memory.
-pub(crate) fn move_owners(index: &mut Index, slots: &Slots, new: &Option<Object>, key: &Key)
+/// The key comes to stand under the owners of the new object, and no longer under those of the one before. It takes
+/// no memory.
+pub(crate) fn move_owners(
+    index: &mut Index,
+    before: &Option<Object>,
+    new: &Option<Object>,
+    key: &Key,
+)
     requires rooms { HasRooms is_owned_by index.old new.now key.now }
-    requires stood { (u : ℕ) → stands index.old u key.now ≡ is_owned_by u (slot_at slots.now key.now) }
+    requires stood { (u : ℕ) → stands index.old u key.now ≡ is_owned_by u before.now }
     ensures stands { (u : ℕ) → (k : KeyValue) → stands index.new u k ≡ (if key_eq key.now k then is_owned_by u new.now else stands index.old u k) }
     ensures keeps { KeepsRooms index.old index.new }
 {
-    leave(index, slots, key);
+    leave(index, before, key);
     enter(index, new, key);
 }

@@ -1,22 +1,20 @@
 //! Objects with the indexes that lead to them, and how both change together.
-ghost use Rattle.std.specs.Prelude.{◌≡◌, ◌≤◌, ℕ, ◌++◌, ◌∷◌, [], IfOk, OnOk, OnErr, length, reverse, if◌then◌else◌};
+ghost use Rattle.std.specs.Prelude.{◌≡◌, ◌≤◌, ◌++◌, ◌∷◌, [], IfOk, OnOk, length, reverse};
 ghost use Rattle.cmc_model.specs.Replies.{put_at};
 ghost use Rattle.cmc_model.specs.Objects.{no_objects};
 ghost use Rattle.cmc_model.specs.Writes as spec;
 ghost use Rattle.cmc_model.specs.Writes.{is_known};
 ghost use Rattle.cmc_meta.specs.declared.key.Key.{Key as KeyValue};
-ghost use Rattle.cmc_meta.specs.Keys.{key_eq};
-ghost use Rattle.cmc_informer.specs.Caches.{has_uid, is_owned_by, objects_in, written};
+ghost use Rattle.cmc_informer.specs.Caches.{objects_in, written};
 ghost use Rattle.cmc_informer.specs.Indexed.{HasRoom, HasRoomFor, IsIndexed, KeepsRoom};
-ghost use Rattle.cmc_informer.specs.Indexes.{stands};
 ghost use Rattle.cmc_informer.specs.Superseding.{has_seen, with_older, writes_of};
 
 use crate::index::Index;
 use crate::latest::{Change, SeenKeys};
-use crate::owners::{move_owners, room_for_owners};
+use crate::owners::room_for_owners;
 use crate::slots::Slots;
 use crate::targets::{Targets, room_for_target};
-use crate::uids::{move_uid, room_for_uid};
+use crate::uids::room_for_uid;
 use cmc_meta::{Key, Kind};
 use cmc_model::Write;
 use cmc_objects::Object;
@@ -46,24 +44,6 @@ pub(crate) fn no_rows(alloc: Global) -> Rows
     }
 }
 
-fn make_new_room(
-    alloc: Global,
-    rows: &mut Rows,
-    key: &Key,
-    object: &Option<Object>,
-) -> Result<(), AllocError>
-    ensures room { OnOk result (HasRoom rows.new key.now object.now) }
-    ensures same { objects_in rows.new.slots ≡ objects_in rows.old.slots }
-    ensures indexed { IsIndexed rows.old → IsIndexed rows.new }
-    ensures keeps { KeepsRoom rows.old rows.new }
-{
-    rows.slots.room(key)?;
-    room_for_owners(alloc, &mut rows.owners, object, key)?;
-    room_for_uid(alloc, &mut rows.uids, object, key)?;
-    room_for_target(alloc, &mut rows.targets, object, key)?;
-    Ok(())
-}
-
 /// Makes room for the object under the key, or for taking one away, and changes nothing else. Where it is
 /// found as the one that stands there, there is room. An error is one of memory.
 pub(crate) fn make_room(
@@ -78,42 +58,17 @@ pub(crate) fn make_room(
     ensures indexed { IsIndexed rows.new }
     ensures keeps { KeepsRoom rows.old rows.new }
 {
-    if rows.slots.stands_alike(key, object) {
+    if rows.slots.room(key, object)? {
         return Ok(());
     }
-    make_new_room(alloc, rows, key, object)
-}
-
-/// The key comes to stand in the indexes of uids where the object is found, and no longer where the one
-/// in its slot is. It takes no memory.
-fn reindex(rows: &mut Rows, key: &Key, object: &Option<Object>)
-    requires room { HasRoom rows.old key.now object.now }
-    requires indexed { IsIndexed rows.old }
-    ensures owners { (u : ℕ) → (k : KeyValue) → stands rows.new.owners u k ≡ (if key_eq key.now k then is_owned_by u object.now else stands rows.old.owners u k) }
-    ensures uids { (u : ℕ) → (k : KeyValue) → stands rows.new.uids u k ≡ (if key_eq key.now k then has_uid u object.now else stands rows.old.uids u k) }
-    ensures slots { rows.new.slots ≡ rows.old.slots }
-    ensures targets { rows.new.targets ≡ rows.old.targets }
-    ensures keeps { KeepsRoom rows.old rows.new }
-{
-    move_owners(&mut rows.owners, &rows.slots, object, key);
-    move_uid(&mut rows.uids, &rows.slots, object, key);
+    room_for_owners(alloc, &mut rows.owners, object, key)?;
+    room_for_uid(alloc, &mut rows.uids, object, key)?;
+    room_for_target(alloc, &mut rows.targets, object, key)?;
+    Ok(())
 }
 
 /// Puts the object under the key, or takes away the one that stands there, and the indexes go along. It takes
 /// no memory.
-fn change_indexed(rows: &mut Rows, key: &Key, object: Option<Object>)
-    requires room { HasRoom rows.old key.now object }
-    requires indexed { IsIndexed rows.old }
-    ensures objects { objects_in rows.new.slots ≡ put_at (objects_in rows.old.slots) key.now object }
-    ensures indexed { IsIndexed rows.new }
-    ensures keeps { KeepsRoom rows.old rows.new }
-{
-    reindex(rows, key, &object);
-    rows.slots.set(key, object);
-}
-
-/// Puts the object under the key, or takes away the one that stands there. Most objects that change are found
-/// as they were before, and then no index changes. It takes no memory.
 pub(crate) fn change(rows: &mut Rows, key: &Key, object: Option<Object>)
     requires room { HasRoom rows.old key.now object }
     requires indexed { IsIndexed rows.old }
@@ -121,9 +76,8 @@ pub(crate) fn change(rows: &mut Rows, key: &Key, object: Option<Object>)
     ensures indexed { IsIndexed rows.new }
     ensures keeps { KeepsRoom rows.old rows.new }
 {
-    if let Err(object) = rows.slots.replace(key, object) {
-        change_indexed(rows, key, object);
-    }
+    rows.slots
+        .change(&mut rows.owners, &mut rows.uids, key, object);
 }
 
 fn copy_object(object: &Option<Object>) -> Result<Option<Object>, AllocError>

@@ -1,14 +1,18 @@
 //! Objects under their keys, and room for more.
 ghost use Rattle.std.specs.List.{filter};
 ghost use Rattle.std.specs.Option.{option_copied};
-ghost use Rattle.std.specs.Prelude.{◌≡◌, None, IfErr, IfOk, OnErr, OnOk, if◌then◌else◌, true};
+ghost use Rattle.std.specs.Prelude.{◌≡◌, ℕ, None, IfOk, OnOk, if◌then◌else◌, true};
 ghost use Rattle.cmc_meta.specs.declared.key.Key.{Key as KeyValue};
 ghost use Rattle.cmc_meta.specs.Keys.{key_eq};
-ghost use Rattle.cmc_informer.specs.Caches.{has_slot, is_targeting, slot_at};
+ghost use Rattle.cmc_informer.specs.Caches.{HasRooms, has_slot, has_uid, is_owned_by, is_targeting, slot_at};
 ghost use Rattle.cmc_informer.specs.Indexed.{AreFoundAlike};
+ghost use Rattle.cmc_informer.specs.Indexes.{KeepsRooms, stands};
 
 use crate::alike::are_alike;
+use crate::index::Index;
 use crate::keys::Keys;
+use crate::owners::move_owners;
+use crate::uids::move_uid;
 use cmc_meta::{Key, Name};
 use cmc_objects::Object;
 use std::alloc::{AllocError, Global};
@@ -54,62 +58,46 @@ impl Slots {
         }
     }
 
-    /// Makes a slot for the key, and changes nothing else. An error is one of memory.
+    /// Makes a slot for the key where there is none, and changes nothing else; whether an object stands there already
+    /// that each index finds as it would find the new one. An error is one of memory.
     #[tactic(auto, unfolding(crate::specs::Caches::slot_at, crate::specs::Caches::has_slot))]
-    pub(crate) fn room(&mut self, key: &Key) -> Result<(), AllocError>
+    pub(crate) fn room(&mut self, key: &Key, new: &Option<Object>) -> Result<bool, AllocError>
         ensures room { OnOk result (has_slot self.new key.now ≡ true) }
+        ensures alike { IfOk result (λ alike. alike ≡ true → AreFoundAlike (slot_at self.new key.now) new.now) }
         ensures same { (k : KeyValue) → slot_at self.new k ≡ slot_at self.old k }
         ensures keeps { (k : KeyValue) → has_slot self.old k ≡ true → has_slot self.new k ≡ true }
     {
-        if self.map.contains_key(key) {
-            return Ok(());
+        if let Some(before) = self.map.get(key) {
+            return Ok(are_alike(before, new));
         }
         let key = key.copy()?;
         self.map.insert(key, None)?;
-        Ok(())
+        Ok(false)
     }
 
-    /// Whether an object stands under the key that each index finds as it would find the new one.
+    /// Puts the object into the slot of the key, or empties it, and the indexes of uids go along. It takes no memory.
     #[tactic(auto, unfolding(crate::specs::Caches::slot_at, crate::specs::Caches::has_slot))]
-    pub(crate) fn stands_alike(&self, key: &Key, new: &Option<Object>) -> bool
-        ensures slot { result ≡ true → has_slot self.now key.now ≡ true }
-        ensures alike { result ≡ true → AreFoundAlike (slot_at self.now key.now) new.now }
-    {
-        match self.map.get(key) {
-            Some(before) => are_alike(before, new),
-            None => false,
-        }
-    }
-
-    /// Puts the object in the place of the one under the key, where each index finds both in the same way; else
-    /// it changes nothing, and gives the object back. It takes no memory.
-    #[tactic(auto, unfolding(crate::specs::Caches::slot_at, crate::specs::Caches::has_slot))]
-    pub(crate) fn replace(
+    pub(crate) fn change(
         &mut self,
+        owners: &mut Index,
+        uids: &mut Index,
         key: &Key,
         object: Option<Object>,
-    ) -> Result<(), Option<Object>>
-        ensures slots { OnOk result ((k : KeyValue) → slot_at self.new k ≡ (if key_eq key.now k then object else slot_at self.old k)) }
-        ensures alike { OnOk result (AreFoundAlike (slot_at self.old key.now) object) }
-        ensures back { IfErr result (λ given. given ≡ object) }
-        ensures err { OnErr result (self.new ≡ self.old) }
-        ensures keeps { (k : KeyValue) → has_slot self.old k ≡ true → has_slot self.new k ≡ true }
-    {
-        match self.map.get_mut(key) {
-            Some(slot) => exchange(slot, object),
-            None => Err(object),
-        }
-    }
-
-    /// Puts the object into the slot of the key, or empties it. It takes no memory.
-    #[tactic(auto, unfolding(crate::specs::Caches::slot_at, crate::specs::Caches::has_slot))]
-    pub(crate) fn set(&mut self, key: &Key, object: Option<Object>)
-        requires { has_slot self.old key.now ≡ true }
+    )
+        requires slot { has_slot self.old key.now ≡ true }
+        requires owners_room { HasRooms is_owned_by owners.old object key.now }
+        requires uids_room { HasRooms has_uid uids.old object key.now }
+        requires owned { (u : ℕ) → stands owners.old u key.now ≡ is_owned_by u (slot_at self.old key.now) }
+        requires had { (u : ℕ) → stands uids.old u key.now ≡ has_uid u (slot_at self.old key.now) }
         ensures slots { (k : KeyValue) → slot_at self.new k ≡ (if key_eq key.now k then object else slot_at self.old k) }
         ensures keeps { (k : KeyValue) → has_slot self.old k ≡ true → has_slot self.new k ≡ true }
+        ensures owners { (u : ℕ) → (k : KeyValue) → stands owners.new u k ≡ (if key_eq key.now k then is_owned_by u object else stands owners.old u k) }
+        ensures uids { (u : ℕ) → (k : KeyValue) → stands uids.new u k ≡ (if key_eq key.now k then has_uid u object else stands uids.old u k) }
+        ensures owners_keep { KeepsRooms owners.old owners.new }
+        ensures uids_keep { KeepsRooms uids.old uids.new }
     {
         match self.map.get_mut(key) {
-            Some(slot) => fill(slot, object),
+            Some(slot) => exchange(slot, owners, uids, key, object),
             None => drop(object),
         }
     }
@@ -144,22 +132,49 @@ fn targets(object: Option<&Object>, namespace: &Name, name: &Name) -> bool
     }
 }
 
-/// Puts the object into the slot, if each index finds it as the one that is there; else gives it back.
-fn exchange(slot: &mut Option<Object>, object: Option<Object>) -> Result<(), Option<Object>>
-    ensures slot { OnOk result (slot.new ≡ object) }
-    ensures alike { OnOk result (AreFoundAlike slot.old object) }
-    ensures back { IfErr result (λ given. given ≡ object) }
-    ensures err { OnErr result (slot.new ≡ slot.old) }
+/// The key comes to stand in the indexes where the new object is found, and no longer where the one before is. Most
+/// objects that change are found as they were before, and then nothing is looked up.
+fn reindex(
+    owners: &mut Index,
+    uids: &mut Index,
+    before: &Option<Object>,
+    new: &Option<Object>,
+    key: &Key,
+)
+    requires owners_room { HasRooms is_owned_by owners.old new.now key.now }
+    requires uids_room { HasRooms has_uid uids.old new.now key.now }
+    requires owned { (u : ℕ) → stands owners.old u key.now ≡ is_owned_by u before.now }
+    requires had { (u : ℕ) → stands uids.old u key.now ≡ has_uid u before.now }
+    ensures owners { (u : ℕ) → (k : KeyValue) → stands owners.new u k ≡ (if key_eq key.now k then is_owned_by u new.now else stands owners.old u k) }
+    ensures uids { (u : ℕ) → (k : KeyValue) → stands uids.new u k ≡ (if key_eq key.now k then has_uid u new.now else stands uids.old u k) }
+    ensures owners_keep { KeepsRooms owners.old owners.new }
+    ensures uids_keep { KeepsRooms uids.old uids.new }
 {
-    if are_alike(slot, &object) {
-        fill(slot, object);
-        return Ok(());
+    if are_alike(before, new) {
+        return;
     }
-    Err(object)
+    move_owners(owners, before, new, key);
+    move_uid(uids, before, new, key);
 }
 
-fn fill(slot: &mut Option<Object>, object: Option<Object>)
-    ensures { slot.new ≡ object }
+/// Puts the object into the slot of the key, and the indexes go along.
+fn exchange(
+    slot: &mut Option<Object>,
+    owners: &mut Index,
+    uids: &mut Index,
+    key: &Key,
+    object: Option<Object>,
+)
+    requires owners_room { HasRooms is_owned_by owners.old object key.now }
+    requires uids_room { HasRooms has_uid uids.old object key.now }
+    requires owned { (u : ℕ) → stands owners.old u key.now ≡ is_owned_by u slot.old }
+    requires had { (u : ℕ) → stands uids.old u key.now ≡ has_uid u slot.old }
+    ensures slot { slot.new ≡ object }
+    ensures owners { (u : ℕ) → (k : KeyValue) → stands owners.new u k ≡ (if key_eq key.now k then is_owned_by u object else stands owners.old u k) }
+    ensures uids { (u : ℕ) → (k : KeyValue) → stands uids.new u k ≡ (if key_eq key.now k then has_uid u object else stands uids.old u k) }
+    ensures owners_keep { KeepsRooms owners.old owners.new }
+    ensures uids_keep { KeepsRooms uids.old uids.new }
 {
+    reindex(owners, uids, slot, &object, key);
     *slot = object;
 }

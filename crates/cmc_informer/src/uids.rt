@@ -2,11 +2,10 @@
 ghost use Rattle.std.specs.Prelude.{◌≡◌, ◌&&◌, ℕ, OnOk, if◌then◌else◌, true, false};
 ghost use Rattle.cmc_meta.specs.declared.key.Key.{Key as KeyValue};
 ghost use Rattle.cmc_meta.specs.Keys.{key_eq};
-ghost use Rattle.cmc_informer.specs.Caches.{HasRooms, has_uid, slot_at};
+ghost use Rattle.cmc_informer.specs.Caches.{HasRooms, has_uid};
 ghost use Rattle.cmc_informer.specs.Indexes.{KeepsRooms, stands};
 
 use crate::index::Index;
-use crate::slots::Slots;
 use cmc_meta::Key;
 use cmc_objects::Object;
 use std::alloc::{AllocError, Global};
@@ -38,23 +37,23 @@ fn enter(index: &mut Index, object: &Option<Object>, key: &Key)
     }
 }
 
-fn leave(index: &mut Index, slots: &Slots, key: &Key)
-    ensures stands { (u : ℕ) → (k : KeyValue) → stands index.new u k ≡ (if has_uid u (slot_at slots.now key.now) && key_eq key.now k then false else stands index.old u k) }
+fn leave(index: &mut Index, object: &Option<Object>, key: &Key)
+    ensures stands { (u : ℕ) → (k : KeyValue) → stands index.new u k ≡ (if has_uid u object.now && key_eq key.now k then false else stands index.old u k) }
     ensures keeps { KeepsRooms index.old index.new }
 {
-    if let Some(object) = slots.get(key) {
+    if let Some(object) = object {
         index.clear(object.meta().uid, key);
     }
 }
 
-/// The key comes to stand under the uid of the new object, and no longer under that of the one that is in
-/// its slot. It takes no memory.
-pub(crate) fn move_uid(index: &mut Index, slots: &Slots, new: &Option<Object>, key: &Key)
+/// The key comes to stand under the uid of the new object, and no longer under that of the one before. It takes no
+/// memory.
+pub(crate) fn move_uid(index: &mut Index, before: &Option<Object>, new: &Option<Object>, key: &Key)
     requires rooms { HasRooms has_uid index.old new.now key.now }
-    requires stood { (u : ℕ) → stands index.old u key.now ≡ has_uid u (slot_at slots.now key.now) }
+    requires stood { (u : ℕ) → stands index.old u key.now ≡ has_uid u before.now }
     ensures stands { (u : ℕ) → (k : KeyValue) → stands index.new u k ≡ (if key_eq key.now k then has_uid u new.now else stands index.old u k) }
     ensures keeps { KeepsRooms index.old index.new }
 {
-    leave(index, slots, key);
+    leave(index, before, key);
     enter(index, new, key);
 }

@@ -1,6 +1,6 @@
 use Rattle.std.proofs.Common.{ap, ◌∙◌}
 use Rattle.cmc_model.specs.Objects.{Objects}
-use Rattle.cmc_informer.specs.Caches.{objects_in, written}
+use Rattle.cmc_informer.specs.Caches.{written}
 use Rattle.cmc_informer.specs.Superseding.{writes_of}
 use Rattle.cmc_informer.proofs.cache.Cache.apply.Goals as goal
 
