@@ -1,6 +1,8 @@
 //! The act, by the first line of the table that fits.
 ghost use Rattle.std.specs.Option.{option_copied};
-ghost use Rattle.std.specs.Prelude.{◌≡◌, ◌↔◌, ℤ, IfOk, IsTrue, Some, true};
+ghost use Rattle.std.specs.Prelude.{◌≡◌, ◌↔◌, ℕ, ℤ, List, IfOk, IsTrue, Some, true, false};
+ghost use Rattle.std.specs.declared.option.Option.{Option as OptionValue};
+ghost use Rattle.cmc_objects.specs.declared.secret.Secret.{Secret as SecretValue};
 ghost use Rattle.cmc_objects.specs.Requests.{is_run_time};
 ghost use Rattle.cmc_pass.specs.declared.pass.Act.TheVariants.{Nothing};
 ghost use Rattle.cmc_issuing.specs.Choosing.{act_of};
@@ -133,6 +135,20 @@ fn with_request<'a>(
     }
 }
 
+/// Whether the controller may have something to do for the request, as far as its conditions tell: an issuer has decided on
+/// it, or the Certificate asks for a certificate that stands in.
+fn is_worth_reading(certificate: &Certificate, request: Option<&Shared<CertificateRequest>>) -> bool
+    ensures { result ≡ false → (moment : ℤ) (file : List ℕ) (target : OptionValue SecretValue) →
+        table.with_request moment certificate.now file target (option_copied request.entry) ≡ Nothing }
+{
+    match request {
+        None => false,
+        Some(request) => {
+            is_refused(request) || is_granted(request) || asks_for_temporary(certificate)
+        }
+    }
+}
+
 fn with_file<'a>(
     alloc: Global,
     moment: i64,
@@ -147,8 +163,12 @@ fn with_file<'a>(
     match file {
         None => Ok(Choice::Nothing),
         Some(file) => {
+            // Keys and requests are long to read, and most looks find a request that waits.
+            let request = next_request(certificate.status.revision, requests);
+            if !is_worth_reading(certificate, request) {
+                return Ok(Choice::Nothing);
+            }
             if key_fits(&certificate.spec.key, file.as_slice()) {
-                let request = next_request(certificate.status.revision, requests);
                 with_request(alloc, moment, certificate, file, target, request)
             } else {
                 Ok(Choice::Nothing)

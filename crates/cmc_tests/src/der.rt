@@ -4,7 +4,7 @@ ghost use Rattle.std.specs.Prelude.{◌≡◌, ◌^◌, ◌<◌, [], OnOk, lengt
 use crate::checks::{passes, tells};
 use crate::made_values::{EC_PUBLIC, RSA_PUBLIC, made};
 use crate::values::{column, octets};
-use cmc_der::{DerFault, KeyKind, Spki, Tlv, Writer, read_one};
+use cmc_der::{DerFault, KeyKind, Spki, Tlv, Writer, put_integer, put_value, read_one};
 use std::alloc::{AllocError, Global};
 use std::process::Abort;
 use std::test::Fail;
@@ -139,6 +139,16 @@ fn integer(alloc: Global, bytes: &[u8]) -> Result<Vec<u8>, AllocError>
     Ok(writer.finish())
 }
 
+/// The same, put behind octets that stand there.
+fn put_behind(alloc: Global, bytes: &[u8]) -> Result<Vec<u8>, AllocError>
+    requires { length bytes.now < 2 ^ 20 }
+{
+    let mut octets = Vec::new(alloc);
+    put_value(&mut octets, 5, &[], &[])?;
+    put_integer(&mut octets, bytes)?;
+    Ok(octets)
+}
+
 /// An OCTET STRING of so many zeros.
 fn zeros(alloc: Global, count: u32) -> Result<Vec<u8>, AllocError>
     requires { count < 2 ^ 20 }
@@ -166,7 +176,10 @@ fn is_integer(alloc: Global, number: &str, want: &str) -> Result<bool, AllocErro
     if number.len() >= 1000 {
         return Ok(false);
     }
-    Ok(integer(alloc, &number)?.as_slice() == octets(alloc, want)?.as_slice())
+    let want = octets(alloc, want)?;
+    let behind = put_behind(alloc, &number)?;
+    let is_behind = behind.starts_with(&[5, 0]) && behind.ends_with(&want);
+    Ok(is_behind && integer(alloc, &number)?.as_slice() == want.as_slice())
 }
 
 /// A count of zeros, and what stands before them.
