@@ -1,5 +1,5 @@
 -- What a pass does next.
-use Rattle.std.specs.Prelude.{◌≡◌, ◌<◌, ℕ, List, length, Option, Some, None, IsSome}
+use Rattle.std.specs.Prelude.{◌≡◌, ◌<◌, ℕ, Bool, true, false, List, length, Option, Some, None, IsSome}
 use Rattle.cmc_objects.specs.declared.call.Call.{Call}
 use Rattle.cmc_objects.specs.declared.orders.Order.{Order}
 use Rattle.cmc_pass.specs.declared.value.Value.{Value}
@@ -7,7 +7,7 @@ use Rattle.cmc_objects.specs.declared.entry.Entry.{Entry}
 use Rattle.cmc_pass.specs.declared.pass.Act.{Act}
 use Rattle.cmc_pass.specs.declared.pass.Act.TheVariants.{Issue, Temporary}
 use Rattle.cmc_rules.specs.declared.progress.Stage.{Stage}
-use Rattle.cmc_rules.specs.declared.progress.Stage.TheVariants.{Asked, Given, Read, Saved, Barred}
+use Rattle.cmc_rules.specs.declared.progress.Stage.TheVariants.{Fresh, Asked, Given, Read, Saved, Barred}
 use Rattle.cmc_model.specs.Histories.{Setting}
 use Rattle.cmc_rules.specs.Passes.{open_pass}
 use Rattle.cmc_rules.specs.Causes.{IsNextCall, AsksBy, EndsBy, MayCall, MayAsk, MayEnd}
@@ -38,6 +38,13 @@ HasNext Read does after = HasSecret does
 HasNext Saved does after = HasStatus does
 HasNext Barred does after = ⊥
 HasNext other does after = Unit {0}
+
+-- whether what comes next of a pass that has come so far hangs on its act
+abbrev pub hangs_on_act : Stage → Bool
+hangs_on_act Fresh = true
+hangs_on_act Read = true
+hangs_on_act Saved = true
+hangs_on_act other = false
 
 -- what comes next of a pass that has come so far, with this act, and with the calls that follow its questions
 abbrev pub IsDoingBy : Stage → Act → (Order → Value → Option Call) → Doing → Type 0

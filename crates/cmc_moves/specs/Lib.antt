@@ -3,3 +3,4 @@ pub mod Quiet
 pub mod Answers
 pub mod Tables
 pub mod Acting
+pub mod Prospects

@@ -1,9 +1,12 @@
 //! What the roles do, and what they call for the values of their questions.
-ghost use Rattle.std.specs.Prelude.{◌≡◌, ◌↔◌, IfOk, IsSome, IsTrue, Some};
+ghost use Rattle.std.specs.Prelude.{◌≡◌, ◌↔◌, IfOk, IsSome, IsTrue, Some, true, false};
 ghost use Rattle.cmc_pass.specs.declared.pass.Act.TheVariants.{Nothing};
 ghost use Rattle.cmc_rules.specs.Acts as acts;
 ghost use Rattle.cmc_rules.specs.NextRequests.{HasNextRevision};
 ghost use Rattle.cmc_safety.specs.Acting.{MayAct};
+ghost use Rattle.cmc_objects.specs.declared.role.Role.{Role as RoleValue};
+ghost use Rattle.cmc_moves.specs.Prospects.{IsProspect};
+ghost use Rattle.cmc_moves.specs.declared.acts.Prospect.TheVariants as prospects;
 
 use crate::doing::let_go;
 use cmc_objects::{Call, Order, Role};
@@ -64,6 +67,63 @@ pub fn is_idle_of(
         Role::RequestManager => Ok(cmc_requestmanager::is_idle(seen)),
         Role::Issuing => cmc_issuing::is_idle(alloc, seen, now),
         _ => Ok(is_nothing(act_of(alloc, role, seen, now, desk)?)),
+    }
+}
+
+/// Whether a role has something to do, and its act where that had to be built to find out.
+#[derive(Drop)]
+pub enum Prospect {
+    /// The role has nothing to do: its act is none.
+    Nothing,
+    /// This is its act, which is not none.
+    Does(Act),
+    /// Its act is not none. It is dear, and was not built.
+    Something,
+}
+
+/// The prospect of a role whose act this is.
+fn built(does: Act) -> Prospect
+    ensures { (role : RoleValue) → IsProspect role does result }
+{
+    match does {
+        Act::Nothing => Prospect::Nothing,
+        does => Prospect::Does(does),
+    }
+}
+
+/// The prospect of a role of which it was only found out whether it has nothing to do.
+fn unbuilt(idle: bool) -> Prospect
+    ensures nothing { idle ≡ true → result ≡ prospects.Nothing }
+    ensures something { idle ≡ false → result ≡ prospects.Something }
+{
+    if idle {
+        Prospect::Nothing
+    } else {
+        Prospect::Something
+    }
+}
+
+/// Whether the role has something to do on these views at the moment `now`, in seconds since 1970-01-01T00:00:00Z. Those
+/// roles whose acts are dear to build tell so without building them, and any other gives its act along.
+///
+/// # Errors
+///
+/// Want of memory alone.
+#[tactic(auto, unfolding(cmc_rules::specs::Acts::act))]
+pub fn prospect_of(
+    alloc: Global,
+    role: Role,
+    seen: &Views,
+    now: i64,
+    desk: &Desk,
+) -> Result<Prospect, AllocError>
+    requires { MayAct seen.now now desk.now }
+    ensures { IfOk result (λ p. IsProspect role (acts.act role seen.now now desk.now) p) }
+{
+    match role {
+        Role::RequestManager => Ok(unbuilt(cmc_requestmanager::is_idle(seen))),
+        Role::Issuing => Ok(unbuilt(cmc_issuing::is_idle(alloc, seen, now)?)),
+        _ => Ok(built(act_of(alloc, role, seen, now, desk)?)),
     }
 }
 

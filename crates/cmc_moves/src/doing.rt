@@ -7,6 +7,7 @@ ghost use Rattle.std.specs.declared.option.Option.{Option as OptionValue};
 ghost use Rattle.cmc_rules.specs.Acts.{act, call_after};
 ghost use Rattle.cmc_rules.specs.Memory as memory;
 ghost use Rattle.cmc_safety.specs.Acting.{MayAct};
+ghost use Rattle.cmc_moves.specs.Acting as spec;
 ghost use Rattle.cmc_moves.specs.Acting.{HasNext, HasSecret, HasStatus, IsDoingBy, asked_in};
 ghost use Rattle.cmc_moves.specs.Answers.{next_answer, outdated_at, value_entry};
 
@@ -112,6 +113,13 @@ fn status_next(
         Role::Issuing => Ok(Doing::Call(cmc_issuing::status_of(alloc, seen, since)?)),
         _ => status_doing(act_of(alloc, role, seen, since, desk)?),
     }
+}
+
+/// Whether what comes next of a pass that has come so far hangs on its act.
+pub fn hangs_on_act(stage: &Stage) -> bool
+    ensures { result ≡ spec.hangs_on_act stage.now }
+{
+    matches!(stage, Stage::Fresh | Stage::Read | Stage::Saved)
 }
 
 /// What comes next of the pass, where its role decides by this desk.

@@ -40,3 +40,4 @@ pub mod EachWait
 pub mod EachNamed
 pub mod SummaryItems
 pub mod Working
+pub mod AtOnce

@@ -1,5 +1,5 @@
 -- When a role has something to do on a key.
-use Rattle.std.proofs.Common.{◌≡◌, ◌&&◌, Bool, true, false, List, Option, Some, None, refl, sym, ap, ◌∙◌, subst}
+use Rattle.std.proofs.Common.{◌≡◌, ◌&&◌, Bool, true, false, List, ◌∷◌, Option, Some, None, refl, sym, ap, ◌∙◌, subst}
 use Rattle.std.specs.BTreeMap.Range.{range_contains}
 use Rattle.std.specs.BTreeSet.{BTreeSet, contains, keys_between}
 use Rattle.std.specs.List.Sorted.{IsStrictlySortedBy}
@@ -7,7 +7,7 @@ use Rattle.std.specs.declared.ops.Bound.{Bound}
 use Rattle.std.specs.declared.ops.Bound.TheVariants.{Unbounded}
 use Rattle.cmc_meta.specs.Keys.{key_cmp}
 use Rattle.cmc_objects.specs.Watching.{kind_of_work}
-use Rattle.std.specs.Prelude.{◌↔◌, IsTrue}
+use Rattle.std.specs.Prelude.{◌↔◌, IsTrue, if◌then◌else◌}
 use Rattle.cmc_meta.specs.declared.key.Key.{Key}
 use Rattle.cmc_objects.specs.declared.role.Role.{Role}
 use Rattle.cmc_objects.specs.declared.entry.Entry.{Entry}
@@ -21,8 +21,14 @@ use Rattle.cmc_rules.specs.Memory.{past}
 use Rattle.cmc_rules.specs.Sameness.{IsDue, own_above}
 use Rattle.cmc_rules.specs.Legality.{IsLegal}
 use Rattle.cmc_plain.specs.Ready.{IsIdleOn}
-use Rattle.cmc_plain.specs.Searches.{HasWork, HasWorkAbove, IsFree, is_above, start_above}
-use Rattle.cmc_plain.proofs.Keys.{KeysLeft, all_keys_left, keys_left_within}
+use Rattle.cmc_rules.specs.Acts.{act}
+use Rattle.cmc_rules.specs.Desks.{desk}
+use Rattle.cmc_pass.specs.declared.pass.Act.{Act}
+use Rattle.cmc_pass.specs.declared.pass.Act.TheVariants.{Nothing}
+use Rattle.cmc_moves.specs.Prospects.{IsProspect}
+use Rattle.cmc_plain.specs.declared.openings.Opening.{Opening}
+use Rattle.cmc_plain.specs.Searches.{FindsFirst, FindsWork, HasWork, HasWorkAbove, IsFree, IsWork, IsWorkOn, IsWorkOnAbove, is_above, prospect, start_above}
+use Rattle.cmc_plain.proofs.Keys.{KeysLeft, all_keys_left, key_found, keys_left_within}
 use Rattle.cmc_plain.proofs.Unknown.{known_unless_quiet}
 
 -- of a key on which there is nothing to do it is not so
@@ -44,31 +50,39 @@ work_left s h role below keys start left from is ordered others =
     (keys_left_within (HasWorkAbove s h role below) (range_contains key_cmp (start_above below) Unbounded) keys.keys
     (all_keys_left (HasWorkAbove s h role below) keys ordered (idle_lacks s h role below keys others)) (λ k w. above_is below k w.above))
 
--- where there is nothing to do by what the role sees
-pub idle_is : (s : Setting) (h : List Entry) (role : Role) (key : Key) (b : Bool) → (IsTrue b ↔ IsIdleOn s h role key) → b ≡ true → IsTrue false ↔ HasWork s h role key
-idle_is s h role key b idle on = (λ bad. absurd (cc), λ w. absurd (w.busy (idle.0 on)))
-
--- nor on one that is none of its work, or is worked on
-pub not_free : (s : Setting) (h : List Entry) (role : Role) (key : Key) (b : Bool) → (IsTrue b ↔ IsFree s h role key) → b ≡ false → IsTrue false ↔ HasWork s h role key
-not_free s h role key b free off = (
-  λ bad. absurd (cc),
-  λ w. let on = free.1 (record { kind = w.may.work; idle = w.may.idle }) in absurd (cc (on, off)),
-)
+-- on a key that is none of its work, or is worked on, a role has nothing to begin
+pub not_free : (s : Setting) (h : List Entry) (role : Role) (key : Key) (b : Bool) → (IsTrue b ↔ IsFree s h role key) → b ≡ false → HasWork s h role key → ⊥
+not_free s h role key b free off w = let on = free.1 (record { kind = w.may.work; idle = w.may.idle }) in absurd (cc (on, off))
 
 -- nor where the role was not told of its own write
 pub untold : (s : Setting) (h : List Entry) (role : Role) (key : Key) (b : Bool) → (b ≡ false → own_above (past s h role key).own (positions h role) ≡ None → ⊥) → b ≡ false
-    → IsTrue false ↔ HasWork s h role key
-untold s h role key b told off = (λ bad. absurd (cc), λ w. absurd (told off w.may.due.told))
+    → HasWork s h role key → ⊥
+untold s h role key b told off w = told off w.may.due.told
 
--- where it is not so by what the role sees, there is something to do exactly where the role is due
-pub work_where_due : (s : Setting) (h : List Entry) (role : Role) (key : Key) (seen : Views) (due idle : Bool) → IsLegal s h → seen ≡ views s h role key → runs s h role ≡ true → IsFree s h role key
-    → (IsTrue idle ↔ IsIdleOn s h role key) → idle ≡ false → (IsTrue due ↔ IsDue (past s h role key) seen (moment s h) (positions h role)) → IsTrue due ↔ HasWork s h role key
-work_where_due s h role key seen due idle legal is running free idle_tells off due_tells = (λ on. work (due_tells.0 on), λ w. due_tells.1 (subst IsDueWith (sym is) w.may.due)) where
+-- ---- what is found of a pass
+
+-- an act that is kept, or was not made out, is not none
+busy_by : (role : Role) (a : Act) (does : Option Act) → IsProspect role a (prospect does) → a ≡ Nothing → ⊥
+busy_by role a None is none = is.1 none
+busy_by role a (Some act) is none = is.1 none
+
+-- where there is nothing to do by what the role sees, there is no pass to begin
+pub none_where_idle : (s : Setting) (h : List Entry) (role : Role) (key : Key) (seen : Views) → seen ≡ views s h role key → act role seen (moment s h) (desk s h role seen) ≡ Nothing → IsIdleOn s h role key
+none_where_idle s h role key seen sees idle = subst (λ (v : Views). act role v (moment s h) (desk s h role v) ≡ Nothing) sees idle
+
+-- and else there is one exactly where the role is due
+pub work_where_due : (s : Setting) (h : List Entry) (role : Role) (key : Key) (seen : Views) (does : Option Act) (due : Bool) (o : Option Opening) → IsLegal s h → seen ≡ views s h role key → runs s h role ≡ true → IsFree s h role key
+    → IsProspect role (act role seen (moment s h) (desk s h role seen)) (prospect does) → (IsTrue due ↔ IsDue (past s h role key) seen (moment s h) (positions h role))
+    → o ≡ (if due then Some (record { role = role; key = key; seen = seen; does = does }) else None) → IsWorkOn s h role key o
+work_where_due s h role key seen does due o legal is running free does_is due_is found = subst (IsWorkOn s h role key) (sym found) (by due refl) where
   IsDueWith : Views → Type 0
   IsDueWith v = IsDue (past s h role key) v (moment s h) (positions h role)
 
+  here : IsProspect role (act role (views s h role key) (moment s h) (desk s h role (views s h role key))) (prospect does)
+  here = subst (λ (v : Views). IsProspect role (act role v (moment s h) (desk s h role v)) (prospect does)) is does_is
+
   busy : IsIdle s h role (views s h role key) → ⊥
-  busy quiet = let on = idle_tells.1 quiet in absurd (cc (on, off))
+  busy = busy_by role (act role (views s h role key) (moment s h) (desk s h role (views s h role key))) does here
 
   work : IsDueWith seen → HasWork s h role key
   work now = record {
@@ -81,3 +95,23 @@ work_where_due s h role key seen due idle legal is running free idle_tells off d
     };
     busy = busy;
   }
+
+  by : (b : Bool) → due ≡ b → IsWorkOn s h role key (if b then Some (record { role = role; key = key; seen = seen; does = does }) else None)
+  by true on = record { work = work (due_is.0 on); known = record { role = refl; key = refl; seen = is; does = here } }
+  by false off = λ w. let on = due_is.1 (subst IsDueWith (sym is) w.may.due) in absurd (cc (on, off))
+
+-- a key above the given one
+pub work_above_here : (s : Setting) (h : List Entry) (role : Role) (below : Option Key) (key : Key) (o : Option Opening) → is_above below key ≡ true → IsWorkOn s h role key o → IsWorkOnAbove s h role below key o
+work_above_here s h role below key None on none = λ w. none w.work
+work_above_here s h role below key (Some o) on work = (on, work)
+
+-- and one that is not above it
+pub none_below : (s : Setting) (h : List Entry) (role : Role) (below : Option Key) (key : Key) → is_above below key ≡ false → HasWorkAbove s h role below key → ⊥
+none_below s h role below key off w = let on = w.above in absurd (cc (on, off))
+
+-- the first key on which there is a pass to begin
+pub work_first : (s : Setting) (h : List Entry) (role : Role) (below : Option Key) (key : Key) (left : List Key) (o : Opening) → IsWorkOnAbove s h role below key (Some o) → KeysLeft (HasWorkAbove s h role below) (key ∷ left)
+    → FindsWork s h role below (Some o)
+work_first s h role below key left o found rest =
+    subst (λ (k : Key). FindsFirst (HasWorkAbove s h role below) (Some k) × IsWork s h role k o) (sym found.1.known.key)
+    (key_found (HasWorkAbove s h role below) key left (record { above = found.0; work = found.1.work }) rest, found.1)

@@ -8,3 +8,4 @@ pub mod KeyRows
 pub mod Ready
 pub mod Asking
 pub mod Next
+pub mod Openings

@@ -13,7 +13,7 @@ use Rattle.cmc_objects.specs.declared.role.Role.{Role}
 use Rattle.cmc_objects.specs.declared.entry.Entry.{Entry}
 use Rattle.cmc_objects.specs.declared.entry.Step.{Step}
 use Rattle.cmc_rules.specs.Following.{IsReady}
-use Rattle.cmc_model.specs.Histories.{Setting, runs}
+use Rattle.cmc_model.specs.Histories.{Setting, moment, runs}
 use Rattle.cmc_model.specs.Writes.{last_of_kind, writes}
 use Rattle.cmc_objects.specs.Watching.{kind_of_work}
 use Rattle.cmc_moves.specs.declared.moves.Stepped.{Stepped}
@@ -26,6 +26,13 @@ use Rattle.cmc_plain.specs.declared.deliveries.Newest.{Newest}
 use Rattle.cmc_plain.specs.declared.begins.Beginning.{Beginning}
 use Rattle.cmc_rules.specs.Resting.{IsIdle}
 use Rattle.cmc_rules.specs.Viewing.{views}
+use Rattle.cmc_rules.specs.Acts.{act}
+use Rattle.cmc_rules.specs.Desks.{desk}
+use Rattle.cmc_pass.specs.declared.pass.Act.{Act}
+use Rattle.cmc_moves.specs.Prospects.{IsProspect}
+use Rattle.cmc_moves.specs.declared.acts.Prospect.{Prospect}
+use Rattle.cmc_moves.specs.declared.acts.Prospect.TheVariants.{Does, Something}
+use Rattle.cmc_plain.specs.declared.openings.Opening.{Opening}
 use Rattle.cmc_plain.specs.declared.scripts.Awaits.{Awaits}
 use Rattle.cmc_plain.specs.declared.scripts.Awaits.TheVariants.{Nothing, Rest, Never}
 use Rattle.cmc_plain.specs.Plain.{IsBehind, IsStepReady, Fits, MayBegin, HasNoScript, HasNoPass, HasNoDelivery, IsFirstPass, IsOfPresent, IsFirstDelivery, IsFirstBegin}
@@ -102,6 +109,36 @@ start_above (Some below) = Excluded below
 pub record HasWorkAbove (s : Setting) (h : List Entry) (role : Role) (below : Option Key) (key : Key) : Type 0 where
   pub above : is_above below key ≡ true
   pub work : HasWork s h role key
+
+-- an act that is none need not be kept
+abbrev pub prospect : Option Act → Prospect
+prospect None = Something
+prospect (Some does) = Does does
+
+-- what is known of the pass: what it sees, and its act, unless the role decides by what it sees alone
+pub record IsOpening (s : Setting) (h : List Entry) (r : Role) (k : Key) (o : Opening) : Type 0 where
+  pub role : o.role ≡ r
+  pub key : o.key ≡ k
+  pub seen : o.seen ≡ views s h r k
+  pub does : IsProspect r (act r (views s h r k) (moment s h) (desk s h r (views s h r k))) (prospect o.does)
+
+-- a pass of the role on the key may begin and has something to do, and this is known of it
+pub record IsWork (s : Setting) (h : List Entry) (role : Role) (key : Key) (o : Opening) : Type 0 where
+  pub work : HasWork s h role key
+  pub known : IsOpening s h role key o
+
+abbrev pub IsWorkOn : Setting → List Entry → Role → Key → Option Opening → Type 0
+IsWorkOn s h role key None = HasWork s h role key → ⊥
+IsWorkOn s h role key (Some o) = IsWork s h role key o
+
+abbrev pub IsWorkOnAbove : Setting → List Entry → Role → Option Key → Key → Option Opening → Type 0
+IsWorkOnAbove s h role below key None = HasWorkAbove s h role below key → ⊥
+IsWorkOnAbove s h role below key (Some o) = (is_above below key ≡ true) × IsWork s h role key o
+
+-- a pass of the role on the first key above this one on which there is work
+abbrev pub FindsWork : Setting → List Entry → Role → Option Key → Option Opening → Type 0
+FindsWork s h role below None = FindsFirst (HasWorkAbove s h role below) None
+FindsWork s h role below (Some o) = FindsFirst (HasWorkAbove s h role below) (Some o.key) × IsWork s h role o.key o
 
 -- the first key that fits the role
 abbrev pub FindsKey : Setting → List Entry → Role → Option Key → Type 0

@@ -19,13 +19,15 @@ ghost use Rattle.cmc_moves.specs.declared.moves.Move.TheVariants as moves;
 ghost use Rattle.cmc_plain.specs.Next.{IsNextDelivery, IsNextDeliveryTo, IsNextScript};
 ghost use Rattle.cmc_plain.specs.Plain.{IsPlainMove};
 ghost use Rattle.cmc_plain.specs.Ready as spec;
-ghost use Rattle.cmc_plain.specs.Searches.{FindsFirst, HasWorkAbove};
+ghost use Rattle.cmc_plain.specs.Searches.{FindsWork, IsWork};
+ghost use Rattle.cmc_plain.specs.Openings.{LeavesOpened};
 ghost use Rattle.cmc_plain.specs.Ready.{Covers, Forgets, HasKnown, Idles, IsAsleepOn, IsIdleBegin, IsReadyScript, IsToNewest, Keeps, KeepsIf, Knows, KnowsLess, LeavesQuiet, SeesSame, Wakes, WakesTold, is_ready};
 
 use crate::begins::Beginning;
 use crate::deliveries::{Delivery, first_delivery, first_kind_of};
 use crate::known::Known;
 use crate::next_move::plain_by;
+use crate::openings::{Opened, Opening, open};
 use crate::ready::Ready;
 use crate::rest::{is_finished, is_step_ready};
 use crate::roles::role_in;
@@ -444,9 +446,9 @@ impl Waking {
         }
     }
 
-    /// The first key on which a pass of the role may begin, and the role has something to do by what it sees; where a key is
-    /// given, the first such key above it. `None` exactly where there is none. Who begins passes of one role on one key after
-    /// another does not look at the same keys again. Nothing of the world changes.
+    /// A pass on the first key on which one of the role may begin, and the role has something to do by what it sees; where a key
+    /// is given, on the first such key above it. `None` exactly where there is none. Who begins passes of one role on one key
+    /// after another does not look at the same keys again. Nothing of the world changes.
     ///
     /// # Errors
     ///
@@ -456,11 +458,26 @@ impl Waking {
         alloc: Global,
         role: Role,
         below: Option<&Key>,
-    ) -> Result<Option<Key>, AllocError>
-        ensures work { IfOk result (λ k. FindsFirst (on HasWorkAbove self.old role (option_copied below.entry)) k) }
+    ) -> Result<Option<Opening>, AllocError>
+        ensures work { IfOk result (λ o. on FindsWork self.old role (option_copied below.entry) o) }
         ensures same { self.new ≡ self.old }
     {
         next_work(alloc, &self.world, role, below, &mut self.known)
+    }
+
+    /// Begins the pass, as `World::step` does, and has it do what it does first, where that is known. All that was found out of
+    /// it as it was looked for goes along, and is not asked for again.
+    ///
+    /// # Errors
+    ///
+    /// Want of memory alone. The pass may have begun then.
+    pub fn begin(&mut self, alloc: Global, opening: Opening) -> Result<Opened, AllocError>
+        requires { on IsWork self.old opening.role opening.key opening }
+        ensures leaves { IfOk result (λ o. on LeavesOpened self.old opening o self.new.history) }
+        ensures scenario { self.new.scenario ≡ self.old.scenario }
+        ensures run { on IsRun self.new }
+    {
+        open(alloc, &mut self.world, &self.ready, &self.known, opening)
     }
 
     /// Whether the run is finished: all steps of the script were made, with all that they have happen, and nothing is left

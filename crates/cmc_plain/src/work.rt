@@ -5,80 +5,115 @@
 ghost use Rattle.std.specs.BTreeSet.{contains};
 ghost use Rattle.std.specs.Option.{option_copied};
 ghost use Rattle.std.specs.Range.Bound.{bound_map};
-ghost use Rattle.std.specs.Prelude.{◌≡◌, ◌↔◌, IsTrue, IfOk, true, false};
+ghost use Rattle.std.specs.Prelude.{◌≡◌, IfOk, Some, None, true, false, if◌then◌else◌};
 ghost use Rattle.cmc_meta.specs.declared.key.Key.{Key as KeyValue};
 ghost use Rattle.cmc_meta.specs.Keys.{key_cmp};
 ghost use Rattle.cmc_model.specs.Histories as histories;
 ghost use Rattle.cmc_objects.specs.Watching.{kind_of_work};
 ghost use Rattle.cmc_rules.specs.Viewing.{views};
 ghost use Rattle.cmc_world.specs.Kept.{on};
-ghost use Rattle.cmc_plain.specs.Ready.{Busies, IsIdleOn, IsOfEach, Knows};
+ghost use Rattle.cmc_plain.specs.Ready.{IsIdleOn, IsOfEach, Knows};
 ghost use Rattle.cmc_plain.specs.Searches as spec;
-ghost use Rattle.cmc_plain.specs.Searches.{FindsFirst, HasWork, HasWorkAbove, IsFree};
+ghost use Rattle.cmc_plain.specs.Searches.{FindsWork, IsFree, IsWorkOn, IsWorkOnAbove};
 
 use crate::begins::{is_free, knows_own};
-use crate::known::{Known, find_idle, lull};
-use crate::ready::Ready;
+use crate::known::{Known, lull};
+use crate::openings::Opening;
 use cmc_meta::Key;
+use cmc_moves::let_go;
 use cmc_objects::Role;
-use cmc_pass::Views;
-use cmc_world::World;
+use cmc_pass::{Act, Views};
+use cmc_world::{Prospect, World};
 use std::alloc::{AllocError, Global};
 use std::collections::BTreeSet;
 use std::ops::Bound;
 
-/// Whether a pass of the role, which runs, sees this of the key and works on it in no pass, may begin, and has something to
-/// do. Whether it has by what it sees is known from then on: as one
-/// of the busy keys, or of these.
-fn has_work_seen(
+/// A pass of the role on the key, which sees this.
+fn opening(role: Role, key: &Key, seen: Views, does: Option<Act>) -> Result<Opening, AllocError>
+    ensures { IfOk result (λ o. o ≡ record { role = role; key = key.now; seen = seen; does = does }) }
+{
+    match key.copy() {
+        Ok(key) => Ok(Opening {
+            role,
+            key,
+            seen,
+            does,
+        }),
+        Err(lack) => {
+            let_go(does);
+            Err(lack)
+        }
+    }
+}
+
+/// The pass of the role on the key, which sees this, where it may begin by that.
+fn opening_if(
+    due: bool,
+    role: Role,
+    key: &Key,
+    seen: Views,
+    does: Option<Act>,
+) -> Result<Option<Opening>, AllocError>
+    ensures { IfOk result (λ o. o ≡ (if due then Some (record { role = role; key = key.now; seen = seen; does = does }) else None)) }
+{
+    if !due {
+        let_go(does);
+        return Ok(None);
+    }
+    Ok(Some(opening(role, key, seen, does)?))
+}
+
+/// A pass of the role, which runs, sees this of the key and works on it in no pass, where it may begin, and has something to
+/// do. A key on which it has nothing to do by what it sees is put to these. That it has something is not noted: the pass is
+/// begun at once, and then the key is not looked at before it is over.
+fn work_seen(
     alloc: Global,
     world: &World,
     role: Role,
     key: &Key,
-    seen: &Views,
-    busy: &mut Ready,
+    seen: Views,
     idle: &mut Vec<Key>,
-) -> Result<bool, AllocError>
-    requires busy { on Busies world.now busy.old }
+) -> Result<Option<Opening>, AllocError>
     requires idle { IsOfEach (on IsIdleOn world.now role) idle.old.items }
-    requires sees { seen.now ≡ on views world.now role key.now }
+    requires sees { seen ≡ on views world.now role key.now }
     requires running { on histories.runs world.now role ≡ true }
     requires free { on IsFree world.now role key.now }
-    ensures work { IfOk result (λ b. IsTrue b ↔ on HasWork world.now role key.now) }
-    ensures busy { on Busies world.now busy.new }
+    ensures work { IfOk result (λ o. on IsWorkOn world.now role key.now o) }
     ensures idle { IsOfEach (on IsIdleOn world.now role) idle.new.items }
 {
     world.is_run();
-    if find_idle(alloc, world, role, key, seen, busy, idle)? {
-        return Ok(false);
+    let due = world.is_due(role, key, &seen);
+    match world.prospect(alloc, role, key, &seen)? {
+        Prospect::Nothing => {
+            idle.push(key.copy()?)?;
+            Ok(None)
+        }
+        Prospect::Does(does) => opening_if(due, role, key, seen, Some(does)),
+        Prospect::Something => opening_if(due, role, key, seen, None),
     }
-    Ok(world.is_due(role, key, seen))
 }
 
-/// Whether a pass of the role, which runs, may begin on the key, and the role has something to do there.
-fn has_work(
+/// A pass of the role, which runs, on the key, where it may begin, and the role has something to do there.
+fn work_on(
     alloc: Global,
     world: &World,
     role: Role,
     key: &Key,
-    busy: &mut Ready,
     idle: &mut Vec<Key>,
-) -> Result<bool, AllocError>
-    requires busy { on Busies world.now busy.old }
+) -> Result<Option<Opening>, AllocError>
     requires idle { IsOfEach (on IsIdleOn world.now role) idle.old.items }
     requires running { on histories.runs world.now role ≡ true }
-    ensures work { IfOk result (λ b. IsTrue b ↔ on HasWork world.now role key.now) }
-    ensures busy { on Busies world.now busy.new }
+    ensures work { IfOk result (λ o. on IsWorkOn world.now role key.now o) }
     ensures idle { IsOfEach (on IsIdleOn world.now role) idle.new.items }
 {
     if !is_free(world, role, key) {
-        return Ok(false);
+        return Ok(None);
     }
     if !knows_own(world, role, key) {
-        return Ok(false);
+        return Ok(None);
     }
     let seen = world.views(alloc, role, key)?;
-    has_work_seen(alloc, world, role, key, &seen, busy, idle)
+    work_seen(alloc, world, role, key, seen, idle)
 }
 
 /// Whether the key stands above this one, if there is one.
@@ -101,31 +136,28 @@ fn start_above(below: Option<&Key>) -> Bound<&Key>
     }
 }
 
-/// Whether the role, which runs, may begin a pass on the key and has something to do there, and the key stands above this
-/// one, if there is one.
-fn has_work_above(
+/// A pass of the role, which runs, on the key, where it may begin, and the role has something to do there, and the key stands
+/// above this one, if there is one.
+fn work_above(
     alloc: Global,
     world: &World,
     role: Role,
     below: Option<&Key>,
     key: &Key,
-    busy: &mut Ready,
     idle: &mut Vec<Key>,
-) -> Result<bool, AllocError>
-    requires busy { on Busies world.now busy.old }
+) -> Result<Option<Opening>, AllocError>
     requires idle { IsOfEach (on IsIdleOn world.now role) idle.old.items }
     requires running { on histories.runs world.now role ≡ true }
-    ensures work { IfOk result (λ b. IsTrue b ↔ on HasWorkAbove world.now role (option_copied below.entry) key.now) }
-    ensures busy { on Busies world.now busy.new }
+    ensures work { IfOk result (λ o. on IsWorkOnAbove world.now role (option_copied below.entry) key.now o) }
     ensures idle { IsOfEach (on IsIdleOn world.now role) idle.new.items }
 {
     if is_above(below, key) {
-        return has_work(alloc, world, role, key, busy, idle);
+        return work_on(alloc, world, role, key, idle);
     }
-    Ok(false)
+    Ok(None)
 }
 
-/// The first of the keys above this one on which the role, which runs, has something to do. On every key of
+/// A pass on the first of the keys above this one on which the role, which runs, has something to do. On every key of
 /// its work beside them it has nothing to do.
 fn work_among(
     alloc: Global,
@@ -133,27 +165,25 @@ fn work_among(
     role: Role,
     below: Option<&Key>,
     keys: &BTreeSet<Key>,
-    busy: &mut Ready,
     idle: &mut Vec<Key>,
-) -> Result<Option<Key>, AllocError>
-    requires busy { on Busies world.now busy.old }
+) -> Result<Option<Opening>, AllocError>
     requires idle { IsOfEach (on IsIdleOn world.now role) idle.old.items }
     requires running { on histories.runs world.now role ≡ true }
     requires others { (k : KeyValue) → k.kind ≡ kind_of_work role → contains key_cmp keys.now k ≡ false → on IsIdleOn world.now role k }
-    ensures work { IfOk result (λ k. FindsFirst (on HasWorkAbove world.now role (option_copied below.entry)) k) }
-    ensures busy { on Busies world.now busy.new }
+    ensures work { IfOk result (λ o. on FindsWork world.now role (option_copied below.entry) o) }
     ensures idle { IsOfEach (on IsIdleOn world.now role) idle.new.items }
 {
     for key in keys.range((start_above(below), Bound::Unbounded)) {
-        if has_work_above(alloc, world, role, below, key, busy, idle)? {
-            return Ok(Some(key.copy()?));
+        match work_above(alloc, world, role, below, key, idle)? {
+            Some(opening) => return Ok(Some(opening)),
+            None => {}
         }
     }
     Ok(None)
 }
 
-/// The first key on which the role may begin a pass and has something to do, above this key if there is one; `None` exactly
-/// where there is none. Keys on which it is found to have nothing to do are awake no more.
+/// A pass on the first key on which one of the role may begin and has something to do, above this key if there is one; `None`
+/// exactly where there is none. Keys on which it is found to have nothing to do are awake no more.
 ///
 /// # Errors
 ///
@@ -164,9 +194,9 @@ pub(crate) fn next_work(
     role: Role,
     below: Option<&Key>,
     known: &mut Known,
-) -> Result<Option<Key>, AllocError>
+) -> Result<Option<Opening>, AllocError>
     requires before { on Knows world.now known.old }
-    ensures work { IfOk result (λ k. FindsFirst (on HasWorkAbove world.now role (option_copied below.entry)) k) }
+    ensures work { IfOk result (λ o. on FindsWork world.now role (option_copied below.entry) o) }
     ensures after { on Knows world.now known.new }
 {
     if !world.runs(role) {
@@ -174,7 +204,7 @@ pub(crate) fn next_work(
     }
     let mut idle = Vec::new(alloc);
     let keys = known.awake.keys(role);
-    let found = work_among(alloc, world, role, below, keys, &mut known.busy, &mut idle)?;
+    let found = work_among(alloc, world, role, below, keys, &mut idle)?;
     lull(world, role, &mut known.awake, &idle);
     Ok(found)
 }

@@ -1,13 +1,14 @@
 //! What lies under the lock, and what a thread does while it holds it.
 //!
 //! Each change is a step of the world, so whatever the threads do, the history is one of a run: the world's type keeps
-//! that. A pass begins only where its role has something to do, and roles take turns in their order, which is that of an
-//! issuance: once a role has begun a pass it goes on with its further keys, and then the next role has its turn. Before it is
-//! looked whether a role has something to do it is told of all that happened, and not before: a pass on views that are old
-//! would come to nothing or meet a conflict, and a look after each write that concerns a key would mostly find nothing.
+//! that. A pass begins only where its role has something to do, and roles take turns in the order of an issuance: once a role
+//! has begun a pass it goes on with its further keys, and then the next role has its turn. Before it is looked whether a role
+//! has something to do it is told of all that happened, and not before: a pass on views that are old would come to nothing or
+//! meet a conflict, and a look after each write that concerns a key would mostly find nothing.
 //!
 //! While all other workers are away with questions, the one that is left would be the last to go, and nobody would use the
-//! lock. So it turns to roles that ask nobody first, and takes a question along only where these have nothing to do.
+//! lock. So it turns to roles first that ask nobody and that what comes back is for, and takes a question along only where
+//! these have nothing to do.
 ghost use Rattle.std.specs.Option.{option_copied};
 ghost use Rattle.std.specs.Prelude.{◌≡◌, ◌≤◌, ◌+◌, IfOk, IfSome, length, false};
 ghost use Rattle.cmc_rules.specs.Scripting.{scripted, step_at};
@@ -16,13 +17,14 @@ ghost use Rattle.cmc_plain.specs.Ready.{IsToNewest};
 ghost use Rattle.cmc_world.specs.Kept.{on};
 ghost use Rattle.cmc_workers.specs.Driving as spec;
 ghost use Rattle.cmc_workers.specs.Driving.{IsErrand};
+ghost use Rattle.cmc_workers.specs.Finding.{IsFound, IsOpening};
 
 use crate::errands::{Answer, Errand, Outcome, Taken, Task};
 use cmc_meta::Key;
 use cmc_moves::let_go;
 use cmc_objects::{Role, Step};
 use cmc_pass::Given;
-use cmc_plain::{Point, Waking, Work, point_of, question};
+use cmc_plain::{Opening, Point, Waking, Work, point_of, question};
 use cmc_world::{Decided, Move, Stepped, decides_alone};
 use std::alloc::{AllocError, Global};
 
@@ -34,21 +36,33 @@ struct Turn {
 }
 
 impl Turn {
-    fn copy(&self) -> Result<Turn, AllocError> {
+    fn of(opening: &Opening) -> Result<Turn, AllocError> {
         Ok(Turn {
-            role: self.role,
-            key: self.key.copy()?,
+            role: opening.role,
+            key: opening.key.copy()?,
         })
     }
 }
 
-/// The roles that ask nobody: they decide, and write.
-const ASKING_NOBODY: [Role; 4] = [
+/// The order in which roles have their turns, all round: that of an issuance. The key manager has two turns on end, since it
+/// makes a key and then writes its name down, and two more behind the certificate, where it clears both away. What the last
+/// two look at is written by then. A role that has nothing to do passes its turn on.
+const ROUND: [Role; 11] = [
     Role::Trigger,
+    Role::KeyManager,
+    Role::KeyManager,
+    Role::RequestManager,
+    Role::Approver,
+    Role::Issuer,
     Role::Issuing,
-    Role::Readiness,
+    Role::KeyManager,
+    Role::KeyManager,
     Role::Revision,
+    Role::Readiness,
 ];
+
+/// The roles behind the issuers' answers. They ask nobody: they decide, and write.
+const ASKING_NOBODY: [Role; 3] = [Role::Issuing, Role::Readiness, Role::Revision];
 
 /// What lies under the lock.
 #[derive(Drop)]
@@ -56,9 +70,9 @@ pub(crate) struct Shared {
     /// A world with its ready keys.
     pub waking: Waking,
     /// Whose turn it is.
-    turn: Option<Turn>,
+    round: Round,
     /// Whose turn it is for a worker that is left alone.
-    aside: Option<Turn>,
+    aside: Round,
     /// Which role is to be told next of what it was not told.
     wanted: Role,
     /// How many workers there are.
@@ -80,6 +94,13 @@ enum Went {
     Not,
 }
 
+/// A pass that has just begun, and what came of its first move, if that was made with the begin.
+#[derive(Clone, Copy)]
+struct Started {
+    taken: Taken,
+    first: Option<Went>,
+}
+
 /// An answer of the world has many shapes, and which of them it was is all that is needed.
 fn told(answer: Stepped) -> Went {
     match answer {
@@ -89,94 +110,123 @@ fn told(answer: Stepped) -> Went {
     }
 }
 
-/// The next key above that of the turn on which its role has something to do; `None` where it is nobody's turn, or there is no
-/// such key.
+/// A pass on the next key above that of the turn on which its role has something to do; `None` where it is nobody's turn, or
+/// there is no such key.
 fn next_in(
     alloc: Global,
     waking: &mut Waking,
     turn: &Option<Turn>,
-) -> Result<Option<Turn>, AllocError>
-    ensures { waking.new ≡ waking.old }
+) -> Result<Option<Opening>, AllocError>
+    ensures opening { IfOk result (λ o. IfSome o (IsOpening waking.new)) }
+    ensures same { waking.new ≡ waking.old }
 {
-    let Some(Turn { role, key }) = turn else {
-        return Ok(None);
-    };
-    match waking.next_work(alloc, *role, Some(key))? {
-        Some(key) => Ok(Some(Turn { role: *role, key })),
+    match turn {
+        Some(Turn { role, key }) => waking.next_work(alloc, *role, Some(key)),
         None => Ok(None),
     }
 }
 
 /// What a look for the next pass comes to.
 #[derive(Drop)]
-enum Found {
-    /// A pass may begin there.
-    Work(Turn),
+pub(crate) enum Found {
+    /// This pass may begin.
+    Work(Opening),
     /// The role has to be told of something first.
     Behind(Role),
     /// Nothing is to be done.
     Nothing,
 }
 
-/// The first key of the role that has something to do, where the role has nothing to be told of before.
+/// A pass on the first key of the role that has something to do, where the role has nothing to be told of before.
 fn first_of(alloc: Global, waking: &mut Waking, role: Role) -> Result<Found, AllocError>
-    ensures { waking.new ≡ waking.old }
+    ensures found { IfOk result (IsFound waking.new) }
+    ensures same { waking.new ≡ waking.old }
 {
     if let Some(step) = waking.next_delivery_to(alloc, role)? {
         let_go(step);
         return Ok(Found::Behind(role));
     }
     match waking.next_work(alloc, role, None)? {
-        Some(key) => Ok(Found::Work(Turn { role, key })),
+        Some(opening) => Ok(Found::Work(opening)),
         None => Ok(Found::Nothing),
     }
 }
 
-/// What the first of the roles comes to that has something to do, or to be told of.
-fn first_among(alloc: Global, waking: &mut Waking, roles: &[Role]) -> Result<Found, AllocError>
-    ensures { waking.new ≡ waking.old }
-{
-    for role in roles {
-        match first_of(alloc, waking, *role)? {
-            Found::Nothing => {}
-            found => return Ok(found),
-        }
-    }
-    Ok(Found::Nothing)
-}
-
-/// How many of the roles stand before that of the turn.
-fn places_before(roles: &[Role], turn: &Option<Turn>) -> usize
-    ensures { result ≤ length roles.now }
-{
-    let Some(Turn { role, key: _ }) = turn else {
-        return 0;
-    };
-    for (place, other) in roles.iter().enumerate() {
-        if other.same(*role) {
-            return place;
-        }
-    }
-    0
-}
-
-/// Where the next pass may begin: on a further key of the role whose turn it is, or of the first role, from this one on and
-/// all round, that has something to do. What a role wrote is often what it has to go on with, so it is asked again first.
-fn next_in_turn(
+/// What the first of the roles comes to that has something to do, or to be told of, and how many stand before it.
+fn first_among(
     alloc: Global,
     waking: &mut Waking,
-    turn: &Option<Turn>,
     roles: &[Role],
-) -> Result<Found, AllocError>
-    ensures { waking.new ≡ waking.old }
+) -> Result<(usize, Found), AllocError>
+    ensures found { IfOk result (λ f. IsFound waking.new f.1) }
+    ensures same { waking.new ≡ waking.old }
 {
-    if let Some(next) = next_in(alloc, waking, turn)? {
-        return Ok(Found::Work(next));
+    for (place, role) in roles.iter().enumerate() {
+        match first_of(alloc, waking, *role)? {
+            Found::Nothing => {}
+            found => return Ok((place, found)),
+        }
     }
-    let (before, from) = roles.split_at(places_before(roles, turn));
-    match first_among(alloc, waking, from)? {
-        Found::Nothing => first_among(alloc, waking, before),
-        found => Ok(found),
+    Ok((0, Found::Nothing))
+}
+
+/// What the first of the roles behind this many of them, and then all round, comes to that has something to do, or to be told
+/// of, and how many stand before it.
+fn first_behind(
+    alloc: Global,
+    waking: &mut Waking,
+    roles: &[Role],
+    places: usize,
+) -> Result<(usize, Found), AllocError>
+    ensures found { IfOk result (λ f. IsFound waking.new f.1) }
+    ensures same { waking.new ≡ waking.old }
+{
+    let (before, behind) = roles.split_at(places.min(roles.len()));
+    match first_among(alloc, waking, behind)? {
+        (_place, Found::Nothing) => first_among(alloc, waking, before),
+        (place, found) => Ok((places.saturating_add(place), found)),
+    }
+}
+
+/// Where roles are that have their turns one after another.
+#[derive(Drop)]
+struct Round {
+    /// Whose turn it is.
+    turn: Option<Turn>,
+    /// How many roles have their turns before the next one.
+    places: usize,
+}
+
+impl Round {
+    /// Nobody's turn: the first role comes next.
+    fn new() -> Round {
+        Round {
+            turn: None,
+            places: 0,
+        }
+    }
+
+    /// Where the next pass may begin, and notes whose turn it is by that: on a further key of the role whose turn it is, or of the
+    /// first role behind it, all round, that has something to do.
+    fn next(
+        &mut self,
+        alloc: Global,
+        waking: &mut Waking,
+        roles: &[Role],
+    ) -> Result<Found, AllocError>
+        ensures found { IfOk result (IsFound waking.new) }
+        ensures same { waking.new ≡ waking.old }
+    {
+        if let Some(opening) = next_in(alloc, waking, &self.turn)? {
+            self.turn = Some(Turn::of(&opening)?);
+            return Ok(Found::Work(opening));
+        }
+        let (place, found) = first_behind(alloc, waking, roles, self.places)?;
+        if let Found::Work(opening) = &found {
+            self.turn = Some(Turn::of(opening)?);
+            self.places = place.saturating_add(1);
+        }
+        Ok(found)
     }
 }
 
@@ -187,8 +237,8 @@ impl Shared {
     {
         Shared {
             waking,
-            turn: None,
-            aside: None,
+            round: Round::new(),
+            aside: Round::new(),
             wanted: Role::Trigger,
             workers,
             away: 0,
@@ -210,16 +260,23 @@ impl Shared {
         self.waking.world().scenario().events()
     }
 
-    /// Makes a move. Where its entries do not fit, all is over.
+    /// What came of a move that is answered so. Where its entries do not fit, all is over.
+    fn went(&mut self, answer: Stepped) -> Went
+        ensures { self.new.waking ≡ self.old.waking }
+    {
+        if matches!(answer, Stepped::Spent { .. }) {
+            self.over = true;
+        }
+        told(answer)
+    }
+
+    /// Makes a move.
     fn make(&mut self, alloc: Global, step: Move) -> Result<Went, AllocError>
         requires { on IsToNewest self.old.waking step }
         ensures { self.new.waking.scenario ≡ self.old.waking.scenario }
     {
         let answer = self.waking.step(alloc, step)?;
-        if matches!(answer, Stepped::Spent { .. }) {
-            self.over = true;
-        }
-        Ok(told(answer))
+        Ok(self.went(answer))
     }
 
     /// The question at which the pass waits, if it waits at one.
@@ -346,15 +403,22 @@ impl Shared {
         }
     }
 
-    /// Has the pass, which has just begun, go on in the world, unless its role decides outside of the lock.
-    fn start(&mut self, alloc: Global, taken: Taken) -> Result<Option<Errand>, AllocError>
+    /// Has the pass, which has just begun, go on, by what came of its first move, if that was made; or outside of the lock, where
+    /// its role decides there.
+    fn start(&mut self, alloc: Global, started: Started) -> Result<Option<Errand>, AllocError>
         ensures errand { IfOk result (λ e. IfSome e (λ errand. IsErrand self.new.waking errand)) }
         ensures scenario { self.new.waking.scenario ≡ self.old.waking.scenario }
     {
-        if let Some(errand) = self.undecided(taken)? {
-            return Ok(Some(errand));
+        let Started { taken, first } = started;
+        match first {
+            Some(Went::On) => self.go_on(alloc, taken),
+            Some(Went::Asks) => self.ask(taken),
+            Some(Went::Not) => Ok(None),
+            None => match self.undecided(taken)? {
+                Some(errand) => Ok(Some(errand)),
+                None => self.go_on(alloc, taken),
+            },
         }
-        self.go_on(alloc, taken)
     }
 
     /// Whether the next step of the script waits for a count of writes, which each move may reach.
@@ -382,67 +446,55 @@ impl Shared {
         self.away > 0 && self.away.saturating_add(1) >= self.workers
     }
 
-    /// Where a pass of a role may begin that asks nobody, and notes whose turn it is by that, or who has to be told.
-    fn next_aside(&mut self, alloc: Global) -> Result<Found, AllocError>
-        ensures { self.new.waking ≡ self.old.waking }
-    {
-        let found = next_in_turn(alloc, &mut self.waking, &self.aside, &ASKING_NOBODY)?;
-        match &found {
-            Found::Work(turn) => self.aside = Some(turn.copy()?),
-            Found::Behind(role) => self.wanted = *role,
-            Found::Nothing => {}
-        }
-        Ok(found)
-    }
-
-    /// Where a pass of any role may begin, and notes whose turn it is by that, or who has to be told.
-    fn next_in_line(&mut self, alloc: Global) -> Result<Found, AllocError>
-        ensures { self.new.waking ≡ self.old.waking }
-    {
-        let found = next_in_turn(alloc, &mut self.waking, &self.turn, &Role::ALL)?;
-        match &found {
-            Found::Work(turn) => self.turn = Some(turn.copy()?),
-            Found::Behind(role) => self.wanted = *role,
-            Found::Nothing => {}
-        }
-        Ok(found)
-    }
-
-    /// Where the next pass may begin.
+    /// Where the next pass may begin, or who has to be told of something first.
     fn next_turn(&mut self, alloc: Global) -> Result<Found, AllocError>
-        ensures { self.new.waking ≡ self.old.waking }
+        ensures found { IfOk result (IsFound self.new.waking) }
+        ensures same { self.new.waking ≡ self.old.waking }
     {
         if self.is_alone() {
-            match self.next_aside(alloc)? {
+            match self.aside.next(alloc, &mut self.waking, &ASKING_NOBODY)? {
                 Found::Nothing => {}
                 found => return Ok(found),
             }
         }
-        self.next_in_line(alloc)
+        self.round.next(alloc, &mut self.waking, &ROUND)
     }
 
-    /// Begins a pass; `None` where it is not begun.
-    fn begin_on(&mut self, alloc: Global, turn: Turn) -> Result<Option<Taken>, AllocError>
+    /// Begins the pass; `None` where it is not begun.
+    fn begin_on(&mut self, alloc: Global, opening: Opening) -> Result<Option<Started>, AllocError>
+        requires { IsOpening self.old.waking opening }
         ensures { self.new.waking.scenario ≡ self.old.waking.scenario }
     {
-        let Turn { role, key } = turn;
-        let incarnation = self.waking.world().incarnation(role);
-        match self.make(alloc, Move::Begin { role, key })? {
-            Went::On => Ok(Some(Taken {
-                pass: self.waking.world().passes_begun(),
-                incarnation,
+        let incarnation = self.waking.world().incarnation(opening.role);
+        let (begin, first) = self.waking.begin(alloc, opening)?.into_parts();
+        let begun = self.went(begin);
+        let first = match first {
+            Some(answer) => Some(self.went(answer)),
+            None => None,
+        };
+        match begun {
+            Went::On => Ok(Some(Started {
+                taken: Taken {
+                    pass: self.waking.world().passes_begun(),
+                    incarnation,
+                },
+                first,
             })),
             Went::Asks | Went::Not => Ok(None),
         }
     }
 
     /// Begins the next pass; `None` where none can begin, or not before something is delivered.
-    fn begin(&mut self, alloc: Global) -> Result<Option<Taken>, AllocError>
+    fn begin(&mut self, alloc: Global) -> Result<Option<Started>, AllocError>
         ensures { self.new.waking.scenario ≡ self.old.waking.scenario }
     {
         match self.next_turn(alloc)? {
-            Found::Work(turn) => self.begin_on(alloc, turn),
-            Found::Behind(_) | Found::Nothing => Ok(None),
+            Found::Work(opening) => self.begin_on(alloc, opening),
+            Found::Behind(role) => {
+                self.wanted = role;
+                Ok(None)
+            }
+            Found::Nothing => Ok(None),
         }
     }
 
@@ -456,10 +508,10 @@ impl Shared {
             if self.over {
                 return Ok(None);
             }
-            let Some(taken) = self.begin(alloc)? else {
+            let Some(started) = self.begin(alloc)? else {
                 return Ok(None);
             };
-            if let Some(errand) = self.start(alloc, taken)? {
+            if let Some(errand) = self.start(alloc, started)? {
                 return Ok(Some(errand));
             }
         }

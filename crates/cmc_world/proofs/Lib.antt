@@ -22,3 +22,4 @@ pub mod Leading
 pub mod Ending
 pub mod Spare
 pub mod Elsewhere
+pub mod Prospects

@@ -42,7 +42,7 @@ use Rattle.cmc_moves.specs.declared.moves.Move.TheVariants.{Next}
 use Rattle.cmc_moves.specs.declared.moves.Stepped.{Stepped}
 use Rattle.cmc_moves.specs.declared.moves.Stepped.TheVariants.{Done, Order as Tells}
 use Rattle.cmc_moves.specs.Answers.{kept_at, kept_of, new_at, new_of, next_answer, AnswersGoing, AnswersNext, Leaves, asked_once}
-use Rattle.cmc_moves.specs.Acting.{HasSecret, HasStatus, HasNext, IsDoingBy, IsDoing, IsGoingOn, IsJudged, IsNoMove, asked_in}
+use Rattle.cmc_moves.specs.Acting.{HasSecret, HasStatus, HasNext, hangs_on_act, IsDoingBy, IsDoing, IsGoingOn, IsJudged, IsNoMove, asked_in}
 use Rattle.cmc_world.specs.Kept.{first_desk}
 use Rattle.cmc_moves.proofs.Sounds.{each_sound}
 
@@ -141,6 +141,40 @@ has_next s h n p run is free =
 pub next_on : (s : Setting) (h : List Entry) (n : ℕ) (p : OpenPass) (d : Desk) → IsRun s h → open_pass s h n ≡ Some p → kept_of (Some p) ≡ None → d ≡ desk s h p.role p.seen
     → HasNext p.stage (act p.role p.seen p.since d) (call_after p.role p.seen p.since)
 next_on s h n p d run is free same = subst (λ (x : Desk). HasNext p.stage (act p.role p.seen p.since x) (call_after p.role p.seen p.since)) (sym same) (has_next s h n p run is free)
+
+-- behind a question, and at its end, it goes on in the same way whatever its act
+pub next_anyway : (stage : Stage) (a b : Act) (after : Order → Value → Option Call) → hangs_on_act stage ≡ false → HasNext stage a after → HasNext stage b after
+next_anyway stages.Fresh a b after off has = absurd (cc off)
+next_anyway (stages.Asked order) a b after off has = absurd has
+next_anyway (stages.Given order value) a b after off has = has
+next_anyway stages.Read a b after off has = absurd (cc off)
+next_anyway stages.Saved a b after off has = absurd (cc off)
+next_anyway stages.Wrote a b after off has = tt
+next_anyway (stages.Refused entry obstacle) a b after off has = tt
+next_anyway stages.Barred a b after off has = absurd has
+
+doing_anyway : (stage : Stage) (a b : Act) (after : Order → Value → Option Call) (d : Doing) → hangs_on_act stage ≡ false → IsDoingBy stage a after d → IsDoingBy stage b after d
+doing_anyway stages.Fresh a b after d off does = absurd (cc off)
+doing_anyway (stages.Asked order) a b after (Makes call) off does = absurd does
+doing_anyway (stages.Asked order) a b after (Asks asked) off does = absurd does
+doing_anyway (stages.Asked order) a b after (Ends cause) off does = absurd does
+doing_anyway (stages.Given order value) a b after (Makes call) off does = does
+doing_anyway (stages.Given order value) a b after (Asks asked) off does = absurd does
+doing_anyway (stages.Given order value) a b after (Ends cause) off does = absurd does
+doing_anyway stages.Read a b after d off does = absurd (cc off)
+doing_anyway stages.Saved a b after d off does = absurd (cc off)
+doing_anyway stages.Wrote a b after (Makes call) off does = absurd does
+doing_anyway stages.Wrote a b after (Asks asked) off does = absurd does
+doing_anyway stages.Wrote a b after (Ends cause) off does = does
+doing_anyway (stages.Refused entry obstacle) a b after (Makes call) off does = absurd does
+doing_anyway (stages.Refused entry obstacle) a b after (Asks asked) off does = absurd does
+doing_anyway (stages.Refused entry obstacle) a b after (Ends cause) off does = does
+doing_anyway stages.Barred a b after (Makes call) off does = absurd does
+doing_anyway stages.Barred a b after (Asks asked) off does = absurd does
+doing_anyway stages.Barred a b after (Ends cause) off does = absurd does
+
+pub doing_by_any : (stage : Stage) (a b : Act) (after : Order → Value → Option Call) (r : Result Doing AllocError) → hangs_on_act stage ≡ false → IfOk r (λ d. IsDoingBy stage a after d) → IfOk r (λ d. IsDoingBy stage b after d)
+doing_by_any stage a b after r off found = IfOk-weaker r _ _ (λ d does. doing_anyway stage a b after d off does) found
 
 -- and what it does by its desk is what comes next of it
 pub doing_on : (s : Setting) (h : List Entry) (p : OpenPass) (d : Desk) (r : Result Doing AllocError) → d ≡ desk s h p.role p.seen

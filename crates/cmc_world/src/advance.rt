@@ -20,8 +20,8 @@ use crate::notes::{kind_written, log_write, note_write, stage_of, writes_stand_i
 use crate::world::{World, has_room};
 use cmc_meta::Key;
 use cmc_moves::{
-    Doing, Judged, Lack, Stepped, answer_of, answer_value, doing_of, ending_at, let_go,
-    outdated_of, value_entry_of,
+    Doing, Judged, Lack, Stepped, answer_of, answer_value, doing_of, ending_at, hangs_on_act,
+    let_go, outdated_of, value_entry_of,
 };
 use cmc_objects::{Call, Cause, Entry, Order, Role, Who};
 use cmc_pass::{Desk, Given, Value};
@@ -236,6 +236,10 @@ impl World {
         requires free { kept_of (Some current.now) ≡ None }
         ensures { IfOk result (λ d. IsDoingBy current.now.stage (act current.now.role current.now.seen current.now.since (on desk_at self.now current.now.role current.now.seen)) (call_after current.now.role current.now.seen current.now.since) d) }
     {
+        // Questions are counted for its act alone.
+        if !hangs_on_act(&current.stage) {
+            return doing_of(alloc, current, &self.desk);
+        }
         let asked = self.questions.asked_for(current.role, &current.seen)?;
         if asked == 0 {
             return doing_of(alloc, current, &self.desk);

@@ -3,13 +3,17 @@ ghost use Rattle.std.specs.Option.{option_copied};
 ghost use Rattle.std.specs.Prelude.{◌≡◌, ◌↔◌, ◌<◌, ◌∷◌, ◌&&◌, not, IsTrue, IfOk, OnOk, OnErr, true, is_some};
 ghost use Rattle.cmc_rules.specs.Sameness as sameness;
 ghost use Rattle.cmc_held.specs.Remembered.{past_or_new};
-ghost use Rattle.cmc_rules.specs.Passes.{new_pass};
+ghost use Rattle.cmc_rules.specs.Memory.{past};
+ghost use Rattle.cmc_rules.specs.Passes.{IsWorking, new_pass};
+ghost use Rattle.cmc_rules.specs.Positions.{positions};
+ghost use Rattle.cmc_rules.specs.Runs.{IsRun};
+ghost use Rattle.cmc_model.specs.Histories.{moment, runs};
 ghost use Rattle.cmc_rules.specs.Viewing.{views};
-ghost use Rattle.cmc_rules.specs.Sameness.{IsSame};
+ghost use Rattle.cmc_rules.specs.Sameness.{IsDue, IsSame};
 ghost use Rattle.cmc_objects.specs.Watching as spec;
 ghost use Rattle.cmc_model.specs.Objects.{object_at};
 ghost use Rattle.cmc_model.specs.Writes.{is_known};
-ghost use Rattle.cmc_moves.specs.Answers.{AnswersBegin, Leaves, beginning};
+ghost use Rattle.cmc_moves.specs.Answers.{AnswersBegin, IsQueued, Leaves, beginning};
 ghost use Rattle.cmc_world.specs.Kept.{on};
 ghost use Rattle.cmc_world.specs.Prepared.{IsPrepared};
 ghost use Rattle.cmc_moves.specs.declared.moves.Move.TheVariants as moves;
@@ -218,6 +222,35 @@ impl World {
         let_go(answer);
         let prepared = self.prepare(role, key, seen)?;
         self.open(role, prepared)?;
+        Ok(Stepped::Done)
+    }
+
+    /// Begins a pass of the role on the key, of which it sees this, as a step does; it is known that it may, and that the key is
+    /// in its queue. Who has just found that need not ask again, and room alone is looked for.
+    ///
+    /// # Errors
+    ///
+    /// Want of memory alone, which leaves the world as it was.
+    pub fn begin_due(&mut self, role: Role, key: Key, seen: Views) -> Result<Stepped, AllocError>
+        requires running { on runs self.old role ≡ true }
+        requires free { on IsWorking self.old role key → ⊥ }
+        requires due { IsDue (on past self.old role key) seen (on moment self.old) (positions self.old.history role) }
+        requires queued { on IsQueued self.old role key }
+        requires sees { seen ≡ on views self.old role key }
+        ensures answer { IfOk result (λ r. on AnswersBegin self.old role key r) }
+        ensures scenario { self.new.scenario ≡ self.old.scenario }
+        ensures leaves { IfOk result (λ r. on Leaves self.old (moves.Begin role key) r self.new.history) }
+        ensures run { on IsRun self.new }
+        ensures err { OnErr result (self.new ≡ self.old) }
+    {
+        self.is_run();
+        let entries = self.history.len();
+        if !has_room(entries, self.scenario.events(), 1) {
+            return Ok(Stepped::Spent { entries });
+        }
+        let prepared = self.prepare(role, key, seen)?;
+        self.open(role, prepared)?;
+        self.is_run();
         Ok(Stepped::Done)
     }
 }

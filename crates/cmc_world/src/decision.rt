@@ -1,10 +1,12 @@
 //! Decisions that are made elsewhere: what a pass saw is taken out of the world, its role decides on it, and the decision is
 //! handed in. So what takes long holds up nothing else.
-ghost use Rattle.std.specs.Prelude.{◌≡◌, IfOk, OnErr, Some, option_map, true};
+ghost use Rattle.std.specs.Prelude.{◌≡◌, ℕ, IfOk, OnErr, None, Some, option_map, true};
 ghost use Rattle.cmc_rules.specs.Passes.{open_pass};
 ghost use Rattle.cmc_safety.specs.Acting.{MayAct};
 ghost use Rattle.cmc_moves.specs.Acting.{IsGoingOn, IsTaken, IsTaking};
-ghost use Rattle.cmc_moves.specs.Answers.{AnswersDecide, Leaves};
+ghost use Rattle.cmc_rules.specs.Runs.{IsRun};
+ghost use Rattle.cmc_moves.specs.Answers.{AnswersDecide, AnswersGoing, Leaves, asked_by};
+ghost use Rattle.cmc_moves.specs.Prospects.{IsFirstAct};
 ghost use Rattle.cmc_moves.specs.Decisions as spec;
 ghost use Rattle.cmc_moves.specs.Decisions.{SawSame, begun_of};
 ghost use Rattle.cmc_world.specs.Kept.{on};
@@ -14,6 +16,7 @@ use crate::world::{World, has_room};
 use cmc_moves::{
     Begun, Decided, Judged, Lack, Stepped, answer_of, first_doing, is_undecided, let_go,
 };
+use cmc_pass::Act;
 use cmc_rules::OpenPass;
 use std::alloc::{AllocError, Global};
 
@@ -140,5 +143,31 @@ impl World {
             Judged::Answer(answer) => Ok(answer),
             Judged::Does(doing) => self.make_next(alloc, pass, doing),
         }
+    }
+
+    /// Has an open pass that has done nothing yet go on by its act, as the next move of the pass would. Who has just found the
+    /// act need not ask the role again.
+    ///
+    /// # Errors
+    ///
+    /// Want of memory alone, which leaves the world as it was.
+    pub fn act_first(&mut self, alloc: Global, pass: u64, does: Act) -> Result<Stepped, AllocError>
+        requires { on IsFirstAct self.old pass does }
+        ensures answer { IfOk result (λ r. on AnswersGoing self.old pass None (asked_by does) r) }
+        ensures scenario { self.new.scenario ≡ self.old.scenario }
+        ensures leaves { IfOk result (λ r. (named : ℕ) → on Leaves self.old (moves.Next pass named) r self.new.history) }
+        ensures run { on IsRun self.new }
+        ensures err { OnErr result (self.new ≡ self.old) }
+    {
+        self.is_run();
+        let entries = self.history.len();
+        if !has_room(entries, self.scenario.events(), 1) {
+            let_go(does);
+            return Ok(Stepped::Spent { entries });
+        }
+        let doing = first_doing(does)?;
+        let answer = self.make_next(alloc, pass, doing)?;
+        self.is_run();
+        Ok(answer)
     }
 }

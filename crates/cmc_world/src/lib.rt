@@ -15,5 +15,5 @@ mod script;
 mod work_queue;
 mod world;
 
-pub use cmc_moves::{Begun, Decided, Lack, Move, Stepped, decide, decides_alone};
+pub use cmc_moves::{Begun, Decided, Lack, Move, Prospect, Stepped, decide, decides_alone};
 pub use world::{World, every_list_of_moves};

@@ -15,7 +15,9 @@ ghost use Rattle.cmc_safety.specs.Acting.{MayAct};
 ghost use Rattle.cmc_rules.specs.Viewing.{views};
 ghost use Rattle.cmc_model.specs.Writes.{writes};
 ghost use Rattle.cmc_held.specs.Remembered.{past_or_new};
+ghost use Rattle.cmc_rules.specs.Acts.{act};
 ghost use Rattle.cmc_moves.specs.Answers.{AnswersScript, entries_of};
+ghost use Rattle.cmc_moves.specs.Prospects.{IsProspect};
 ghost use Rattle.cmc_world.specs.Kept.{on};
 ghost use Rattle.cmc_world.specs.Rest.{EachKind, RestsOnAll};
 ghost use Rattle.cmc_rules.specs.Resting.{IsToldAll, RestsIn};
@@ -24,9 +26,9 @@ use crate::world::{World, has_room};
 use cmc_held::{RoleState, is_held, is_same, own_above, told_of, written_of};
 use cmc_meta::{Key, Kind};
 use cmc_model::Write;
-use cmc_moves::{Lack, Stepped, answer_script, is_idle_of, request_for};
+use cmc_moves::{Lack, Prospect, Stepped, answer_script, is_idle_of, prospect_of, request_for};
 use cmc_objects::{Object, Positions, Role, Step, has_informer, kind_of_work};
-use cmc_pass::Views;
+use cmc_pass::{Desk, Views};
 use cmc_rules::Past;
 use cmc_store::Store;
 use std::alloc::{AllocError, Global};
@@ -171,6 +173,35 @@ impl World {
         ensures { IfOk result (λ b. IsTrue b ↔ on spec.IsIdle self.now role seen.now) }
     {
         is_idle_of(alloc, role, seen, self.moment, &self.desk)
+    }
+
+    /// Whether the role, which sees this of the key, has something to do there, and its act where that had to be built to find
+    /// out.
+    ///
+    /// # Errors
+    ///
+    /// Want of memory alone.
+    pub fn prospect(
+        &self,
+        alloc: Global,
+        role: Role,
+        key: &Key,
+        seen: &Views,
+    ) -> Result<Prospect, AllocError>
+        requires { seen.now ≡ on views self.now role key.now }
+        ensures { IfOk result (λ p. IsProspect role (act role seen.now (on moment self.now) (on desk_at self.now role seen.now)) p) }
+    {
+        self.can_act();
+        let asked = self.questions.asked_for(role, seen)?;
+        if asked == 0 {
+            return prospect_of(alloc, role, seen, self.moment, &self.desk);
+        }
+        let desk = Desk {
+            material: self.desk.material.copy()?,
+            asked,
+            rules: self.desk.rules.copy()?,
+        };
+        prospect_of(alloc, role, seen, self.moment, &desk)
     }
 
     /// Whether the role, which sees this of the key, has nothing to do there, or may not begin.

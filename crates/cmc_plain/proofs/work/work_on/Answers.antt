@@ -1,6 +1,6 @@
 use Rattle.cmc_world.specs.Kept.{setting_of}
 use Rattle.cmc_plain.proofs.Working.{not_free, untold}
-use Rattle.cmc_plain.proofs.work.has_work.Goals as goal
+use Rattle.cmc_plain.proofs.work.work_on.Goals as goal
 
 pub returns-then-not-is_free-clause-work : goal.returns-then-not-is_free-clause-work
 returns-then-not-is_free-clause-work c =

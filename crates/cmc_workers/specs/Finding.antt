@@ -1,0 +1,14 @@
+-- What a look for the next pass comes to.
+use Rattle.cmc_world.specs.Kept.{Seen, on}
+use Rattle.cmc_plain.specs.Searches.{IsWork}
+use Rattle.cmc_plain.specs.declared.openings.Opening.{Opening}
+use Rattle.cmc_workers.specs.declared.shared.Found.{Found}
+use Rattle.cmc_workers.specs.declared.shared.Found.TheVariants.{Work}
+
+-- the pass may begin, and has something to do
+abbrev pub IsOpening : Seen → Opening → Type 0
+IsOpening world o = on IsWork world o.role o.key o
+
+abbrev pub IsFound : Seen → Found → Type 0
+IsFound world (Work o) = IsOpening world o
+IsFound world other = Unit {0}
