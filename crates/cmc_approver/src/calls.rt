@@ -3,7 +3,7 @@ ghost use Rattle.std.specs.Prelude.{◌≡◌, IfOk};
 ghost use Rattle.cmc_rules.specs.Approving as table;
 
 use cmc_meta::Condition;
-use cmc_objects::{Call, CertificateRequest, Object, RequestStatus};
+use cmc_objects::{Call, CertificateRequest, Object, RequestStatus, Shared};
 use std::alloc::{AllocError, Global};
 
 #[tactic(auto, unfolding(cmc_rules::specs::Approving::judged_status))]
@@ -16,6 +16,7 @@ fn judged_status(verdict: Condition, status: &RequestStatus) -> Result<RequestSt
 }
 
 fn with_verdict(
+    alloc: Global,
     verdict: Condition,
     request: &CertificateRequest,
 ) -> Result<CertificateRequest, AllocError>
@@ -25,7 +26,7 @@ fn with_verdict(
     Ok(CertificateRequest {
         meta: request.meta.copy()?,
         spec: request.spec.copy()?,
-        status,
+        status: Shared::new(alloc, status)?,
     })
 }
 
@@ -42,7 +43,7 @@ pub fn judge_call(
 ) -> Result<Call, AllocError>
     ensures { IfOk result (λ c. c ≡ table.judge_call verdict request.now) }
 {
-    let object = Object::of_request(alloc, with_verdict(verdict, request)?)?;
+    let object = Object::of_request(alloc, with_verdict(alloc, verdict, request)?)?;
     Ok(Call::UpdateStatus {
         object,
         version: request.meta.version,

@@ -16,7 +16,7 @@ use cmc_cursor::{
 };
 use cmc_meta::Text;
 use cmc_objects::{
-    CertStatus, Certificate, CertificateRequest, Object, Parts, RequestStatus, Secret,
+    CertStatus, Certificate, CertificateRequest, Object, Parts, RequestStatus, Secret, Shared,
 };
 use serde_json::Value;
 use std::alloc::Global;
@@ -62,8 +62,8 @@ fn certificate(alloc: Global, rest: Fields<'_, '_>) -> Result<Applied, BadField>
             alloc,
             Certificate {
                 meta,
-                spec,
-                status: CertStatus::new(alloc),
+                spec: Shared::new(alloc, spec)?,
+                status: Shared::new(alloc, CertStatus::new(alloc))?,
             },
         )?,
         version,
@@ -86,8 +86,8 @@ fn request(alloc: Global, rest: Fields<'_, '_>) -> Result<Applied, BadField>
             alloc,
             CertificateRequest {
                 meta,
-                spec,
-                status: RequestStatus::new(alloc),
+                spec: Shared::new(alloc, spec)?,
+                status: Shared::new(alloc, RequestStatus::new(alloc))?,
             },
         )?,
         version,

@@ -3,7 +3,7 @@ ghost use Rattle.std.specs.Prelude.{◌≡◌, IfOk};
 ghost use Rattle.cmc_rules.specs.Granting as table;
 
 use cmc_meta::{Condition, ConditionKind, Text, Tri};
-use cmc_objects::{Call, CertificateRequest, Object, RequestStatus};
+use cmc_objects::{Call, CertificateRequest, Object, RequestStatus, Shared};
 use std::alloc::{AllocError, Global};
 
 /// The status update, at the version of the request, with this status.
@@ -22,7 +22,7 @@ pub fn status_call(
     let changed = CertificateRequest {
         meta: request.meta.copy()?,
         spec: request.spec.copy()?,
-        status,
+        status: Shared::new(alloc, status)?,
     };
     let object = Object::of_request(alloc, changed)?;
     Ok(Call::UpdateStatus {

@@ -70,19 +70,18 @@ fn put_stand_in(alloc: Global, marks: &mut Pairs) -> Result<(), AllocError>
 }
 
 #[tactic(auto, using(crate::proofs::PairLists::taken_out))]
-fn drop_mark(marks: &mut Pairs, name: &Text)
-    ensures { marks.new ≡ table.without name.now marks.old }
+fn drop_mark(marks: &mut Pairs, name: &Text) -> Result<(), AllocError>
+    ensures { OnOk result (marks.new ≡ table.without name.now marks.old) }
 {
     let _count = marks.as_map().len();
-    marks.remove(name);
+    marks.remove(name)
 }
 
 fn drop_stand_in(alloc: Global, marks: &mut Pairs) -> Result<(), AllocError>
     ensures { OnOk result (marks.new ≡ table.without (codes "cert-manager.io/temporary-certificate") marks.old) }
 {
     let name = Text::from_str(alloc, "cert-manager.io/temporary-certificate")?;
-    drop_mark(marks, &name);
-    Ok(())
+    drop_mark(marks, &name)
 }
 
 #[tactic(auto, unfolding(cmc_rules::specs::Issuing::marks))]

@@ -4,7 +4,7 @@ ghost use Rattle.cmc_rules.specs.Issuing as table;
 ghost use Rattle.cmc_rules.specs.NextRequests.{HasNextRevision};
 
 use cmc_meta::{Condition, ConditionKind, Text, Tri};
-use cmc_objects::{Call, CertStatus, Certificate, Object};
+use cmc_objects::{Call, CertStatus, Certificate, Object, Shared};
 use cmc_pass::Act;
 use std::alloc::{AllocError, Global};
 
@@ -97,7 +97,7 @@ fn status_call(
     let changed = Certificate {
         meta: certificate.meta.copy()?,
         spec: certificate.spec.copy()?,
-        status,
+        status: Shared::new(alloc, status)?,
     };
     let object = Object::of_certificate(alloc, changed)?;
     Ok(Call::UpdateStatus {

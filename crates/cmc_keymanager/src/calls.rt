@@ -5,7 +5,7 @@ ghost use Rattle.cmc_rules.specs.KeyManaging as table;
 
 use cmc_meta::{Bytes, Key, Kind, Name, Pairs, Text};
 use cmc_next::owned_meta;
-use cmc_objects::{Call, CertStatus, Certificate, Object, Parts, Secret};
+use cmc_objects::{Call, CertStatus, Certificate, Object, Parts, Secret, Shared};
 use cmc_pass::Act;
 use std::alloc::{AllocError, Global};
 
@@ -24,14 +24,18 @@ fn status_with(name: Option<Name>, status: &CertStatus) -> Result<CertStatus, Al
     })
 }
 
-fn with_next_key(name: Option<Name>, certificate: &Certificate) -> Result<Certificate, AllocError>
+fn with_next_key(
+    alloc: Global,
+    name: Option<Name>,
+    certificate: &Certificate,
+) -> Result<Certificate, AllocError>
     ensures { IfOk result (λ c. c ≡ record certificate.now { status = record certificate.now.status { next_key = name } }) }
 {
     let status = status_with(name, &certificate.status)?;
     Ok(Certificate {
         meta: certificate.meta.copy()?,
         spec: certificate.spec.copy()?,
-        status,
+        status: Shared::new(alloc, status)?,
     })
 }
 
@@ -44,7 +48,7 @@ pub fn name_call(
 ) -> Result<Act, AllocError>
     ensures { IfOk result (λ a. a ≡ table.name_call name certificate.now) }
 {
-    let object = Object::of_certificate(alloc, with_next_key(name, certificate)?)?;
+    let object = Object::of_certificate(alloc, with_next_key(alloc, name, certificate)?)?;
     Ok(Act::Call(Call::UpdateStatus {
         object,
         version: certificate.meta.version,

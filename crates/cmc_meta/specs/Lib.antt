@@ -1,3 +1,4 @@
+pub mod HeldPairs
 pub mod Keys
 pub mod Names
 pub mod PairLists

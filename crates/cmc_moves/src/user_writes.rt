@@ -86,7 +86,7 @@ fn with_status(
     let changed = CertificateRequest {
         meta: request.meta.copy()?,
         spec: request.spec.copy()?,
-        status,
+        status: Shared::new(alloc, status)?,
     };
     Ok(Call::UpdateStatus {
         object: Object::of_request(alloc, changed)?,
@@ -120,7 +120,7 @@ fn judge_call(
 ) -> Result<Call, AllocError>
     ensures { IfOk result (λ c. c ≡ spec.judge_call condition request.now) }
 {
-    let mut status = request.status.copy()?;
+    let mut status = RequestStatus::copy(&request.status)?;
     status.conditions.set(condition)?;
     with_status(alloc, request, status)
 }
@@ -226,12 +226,12 @@ fn manual_condition(alloc: Global, moment: i64) -> Result<Condition, AllocError>
 fn renew_call(alloc: Global, moment: i64, certificate: &Certificate) -> Result<Call, AllocError>
     ensures { IfOk result (λ c. c ≡ spec.renew_call moment certificate.now) }
 {
-    let mut status: CertStatus = certificate.status.copy()?;
+    let mut status = CertStatus::copy(&certificate.status)?;
     status.conditions.set(manual_condition(alloc, moment)?)?;
     let changed = Certificate {
         meta: certificate.meta.copy()?,
         spec: certificate.spec.copy()?,
-        status,
+        status: Shared::new(alloc, status)?,
     };
     Ok(Call::UpdateStatus {
         object: Object::of_certificate(alloc, changed)?,

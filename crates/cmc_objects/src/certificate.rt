@@ -3,6 +3,7 @@ ghost use Rattle.std.specs.Prelude.{◌≡◌, ◌↔◌, IsTrue, IfOk};
 use crate::issuer::IssuerRef;
 use crate::key_spec::KeySpec;
 use crate::optional::{same_moment, same_u32, same_u64};
+use crate::shared::Shared;
 use cmc_meta::{Conditions, Item, Name, ObjectMeta, Text, Texts, copy_optional, same_optional};
 use std::alloc::{AllocError, Global};
 
@@ -48,8 +49,8 @@ pub struct CertStatus {
 /// A cert-manager.io/v1 Certificate.
 pub struct Certificate {
     pub meta: ObjectMeta,
-    pub spec: CertSpec,
-    pub status: CertStatus,
+    pub spec: Shared<CertSpec>,
+    pub status: Shared<CertStatus>,
 }
 
 impl CertSpec {

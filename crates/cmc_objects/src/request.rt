@@ -2,6 +2,7 @@ ghost use Rattle.std.specs.Prelude.{◌≡◌, ◌↔◌, IsTrue, IfOk};
 
 use crate::issuer::IssuerRef;
 use crate::optional::{same_moment, same_u64};
+use crate::shared::Shared;
 use cmc_meta::{Bytes, Conditions, Item, ObjectMeta, Texts};
 use std::alloc::{AllocError, Global};
 
@@ -30,8 +31,8 @@ pub struct RequestStatus {
 /// A cert-manager.io/v1 CertificateRequest.
 pub struct CertificateRequest {
     pub meta: ObjectMeta,
-    pub spec: RequestSpec,
-    pub status: RequestStatus,
+    pub spec: Shared<RequestSpec>,
+    pub status: Shared<RequestStatus>,
 }
 
 impl RequestSpec {

@@ -9,6 +9,7 @@ use cmc_meta::{Bytes, Key, Kind, Pairs, Text};
 use cmc_next::owned_meta;
 use cmc_objects::{
     Call, CertSpec, Certificate, CertificateRequest, Object, RequestSpec, RequestStatus, Secret,
+    Shared,
 };
 use cmc_pass::Act;
 use std::alloc::{AllocError, Global};
@@ -107,8 +108,8 @@ fn new_request(
     let meta = owned_meta(alloc, certificate, Pairs::new(alloc), marks)?;
     Ok(CertificateRequest {
         meta,
-        spec,
-        status: RequestStatus::new(alloc),
+        spec: Shared::new(alloc, spec)?,
+        status: Shared::new(alloc, RequestStatus::new(alloc))?,
     })
 }
 

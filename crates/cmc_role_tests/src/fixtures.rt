@@ -222,8 +222,8 @@ pub(crate) fn certificate(alloc: Global, case: &Case) -> Result<Certificate, Fai
     let spec = spec(alloc, case)?;
     Ok(Certificate {
         meta,
-        spec,
-        status: status(alloc, case)?,
+        spec: Shared::new(alloc, spec)?,
+        status: Shared::new(alloc, status(alloc, case)?)?,
     })
 }
 

@@ -6,7 +6,9 @@ use crate::checks::{tells, tells_at};
 use crate::fixtures::conditions as stated;
 use crate::trigger::{Case, NONE, OTHER_NAME, REQUEST, WELL, desk, request, views};
 use cmc_meta::{ConditionKind, Tri};
-use cmc_objects::{Call, CertStatus, Certificate, CertificateRequest, Object, Shared};
+use cmc_objects::{
+    Call, CertSpec, CertStatus, Certificate, CertificateRequest, Object, RequestStatus, Shared,
+};
 use cmc_pass::{Act, Requests, Views};
 use cmc_status::{act_readiness, act_revision, is_readiness_sound, is_revision_sound};
 use cmc_tests::values::{let_go, name as object_name};
@@ -175,7 +177,9 @@ fn ready_request(alloc: Global, row: &Row) -> Result<CertificateRequest, Fail> {
     let (name, number, status) = *row;
     let mut request = request(alloc, number, REQUEST)?;
     request.meta.name = object_name(alloc, name)?;
-    request.status.conditions = stated(alloc, &[(ConditionKind::Ready, status, "Issued", 0)])?;
+    let mut own = RequestStatus::copy(&request.status)?;
+    own.conditions = stated(alloc, &[(ConditionKind::Ready, status, "Issued", 0)])?;
+    request.status = Shared::new(alloc, own)?;
     Ok(request)
 }
 
@@ -195,7 +199,9 @@ fn with_limit(
     limit: Option<u32>,
 ) -> Result<Shared<Certificate>, AllocError> {
     let mut certificate = Certificate::copy(certificate)?;
-    certificate.spec.history_limit = limit;
+    let mut spec = CertSpec::copy(&certificate.spec)?;
+    spec.history_limit = limit;
+    certificate.spec = Shared::new(alloc, spec)?;
     Shared::new(alloc, certificate)
 }
 

@@ -109,8 +109,8 @@ fn certificate(alloc: Global, case: &Case, failed: Option<i64>) -> Result<Certif
     let spec = spec(alloc, case.algorithm)?;
     Ok(Certificate {
         meta,
-        spec,
-        status: status(alloc, case, failed)?,
+        spec: Shared::new(alloc, spec)?,
+        status: Shared::new(alloc, status(alloc, case, failed)?)?,
     })
 }
 
@@ -188,8 +188,8 @@ pub(crate) fn request(alloc: Global, number: &str, der: &str) -> Result<Certific
     let meta = meta(alloc, "web-1", revision(alloc, number)?)?;
     Ok(CertificateRequest {
         meta,
-        spec: request_spec(alloc, der)?,
-        status: no_status(alloc),
+        spec: Shared::new(alloc, request_spec(alloc, der)?)?,
+        status: Shared::new(alloc, no_status(alloc))?,
     })
 }
 

@@ -10,7 +10,8 @@ use crate::roles::every_role;
 use cmc_material::usual_approver;
 use cmc_meta::{BadName, Conditions, Name, Numbers, ObjectMeta, Owners, Pairs, Text, Texts};
 use cmc_objects::{
-    Algorithm, CertSpec, CertStatus, Certificate, IssuerRef, KeySpec, Material, Object, Step,
+    Algorithm, CertSpec, CertStatus, Certificate, IssuerRef, KeySpec, Material, Object, Shared,
+    Step,
 };
 use cmc_setup::{Roles, Scenario, Steps};
 use std::alloc::{AllocError, Global};
@@ -158,8 +159,8 @@ fn load(alloc: Global, number: u32) -> Result<Step, AllocError>
     ensures { IfOk result (λ s. s ≡ load_step number) }
 {
     let meta = meta(alloc, number)?;
-    let spec = spec(alloc, number)?;
-    let status = status(alloc);
+    let spec = Shared::new(alloc, spec(alloc, number)?)?;
+    let status = Shared::new(alloc, status(alloc))?;
     Ok(Step::Apply {
         object: Object::of_certificate(alloc, Certificate { meta, spec, status })?,
         version: None,

@@ -111,7 +111,7 @@ fn with_status(
     let changed = Certificate {
         meta: certificate.meta.copy()?,
         spec: certificate.spec.copy()?,
-        status,
+        status: Shared::new(alloc, status)?,
     };
     let object = Object::of_certificate(alloc, changed)?;
     Ok(Act::Call(Call::UpdateStatus {

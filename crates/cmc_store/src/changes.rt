@@ -43,7 +43,7 @@ pub fn make(alloc: Global, object: &Object, version: u64, now: i64) -> Result<Ob
             Certificate {
                 meta: fresh_meta(&c.meta, version, now, 1)?,
                 spec: c.spec.copy()?,
-                status: CertStatus::new(alloc),
+                status: Shared::new(alloc, CertStatus::new(alloc))?,
             },
         ),
         Object::Request(r) => Object::of_request(
@@ -51,7 +51,7 @@ pub fn make(alloc: Global, object: &Object, version: u64, now: i64) -> Result<Ob
             CertificateRequest {
                 meta: fresh_meta(&r.meta, version, now, 1)?,
                 spec: r.spec.copy()?,
-                status: RequestStatus::new(alloc),
+                status: Shared::new(alloc, RequestStatus::new(alloc))?,
             },
         ),
         Object::Secret(s) => Object::of_secret(

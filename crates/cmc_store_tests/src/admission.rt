@@ -6,7 +6,8 @@ use cmc_meta::{
     Bytes, Condition, ConditionKind, Conditions, Numbers, ObjectMeta, Text, Texts, Tri,
 };
 use cmc_objects::{
-    Algorithm, Call, CertSpec, CertStatus, Certificate, CertificateRequest, Object, Parts, Secret,
+    Algorithm, Call, CertSpec, CertStatus, Certificate, CertificateRequest, Object, Parts,
+    RequestSpec, RequestStatus, Secret, Shared,
 };
 use cmc_store::Store;
 use cmc_tests::values::{least_spec, name, new_meta, text, texts};
@@ -137,8 +138,8 @@ fn one(alloc: Global, length: u32) -> Result<Texts, Fail> {
 fn admitted(alloc: Global, word: &str, secret: &str) -> Result<Certificate, Fail> {
     Ok(Certificate {
         meta: new_meta(alloc, word)?,
-        spec: least_spec(alloc, secret, "example.com")?,
-        status: CertStatus::new(alloc),
+        spec: Shared::new(alloc, least_spec(alloc, secret, "example.com")?)?,
+        status: Shared::new(alloc, CertStatus::new(alloc))?,
     })
 }
 
@@ -248,9 +249,11 @@ fn is_rule(rt: &impl Abort, row: &str, rule: u32, want: u32) {
 // The Certificate comes by reference, so that no `?` lets it go.
 fn change_all(alloc: Global, c: &mut Certificate, change: Change, number: u32) -> Result<(), Fail> {
     change_name(alloc, &mut c.meta, change, number)?;
-    change_names(alloc, &mut c.spec, change, number)?;
-    change_texts(alloc, &mut c.spec, change, number)?;
-    change_numbers(&mut c.spec, change, number);
+    let mut spec = CertSpec::copy(&c.spec)?;
+    change_names(alloc, &mut spec, change, number)?;
+    change_texts(alloc, &mut spec, change, number)?;
+    change_numbers(&mut spec, change, number);
+    c.spec = Shared::new(alloc, spec)?;
     Ok(())
 }
 
@@ -409,7 +412,9 @@ fn conditions(alloc: Global, verdicts: &Verdicts) -> Result<Conditions, AllocErr
 
 fn judged(alloc: Global, verdicts: &Verdicts) -> Result<CertificateRequest, Fail> {
     let mut request = request(alloc)?;
-    request.status.conditions = conditions(alloc, verdicts)?;
+    let mut status = RequestStatus::copy(&request.status)?;
+    status.conditions = conditions(alloc, verdicts)?;
+    request.status = Shared::new(alloc, status)?;
     Ok(request)
 }
 
@@ -445,7 +450,9 @@ static OPEN: Verdicts = NONE;
 /// A request for a certificate of a CA.
 fn of_authority(alloc: Global) -> Result<Object, Fail> {
     let mut request = judged(alloc, &OPEN)?;
-    request.spec.is_ca = true;
+    let mut spec = RequestSpec::copy(&request.spec)?;
+    spec.is_ca = true;
+    request.spec = Shared::new(alloc, spec)?;
     Ok(Object::of_request(alloc, request)?)
 }
 
@@ -644,7 +651,9 @@ fn status(alloc: Global, verdicts: &Verdicts, version: u64) -> Result<Call, Fail
 /// A request with other usages.
 fn other_usages(alloc: Global) -> Result<Object, Fail> {
     let mut request = judged(alloc, &OPEN)?;
-    request.spec.usages = texts(alloc, "client auth")?;
+    let mut spec = RequestSpec::copy(&request.spec)?;
+    spec.usages = texts(alloc, "client auth")?;
+    request.spec = Shared::new(alloc, spec)?;
     Ok(Object::of_request(alloc, request)?)
 }
 

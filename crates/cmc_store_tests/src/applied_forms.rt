@@ -1,7 +1,7 @@
 // Which Certificates a scenario can apply, by rows of which each has at most one part out of its form.
 use crate::checks::passes;
 use cmc_meta::{Numbers, Texts};
-use cmc_objects::{CertSpec, CertStatus, Certificate, Material, Object, Rules, Step};
+use cmc_objects::{CertSpec, CertStatus, Certificate, Material, Object, Rules, Shared, Step};
 use cmc_policy_rules::Policies;
 use cmc_scenario::{Roles, Steps, is_setup};
 use cmc_tests::values::{column, least_spec, let_go, new_meta, number, text, texts};
@@ -41,8 +41,8 @@ fn certificate(alloc: Global, row: &str) -> Result<Certificate, Fail> {
     let meta = new_meta(alloc, "web")?;
     Ok(Certificate {
         meta,
-        spec: spec(alloc, row)?,
-        status: CertStatus::new(alloc),
+        spec: Shared::new(alloc, spec(alloc, row)?)?,
+        status: Shared::new(alloc, CertStatus::new(alloc))?,
     })
 }
 

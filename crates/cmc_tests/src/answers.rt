@@ -12,7 +12,9 @@ use cmc_answers::{
     Answered, Denial, ScriptedSigner, Signer, judge, signing_of, temporary, temporary_is_read,
 };
 use cmc_meta::{Bytes, Text, Texts};
-use cmc_objects::{CertificateRequest, JudgeOrder, Rules, Shared, SignOrder, SignRow, Signing};
+use cmc_objects::{
+    CertificateRequest, JudgeOrder, RequestSpec, Rules, Shared, SignOrder, SignRow, Signing,
+};
 use cmc_policy_rules::{Field, Policies, Policy};
 use std::alloc::{AllocError, Global};
 use std::process::Abort;
@@ -36,7 +38,9 @@ static STANDING_IN: &str =
 fn asking(alloc: Global, name: &str) -> Result<CertificateRequest, Fail> {
     let octets = made(alloc, &[made_requests::made()], name)?;
     let mut request = request(alloc)?;
-    request.spec.request = octets;
+    let mut spec = RequestSpec::copy(&request.spec)?;
+    spec.request = octets;
+    request.spec = Shared::new(alloc, spec)?;
     Ok(request)
 }
 

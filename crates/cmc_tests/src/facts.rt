@@ -190,14 +190,18 @@ fn ask_on(alloc: Global, spec: &mut RequestSpec, terms: &str) -> Result<(), Allo
 /// A request with these terms.
 fn asking_on(alloc: Global, terms: &str) -> Result<CertificateRequest, Fail> {
     let mut asking = whole::request(alloc)?;
-    ask_on(alloc, &mut asking.spec, terms)?;
+    let mut spec = RequestSpec::copy(&asking.spec)?;
+    ask_on(alloc, &mut spec, terms)?;
+    asking.spec = Shared::new(alloc, spec)?;
     Ok(asking)
 }
 
 /// A request with these terms and these octets.
 fn asking_for(alloc: Global, terms: &str, octets: Bytes) -> Result<CertificateRequest, Fail> {
     let mut asking = asking_on(alloc, terms)?;
-    asking.spec.request = octets;
+    let mut spec = RequestSpec::copy(&asking.spec)?;
+    spec.request = octets;
+    asking.spec = Shared::new(alloc, spec)?;
     Ok(asking)
 }
 
@@ -717,8 +721,7 @@ fn change(alloc: Global, pairs: &mut Pairs, key: &str, word: &str) -> Result<(),
         return set(alloc, pairs, key, word);
     }
     let key = Text::from_str(alloc, key)?;
-    pairs.remove(&key);
-    Ok(())
+    pairs.remove(&key)
 }
 
 /// Annotations that name the issuer, with this change.

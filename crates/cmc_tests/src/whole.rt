@@ -5,7 +5,7 @@ use cmc_meta::{
 };
 use cmc_objects::{
     Algorithm, CertSpec, CertStatus, Certificate, CertificateRequest, Encoding, IssuerRef, KeySpec,
-    Parts, RequestSpec, RequestStatus, Rotation, Secret,
+    Parts, RequestSpec, RequestStatus, Rotation, Secret, Shared,
 };
 use std::alloc::Global;
 use std::test::Fail;
@@ -117,15 +117,17 @@ pub fn certificate(alloc: Global) -> Result<Certificate, Fail> {
     let spec = cert_spec(alloc)?;
     Ok(Certificate {
         meta,
-        spec,
-        status: cert_status(alloc)?,
+        spec: Shared::new(alloc, spec)?,
+        status: Shared::new(alloc, cert_status(alloc)?)?,
     })
 }
 
 /// The same, without a percentage, so that each admission rule lets it pass.
 pub fn admitted_certificate(alloc: Global) -> Result<Certificate, Fail> {
     let mut certificate = certificate(alloc)?;
-    certificate.spec.renew_percent = None;
+    let mut spec = CertSpec::copy(&certificate.spec)?;
+    spec.renew_percent = None;
+    certificate.spec = Shared::new(alloc, spec)?;
     Ok(certificate)
 }
 
@@ -155,8 +157,8 @@ pub fn request(alloc: Global) -> Result<CertificateRequest, Fail> {
     let spec = request_spec(alloc)?;
     Ok(CertificateRequest {
         meta,
-        spec,
-        status: request_status(alloc)?,
+        spec: Shared::new(alloc, spec)?,
+        status: Shared::new(alloc, request_status(alloc)?)?,
     })
 }
 

@@ -8,7 +8,7 @@ ghost use Rattle.cmc_policies.specs.Reasons.{reason_name};
 ghost use Rattle.cmc_rules.specs.Triggering as spec;
 
 use cmc_meta::{Condition, ConditionKind, Text, Tri};
-use cmc_objects::{Call, CertStatus, Certificate, Object};
+use cmc_objects::{Call, CertStatus, Certificate, Object, Shared};
 use cmc_pass::Act;
 use cmc_policies::Reason;
 use std::alloc::{AllocError, Global};
@@ -77,7 +77,7 @@ fn with_issuing(
     Ok(Certificate {
         meta: certificate.meta.copy()?,
         spec: certificate.spec.copy()?,
-        status,
+        status: Shared::new(alloc, status)?,
     })
 }
 

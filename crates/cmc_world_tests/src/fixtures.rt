@@ -2,7 +2,7 @@
 use cmc_answers::{ScriptedSigner, Signer, judge};
 use cmc_keys::{KeyMaker, ScriptedKeys, is_allowed_size};
 use cmc_meta::{Numbers, Texts};
-use cmc_objects::{CertStatus, Certificate, Material, Object, Order, Role, Rules, Step};
+use cmc_objects::{CertStatus, Certificate, Material, Object, Order, Role, Rules, Shared, Step};
 use cmc_pass::Given;
 use cmc_policy_rules::Policies;
 use cmc_setup::{Roles, Scenario, Steps, is_setup};
@@ -21,8 +21,8 @@ pub(crate) fn certificate(
     let meta = new_meta(alloc, word)?;
     Ok(Certificate {
         meta,
-        spec: least_spec(alloc, secret, host)?,
-        status: CertStatus::new(alloc),
+        spec: Shared::new(alloc, least_spec(alloc, secret, host)?)?,
+        status: Shared::new(alloc, CertStatus::new(alloc))?,
     })
 }
 

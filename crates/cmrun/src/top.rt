@@ -7,6 +7,7 @@ ghost use Rattle.cmc_report.specs.Text.{joined};
 ghost use Rattle.cmc_plain.specs.Histories.{IsPlain};
 ghost use Rattle.cmc_rules.specs.Runs.{IsFinished};
 ghost use Rattle.cmc_scenario.specs.Loads.{load_setup};
+ghost use Rattle.cmc_scenario_print.specs.ScenarioTree.{scenario_tree};
 ghost use Rattle.cmc_world.specs.Kept.{on};
 ghost use Rattle.cmrun.specs.Headline.{Answers, IsLoadOf, IsRunOf, RunsOn};
 ghost use Rattle.cmrun.specs.Statuses.{Explains, ExplainsLoad, ExplainsRun, Leaves, LeavesRun, Refuses, RefusesValue, SpendsOn, exit_code, message_of, path_of, reads_failed, reads_nothing, writes_failed, writes_nothing};
@@ -186,6 +187,17 @@ fn answer_bytes<R: Threads + Wait + Sync, M: KeyMaker, N: Signer, G: Gate>(
     }
 }
 
+/// The scenario as JSON where it is printed, and null where the summary line stands alone, which does not say it.
+fn printed_value(alloc: Global, alone: bool, scenario: &Scenario) -> Result<Value, AllocError>
+    ensures said { IfOk result (λ v. alone ≡ false → view v ≡ scenario_tree scenario.now) }
+    ensures float_free { IfOk result (λ v. has_float (view v) ≡ false) }
+{
+    if alone {
+        return Ok(Value::Null);
+    }
+    value_of_scenario(alloc, scenario)
+}
+
 /// The lines of the run of the generated scenario of so many Certificates.
 fn load_lines<R: Threads + Wait + Sync, M: KeyMaker, N: Signer, G: Gate>(
     rt: &R,
@@ -203,10 +215,12 @@ fn load_lines<R: Threads + Wait + Sync, M: KeyMaker, N: Signer, G: Gate>(
     ensures err { IfErr result (λ status. SpendsOn (load_setup count) status) }
 {
     let scenario = generate(alloc, count)?;
-    let value = value_of_scenario(alloc, &scenario)?;
-    run_of(
+    let value = printed_value(alloc, alone, &scenario)?;
+    let lines = run_of(
         rt, alloc, workers, alone, &value, scenario, keys, signer, gate,
-    )
+    );
+    leave(value);
+    lines
 }
 
 /// The exit status of the program.
