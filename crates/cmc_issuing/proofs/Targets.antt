@@ -15,10 +15,12 @@ use Rattle.cmc_objects.specs.declared.secret.Secret.{Secret as SecretObject}
 use Rattle.cmc_objects.specs.Defaults.{key_algorithm, key_size}
 use Rattle.cmc_objects.specs.Requests.{is_run_time, is_denied}
 use Rattle.cmc_keys.proofs.KindLaws.{is_key_means}
-use Rattle.cmc_match.specs.Facts.{fits, with_key}
+use Rattle.cmc_objects.specs.KeyPairs.{is_one_key, with_key}
+use Rattle.cmc_match.specs.Facts.{fits}
 use Rattle.cmc_match.specs.Marks.{asks_for_temporary}
-use Rattle.cmc_match.specs.Matching.{is_one_key, has_key}
-use Rattle.cmc_match.proofs.MatchLaws.{key_found, keys_match}
+use Rattle.cmc_match.specs.Matching.{has_key}
+use Rattle.cmc_objects.proofs.KeyLaws.{key_found}
+use Rattle.cmc_match.proofs.MatchLaws.{keys_match}
 use Rattle.cmc_answers.specs.Signings.{certificate_of}
 use Rattle.cmc_answers.specs.Temporary.{temporary_plan, temporary_of, temporary}
 use Rattle.cmc_answers.proofs.IssuedLaws.{temporary_read}

@@ -1,5 +1,4 @@
 pub mod SetLaws
-pub mod MarkLaws
 pub mod NameLaws
 pub mod MatchLaws
 pub mod TimeLaws

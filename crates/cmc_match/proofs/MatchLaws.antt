@@ -24,9 +24,11 @@ use Rattle.cmc_objects.specs.declared.certificate.CertSpec.{CertSpec}
 use Rattle.cmc_objects.specs.declared.request.RequestSpec.{RequestSpec}
 use Rattle.cmc_objects.specs.declared.request.CertificateRequest.{CertificateRequest}
 use Rattle.cmc_objects.specs.Defaults.{certificate_duration}
+use Rattle.cmc_objects.specs.KeyPairs.{is_one_key}
+use Rattle.cmc_objects.proofs.KeyLaws.{key_found, key_itself, key_again}
 use Rattle.cmc_match.specs.Sets.{IsSameSet}
 use Rattle.cmc_match.specs.SubjectNames.{named, addresses, Writes, HasNames, values_of, written, has_names}
-use Rattle.cmc_match.specs.Matching.{IsSameIssuer, Matches, HasKey, is_same_issuer, is_same_flag, has_terms, asks_for_names, matches, is_one_key, is_one_of, has_key}
+use Rattle.cmc_match.specs.Matching.{IsSameIssuer, Matches, HasKey, is_same_issuer, is_same_flag, has_terms, asks_for_names, matches, is_one_of, has_key}
 use Rattle.cmc_match.proofs.SetLaws.{contains_here, contains_later, contains_cases, sets, and_left, and_right, and_both}
 use Rattle.cmc_match.proofs.NameLaws.{values_are}
 
@@ -166,45 +168,6 @@ matching spec request =
     joined a t = record { fields = a.fields; readable = a.readable; names = a.names; issuer = t.issuer; duration = t.duration; is_ca = t.is_ca; usages = t.usages }
 
 -- ---- public keys
-
-kind_found : (a b : KeyKind) → same_kind a b ≡ true → a ≡ b
-kind_found (Rsa m) (Rsa n) h = ap Rsa (eqb-true m n h)
-kind_found P256 P256 h = refl
-kind_found P384 P384 h = refl
-kind_found P521 P521 h = refl
-kind_found a b h = absurd (false≢true h)
-
-kind_itself : (a : KeyKind) → same_kind a a ≡ true
-kind_itself (Rsa m) = eq-eqb m m refl
-kind_itself P256 = refl
-kind_itself P384 = refl
-kind_itself P521 = refl
-
-rsa_same : (m e n f : List ℕ) → m ≡ n → e ≡ f → RsaKey m e ≡ RsaKey n f
-rsa_same m e n f h k = cc
-
-ec_same : (c : KeyKind) (p : List ℕ) (d : KeyKind) (q : List ℕ) → c ≡ d → p ≡ q → EcKey c p ≡ EcKey d q
-ec_same c p d q h k = cc
-
-pub key_found : (a b : PublicKey) → is_one_key a b ≡ true → a ≡ b
-unfolding is_one_key
-key_found (RsaKey m e) (RsaKey n f) h = rsa_same m e n f ((bytes_eq-Decides m n).0 (and_left _ _ h)) ((bytes_eq-Decides e f).0 (and_right _ _ h))
-key_found (EcKey c p) (EcKey d q) h = ec_same c p d q (kind_found c d (and_left _ _ h)) ((bytes_eq-Decides p q).0 (and_right _ _ h))
-key_found (OtherKey w) (OtherKey v) h = ap OtherKey ((bytes_eq-Decides w v).0 h)
-key_found a b h = absurd (false≢true h)
-
-pub key_itself : (a : PublicKey) → is_one_key a a ≡ true
-unfolding is_one_key
-key_itself (RsaKey m e) = and_both _ _ ((bytes_eq-Decides m m).1 refl) ((bytes_eq-Decides e e).1 refl)
-key_itself (EcKey c p) = and_both _ _ (kind_itself c) ((bytes_eq-Decides p p).1 refl)
-key_itself (OtherKey w) = (bytes_eq-Decides w w).1 refl
-
-key_again : (a b : PublicKey) → a ≡ b → is_one_key a b ≡ true
-key_again a b e = let P : PublicKey → Type 0 = λ k. is_one_key a k ≡ true in subst P e (key_itself a)
-
--- what says whether two keys are equal gives the test's value
-pub key_value : (r : Bool) (a b : PublicKey) → IsTrue r ↔ (a ≡ b) → r ≡ is_one_key a b
-key_value r a b h = same_from_decides r (is_one_key a b) h (key_found a b, key_again a b)
 
 has_key_found : (request : CertificateRequest) (file : List ℕ) (key : Option PublicKey) (read : Option RequestFields) → key_file_at file ≡ key → request_at request.spec.request ≡ read → is_one_of key read ≡ true → HasKey request file
 has_key_found request file None read e f h = absurd (false≢true h)

@@ -1,10 +1,11 @@
 -- A pair that is found is one, and has a validity.
-use Rattle.std.proofs.Common.{◌≡◌, ℕ, ℤ, List, Option, Some, None, refl, sym, subst, ◌∙◌, ◌≤ℤ◌, inl, inr}
+use Rattle.std.proofs.Common.{◌≡◌, ℕ, ℤ, List, Option, Some, None, refl, sym, subst, ◌∙◌, ◌≤ℤ◌, inl, inr, arith}
 use Rattle.std.specs.Prelude.{IfSome, option_map, ◌↔◌}
 use Rattle.std.proofs.lemmas.Bool.{cases_Bool}
 use Rattle.std.proofs.lemmas.Option.{none-some, same_Some}
 use Rattle.cmc_der.specs.declared.fields.CertFields.{CertFields}
 use Rattle.cmc_der.specs.Keys.{PublicKey, CertificateFields, cert_shown}
+use Rattle.jiff_core.proofs.SignedLemmas.{signed_arith}
 use Rattle.cmc_time.specs.Asn1.{IsCertificateTime}
 use Rattle.cmc_x509.specs.KeyFiles.{IsKeyFile}
 use Rattle.cmc_x509.specs.ReadKeys.{key_file_at}
@@ -13,9 +14,9 @@ use Rattle.cmc_x509.specs.ReadCertificates.{certificate_at}
 use Rattle.cmc_x509.proofs.CertificateLaws.{certificate_found, certificate_again}
 use Rattle.cmc_x509.proofs.FileLaws.{key_file_found, key_file_again}
 use Rattle.cmc_objects.specs.declared.secret.Secret.{Secret}
-use Rattle.cmc_match.specs.Matching.{is_one_key}
-use Rattle.cmc_match.specs.Facts.{key_in, certificate_in, IsPair, with_key, pair_of, pair_in}
-use Rattle.cmc_match.proofs.MatchLaws.{key_found, key_itself}
+use Rattle.cmc_objects.specs.KeyPairs.{begins, ends, is_one_key, pair_of, with_key}
+use Rattle.cmc_objects.proofs.KeyLaws.{key_found, key_itself}
+use Rattle.cmc_match.specs.Facts.{key_in, certificate_in, IsPair, pair_in}
 use Rattle.cmc_match.proofs.TimeLaws.{certificate_time}
 
 abbrev some : {A : Type 0} → A → Option A
@@ -68,6 +69,15 @@ pair_validity secret fields h =
     let first = validity.first in
     let second = validity.second in
     record { ordered = validity.ordered; begins = certificate_time first.0 first.1 fields.not_before first.3; ends = certificate_time second.0 second.1 fields.not_after second.3 }
+
+-- the same of what is known of a pair, which says 0 where there is none
+validity_of : (secret : Secret) (found : Option CertificateFields) → pair_in secret ≡ found → HasValidity (begins found) (ends found)
+validity_of secret None e = record { ordered = omega (arith, signed_arith); begins = (omega (arith, signed_arith), omega (arith, signed_arith)); ends = (omega (arith, signed_arith), omega (arith, signed_arith)) }
+validity_of secret (Some fields) e = pair_validity secret fields (pair_found secret fields e)
+
+pub known_validity : (secret : Secret) (first last : ℤ) → first ≡ begins (pair_in secret) → last ≡ ends (pair_in secret) → HasValidity first last
+known_validity secret first last from to =
+    subst (λ (t : ℤ). HasValidity t last) (sym from) (subst (λ (t : ℤ). HasValidity (begins (pair_in secret)) t) (sym to) (validity_of secret (pair_in secret) refl))
 
 -- what the code answers
 pub answer_validity : (r : Option CertFields) (secret : Secret) → option_map cert_shown r ≡ pair_in secret → IfSome r (λ fields. HasValidity fields.not_before fields.not_after)

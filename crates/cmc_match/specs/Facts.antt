@@ -14,10 +14,11 @@ use Rattle.cmc_objects.specs.declared.certificate.CertSpec.{CertSpec}
 use Rattle.cmc_objects.specs.declared.certificate.Certificate.{Certificate}
 use Rattle.cmc_objects.specs.declared.request.CertificateRequest.{CertificateRequest}
 use Rattle.cmc_objects.specs.Defaults.{issuer_kind, issuer_group, key_algorithm, key_size}
+use Rattle.cmc_objects.specs.KeyPairs.{pair_of, is_paired, begins, ends}
 use Rattle.cmc_policies.specs.Reasons.{Known}
 use Rattle.cmc_keys.specs.Kinds.{IsKeyOf, is_key_of, is_public_of}
 use Rattle.cmc_match.specs.Marks.{has_text, is_temporary}
-use Rattle.cmc_match.specs.Matching.{HasKey, is_one_key, is_one_of, matches, has_key}
+use Rattle.cmc_match.specs.Matching.{HasKey, is_one_of, matches, has_key}
 use Rattle.cmc_match.specs.Revisions.{current_request}
 
 -- the private key of the Secret, and its certificate, both in DER
@@ -68,16 +69,6 @@ pub record HasRequestedKey (spec : KeySpec) (secret : Secret) (request : Certifi
 
 -- ---- the same as a function
 
-abbrev pub with_key : Option PublicKey → Option CertificateFields → Option CertificateFields
-with_key None certificate = None
-with_key (Some key) None = None
-with_key (Some key) (Some fields) = if is_one_key key fields.key then Some fields else None
-
-abbrev pub pair_of : Option (List ℕ) → Option (List ℕ) → Option CertificateFields
-pair_of None certificate = None
-pair_of (Some key) None = None
-pair_of (Some key) (Some certificate) = with_key (key_file_at key) (certificate_at certificate)
-
 -- the fields of the certificate that the Secret's key and certificate are a pair with
 unfoldable pub pair_in : Secret → Option CertificateFields
 pair_in secret = pair_of (key_in secret) (certificate_in secret)
@@ -102,10 +93,6 @@ stands (Some secret) = true
 unfoldable pub is_filled : Option Secret → Bool
 is_filled None = false
 is_filled (Some secret) = is_given (key_in secret) && (is_given (certificate_in secret) && not (is_temporary secret))
-
-abbrev pub is_paired : Option CertificateFields → Bool
-is_paired None = false
-is_paired (Some fields) = true
 
 unfoldable pub names_issuer : IssuerRef → Option Secret → Bool
 names_issuer issuer None = false
@@ -145,15 +132,6 @@ has_requested_key spec (Some secret) current = is_requested spec (key_in secret)
 abbrev pub is_unchanged : CertSpec → Option CertificateRequest → Bool
 is_unchanged spec None = true
 is_unchanged spec (Some request) = matches spec request
-
--- the validity of the pair's certificate, 0 where there is no pair
-abbrev pub begins : Option CertificateFields → ℤ
-begins None = pos 0
-begins (Some fields) = fields.not_before
-
-abbrev pub ends : Option CertificateFields → ℤ
-ends None = pos 0
-ends (Some fields) = fields.not_after
 
 -- what the checks of a Certificate of this name look at: the Secret that it names, and its current request
 abbrev pub known_of : CertSpec → List ℕ → Option Secret → Option CertificateRequest → Known

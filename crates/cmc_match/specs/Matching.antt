@@ -1,7 +1,7 @@
 -- Whether a CertificateRequest asks for what a Certificate asks for, and for which key.
 use Rattle.std.specs.Prelude.{◌≡◌, ℕ, ◌==◌, Bool, false, not, if◌then◌else◌, ◌&&◌, List, Option, Some, None}
 use Rattle.std.specs.Str.{bytes_eq}
-use Rattle.cmc_der.specs.Keys.{PublicKey, RsaKey, EcKey, OtherKey, RequestFields, same_kind}
+use Rattle.cmc_der.specs.Keys.{PublicKey, RequestFields}
 use Rattle.cmc_x509.specs.KeyFiles.{IsKeyFile}
 use Rattle.cmc_x509.specs.ReadKeys.{key_file_at}
 use Rattle.cmc_x509.specs.Certificates.{IsRequest}
@@ -11,6 +11,7 @@ use Rattle.cmc_objects.specs.declared.certificate.CertSpec.{CertSpec}
 use Rattle.cmc_objects.specs.declared.request.RequestSpec.{RequestSpec}
 use Rattle.cmc_objects.specs.declared.request.CertificateRequest.{CertificateRequest}
 use Rattle.cmc_objects.specs.Defaults.{issuer_kind, issuer_group, certificate_duration}
+use Rattle.cmc_objects.specs.KeyPairs.{is_one_key}
 use Rattle.cmc_match.specs.Sets.{IsSameSet, is_same_set}
 use Rattle.cmc_match.specs.SubjectNames.{HasNames, has_names}
 
@@ -59,13 +60,6 @@ asks_for_names spec (Some fields) = has_names spec fields.names
 
 unfoldable pub matches : CertSpec → CertificateRequest → Bool
 matches spec request = asks_for_names spec (request_at request.spec.request) && has_terms spec request.spec
-
--- the two keys have equal parts
-unfoldable pub is_one_key : PublicKey → PublicKey → Bool
-is_one_key (RsaKey m e) (RsaKey n f) = bytes_eq m n && bytes_eq e f
-is_one_key (EcKey c p) (EcKey d q) = same_kind c d && bytes_eq p q
-is_one_key (OtherKey w) (OtherKey v) = bytes_eq w v
-is_one_key left right = false
 
 abbrev pub is_one_of : Option PublicKey → Option RequestFields → Bool
 is_one_of None request = false

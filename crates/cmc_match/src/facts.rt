@@ -3,9 +3,9 @@ ghost use Rattle.std.specs.Option.{option_copied};
 ghost use Rattle.std.specs.Prelude.{◌≡◌, ◌↔◌, ◌≤ℤ◌, ℕ, List, pos, true, false, IsTrue, option_map, IfSome, Some};
 ghost use Rattle.cmc_der.specs.Keys.{CertificateFields, cert_shown, csr_shown, key_shown};
 ghost use Rattle.cmc_x509.specs.Lists.{IsValueList};
-ghost use Rattle.cmc_x509.specs.ReadCertificates.{certificate_at};
 ghost use Rattle.cmc_time.specs.Asn1.{IsCertificateTime};
 ghost use Rattle.cmc_policies.specs.Reasons.{known};
+ghost use Rattle.cmc_objects.specs.KeyPairs.{begins, ends, is_paired};
 ghost use Rattle.cmc_match.specs.Facts as words;
 ghost use Rattle.cmc_match.specs.Matching.{key_read, request_read};
 ghost use Rattle.cmc_match.specs.Facts.{IsPair, IsFilled, NamesIssuer, NamesOwner, HasRequestedKey};
@@ -14,52 +14,17 @@ ghost use Rattle.cmc_objects.specs.declared.secret.Secret.{Secret};
 ghost use Rattle.cmc_objects.specs.declared.key_spec.KeySpec.{KeySpec};
 ghost use Rattle.cmc_objects.specs.declared.request.CertificateRequest.{CertificateRequest};
 
-use crate::marks::{has_text, is_temporary, part_under, text_under};
-use crate::matching::{fields_of, is_one_key, is_one_of, matches_as_read, public_of};
+use crate::marks::{has_text, is_temporary};
+use crate::matching::{fields_of, is_one_of, matches_as_read, public_of};
 use crate::revisions::current_request;
 use cmc_keys::is_public_of;
 use cmc_meta::{Bytes, Name};
-use cmc_objects::{CertSpec, Certificate, CertificateRequest, IssuerRef, KeySpec, Secret, Shared};
+use cmc_objects::{
+    CertSpec, Certificate, CertificateRequest, IssuerRef, KeySpec, Pairing, Secret, Shared,
+    part_under, text_under,
+};
 use cmc_policies::Facts;
-use cmc_x509::{CertFields, CsrFields, Spki, read_cert};
-
-fn certificate_with_key<'a>(
-    public: &Option<Spki<'_>>,
-    certificate: &'a [u8],
-) -> Option<CertFields<'a>>
-    ensures { option_map cert_shown result ≡ words.with_key (option_map key_shown public.now) (certificate_at certificate.now) }
-{
-    match public {
-        None => None,
-        Some(public) => match read_cert(certificate) {
-            Err(_) => None,
-            Ok(fields) => {
-                if is_one_key(public, &fields.key) {
-                    Some(fields)
-                } else {
-                    None
-                }
-            }
-        },
-    }
-}
-
-fn pair_of<'a>(
-    key: Option<&Bytes>,
-    public: &Option<Spki<'_>>,
-    certificate: Option<&'a Bytes>,
-) -> Option<CertFields<'a>>
-    requires { option_map key_shown public.now ≡ key_read (option_copied key) }
-    ensures { option_map cert_shown result ≡ words.pair_of (option_copied key.entry) (option_copied certificate.entry) }
-{
-    match key {
-        None => None,
-        Some(_key) => match certificate {
-            None => None,
-            Some(certificate) => certificate_with_key(public, certificate.as_slice()),
-        },
-    }
-}
+use cmc_x509::{CertFields, CsrFields, Spki};
 
 /// The public key of the file, if there is one and it is readable.
 fn public_in<'a>(key: Option<&'a Bytes>) -> Option<Spki<'a>>
@@ -71,31 +36,11 @@ fn public_in<'a>(key: Option<&'a Bytes>) -> Option<Spki<'a>>
     }
 }
 
-/// The pair, where this is the public key of the Secret's key.
 #[tactic(auto, unfolding(crate::specs::Facts::pair_in))]
-fn pair_with<'a>(secret: &'a Secret, public: &Option<Spki<'_>>) -> Option<CertFields<'a>>
-    requires { option_map key_shown public.now ≡ key_read (words.key_in secret.now) }
+fn pair_with<'a>(secret: &'a Secret) -> Option<CertFields<'a>>
     ensures { option_map cert_shown result ≡ words.pair_in secret.now }
 {
-    pair_of(
-        part_under(&secret.parts, "tls.key"),
-        public,
-        part_under(&secret.parts, "tls.crt"),
-    )
-}
-
-/// The pair, as `pair_in` has it, where this is the public key of the Secret's key.
-fn pair_as_read<'a>(secret: &'a Secret, public: &Option<Spki<'_>>) -> Option<CertFields<'a>>
-    requires { option_map key_shown public.now ≡ key_read (words.key_in secret.now) }
-    ensures means { (fields : CertificateFields) →
-        (option_map cert_shown result ≡ Some fields) ↔ IsPair secret.now fields }
-    ensures value { option_map cert_shown result ≡ words.pair_in secret.now }
-
-    ensures ordered { IfSome result (λ fields. fields.not_before ≤ℤ fields.not_after) }
-    ensures begins_in_range { IfSome result (λ fields. IsCertificateTime fields.not_before) }
-    ensures ends_in_range { IfSome result (λ fields. IsCertificateTime fields.not_after) }
-{
-    pair_with(secret, public)
+    secret.parts.pair()
 }
 
 /// The fields of the Secret's certificate, where its key (`tls.key`) and its certificate (`tls.crt`) are readable and
@@ -109,7 +54,7 @@ pub fn pair_in<'a>(secret: &'a Secret) -> Option<CertFields<'a>>
     ensures begins_in_range { IfSome result (λ fields. IsCertificateTime fields.not_before) }
     ensures ends_in_range { IfSome result (λ fields. IsCertificateTime fields.not_after) }
 {
-    pair_as_read(secret, &public_in(part_under(&secret.parts, "tls.key")))
+    pair_with(secret)
 }
 
 /// Whether the key and the certificate of a Secret are a pair, and the validity of the certificate.
@@ -123,23 +68,26 @@ struct Paired {
     ghost ends_in_range: { IsCertificateTime not_after },
 }
 
-fn pair_facts(secret: &Secret, public: &Option<Spki<'_>>) -> Paired
-    requires { option_map key_shown public.now ≡ key_read (words.key_in secret.now) }
-    ensures pair { result.pair ≡ words.is_paired (words.pair_in secret.now) }
-    ensures begins { result.not_before ≡ words.begins (words.pair_in secret.now) }
-    ensures ends { result.not_after ≡ words.ends (words.pair_in secret.now) }
+/// What is known of the pair: as it is kept beside the Secret's data, or else as it is read now.
+#[tactic(auto, unfolding(crate::specs::Facts::pair_in))]
+fn known_pairing(secret: &Secret) -> Pairing
+    ensures pair { result.pair ≡ is_paired (words.pair_in secret.now) }
+    ensures begins { result.not_before ≡ begins (words.pair_in secret.now) }
+    ensures ends { result.not_after ≡ ends (words.pair_in secret.now) }
 {
-    match pair_as_read(secret, public) {
-        None => Paired {
-            pair: false,
-            not_before: 0,
-            not_after: 0,
-        },
-        Some(fields) => Paired {
-            pair: true,
-            not_before: fields.not_before,
-            not_after: fields.not_after,
-        },
+    secret.parts.pairing()
+}
+
+fn pair_facts(secret: &Secret) -> Paired
+    ensures pair { result.pair ≡ is_paired (words.pair_in secret.now) }
+    ensures begins { result.not_before ≡ begins (words.pair_in secret.now) }
+    ensures ends { result.not_after ≡ ends (words.pair_in secret.now) }
+{
+    let known = known_pairing(secret);
+    Paired {
+        pair: known.pair,
+        not_before: known.not_before,
+        not_after: known.not_after,
     }
 }
 
@@ -283,10 +231,10 @@ fn facts_in(
 ) -> Facts
     ensures { known result ≡ words.known_of spec.now name.now (Some secret.now) (option_copied current.entry) }
 {
-    // Each of the two files is read once for all checks.
+    // The key and the certification request are read once for all checks.
     let public = public_in(part_under(&secret.parts, "tls.key"));
     let asked = asked_of(current);
-    let paired = pair_facts(secret, &public);
+    let paired = pair_facts(secret);
     Facts {
         secret: true,
         filled: is_filled(secret),

@@ -12,7 +12,7 @@ ghost use Rattle.cmc_match.specs.Matching.{Matches, HasKey};
 use crate::names::has_names;
 use crate::sets::is_same_set;
 use cmc_keys::is_key_of;
-use cmc_objects::{CertSpec, CertificateRequest, IssuerRef, KeySpec, RequestSpec};
+use cmc_objects::{CertSpec, CertificateRequest, IssuerRef, KeySpec, RequestSpec, is_one_key};
 use cmc_x509::{CsrFields, Spki, read_csr, read_key};
 
 /// Whether the octets are a file of a private key of the algorithm and the size that are asked for, in whichever
@@ -103,14 +103,6 @@ pub fn request_matches(spec: &CertSpec, request: &CertificateRequest) -> bool
     ensures value { result ≡ words.matches spec.now request.now }
 {
     matches(spec, request)
-}
-
-/// Whether two public keys have equal parts.
-pub fn is_one_key(left: &Spki<'_>, right: &Spki<'_>) -> bool
-    ensures means { IsTrue result ↔ (key_shown left.now ≡ key_shown right.now) }
-    ensures value { result ≡ words.is_one_key (key_shown left.now) (key_shown right.now) }
-{
-    left.same(right)
 }
 
 /// The public key of a key file: `None` exactly where it is not readable.

@@ -5,9 +5,8 @@ ghost use Rattle.std.specs.Option.{option_copied};
 ghost use Rattle.std.specs.Prelude.{◌≡◌, ◌<◌, ◌^◌, ℕ, IfSome, Some, decimal, length, filter, find};
 ghost use Rattle.cmc_match.specs.Revisions as words;
 
-use crate::marks::text_under;
 use cmc_meta::Text;
-use cmc_objects::{CertificateRequest, Shared};
+use cmc_objects::{CertificateRequest, Shared, text_under};
 
 fn are_digits(text: &[u8]) -> bool
     ensures { result ≡ list_all is_ascii_digit text.now }

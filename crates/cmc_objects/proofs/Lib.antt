@@ -1,2 +1,4 @@
+pub mod KeyLaws
+pub mod LookupLaws
 pub mod Ranks
 mod Copies

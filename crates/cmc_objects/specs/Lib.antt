@@ -1,5 +1,6 @@
 pub mod Calls
 pub mod Defaults
+pub mod KeyPairs
 pub mod Objects
 pub mod Roles
 pub mod Materials

@@ -1,24 +1,34 @@
 ghost use Rattle.std.specs.Option.{option_copied};
-ghost use Rattle.std.specs.Prelude.{◌≡◌, ◌↔◌, ◌&&◌, [], IsTrue, IfOk, OnOk, OnErr, nat_eq};
+ghost use Rattle.std.specs.Prelude.{◌≡◌, ◌↔◌, ◌&&◌, [], IsTrue, IfOk, OnOk, OnErr, nat_eq, option_map};
+ghost use Rattle.cmc_der.specs.Keys.{cert_shown};
+ghost use Rattle.cmc_objects.specs.KeyPairs.{IsPairing, pair_among};
 ghost use Rattle.cmc_meta.specs.PairLists.{text_at, with_text, without_text};
 
+use crate::lookups::part_under;
+use crate::pairing::{Pairing, pair_of, pairing_of};
 use cmc_meta::{Bytes, Text};
+use cmc_x509::CertFields;
 use std::alloc::{AllocError, Global};
 use std::collections::BTreeMap;
 use std::marker::Model;
 
-/// The data of a Secret: bytes under names; contracts see the pairs in order of name.
-#[derive(Clone, Drop)]
+/// The data of a Secret: bytes under names; contracts see the pairs in order of name. What is known of its key and its
+/// certificate can be kept beside it, so that they are read once for all who look at the Secret.
+#[derive(Drop)]
 pub struct Parts {
     map: BTreeMap<Text, Bytes>,
+    pairing: Option<Pairing>,
 }
 
 impl Model for Parts {
-    ghost use Rattle.std.specs.Prelude.{List, ℕ};
+    ghost use Rattle.std.specs.Prelude.{IfSome, List, ℕ};
+    ghost use Rattle.cmc_objects.specs.KeyPairs.{IsPairing};
 
     ghost Value = { List (List ℕ × List ℕ) };
 
     ghost view = { λ p. p.map.entries };
+
+    ghost invariant = { λ p. IfSome p.pairing (IsPairing p.map.entries) };
 }
 
 impl Parts {
@@ -28,6 +38,7 @@ impl Parts {
     {
         Parts {
             map: BTreeMap::new(alloc),
+            pairing: None,
         }
     }
 
@@ -43,6 +54,7 @@ impl Parts {
         ensures ok { OnOk result (self.new ≡ with_text self.old name bytes) }
         ensures err { OnErr result (self.new ≡ self.old) }
     {
+        self.pairing = None;
         self.map.insert(name, bytes)?;
         Ok(())
     }
@@ -51,6 +63,7 @@ impl Parts {
     pub fn remove(&mut self, name: &Text)
         ensures { self.new ≡ without_text self.old name.now }
     {
+        self.pairing = None;
         let _ = self.map.remove(name);
     }
 
@@ -61,11 +74,43 @@ impl Parts {
         &self.map
     }
 
+    /// The fields of the certificate (`tls.crt`), where it and the key (`tls.key`) are there and readable and have one
+    /// public key; `None` exactly elsewhere.
+    pub fn pair(&self) -> Option<CertFields<'_>>
+        ensures { option_map cert_shown result ≡ pair_among self.now }
+    {
+        pair_of(part_under(self, "tls.key"), part_under(self, "tls.crt"))
+    }
+
+    /// Whether the key and the certificate are a pair, and its validity: as it is kept, or else as it is read now.
+    pub fn pairing(&self) -> Pairing
+        ensures { IsPairing self.now result }
+    {
+        match self.pairing {
+            Some(pairing) => pairing,
+            None => pairing_of(self.pair()),
+        }
+    }
+
+    /// The same data, which keeps what is known of its key and its certificate from now on, and its copies too.
+    pub fn keep_pairing(self) -> Parts
+        ensures { result ≡ self }
+    {
+        let pairing = self.pairing();
+        Parts {
+            map: self.map,
+            pairing: Some(pairing),
+        }
+    }
+
     /// Equal data.
     pub fn copy(&self) -> Result<Parts, AllocError>
         ensures { IfOk result (λ p. p ≡ self.now) }
     {
-        self.clone()
+        Ok(Parts {
+            map: self.map.clone()?,
+            pairing: self.pairing,
+        })
     }
 
     /// Whether both have the same pairs.

@@ -19,9 +19,9 @@ use Rattle.cmc_objects.specs.declared.call.Call.TheVariants.{Create, Update, Upd
 use Rattle.cmc_objects.specs.Objects.{key_of}
 use Rattle.cmc_objects.specs.Defaults.{issuer_kind, issuer_group}
 use Rattle.cmc_objects.specs.Requests.{is_approved, is_denied}
-use Rattle.cmc_match.specs.Facts.{key_in, fits, pair_in, with_key}
+use Rattle.cmc_objects.specs.KeyPairs.{is_one_key, with_key}
+use Rattle.cmc_match.specs.Facts.{key_in, fits, pair_in}
 use Rattle.cmc_match.specs.Marks.{is_next_key, is_temporary, asks_for_temporary}
-use Rattle.cmc_match.specs.Matching.{is_one_key}
 use Rattle.cmc_match.specs.Revisions.{next_request}
 use Rattle.cmc_answers.specs.Temporary.{temporary}
 use Rattle.cmc_pass.specs.declared.pass.Views.{Views}

@@ -4,7 +4,7 @@ use Rattle.std.specs.Prelude.{if◌then◌else◌}
 use Rattle.cmc_der.specs.Keys.{CertificateFields}
 use Rattle.cmc_policies.specs.declared.renewal.Renew.{Renew}
 use Rattle.cmc_policies.specs.Renewal.{renewal}
-use Rattle.cmc_match.specs.Facts.{is_paired, begins, ends}
+use Rattle.cmc_objects.specs.KeyPairs.{is_paired, begins, ends}
 use Rattle.cmc_rules.specs.Readying.{begins_at, ends_at, renews_at}
 
 pub begins_known : (pair : Option CertificateFields) (stands : Bool) (first : ℤ) → stands ≡ is_paired pair → first ≡ begins pair → (if stands then Some first else None) ≡ begins_at pair

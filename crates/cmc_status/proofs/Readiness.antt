@@ -18,7 +18,8 @@ use Rattle.cmc_policies.specs.declared.facts.Frame.{Frame}
 use Rattle.cmc_policies.specs.declared.renewal.Renew.{Renew}
 use Rattle.cmc_policies.specs.Reasons.{Known, first_of}
 use Rattle.cmc_policies.specs.Renewal.{IsCertificateTime}
-use Rattle.cmc_match.specs.Facts.{is_paired, begins, ends, pair_in, pair_at, known_for}
+use Rattle.cmc_objects.specs.KeyPairs.{is_paired, begins, ends}
+use Rattle.cmc_match.specs.Facts.{pair_in, pair_at, known_for}
 use Rattle.cmc_match.proofs.PairLaws.{HasValidity, pair_found, pair_validity}
 use Rattle.cmc_pass.specs.declared.pass.Views.{Views}
 use Rattle.cmc_pass.specs.declared.pass.Desk.{Desk}

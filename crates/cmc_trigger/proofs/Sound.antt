@@ -17,7 +17,8 @@ use Rattle.cmc_policies.specs.declared.facts.Frame.{Frame}
 use Rattle.cmc_policies.specs.declared.renewal.Renew.{Renew}
 use Rattle.cmc_policies.specs.Reasons.{Known, first_of}
 use Rattle.cmc_policies.specs.Renewal.{IsCertificateTime, backoff, renewal}
-use Rattle.cmc_match.specs.Facts.{is_paired, begins, ends, pair_at}
+use Rattle.cmc_objects.specs.KeyPairs.{is_paired, begins, ends}
+use Rattle.cmc_match.specs.Facts.{pair_at}
 use Rattle.cmc_pass.specs.declared.pass.Views.{Views}
 use Rattle.cmc_pass.specs.declared.pass.Desk.{Desk}
 use Rattle.cmc_pass.specs.declared.pass.Act.{Act}

@@ -1,5 +1,5 @@
 use Rattle.cmc_match.proofs.PairLaws.{answer_validity, answer_ordered, answer_begins, answer_ends, answer_means}
-use Rattle.cmc_match.proofs.facts.pair_as_read.Goals as goal
+use Rattle.cmc_match.proofs.facts.pair_in.Goals as goal
 
 pub returns-clause-means : goal.returns-clause-means
 returns-clause-means c = answer_means c.pair_with.result c.args.secret.now c.pair_with.ensures

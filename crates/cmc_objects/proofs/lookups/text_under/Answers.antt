@@ -1,6 +1,6 @@
 use Rattle.std.proofs.Common.{sym, ◌∙◌}
-use Rattle.cmc_match.proofs.MarkLaws.{found_here, found_later}
-use Rattle.cmc_match.proofs.marks.text_under.Goals as goal
+use Rattle.cmc_objects.proofs.LookupLaws.{found_here, found_later}
+use Rattle.cmc_objects.proofs.lookups.text_under.Goals as goal
 
 pub returns-then-is_named : goal.returns-then-is_named
 returns-then-is_named c =
