@@ -3,11 +3,8 @@ use Rattle.std.proofs.Common.{◌≡◌, ℕ, Bool, true, false, List, [], ◌�
 use Rattle.std.specs.Prelude.{◌↔◌, IsTrue, Contains}
 use Rattle.std.specs.List.{cons_option}
 use Rattle.std.proofs.lemmas.Bool.{eqb-true, eq-eqb, false≢true}
-use Rattle.std.proofs.lemmas.Bool.Decides.{same_from_decides}
 use Rattle.std.proofs.lemmas.Slice.Eq.{bytes_eq-Decides}
-use Rattle.cmc_der.specs.declared.fields.KeyKind.{KeyKind}
-use Rattle.cmc_der.specs.declared.fields.KeyKind.TheVariants.{Rsa, P256, P384, P521}
-use Rattle.cmc_der.specs.Keys.{PublicKey, RsaKey, EcKey, OtherKey, RequestFields, SubjectNames, same_kind}
+use Rattle.cmc_der.specs.Keys.{PublicKey, RequestFields, SubjectNames}
 use Rattle.cmc_x509.specs.Taking.{Value}
 use Rattle.cmc_x509.specs.Lists.{IsValues, IsValueList}
 use Rattle.cmc_x509.specs.Certificates.{IsRequest}
@@ -24,8 +21,7 @@ use Rattle.cmc_objects.specs.declared.certificate.CertSpec.{CertSpec}
 use Rattle.cmc_objects.specs.declared.request.RequestSpec.{RequestSpec}
 use Rattle.cmc_objects.specs.declared.request.CertificateRequest.{CertificateRequest}
 use Rattle.cmc_objects.specs.Defaults.{certificate_duration}
-use Rattle.cmc_objects.specs.KeyPairs.{is_one_key}
-use Rattle.cmc_objects.proofs.KeyLaws.{key_found, key_itself, key_again}
+use Rattle.cmc_objects.proofs.KeyLaws.{key_found, key_itself}
 use Rattle.cmc_match.specs.Sets.{IsSameSet}
 use Rattle.cmc_match.specs.SubjectNames.{named, addresses, Writes, HasNames, values_of, written, has_names}
 use Rattle.cmc_match.specs.Matching.{IsSameIssuer, Matches, HasKey, is_same_issuer, is_same_flag, has_terms, asks_for_names, matches, is_one_of, has_key}

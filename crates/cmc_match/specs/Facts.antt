@@ -1,12 +1,10 @@
 -- What is known of the Secret of a Certificate.
-use Rattle.std.specs.Prelude.{◌≡◌, ◌≢◌, ◌<◌, ◌⊎◌, length, ℕ, ℤ, pos, Bool, true, false, not, ◌&&◌, List, [], ◌∷◌, codes, Option, Some, None, if◌then◌else◌}
+use Rattle.std.specs.Prelude.{◌≡◌, ◌≢◌, ◌<◌, ◌⊎◌, length, ℕ, Bool, true, false, not, ◌&&◌, List, [], ◌∷◌, codes, Option, Some, None}
 use Rattle.std.specs.Str.{bytes_eq}
 use Rattle.cmc_meta.specs.PairLists.{text_at}
 use Rattle.cmc_der.specs.Keys.{PublicKey, CertificateFields, RequestFields}
 use Rattle.cmc_x509.specs.KeyFiles.{IsKeyFile}
-use Rattle.cmc_x509.specs.ReadKeys.{key_file_at}
 use Rattle.cmc_x509.specs.Certificates.{IsCertificate}
-use Rattle.cmc_x509.specs.ReadCertificates.{certificate_at}
 use Rattle.cmc_objects.specs.declared.issuer.IssuerRef.{IssuerRef}
 use Rattle.cmc_objects.specs.declared.secret.Secret.{Secret}
 use Rattle.cmc_objects.specs.declared.key_spec.KeySpec.{KeySpec}

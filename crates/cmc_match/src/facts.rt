@@ -70,12 +70,24 @@ struct Paired {
 
 /// What is known of the pair: as it is kept beside the Secret's data, or else as it is read now.
 #[tactic(auto, unfolding(crate::specs::Facts::pair_in))]
-fn known_pairing(secret: &Secret) -> Pairing
+fn pairing_in(secret: &Secret) -> Pairing
     ensures pair { result.pair ≡ is_paired (words.pair_in secret.now) }
     ensures begins { result.not_before ≡ begins (words.pair_in secret.now) }
     ensures ends { result.not_after ≡ ends (words.pair_in secret.now) }
 {
     secret.parts.pairing()
+}
+
+/// The same, with what is known of the validity of each pair.
+fn known_pairing(secret: &Secret) -> Pairing
+    ensures pair { result.pair ≡ is_paired (words.pair_in secret.now) }
+    ensures begins { result.not_before ≡ begins (words.pair_in secret.now) }
+    ensures ends { result.not_after ≡ ends (words.pair_in secret.now) }
+    ensures ordered { result.not_before ≤ℤ result.not_after }
+    ensures begins_in_range { IsCertificateTime result.not_before }
+    ensures ends_in_range { IsCertificateTime result.not_after }
+{
+    pairing_in(secret)
 }
 
 fn pair_facts(secret: &Secret) -> Paired
