@@ -98,14 +98,6 @@ pub known_more : (k : Key) (ws : List Write) (w : Write) → is_known k (ws ++ w
 known_more k [] w = refl
 known_more k (v ∷ ws) w = ap (λ (r : Bool). key_eq v.key k || r) (known_more k ws w) ∙ swapped (key_eq v.key k) (key_eq w.key k) (is_known k ws)
 
-known_by : (b : Bool) (w : Write) (ws : List Write) (k : Key) → key_eq w.key k ≡ b → is_known w.key ws ≡ true → (b || is_known k ws) ≡ is_known k ws
-known_by true w ws k e known = sym (subst (λ (q : Key). is_known q ws ≡ true) (equal_key w.key k e) known)
-known_by false w ws k e known = refl
-
--- a key that is known already
-pub known_again : (w : Write) (ws : List Write) (k : Key) → is_known w.key ws ≡ true → (key_eq w.key k || is_known k ws) ≡ is_known k ws
-known_again w ws k known = known_by (key_eq w.key k) w ws k refl known
-
 -- ---- changes
 
 same_write : (key : Bor Key) (o : Option Object) (w : Write) → key.now ≡ w.key → o ≡ w.object → (record { key = key.now; object = o } ∷ []) ≡ (w ∷ [])

@@ -100,12 +100,7 @@ work_where_due s h role key seen does due o legal is running free does_is due_is
   by true on = record { work = work (due_is.0 on); known = record { role = refl; key = refl; seen = is; does = here } }
   by false off = λ w. let on = due_is.1 (subst IsDueWith (sym is) w.may.due) in absurd (cc (on, off))
 
--- a key above the given one
-pub work_above_here : (s : Setting) (h : List Entry) (role : Role) (below : Option Key) (key : Key) (o : Option Opening) → is_above below key ≡ true → IsWorkOn s h role key o → IsWorkOnAbove s h role below key o
-work_above_here s h role below key None on none = λ w. none w.work
-work_above_here s h role below key (Some o) on work = (on, work)
-
--- and one that is not above it
+-- a key that is not above the given one
 pub none_below : (s : Setting) (h : List Entry) (role : Role) (below : Option Key) (key : Key) → is_above below key ≡ false → HasWorkAbove s h role below key → ⊥
 none_below s h role below key off w = let on = w.above in absurd (cc (on, off))
 

@@ -11,8 +11,8 @@ use cmc_match::{
 };
 use cmc_meta::{Bytes, Pairs, Text, Texts};
 use cmc_objects::{
-    Algorithm, CertSpec, Certificate, CertificateRequest, IssuerRef, KeySpec, Parts, RequestSpec,
-    Secret, Shared,
+    Algorithm, CertSpec, Certificate, CertificateRequest, IssuerRef, KeySpec, Pairing, Parts,
+    RequestSpec, Secret, Shared,
 };
 use cmc_policies::Facts;
 use cmc_x509::{read_csr, read_key};
@@ -696,12 +696,19 @@ fn put_certificate(alloc: Global, parts: &mut Parts, certificate: &str) -> Resul
     Ok(())
 }
 
-/// The parts of a Secret with this key and this certificate, where each is one.
-fn parts(alloc: Global, key: &str, certificate: &str) -> Result<Parts, Fail> {
+/// Keeps what is known of the pair, where that is to be kept.
+fn keep(parts: Parts, kept: bool) -> Parts {
+    if kept { parts.keep_pairing() } else { parts }
+}
+
+/// The parts of a Secret with this key and this certificate, where each is one. What is known of them is kept once the key
+/// is there and once the certificate is, or not at all.
+fn parts(alloc: Global, key: &str, certificate: &str, kept: bool) -> Result<Parts, Fail> {
     let mut parts = Parts::new(alloc);
     put_key(alloc, &mut parts, key)?;
+    parts = keep(parts, kept);
     put_certificate(alloc, &mut parts, certificate)?;
-    Ok(parts)
+    Ok(keep(parts, kept))
 }
 
 /// Names the issuer `ca`.
@@ -775,6 +782,16 @@ fn current(alloc: Global, request: &str) -> Result<Option<Shared<CertificateRequ
     Ok(Some(Shared::new(alloc, asking_called(alloc, request)?)?))
 }
 
+/// What is known of the key and the certificate is what the facts say.
+fn is_pairing(parts: &Parts, facts: &Facts) -> bool {
+    let Pairing {
+        pair,
+        not_before,
+        not_after,
+    } = parts.pairing();
+    pair == facts.pair && not_before == facts.not_before && not_after == facts.not_after
+}
+
 /// The pair of the Secret is what the facts say.
 fn is_pair(secret: &Secret, facts: &Facts) -> bool {
     match pair_in(secret) {
@@ -787,9 +804,9 @@ fn is_pair(secret: &Secret, facts: &Facts) -> bool {
     }
 }
 
-/// The Secret of the row.
-fn secret_of(alloc: Global, row: &str) -> Result<Secret, Fail> {
-    let parts = parts(alloc, column(row, 0), column(row, 1))?;
+/// The Secret of the row, with or without what is known of its pair.
+fn secret_of(alloc: Global, row: &str, kept: bool) -> Result<Secret, Fail> {
+    let parts = parts(alloc, column(row, 0), column(row, 1), kept)?;
     let annotations = annotations(alloc, column(row, 2))?;
     let mut secret = whole::secret(alloc)?;
     secret.parts = parts;
@@ -820,11 +837,12 @@ fn facts_with(
 fn known_of(alloc: Global, row: &str, secret: &Shared<Secret>) -> Result<(Facts, bool), Fail> {
     let spec = spec_of_size(alloc, row)?;
     let facts = facts_with(alloc, &spec, Some(secret), column(row, 4))?;
-    Ok((facts, is_pair(secret, &facts)))
+    let is_so = is_pair(secret, &facts) && is_pairing(&secret.parts, &facts);
+    Ok((facts, is_so))
 }
 
-fn known_by(alloc: Global, row: &str) -> Result<(Facts, bool), Fail> {
-    let secret = Shared::new(alloc, secret_of(alloc, row)?)?;
+fn known_by(alloc: Global, row: &str, kept: bool) -> Result<(Facts, bool), Fail> {
+    let secret = Shared::new(alloc, secret_of(alloc, row, kept)?)?;
     known_of(alloc, row, &secret)
 }
 
@@ -840,8 +858,8 @@ fn tells_facts(
     Ok(())
 }
 
-fn knows_by(rt: &impl Abort, alloc: Global, row: &str) -> Result<(), Fail> {
-    let (facts, is_pair) = known_by(alloc, row)?;
+fn knows_by(rt: &impl Abort, alloc: Global, row: &str, kept: bool) -> Result<(), Fail> {
+    let (facts, is_pair) = known_by(alloc, row, kept)?;
     tells_facts(rt, alloc, row, &facts, column(row, 5))?;
     passes(rt, row, is_pair);
     Ok(())
@@ -850,7 +868,8 @@ fn knows_by(rt: &impl Abort, alloc: Global, row: &str) -> Result<(), Fail> {
 #[test]
 fn knows_of_secrets(rt: HostRuntime) -> Result<(), Fail> {
     for row in &FACTS {
-        knows_by(&rt, rt.alloc(), row)?;
+        knows_by(&rt, rt.alloc(), row, false)?;
+        knows_by(&rt, rt.alloc(), row, true)?;
     }
     facts_mean();
     Ok(())
