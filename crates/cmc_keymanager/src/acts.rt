@@ -96,6 +96,12 @@ fn dropped(secret: Option<&Shared<Secret>>) -> Result<Act, AllocError>
     }
 }
 
+fn spare_key(certificate: &Certificate, next: &[Shared<Secret>]) -> Result<Act, AllocError>
+    ensures { IfOk result (λ a. a ≡ table.dropped (find (λ o. not (words.is_named certificate.now.status.next_key o)) next.now)) }
+{
+    dropped(other_key(&certificate.status.next_key, next))
+}
+
 fn while_issuing(
     alloc: Global,
     certificate: &Certificate,
@@ -115,7 +121,7 @@ fn while_issuing(
             certificate.spec.key.rotation_at_use(),
         ),
         [secret] => only_key(alloc, certificate, secret),
-        _ => dropped(other_key(&certificate.status.next_key, next)),
+        _ => spare_key(certificate, next),
     }
 }
 
