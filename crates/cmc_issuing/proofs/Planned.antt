@@ -6,6 +6,7 @@ use Rattle.std.specs.declared.alloc.AllocError.{AllocError}
 use Rattle.std.specs.Prelude.{ℕ, [], IsSome, length, nat_le, codes, if◌then◌else◌}
 use Rattle.cmc_objects.specs.declared.call.Call.{Call}
 use Rattle.cmc_objects.specs.declared.certificate.Certificate.{Certificate}
+use Rattle.cmc_objects.specs.declared.certificate.CertStatus.{CertStatus}
 use Rattle.cmc_objects.specs.declared.request.CertificateRequest.{CertificateRequest}
 use Rattle.cmc_objects.specs.declared.secret.Secret.{Secret as SecretObject}
 use Rattle.cmc_objects.specs.Requests.{is_denied}
@@ -127,6 +128,10 @@ with_one m c target requests file r found some =
     let is : with_file m c target requests (Some file) ≡ with_request m c file target (Some r) =
     behind (fits c.spec.key file) (with_request m c file target (next_request c.status.revision requests)) some ∙ ap (λ (o : Option CertificateRequest). with_request m c file target o) found in
     is ∙ behind (is_wanted c file r) (with_wanted m c file target r) (subst (λ (a : Act). IsSome (secret_of a)) is some)
+
+-- the next request by the status, wherever that was read
+pub asked : (status read : CertStatus) (requests : List CertificateRequest) (r : CertificateRequest) → read ≡ status → next_request read.revision requests ≡ Some r → next_request status.revision requests ≡ Some r
+asked status read requests r is found = subst (λ (t : CertStatus). next_request t.revision requests ≡ Some r) is found
 
 -- and so is the act for the key file and the request that are found
 pub with_found : (m : ℤ) (c : Certificate) (target : Option SecretObject) (requests : List CertificateRequest) (given : Option (Bor (List ℕ))) (file : Bor (List ℕ)) (r s : CertificateRequest) → given ≡ Some file
