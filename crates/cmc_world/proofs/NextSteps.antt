@@ -1,5 +1,5 @@
 -- What an open pass does next, and what its move is answered.
-use Rattle.std.proofs.Common.{◌≡◌, ℕ, ◌+◌, ◌≤◌, refl, sym, ap, subst, ◌∙◌, List, [], ◌∷◌, length, Option, Some, None, IfOk, Result, inr, arith}
+use Rattle.std.proofs.Common.{◌≡◌, ℕ, ◌+◌, ◌≤◌, refl, sym, ap, subst, ◌∙◌, List, [], ◌∷◌, length, Option, Some, None, IfOk, Result, inl, inr, arith}
 use Rattle.std.proofs.lemmas.Result.{IfOk-weaker}
 use Rattle.std.specs.Prelude.{◌↔◌, IsTrue, IsSome, Bool, true, false}
 use Rattle.std.specs.declared.alloc.AllocError.{AllocError}
@@ -37,10 +37,10 @@ use Rattle.cmc_safety.proofs.Following.{has_following, follows_read, follows_sec
 use Rattle.cmc_moves.specs.declared.doing.Doing.{Doing}
 use Rattle.cmc_moves.specs.declared.doing.Doing.TheVariants.{Call as Makes, Ask as Asks, End as Ends}
 use Rattle.cmc_moves.specs.declared.doing.Judged.{Judged}
-use Rattle.cmc_moves.specs.declared.doing.Judged.TheVariants.{Does}
+use Rattle.cmc_moves.specs.declared.doing.Judged.TheVariants.{Answer, Does}
 use Rattle.cmc_moves.specs.declared.moves.Move.TheVariants.{Next}
 use Rattle.cmc_moves.specs.declared.moves.Stepped.{Stepped}
-use Rattle.cmc_moves.specs.declared.moves.Stepped.TheVariants.{Done, Order as Tells}
+use Rattle.cmc_moves.specs.declared.moves.Stepped.TheVariants.{Done, Order as Tells, Spent}
 use Rattle.cmc_moves.specs.Answers.{kept_at, kept_of, new_at, new_of, next_answer, AnswersGoing, AnswersNext, Leaves, asked_once}
 use Rattle.cmc_moves.specs.Acting.{HasSecret, HasStatus, HasNext, hangs_on_act, IsDoingBy, IsDoing, IsGoingOn, IsJudged, IsNoMove, asked_in}
 use Rattle.cmc_world.specs.Kept.{first_desk}
@@ -202,6 +202,17 @@ does_going s h n p d entries events room is free does counted most fits on =
     ) where
       going_new : (kept new : Option Order) → kept ≡ None → new ≡ asked_in d → length h + 1 ≤ s.events → AnswersGoing s h n kept new (next_answer n (asked_in d))
       going_new kept new none is low = rw (none, is) (inr (low, refl))
+
+-- where no entry fits any more, it does nothing
+pub spent_going : (s : Setting) (h : List Entry) (n : ℕ) (p : OpenPass) (entries events : ℕ) (room : Bool) → open_pass s h n ≡ Some p → kept_of (Some p) ≡ None
+    → entries ≡ length h → events ≡ s.events → (IsTrue room ↔ (entries + 1 ≤ events)) → room ≡ false → IsGoingOn s h n (Answer (Spent entries))
+spent_going s h n p entries events room is free counted most fits off =
+    let none : kept_of (open_pass s h n) ≡ None = kept_none s h n p is free in
+    (spent (kept_of (open_pass s h n)) (new_of s h (open_pass s h n)) none, tt) where
+      full : length h + 1 ≤ s.events → ⊥
+      full low = let on : room ≡ true = fits.1 (subst (λ (m : ℕ). entries + 1 ≤ m) (sym most) (subst (λ (m : ℕ). m + 1 ≤ s.events) (sym counted) low)) in absurd (cc (on, off))
+      spent : (kept new : Option Order) → kept ≡ None → AnswersGoing s h n kept new (Spent entries)
+      spent kept new none = rw none (inl (full, ap (λ (m : ℕ). Spent m) counted))
 
 -- the answer of a move that has the pass do this
 pub answer_by : (s : Setting) (h : List Entry) (pass named : ℕ) (j : Judged) (d : Doing) (r : Result Stepped AllocError) → IsJudged s h pass named j → j ≡ Does d → IfOk r (λ a. a ≡ next_answer pass (asked_in d)) → IfOk r (λ a. AnswersNext s h pass named a)
