@@ -2,7 +2,7 @@
 ghost use Rattle.std.specs.Prelude.{IfOk, IsSome};
 
 use crate::checks::{passes, tells_at};
-use crate::fixtures::{RequestRow, request};
+use crate::fixtures::{RequestRow, ask_group, request};
 use crate::requestmanager::WANTED;
 use crate::telling::{call_told_then, told_then};
 use crate::trigger::{OTHER_NAME, desk};
@@ -153,7 +153,7 @@ static CASES: [(Case, &str); 15] = [
 fn request_of(alloc: Global, case: &Case) -> Result<CertificateRequest, Fail> {
     let mut request = request(alloc, &case.row)?;
     if let Some(group) = case.group {
-        request.spec.issuer.group = Some(text(alloc, group)?);
+        ask_group(alloc, &mut request, group)?;
     }
     Ok(request)
 }

@@ -5,8 +5,8 @@ ghost use Rattle.cmc_rules.specs.NextRequests.{HasNextRevision};
 use crate::trigger;
 use cmc_meta::{Bytes, Condition, ConditionKind, Conditions, ObjectMeta, Pairs, Text, Tri};
 use cmc_objects::{
-    Algorithm, CertSpec, CertStatus, Certificate, CertificateRequest, Parts, RequestStatus,
-    Rotation, Secret, Shared,
+    Algorithm, CertSpec, CertStatus, Certificate, CertificateRequest, Parts, RequestSpec,
+    RequestStatus, Rotation, Secret, Shared,
 };
 use cmc_pass::{Requests, Secrets, Views};
 use cmc_tests::values::{least_spec, name, new_meta, octets, text};
@@ -163,8 +163,20 @@ pub(crate) fn request(alloc: Global, row: &RequestRow) -> Result<CertificateRequ
     let mut request = trigger::request(alloc, row.revision, row.der)?;
     request.meta.name = name(alloc, row.name)?;
     request.meta.version = 9;
-    request.status = request_status(alloc, row)?;
+    request.status = Shared::new(alloc, request_status(alloc, row)?)?;
     Ok(request)
+}
+
+/// The request asks an issuer of this group.
+pub(crate) fn ask_group(
+    alloc: Global,
+    request: &mut CertificateRequest,
+    group: &str,
+) -> Result<(), Fail> {
+    let mut spec = RequestSpec::copy(&request.spec)?;
+    spec.issuer.group = Some(text(alloc, group)?);
+    request.spec = Shared::new(alloc, spec)?;
+    Ok(())
 }
 
 fn requests(alloc: Global, rows: &[RequestRow]) -> Result<Requests, Fail> {

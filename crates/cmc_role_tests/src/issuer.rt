@@ -5,7 +5,7 @@ ghost use Rattle.cmc_rules.specs.Granting.{HasForm};
 ghost use Rattle.cmc_objects.specs.Requests.{is_short_text, is_short_option, is_duration_form, is_request_form};
 
 use crate::checks::{tells, tells_at};
-use crate::fixtures::{RequestRow, Stated, bytes, request};
+use crate::fixtures::{RequestRow, Stated, ask_group, bytes, request};
 use crate::requestmanager::WANTED;
 use crate::telling::{call_told_then, told_then};
 use crate::trigger::desk;
@@ -328,7 +328,7 @@ fn request_of(alloc: Global, case: &Case) -> Result<CertificateRequest, Fail>
 {
     let mut request = request(alloc, &case.row)?;
     if let Some(group) = case.group {
-        request.spec.issuer.group = Some(text(alloc, group)?);
+        ask_group(alloc, &mut request, group)?;
     }
     if is_of_form(&request) {
         return Ok(request);

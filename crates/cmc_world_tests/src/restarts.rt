@@ -4,7 +4,8 @@ use crate::fixtures::{ROLES, apply, certificate, is_done, put, value_then, whole
 use cmc_history::History;
 use cmc_meta::{ConditionKind, Kind, Numbers};
 use cmc_objects::{
-    Algorithm, Entry, KeyRow, KeyRows, Material, Object, Order, Role, Rows, SignRows, Step, Who,
+    Algorithm, CertSpec, Entry, KeyRow, KeyRows, Material, Object, Order, Role, Rows, Shared,
+    SignRows, Step, Who,
 };
 use cmc_plain::plain;
 use cmc_setup::{Scenario, Steps};
@@ -19,7 +20,9 @@ static KINDS: [Kind; 3] = [Kind::Certificate, Kind::CertificateRequest, Kind::Se
 /// The step that applies the Certificate.
 fn applied(alloc: Global) -> Result<Step, Fail> {
     let mut certificate = certificate(alloc, "web", "web-tls", "example.com")?;
-    certificate.spec.key.algorithm = Some(Algorithm::Ecdsa);
+    let mut spec = CertSpec::copy(&certificate.spec)?;
+    spec.key.algorithm = Some(Algorithm::Ecdsa);
+    certificate.spec = Shared::new(alloc, spec)?;
     apply(alloc, certificate)
 }
 
