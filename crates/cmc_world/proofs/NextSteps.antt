@@ -211,6 +211,7 @@ spent_going s h n p entries events room is free counted most fits off =
     (spent (kept_of (open_pass s h n)) (new_of s h (open_pass s h n)) none, tt) where
       full : length h + 1 ≤ s.events → ⊥
       full low = let on : room ≡ true = fits.1 (subst (λ (m : ℕ). entries + 1 ≤ m) (sym most) (subst (λ (m : ℕ). m + 1 ≤ s.events) (sym counted) low)) in absurd (cc (on, off))
+
       spent : (kept new : Option Order) → kept ≡ None → AnswersGoing s h n kept new (Spent entries)
       spent kept new none = rw none (inl (full, ap (λ (m : ℕ). Spent m) counted))
 
