@@ -1,30 +1,9 @@
 //! The rule on Secrets.
 ghost use Rattle.std.specs.Option.{option_copied};
 ghost use Rattle.std.specs.Prelude.{◌≡◌, not};
-ghost use Rattle.std.specs.Str.{bytes_eq};
-ghost use Rattle.cmc_meta.specs.PairLists.{text_at};
 ghost use Rattle.cmc_model.specs.Admission as rules;
 
-use cmc_meta::{Bytes, Text};
-use cmc_objects::{Object, Parts, Secret};
-
-fn is_named(name: &Text, key: &str) -> bool
-    ensures { result ≡ bytes_eq key.now name.now }
-{
-    key == name.as_str()
-}
-
-/// The bytes under the name; `None` exactly where no pair has it.
-fn part_under<'a>(parts: &'a Parts, key: &str) -> Option<&'a Bytes>
-    ensures { option_copied result ≡ text_at parts.now key.now }
-{
-    for (name, bytes) in parts.as_map().iter() {
-        if is_named(name, key) {
-            return Some(bytes);
-        }
-    }
-    None
-}
+use cmc_objects::{Object, Secret, part_under};
 
 fn lacks(secret: &Secret, key: &str) -> bool
     ensures { result ≡ rules.lacks key.now secret.now }

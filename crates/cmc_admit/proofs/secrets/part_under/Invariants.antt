@@ -1,6 +1,0 @@
-use Rattle.std.proofs.Common.{◌≡◌}
-use Rattle.cmc_meta.specs.PairLists.{text_at}
-use Rattle.cmc_admit.proofs.secrets.part_under.Given as goal
-
-abbrev pub invariant-loop-name : goal.invariant-loop-name
-invariant-loop-name l = text_at l.name-iterator l.key ≡ text_at l.parts l.key
