@@ -1,9 +1,10 @@
 -- What is issued is read with the fields that it was made of.
-use Rattle.std.proofs.Common.{◌≡◌, ℕ, ℤ, pos, ◌+ℤ◌, List, ◌∷◌, ◌++◌, ◌&&◌, Bool, true, false, length, Option, Some, None, ◌≤ℤ◌, refl, arith, length-append, replicate, IsSome, int_le}
+use Rattle.std.proofs.Common.{◌≡◌, ℕ, ℤ, pos, ◌+ℤ◌, List, ◌∷◌, ◌++◌, ◌&&◌, true, length, Option, Some, None, ◌≤ℤ◌, refl, arith, length-append, replicate, IsSome, int_le}
 use Rattle.std.specs.Prelude.{neg_ℤ}
 use Rattle.std.proofs.lemmas.Int.{ints}
 use Rattle.std.proofs.lemmas.List.{length-replicate}
 use Rattle.std.specs.Int.{w64, to_be_bytes}
+use Rattle.std.proofs.lemmas.Bool.{and_parts}
 use Rattle.sha2.specs.Sha256.{sha256}
 use Rattle.cmc_der.specs.Keys.{PublicKey, RequestFields, kind_of}
 use Rattle.cmc_der.specs.Building.{value}
@@ -64,13 +65,9 @@ issued_read plan request csr row_key is known begins ends ordered small =
 
 -- ---- what stands in
 
-both_hold : (a b : Bool) → (a && b) ≡ true → (a ≡ true) × (b ≡ true)
-both_hold true b e = (refl, e)
-both_hold false b e = absurd (cc e)
-
 run_time : (now : ℤ) → is_run_time now ≡ true → (IsCertificateTime now × IsCertificateTime (now +ℤ pos 7776000)) × (now ≤ℤ (now +ℤ pos 7776000))
 run_time now is =
-    let holds = both_hold (int_le (neg_ℤ (pos 599616000)) now) (int_le now (pos 250246627200)) is in
+    let holds = and_parts (int_le (neg_ℤ (pos 599616000)) now) (int_le now (pos 250246627200)) is in
     let low = le-true (neg_ℤ (pos 599616000)) now holds.0 in
     let high = le-true now (pos 250246627200) holds.1 in
     (((omega (arith, ints, low, high), omega (arith, ints, low, high)), (omega (arith, ints, low, high), omega (arith, ints, low, high))), omega (arith, ints))

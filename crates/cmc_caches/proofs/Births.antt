@@ -1,7 +1,7 @@
 -- No uid is given under two keys, and so none stands under two keys in what some first writes leave.
-use Rattle.std.proofs.Common.{◌≡◌, inl, inr, ℕ, Bool, true, false, cond, List, [], ◌∷◌, length, reverse, Option, Some, None, refl, sym, ap, ◌∙◌}
+use Rattle.std.proofs.Common.{◌≡◌, ℕ, true, List, [], ◌∷◌, reverse, Option, Some, None, refl, sym, ap, ◌∙◌}
 use Rattle.std.proofs.lemmas.Bool.{eqb-true}
-use Rattle.std.specs.Prelude.{if◌then◌else◌, nat_le}
+use Rattle.std.specs.Prelude.{if◌then◌else◌}
 use Rattle.cmc_meta.specs.declared.key.Key.{Key}
 use Rattle.cmc_meta.specs.declared.key.Kind.{Kind}
 use Rattle.cmc_objects.specs.declared.object.Object.{Object}
@@ -10,32 +10,12 @@ use Rattle.cmc_model.specs.declared.write.Write.{Write}
 use Rattle.cmc_model.specs.Objects.{Objects, object_at}
 use Rattle.cmc_model.specs.Histories.{Setting}
 use Rattle.cmc_model.specs.Versions.{uid_of, IsVersion}
-use Rattle.cmc_model.specs.Writes.{kind_eq, of_kind, oldest, writes}
-use Rattle.cmc_model.proofs.Versions.{standing}
+use Rattle.cmc_model.specs.Writes.{of_kind, oldest, writes}
+use Rattle.cmc_model.proofs.Versions.{standing, version_of_kind, version_of_oldest}
 use Rattle.cmc_rules.specs.Legality.{IsLegal}
 use Rattle.cmc_rules.proofs.Versions.{uid_has_one_key}
 use Rattle.cmc_informer.specs.Caches.{has_uid}
 use Rattle.cmc_caches.specs.Affected.{AreLeft, HaveOwnUids, IsEachUidOfOneKey}
-
--- ---- what stands is a version of a write
-
-some_write : (b : Bool) (key : Key) (o : Object) (w : Write) (some ws : List Write) → (IsVersion key o some → IsVersion key o ws) → IsVersion key o (cond b (w ∷ some) some) → IsVersion key o (w ∷ ws)
-some_write true key o w some ws below (inl here) = inl here
-some_write true key o w some ws below (inr there) = inr (below there)
-some_write false key o w some ws below there = inr (below there)
-
-pub version_of_kind : (kind : Kind) (key : Key) (o : Object) (ws : List Write) → IsVersion key o (of_kind kind ws) → IsVersion key o ws
-version_of_kind kind key o [] has = has
-version_of_kind kind key o (w ∷ ws) has = some_write (kind_eq w.key.kind kind) key o w (of_kind kind ws) ws (λ there. version_of_kind kind key o ws there) has
-
-first_writes : (b : Bool) (key : Key) (o : Object) (w : Write) (some ws : List Write) → (IsVersion key o some → IsVersion key o ws) → IsVersion key o (if b then w ∷ ws else some) → IsVersion key o (w ∷ ws)
-first_writes true key o w some ws below has = has
-first_writes false key o w some ws below has = inr (below has)
-
-pub version_of_oldest : (p : ℕ) (key : Key) (o : Object) (ws : List Write) → IsVersion key o (oldest p ws) → IsVersion key o ws
-unfolding oldest
-version_of_oldest p key o [] has = has
-version_of_oldest p key o (w ∷ ws) has = first_writes (nat_le (length (w ∷ ws)) p) key o w (oldest p ws) ws (λ there. version_of_oldest p key o ws there) has
 
 version_left : (kind : Kind) (ws : List Write) (m : Objects) (key : Key) (o : Object) → AreLeft kind ws m → object_at m key ≡ Some o → IsVersion key o (reverse ws)
 version_left kind ws m key o left is =

@@ -10,7 +10,7 @@ use Rattle.std.specs.Prelude.{◌||◌}
 use Rattle.cmc_meta.specs.declared.key.Key.{Key}
 use Rattle.cmc_meta.specs.Keys.{key_cmp}
 use Rattle.cmc_model.specs.Objects.{Objects, object_at}
-use Rattle.cmc_model.proofs.Keys.{key_cmp-total}
+use Rattle.cmc_meta.proofs.KeyOrder.{key_cmp-total}
 use Rattle.cmc_informer.specs.Caches.{is_targeting}
 use Rattle.cmc_informer.proofs.OneMark.{same_key}
 use Rattle.cmc_caches.specs.Affected.{AreListedBySecret, KeepsKeys, is_among}

@@ -19,13 +19,13 @@ use Rattle.cmc_model.specs.declared.write.Write.{Write}
 use Rattle.cmc_model.specs.Objects.{Objects, object_at}
 use Rattle.cmc_model.specs.Versions.{IsVersion}
 use Rattle.cmc_model.specs.Writes.{is_known, kind_eq, of_kind, oldest}
-use Rattle.cmc_model.proofs.Keys.{key_cmp-total}
+use Rattle.cmc_meta.proofs.KeyOrder.{key_cmp-total}
 use Rattle.cmc_model.proofs.Versions.{standing}
 use Rattle.cmc_objects.specs.Watching.{kind_of_work, looks_at_next, looks_at_requests, looks_at_secret, works_on_requests}
 use Rattle.cmc_informer.specs.Caches.{has_uid}
 use Rattle.cmc_informer.proofs.OneMark.{key_tie, same_key}
 use Rattle.cmc_caches.specs.Affected.{AddsStanding, AreLeft, AreNamed, StandUnderNamed, is_among}
-use Rattle.cmc_caches.proofs.Births.{version_of_kind, version_of_oldest}
+use Rattle.cmc_model.proofs.Versions.{version_of_kind, version_of_oldest}
 
 same_kind : (a b : Kind) → kind_eq a b ≡ true → a ≡ b
 same_kind Certificate Certificate is = refl

@@ -6,7 +6,7 @@ use Rattle.std.specs.Result.{result_ok}
 use Rattle.std.specs.Str.Parse.{digits_value}
 use Rattle.std.specs.Str.{all_ascii_digits}
 use Rattle.std.specs.Prelude.{codes, decimal, not, ◌||◌, nat_eq, if◌then◌else◌}
-use Rattle.std.proofs.lemmas.Bool.{cases_order, eqb-true, eq-eqb, ne_eqb, ltb-true, lt-ltb, false≢true}
+use Rattle.std.proofs.lemmas.Bool.{cases_order, eqb-true, eq-eqb, ne_eqb, ltb-true, lt-ltb, false≢true, and_from, and_parts}
 use Rattle.std.proofs.lemmas.Option.{none-some, same_Some}
 use Rattle.std.proofs.lemmas.Fmt.{decimal-digits_value, decimal_digit, decimal_nonempty, first_decimal, digits_decimal, digits_value-decimal}
 use Rattle.std.proofs.lemmas.Str.Parse.{IsNumeralModel, numerals_by_value, tells_all_ascii_digits}
@@ -14,10 +14,6 @@ use Rattle.cmc_cursor.specs.Reading.{Read}
 use Rattle.cmc_cursor.specs.Readers.{is_decimal, decimal_in}
 use Rattle.cmc_codec.specs.MetadataForm.{uid_in}
 use Rattle.cmc_print.specs.Words.{uid_text}
-
-both_true : (a b : Bool) → (a && b) ≡ true → (a ≡ true) × (b ≡ true)
-both_true true b h = (refl, h)
-both_true false b h = cc
 
 abbrev number_or : Bool → ℕ → Read ℕ
 number_or b n = if b then Ok n else Err []
@@ -44,8 +40,8 @@ or_cases false b h k = absurd (false≢true (sym (ap not k) ∙ h))
 
 decimal_form : (text : List ℕ) → is_decimal text ≡ true → IsDecimalForm text
 decimal_form text h =
-    let first = both_true _ _ h in
-    let rest = both_true _ _ first.1 in
+    let first = and_parts _ _ h in
+    let rest = and_parts _ _ first.1 in
     record {
       digits = sym (digits_same text) ∙ rest.0;
       some = ltb-true 0 (length text) first.0;
@@ -59,7 +55,7 @@ number t false n h = absurd (none-some n h)
 written : (text : List ℕ) (n : ℕ) → result_ok (decimal_in text) ≡ Some n → text ≡ decimal n
 written text n h =
     let found = number text (is_decimal text && ltb (digits_value 10 text) (2 ^ 64)) n h in
-    let parts = both_true _ _ found.0 in
+    let parts = and_parts _ _ found.0 in
     let is = decimal_form text parts.0 in
     sym (decimal-digits_value own text is.digits is.some is.no_zero (ltb-true (digits_value 10 text) (2 ^ 64) parts.1)) ∙ ap decimal found.1
 
@@ -76,9 +72,6 @@ uid_again t n h =
 
 -- ---- and a number that is written is read
 
-and_both : (a b : Bool) → a ≡ true → b ≡ true → (a && b) ≡ true
-and_both a b h k = rw (h, k) refl
-
 or_right : (a b : Bool) → b ≡ true → (a || b) ≡ true
 or_right true b h = refl
 or_right false b h = h
@@ -94,9 +87,9 @@ no_needless_zero n h =
 uid_digits : (n : ℕ) → n < 2 ^ 64 → result_ok (decimal_in (decimal n)) ≡ Some n
 uid_digits n h =
     let value = digits_value-decimal own n h in
-    let digits = and_both _ _ (lt-ltb 0 (length (decimal n)) (decimal_nonempty n h)) (and_both _ _ (digits_same (decimal n) ∙ digits_decimal own n h) (no_needless_zero n h)) in
+    let digits = and_from _ _ (lt-ltb 0 (length (decimal n)) (decimal_nonempty n h)) (and_from _ _ (digits_same (decimal n) ∙ digits_decimal own n h) (no_needless_zero n h)) in
     let small : ltb (digits_value 10 (decimal n)) (2 ^ 64) ≡ true = rw value (lt-ltb n (2 ^ 64) h) in
-    rw (and_both _ _ digits small) (ap some_number value)
+    rw (and_from _ _ digits small) (ap some_number value)
   where
     some_number : ℕ → Option ℕ
     some_number n = Some n

@@ -5,6 +5,7 @@ use Rattle.std.specs.declared.cmp.Ordering.{Ordering}
 use Rattle.std.specs.declared.cmp.Ordering.TheVariants.{Less, Equal, Greater}
 use Rattle.std.specs.Ordering.{nat_cmp, match_ordering}
 use Rattle.std.specs.Cmp.Lexicographic.{slice_cmp}
+use Rattle.std.proofs.lemmas.Bool.{and_parts}
 use Rattle.serde_json.specs.Data.{Data, boolean, object, Members, no_members, member, put}
 use Rattle.cmc_cursor.specs.Reading.{Read, ◌>>=◌, under, fields_of, optional_at, required_at}
 use Rattle.cmc_cursor.specs.Readers.{flag_at, sought_at}
@@ -39,10 +40,6 @@ abbrev pub is_before : List ℕ → List (List ℕ × Option Data) → Bool
 is_before n [] = true
 is_before n (s ∷ ss) = is_less (slice_cmp nat_cmp n s.0) && (is_greater (slice_cmp nat_cmp s.0 n) && is_before n ss)
 
-pub both_true : (a b : Bool) → (a && b) ≡ true → (a ≡ true) × (b ≡ true)
-both_true true b h = (refl, h)
-both_true false b h = cc
-
 less : (o : Ordering) → is_less o ≡ true → o ≡ Less
 less Less h = refl
 less Equal h = cc
@@ -59,13 +56,13 @@ same Equal h = refl
 same Greater h = cc
 
 behind : (n m : List ℕ) (back : List (List ℕ × Option Data)) → (is_less (slice_cmp nat_cmp n m) && (is_greater (slice_cmp nat_cmp m n) && is_before n back)) ≡ true → is_before n back ≡ true
-behind n m back h = (both_true (is_greater (slice_cmp nat_cmp m n)) (is_before n back) (both_true (is_less (slice_cmp nat_cmp n m)) (is_greater (slice_cmp nat_cmp m n) && is_before n back) h).1).1
+behind n m back h = (and_parts (is_greater (slice_cmp nat_cmp m n)) (is_before n back) (and_parts (is_less (slice_cmp nat_cmp n m)) (is_greater (slice_cmp nat_cmp m n) && is_before n back) h).1).1
 
 not_above : (n m : List ℕ) (back : List (List ℕ × Option Data)) → (is_less (slice_cmp nat_cmp n m) && (is_greater (slice_cmp nat_cmp m n) && is_before n back)) ≡ true → is_greater (slice_cmp nat_cmp m n) ≡ true
-not_above n m back h = (both_true (is_greater (slice_cmp nat_cmp m n)) (is_before n back) (both_true (is_less (slice_cmp nat_cmp n m)) (is_greater (slice_cmp nat_cmp m n) && is_before n back) h).1).0
+not_above n m back h = (and_parts (is_greater (slice_cmp nat_cmp m n)) (is_before n back) (and_parts (is_less (slice_cmp nat_cmp n m)) (is_greater (slice_cmp nat_cmp m n) && is_before n back) h).1).0
 
 below_it : (n m : List ℕ) (back : List (List ℕ × Option Data)) → (is_less (slice_cmp nat_cmp n m) && (is_greater (slice_cmp nat_cmp m n) && is_before n back)) ≡ true → is_less (slice_cmp nat_cmp n m) ≡ true
-below_it n m back h = (both_true (is_less (slice_cmp nat_cmp n m)) (is_greater (slice_cmp nat_cmp m n) && is_before n back) h).0
+below_it n m back h = (and_parts (is_less (slice_cmp nat_cmp n m)) (is_greater (slice_cmp nat_cmp m n) && is_before n back) h).0
 
 -- ---- reading
 
@@ -79,8 +76,8 @@ is_next n back = is_same (slice_cmp nat_cmp n n) && is_before n back
 
 pub next_is : (n : List ℕ) (o : Option Data) (back : List (List ℕ × Option Data)) → is_next n back ≡ true
     → optional_at n (fields_of (slots ((n, o) ∷ back))) ≡ Ok (o, fields_of (slots back))
-next_is n None back h = left_out n back (both_true (is_same (slice_cmp nat_cmp n n)) (is_before n back) h).1
-next_is n (Some d) back h = rw (same (slice_cmp nat_cmp n n) (both_true (is_same (slice_cmp nat_cmp n n)) (is_before n back) h).0) refl
+next_is n None back h = left_out n back (and_parts (is_same (slice_cmp nat_cmp n n)) (is_before n back) h).1
+next_is n (Some d) back h = rw (same (slice_cmp nat_cmp n n) (and_parts (is_same (slice_cmp nat_cmp n n)) (is_before n back) h).0) refl
 
 -- what is left out counts as x, and what stands is read as x
 pub bind : {A B : Type 0} (r : Read A) (x : A) (f : A → Read B) (y : Read B) → r ≡ Ok x → f x ≡ y → r >>= f ≡ y
@@ -247,5 +244,5 @@ left_out_there n ((m, Some d) ∷ back) h = rw (greater (slice_cmp nat_cmp m n) 
 
 pub sought_is : (n : List ℕ) (o : Option Data) (back : List (List ℕ × Option Data)) → is_next n back ≡ true
     → sought_at n (fields_of (slots ((n, o) ∷ back))) ≡ Ok (o, fields_of (slots back))
-sought_is n None back h = left_out_there n back (both_true (is_same (slice_cmp nat_cmp n n)) (is_before n back) h).1
-sought_is n (Some d) back h = rw (same (slice_cmp nat_cmp n n) (both_true (is_same (slice_cmp nat_cmp n n)) (is_before n back) h).0) refl
+sought_is n None back h = left_out_there n back (and_parts (is_same (slice_cmp nat_cmp n n)) (is_before n back) h).1
+sought_is n (Some d) back h = rw (same (slice_cmp nat_cmp n n) (and_parts (is_same (slice_cmp nat_cmp n n)) (is_before n back) h).0) refl

@@ -1,7 +1,7 @@
 -- The octets of a length, and what is read of them.
-use Rattle.std.proofs.Common.{◌≡◌, ℕ, zero, suc, ◌+◌, ◌-◌, ◌*◌, ◌<◌, ◌≤◌, ◌≢◌, Bool, true, false, cond, ltb, eqb, List, [], ◌∷◌, ◌++◌, length, Result, Ok, Err, refl, sym, ap, subst, arith, inl, inr}
+use Rattle.std.proofs.Common.{◌≡◌, ℕ, zero, suc, ◌+◌, ◌-◌, ◌*◌, ◌<◌, ◌≤◌, ◌≢◌, false, cond, ltb, eqb, List, [], ◌∷◌, ◌++◌, length, Result, Ok, Err, refl, sym, ap, subst, arith, inl, inr}
 use Rattle.std.specs.Prelude.{◌||◌, ◌&&◌}
-use Rattle.std.proofs.lemmas.Bool.{lt-ltb, le-ltb, ltb-true, ltb-false, ne_eqb, eqb-false, and_cases}
+use Rattle.std.proofs.lemmas.Bool.{lt-ltb, le-ltb, ltb-true, ltb-false, ne_eqb, eqb-false, and_cases, or_parts}
 use Rattle.cmc_der.specs.declared.reading.DerFault.{DerFault}
 use Rattle.cmc_der.specs.declared.reading.DerFault.TheVariants.{NotDer}
 use Rattle.cmc_der.specs.Values.{number_after, IsLength}
@@ -10,10 +10,6 @@ use Rattle.cmc_der.proofs.Steps.{chosen}
 
 abbrev pub read_ok : ℕ × List ℕ → Result (ℕ × List ℕ) DerFault
 read_ok p = Ok p
-
-or_false : (x y : Bool) → (x || y) ≡ false → (x ≡ false) × (y ≡ false)
-or_false false y e = (refl, e)
-or_false true y e = absurd cc
 
 abbrev pair : ℕ → List ℕ → ℕ × List ℕ
 pair a x = (a, x)
@@ -65,7 +61,7 @@ long_spelled k (a ∷ bs) n rest g h e =
     elim (chosen ((eqb a 0) || ((eqb k 1) && ltb a 128)) (Err (NotDer 2)) (number_at (k - 1) a bs) (read_ok (n, rest)) e) [
       | inl t ↦ absurd (cc (t.1))
       | inr t ↦
-          let o = or_false (eqb a 0) ((eqb k 1) && ltb a 128) t.0 in
+          let o = or_parts (eqb a 0) ((eqb k 1) && ltb a 128) t.0 in
           let ne : a ≢ 0 = eqb-false a 0 o.0 in
           let s = number_spelled (k - 1) a bs n rest t.1 in
           let least : 128 ≤ n = elim (and_cases (eqb k 1) (ltb a 128) o.1) [
@@ -85,7 +81,7 @@ length_spelled (x ∷ bs) n rest e =
       | inr t ↦ elim (chosen ((eqb x 128) || ltb 132 x) (Err (NotDer 1)) (long_at (x - 128) bs) (read_ok (n, rest)) t.1) [
         | inl u ↦ absurd (cc (u.1))
         | inr u ↦
-            let o = or_false (eqb x 128) (ltb 132 x) u.0 in
+            let o = or_parts (eqb x 128) (ltb 132 x) u.0 in
             let ne : x ≢ 128 = eqb-false x 128 o.0 in
             let lo : 128 ≤ x = ltb-false x 128 t.0 in
             let hi : x ≤ 132 = ltb-false 132 x o.1 in

@@ -9,6 +9,7 @@ use Rattle.std.specs.List.Sorted.{IsStrictlySortedBy}
 use Rattle.std.specs.Map.{keys_of, lookup, values_of}
 use Rattle.std.specs.Ordering.{nat_cmp}
 use Rattle.std.specs.Prelude.{if◌then◌else◌, slice_get, ◌||◌, ◌↔◌, IsTrue}
+use Rattle.std.proofs.lemmas.Bool.{or_parts}
 use Rattle.cmc_meta.specs.declared.key.Key.{Key}
 use Rattle.cmc_objects.specs.declared.role.Role.{Role}
 use Rattle.cmc_rules.specs.declared.progress.OpenPass.{OpenPass}
@@ -75,14 +76,6 @@ some_on role key m ordered any =
     let f = found role key m.entries any in
     (f.number, ap (is_pass_of role key) (btree_map_get_place nat_cmp_total m f.place f.number f.pass ordered f.stands) ∙ f.is)
 
-left_false : (x y : Bool) → (x || y) ≡ false → x ≡ false
-left_false true y h = h
-left_false false y h = refl
-
-right_false : (x y : Bool) → (x || y) ≡ false → y ≡ false
-right_false true y h = absurd (cc)
-right_false false y h = h
-
 chosen : (b : Bool) (role : Role) (key : Key) (p : OpenPass) (o : Option OpenPass) → is_pass_of role key (Some p) ≡ false → is_pass_of role key o ≡ false → is_pass_of role key (cond b (Some p) o) ≡ false
 chosen true role key p o first rest = first
 chosen false role key p o first rest = rest
@@ -92,7 +85,7 @@ pub none_on : (role : Role) (key : Key) (es : List (ℕ × OpenPass)) → list_a
 unfolding pass_at
 none_on role key [] none n = refl
 none_on role key (e ∷ es) none n =
-    chosen (is_at (nat_cmp n) e.0) role key e.1 (lookup (is_at (nat_cmp n)) es) (left_false _ _ none) (none_on role key es (right_false _ _ none) n)
+    chosen (is_at (nat_cmp n) e.0) role key e.1 (lookup (is_at (nat_cmp n)) es) (or_parts _ _ none).0 (none_on role key es (or_parts _ _ none).1 n)
 
 -- a test of the entries tells whether one is open
 pub on_from_test : (b : Bool) (role : Role) (key : Key) (m : BTreeMap ℕ OpenPass) → IsOrdered nat_cmp m → b ≡ has_pass_of role key m.entries → IsTrue b ↔ IsWorkedOn m.entries role key

@@ -8,14 +8,11 @@ use Rattle.cmc_meta.specs.Keys.{key_eq}
 use Rattle.cmc_objects.specs.declared.role.Role.{Role}
 use Rattle.cmc_objects.specs.declared.role.Role.TheVariants.{Trigger, KeyManager, RequestManager, Approver, Issuer, Issuing, Readiness, Revision}
 use Rattle.cmc_objects.specs.Roles.{role_rank}
+use Rattle.cmc_objects.proofs.Ranks.{rank_low}
 use Rattle.cmc_rules.specs.declared.progress.Past.{Past}
 use Rattle.cmc_model.specs.Histories.{role_eq}
 use Rattle.cmc_rules.specs.Memory.{no_past}
 use Rattle.cmc_held.specs.Remembered.{Kept, KeepsNoted, KeepsReady, KeepsReadyOfOthers, memory_at, past_at, is_noted, is_ready}
-
-rank_low : (r : Role) → role_rank r < 8
-rank_low Trigger = omega arith
-rank_low other = omega arith
 
 -- the row of the role, by its place
 pub record IsRow (rows : List Kept) (place : ℕ) (role : Role) (row : Kept) : Type 0 where

@@ -17,7 +17,7 @@ use Rattle.cmc_model.specs.Objects.{Objects, object_at}
 use Rattle.cmc_model.specs.Replies.{State, is_accepted, key_of_call, settled, stored, put_at}
 use Rattle.cmc_model.specs.Histories.{Setting, moment, state, accepted}
 use Rattle.cmc_model.specs.Writes.{writes, write_of, contents, oldest, objects_at}
-use Rattle.cmc_model.proofs.Keys.{key_cmp-IsAntisymmetric}
+use Rattle.cmc_meta.proofs.KeyOrder.{key_cmp-IsAntisymmetric}
 use Rattle.cmc_model.proofs.Writes.{writes_count, writes_leave, oldest-older, oldest-beyond}
 use Rattle.cmc_model.proofs.Versions.{object_at-put}
 use Rattle.cmc_history.specs.declared.standing.Standing.{Standing}

@@ -10,7 +10,7 @@ use Rattle.cmc_meta.specs.Keys.{key_cmp, key_eq}
 use Rattle.cmc_objects.specs.declared.object.Object.{Object}
 use Rattle.cmc_model.specs.Objects.{object_at}
 use Rattle.cmc_model.specs.Replies.{put_at}
-use Rattle.cmc_model.proofs.Keys.{key_cmp-total, key_cmp-IsAntisymmetric}
+use Rattle.cmc_meta.proofs.KeyOrder.{key_cmp-total, key_cmp-IsAntisymmetric}
 use Rattle.cmc_model.proofs.Versions.{object_at-put}
 use Rattle.cmc_informer.specs.Caches.{Slotted, held_in, slot_at, objects_in}
 use Rattle.cmc_informer.specs.Indexes.{AreKeys, Finds}

@@ -11,7 +11,7 @@ use Rattle.cmc_model.specs.declared.write.Write.{Write}
 use Rattle.cmc_model.specs.Objects.{Objects, object_at}
 use Rattle.cmc_model.specs.Replies.{put_at}
 use Rattle.cmc_model.specs.Writes.{contents, is_known, kind_eq, of_kind, oldest}
-use Rattle.cmc_model.proofs.Keys.{key_cmp-total, key_cmp-IsAntisymmetric}
+use Rattle.cmc_meta.proofs.KeyOrder.{key_cmp-total, key_cmp-IsAntisymmetric}
 use Rattle.cmc_model.proofs.Versions.{object_at-put}
 use Rattle.cmc_model.proofs.Writes.{contents_of-next}
 use Rattle.cmc_informer.specs.Caches.{written}

@@ -7,7 +7,7 @@ use Rattle.std.specs.Map.{lookup}
 use Rattle.std.specs.Prelude.{if◌then◌else◌, is_some}
 use Rattle.cmc_meta.specs.declared.key.Key.{Key}
 use Rattle.cmc_meta.specs.Keys.{key_cmp, key_eq}
-use Rattle.cmc_model.proofs.Keys.{key_cmp-total}
+use Rattle.cmc_meta.proofs.KeyOrder.{key_cmp-total}
 use Rattle.cmc_informer.specs.declared.marks.Mark.{Mark}
 use Rattle.cmc_informer.specs.Indexes.{AreKeys, has_place, is_on, mark_in, on_keys}
 use Rattle.cmc_informer.specs.Marking.{marked_by}

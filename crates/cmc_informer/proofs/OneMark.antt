@@ -10,7 +10,7 @@ use Rattle.std.specs.Ordering.{is_eq}
 use Rattle.std.specs.Prelude.{IsSome, if◌then◌else◌, is_some, ◌||◌}
 use Rattle.cmc_meta.specs.declared.key.Key.{Key}
 use Rattle.cmc_meta.specs.Keys.{key_cmp, key_eq}
-use Rattle.cmc_model.proofs.Keys.{key_cmp-total, key_cmp-IsAntisymmetric}
+use Rattle.cmc_meta.proofs.KeyOrder.{key_cmp-total, key_cmp-IsAntisymmetric}
 use Rattle.cmc_informer.specs.Indexes.{Marked, is_on, mark_in, has_place, on_keys, AreKeys}
 
 -- keys that tie in the order are those that the test finds equal

@@ -3,6 +3,7 @@ use Rattle.std.proofs.Common.{◌≡◌, ◌&&◌, ℤ, Option, Some, None, Bool
 use Rattle.std.proofs.lemmas.Int.{ints}
 use Rattle.std.specs.Prelude.{◌+ℤ◌, pos, codes, int_lt, if◌then◌else◌}
 use Rattle.std.specs.Str.{bytes_eq}
+use Rattle.std.proofs.lemmas.Bool.{and_parts}
 use Rattle.cmc_meta.specs.declared.conditions.Condition.{Condition}
 use Rattle.cmc_meta.specs.declared.conditions.ConditionKind.TheVariants as kinds
 use Rattle.cmc_meta.specs.ConditionLists.{condition_at}
@@ -31,10 +32,6 @@ use Rattle.cmc_issuer.proofs.Writes.{answers, denies, dated_denied, marking, ans
 abbrev Is : Views → ℤ → Act → Type 0
 Is seen now a = IsWithin Issuer (answered_after seen now) seen now a
 
-both : (a b : Bool) → (a && b) ≡ true → (a ≡ true) × (b ≡ true)
-both true b h = (refl, h)
-both false b h = absurd (cc h)
-
 -- ---- what follows an answer
 
 followed : (seen : Views) (now : ℤ) (r : CertificateRequest) (order : Signs) → seen.request ≡ Some r → AreSettled r.status.conditions → (value : Value) → IsValue (orders.Sign order) value
@@ -62,7 +59,7 @@ denied_is seen now r sees settled =
 granted_is : (seen : Views) (now : ℤ) (desk : Desk) (r : CertificateRequest) → seen.request ≡ Some r → AreSettled r.status.conditions → Is seen now (grant now desk r)
 granted_is seen now desk r sees settled =
     by_test (Is seen now) (is_open r) _ _
-    (λ on. by_test (Is seen now) (is_waiting now r) _ _ (λ waits. tt) (λ due. asked seen now desk r sees settled (both (is_approved r) _ on).0)) (λ off. tt)
+    (λ on. by_test (Is seen now) (is_waiting now r) _ _ (λ waits. tt) (λ due. asked seen now desk r sees settled (and_parts (is_approved r) _ on).0)) (λ off. tt)
 
 settled_by : (seen : Views) (r : CertificateRequest) → IsWellSeen seen → seen.request ≡ Some r → AreSettled r.status.conditions
 settled_by seen r well sees = let admitted = well.admitted (Request r) (seen_request seen r sees) in are_settled r.status.conditions admitted.0 admitted.1
@@ -90,7 +87,7 @@ waits_on : (ready : Option Condition) (t u : ℤ) → Quiet (IsMinuteAfter ready
 waits_on None t u quiet h = absurd (cc h)
 waits_on (Some ready) t u quiet h =
     let end : ℤ = ready.since +ℤ pos 60 in
-    let parts = both (bytes_eq ready.reason (codes "Pending")) (int_lt t end) h in
+    let parts = and_parts (bytes_eq ready.reason (codes "Pending")) (int_lt t end) h in
     rw (parts.0, still (int_lt u end) t u end refl parts.1 (quiet end refl)) refl
 
 asks : (t : ℤ) (d : Desk) (r : CertificateRequest) → ask_issuer t d r ≡ Nothing → ⊥

@@ -3,6 +3,7 @@ use Rattle.std.proofs.Common.{◌≡◌, ◌&&◌, ◌==◌, eqb-true, ℕ, ℤ,
 use Rattle.std.proofs.lemmas.Slice.Eq.{bytes_eq-Decides}
 use Rattle.std.specs.Prelude.{codes, find, length, nat_le, if◌then◌else◌}
 use Rattle.std.specs.Str.{bytes_eq}
+use Rattle.std.proofs.lemmas.Bool.{and_parts}
 use Rattle.cmc_meta.specs.declared.conditions.Condition.{Condition}
 use Rattle.cmc_meta.specs.declared.conditions.ConditionKind.{ConditionKind}
 use Rattle.cmc_meta.specs.declared.conditions.ConditionKind.TheVariants as kinds
@@ -45,10 +46,6 @@ After = Order → Value → Option Call
 abbrev Is : After → Views → ℤ → Act → Type 0
 Is after seen now a = IsWithin Issuing after seen now a
 
-both : (a b : Bool) → (a && b) ≡ true → (a ≡ true) × (b ≡ true)
-both true b h = (refl, h)
-both false b h = absurd (cc h)
-
 is_not : (b : Bool) → not b ≡ true → b ≡ false
 is_not true h = absurd (cc h)
 is_not false h = refl
@@ -84,7 +81,7 @@ true_is Unknown is = absurd (cc is)
 issued_by : (r : CertificateRequest) (ready : Option Condition) → condition_at r.status.conditions kinds.Ready ≡ ready → says_issued ready ≡ true → IsIssued r
 issued_by r None e is = absurd (cc is)
 issued_by r (Some ready) e is =
-    let parts = both (tri_eq ready.status True) (bytes_eq ready.reason (codes "Issued")) is in
+    let parts = and_parts (tri_eq ready.status True) (bytes_eq ready.reason (codes "Issued")) is in
     let kind : ready.kind ≡ kinds.Ready = kind_is ready.kind (eqb-true (condition_rank ready.kind) (condition_rank kinds.Ready) (found_passes (λ (c : Condition). condition_rank c.kind == condition_rank kinds.Ready) r.status.conditions ready e)) in
     let status : ready.status ≡ True = true_is ready.status parts.0 in
     let reason : ready.reason ≡ codes "Issued" = (bytes_eq-Decides ready.reason (codes "Issued")).0 parts.1 in
@@ -128,14 +125,14 @@ issuance : (seen : Views) (now : ℤ) (c : Certificate) (k : SecretObject) (file
     → is_granted r ≡ true → is_certified file r.status.certificate ≡ true → is_kept_for_keys seen.secret ≡ false → IsIssuance Issuing seen now (issue_plan now c file r seen.secret)
 unfolding issue_plan
 issuance seen now c k file r reached key request granted read free =
-    let parts = both (says_issued (condition_at r.status.conditions kinds.Ready)) (is_approved r && not (is_denied r)) granted in record {
+    let parts = and_parts (says_issued (condition_at r.status.conditions kinds.Ready)) (is_approved r && not (is_denied r)) granted in record {
       issuing = refl;
       certificate = c;
       request = r;
       key = k;
       file = file;
       prepared = prepared seen c k file r reached key request;
-      approved = (both (is_approved r) (not (is_denied r)) parts.1).0;
+      approved = (and_parts (is_approved r) (not (is_denied r)) parts.1).0;
       issued = issued_by r (condition_at r.status.conditions kinds.Ready) refl parts.0;
       get = refl;
       version = refl;
@@ -178,9 +175,9 @@ waiting_is : (after : After) (seen : Views) (now : ℤ) (c : Certificate) (k : S
 waiting_is after seen now c k file r reached key request =
     by_test (Is after seen now) (asks_for_temporary c && (not (is_denied r) && (not (is_kept_for_keys seen.secret) && lacks_certificate file seen.secret))) _ _
     (λ on.
-    let asks = both (asks_for_temporary c) (not (is_denied r) && (not (is_kept_for_keys seen.secret) && lacks_certificate file seen.secret)) on in
-    let granted = both (not (is_denied r)) (not (is_kept_for_keys seen.secret) && lacks_certificate file seen.secret) asks.1 in
-    let free = both (not (is_kept_for_keys seen.secret)) (lacks_certificate file seen.secret) granted.1 in
+    let asks = and_parts (asks_for_temporary c) (not (is_denied r) && (not (is_kept_for_keys seen.secret) && lacks_certificate file seen.secret)) on in
+    let granted = and_parts (not (is_denied r)) (not (is_kept_for_keys seen.secret) && lacks_certificate file seen.secret) asks.1 in
+    let free = and_parts (not (is_kept_for_keys seen.secret)) (lacks_certificate file seen.secret) granted.1 in
     stand_in_is after seen now c k file r (temporary r.spec.request file now) reached key request asks.0 (is_not (is_denied r) granted.0) (is_not (is_kept_for_keys seen.secret) free.0) refl) (λ off. tt)
 
 granted_is : (after : After) (seen : Views) (now : ℤ) (c : Certificate) (k : SecretObject) (file : List ℕ) (r : CertificateRequest) → IsReached seen c → HasKeyFile seen c k file → HasRequest seen c file r
@@ -202,7 +199,7 @@ request_is : (after : After) (seen : Views) (now : ℤ) (c : Certificate) (k : S
 request_is after seen now c k file None reached key is = tt
 request_is after seen now c k file (Some r) reached key is =
     by_test (Is after seen now) (is_wanted c file r) _ _
-    (λ on. let parts = both (matches c.spec r) (has_key r file) on in wanted_is after seen now c k file r reached key (record { next = is; matches = parts.0; has = parts.1 })) (λ off. tt)
+    (λ on. let parts = and_parts (matches c.spec r) (has_key r file) on in wanted_is after seen now c k file r reached key (record { next = is; matches = parts.0; has = parts.1 })) (λ off. tt)
 
 file_is : (after : After) (seen : Views) (now : ℤ) (c : Certificate) (k : SecretObject) (file : Option (List ℕ)) → IsReached seen c → named_key c.status.next_key seen.next ≡ Some k → key_in k ≡ file
     → Is after seen now (with_file now c seen.secret seen.requests file)

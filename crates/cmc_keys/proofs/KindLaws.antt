@@ -1,7 +1,7 @@
 -- Whether octets are a key of an algorithm and a size: the test says what it is to say.
-use Rattle.std.proofs.Common.{Bool, ◌≡◌, ℕ, true, false, List, Option, Some, None, ◌⊎◌, inl, inr, refl, sym, ◌∙◌}
+use Rattle.std.proofs.Common.{◌≡◌, ℕ, true, false, List, Option, Some, None, ◌⊎◌, inl, inr, refl, sym, ◌∙◌}
 use Rattle.std.specs.Prelude.{◌↔◌, IsTrue, ◌&&◌}
-use Rattle.std.proofs.lemmas.Bool.{cases_Bool, eqb-true, eq-eqb, false≢true}
+use Rattle.std.proofs.lemmas.Bool.{cases_Bool, eqb-true, eq-eqb, false≢true, and_parts}
 use Rattle.cmc_der.specs.declared.fields.KeyKind.{KeyKind}
 use Rattle.cmc_der.specs.Keys.{PublicKey, kind_of}
 use Rattle.cmc_x509.specs.KeyFiles.{IsKeyFile}
@@ -20,18 +20,10 @@ algorithm_itself : (a : Algorithm) → is_same_algorithm a a ≡ true
 algorithm_itself Rsa = refl
 algorithm_itself Ecdsa = refl
 
-and_left : (a b : Bool) → (a && b) ≡ true → a ≡ true
-and_left true b h = refl
-and_left false b h = absurd (false≢true h)
-
-and_right : (a b : Bool) → (a && b) ≡ true → b ≡ true
-and_right true b h = h
-and_right false b h = absurd (false≢true h)
-
 key_found : (algorithm : Algorithm) (size : ℕ) (octets : List ℕ) (key : PublicKey) (kind : Option KeyKind) → IsKeyFile octets key → kind_of key ≡ kind → is_kind_of algorithm size kind ≡ true → IsKeyOf algorithm size octets
 key_found algorithm size octets key None file is h = absurd (false≢true h)
 key_found algorithm size octets key (Some kind) file is h =
-    record { key = key; kind = kind; file = file; kind_is = is; algorithm_is = same_algorithm (algorithm_of kind) algorithm (and_left _ _ h); size_is = eqb-true (size_of kind) size (and_right _ _ h) }
+    record { key = key; kind = kind; file = file; kind_is = is; algorithm_is = same_algorithm (algorithm_of kind) algorithm (and_parts _ _ h).0; size_is = eqb-true (size_of kind) size (and_parts _ _ h).1 }
 
 file_found : (algorithm : Algorithm) (size : ℕ) (octets : List ℕ) (read : Option PublicKey) → key_file_at octets ≡ read → is_public_of algorithm size read ≡ true → IsKeyOf algorithm size octets
 file_found algorithm size octets None e h = absurd (false≢true h)

@@ -1,7 +1,7 @@
 -- The flags say what they are to say.
 use Rattle.std.proofs.Common.{◌≡◌, ℕ, ◌<◌, Bool, true, false, not, List, [], ◌∷◌, length, Option, Some, None, ◌⊎◌, inl, inr, refl, ap, arith}
 use Rattle.std.specs.Prelude.{◌↔◌, IsTrue}
-use Rattle.std.proofs.lemmas.Bool.{false≢true}
+use Rattle.std.proofs.lemmas.Bool.{false≢true, and_from, and_parts}
 use Rattle.std.proofs.lemmas.Slice.Eq.{bytes_eq-Decides}
 use Rattle.std.proofs.lemmas.Option.{none-some, same_Some}
 use Rattle.cmc_objects.specs.declared.issuer.IssuerRef.{IssuerRef}
@@ -12,7 +12,6 @@ use Rattle.cmc_objects.specs.Defaults.{key_algorithm, key_size}
 use Rattle.cmc_keys.proofs.KindLaws.{is_key_means}
 use Rattle.cmc_match.specs.Marks.{is_text}
 use Rattle.cmc_match.specs.Facts.{key_in, certificate_in, IsFilled, NamesIssuer, owner_text, NamesOwner, HasRequestedKey, is_given, is_filled, names_issuer, is_absent_or, names_owner, is_requested, has_requested_key}
-use Rattle.cmc_match.proofs.SetLaws.{and_left, and_right, and_both}
 use Rattle.cmc_match.proofs.MatchLaws.{keys_match}
 
 abbrev some : List ℕ → Option (List ℕ)
@@ -54,9 +53,9 @@ not_again false h = refl
 filled_found : (secret : Secret) → is_filled (Some secret) ≡ true → IsFilled secret
 unfolding is_filled
 filled_found secret h =
-    let key = given_found (key_in secret) (and_left _ _ h) in
-    let rest = and_right _ _ h in
-    let certificate = given_found (certificate_in secret) (and_left _ _ rest) in
+    let key = given_found (key_in secret) (and_parts _ _ h).0 in
+    let rest = (and_parts _ _ h).1 in
+    let certificate = given_found (certificate_in secret) (and_parts _ _ rest).0 in
     record {
       key = key.part;
       certificate = certificate.part;
@@ -64,14 +63,14 @@ filled_found secret h =
       certificate_stands = certificate.stands;
       key_given = key.given;
       certificate_given = certificate.given;
-      not_temporary = λ e. not_found _ (and_right _ _ rest) (text_again _ _ e);
+      not_temporary = λ e. not_found _ (and_parts _ _ rest).1 (text_again _ _ e);
     }
 
 filled_again : (secret : Secret) → IsFilled secret → is_filled (Some secret) ≡ true
 unfolding is_filled
 filled_again secret h =
-    and_both _ _ (given_again (key_in secret) h.key h.key_stands h.key_given)
-    (and_both _ _ (given_again (certificate_in secret) h.certificate h.certificate_stands h.certificate_given) (not_again _ (λ t. h.not_temporary (text_found _ _ t))))
+    and_from _ _ (given_again (key_in secret) h.key h.key_stands h.key_given)
+    (and_from _ _ (given_again (certificate_in secret) h.certificate h.certificate_stands h.certificate_given) (not_again _ (λ t. h.not_temporary (text_found _ _ t))))
 
 pub filled : (secret : Secret) → IsTrue (is_filled (Some secret)) ↔ IsFilled secret
 filled secret = (filled_found secret, filled_again secret)
@@ -81,7 +80,7 @@ filled secret = (filled_found secret, filled_again secret)
 pub issuer : (reference : IssuerRef) (secret : Secret) → IsTrue (names_issuer reference (Some secret)) ↔ NamesIssuer reference secret
 unfolding names_issuer
 issuer reference secret =
-    (λ h. let rest = and_right _ _ h in record { name = text_found _ _ (and_left _ _ h); kind = text_found _ _ (and_left _ _ rest); group = text_found _ _ (and_right _ _ rest) }, λ h. and_both _ _ (text_again _ _ h.name) (and_both _ _ (text_again _ _ h.kind) (text_again _ _ h.group)))
+    (λ h. let rest = (and_parts _ _ h).1 in record { name = text_found _ _ (and_parts _ _ h).0; kind = text_found _ _ (and_parts _ _ rest).0; group = text_found _ _ (and_parts _ _ rest).1 }, λ h. and_from _ _ (text_again _ _ h.name) (and_from _ _ (text_again _ _ h.kind) (text_again _ _ h.group)))
 
 absent_found : (o : Option (List ℕ)) (name : List ℕ) → is_absent_or o name ≡ true → (o ≡ None) ⊎ (o ≡ Some name)
 absent_found None name h = inl refl
@@ -100,11 +99,11 @@ owner name secret = (absent_found (owner_text secret) name, absent_again (owner_
 requested_found : (spec : KeySpec) (secret : Secret) (request : CertificateRequest) (o : Option (List ℕ)) → key_in secret ≡ o → is_requested spec o (Some request) ≡ true → HasRequestedKey spec secret request
 requested_found spec secret request None e h = absurd (false≢true h)
 requested_found spec secret request (Some key) e h =
-    record { key = key; key_stands = e; fits = (is_key_means (key_algorithm spec) (key_size spec) key).0 (and_left _ _ h); requested = (keys_match request key).0 (and_right _ _ h) }
+    record { key = key; key_stands = e; fits = (is_key_means (key_algorithm spec) (key_size spec) key).0 (and_parts _ _ h).0; requested = (keys_match request key).0 (and_parts _ _ h).1 }
 
 requested_again : (spec : KeySpec) (secret : Secret) (request : CertificateRequest) → HasRequestedKey spec secret request → is_requested spec (key_in secret) (Some request) ≡ true
 requested_again spec secret request h =
-    rw (h.key_stands) (and_both _ _ ((is_key_means (key_algorithm spec) (key_size spec) h.key).1 h.fits) ((keys_match request h.key).1 h.requested))
+    rw (h.key_stands) (and_from _ _ ((is_key_means (key_algorithm spec) (key_size spec) h.key).1 h.fits) ((keys_match request h.key).1 h.requested))
 
 pub requested : (spec : KeySpec) (secret : Secret) (request : CertificateRequest) → IsTrue (has_requested_key spec (Some secret) (Some request)) ↔ HasRequestedKey spec secret request
 unfolding has_requested_key

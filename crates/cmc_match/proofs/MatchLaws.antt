@@ -2,7 +2,7 @@
 use Rattle.std.proofs.Common.{◌≡◌, ℕ, Bool, true, false, List, [], ◌∷◌, Option, Some, None, refl, sym, ap, subst, ◌∙◌, arith, inl, inr}
 use Rattle.std.specs.Prelude.{◌↔◌, IsTrue, Contains}
 use Rattle.std.specs.List.{cons_option}
-use Rattle.std.proofs.lemmas.Bool.{eqb-true, eq-eqb, false≢true}
+use Rattle.std.proofs.lemmas.Bool.{eqb-true, eq-eqb, false≢true, and_from, and_parts}
 use Rattle.std.proofs.lemmas.Slice.Eq.{bytes_eq-Decides}
 use Rattle.cmc_der.specs.Keys.{PublicKey, RequestFields, SubjectNames}
 use Rattle.cmc_x509.specs.Taking.{Value}
@@ -25,7 +25,7 @@ use Rattle.cmc_objects.proofs.KeyLaws.{key_found, key_itself}
 use Rattle.cmc_match.specs.Sets.{IsSameSet}
 use Rattle.cmc_match.specs.SubjectNames.{named, addresses, Writes, HasNames, values_of, written, has_names}
 use Rattle.cmc_match.specs.Matching.{IsSameIssuer, Matches, HasKey, is_same_issuer, is_same_flag, has_terms, asks_for_names, matches, is_one_of, has_key}
-use Rattle.cmc_match.proofs.SetLaws.{contains_here, contains_later, contains_cases, sets, and_left, and_right, and_both}
+use Rattle.cmc_match.proofs.SetLaws.{contains_here, contains_later, contains_cases, sets}
 use Rattle.cmc_match.proofs.NameLaws.{values_are}
 
 abbrev some : {A : Type 0} → A → Option A
@@ -69,18 +69,18 @@ unfolding has_names
 names_found spec names list h =
     let values = values_of names.alternative in
     let P : List Value → Type 0 = λ vs. IsValues names.alternative vs in
-    let all = and_right _ _ h in
-    let others = and_right _ _ all in
-    let last = and_right _ _ others in
-    let same_addresses = (sets (written spec.ip_addresses) (addresses values)).0 (and_left _ _ others) in
+    let all = (and_parts _ _ h).1 in
+    let others = (and_parts _ _ all).1 in
+    let last = (and_parts _ _ others).1 in
+    let same_addresses = (sets (written spec.ip_addresses) (addresses values)).0 (and_parts _ _ others).0 in
     record {
       values = values;
       are = subst P (sym (values_are names.alternative list.0 list.1)) list.1;
-      common = (bytes_eq-Decides _ _).0 (and_left _ _ h);
-      dns = (sets spec.dns_names (named 130 values)).0 (and_left _ _ all);
+      common = (bytes_eq-Decides _ _).0 (and_parts _ _ h).0;
+      dns = (sets spec.dns_names (named 130 values)).0 (and_parts _ _ all).0;
       ips = λ octets. (λ w. (same_addresses octets).0 (writes_again spec.ip_addresses octets w.0 w.1 w.2), λ c. writes_found spec.ip_addresses octets ((same_addresses octets).1 c));
-      uris = (sets spec.uris (named 134 values)).0 (and_left _ _ last);
-      emails = (sets spec.emails (named 129 values)).0 (and_right _ _ last);
+      uris = (sets spec.uris (named 134 values)).0 (and_parts _ _ last).0;
+      emails = (sets spec.emails (named 129 values)).0 (and_parts _ _ last).1;
     }
 
 names_again : (spec : CertSpec) (names : SubjectNames) → HasNames spec names → has_names spec names ≡ true
@@ -90,10 +90,10 @@ names_again spec names h =
     let given = λ (octets : List ℕ) (c : Contains (written spec.ip_addresses) octets). (h.ips octets).0 (writes_found spec.ip_addresses octets c) in
     let asked = λ (octets : List ℕ) (c : Contains (addresses h.values) octets). let w = (h.ips octets).1 c in writes_again spec.ip_addresses octets w.0 w.1 w.2 in
     rw same
-    (and_both _ _ ((bytes_eq-Decides _ _).1 h.common)
-    (and_both _ _ ((sets spec.dns_names (named 130 h.values)).1 h.dns)
-    (and_both _ _ ((sets (written spec.ip_addresses) (addresses h.values)).1 (λ octets. (given octets, asked octets)))
-    (and_both _ _ ((sets spec.uris (named 134 h.values)).1 h.uris) ((sets spec.emails (named 129 h.values)).1 h.emails)))))
+    (and_from _ _ ((bytes_eq-Decides _ _).1 h.common)
+    (and_from _ _ ((sets spec.dns_names (named 130 h.values)).1 h.dns)
+    (and_from _ _ ((sets (written spec.ip_addresses) (addresses h.values)).1 (λ octets. (given octets, asked octets)))
+    (and_from _ _ ((sets spec.uris (named 134 h.values)).1 h.uris) ((sets spec.emails (named 129 h.values)).1 h.emails)))))
 
 -- ---- the other terms
 
@@ -108,11 +108,11 @@ flag_again false right h = rw (← h) refl
 
 issuer_found : (left right : IssuerRef) → is_same_issuer left right ≡ true → IsSameIssuer left right
 issuer_found left right h =
-    let rest = and_right _ _ h in
-    record { name = (bytes_eq-Decides _ _).0 (and_left _ _ h); kind = (bytes_eq-Decides _ _).0 (and_left _ _ rest); group = (bytes_eq-Decides _ _).0 (and_right _ _ rest) }
+    let rest = (and_parts _ _ h).1 in
+    record { name = (bytes_eq-Decides _ _).0 (and_parts _ _ h).0; kind = (bytes_eq-Decides _ _).0 (and_parts _ _ rest).0; group = (bytes_eq-Decides _ _).0 (and_parts _ _ rest).1 }
 
 issuer_again : (left right : IssuerRef) → IsSameIssuer left right → is_same_issuer left right ≡ true
-issuer_again left right h = and_both _ _ ((bytes_eq-Decides _ _).1 h.name) (and_both _ _ ((bytes_eq-Decides _ _).1 h.kind) ((bytes_eq-Decides _ _).1 h.group))
+issuer_again left right h = and_from _ _ ((bytes_eq-Decides _ _).1 h.name) (and_from _ _ ((bytes_eq-Decides _ _).1 h.kind) ((bytes_eq-Decides _ _).1 h.group))
 
 record HasTerms (spec : CertSpec) (request : RequestSpec) : Type 0 where
   pub issuer : IsSameIssuer spec.issuer request.issuer
@@ -123,21 +123,21 @@ record HasTerms (spec : CertSpec) (request : RequestSpec) : Type 0 where
 terms_found : (spec : CertSpec) (request : RequestSpec) → has_terms spec request ≡ true → HasTerms spec request
 unfolding has_terms
 terms_found spec request h =
-    let rest = and_right _ _ h in
-    let last = and_right _ _ rest in
+    let rest = (and_parts _ _ h).1 in
+    let last = (and_parts _ _ rest).1 in
     record {
-      issuer = issuer_found spec.issuer request.issuer (and_left _ _ h);
-      duration = eqb-true _ _ (and_left _ _ rest);
-      is_ca = flag_found spec.is_ca request.is_ca (and_left _ _ last);
-      usages = (sets spec.usages request.usages).0 (and_right _ _ last);
+      issuer = issuer_found spec.issuer request.issuer (and_parts _ _ h).0;
+      duration = eqb-true _ _ (and_parts _ _ rest).0;
+      is_ca = flag_found spec.is_ca request.is_ca (and_parts _ _ last).0;
+      usages = (sets spec.usages request.usages).0 (and_parts _ _ last).1;
     }
 
 terms_again : (spec : CertSpec) (request : RequestSpec) → HasTerms spec request → has_terms spec request ≡ true
 unfolding has_terms
 terms_again spec request h =
-    and_both _ _ (issuer_again spec.issuer request.issuer h.issuer)
-    (and_both _ _ (eq-eqb _ _ h.duration)
-    (and_both _ _ (flag_again spec.is_ca request.is_ca h.is_ca) ((sets spec.usages request.usages).1 h.usages)))
+    and_from _ _ (issuer_again spec.issuer request.issuer h.issuer)
+    (and_from _ _ (eq-eqb _ _ h.duration)
+    (and_from _ _ (flag_again spec.is_ca request.is_ca h.is_ca) ((sets spec.usages request.usages).1 h.usages)))
 
 -- ---- requests
 
@@ -158,7 +158,7 @@ asked_again spec octets fields readable h = rw (request_again octets fields read
 pub matching : (spec : CertSpec) (request : CertificateRequest) → IsTrue (matches spec request) ↔ Matches spec request
 unfolding matches
 matching spec request =
-    (λ h. joined (asked_found spec request.spec.request (request_at request.spec.request) refl (and_left _ _ h)) (terms_found spec request.spec (and_right _ _ h)), λ h. and_both _ _ (asked_again spec request.spec.request h.fields h.readable h.names) (terms_again spec request.spec (record { issuer = h.issuer; duration = h.duration; is_ca = h.is_ca; usages = h.usages })))
+    (λ h. joined (asked_found spec request.spec.request (request_at request.spec.request) refl (and_parts _ _ h).0) (terms_found spec request.spec (and_parts _ _ h).1), λ h. and_from _ _ (asked_again spec request.spec.request h.fields h.readable h.names) (terms_again spec request.spec (record { issuer = h.issuer; duration = h.duration; is_ca = h.is_ca; usages = h.usages })))
   where
     joined : AsksForNames spec request.spec.request → HasTerms spec request.spec → Matches spec request
     joined a t = record { fields = a.fields; readable = a.readable; names = a.names; issuer = t.issuer; duration = t.duration; is_ca = t.is_ca; usages = t.usages }

@@ -6,7 +6,7 @@ use Rattle.std.specs.Str.Parse.{AllDigits, IsNumeral, without_leading_plus}
 use Rattle.std.specs.Str.{all_ascii_digits}
 use Rattle.std.specs.Str.Parse.{digits_value}
 use Rattle.std.specs.Prelude.{IfSome, decimal, not, ◌||◌, filter}
-use Rattle.std.proofs.lemmas.Bool.{cases_Bool, cases_order, eqb-true, eq-eqb, ne_eqb, ltb-true, lt-ltb, false≢true}
+use Rattle.std.proofs.lemmas.Bool.{cases_Bool, cases_order, eqb-true, eq-eqb, ne_eqb, ltb-true, lt-ltb, false≢true, and_from, and_parts}
 use Rattle.std.proofs.lemmas.Option.{none-some, same_Some}
 use Rattle.std.proofs.lemmas.Fmt.{decimal-digits_value, decimal_digit, decimal_nonempty, first_decimal, digits_decimal, digits_value-decimal}
 use Rattle.std.proofs.lemmas.Str.Parse.{IsNumeralModel, numerals_by_value, tells_all_ascii_digits}
@@ -14,10 +14,6 @@ use Rattle.cmc_objects.specs.declared.request.CertificateRequest.{CertificateReq
 use Rattle.cmc_match.specs.Revisions.{is_decimal, number_in, number_of, revision_text, revision_of, is_number, is_of, only_of}
 use Rattle.std.proofs.lemmas.Bool.Decides.{nat_tests}
 use Rattle.std.proofs.lemmas.Str.{digit_value_digit}
-
-both_true : (a b : Bool) → (a && b) ≡ true → (a ≡ true) × (b ≡ true)
-both_true true b h = (refl, h)
-both_true false b h = cc
 
 digit_in_range : (c : ℕ) → is_ascii_digit c ≡ true → (48 ≤ c) × (c ≤ 57)
 digit_in_range c h = grind (arith, nat_tests)
@@ -30,7 +26,7 @@ digit_below c h =
 all_digits : (t : List ℕ) → list_all is_ascii_digit t ≡ true → AllDigits 10 t
 all_digits [] h = tt
 all_digits (c ∷ cs) h =
-    let parts : (is_ascii_digit c ≡ true) × (list_all is_ascii_digit cs ≡ true) = both_true (is_ascii_digit c) (list_all is_ascii_digit cs) h in
+    let parts : (is_ascii_digit c ≡ true) × (list_all is_ascii_digit cs ≡ true) = and_parts (is_ascii_digit c) (list_all is_ascii_digit cs) h in
     (digit_below c parts.0, all_digits cs parts.1)
 
 no_plus : (c : ℕ) → 48 ≤ c → (c == 43) ≡ false
@@ -39,7 +35,7 @@ no_plus c h = grind (arith, nat_tests)
 without_plus : (t : List ℕ) → list_all is_ascii_digit t ≡ true → without_leading_plus t ≡ t
 without_plus [] h = refl
 without_plus (c ∷ cs) h =
-    let parts : (is_ascii_digit c ≡ true) × (list_all is_ascii_digit cs ≡ true) = both_true (is_ascii_digit c) (list_all is_ascii_digit cs) h in
+    let parts : (is_ascii_digit c ≡ true) × (list_all is_ascii_digit cs ≡ true) = and_parts (is_ascii_digit c) (list_all is_ascii_digit cs) h in
     let other : (c == 43) ≡ false = no_plus c (digit_in_range c parts.0).0 in
     ap (λ b. drop (cond b 1 0) (c ∷ cs)) other
 
@@ -68,8 +64,8 @@ or_cases false b h k = absurd (false≢true (sym (ap not k) ∙ h))
 
 decimal_form : (text : List ℕ) → is_decimal text ≡ true → IsDecimalForm text
 decimal_form text h =
-    let first = both_true _ _ h in
-    let rest = both_true _ _ first.1 in
+    let first = and_parts _ _ h in
+    let rest = and_parts _ _ first.1 in
     record {
       digits = sym (digits_same text) ∙ rest.0;
       some = ltb-true 0 (length text) first.0;
@@ -83,7 +79,7 @@ pub number_written : (text : List ℕ) (n : ℕ) → number_in text ≡ Some n �
 number_written text n h =
     elim (cases_Bool (is_decimal text && ltb (digits_value 10 text) (2 ^ 64))) [
       | inl test ↦
-          let parts = both_true _ _ test in
+          let parts = and_parts _ _ test in
           let is = decimal_form text parts.0 in
           let same : digits_value 10 text ≡ n = same_Some (digits_value 10 text) n (sym (rw test refl) ∙ h) in
           sym (decimal-digits_value own text is.digits is.some is.no_zero (ltb-true (digits_value 10 text) (2 ^ 64) parts.1)) ∙ ap decimal same
@@ -104,9 +100,6 @@ revision_written (Some n) request e = revision_found (revision_text request) n (
 
 -- ---- and what is written is read
 
-and_both : (a b : Bool) → a ≡ true → b ≡ true → (a && b) ≡ true
-and_both a b h k = rw (h, k) refl
-
 or_right : (a b : Bool) → b ≡ true → (a || b) ≡ true
 or_right true b h = refl
 or_right false b h = h
@@ -122,9 +115,9 @@ no_needless_zero n h =
 number_again : (n : ℕ) → n < 2 ^ 64 → number_in (decimal n) ≡ Some n
 number_again n h =
     let value = digits_value-decimal own n h in
-    let digits = and_both _ _ (lt-ltb 0 (length (decimal n)) (decimal_nonempty n h)) (and_both _ _ (digits_same (decimal n) ∙ digits_decimal own n h) (no_needless_zero n h)) in
+    let digits = and_from _ _ (lt-ltb 0 (length (decimal n)) (decimal_nonempty n h)) (and_from _ _ (digits_same (decimal n) ∙ digits_decimal own n h) (no_needless_zero n h)) in
     let small : ltb (digits_value 10 (decimal n)) (2 ^ 64) ≡ true = rw value (lt-ltb n (2 ^ 64) h) in
-    rw (and_both _ _ digits small) (ap some_number value)
+    rw (and_from _ _ digits small) (ap some_number value)
 
 pub revision_read : (r : Option ℕ) (request : CertificateRequest) → r ≡ revision_of request → (n : ℕ) → n < 2 ^ 64 → revision_text request ≡ Some (decimal n) → r ≡ Some n
 unfolding revision_of
@@ -136,7 +129,7 @@ number_small : (n : ℕ) (text : List ℕ) → 2 ^ 64 ≤ n → is_number n (num
 number_small n text high =
     elim (cases_Bool (is_decimal text && ltb (digits_value 10 text) (2 ^ 64))) [
       | inl test ↦
-          let low : digits_value 10 text < 2 ^ 64 = ltb-true (digits_value 10 text) (2 ^ 64) (both_true _ _ test).1 in
+          let low : digits_value 10 text < 2 ^ 64 = ltb-true (digits_value 10 text) (2 ^ 64) (and_parts _ _ test).1 in
           rw test (ne_eqb (digits_value 10 text) n (omega (arith, low, high)))
       | inr fails ↦ rw fails refl
     ]

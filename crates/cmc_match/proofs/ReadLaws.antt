@@ -1,6 +1,7 @@
 -- What the checks of the key and of the request say of what was read of both once.
 use Rattle.std.proofs.Common.{◌≡◌, ℕ, Bool, true, false, List, Option, Some, None, refl, sym}
 use Rattle.std.specs.Prelude.{◌&&◌, ◌↔◌, IsTrue}
+use Rattle.std.proofs.lemmas.Bool.{and_from, and_parts}
 use Rattle.cmc_der.specs.Keys.{PublicKey, RequestFields}
 use Rattle.cmc_x509.specs.ReadKeys.{key_file_at}
 use Rattle.cmc_x509.specs.ReadCertificates.{request_at}
@@ -13,7 +14,6 @@ use Rattle.cmc_objects.specs.declared.request.CertificateRequest.{CertificateReq
 use Rattle.cmc_match.specs.Matching.{Matches, HasKey, matches, has_key, key_read, request_read}
 use Rattle.cmc_match.specs.Facts.{key_in, is_requested, is_requested_as_read, has_requested_key}
 use Rattle.cmc_match.proofs.MatchLaws.{matching, keys_match}
-use Rattle.cmc_match.proofs.SetLaws.{and_left, and_right, and_both}
 
 none_right : (b : Bool) → (b && false) ≡ false
 none_right true = refl
@@ -43,4 +43,4 @@ requested_as_read spec secret current key asked e f = rw (e, f) (by_parts spec (
 -- a request that asks for what is wanted, with the key
 pub answered : (spec : CertSpec) (request : CertificateRequest) (file : List ℕ) → IsTrue (matches spec request && has_key request file) ↔ (Matches spec request × HasKey request file)
 answered spec request file =
-    (λ h. ((matching spec request).0 (and_left _ _ h), (keys_match request file).0 (and_right _ _ h)), λ h. and_both _ _ ((matching spec request).1 h.0) ((keys_match request file).1 h.1))
+    (λ h. ((matching spec request).0 (and_parts _ _ h).0, (keys_match request file).0 (and_parts _ _ h).1), λ h. and_from _ _ ((matching spec request).1 h.0) ((keys_match request file).1 h.1))

@@ -2,7 +2,7 @@
 use Rattle.std.proofs.Common.{◌≡◌, ℕ, zero, suc, ◌⊎◌, ◌<◌, Bool, true, false, ◌&&◌, ◌||◌, List, [], ◌∷◌, length, get_or, refl, arith, inl, inr}
 use Rattle.std.specs.Prelude.{◌↔◌, IsTrue, Contains}
 use Rattle.std.specs.Str.{bytes_eq}
-use Rattle.std.proofs.lemmas.Bool.{cases_Bool, false≢true}
+use Rattle.std.proofs.lemmas.Bool.{cases_Bool, false≢true, and_from, and_parts}
 use Rattle.std.proofs.lemmas.Slice.Eq.{bytes_eq-Decides}
 use Rattle.cmc_match.specs.Sets.{IsSameSet, is_among, is_within, is_same_set}
 
@@ -40,31 +40,20 @@ among_again (other ∷ texts) text h =
     or_true true = refl
     or_true false = refl
 
-pub and_left : (a b : Bool) → (a && b) ≡ true → a ≡ true
-and_left true b h = refl
-and_left false b h = absurd (false≢true h)
-
-pub and_right : (a b : Bool) → (a && b) ≡ true → b ≡ true
-and_right true b h = h
-and_right false b h = absurd (false≢true h)
-
-pub and_both : (a b : Bool) → a ≡ true → b ≡ true → (a && b) ≡ true
-and_both a b h k = rw (h, k) refl
-
 pub within_found : (texts others : List (List ℕ)) → is_within texts others ≡ true → (text : List ℕ) → Contains texts text → Contains others text
 within_found [] others h text c = absurd (omega (arith, c.1))
 within_found (first ∷ texts) others h text c =
     elim (contains_cases first text texts c) [
-      | inl same ↦ rw (← same) (among_found others first (and_left _ _ h))
-      | inr later ↦ within_found texts others (and_right _ _ h) text later
+      | inl same ↦ rw (← same) (among_found others first (and_parts _ _ h).0)
+      | inr later ↦ within_found texts others (and_parts _ _ h).1 text later
     ]
 
 pub within_again : (texts others : List (List ℕ)) → ((text : List ℕ) → Contains texts text → Contains others text) → is_within texts others ≡ true
 within_again [] others h = refl
 within_again (first ∷ texts) others h =
-    and_both _ _ (among_again others first (h first (contains_here first texts)))
+    and_from _ _ (among_again others first (h first (contains_here first texts)))
     (within_again texts others (λ text c. h text (contains_later first text texts c)))
 
 pub sets : (left right : List (List ℕ)) → IsTrue (is_same_set left right) ↔ IsSameSet left right
 sets left right =
-    (λ h text. (within_found left right (and_left _ _ h) text, within_found right left (and_right _ _ h) text), λ h. and_both _ _ (within_again left right (λ text. (h text).0)) (within_again right left (λ text. (h text).1)))
+    (λ h text. (within_found left right (and_parts _ _ h).0 text, within_found right left (and_parts _ _ h).1 text), λ h. and_from _ _ (within_again left right (λ text. (h text).0)) (within_again right left (λ text. (h text).1)))

@@ -1,8 +1,9 @@
 -- What is read of members that may be left out, of numbers in bounds and of lists.
-use Rattle.std.proofs.Common.{◌≡◌, ℕ, ◌+◌, ◌<◌, ◌≤◌, List, [], ◌∷◌, length, Bool, true, false, Ok, Err, Option, Some, None, refl, arith}
+use Rattle.std.proofs.Common.{◌≡◌, ℕ, ◌+◌, ◌<◌, ◌≤◌, List, [], ◌∷◌, length, Bool, true, Ok, Err, Option, Some, None, refl, arith}
 use Rattle.std.specs.Prelude.{if◌then◌else◌, decimal, nat_lt, nat_le, ◌&&◌}
 use Rattle.std.specs.List.{list_all}
 use Rattle.std.proofs.lemmas.Bool.Decides.{nat_tests}
+use Rattle.std.proofs.lemmas.Bool.{and_from}
 use Rattle.serde_json.specs.Data.{Data, null, boolean, number, string, array, object, Items, no_items, item}
 use Rattle.cmc_cursor.specs.Reading.{Read, ◌>>=◌, under}
 use Rattle.cmc_cursor.specs.Readers.{count_at}
@@ -27,11 +28,6 @@ of_bounded least most d =
 
 -- ---- lists
 
-pub both : (a b : Bool) → a ≡ true → b ≡ true → (a && b) ≡ true
-both true true first second = refl
-both true false first second = second
-both false b first second = first
-
 pub of_numbered : {A : Type 0} (P : A → Type 0) (read : Data → Read A) → ((d : Data) → Always P (read d)) → (n : ℕ) (d : Data) → Always P (numbered_at read n d)
 unfolding numbered_at
 of_numbered P read each n d = below P (decimal n) (read d) (each d)
@@ -44,7 +40,7 @@ pub of_items : {A : Type 0} (p : A → Bool) (read : ℕ → Data → Read A) �
 of_items p read each n no_items = so refl
 of_items p read each n (item d ds) =
     after (λ x. p x ≡ true) (λ xs. list_all p xs ≡ true) (read n d) (λ x. items_from read (n + 1) ds >>= (λ xs. Ok (x ∷ xs))) (each n d)
-    (λ x first. after (λ xs. list_all p xs ≡ true) (λ xs. list_all p xs ≡ true) (items_from read (n + 1) ds) (λ xs. Ok (x ∷ xs)) (of_items p read each (n + 1) ds) (λ xs rest. so (both (p x) (list_all p xs) first rest)))
+    (λ x first. after (λ xs. list_all p xs ≡ true) (λ xs. list_all p xs ≡ true) (items_from read (n + 1) ds) (λ xs. Ok (x ∷ xs)) (of_items p read each (n + 1) ds) (λ xs rest. so (and_from (p x) (list_all p xs) first rest)))
 
 -- a list that is read item by item
 pub of_list : {A : Type 0} (p : A → Bool) (read : ℕ → Data → Read A) → ((n : ℕ) (d : Data) → Always (λ x. p x ≡ true) (read n d)) → (d : Data) → Always (λ xs. list_all p xs ≡ true) (list_at read d)

@@ -7,6 +7,7 @@ use Rattle.std.specs.Net.Addr.{octets_of}
 use Rattle.std.specs.Net.Grammar.{IsColonHex}
 use Rattle.std.proofs.lemmas.Bool.Decides.{nat_tests}
 use Rattle.std.proofs.lemmas.List.{length-append, length-replicate}
+use Rattle.std.proofs.lemmas.Bool.{and_from}
 use Rattle.serde_json.specs.Data.{Data}
 use Rattle.cmc_policy_rules.specs.declared.policy.Policy.{Policy}
 use Rattle.cmc_objects.specs.declared.orders.Rules.{Rules}
@@ -24,7 +25,7 @@ use Rattle.cmc_material.specs.declared.policy.Named.{Named}
 use Rattle.cmc_material.specs.Lists.{numbered_below, member_or, member_option}
 use Rattle.cmc_material.specs.Approvers.{pattern_at, address_in, address_pattern_at, patterns_at, addresses_at, duration_at, is_rsa_at, named_in, limits_in, policy_of, policy_at, policies_at, every_issuer, approver_at, default_approver}
 use Rattle.cmc_cursor.proofs.Always.{Always, so, failed, next, after, where_true, with_both, further}
-use Rattle.cmc_material.proofs.ListForms.{both, of_member_or, of_member_option, of_numbered_below, of_list, of_short_list}
+use Rattle.cmc_material.proofs.ListForms.{of_member_or, of_member_option, of_numbered_below, of_list, of_short_list}
 
 -- ---- patterns
 
@@ -40,7 +41,7 @@ ArePatterns patterns = is_short_list is_pattern_form patterns ≡ true
 
 of_patterns : (d : Data) → Always ArePatterns (patterns_at d)
 of_patterns d =
-    further (λ (xs : List (List ℕ)). (nat_le (length xs) 100 ≡ true) × (list_all is_pattern_form xs ≡ true)) ArePatterns (patterns_at d) (λ xs is. both (nat_le (length xs) 100) (list_all is_pattern_form xs) is.0 is.1)
+    further (λ (xs : List (List ℕ)). (nat_le (length xs) 100 ≡ true) × (list_all is_pattern_form xs ≡ true)) ArePatterns (patterns_at d) (λ xs is. and_from (nat_le (length xs) 100) (list_all is_pattern_form xs) is.0 is.1)
     (with_both (λ (xs : List (List ℕ)). nat_le (length xs) 100 ≡ true) (λ xs. list_all is_pattern_form xs ≡ true) (patterns_at d)
     (of_short_list 100 pattern_at d) (of_list is_pattern_form (numbered_below 100 pattern_at) (of_numbered_below IsPattern 100 pattern_at of_pattern) d))
 
@@ -107,7 +108,7 @@ AreAddresses patterns = is_short_list is_address_form patterns ≡ true
 
 of_addresses : (d : Data) → Always AreAddresses (addresses_at d)
 of_addresses d =
-    further (λ (xs : List (List ℕ)). (nat_le (length xs) 100 ≡ true) × (list_all is_address_form xs ≡ true)) AreAddresses (addresses_at d) (λ xs is. both (nat_le (length xs) 100) (list_all is_address_form xs) is.0 is.1)
+    further (λ (xs : List (List ℕ)). (nat_le (length xs) 100 ≡ true) × (list_all is_address_form xs ≡ true)) AreAddresses (addresses_at d) (λ xs is. and_from (nat_le (length xs) 100) (list_all is_address_form xs) is.0 is.1)
     (with_both (λ (xs : List (List ℕ)). nat_le (length xs) 100 ≡ true) (λ xs. list_all is_address_form xs ≡ true) (addresses_at d)
     (of_short_list 100 address_pattern_at d) (of_list is_address_form (numbered_below 100 address_pattern_at) (of_numbered_below IsAddressForm 100 address_pattern_at of_address) d))
 
@@ -185,7 +186,7 @@ ArePolicies policies = (nat_le (length policies) 100 && list_all is_policy_form 
 
 of_policies : (d : Data) → Always ArePolicies (policies_at d)
 of_policies d =
-    further (λ (xs : List Policy). (nat_le (length xs) 100 ≡ true) × (list_all is_policy_form xs ≡ true)) ArePolicies (policies_at d) (λ xs is. both (nat_le (length xs) 100) (list_all is_policy_form xs) is.0 is.1)
+    further (λ (xs : List Policy). (nat_le (length xs) 100 ≡ true) × (list_all is_policy_form xs ≡ true)) ArePolicies (policies_at d) (λ xs is. and_from (nat_le (length xs) 100) (list_all is_policy_form xs) is.0 is.1)
     (with_both (λ (xs : List Policy). nat_le (length xs) 100 ≡ true) (λ xs. list_all is_policy_form xs ≡ true) (policies_at d)
     (of_short_list 100 policy_at d) (of_list is_policy_form (numbered_below 100 policy_at) (of_numbered_below IsPolicy 100 policy_at of_policy) d))
 

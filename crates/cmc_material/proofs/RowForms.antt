@@ -1,5 +1,5 @@
 -- What is read of keys and issuers has the form of a scenario.
-use Rattle.std.proofs.Common.{◌≡◌, ℕ, List, [], ◌∷◌, Bool, true, false, Option, Some, None, refl, codes}
+use Rattle.std.proofs.Common.{◌≡◌, ℕ, List, [], ◌∷◌, true, Option, Some, None, refl, codes}
 use Rattle.std.specs.Prelude.{if◌then◌else◌, nat_le, ◌&&◌}
 use Rattle.std.specs.List.{list_all}
 use Rattle.std.specs.Str.{bytes_eq}
@@ -7,6 +7,7 @@ use Rattle.std.specs.declared.cmp.Ordering.{Ordering}
 use Rattle.std.specs.declared.cmp.Ordering.TheVariants.{Less, Equal, Greater}
 use Rattle.std.specs.Ordering.{match_ordering}
 use Rattle.std.specs.BTreeMap.{insert_entry}
+use Rattle.std.proofs.lemmas.Bool.{and_from, and_parts}
 use Rattle.serde_json.specs.Data.{Data, null, boolean, number, string, array, object, Members, no_members, member}
 use Rattle.cmc_meta.specs.declared.key.Key.{Key}
 use Rattle.cmc_meta.specs.declared.key.Kind.TheVariants.{Certificate}
@@ -23,7 +24,7 @@ use Rattle.cmc_material.specs.Keys.{key_of_kind, split_slash}
 use Rattle.cmc_material.specs.Lists.{numbered_at, member_or, member_option, bounded_at}
 use Rattle.cmc_material.specs.MaterialRows.{synthetic_in, key_row_in, key_row_at, issue_in, pending_in, fail_in, raw_in, no_reply_in, reply_row_in, reply_row_at, key_rows_at, reply_rows_at, rows_at, certificate_at, entry_at, material_with, material_at}
 use Rattle.cmc_cursor.proofs.Always.{Always, so, failed, next, after, below, either, further}
-use Rattle.cmc_material.proofs.ListForms.{both, of_member_or, of_member_option, of_bounded, of_numbered, of_list}
+use Rattle.cmc_material.proofs.ListForms.{of_member_or, of_member_option, of_bounded, of_numbered, of_list}
 
 abbrev IsKeyRow : KeyRow → Type 0
 IsKeyRow row = is_key_row_form row ≡ true
@@ -57,13 +58,9 @@ IsSaid row = (is_said row ≡ true) × (is_row_form row ≡ true)
 abbrev IsEarly : ℕ → Type 0
 IsEarly n = nat_le n 86400 ≡ true
 
-second_true : (a b : Bool) → (a && b) ≡ true → b ≡ true
-second_true true b is = is
-second_true false b is = absurd (cc)
-
 of_before : (given : Option Data) → Always IsEarly (member_or 0 (codes "before") (bounded_at 0 86400) given)
 of_before given = of_member_or IsEarly 0 (codes "before") (bounded_at 0 86400) given refl
-    (λ d. further (λ n. (nat_le 0 n && nat_le n 86400) ≡ true) IsEarly (bounded_at 0 86400 d) (λ n is. second_true (nat_le 0 n) (nat_le n 86400) is) (of_bounded 0 86400 d))
+    (λ d. further (λ n. (nat_le 0 n && nat_le n 86400) ≡ true) IsEarly (bounded_at 0 86400 d) (λ n is. (and_parts (nat_le 0 n) (nat_le n 86400) is).1) (of_bounded 0 86400 d))
 
 abbrev IsLife : Option ℕ → Type 0
 IsLife seconds = is_lifetime seconds ≡ true
@@ -73,7 +70,7 @@ of_life given = of_member_option (λ n. (nat_le 1 n && nat_le n 3153600000) ≡ 
 
 of_issue : (fs : List Field) → Always IsSaid (issue_in fs)
 unfolding issue_in
-of_issue fs = next (IsSaid) (optional_at (codes "before") fs) _ (λ first. after (IsEarly) (IsSaid) (member_or 0 (codes "before") (bounded_at 0 86400) first.0) _ (of_before first.0) (λ before early. next (IsSaid) (optional_at (codes "ca") first.1) _ (λ second. next (IsSaid) (member_or [] (codes "ca") bytes_at second.0) _ (λ ca. next (IsSaid) (optional_at (codes "key") second.1) _ (λ third. next (IsSaid) (member_option (codes "key") count_at third.0) _ (λ key. next (IsSaid) (required_at (codes "reply") third.1) _ (λ word. next (IsSaid) (optional_at (codes "seconds") word.1) _ (λ fourth. after (IsLife) (IsSaid) (member_option (codes "seconds") (bounded_at 1 3153600000) fourth.0) _ (of_life fourth.0) (λ seconds life. next (IsSaid) (optional_at (codes "serial") fourth.1) _ (λ fifth. next (IsSaid) (member_option (codes "serial") count_at fifth.0) _ (λ serial. next (IsSaid) (at_end fifth.1) _ (λ end. so (refl, both (is_lifetime seconds) (nat_le before 86400) life early)))))))))))))
+of_issue fs = next (IsSaid) (optional_at (codes "before") fs) _ (λ first. after (IsEarly) (IsSaid) (member_or 0 (codes "before") (bounded_at 0 86400) first.0) _ (of_before first.0) (λ before early. next (IsSaid) (optional_at (codes "ca") first.1) _ (λ second. next (IsSaid) (member_or [] (codes "ca") bytes_at second.0) _ (λ ca. next (IsSaid) (optional_at (codes "key") second.1) _ (λ third. next (IsSaid) (member_option (codes "key") count_at third.0) _ (λ key. next (IsSaid) (required_at (codes "reply") third.1) _ (λ word. next (IsSaid) (optional_at (codes "seconds") word.1) _ (λ fourth. after (IsLife) (IsSaid) (member_option (codes "seconds") (bounded_at 1 3153600000) fourth.0) _ (of_life fourth.0) (λ seconds life. next (IsSaid) (optional_at (codes "serial") fourth.1) _ (λ fifth. next (IsSaid) (member_option (codes "serial") count_at fifth.0) _ (λ serial. next (IsSaid) (at_end fifth.1) _ (λ end. so (refl, and_from (is_lifetime seconds) (nat_le before 86400) life early)))))))))))))
 
 of_pending : (fs : List Field) → Always IsSaid (pending_in fs)
 unfolding pending_in
@@ -117,7 +114,7 @@ IsRows rows = is_rows_form rows ≡ true
 
 of_rows : (d : Data) → Always IsRows (rows_at d)
 unfolding rows_at
-of_rows d = next (IsRows) (fields_at d) _ (λ fs. next (IsRows) (optional_at (codes "keys") fs) _ (λ first. after (AreKeyRows) (IsRows) (member_or [] (codes "keys") key_rows_at first.0) _ (of_member_or AreKeyRows [] (codes "keys") key_rows_at first.0 refl of_key_rows) (λ keys named. next (IsRows) (optional_at (codes "replies") first.1) _ (λ second. after (AreReplyRows) (IsRows) (member_or [] (codes "replies") reply_rows_at second.0) _ (of_member_or AreReplyRows [] (codes "replies") reply_rows_at second.0 refl of_reply_rows) (λ replies said. next (IsRows) (at_end second.1) _ (λ end. so (both (list_all is_key_row_form keys) (list_all is_row_form replies) named said)))))))
+of_rows d = next (IsRows) (fields_at d) _ (λ fs. next (IsRows) (optional_at (codes "keys") fs) _ (λ first. after (AreKeyRows) (IsRows) (member_or [] (codes "keys") key_rows_at first.0) _ (of_member_or AreKeyRows [] (codes "keys") key_rows_at first.0 refl of_key_rows) (λ keys named. next (IsRows) (optional_at (codes "replies") first.1) _ (λ second. after (AreReplyRows) (IsRows) (member_or [] (codes "replies") reply_rows_at second.0) _ (of_member_or AreReplyRows [] (codes "replies") reply_rows_at second.0 refl of_reply_rows) (λ replies said. next (IsRows) (at_end second.1) _ (λ end. so (and_from (list_all is_key_row_form keys) (list_all is_row_form replies) named said)))))))
 
 abbrev pub IsCertificate : Key → Type 0
 IsCertificate key = is_certificate key ≡ true
@@ -144,21 +141,17 @@ either_way P Less a b c x y z = x
 either_way P Equal a b c x y z = y
 either_way P Greater a b c x y z = z
 
-first_true : (a b : Bool) → (a && b) ≡ true → a ≡ true
-first_true true b is = refl
-first_true false b is = absurd (cc)
-
 -- one more entry at its place
 entry_put : (material : List (Key × Rows)) (certificate : Key) (rows : Rows) → IsCertificate certificate → IsRows rows → IsMaterial material → IsMaterial (insert_entry key_cmp material certificate rows)
-entry_put [] certificate rows is formed all = both (is_entry_form (certificate, rows)) true (both (is_certificate certificate) (is_rows_form rows) is formed) refl
+entry_put [] certificate rows is formed all = and_from (is_entry_form (certificate, rows)) true (and_from (is_certificate certificate) (is_rows_form rows) is formed) refl
 entry_put (e ∷ es) certificate rows is formed all =
-    let here : is_entry_form e ≡ true = first_true (is_entry_form e) (list_all is_entry_form es) all in
-    let rest : IsMaterial es = second_true (is_entry_form e) (list_all is_entry_form es) all in
-    let old : is_certificate e.0 ≡ true = first_true (is_certificate e.0) (is_rows_form e.1) here in
+    let here : is_entry_form e ≡ true = (and_parts (is_entry_form e) (list_all is_entry_form es) all).0 in
+    let rest : IsMaterial es = (and_parts (is_entry_form e) (list_all is_entry_form es) all).1 in
+    let old : is_certificate e.0 ≡ true = (and_parts (is_certificate e.0) (is_rows_form e.1) here).0 in
     either_way IsMaterial (key_cmp certificate e.0) ((certificate, rows) ∷ e ∷ es) ((e.0, rows) ∷ es) (e ∷ insert_entry key_cmp es certificate rows)
-    (both (is_entry_form (certificate, rows)) (list_all is_entry_form (e ∷ es)) (both (is_certificate certificate) (is_rows_form rows) is formed) all)
-    (both (is_entry_form (e.0, rows)) (list_all is_entry_form es) (both (is_certificate e.0) (is_rows_form rows) old formed) rest)
-    (both (is_entry_form e) (list_all is_entry_form (insert_entry key_cmp es certificate rows)) here (entry_put es certificate rows is formed rest))
+    (and_from (is_entry_form (certificate, rows)) (list_all is_entry_form (e ∷ es)) (and_from (is_certificate certificate) (is_rows_form rows) is formed) all)
+    (and_from (is_entry_form (e.0, rows)) (list_all is_entry_form es) (and_from (is_certificate e.0) (is_rows_form rows) old formed) rest)
+    (and_from (is_entry_form e) (list_all is_entry_form (insert_entry key_cmp es certificate rows)) here (entry_put es certificate rows is formed rest))
 
 of_entries : (material : List (Key × Rows)) (ms : Members) → IsMaterial material → Always IsMaterial (material_with material ms)
 of_entries material no_members all = so all

@@ -1,5 +1,4 @@
 pub mod SameSpecs
-pub mod Keys
 pub mod Maps
 pub mod Writes
 pub mod Stored

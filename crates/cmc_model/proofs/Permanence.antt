@@ -10,7 +10,7 @@ use Rattle.cmc_objects.specs.Objects.{version_of}
 use Rattle.cmc_model.specs.Objects.{object_at}
 use Rattle.cmc_model.specs.Writes.{contents}
 use Rattle.cmc_model.specs.Versions.{uid_of, IsVersion}
-use Rattle.cmc_model.proofs.Keys.{key_cmp-total}
+use Rattle.cmc_meta.proofs.KeyOrder.{key_cmp-total}
 use Rattle.cmc_model.proofs.Versions.{IsNew, IsHeir, IsLawful, lawful_object, standing, object_at-put, versions_low, uids_low, one_key}
 use Rattle.cmc_model.proofs.Writing.{EachWrite}
 

@@ -1,6 +1,7 @@
 -- An approval and a denial stay as they are in all later versions of a uid, and no request has both.
 use Rattle.std.proofs.Common.{◌≡◌, ◌==◌, ◌&&◌, ◌||◌, ℕ, ℤ, ◌+◌, List, [], ◌∷◌, Option, Some, None, Bool, true, false, not, refl, sym, ap, subst, ◌∙◌}
 use Rattle.std.specs.Prelude.{if◌then◌else◌}
+use Rattle.std.proofs.lemmas.Bool.{or_parts}
 use Rattle.cmc_meta.specs.declared.conditions.Condition.{Condition}
 use Rattle.cmc_meta.specs.declared.conditions.ConditionKind.{ConditionKind}
 use Rattle.cmc_meta.specs.declared.conditions.ConditionKind.TheVariants.{Approved, Denied}
@@ -148,10 +149,6 @@ keeps_as old o p same kept = record { approved = λ a. keeps_one Approved old o 
 pub keeps_self : (o : Object) → KeepsVerdicts o o
 keeps_self o = record { approved = λ a. (a, refl); denied = λ d. (d, refl) }
 
-or_false : (a b : Bool) → (a || b) ≡ false → (a ≡ false) × (b ≡ false)
-or_false true b is = absurd (cc is)
-or_false false b is = (refl, is)
-
 both_false : (a b : Bool) → a ≡ true → b ≡ true → (a && b) ≡ false → ⊥
 both_false true true x y z = absurd (cc z)
 both_false true false x y z = absurd (cc y)
@@ -169,8 +166,8 @@ stays k old new settled kept is =
 
 verdicts_pass : (old new : List Condition) → AllPass (verdict_rules old new) → PassesWell old new
 verdicts_pass old new pass =
-    let settled = or_false (is_unsettled Approved new) (is_unsettled Denied new) pass.0 in
-    let kept = or_false (loses Approved old new) (loses Denied old new) pass.1.1.0 in record {
+    let settled = or_parts (is_unsettled Approved new) (is_unsettled Denied new) pass.0 in
+    let kept = or_parts (loses Approved old new) (loses Denied old new) pass.1.1.0 in record {
       one = λ a d. both_false (stands Approved new) (stands Denied new) (stands_where Approved new a) (stands_where Denied new d) pass.1.0;
       approved = λ is. stays Approved old new settled.0 kept.0 is;
       denied = λ is. stays Denied old new settled.1 kept.1 is;

@@ -1,10 +1,11 @@
 -- Versions count up, a uid is the version of a create, and no uid stands under two keys.
 use Rattle.std.proofs.Common.{◌≡◌, ◌==◌, ◌⊎◌, ℕ, ℤ, ◌+◌, ◌≤◌, List, [], ◌∷◌, length, Option, Some, None, Bool, true, false, cond, refl, sym, ap, subst, ◌∙◌, inl, inr, arith, Ordering, Less, Equal, Greater}
-use Rattle.std.specs.Prelude.{if◌then◌else◌, MatchBool}
+use Rattle.std.specs.Prelude.{if◌then◌else◌, MatchBool, nat_le}
 use Rattle.std.specs.List.{list_any}
 use Rattle.std.specs.Ordering.{is_eq, eq_by_cmp}
 use Rattle.std.specs.FinMap.{get-empty, get-insert, get-remove}
 use Rattle.cmc_meta.specs.declared.key.Key.{Key}
+use Rattle.cmc_meta.specs.declared.key.Kind.{Kind}
 use Rattle.cmc_meta.specs.Keys.{key_cmp}
 use Rattle.cmc_objects.specs.declared.object.Object.{Object}
 use Rattle.cmc_objects.specs.declared.call.Call.{Call}
@@ -16,10 +17,10 @@ use Rattle.cmc_model.specs.declared.write.Write.{Write}
 use Rattle.cmc_model.specs.Objects.{Objects, no_objects, object_at}
 use Rattle.cmc_model.specs.Stored.{revised, restated}
 use Rattle.cmc_model.specs.Replies.{State, IsReply, IsServed, IsGot, is_accepted, key_of_call, from_old, settled, stored, put_at}
-use Rattle.cmc_model.specs.Writes.{write_of, contents}
+use Rattle.cmc_model.specs.Writes.{write_of, contents, kind_eq, of_kind, oldest}
 use Rattle.cmc_model.specs.Versions.{uid_of, IsVersion}
 use Rattle.cmc_model.proofs.Settling.{settled_served}
-use Rattle.cmc_model.proofs.Keys.{key_cmp-total, key_cmp-IsAntisymmetric}
+use Rattle.cmc_meta.proofs.KeyOrder.{key_cmp-total, key_cmp-IsAntisymmetric}
 use Rattle.cmc_model.proofs.Stored.{version_of-created, uid_of-created, key_of-created, version_of-revised, uid_of-revised, key_of-revised, version_of-restated, uid_of-restated, key_of-restated}
 
 -- ---- what a legal write is
@@ -161,3 +162,23 @@ one_key (w ∷ ws) j k o p law (inl a) (inr b) same =
 one_key (w ∷ ws) j k o p law (inr a) (inl b) same =
     sym (sym b.0 ∙ one_key_by w ws p j o (uids_low ws j o law.1 a) (λ old has e. one_key ws w.key j old o law.1 has a e) (born w ws p law b.1) (sym same))
 one_key (w ∷ ws) j k o p law (inr a) (inr b) same = one_key ws j k o p law.1 a b same
+
+-- ---- what some first writes of a kind leave is a version of a write
+
+in_kind : (b : Bool) (key : Key) (o : Object) (w : Write) (some ws : List Write) → (IsVersion key o some → IsVersion key o ws) → IsVersion key o (cond b (w ∷ some) some) → IsVersion key o (w ∷ ws)
+in_kind true key o w some ws below (inl here) = inl here
+in_kind true key o w some ws below (inr there) = inr (below there)
+in_kind false key o w some ws below there = inr (below there)
+
+pub version_of_kind : (kind : Kind) (key : Key) (o : Object) (ws : List Write) → IsVersion key o (of_kind kind ws) → IsVersion key o ws
+version_of_kind kind key o [] has = has
+version_of_kind kind key o (w ∷ ws) has = in_kind (kind_eq w.key.kind kind) key o w (of_kind kind ws) ws (λ there. version_of_kind kind key o ws there) has
+
+in_oldest : (b : Bool) (key : Key) (o : Object) (w : Write) (some ws : List Write) → (IsVersion key o some → IsVersion key o ws) → IsVersion key o (if b then w ∷ ws else some) → IsVersion key o (w ∷ ws)
+in_oldest true key o w some ws below has = has
+in_oldest false key o w some ws below has = inr (below has)
+
+pub version_of_oldest : (p : ℕ) (key : Key) (o : Object) (ws : List Write) → IsVersion key o (oldest p ws) → IsVersion key o ws
+unfolding oldest
+version_of_oldest p key o [] has = has
+version_of_oldest p key o (w ∷ ws) has = in_oldest (nat_le (length (w ∷ ws)) p) key o w (oldest p ws) ws (λ there. version_of_oldest p key o ws there) has

@@ -1,8 +1,9 @@
 -- What a pass does by a decision is what it does by its act.
-use Rattle.std.proofs.Common.{◌≡◌, ◌∙◌, ℕ, ℤ, Bool, true, false, List, Option, Some, None, IfOk, Result, refl, sym, ap, subst, inl, inr, arith}
+use Rattle.std.proofs.Common.{◌≡◌, ◌∙◌, ℕ, ℤ, true, false, List, Option, Some, None, IfOk, Result, refl, sym, ap, subst, inl, inr, arith}
 use Rattle.std.proofs.lemmas.Result.{IfOk-weaker}
 use Rattle.std.specs.Prelude.{◌&&◌}
 use Rattle.std.specs.declared.alloc.AllocError.{AllocError}
+use Rattle.std.proofs.lemmas.Bool.{and_parts}
 use Rattle.cmc_objects.specs.declared.call.Call.{Call}
 use Rattle.cmc_objects.specs.declared.orders.Order.{Order}
 use Rattle.cmc_objects.specs.declared.role.Role.{Role}
@@ -73,17 +74,12 @@ may_bare s h n p formed run is =
 
 -- ---- a pass that takes a decision
 
-both : (a b : Bool) → (a && b) ≡ true → (a ≡ true) × (b ≡ true)
-both true true is = (refl, refl)
-both true false is = absurd (cc is)
-both false b is = absurd (cc is)
-
 fresh_is : (stage : Stage) → is_fresh stage ≡ true → stage ≡ Fresh
 fresh_is Fresh is = refl
 fresh_is other is = absurd (cc is)
 
 pub stage_is : (p : OpenPass) → is_undecided p ≡ true → p.stage ≡ Fresh
-stage_is p is = fresh_is p.stage (both (decides_alone p.role) (is_fresh p.stage) is).1
+stage_is p is = fresh_is p.stage (and_parts (decides_alone p.role) (is_fresh p.stage) is).1
 
 kept_fresh : (p : OpenPass) (stage : Stage) → p.stage ≡ stage → stage ≡ Fresh → kept_of (Some p) ≡ None
 kept_fresh p Fresh is fresh = ap (λ (x : Stage). kept_of (Some (record p { stage = x }))) is

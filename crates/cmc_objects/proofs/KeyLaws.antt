@@ -1,17 +1,13 @@
 -- The test of two public keys says whether they are one.
 use Rattle.std.proofs.Common.{◌≡◌, ℕ, Bool, true, false, List, refl, ap, subst}
 use Rattle.std.specs.Prelude.{◌↔◌, ◌&&◌, IsTrue}
-use Rattle.std.proofs.lemmas.Bool.{and_from, eqb-true, eq-eqb, false≢true}
+use Rattle.std.proofs.lemmas.Bool.{and_from, eqb-true, eq-eqb, false≢true, and_parts}
 use Rattle.std.proofs.lemmas.Bool.Decides.{same_from_decides}
 use Rattle.std.proofs.lemmas.Slice.Eq.{bytes_eq-Decides}
 use Rattle.cmc_der.specs.declared.fields.KeyKind.{KeyKind}
 use Rattle.cmc_der.specs.declared.fields.KeyKind.TheVariants.{Rsa, P256, P384, P521}
 use Rattle.cmc_der.specs.Keys.{PublicKey, RsaKey, EcKey, OtherKey, same_kind}
 use Rattle.cmc_objects.specs.KeyPairs.{is_one_key}
-
-both : (a b : Bool) → (a && b) ≡ true → (a ≡ true) × (b ≡ true)
-both true b h = (refl, h)
-both false b h = absurd (false≢true h)
 
 kind_found : (a b : KeyKind) → same_kind a b ≡ true → a ≡ b
 kind_found (Rsa m) (Rsa n) h = ap Rsa (eqb-true m n h)
@@ -34,8 +30,8 @@ ec_same c p d q h k = cc
 
 pub key_found : (a b : PublicKey) → is_one_key a b ≡ true → a ≡ b
 unfolding is_one_key
-key_found (RsaKey m e) (RsaKey n f) h = rsa_same m e n f ((bytes_eq-Decides m n).0 (both _ _ h).0) ((bytes_eq-Decides e f).0 (both _ _ h).1)
-key_found (EcKey c p) (EcKey d q) h = ec_same c p d q (kind_found c d (both _ _ h).0) ((bytes_eq-Decides p q).0 (both _ _ h).1)
+key_found (RsaKey m e) (RsaKey n f) h = rsa_same m e n f ((bytes_eq-Decides m n).0 (and_parts _ _ h).0) ((bytes_eq-Decides e f).0 (and_parts _ _ h).1)
+key_found (EcKey c p) (EcKey d q) h = ec_same c p d q (kind_found c d (and_parts _ _ h).0) ((bytes_eq-Decides p q).0 (and_parts _ _ h).1)
 key_found (OtherKey w) (OtherKey v) h = ap OtherKey ((bytes_eq-Decides w v).0 h)
 key_found a b h = absurd (false≢true h)
 

@@ -1,5 +1,5 @@
--- Only one role has a rank.
-use Rattle.std.proofs.Common.{◌≡◌, ℕ, sym, ap, ◌∙◌, refl}
+-- Only one role has a rank, and each is below 8.
+use Rattle.std.proofs.Common.{◌≡◌, ◌<◌, ℕ, sym, ap, ◌∙◌, refl, arith}
 use Rattle.std.specs.Prelude.{◌==◌, if◌then◌else◌}
 use Rattle.cmc_objects.specs.declared.role.Role.{Role}
 use Rattle.cmc_objects.specs.declared.role.Role.TheVariants.{Trigger, KeyManager, RequestManager, Approver, Issuer, Issuing, Readiness, Revision}
@@ -15,3 +15,7 @@ role_at-rank other = refl
 
 pub role_of_rank : (a b : Role) → role_rank a ≡ role_rank b → a ≡ b
 role_of_rank a b h = sym (role_at-rank a) ∙ ap role_at h ∙ role_at-rank b
+
+pub rank_low : (r : Role) → role_rank r < 8
+rank_low Trigger = omega arith
+rank_low other = omega arith

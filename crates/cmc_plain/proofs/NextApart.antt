@@ -8,6 +8,7 @@ use Rattle.std.specs.FinMap as map
 use Rattle.std.specs.FinMap.Entries.{is_sorted, below_all}
 use Rattle.std.specs.Ordering.{is_lt}
 use Rattle.std.specs.Str.{bytes_eq}
+use Rattle.std.proofs.lemmas.Bool.{and_parts}
 use Rattle.cmc_meta.specs.declared.key.Key.{Key}
 use Rattle.cmc_meta.specs.declared.key.Kind.TheVariants as kinds
 use Rattle.cmc_meta.specs.Keys.{key_cmp}
@@ -18,7 +19,7 @@ use Rattle.cmc_objects.specs.declared.object.Object.TheVariants.{Cert, Request, 
 use Rattle.cmc_objects.specs.declared.entry.Entry.{Entry}
 use Rattle.cmc_objects.specs.Objects.{key_of}
 use Rattle.cmc_model.specs.Histories.{Setting, objects}
-use Rattle.cmc_model.proofs.Keys.{key_cmp-total}
+use Rattle.cmc_meta.proofs.KeyOrder.{key_cmp-total}
 use Rattle.cmc_rules.specs.Legality.{IsLegal}
 use Rattle.cmc_rules.specs.Sighting.{IsAmong}
 use Rattle.cmc_rules.specs.Viewing.{is_owned, has_next_label, next_in, next_of}
@@ -26,10 +27,6 @@ use Rattle.cmc_rules.proofs.Sighted.{stands_among, picked}
 use Rattle.cmc_rules.proofs.Versions.{stands_is_version, version_keyed}
 
 -- ---- of sorted entries
-
-both : (a b : Bool) → (a && b) ≡ true → (a ≡ true) × (b ≡ true)
-both true b is = (refl, is)
-both false b is = absurd (cc is)
 
 both_of : (a b : Bool) → T (a && b) → T a × T b
 both_of true b h = (tt, h)
@@ -101,7 +98,7 @@ next_there c (Request r) k is = absurd (cc is)
 next_there c (Secret j) k is = next_by (has_next_label j.meta) (is_owned c j.meta) j k c is refl
 
 in_namespace : (c : Certificate) (k : SecretObject) → is_owned c k.meta ≡ true → k.meta.namespace ≡ c.meta.namespace
-in_namespace c k owned = (bytes_eq-Decides k.meta.namespace c.meta.namespace).0 (both (bytes_eq k.meta.namespace c.meta.namespace) _ owned).0
+in_namespace c k owned = (bytes_eq-Decides k.meta.namespace c.meta.namespace).0 (and_parts (bytes_eq k.meta.namespace c.meta.namespace) _ owned).0
 
 keyed : (s : Setting) (h : List Entry) (e : Key × Object) (k : SecretObject) → IsLegal s h → IsAmong e (map.entries (objects s h)) → e.1 ≡ Secret k → key_of (Secret k) ≡ e.0
 keyed s h e k legal among is = version_keyed s h e.0 (Secret k) legal (stands_is_version s h e.0 (Secret k) (stands_among (objects s h) e among ∙ ap Some is))

@@ -13,7 +13,7 @@ use Rattle.cmc_rules.specs.declared.progress.OpenPass.{OpenPass}
 use Rattle.cmc_model.specs.Histories.{Setting}
 use Rattle.cmc_model.specs.Writes.{writes, last_of_kind}
 use Rattle.cmc_rules.specs.Passes.{open_pass}
-use Rattle.cmc_model.proofs.Keys.{key_cmp-total, key_cmp-IsAntisymmetric}
+use Rattle.cmc_meta.proofs.KeyOrder.{key_cmp-total, key_cmp-IsAntisymmetric}
 use Rattle.cmc_moves.specs.declared.moves.Move.{Move}
 use Rattle.cmc_moves.specs.declared.moves.Move.TheVariants.{Script, Deliver, Begin, Next, Give, Decide}
 use Rattle.cmc_world.proofs.AtRest.{same_kind}

@@ -7,9 +7,8 @@ use Rattle.std.specs.declared.cmp.Ordering.TheVariants.{Less}
 use Rattle.cmc_meta.specs.Keys.{key_cmp}
 use Rattle.cmc_objects.specs.Roles.{role_rank}
 use Rattle.cmc_objects.specs.declared.role.Role.{Role}
-use Rattle.cmc_objects.specs.declared.role.Role.TheVariants.{Trigger}
 use Rattle.cmc_objects.specs.declared.entry.Entry.{Entry}
-use Rattle.cmc_objects.proofs.Ranks.{role_of_rank}
+use Rattle.cmc_objects.proofs.Ranks.{rank_low, role_of_rank}
 use Rattle.cmc_model.specs.Histories.{Setting}
 use Rattle.cmc_plain.specs.Plain.{HasNoDelivery, Fits, IsFirstBegin}
 use Rattle.cmc_plain.specs.Searches.{HasNoneBefore, IsBehindInSome, FitsSome, FindsKey, HasNoBegin}
@@ -22,10 +21,6 @@ one_more P n role r false is not_here before low e p = not_here (subst P (role_o
 
 pub none_before_more : (P : Role → Type 0) (n : ℕ) (role : Role) → role_rank role ≡ n → (P role → ⊥) → HasNoneBefore P n → HasNoneBefore P (n + 1)
 none_before_more P n role is not_here before r low p = one_more P n role r (nat_lt (role_rank r) n) is not_here before low refl p
-
-pub rank_low : (r : Role) → role_rank r < 8
-rank_low Trigger = omega arith
-rank_low other = omega arith
 
 pub none_at_all : (P : Role → Type 0) → HasNoneBefore P 8 → (r : Role) → P r → ⊥
 none_at_all P before r p = before r (rank_low r) p

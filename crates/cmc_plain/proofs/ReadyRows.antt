@@ -7,14 +7,10 @@ use Rattle.std.specs.BTreeSet.{BTreeSet, contains}
 use Rattle.cmc_meta.specs.declared.key.Key.{Key}
 use Rattle.cmc_meta.specs.Keys.{key_cmp, key_eq}
 use Rattle.cmc_objects.specs.declared.role.Role.{Role}
-use Rattle.cmc_objects.specs.declared.role.Role.TheVariants.{Trigger}
 use Rattle.cmc_objects.specs.Roles.{role_rank}
+use Rattle.cmc_objects.proofs.Ranks.{rank_low}
 use Rattle.cmc_model.specs.Histories.{role_eq}
 use Rattle.cmc_plain.specs.Ready.{no_keys, is_ready}
-
-rank_low : (r : Role) → role_rank r < 8
-rank_low Trigger = omega arith
-rank_low other = omega arith
 
 -- the row of the role, by its place
 pub record IsRow (rows : List (BTreeSet Key)) (place : ℕ) (role : Role) (row : BTreeSet Key) : Type 0 where

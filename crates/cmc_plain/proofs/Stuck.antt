@@ -6,6 +6,7 @@ use Rattle.std.proofs.lemmas.Slice.Eq.{bytes_eq-Decides}
 use Rattle.std.specs.Prelude.{IfSome, IsSome, codes, find, filter, int_lt, is_some, if◌then◌else◌}
 use Rattle.std.specs.List.{last_or}
 use Rattle.std.specs.Str.{bytes_eq}
+use Rattle.std.proofs.lemmas.Bool.{and_from, and_parts, or_parts}
 use Rattle.cmc_meta.specs.declared.conditions.Condition.{Condition}
 use Rattle.cmc_meta.specs.declared.conditions.ConditionKind.TheVariants.{Ready}
 use Rattle.cmc_meta.specs.declared.conditions.Tri.{Tri}
@@ -52,14 +53,6 @@ use Rattle.cmc_plain.specs.Waits.{is_unanswered, wait_of_request}
 use Rattle.cmc_plain.proofs.Outcomes.{IsOutcome, HasOutcome}
 
 -- ---- booleans and lists
-
-both : (a b : Bool) → (a && b) ≡ true → (a ≡ true) × (b ≡ true)
-both true b is = (refl, is)
-both false b is = absurd (cc is)
-
-or_none : (a b : Bool) → (a || b) ≡ false → (a ≡ false) × (b ≡ false)
-or_none true b is = absurd (cc is)
-or_none false b is = (refl, is)
 
 turned : (b : Bool) → not b ≡ false → b ≡ true
 turned true off = refl
@@ -128,7 +121,7 @@ none_ready frame facts h =
 said_by : (b : Bool) (c new : Condition) (cs : List Condition) → (condition_rank c.kind == 0) ≡ b → new.status ≡ True → says (if b then Some c else condition_at cs Ready) new ≡ true
     → (says (condition_at cs Ready) new ≡ true → is_stated Ready cs ≡ true) → ((b && tri_eq c.status True) || is_stated Ready cs) ≡ true
 said_by true c new cs is on said below =
-    let same : tri_eq c.status new.status ≡ true = (both (tri_eq c.status new.status) _ said).0 in
+    let same : tri_eq c.status new.status ≡ true = (and_parts (tri_eq c.status new.status) _ said).0 in
     let stated : tri_eq c.status True ≡ true = subst (λ (t : Tri). tri_eq c.status t ≡ true) on same in
     ap (λ (b : Bool). b || is_stated Ready cs) stated
 said_by false c new cs is on said below = below said
@@ -144,7 +137,7 @@ settled_by false condition renew pair c is = absurd (cc is)
 
 says_so : (condition : Condition) (renew : Renew) (pair : Option CertificateFields) (c : Certificate) → condition.status ≡ True → is_settled condition renew pair c.status ≡ true → is_stated Ready c.status.conditions ≡ true
 unfolding is_settled
-says_so condition renew pair c on is = said c.status.conditions condition on (both (says (condition_at c.status.conditions Ready) condition) _ is).0
+says_so condition renew pair c on is = said c.status.conditions condition on (and_parts (says (condition_at c.status.conditions Ready) condition) _ is).0
 
 ready_by_none : (moment : ℤ) (reason : Option Reason) (renew : Renew) (pair : Option CertificateFields) (c : Certificate) → reason ≡ None → ready_by (ready_condition moment reason) renew pair c ≡ Nothing
     → is_stated Ready c.status.conditions ≡ true
@@ -263,7 +256,7 @@ only_one revision list r is =
     ap (λ (l : List CertificateRequest). if length l == 1 then find (λ q. is_of revision q) list else None) is ∙ (first_found (λ q. is_of revision q) list r [] is).0
 
 fresh_by : (next wanted other : Bool) → next ≡ true → (next && (not wanted || other)) ≡ false → (wanted ≡ true) × (other ≡ false)
-fresh_by true wanted other is off = let parts = or_none (not wanted) other off in (turned wanted parts.0, parts.1)
+fresh_by true wanted other is off = let parts = or_parts (not wanted) other off in (turned wanted parts.0, parts.1)
 fresh_by false wanted other is off = absurd (cc is)
 
 found_request : (c : Certificate) (file : List ℕ) (list : List CertificateRequest) (r : CertificateRequest) → stale_request c file list ≡ None → next_requests c list ≡ r ∷ [] → HasNextRequest c file list
@@ -301,10 +294,6 @@ IsRefused failure o = (says_refused o ≡ true) × (is_some failure ≡ true)
 texts : (a b : List ℕ) → a ≡ b → bytes_eq a b ≡ true
 texts a b is = (bytes_eq-Decides a b).1 is
 
-join : (a b : Bool) → a ≡ true → b ≡ true → (a && b) ≡ true
-join true b one two = two
-join false b one two = absurd (cc one)
-
 or_first : (a b : Bool) → a ≡ true → (a || b) ≡ true
 or_first true b is = refl
 or_first false b is = absurd (cc is)
@@ -330,7 +319,7 @@ reason_is ready text other is = ap (λ (x : List ℕ). bytes_eq x other) is
 what_it_says : (failure : Option ℤ) (o : Option Condition) → IfSome o (IsOutcome failure) → IsIssued o ⊎ (IsOpen o ⊎ IsRefused failure o)
 what_it_says failure None is = inr (inl (refl, refl, refl))
 what_it_says failure (Some ready) (inl issued) =
-    inl (join _ _ (status_is ready True issued.0 True) (texts ready.reason (codes "Issued") issued.1), no_first _ _ (status_is ready True issued.0 False), reason_is ready (codes "Issued") (codes "Denied") issued.1)
+    inl (and_from _ _ (status_is ready True issued.0 True) (texts ready.reason (codes "Issued") issued.1), no_first _ _ (status_is ready True issued.0 False), reason_is ready (codes "Issued") (codes "Denied") issued.1)
 what_it_says failure (Some ready) (inr (inl pending)) =
     inr (inl (
       texts ready.reason (codes "Pending") pending.1,
@@ -341,9 +330,9 @@ what_it_says failure (Some ready) (inr (inl pending)) =
       or_off true b one two = absurd (cc one)
       or_off false b one two = two
 what_it_says failure (Some ready) (inr (inr ((off, inl failed), some))) =
-    inr (inr (join _ _ (status_is ready False off False) (or_first _ _ (texts ready.reason (codes "Failed") failed)), some))
+    inr (inr (and_from _ _ (status_is ready False off False) (or_first _ _ (texts ready.reason (codes "Failed") failed)), some))
 what_it_says failure (Some ready) (inr (inr ((off, inr denied), some))) =
-    inr (inr (join _ _ (status_is ready False off False) (or_second _ _ (texts ready.reason (codes "Denied") denied)), some))
+    inr (inr (and_from _ _ (status_is ready False off False) (or_second _ _ (texts ready.reason (codes "Denied") denied)), some))
 
 -- ---- what it waits for
 
@@ -401,7 +390,7 @@ request_waits moment desk c file target r fresh outcome idle quiet = by (what_it
   by (inl issued) =
       let denied = denied_marked (is_denied r) (gives (codes "Denied") (condition_at r.status.conditions Ready)) moment r (granting.grant moment desk r) issued.2 quiet in
       some_wait (is_approved r) (is_denied r) (says_issued (condition_at r.status.conditions Ready) && is_kept_for_keys target) (is_unanswered (condition_at r.status.conditions Ready)) denied
-      (λ approved. or_first _ _ (join _ _ issued.0
+      (λ approved. or_first _ _ (and_from _ _ issued.0
       (granted_kept (is_refused r) (is_granted r) (is_certified file r.status.certificate) (is_kept_for_keys target) moment (codes "InvalidCertificate") c (issue_plan moment c file r target) _ _ issued.1
       (granted (says_issued (condition_at r.status.conditions Ready)) (is_approved r) (is_denied r) issued.0 approved denied) idle)))
   by (inr (inl waits)) =

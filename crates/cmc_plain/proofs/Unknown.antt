@@ -1,6 +1,7 @@
 -- A key that no accepted write named is quiet.
 use Rattle.std.proofs.Common.{◌≡◌, ℕ, ℤ, List, [], ◌∷◌, length, Option, None, Bool, true, false, cond, refl, sym, ap, subst, ◌∙◌, option_and_then}
 use Rattle.std.specs.Prelude.{◌&&◌, ◌||◌, if◌then◌else◌, nat_le}
+use Rattle.std.proofs.lemmas.Bool.{or_parts}
 use Rattle.cmc_meta.specs.declared.key.Key.{Key}
 use Rattle.cmc_meta.specs.declared.key.Kind.{Kind}
 use Rattle.cmc_meta.specs.declared.key.Kind.TheVariants as kinds
@@ -27,7 +28,7 @@ use Rattle.cmc_rules.specs.Desks.{desk}
 use Rattle.cmc_rules.specs.Passes.{open_pass, is_pass_of}
 use Rattle.cmc_rules.specs.Memory.{past, no_past, with_begin, with_ending, ending_of}
 use Rattle.cmc_rules.specs.Legality.{IsLegal}
-use Rattle.cmc_world.proofs.Known.{neither, none_under}
+use Rattle.cmc_world.proofs.Known.{none_under}
 use Rattle.cmc_world.proofs.OneKind.{object_at-of_kind}
 use Rattle.cmc_world.proofs.AtRest.{same_key}
 use Rattle.cmc_moves.proofs.Sounds.{each_sound}
@@ -45,7 +46,7 @@ unknown_first : (key : Key) (ws : List Write) (p : ℕ) → is_known key ws ≡ 
 unfolding oldest
 unknown_first key [] p none = refl
 unknown_first key (w ∷ ws) p none =
-    known_first (nat_le (length (w ∷ ws)) p) key w ws p none (unknown_first key ws p (neither (key_eq w.key key) (is_known key ws) none).1)
+    known_first (nat_le (length (w ∷ ws)) p) key w ws p none (unknown_first key ws p (or_parts (key_eq w.key key) (is_known key ws) none).1)
 
 both_none : {A : Type 0} (b : Bool) (o : Option A) → o ≡ None → cond b o None ≡ None
 both_none true o none = none
@@ -81,7 +82,7 @@ sees_none s h role key none =
 -- ---- and remembers nothing
 
 known_before : (b : Bool) (key : Key) (w : Write) (ws : List Write) → is_known key (if b then w ∷ ws else ws) ≡ false → is_known key ws ≡ false
-known_before true key w ws none = (neither (key_eq w.key key) (is_known key ws) none).1
+known_before true key w ws none = (or_parts (key_eq w.key key) (is_known key ws) none).1
 known_before false key w ws none = none
 
 begun_none : (b : Bool) (seen : Views) (now : ℤ) (p : Past) → b ≡ false → p.last ≡ None → (if b then with_begin seen now p else p).last ≡ None

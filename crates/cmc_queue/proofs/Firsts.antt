@@ -13,7 +13,7 @@ use Rattle.cmc_meta.specs.Keys.{key_cmp}
 use Rattle.cmc_queue.specs.declared.row.Row.{Row}
 use Rattle.cmc_queue.specs.Rows.{has_row, is_free, row_in, row_or_new}
 use Rattle.cmc_queue.specs.Queues.{FindsFirst}
-use Rattle.cmc_queue.proofs.Keys.{key_cmp-total}
+use Rattle.cmc_meta.proofs.KeyOrder.{key_cmp-total}
 use Rattle.cmc_queue.proofs.OneRow.{same_key}
 use Rattle.cmc_queue.proofs.Found.{free_has_row}
 
@@ -95,7 +95,3 @@ none_found rows test l k = by_test (test k) (λ on. let some = l.left k on in ab
 
 pub first_row : (rows : List (Key × Row)) (test : Key → Bool) (key : Key) (row : Row) (rest : List (Key × Row)) → RowsLeft rows test ((key, row) ∷ rest) → row_in rows key ≡ row
 first_row rows test key row rest l = l.each.0
-
-pub second_true : (a b : Bool) → (a && b) ≡ true → b ≡ true
-second_true true b on = on
-second_true false b on = absurd (cc on)

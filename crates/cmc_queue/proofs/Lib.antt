@@ -1,4 +1,3 @@
-pub mod Keys
 pub mod OneRow
 pub mod Places
 pub mod Ticking

@@ -10,7 +10,7 @@ use Rattle.cmc_meta.specs.declared.key.Key.{Key}
 use Rattle.cmc_meta.specs.Keys.{key_cmp, key_eq}
 use Rattle.cmc_queue.specs.declared.row.Row.{Row}
 use Rattle.cmc_queue.specs.Rows.{no_row, row_in, row_or_new, has_row}
-use Rattle.cmc_queue.proofs.Keys.{key_cmp-IsAntisymmetric, key_cmp-total}
+use Rattle.cmc_meta.proofs.KeyOrder.{key_cmp-IsAntisymmetric, key_cmp-total}
 
 -- keys that tie in the order are those that the test finds equal
 pub key_tie : (a b : Key) → is_eq (key_cmp a b) ≡ key_eq a b

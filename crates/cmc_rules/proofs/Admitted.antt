@@ -2,6 +2,7 @@
 use Rattle.std.proofs.Common.{◌≡◌, ◌||◌, ℕ, ℤ, ◌+◌, List, [], ◌∷◌, Option, Some, None, Bool, true, false, not, refl, sym, ap, subst, ◌∙◌}
 use Rattle.std.specs.Str.{bytes_eq}
 use Rattle.std.proofs.lemmas.Slice.Eq.{bytes_eq-Decides}
+use Rattle.std.proofs.lemmas.Bool.{or_parts}
 use Rattle.cmc_meta.specs.declared.key.Key.{Key}
 use Rattle.cmc_objects.specs.declared.call.Call.{Call}
 use Rattle.cmc_objects.specs.declared.call.Call.TheVariants.{Create, Update, UpdateStatus, Delete, Get}
@@ -40,10 +41,6 @@ alone c taken p = (p.0, (p.1.0, (p.1.1.0, (p.1.1.1.0, (p.1.1.1.1.0, (p.1.1.1.1.1
 admitted : (c : Certificate) (taken : Bool) → least_failing (certificate_rules c taken) ≡ None → MeetsRules (Cert c)
 admitted c taken is = pass_all (certificate_rules c false) (alone c taken (all_pass (certificate_rules c taken) is))
 
-or_false : (a b : Bool) → (a || b) ≡ false → (a ≡ false) × (b ≡ false)
-or_false true b is = absurd (cc is)
-or_false false b is = (refl, is)
-
 not_false : (x : Bool) → not x ≡ false → x ≡ true
 not_false true is = refl
 not_false false is = absurd (cc is)
@@ -60,8 +57,8 @@ with_name : (a b : Certificate) → MeetsRules (Cert a) → (taken : Bool) → l
 with_name a b old taken is =
     let p = all_pass (certificate_rules a false) old in
     let q = alone b taken (all_pass (certificate_rules b taken) is) in
-    let name = or_false (is_name_long a) (has_many_names a.spec || are_usages_wrong a.spec) p.1.1.1.1.1.1.1.1.0 in
-    let rest = or_false (is_name_long b) (has_many_names b.spec || are_usages_wrong b.spec) q.1.1.1.1.1.1.1.1.0 in
+    let name = or_parts (is_name_long a) (has_many_names a.spec || are_usages_wrong a.spec) p.1.1.1.1.1.1.1.1.0 in
+    let rest = or_parts (is_name_long b) (has_many_names b.spec || are_usages_wrong b.spec) q.1.1.1.1.1.1.1.1.0 in
     let limits : is_outside_limits (record b { meta = a.meta }) ≡ false = rw name.0 rest.1 in
     pass_all (certificate_rules (record b { meta = a.meta }) false)
     (q.0, (q.1.0, (q.1.1.0, (q.1.1.1.0, (q.1.1.1.1.0, (q.1.1.1.1.1.0, (refl, (q.1.1.1.1.1.1.1.0, (limits, q.1.1.1.1.1.1.1.1.1)))))))))
@@ -77,7 +74,7 @@ meets_updated (Request a) (Secret b) taken old is = old
 meets_updated (Secret a) (Cert b) taken old is = old
 meets_updated (Secret a) (Request b) taken old is = old
 meets_updated (Secret a) (Secret b) taken old is =
-    let parts = or_false (changes_type (Some (Secret a)) b) (is_tls_incomplete b) (all_pass ((14, is_secret_refused (Some (Secret a)) b false) ∷ []) is).0 in
+    let parts = or_parts (changes_type (Some (Secret a)) b) (is_tls_incomplete b) (all_pass ((14, is_secret_refused (Some (Secret a)) b false) ∷ []) is).0 in
     let same : a.kind_text ≡ b.kind_text = (bytes_eq-Decides a.kind_text b.kind_text).0 (not_false (bytes_eq a.kind_text b.kind_text) parts.0) in
     subst (λ (kind : List ℕ). is_tls_incomplete (record b { kind_text = kind }) ≡ false) (sym same) parts.1
 

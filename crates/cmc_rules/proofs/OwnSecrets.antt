@@ -26,7 +26,7 @@ use Rattle.cmc_model.specs.Stored.{created, updated, with_status, numbered, revi
 use Rattle.cmc_model.specs.Writes.{writes, write_of, contents}
 use Rattle.cmc_model.proofs.Accepting.{accepted_found}
 use Rattle.cmc_model.proofs.Admission.{admitted_free, is_taken-revised}
-use Rattle.cmc_model.proofs.Keys.{key_cmp-IsAntisymmetric}
+use Rattle.cmc_meta.proofs.KeyOrder.{key_cmp-IsAntisymmetric}
 use Rattle.cmc_model.proofs.Maps.{one_passes}
 use Rattle.cmc_model.proofs.Versions.{keyed, standing, object_at-put}
 use Rattle.cmc_model.proofs.Writes.{writes_leave}

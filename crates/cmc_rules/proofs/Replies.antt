@@ -3,6 +3,7 @@ use Rattle.std.proofs.Common.{◌≡◌, ◌&&◌, ℕ, zero, suc, Bool, true, f
 use Rattle.std.specs.Prelude.{slice_get, unwrap_or}
 use Rattle.std.specs.BTreeMap.{is_at}
 use Rattle.std.specs.List.{list_all}
+use Rattle.std.proofs.lemmas.Bool.{and_parts}
 use Rattle.cmc_meta.specs.declared.key.Key.{Key}
 use Rattle.cmc_meta.specs.Keys.{key_cmp}
 use Rattle.cmc_objects.specs.declared.rows.Rows.{Rows}
@@ -11,18 +12,14 @@ use Rattle.cmc_objects.specs.Materials.{rows_at}
 use Rattle.cmc_objects.specs.Requests.{is_row_form}
 use Rattle.cmc_rules.specs.Orders.{default_row, last_or, reply_row_in, reply_row}
 
-both : (a b : Bool) → (a && b) ≡ true → (a ≡ true) × (b ≡ true)
-both true b h = (refl, h)
-both false b h = absurd (cc h)
-
 last_form : (rows : List SignRow) (row : SignRow) → is_row_form row ≡ true → list_all is_row_form rows ≡ true → is_row_form (last_or row rows) ≡ true
 last_form [] row fits all = fits
-last_form (x ∷ xs) row fits all = let parts = both (is_row_form x) (list_all is_row_form xs) all in last_form xs x parts.0 parts.1
+last_form (x ∷ xs) row fits all = let parts = and_parts (is_row_form x) (list_all is_row_form xs) all in last_form xs x parts.0 parts.1
 
 row_form : (rows : List SignRow) (place : ℕ) (other : SignRow) → is_row_form other ≡ true → list_all is_row_form rows ≡ true → is_row_form (unwrap_or (slice_get rows place) other) ≡ true
 row_form [] place other fits all = fits
-row_form (x ∷ xs) zero other fits all = (both (is_row_form x) (list_all is_row_form xs) all).0
-row_form (x ∷ xs) (suc place) other fits all = row_form xs place other fits (both (is_row_form x) (list_all is_row_form xs) all).1
+row_form (x ∷ xs) zero other fits all = (and_parts (is_row_form x) (list_all is_row_form xs) all).0
+row_form (x ∷ xs) (suc place) other fits all = row_form xs place other fits (and_parts (is_row_form x) (list_all is_row_form xs) all).1
 
 abbrev HasForms : Option Rows → Type 0
 HasForms None = Unit {0}
@@ -35,7 +32,7 @@ by_key false rows later here there = there
 found_form : (test : Key × Rows → Bool) (material : List (Key × Rows)) (sought : Key) → ((e : Key × Rows) → test e ≡ true → list_all is_row_form e.1.replies ≡ true) → list_all test material ≡ true → HasForms (rows_at material sought)
 found_form test [] sought gives all = tt
 found_form test (e ∷ es) sought gives all =
-    let parts = both (test e) (list_all test es) all in by_key (is_at (key_cmp sought) e.0) e.1 (rows_at es sought) (gives e parts.0) (found_form test es sought gives parts.1)
+    let parts = and_parts (test e) (list_all test es) all in by_key (is_at (key_cmp sought) e.0) e.1 (rows_at es sought) (gives e parts.0) (found_form test es sought gives parts.1)
 
 in_form : (rows : Option Rows) (asked : ℕ) → HasForms rows → is_row_form (reply_row_in rows asked) ≡ true
 in_form None asked all = refl

@@ -1,7 +1,7 @@
 -- What roles see are versions of accepted writes, and versions count up.
-use Rattle.std.proofs.Common.{◌≡◌, ◌==◌, ℕ, List, [], ◌∷◌, length, Some, Bool, true, false, cond, refl, ap, ◌∙◌, inl, inr, arith}
+use Rattle.std.proofs.Common.{◌≡◌, ◌==◌, ℕ, List, [], ◌∷◌, length, Some, Bool, true, false, refl, ap, ◌∙◌, arith}
 use Rattle.std.proofs.lemmas.Bool.Decides.{nat_tests}
-use Rattle.std.specs.Prelude.{if◌then◌else◌, nat_le}
+use Rattle.std.specs.Prelude.{if◌then◌else◌}
 use Rattle.cmc_meta.specs.declared.key.Key.{Key}
 use Rattle.cmc_meta.specs.declared.key.Kind.{Kind}
 use Rattle.cmc_objects.specs.declared.object.Object.{Object}
@@ -11,30 +11,12 @@ use Rattle.cmc_objects.specs.Objects.{version_of}
 use Rattle.cmc_model.specs.declared.write.Write.{Write}
 use Rattle.cmc_model.specs.Objects.{object_at}
 use Rattle.cmc_model.specs.Histories.{Setting}
-use Rattle.cmc_model.specs.Writes.{writes, oldest, of_kind, kind_eq, write_at}
+use Rattle.cmc_model.specs.Writes.{writes, oldest, of_kind, write_at}
 use Rattle.cmc_rules.specs.Positions.{position, cache}
-use Rattle.cmc_model.specs.Versions.{IsVersion, HasVersion}
-use Rattle.cmc_model.proofs.Versions.{IsLawful, lawful_object, standing}
+use Rattle.cmc_model.specs.Versions.{HasVersion}
+use Rattle.cmc_model.proofs.Versions.{IsLawful, lawful_object, standing, version_of_kind, version_of_oldest}
 
 -- ---- what is seen
-
-in_kind : (b : Bool) (key : Key) (o : Object) (w : Write) (some ws : List Write) → (IsVersion key o some → IsVersion key o ws) → IsVersion key o (cond b (w ∷ some) some) → IsVersion key o (w ∷ ws)
-in_kind true key o w some ws below (inl here) = inl here
-in_kind true key o w some ws below (inr there) = inr (below there)
-in_kind false key o w some ws below there = inr (below there)
-
-version_of_kind : (kind : Kind) (key : Key) (o : Object) (ws : List Write) → IsVersion key o (of_kind kind ws) → IsVersion key o ws
-version_of_kind kind key o [] has = has
-version_of_kind kind key o (w ∷ ws) has = in_kind (kind_eq w.key.kind kind) key o w (of_kind kind ws) ws (λ there. version_of_kind kind key o ws there) has
-
-in_oldest : (b : Bool) (key : Key) (o : Object) (w : Write) (some ws : List Write) → (IsVersion key o some → IsVersion key o ws) → IsVersion key o (if b then w ∷ ws else some) → IsVersion key o (w ∷ ws)
-in_oldest true key o w some ws below has = has
-in_oldest false key o w some ws below has = inr (below has)
-
-version_of_oldest : (p : ℕ) (key : Key) (o : Object) (ws : List Write) → IsVersion key o (oldest p ws) → IsVersion key o ws
-unfolding oldest
-version_of_oldest p key o [] has = has
-version_of_oldest p key o (w ∷ ws) has = in_oldest (nat_le (length (w ∷ ws)) p) key o w (oldest p ws) ws (λ there. version_of_oldest p key o ws there) has
 
 -- what a role sees is a version of an accepted write
 pub seen_is_version : (s : Setting) (h : List Entry) (r : Role) (k : Kind) (key : Key) (o : Object) → object_at (cache s h r k) key ≡ Some o → HasVersion s h key o

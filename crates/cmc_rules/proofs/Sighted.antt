@@ -41,7 +41,7 @@ use Rattle.cmc_rules.specs.Passes.{open_pass, called, new_pass, stage_after}
 use Rattle.cmc_rules.specs.Legality.{IsLegal}
 use Rattle.cmc_model.specs.Versions.{IsVersion, HasVersion}
 use Rattle.cmc_rules.specs.Sighting.{IsAmong, IsPart, IsPartOf, IsSeen, ForNone, OnSeen}
-use Rattle.cmc_model.proofs.Keys.{key_cmp-total}
+use Rattle.cmc_meta.proofs.KeyOrder.{key_cmp-total}
 use Rattle.cmc_model.proofs.Versions.{IsLawful, lawful_object, versions_low}
 use Rattle.cmc_rules.proofs.Versions.{lawful, stands_is_version}
 use Rattle.cmc_rules.proofs.Seen.{seen_is_version}

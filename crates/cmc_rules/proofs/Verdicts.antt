@@ -4,6 +4,7 @@ use Rattle.std.proofs.lemmas.Bool.Decides.{Decides-eqb}
 use Rattle.std.specs.Prelude.{find, if◌then◌else◌}
 use Rattle.std.specs.List.{list_any}
 use Rattle.std.specs.Ordering.{nat_cmp, match_ordering}
+use Rattle.std.proofs.lemmas.Bool.{or_parts}
 use Rattle.cmc_meta.specs.declared.conditions.Condition.{Condition}
 use Rattle.cmc_meta.specs.declared.conditions.ConditionKind.{ConditionKind}
 use Rattle.cmc_meta.specs.declared.conditions.ConditionKind.TheVariants.{Approved, Denied}
@@ -17,10 +18,6 @@ use Rattle.cmc_rules.specs.Rights.{other_conditions}
 use Rattle.cmc_rules.proofs.Conditions.{others-transitioned}
 
 -- ---- booleans
-
-pub or_false : (a b : Bool) → (a || b) ≡ false → (a ≡ false) × (b ≡ false)
-or_false true b is = absurd (cc is)
-or_false false b is = (refl, is)
 
 pub and_first : (a b : Bool) → a ≡ false → (a && b) ≡ false
 and_first true b is = absurd (cc is)
@@ -88,18 +85,18 @@ find_same p cs new off = sym (find_others new.kind p (transitioned cs new) off) 
 -- ---- a test of the own kind
 
 or_none : (a b : Bool) → (a || b) ≡ false → (a || false) ≡ false
-or_none a b is = ap (λ (x : Bool). x || false) (or_false a b is).0
+or_none a b is = ap (λ (x : Bool). x || false) (or_parts a b is).0
 
 any_put_by : (p : Condition → Bool) (c new : Condition) (cs later : List Condition) (o : Ordering) → p new ≡ false → (p c || list_any p cs) ≡ false → list_any p later ≡ false
     → list_any p (match_ordering o (new ∷ c ∷ cs) (new ∷ cs) (c ∷ later)) ≡ false
 any_put_by p c new cs later Less off none below = ap (λ (x : Bool). x || (p c || list_any p cs)) off ∙ none
-any_put_by p c new cs later Equal off none below = ap (λ (x : Bool). x || list_any p cs) off ∙ (or_false (p c) (list_any p cs) none).1
+any_put_by p c new cs later Equal off none below = ap (λ (x : Bool). x || list_any p cs) off ∙ (or_parts (p c) (list_any p cs) none).1
 any_put_by p c new cs later Greater off none below = ap (λ (x : Bool). p c || x) below ∙ or_none (p c) (list_any p cs) none
 
 any_put : (p : Condition → Bool) (cs : List Condition) (new : Condition) → p new ≡ false → list_any p cs ≡ false → list_any p (renewed cs new) ≡ false
 any_put p [] new off none = ap (λ (x : Bool). x || false) off
 any_put p (c ∷ cs) new off none =
-    any_put_by p c new cs (renewed cs new) (nat_cmp (condition_rank new.kind) (condition_rank c.kind)) off none (any_put p cs new off (or_false (p c) (list_any p cs) none).1)
+    any_put_by p c new cs (renewed cs new) (nat_cmp (condition_rank new.kind) (condition_rank c.kind)) off none (any_put p cs new off (or_parts (p c) (list_any p cs) none).1)
 
 kept_status : (old : Option Condition) (new : Condition) → (kept_since old new).status ≡ new.status
 kept_status None new = refl
@@ -157,7 +154,7 @@ pub record AreSettled (conditions : List Condition) : Type 0 where
   pub one : has_both_verdicts conditions ≡ false
 
 pub are_settled : (cs : List Condition) → is_verdict_unsettled cs ≡ false → has_both_verdicts cs ≡ false → AreSettled cs
-are_settled cs settled one = let parts = or_false (is_unsettled Approved cs) (is_unsettled Denied cs) settled in record { approved = parts.0; denied = parts.1; one = one }
+are_settled cs settled one = let parts = or_parts (is_unsettled Approved cs) (is_unsettled Denied cs) settled in record { approved = parts.0; denied = parts.1; one = one }
 
 pub approval_passes : (cs : List Condition) (new : Condition) → new.kind ≡ Approved → new.status ≡ True → AreSettled cs → is_stated Approved cs ≡ false → is_stated Denied cs ≡ false
     → least_failing (verdict_rules cs (transitioned cs new)) ≡ None

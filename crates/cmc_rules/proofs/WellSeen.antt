@@ -2,6 +2,7 @@
 use Rattle.std.proofs.Common.{◌≡◌, ◌==◌, ◌&&◌, ℕ, List, [], ◌∷◌, Option, Some, None, Bool, true, false, refl, ap, subst, ◌∙◌, option_and_then}
 use Rattle.std.specs.Prelude.{if◌then◌else◌, IfSome}
 use Rattle.std.specs.FinMap as map
+use Rattle.std.proofs.lemmas.Bool.{and_parts}
 use Rattle.cmc_meta.specs.declared.key.Key.{Key}
 use Rattle.cmc_meta.specs.declared.key.Kind.TheVariants as kinds
 use Rattle.cmc_objects.specs.declared.certificate.Certificate.{Certificate}
@@ -43,10 +44,6 @@ part_of f false x y among = absurd among
 part_of f true None y among = absurd among
 part_of f true (Some c) y among = record { certificate = c; there = refl; among = among }
 
-both_parts : (a b : Bool) → (a && b) ≡ true → (a ≡ true) × (b ≡ true)
-both_parts true b is = (refl, is)
-both_parts false b is = absurd (cc is)
-
 -- and so of this one
 has_of : {A : Type 0} (f : Certificate → List A) (looks : Bool) (x : Option Certificate) (c : Certificate) (y : A) → x ≡ Some c → IsAmong y (if looks then of_certificate f x else []) → IsAmong y (f c)
 has_of f false x c y is among = absurd among
@@ -58,7 +55,7 @@ next_fits c (Cert d) k is = absurd (cc is)
 next_fits c (Request r) k is = absurd (cc is)
 next_fits c (Secret j) k is = by (has_next_label j.meta && is_owned c j.meta) refl is where
   by : (b : Bool) → (has_next_label j.meta && is_owned c j.meta) ≡ b → (if b then Some j else None) ≡ Some k → (has_next_label k.meta ≡ true) × (is_owned c k.meta ≡ true)
-  by true e is = let one : j ≡ k = cc is in let parts = both_parts (has_next_label j.meta) (is_owned c j.meta) e in subst (λ (i : SecretObject). (has_next_label i.meta ≡ true) × (is_owned c i.meta ≡ true)) one (parts.0, parts.1)
+  by true e is = let one : j ≡ k = cc is in let parts = and_parts (has_next_label j.meta) (is_owned c j.meta) e in subst (λ (i : SecretObject). (has_next_label i.meta ≡ true) × (is_owned c i.meta ≡ true)) one (parts.0, parts.1)
   by false e is = absurd (cc is)
 
 owned_fits : (c : Certificate) (o : Object) (r : CertificateRequest) → owned_in c o ≡ Some r → is_owned c r.meta ≡ true

@@ -5,6 +5,7 @@ use Rattle.std.proofs.lemmas.Cmp.{eq_by_cmp_equiv}
 use Rattle.std.specs.Cmp.Rules.{comparing}
 use Rattle.std.specs.Ordering.{is_eq, eq_by_cmp}
 use Rattle.std.specs.Prelude.{if◌then◌else◌, option_map}
+use Rattle.std.proofs.lemmas.Bool.{and_from, and_parts}
 use Rattle.cmc_meta.specs.declared.key.Key.{Key}
 use Rattle.cmc_meta.specs.Keys.{key_cmp, key_eq}
 use Rattle.cmc_objects.specs.declared.role.Role.{Role}
@@ -16,7 +17,7 @@ use Rattle.cmc_objects.proofs.Ranks.{role_of_rank}
 use Rattle.cmc_pass.specs.declared.value.Value.{Value}
 use Rattle.cmc_pass.specs.declared.value.Value.TheVariants as values
 use Rattle.cmc_model.specs.Histories.{Setting, role_eq}
-use Rattle.cmc_model.proofs.Keys.{key_cmp-total, key_cmp-IsAntisymmetric}
+use Rattle.cmc_meta.proofs.KeyOrder.{key_cmp-total, key_cmp-IsAntisymmetric}
 use Rattle.cmc_rules.specs.declared.progress.OpenPass.{OpenPass}
 use Rattle.cmc_rules.specs.declared.progress.Stage.{Stage}
 use Rattle.cmc_rules.specs.declared.progress.Stage.TheVariants.{Asked}
@@ -45,14 +46,6 @@ key_is_one a b e = key_cmp-IsAntisymmetric a b (tie_of (key_cmp a b) (sym (key_e
 
 key_is_own : (a : Key) → key_eq a a ≡ true
 key_is_own a = key_eq-by_cmp a a ∙ (eq_by_cmp_equiv key_cmp-total).refl a
-
-both : (a b : Bool) → (a && b) ≡ true → (a ≡ true) × (b ≡ true)
-both true b is = (refl, is)
-both false b is = absurd (cc is)
-
-and_both : (a b : Bool) → a ≡ true → b ≡ true → (a && b) ≡ true
-and_both true b x y = y
-and_both false b x y = absurd (cc x)
 
 -- ---- a pass that is open was so before, but for the one that begins
 
@@ -87,7 +80,7 @@ HaveOnePass s h = (role : Role) (key : Key) (m n : ℕ) → WorksOn role key (op
 -- where none of the new pass's role and key is open, none of this role and key is
 works_elsewhere : (role : Role) (key : Key) (p : OpenPass) (x : Option OpenPass) → (WorksOn p.role p.key x → ⊥) → WorksOn role key (Some p) → WorksOn role key x → ⊥
 works_elsewhere role key p x free new old =
-    let parts = both (role_eq p.role role) (key_eq p.key key) new in
+    let parts = and_parts (role_eq p.role role) (key_eq p.key key) new in
     free (subst (λ (r : Role). WorksOn r p.key x) (sym (role_is_one p.role role parts.0)) (subst (λ (k : Key). WorksOn role k x) (sym (key_is_one p.key key parts.1)) old))
 
 begun_apart : (s : Setting) (h : List Entry) (role : Role) (key : Key) (pass m n : ℕ) (p : OpenPass) (b c : Bool) → (m == pass) ≡ b → (n == pass) ≡ c
@@ -124,7 +117,7 @@ apart s (Stop r ∷ h) legal role key m n x y = apart s h legal.1 role key m n (
 apart s (other ∷ h) legal role key m n x y = apart s h legal.1 role key m n x y
 
 works_itself : (s : Setting) (h : List Entry) (n : ℕ) (p : OpenPass) → open_pass s h n ≡ Some p → WorksOn p.role p.key (open_pass s h n)
-works_itself s h n p is = ap (is_pass_of p.role p.key) is ∙ and_both (role_eq p.role p.role) (key_eq p.key p.key) (role_is_own p.role) (key_is_own p.key)
+works_itself s h n p is = ap (is_pass_of p.role p.key) is ∙ and_from (role_eq p.role p.role) (key_eq p.key p.key) (role_is_own p.role) (key_is_own p.key)
 
 -- two open passes of one role on one key are one
 pub same_pass : (s : Setting) (h : List Entry) (m n : ℕ) (p q : OpenPass) → IsLegal s h → open_pass s h m ≡ Some p → open_pass s h n ≡ Some q → p.role ≡ q.role → p.key ≡ q.key → m ≡ n

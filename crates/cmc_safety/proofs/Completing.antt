@@ -38,7 +38,7 @@ use Rattle.cmc_model.specs.Admission.{is_taken, refusing_rule}
 use Rattle.cmc_model.specs.Replies.{State, IsReply, IsServed as IsServedBy, IsCreated, IsUpdated, IsRestated, IsGot, IsChange, IsAdmitted, is_accepted, key_of_call, settled, stored, put_at}
 use Rattle.cmc_model.specs.Histories.{Setting, moment, state, objects, accepted}
 use Rattle.cmc_model.specs.Writes.{writes}
-use Rattle.cmc_model.proofs.Keys.{key_cmp-IsAntisymmetric}
+use Rattle.cmc_meta.proofs.KeyOrder.{key_cmp-IsAntisymmetric}
 use Rattle.cmc_model.proofs.Versions.{object_at-put}
 use Rattle.cmc_rules.specs.declared.progress.OpenPass.{OpenPass}
 use Rattle.cmc_rules.specs.declared.progress.Stage.{Stage}

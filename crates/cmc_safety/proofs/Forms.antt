@@ -2,6 +2,7 @@
 use Rattle.std.proofs.Common.{◌≡◌, ◌&&◌, ℕ, ℤ, ◌-◌, zero, suc, List, [], ◌∷◌, Option, Some, None, Bool, true, false, refl, sym, subst, inl, inr}
 use Rattle.std.specs.Prelude.{IfSome, slice_get}
 use Rattle.std.specs.List.{list_all}
+use Rattle.std.proofs.lemmas.Bool.{and_from, and_parts}
 use Rattle.cmc_meta.specs.declared.key.Key.{Key}
 use Rattle.cmc_objects.specs.declared.issuer.IssuerRef.{IssuerRef}
 use Rattle.cmc_objects.specs.declared.certificate.Certificate.{Certificate}
@@ -40,7 +41,6 @@ use Rattle.cmc_setup.specs.ObjectForms.{are_certificate_terms, are_subject_names
 use Rattle.cmc_safety.specs.Formed.{IsFormed}
 use Rattle.cmc_safety.proofs.Course.{AreSound}
 use Rattle.cmc_safety.proofs.InProgress.{IsPlayed}
-use Rattle.cmc_safety.proofs.Moments.{both_hold}
 use Rattle.cmc_safety.proofs.PassWrites.{IsPassWrite}
 use Rattle.cmc_safety.proofs.Users.{IsOfSteps, of_steps}
 use Rattle.cmc_safety.proofs.Carried.{EachVersion, no_version, one_more, standing_has, seen_has, newest, carried}
@@ -48,10 +48,6 @@ use Rattle.cmc_safety.proofs.Kept.{IsKept, Any, Brings, kept_more}
 
 abbrev pub IsFormedObject : Object → Type 0
 IsFormedObject o = is_object_form o ≡ true
-
-all_true : (a b : Bool) → a ≡ true → b ≡ true → (a && b) ≡ true
-all_true true b first second = second
-all_true false b first second = first
 
 -- ---- what calls store
 
@@ -69,8 +65,8 @@ formed_kept now = record {
 -- the step in each place passes the test that all pass
 passes_at : (test : Step → Bool) (script : List Step) (place : ℕ) (step : Step) → slice_get script place ≡ Some step → list_all test script ≡ true → test step ≡ true
 passes_at test [] place step there all = absurd (cc there)
-passes_at test (x ∷ xs) zero step there all = subst (λ (y : Step). test y ≡ true) (let same : x ≡ step = cc there in same) (both_hold (test x) (list_all test xs) all).0
-passes_at test (x ∷ xs) (suc place) step there all = passes_at test xs place step there (both_hold (test x) (list_all test xs) all).1
+passes_at test (x ∷ xs) zero step there all = subst (λ (y : Step). test y ≡ true) (let same : x ≡ step = cc there in same) (and_parts (test x) (list_all test xs) all).0
+passes_at test (x ∷ xs) (suc place) step there all = passes_at test xs place step there (and_parts (test x) (list_all test xs) all).1
 
 formed_steps : (s : Setting) (h : List Entry) → IsFormed s → IsOfSteps s.script (moment s h) (objects s h) (Brings IsFormedObject Any)
 unfolding judge_call answer_call renew_call
@@ -144,8 +140,8 @@ SeesFormed seen = (c : Certificate) → seen.certificate ≡ Some c → IsFormed
 -- issuer and duration of a Certificate of the form are those of a request of the form
 terms_formed : (c : Certificate) → IsFormedObject (Cert c) → (is_issuer_form c.spec.issuer && is_duration_form c.spec.duration) ≡ true
 terms_formed c is =
-    let terms = both_hold (is_issuer_form c.spec.issuer) (is_duration_form c.spec.duration && is_duration_form c.spec.renew_before) (both_hold (are_certificate_terms c.spec) (are_subject_names c.spec) is).0 in
-    all_true (is_issuer_form c.spec.issuer) (is_duration_form c.spec.duration) terms.0 (both_hold (is_duration_form c.spec.duration) (is_duration_form c.spec.renew_before) terms.1).0
+    let terms = and_parts (is_issuer_form c.spec.issuer) (is_duration_form c.spec.duration && is_duration_form c.spec.renew_before) (and_parts (are_certificate_terms c.spec) (are_subject_names c.spec) is).0 in
+    and_from (is_issuer_form c.spec.issuer) (is_duration_form c.spec.duration) terms.0 (and_parts (is_duration_form c.spec.duration) (is_duration_form c.spec.renew_before) terms.1).0
 
 -- a request has issuer and duration of the Certificate that it was made for
 formed_made : (seen : Views) (made : CertificateRequest) → SeesFormed seen → IsOfCertificate seen made → IsFormedObject (Request made)
@@ -196,8 +192,8 @@ form_seen ws seen each known = form_part seen.request (λ r is. seen_has IsForme
 -- the rows of an entry that is said of keys and issuers have their form
 replies_formed : (entry : Key × Rows) → is_entry_form entry ≡ true → list_all is_row_form entry.1.replies ≡ true
 replies_formed entry is =
-    let rows = (both_hold (is_certificate entry.0) (is_rows_form entry.1) is).1 in
-    (both_hold (list_all is_key_row_form entry.1.keys) (list_all is_row_form entry.1.replies) rows).1
+    let rows = (and_parts (is_certificate entry.0) (is_rows_form entry.1) is).1 in
+    (and_parts (list_all is_key_row_form entry.1.keys) (list_all is_row_form entry.1.replies) rows).1
 
 reply_part : (s : Setting) (h : List Entry) (role : Role) (seen : Views) (x : Option CertificateRequest) → IsFormed s → HasReplyForm x (desk s h role seen)
 reply_part s h role seen None formed = tt

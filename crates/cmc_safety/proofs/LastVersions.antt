@@ -12,7 +12,7 @@ use Rattle.cmc_model.specs.declared.write.Write.{Write}
 use Rattle.cmc_model.specs.Objects.{no_objects, object_at}
 use Rattle.cmc_model.specs.Writes.{contents}
 use Rattle.cmc_model.specs.Versions.{uid_of, IsVersion}
-use Rattle.cmc_model.proofs.Keys.{key_cmp-total}
+use Rattle.cmc_meta.proofs.KeyOrder.{key_cmp-total}
 use Rattle.cmc_model.proofs.Versions.{IsNew, IsHeir, IsLawful, lawful_object, standing, object_at-put, one_key}
 use Rattle.cmc_rules.specs.Raising.{stated_revision, stated_in, newer_of, last_version, revision_of_uid, KeepsRevision}
 

@@ -1,8 +1,9 @@
 -- The moment lies between the first one and what the ticks of the script make of it, and so in the time of a run.
-use Rattle.std.proofs.Common.{◌≡◌, ◌==◌, ◌&&◌, ℕ, ℤ, pos, ◌+◌, ◌-◌, ◌≤◌, ◌+ℤ◌, Bool, true, false, List, [], ◌∷◌, length, take, zero, suc, Option, Some, None, refl, sym, ap, subst, ◌∙◌, arith, int_le}
+use Rattle.std.proofs.Common.{◌≡◌, ◌==◌, ◌&&◌, ℕ, ℤ, pos, ◌+◌, ◌-◌, ◌≤◌, ◌+ℤ◌, true, List, [], ◌∷◌, length, take, zero, suc, Option, Some, None, refl, sym, ap, subst, ◌∙◌, arith, int_le}
 use Rattle.std.specs.Prelude.{◌≤ℤ◌, neg_ℤ, option_and_then, slice_get, IfSome}
 use Rattle.std.proofs.lemmas.Int.{ints}
 use Rattle.std.proofs.lemmas.List.Sums.{sum_by-cons, sum_by-take-le}
+use Rattle.std.proofs.lemmas.Bool.{and_parts}
 use Rattle.cmc_objects.specs.declared.call.Call.{Call}
 use Rattle.cmc_objects.specs.declared.entry.Who.TheVariants.{User, Pass}
 use Rattle.cmc_objects.specs.declared.entry.Step.{Step}
@@ -135,14 +136,10 @@ scripted_low s (other ∷ h) follows = scripted_low s h follows.1
 pub moment_in_run : (s : Setting) (h : List Entry) → IsFormed s → Follows s h → is_run_time (moment s h) ≡ true
 moment_in_run s h formed follows = let within = moments_within s h follows in formed.times (moment s h) within.0 within.1
 
-pub both_hold : (a b : Bool) → (a && b) ≡ true → (a ≡ true) × (b ≡ true)
-both_hold true b is = (refl, is)
-both_hold false b is = absurd (cc is)
-
 -- it lies in the years 1950 to 9999
 pub in_years : (at : ℤ) → is_run_time at ≡ true → IsCertificateTime at
 in_years at is =
-    let holds = both_hold (int_le (neg_ℤ (pos 599616000)) at) (int_le at (pos 250246627200)) is in
+    let holds = and_parts (int_le (neg_ℤ (pos 599616000)) at) (int_le at (pos 250246627200)) is in
     let low = le-true (neg_ℤ (pos 599616000)) at holds.0 in
     let high = le-true at (pos 250246627200) holds.1 in
     (omega (arith, ints, low), omega (arith, ints, high))

@@ -1,11 +1,12 @@
 -- The names of generated Certificates are names, their hosts are printable, and their scenario is one.
-use Rattle.std.proofs.Common.{◌≡◌, ℕ, zero, suc, ◌+◌, ◌<◌, ◌≤◌, ◌==◌, ◌&&◌, Bool, true, false, List, [], ◌∷◌, ◌++◌, length, refl, sym, ap, ◌∙◌, subst, arith, append_assoc}
+use Rattle.std.proofs.Common.{◌≡◌, ℕ, zero, suc, ◌+◌, ◌<◌, ◌≤◌, ◌==◌, ◌&&◌, true, false, List, [], ◌∷◌, ◌++◌, length, refl, sym, ap, ◌∙◌, subst, arith, append_assoc}
 use Rattle.std.specs.Prelude.{nat_le, pos, ◌+ℤ◌, ◌≤ℤ◌, All, ◌/◌, ◌%◌}
 use Rattle.std.specs.List.{list_all}
 use Rattle.std.specs.Int.Signed.{le_z_yes}
 use Rattle.std.proofs.lemmas.Bool.Decides.{nat_tests}
 use Rattle.std.proofs.lemmas.List.{append-nil, length-append}
 use Rattle.std.proofs.lemmas.List.Sums.{sum_by-cons}
+use Rattle.std.proofs.lemmas.Bool.{and_from, and_parts}
 use Rattle.cmc_meta.specs.Names.{is_alphanumeric, is_label_byte, is_label, labels_from, has_labels, is_subdomain}
 use Rattle.cmc_meta.specs.Wordings.{is_printable, is_printable_name, is_clean}
 use Rattle.cmc_objects.specs.declared.entry.Step.{Step}
@@ -19,19 +20,6 @@ use Rattle.cmc_scenario.proofs.ReadForms.{empty_is_clean}
 
 -- ---- names
 
-both : (a b : Bool) → a ≡ true → b ≡ true → (a && b) ≡ true
-both true true first second = refl
-both true false first second = second
-both false b first second = first
-
-first_true : (a b : Bool) → (a && b) ≡ true → a ≡ true
-first_true true b is = refl
-first_true false b is = absurd (cc)
-
-second_true : (a b : Bool) → (a && b) ≡ true → b ≡ true
-second_true true b is = is
-second_true false b is = absurd (cc)
-
 no_dot : (c : ℕ) → is_label_byte c ≡ true → (c == 46) ≡ false
 no_dot c is = grind (arith, nat_tests)
 
@@ -39,11 +27,11 @@ no_dot c is = grind (arith, nat_tests)
 one_part : (begun t : List ℕ) → list_all is_label_byte t ≡ true → labels_from begun t ≡ (begun ++ t) ∷ []
 one_part begun [] all = ap (λ l. l ∷ []) (sym (append-nil begun))
 one_part begun (c ∷ cs) all =
-    let later = one_part (begun ++ c ∷ []) cs (second_true (is_label_byte c) (list_all is_label_byte cs) all) in
-    rw (no_dot c (first_true (is_label_byte c) (list_all is_label_byte cs) all)) (later ∙ ap (λ l. l ∷ []) (append_assoc begun (c ∷ []) cs))
+    let later = one_part (begun ++ c ∷ []) cs (and_parts (is_label_byte c) (list_all is_label_byte cs) all).1 in
+    rw (no_dot c (and_parts (is_label_byte c) (list_all is_label_byte cs) all).0) (later ∙ ap (λ l. l ∷ []) (append_assoc begun (c ∷ []) cs))
 
 is_name : (t : List ℕ) → nat_le (length t) 253 ≡ true → list_all is_label_byte t ≡ true → is_label t ≡ true → is_subdomain t ≡ true
-is_name t short bytes label = both (nat_le (length t) 253) (has_labels t) short (rw (one_part [] t bytes) (both (is_label t) true label refl))
+is_name t short bytes label = and_from (nat_le (length t) 253) (has_labels t) short (rw (one_part [] t bytes) (and_from (is_label t) true label refl))
 
 digit : (n : ℕ) → n < 10 → is_label_byte (48 + n) ≡ true
 digit n below = grind (arith, nat_tests)
@@ -56,7 +44,7 @@ label_of : (a b c d : ℕ) → a < 10 → b < 10 → c < 10 → d < 10 → is_su
 unfolding is_label
 label_of a b c d ha hb hc hd =
     let bytes : list_all is_label_byte (99 ∷ (48 + a) ∷ (48 + b) ∷ (48 + c) ∷ (48 + d) ∷ []) ≡ true = rw (digit a ha, digit b hb, digit c hc, digit d hd) refl in
-    is_name (99 ∷ (48 + a) ∷ (48 + b) ∷ (48 + c) ∷ (48 + d) ∷ []) refl bytes (both (is_alphanumeric (48 + d)) (list_all is_label_byte (99 ∷ (48 + a) ∷ (48 + b) ∷ (48 + c) ∷ (48 + d) ∷ [])) (ends_digit d hd) bytes)
+    is_name (99 ∷ (48 + a) ∷ (48 + b) ∷ (48 + c) ∷ (48 + d) ∷ []) refl bytes (and_from (is_alphanumeric (48 + d)) (list_all is_label_byte (99 ∷ (48 + a) ∷ (48 + b) ∷ (48 + c) ∷ (48 + d) ∷ [])) (ends_digit d hd) bytes)
 
 secret_label_of : (a b c d : ℕ) → a < 10 → b < 10 → c < 10 → d < 10 → is_subdomain (99 ∷ (48 + a) ∷ (48 + b) ∷ (48 + c) ∷ (48 + d) ∷ 45 ∷ 116 ∷ 108 ∷ 115 ∷ []) ≡ true
 unfolding is_label
@@ -84,7 +72,7 @@ host_is_printable n below = host_of (n / 100 / 10) (n / 100 % 10) (n % 100 / 10)
 
 -- but for its host, a generated Certificate has the form by computation
 load_form : (i : ℕ) → i < 10000 → is_step_form (load_step i) ≡ true
-load_form i below = both (is_clean []) _ empty_is_clean (both (list_all is_printable_name (load_host i ∷ [])) true (both (is_printable_name (load_host i)) true (host_is_printable i below) refl) refl)
+load_form i below = and_from (is_clean []) _ empty_is_clean (and_from (list_all is_printable_name (load_host i ∷ [])) true (and_from (is_printable_name (load_host i)) true (host_is_printable i below) refl) refl)
 
 -- ---- the script
 
@@ -138,5 +126,5 @@ is_setup count some few = record {
   held = for_loads (AreHeldInTurn none_held) count (λ i within rest is. (refl, is)) rests (refl, (refl, (refl, tt)));
   approver = refl;
   material = refl;
-  steps = for_loads (λ steps. list_all is_step_form steps ≡ true) count (λ i within rest is. both (is_step_form (load_step i)) (list_all is_step_form rest) (load_form i (omega (arith, within, few))) is) rests refl;
+  steps = for_loads (λ steps. list_all is_step_form steps ≡ true) count (λ i within rest is. and_from (is_step_form (load_step i)) (list_all is_step_form rest) (load_form i (omega (arith, within, few))) is) rests refl;
 }

@@ -6,6 +6,7 @@ use Rattle.std.specs.List.{list_all}
 use Rattle.std.specs.Str.{bytes_eq}
 use Rattle.std.proofs.lemmas.Bool.Decides.{nat_tests}
 use Rattle.std.proofs.lemmas.Str.{chars-nil}
+use Rattle.std.proofs.lemmas.Bool.{and_from}
 use Rattle.serde_json.specs.Data.{Data, null, boolean, number, string, array, object, Items, no_items, item}
 use Rattle.cmc_meta.specs.Wordings.{is_clean, is_printable_name}
 use Rattle.cmc_time.specs.Durations.{longest, IsDuration}
@@ -35,7 +36,6 @@ use Rattle.cmc_codec.specs.declared.certificate_in.Target.{Target}
 use Rattle.cmc_codec.specs.declared.object_in.Applied.{Applied}
 use Rattle.cmc_codec.proofs.ValuesAgain.{member_or_so, needed_so}
 use Rattle.cmc_cursor.proofs.Always.{Always, so, failed, next, after, below, either, where_true}
-use Rattle.cmc_material.proofs.ListForms.{both}
 
 -- ---- members
 
@@ -91,7 +91,7 @@ of_texts_from : (wording : Wording) (test : List ℕ → Bool) → ((d : Data) �
 of_texts_from wording test each n no_items = so refl
 of_texts_from wording test each n (item d ds) =
     after (λ t. test t ≡ true) (λ ts. list_all test ts ≡ true) (under (decimal n) (worded_at wording d)) (λ t. list_from wording (n + 1) ds >>= (λ ts. Ok (t ∷ ts))) (below (λ t. test t ≡ true) (decimal n) (worded_at wording d) (each d))
-    (λ t first. after (λ ts. list_all test ts ≡ true) (λ ts. list_all test ts ≡ true) (list_from wording (n + 1) ds) (λ ts. Ok (t ∷ ts)) (of_texts_from wording test each (n + 1) ds) (λ ts rest. so (both (test t) (list_all test ts) first rest)))
+    (λ t first. after (λ ts. list_all test ts ≡ true) (λ ts. list_all test ts ≡ true) (list_from wording (n + 1) ds) (λ ts. Ok (t ∷ ts)) (of_texts_from wording test each (n + 1) ds) (λ ts rest. so (and_from (test t) (list_all test ts) first rest)))
 
 of_texts : (wording : Wording) (test : List ℕ → Bool) → ((d : Data) → Always (λ t. test t ≡ true) (worded_at wording d)) → (d : Data) → Always (λ ts. list_all test ts ≡ true) (list_at wording d)
 of_texts wording test each (array ds) = of_texts_from wording test each 0 ds
@@ -135,7 +135,7 @@ IsIssuer issuer = is_issuer_form issuer ≡ true
 
 of_issuer : (d : Data) → Always IsIssuer (issuer_at d)
 unfolding issuer_at
-of_issuer d = next IsIssuer (fields_at d) _ (λ fs. after IsShortMember IsIssuer (member_at (short_text_at 253) (codes "group") fs) _ (of_short_member (codes "group") fs) (λ group is_group. after IsShortMember IsIssuer (member_at (short_text_at 253) (codes "kind") group.1) _ (of_short_member (codes "kind") group.1) (λ kind is_kind. after IsShortNeeded IsIssuer (needed_at (short_text_at 253) (codes "name") kind.1) _ (needed_so IsShort (short_text_at 253) (codes "name") kind.1 of_short_text) (λ name is_name. next IsIssuer (at_end name.1) _ (λ end. so (both (is_short_text name.0) (is_short_option kind.0 && is_short_option group.0) is_name (both (is_short_option kind.0) (is_short_option group.0) is_kind is_group)))))))
+of_issuer d = next IsIssuer (fields_at d) _ (λ fs. after IsShortMember IsIssuer (member_at (short_text_at 253) (codes "group") fs) _ (of_short_member (codes "group") fs) (λ group is_group. after IsShortMember IsIssuer (member_at (short_text_at 253) (codes "kind") group.1) _ (of_short_member (codes "kind") group.1) (λ kind is_kind. after IsShortNeeded IsIssuer (needed_at (short_text_at 253) (codes "name") kind.1) _ (needed_so IsShort (short_text_at 253) (codes "name") kind.1 of_short_text) (λ name is_name. next IsIssuer (at_end name.1) _ (λ end. so (and_from (is_short_text name.0) (is_short_option kind.0 && is_short_option group.0) is_name (and_from (is_short_option kind.0) (is_short_option group.0) is_kind is_group)))))))
 
 abbrev IsSigning : Signing × List Field → Type 0
 IsSigning p = is_issuer_form p.0.issuer ≡ true
@@ -203,17 +203,17 @@ IsSpec spec = (are_certificate_terms spec && are_subject_names spec) ≡ true
 
 names_formed : (subject : Subject) (signing : Signing) (terms : Terms) (target : Target) → IsSubjectForm subject → list_all is_printable_name target.uris ≡ true → are_subject_names (spec_of subject signing terms target) ≡ true
 names_formed subject signing terms target is uris =
-    both (is_clean subject.common_name) _ is.common
-    (both (list_all is_printable_name subject.dns_names) _ is.dns
-    (both (list_all is_address_text subject.ip_addresses) _ is.addresses
-    (both (list_all is_printable_name target.uris) (list_all is_printable_name subject.emails) uris is.emails)))
+    and_from (is_clean subject.common_name) _ is.common
+    (and_from (list_all is_printable_name subject.dns_names) _ is.dns
+    (and_from (list_all is_address_text subject.ip_addresses) _ is.addresses
+    (and_from (list_all is_printable_name target.uris) (list_all is_printable_name subject.emails) uris is.emails)))
 
 spec_formed : (subject : Subject) (signing : Signing) (terms : Terms) (target : Target)
     → IsSubjectForm subject → is_issuer_form signing.issuer ≡ true → is_duration_form terms.renew_before ≡ true → list_all is_printable_name target.uris ≡ true → IsSpec (spec_of subject signing terms target)
 spec_formed subject signing terms target is issuer before uris =
     let spec = spec_of subject signing terms target in
-    both (are_certificate_terms spec) (are_subject_names spec)
-    (both (is_issuer_form signing.issuer) (is_duration_form subject.duration && is_duration_form terms.renew_before) issuer (both (is_duration_form subject.duration) (is_duration_form terms.renew_before) is.duration before))
+    and_from (are_certificate_terms spec) (are_subject_names spec)
+    (and_from (is_issuer_form signing.issuer) (is_duration_form subject.duration && is_duration_form terms.renew_before) issuer (and_from (is_duration_form subject.duration) (is_duration_form terms.renew_before) is.duration before))
     (names_formed subject signing terms target is uris)
 
 of_spec : (api : Api) (d : Data) → Always IsSpec (spec_at api d)
@@ -233,11 +233,11 @@ IsRequestSpec spec = (is_issuer_form spec.issuer && is_duration_form spec.durati
 
 of_new_request : (d : Data) → Always IsRequestSpec (request_spec_at d)
 unfolding request_spec_at
-of_new_request d = next IsRequestSpec (fields_at d) _ (λ fs. after IsDurationMember IsRequestSpec (member_at duration_at (codes "duration") fs) _ (of_duration_member (codes "duration") fs) (λ duration is_duration. after IsSigning IsRequestSpec (signing_in duration.1) _ (of_signing duration.1) (λ signing is_signing. next IsRequestSpec (needed_at bytes_at (codes "request") signing.1) _ (λ request. next IsRequestSpec (member_or [] (list_at Any) (codes "usages") request.1) _ (λ usages. next IsRequestSpec (at_end usages.1) _ (λ end. so (both (is_issuer_form signing.0.issuer) (is_duration_form duration.0) is_signing is_duration)))))))
+of_new_request d = next IsRequestSpec (fields_at d) _ (λ fs. after IsDurationMember IsRequestSpec (member_at duration_at (codes "duration") fs) _ (of_duration_member (codes "duration") fs) (λ duration is_duration. after IsSigning IsRequestSpec (signing_in duration.1) _ (of_signing duration.1) (λ signing is_signing. next IsRequestSpec (needed_at bytes_at (codes "request") signing.1) _ (λ request. next IsRequestSpec (member_or [] (list_at Any) (codes "usages") request.1) _ (λ usages. next IsRequestSpec (at_end usages.1) _ (λ end. so (and_from (is_issuer_form signing.0.issuer) (is_duration_form duration.0) is_signing is_duration)))))))
 
 of_old_request : (d : Data) → Always IsRequestSpec (old_request_spec_at d)
 unfolding old_request_spec_at
-of_old_request d = next IsRequestSpec (fields_at d) _ (λ fs. next IsRequestSpec (needed_at bytes_at (codes "csr") fs) _ (λ request. after IsDurationMember IsRequestSpec (member_at duration_at (codes "duration") request.1) _ (of_duration_member (codes "duration") request.1) (λ duration is_duration. after IsSigning IsRequestSpec (signing_in duration.1) _ (of_signing duration.1) (λ signing is_signing. next IsRequestSpec (member_or [] (list_at Any) (codes "usages") signing.1) _ (λ usages. next IsRequestSpec (at_end usages.1) _ (λ end. so (both (is_issuer_form signing.0.issuer) (is_duration_form duration.0) is_signing is_duration)))))))
+of_old_request d = next IsRequestSpec (fields_at d) _ (λ fs. next IsRequestSpec (needed_at bytes_at (codes "csr") fs) _ (λ request. after IsDurationMember IsRequestSpec (member_at duration_at (codes "duration") request.1) _ (of_duration_member (codes "duration") request.1) (λ duration is_duration. after IsSigning IsRequestSpec (signing_in duration.1) _ (of_signing duration.1) (λ signing is_signing. next IsRequestSpec (member_or [] (list_at Any) (codes "usages") signing.1) _ (λ usages. next IsRequestSpec (at_end usages.1) _ (λ end. so (and_from (is_issuer_form signing.0.issuer) (is_duration_form duration.0) is_signing is_duration)))))))
 
 of_request_spec : (api : Api) (d : Data) → Always IsRequestSpec (api_request_spec_at api d)
 of_request_spec V1 d = of_new_request d

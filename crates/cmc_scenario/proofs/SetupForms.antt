@@ -4,6 +4,7 @@ use Rattle.std.specs.Prelude.{if◌then◌else◌, nat_le, nat_lt, int_le, ◌&&
 use Rattle.std.specs.List.{list_all, insert}
 use Rattle.std.proofs.lemmas.Int.{ints}
 use Rattle.std.proofs.lemmas.Bool.Decides.{nat_tests}
+use Rattle.std.proofs.lemmas.Bool.{and_from}
 use Rattle.cmc_time.specs.Reading.{rfc3339_seconds}
 use Rattle.serde_json.specs.Data.{Data, null, boolean, number, string, array, object, Items, no_items, item}
 use Rattle.cmc_objects.specs.declared.role.Role.{Role}
@@ -24,7 +25,7 @@ use Rattle.cmc_scenario.specs.Scenarios.{size_at, rising_at, rising_from, faults
 use Rattle.cmc_scenario.specs.declared.members.World.{World}
 use Rattle.cmc_scenario.specs.declared.members.Beginning.{Beginning}
 use Rattle.cmc_cursor.proofs.Always.{Always, so, failed, next, after, below, where_true}
-use Rattle.cmc_material.proofs.ListForms.{both, of_member_or, of_bounded}
+use Rattle.cmc_material.proofs.ListForms.{of_member_or, of_bounded}
 use Rattle.cmc_material.proofs.RowForms.{IsMaterial, of_material}
 use Rattle.cmc_material.proofs.PolicyForms.{IsApprover, of_approver}
 use Rattle.cmc_scenario.proofs.StepForms.{IsStep, of_value}
@@ -131,7 +132,7 @@ more_ticks step rest first all (suc k) d h = all k d (omega (arith, h))
 
 one_more : (n : ℕ) (stage : Stage) (step : Step) (rest : List Step) → IsTurn stage n step → IsScriptFrom (n + 1) (stage_after stage step) rest → IsScriptFrom n stage (step ∷ rest)
 one_more n stage step rest first all = record {
-  forms = both (is_step_form step) (list_all is_step_form rest) first.step_form.form all.forms;
+  forms = and_from (is_step_form step) (list_all is_step_form rest) first.step_form.form all.forms;
   ticks = more_ticks step rest first.step_form.ticks all.ticks;
   turns = (first.turn, all.turns);
   short = λ h. omega (arith, all.short (omega (arith, first.early)), first.early);

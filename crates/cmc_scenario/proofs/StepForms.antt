@@ -3,6 +3,7 @@ use Rattle.std.proofs.Common.{◌≡◌, ℕ, List, true, false, Option, Some, N
 use Rattle.std.specs.Prelude.{if◌then◌else◌, nat_le, ◌&&◌}
 use Rattle.std.specs.Str.{bytes_eq}
 use Rattle.std.proofs.lemmas.Bool.Decides.{nat_tests}
+use Rattle.std.proofs.lemmas.Bool.{and_from}
 use Rattle.serde_json.specs.Data.{Data}
 use Rattle.cmc_meta.specs.declared.key.Key.{Key}
 use Rattle.cmc_objects.specs.declared.entry.Step.{Step}
@@ -21,7 +22,7 @@ use Rattle.cmc_material.specs.MaterialRows.{certificate_at, reply_row_at}
 use Rattle.cmc_scenario.specs.Scripts.{apply_in, delete_in, certificate_in, revision_in, approve_in, deny_in, answer_in, renew_in, tick_in, stop_in, start_in, informer_in, hold_in, release_in, until_in, settle_in, stray_in, waiting_in, running_in, step_in, step_at}
 use Rattle.cmc_scenario.proofs.ReadForms.{IsApplied, of_applied as of_object}
 use Rattle.cmc_cursor.proofs.Always.{Always, so, failed, next, after, below, either}
-use Rattle.cmc_material.proofs.ListForms.{both, of_bounded}
+use Rattle.cmc_material.proofs.ListForms.{of_bounded}
 use Rattle.cmc_material.proofs.RowForms.{IsCertificate, IsSaid, of_certificate_text, of_reply_row}
 
 -- the step applies an object of the form, names a Certificate and an answer where it has to, and a tick has 1 to 1,000,000,000 seconds
@@ -82,7 +83,7 @@ of_deny fs = after (IsNamedCertificate) (IsStep) (revision_in fs) _ (of_revision
 
 of_answer : (fs : List Field) → Always IsStep (answer_in fs)
 unfolding answer_in
-of_answer fs = after (IsNamedCertificate) (IsStep) (revision_in fs) _ (of_revision fs) (λ named is. next (IsStep) (required_at (codes "row") named.1) _ (λ given. after (IsSaid) (IsStep) (under (codes "row") (reply_row_at given.0)) _ (below IsSaid (codes "row") (reply_row_at given.0) (of_reply_row given.0)) (λ row said. next (IsStep) (at_end given.1) _ (λ end. so (record { form = both (is_certificate named.0.0) (is_said row && is_row_form row) is (both (is_said row) (is_row_form row) said.0 said.1); ticks = still_form refl })))))
+of_answer fs = after (IsNamedCertificate) (IsStep) (revision_in fs) _ (of_revision fs) (λ named is. next (IsStep) (required_at (codes "row") named.1) _ (λ given. after (IsSaid) (IsStep) (under (codes "row") (reply_row_at given.0)) _ (below IsSaid (codes "row") (reply_row_at given.0) (of_reply_row given.0)) (λ row said. next (IsStep) (at_end given.1) _ (λ end. so (record { form = and_from (is_certificate named.0.0) (is_said row && is_row_form row) is (and_from (is_said row) (is_row_form row) said.0 said.1); ticks = still_form refl })))))
 
 of_renew : (fs : List Field) → Always IsStep (renew_in fs)
 unfolding renew_in

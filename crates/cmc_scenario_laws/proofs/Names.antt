@@ -4,10 +4,11 @@ use Rattle.std.specs.declared.cmp.Ordering.{Ordering}
 use Rattle.std.specs.declared.cmp.Ordering.TheVariants.{Less, Equal, Greater}
 use Rattle.std.specs.Ordering.{nat_cmp, match_ordering}
 use Rattle.std.specs.Cmp.Lexicographic.{slice_cmp}
+use Rattle.std.proofs.lemmas.Bool.{and_parts}
 use Rattle.serde_json.specs.Data.{Data, string, object}
 use Rattle.serde_json.specs.Find.{get_member}
 use Rattle.cmc_cursor.specs.Readers.{text_member}
-use Rattle.cmc_codec.proofs.Slots.{slot, slots, is_less, is_greater, is_before, both_true}
+use Rattle.cmc_codec.proofs.Slots.{slot, slots, is_less, is_greater, is_before}
 
 abbrev Places : Type 0
 Places = List (List ℕ × Option Data)
@@ -18,10 +19,10 @@ less Equal h = cc
 less Greater h = cc
 
 behind : (n m : List ℕ) (back : Places) → (is_less (slice_cmp nat_cmp n m) && (is_greater (slice_cmp nat_cmp m n) && is_before n back)) ≡ true → is_before n back ≡ true
-behind n m back h = (both_true (is_greater (slice_cmp nat_cmp m n)) (is_before n back) (both_true (is_less (slice_cmp nat_cmp n m)) (is_greater (slice_cmp nat_cmp m n) && is_before n back) h).1).1
+behind n m back h = (and_parts (is_greater (slice_cmp nat_cmp m n)) (is_before n back) (and_parts (is_less (slice_cmp nat_cmp n m)) (is_greater (slice_cmp nat_cmp m n) && is_before n back) h).1).1
 
 below_it : (n m : List ℕ) (back : Places) → (is_less (slice_cmp nat_cmp n m) && (is_greater (slice_cmp nat_cmp m n) && is_before n back)) ≡ true → is_less (slice_cmp nat_cmp n m) ≡ true
-below_it n m back h = (both_true (is_less (slice_cmp nat_cmp n m)) (is_greater (slice_cmp nat_cmp m n) && is_before n back) h).0
+below_it n m back h = (and_parts (is_less (slice_cmp nat_cmp n m)) (is_greater (slice_cmp nat_cmp m n) && is_before n back) h).0
 
 abbrev pub at_name : List ℕ → Places → Option Data
 at_name n [] = None

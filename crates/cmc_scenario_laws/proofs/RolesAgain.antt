@@ -2,7 +2,7 @@
 use Rattle.std.proofs.Common.{◌≡◌, ℕ, suc, ◌+◌, ◌<◌, ◌≤◌, List, [], ◌∷◌, ◌++◌, Bool, true, false, Ok, refl, ap, sym, subst, ◌∙◌, map, arith, append_assoc, append-nil}
 use Rattle.std.specs.Prelude.{◌==◌, ◌&&◌, nat_lt}
 use Rattle.std.specs.List.{insert, list_all}
-use Rattle.std.proofs.lemmas.Bool.{eqb-true}
+use Rattle.std.proofs.lemmas.Bool.{eqb-true, and_parts}
 use Rattle.std.proofs.lemmas.Bool.Decides.{nat_tests}
 use Rattle.serde_json.specs.View.{items_of}
 use Rattle.cmc_objects.specs.declared.role.Role.{Role}
@@ -123,10 +123,6 @@ behind first role roles rest is differs among =
     let there : is_among (first ∷ rest) role ≡ true = subst (λ (rs : List Role). is_among rs role ≡ true) is among in
     rw differs at there
 
-both : (a b : Bool) → (a && b) ≡ true → (a ≡ true) × (b ≡ true)
-both true b h = (refl, h)
-both false b h = cc
-
 -- all are among these roles
 abbrev HasEach : List Role → List Role → Type 0
 HasEach roles [] = Unit {0}
@@ -135,7 +131,7 @@ HasEach roles (wanted ∷ more) = (is_among roles wanted ≡ true) × HasEach ro
 each : (roles wanted : List Role) → list_all (λ (role : Role). is_among roles role) wanted ≡ true → HasEach roles wanted
 each roles [] h = tt
 each roles (role ∷ wanted) h =
-    let parts = both (is_among roles role) (list_all (λ (r : Role). is_among roles r) wanted) h in
+    let parts = and_parts (is_among roles role) (list_all (λ (r : Role). is_among roles r) wanted) h in
     (parts.0, each roles wanted parts.1)
 
 abbrev AreOther : Role → List Role → Type 0

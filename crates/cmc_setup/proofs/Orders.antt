@@ -4,6 +4,7 @@ use Rattle.std.specs.Prelude.{nat_lt, ◌==◌, ◌||◌}
 use Rattle.std.specs.List.{insert, position}
 use Rattle.std.proofs.lemmas.List.Sums.{prefix_len-le-length}
 use Rattle.std.proofs.lemmas.Bool.Decides.{nat_tests}
+use Rattle.std.proofs.lemmas.Bool.{or_parts}
 use Rattle.cmc_objects.specs.declared.role.Role.{Role}
 use Rattle.cmc_objects.specs.Roles.{role_rank}
 use Rattle.cmc_setup.specs.Setups.{AreInOrderFrom, AreInOrder, IsAfter, is_among, place_among}
@@ -19,10 +20,6 @@ in_order_with roles last after order = in_order_from 0 roles last (omega arith) 
 insert_later : (first : Role) (rest : List Role) (k : ℕ) (role : Role) → insert (first ∷ rest) (1 + k) role ≡ first ∷ insert rest k role
 insert_later first rest k role = let e : 1 + k ≡ suc k = omega arith in rw e refl
 
-neither : (a b : Bool) → (a || b) ≡ false → (a ≡ false) × (b ≡ false)
-neither true b is = absurd (cc)
-neither false b is = (refl, is)
-
 is_later : (a b : ℕ) → nat_lt a b ≡ false → (b == a) ≡ false → b + 1 ≤ a
 is_later a b above other = grind (arith, nat_tests)
 
@@ -32,7 +29,7 @@ is_before a b below = grind (arith, nat_tests)
 put_in_order : (n : ℕ) (roles : List Role) (role : Role) → n ≤ role_rank role → is_among roles role ≡ false → AreInOrderFrom n roles → AreInOrderFrom n (insert roles (place_among roles role) role)
 put_in_order n [] role low new order = (low, tt)
 put_in_order n (first ∷ rest) role low new order =
-    let fresh = neither (role_rank first == role_rank role) (is_among rest role) new in
+    let fresh = or_parts (role_rank first == role_rank role) (is_among rest role) new in
     put_next n first rest role (nat_lt (role_rank role) (role_rank first)) refl low fresh.0 order
     (λ later. put_in_order (role_rank first + 1) rest role later fresh.1 order.1)
   where

@@ -14,7 +14,7 @@ use Rattle.cmc_model.specs.Objects.{Objects, no_objects, object_at}
 use Rattle.cmc_model.specs.Replies.{State, IsReply, is_accepted, key_of_call, put_at, settled, state_after, stored}
 use Rattle.cmc_model.specs.Verdicts.{HasOneVerdict, KeepsVerdicts}
 use Rattle.cmc_model.proofs.Accepting.{accepted_found}
-use Rattle.cmc_model.proofs.Keys.{key_cmp-IsAntisymmetric}
+use Rattle.cmc_meta.proofs.KeyOrder.{key_cmp-IsAntisymmetric}
 use Rattle.cmc_model.proofs.Verdicts.{IsHeirOf, IsOne, IsSteady, keeps_self, steady_call}
 use Rattle.cmc_model.proofs.Versions.{object_at-put}
 use Rattle.cmc_store.specs.Permanence.{AreFinal, HaveOneVerdict, KeepVerdicts}

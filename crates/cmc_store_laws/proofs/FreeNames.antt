@@ -20,7 +20,7 @@ use Rattle.cmc_model.specs.Histories.{Setting, state, objects, accepted}
 use Rattle.cmc_model.specs.Objects.{Objects, object_at}
 use Rattle.cmc_model.specs.Replies.{IsCreated, IsCreatedIn, IsAdmitted}
 use Rattle.cmc_model.specs.Writes.{writes, contents}
-use Rattle.cmc_model.proofs.Keys.{key_cmp-IsAntisymmetric}
+use Rattle.cmc_meta.proofs.KeyOrder.{key_cmp-IsAntisymmetric}
 use Rattle.cmc_model.proofs.Writes.{writes_count, writes_leave}
 use Rattle.cmc_store_laws.specs.Names.{AreNamesFree, IsFresh}
 use Rattle.cmc_store_laws.proofs.Keys.{same, IsNone, AreDistinct, AllStand, few_stand}

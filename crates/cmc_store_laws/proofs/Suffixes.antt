@@ -2,7 +2,7 @@
 use Rattle.std.proofs.Common.{◌≡◌, ℕ, zero, suc, ◌-◌, ◌*◌, ◌/◌, ◌%◌, ◌<◌, ◌⊎◌, inl, inr, Bool, true, false, ◌&&◌, List, [], ◌∷◌, refl, sym, ap, subst, ◌∙◌, arith}
 use Rattle.std.specs.Prelude.{◌==◌, slice_index, reverse, if◌then◌else◌}
 use Rattle.std.specs.List.{position_or_len}
-use Rattle.std.proofs.lemmas.Bool.{eqb-true}
+use Rattle.std.proofs.lemmas.Bool.{eqb-true, and_parts}
 use Rattle.std.proofs.lemmas.List.{append_cancel_left, reverse-reverse}
 use Rattle.std.proofs.lemmas.Nat.{mod_below}
 use Rattle.cmc_model.specs.Generated.{digits, low_digits, suffix, prefix, generated_name}
@@ -13,10 +13,6 @@ abbrev all_below : ℕ → (ℕ → Bool) → Bool
 all_below zero passes = true
 all_below (suc n) passes = passes n && all_below n passes
 
-both : (a b : Bool) → (a && b) ≡ true → (a ≡ true) × (b ≡ true)
-both true b h = (refl, h)
-both false b h = cc
-
 last_or_below : (k n : ℕ) → k < suc n → (k ≡ n) ⊎ (k < n)
 last_or_below k n h = grind arith
 
@@ -24,8 +20,8 @@ below_all : (n : ℕ) (passes : ℕ → Bool) (k : ℕ) → all_below n passes �
 below_all zero passes k all here = absurd (omega arith)
 below_all (suc n) passes k all here =
     elim (last_or_below k n here) [
-      | inl last ↦ subst (λ (m : ℕ). passes m ≡ true) (sym last) (both (passes n) (all_below n passes) all).0
-      | inr below ↦ below_all n passes k (both (passes n) (all_below n passes) all).1 below
+      | inl last ↦ subst (λ (m : ℕ). passes m ≡ true) (sym last) (and_parts (passes n) (all_below n passes) all).0
+      | inr below ↦ below_all n passes k (and_parts (passes n) (all_below n passes) all).1 below
     ]
 
 -- which digit the byte is
@@ -52,7 +48,7 @@ room_for zero = 1
 room_for (suc n) = 27 * room_for n
 
 zero_is : (n least : ℕ) → ((n == 0) && (least == 0)) ≡ true → n ≡ 0
-zero_is n least h = eqb-true n 0 (both (n == 0) (least == 0) h).0
+zero_is n least h = eqb-true n 0 (and_parts (n == 0) (least == 0) h).0
 
 same_head : (x y : ℕ) (xs ys : List ℕ) → x ∷ xs ≡ y ∷ ys → x ≡ y
 same_head x y xs ys h = cc

@@ -4,6 +4,7 @@ use Rattle.std.proofs.Common.{◌≡◌, ℤ, Bool, true, false, List, Option, S
 use Rattle.std.proofs.lemmas.Int.{ints}
 use Rattle.std.proofs.lemmas.Option.{none-some}
 use Rattle.std.specs.Prelude.{not, ◌&&◌, if◌then◌else◌, int_lt}
+use Rattle.std.proofs.lemmas.Bool.{and_parts}
 use Rattle.cmc_der.specs.Keys.{CertificateFields}
 use Rattle.cmc_objects.specs.declared.certificate.Certificate.{Certificate}
 use Rattle.cmc_objects.specs.declared.certificate.CertStatus.{CertStatus}
@@ -86,10 +87,6 @@ within seen now desk = option_is seen now seen.certificate refl
 
 -- ---- nothing stays nothing up to the end of back-off and the renewal
 
-both : (a b : Bool) → (a && b) ≡ true → (a ≡ true) × (b ≡ true)
-both true b h = (refl, h)
-both false b h = absurd (cc h)
-
 abbrev Quiet : (ℤ → Type 0) → ℤ → ℤ → Type 0
 Quiet P t u = (at : ℤ) → P at → int_le at t ≡ false → int_le at u ≡ true → ⊥
 
@@ -107,7 +104,7 @@ waits (Some last) status t u quiet h = still (int_lt u (backoff last status.atte
 
 held_back : (t u : ℤ) (requests : List RequestObject) (c : Certificate) → Quiet (IsEndOfBackoff c.status.last_failure c.status) t u → is_held_back t requests c ≡ true → is_held_back u requests c ≡ true
 held_back t u requests c quiet h =
-    let parts = both (is_backing_off c.status t) _ h in
+    let parts = and_parts (is_backing_off c.status t) _ h in
     rw (waits c.status.last_failure c.status t u quiet parts.0) parts.1
 
 by_backoff : (b : Bool) (t u : ℤ) (requests : List RequestObject) (c : Certificate) (reason other : Reason) → is_held_back t requests c ≡ b → Quiet (IsEndOfBackoff c.status.last_failure c.status) t u

@@ -1,6 +1,7 @@
 -- On keys of another kind than its work a role has nothing to do, and so it rests there.
 use Rattle.std.proofs.Common.{◌≡◌, List, Option, None, Bool, true, false, cond, refl, ap, subst, ◌∙◌, inl, option_and_then}
 use Rattle.std.specs.Prelude.{◌↔◌, IsTrue, MatchBool, if◌then◌else◌, ◌||◌}
+use Rattle.std.proofs.lemmas.Bool.{or_parts}
 use Rattle.cmc_meta.specs.declared.key.Key.{Key}
 use Rattle.cmc_meta.specs.declared.key.Kind.{Kind}
 use Rattle.cmc_meta.specs.declared.key.Kind.TheVariants as kinds
@@ -22,7 +23,6 @@ use Rattle.cmc_rules.specs.Resting.{IsIdle, IsPaused, IsToldAll, RestsOn}
 use Rattle.cmc_rules.specs.Scripting.{held, has_held}
 use Rattle.cmc_moves.proofs.Sounds.{each_sound}
 use Rattle.cmc_world.specs.Rest.{EachKind}
-use Rattle.cmc_world.proofs.Known.{neither}
 use Rattle.cmc_world.proofs.Newest.{IsToldOfAll, views_newest}
 use Rattle.cmc_world.proofs.OneKind.{object_at-of_kind}
 use Rattle.cmc_world.proofs.AtRest.{each_kind, same_kind}
@@ -41,7 +41,7 @@ unseen_by : (requests : Bool) (key : Key) (c : Option Certificate) (r : Option C
 unseen_by true key c r other certificate request = (refl, request other)
 unseen_by false key c r other certificate request = (certificate other, refl)
 
--- of a key of another kind than its work a role sees neither
+-- of a key of another kind than its work a role sees or_parts
 unseen : (s : Setting) (h : List Entry) (role : Role) (key : Key) → kind_eq key.kind (kind_of_work role) ≡ false
     → ((views s h role key).certificate ≡ None) × ((views s h role key).request ≡ None)
 unfolding views_in views_of
@@ -58,11 +58,11 @@ idle_elsewhere s h role key is =
 -- ---- so the role rests there
 
 pub none_held : (s : Setting) (h : List Entry) (role : Role) → has_held s h role ≡ false → (kind : Kind) → held s h role kind ≡ false
-none_held s h role none kinds.Certificate = (neither (held s h role kinds.Certificate) (held s h role kinds.CertificateRequest || held s h role kinds.Secret) none).0
+none_held s h role none kinds.Certificate = (or_parts (held s h role kinds.Certificate) (held s h role kinds.CertificateRequest || held s h role kinds.Secret) none).0
 none_held s h role none kinds.CertificateRequest =
-    (neither (held s h role kinds.CertificateRequest) (held s h role kinds.Secret) (neither (held s h role kinds.Certificate) (held s h role kinds.CertificateRequest || held s h role kinds.Secret) none).1).0
+    (or_parts (held s h role kinds.CertificateRequest) (held s h role kinds.Secret) (or_parts (held s h role kinds.Certificate) (held s h role kinds.CertificateRequest || held s h role kinds.Secret) none).1).0
 none_held s h role none kinds.Secret =
-    (neither (held s h role kinds.CertificateRequest) (held s h role kinds.Secret) (neither (held s h role kinds.Certificate) (held s h role kinds.CertificateRequest || held s h role kinds.Secret) none).1).1
+    (or_parts (held s h role kinds.CertificateRequest) (held s h role kinds.Secret) (or_parts (held s h role kinds.Certificate) (held s h role kinds.CertificateRequest || held s h role kinds.Secret) none).1).1
 
 -- a role without a held informer was told of all
 pub told_free : (s : Setting) (h : List Entry) (role : Role) → EachKind (IsToldAll s h role) → has_held s h role ≡ false → IsToldOfAll s h role

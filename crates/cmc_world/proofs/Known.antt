@@ -3,6 +3,7 @@ use Rattle.std.proofs.Common.{◌≡◌, List, [], ◌∷◌, None, Bool, true, 
 use Rattle.std.specs.Prelude.{◌||◌, is_some}
 use Rattle.std.specs.FinMap.{get-empty}
 use Rattle.std.specs.Ordering.{eq_by_cmp}
+use Rattle.std.proofs.lemmas.Bool.{or_parts}
 use Rattle.cmc_meta.specs.declared.key.Key.{Key}
 use Rattle.cmc_meta.specs.Keys.{key_cmp, key_eq}
 use Rattle.cmc_objects.specs.declared.entry.Entry.{Entry}
@@ -17,10 +18,6 @@ use Rattle.cmc_world.specs.Kept.{Holdings, IsKept}
 use Rattle.cmc_world.proofs.OneKind.{same_at}
 use Rattle.cmc_world.proofs.AtRest.{key_eq-refl}
 
-pub neither : (a b : Bool) → (a || b) ≡ false → (a ≡ false) × (b ≡ false)
-neither true b off = absurd (cc)
-neither false b off = (refl, off)
-
 -- the two tests on keys
 unequal : (q k : Key) (b : Bool) → eq_by_cmp key_cmp q k ≡ b → key_eq k q ≡ false → b ≡ false
 unequal q k true is apart =
@@ -34,7 +31,7 @@ pub none_under : (key : Key) (ws : List Write) → is_known key ws ≡ false →
 unfolding contents
 none_under key [] none = get-empty key_cmp key
 none_under key (w ∷ ws) none =
-    let parts = neither (key_eq w.key key) (is_known key ws) none in
+    let parts = or_parts (key_eq w.key key) (is_known key ws) none in
     object_at-put (contents ws) w.key w.object key
     ∙ ap (λ (b : Bool). cond b w.object (object_at (contents ws) key)) (unequal key w.key (eq_by_cmp key_cmp key w.key) refl parts.0)
     ∙ none_under key ws parts.1

@@ -5,7 +5,7 @@ use Rattle.std.specs.BTreeSet.{BTreeSet, contains}
 use Rattle.std.specs.Cmp.{Equal-is}
 use Rattle.cmc_meta.specs.declared.key.Key.{Key}
 use Rattle.cmc_meta.specs.Keys.{key_cmp}
-use Rattle.cmc_model.proofs.Keys.{key_cmp-IsAntisymmetric}
+use Rattle.cmc_meta.proofs.KeyOrder.{key_cmp-IsAntisymmetric}
 
 same_key : (a b : Key) → is_at (key_cmp a) b ≡ true → a ≡ b
 same_key a b e = key_cmp-IsAntisymmetric a b ((Equal-is (key_cmp a b)).0 e)

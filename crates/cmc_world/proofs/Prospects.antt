@@ -1,5 +1,5 @@
 -- Passes that begin and go on by what was found before.
-use Rattle.std.proofs.Common.{◌≡◌, ℕ, ℤ, ◌+◌, ◌≤◌, List, length, Option, Some, None, Bool, true, false, refl, sym, ap, subst, ◌∙◌, inl, inr, arith}
+use Rattle.std.proofs.Common.{◌≡◌, ℕ, ℤ, ◌+◌, ◌≤◌, List, length, Option, None, Bool, true, false, refl, sym, ap, subst, ◌∙◌, inl, inr}
 use Rattle.std.specs.Prelude.{◌↔◌, IsTrue, IfOk, Result}
 use Rattle.std.specs.declared.alloc.AllocError.{AllocError}
 use Rattle.cmc_meta.specs.declared.key.Key.{Key}
@@ -19,7 +19,7 @@ use Rattle.cmc_rules.specs.Causes.{act_of}
 use Rattle.cmc_rules.specs.Desks.{desk}
 use Rattle.cmc_model.specs.Histories.{Setting, moment, runs}
 use Rattle.cmc_rules.specs.Memory.{past}
-use Rattle.cmc_rules.specs.Passes.{open_pass, IsWorking}
+use Rattle.cmc_rules.specs.Passes.{IsWorking}
 use Rattle.cmc_rules.specs.Positions.{positions}
 use Rattle.cmc_rules.specs.Sameness.{IsDue, IsSame}
 use Rattle.cmc_rules.specs.Viewing.{views}
@@ -30,7 +30,7 @@ use Rattle.cmc_moves.specs.Prospects.{IsFirstActOf, IsProspect}
 use Rattle.cmc_moves.specs.declared.acts.Prospect.{Prospect}
 use Rattle.cmc_moves.specs.declared.doing.Doing.{Doing}
 use Rattle.cmc_moves.specs.declared.doing.Judged.TheVariants.{Does}
-use Rattle.cmc_moves.specs.declared.moves.Lack.TheVariants.{InProcess, NotQueued, OwnWrite, SameViews, Stopped}
+use Rattle.cmc_moves.specs.declared.moves.Lack.TheVariants.{NotQueued, OwnWrite, SameViews}
 use Rattle.cmc_moves.specs.declared.moves.Stepped.{Stepped}
 use Rattle.cmc_moves.specs.declared.moves.Stepped.TheVariants.{Done, NotNow, Spent}
 use Rattle.cmc_world.proofs.NextSteps.{does_going}

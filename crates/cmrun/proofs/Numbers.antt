@@ -5,15 +5,8 @@ use Rattle.std.specs.List.{list_all}
 use Rattle.std.specs.Str.Parse.{AllDigits, IsNumeral, digits_value, without_leading_plus}
 use Rattle.std.specs.Prelude.{nat_lt, nat_le, if◌then◌else◌}
 use Rattle.std.proofs.lemmas.Bool.Decides.{nat_tests}
+use Rattle.std.proofs.lemmas.Bool.{and_from, and_parts}
 use Rattle.cmrun.specs.Words.{is_numeral, number_in}
-
-both_true : (a b : Bool) → (a && b) ≡ true → (a ≡ true) × (b ≡ true)
-both_true true b h = (refl, h)
-both_true false b h = cc
-
-joined_true : (a b : Bool) → a ≡ true → b ≡ true → (a && b) ≡ true
-joined_true true b h k = k
-joined_true false b h k = h
 
 digit : (c : ℕ) → digit_value c < 10 → is_digit c 10 ≡ true
 digit c h = grind (arith, nat_tests)
@@ -23,20 +16,20 @@ digit_of c h = grind (arith, nat_tests)
 
 digits_all : (ds : List ℕ) → AllDigits 10 ds → list_all (λ c. is_digit c 10) ds ≡ true
 digits_all [] h = refl
-digits_all (c ∷ cs) h = joined_true (is_digit c 10) _ (digit c h.0) (digits_all cs h.1)
+digits_all (c ∷ cs) h = and_from (is_digit c 10) _ (digit c h.0) (digits_all cs h.1)
 
 all_digits : (ds : List ℕ) → list_all (λ c. is_digit c 10) ds ≡ true → AllDigits 10 ds
 all_digits [] h = tt
 all_digits (c ∷ cs) h =
-    let parts : (is_digit c 10 ≡ true) × (list_all (λ c. is_digit c 10) cs ≡ true) = both_true (is_digit c 10) _ h in
+    let parts : (is_digit c 10 ≡ true) × (list_all (λ c. is_digit c 10) cs ≡ true) = and_parts (is_digit c 10) _ h in
     (digit_of c parts.0, all_digits cs parts.1)
 
 numeral : (ds : List ℕ) → IsNumeral 10 ds → is_numeral ds ≡ true
-numeral ds h = joined_true (nat_lt 0 (length ds)) _ (grind (arith, nat_tests, h.0)) (digits_all ds h.1)
+numeral ds h = and_from (nat_lt 0 (length ds)) _ (grind (arith, nat_tests, h.0)) (digits_all ds h.1)
 
 is_read : (ds : List ℕ) → is_numeral ds ≡ true → IsNumeral 10 ds
 is_read ds h =
-    let parts : (nat_lt 0 (length ds) ≡ true) × (list_all (λ c. is_digit c 10) ds ≡ true) = both_true (nat_lt 0 (length ds)) _ h in
+    let parts : (nat_lt 0 (length ds) ≡ true) × (list_all (λ c. is_digit c 10) ds ≡ true) = and_parts (nat_lt 0 (length ds)) _ h in
     (grind (arith, nat_tests, parts.0), all_digits ds parts.1)
 
 -- the test of a text, as one Bool
@@ -56,15 +49,15 @@ pub number_found : (least most n : ℕ) (text : List ℕ)
     → Some n ≡ number_in least most text
 number_found least most n text h e low high =
     answered _ n _
-    (joined_true (is_numeral (without_leading_plus text)) _ (numeral _ h)
-    (joined_true (nat_le least (digits_value 10 (without_leading_plus text))) _ (grind (arith, nat_tests, e, low)) (grind (arith, nat_tests, e, high))))
+    (and_from (is_numeral (without_leading_plus text)) _ (numeral _ h)
+    (and_from (nat_le least (digits_value 10 (without_leading_plus text))) _ (grind (arith, nat_tests, e, low)) (grind (arith, nat_tests, e, high))))
     e
 
 bounds : (least most : ℕ) (text : List ℕ) → (is_numeral (without_leading_plus text) && (nat_le least (digits_value 10 (without_leading_plus text)) && nat_le (digits_value 10 (without_leading_plus text)) most)) ≡ true
     → IsNumeral 10 (without_leading_plus text) × (least ≤ digits_value 10 (without_leading_plus text)) × (digits_value 10 (without_leading_plus text) ≤ most)
 bounds least most text h =
-    let parts : (is_numeral (without_leading_plus text) ≡ true) × ((nat_le least (digits_value 10 (without_leading_plus text)) && nat_le (digits_value 10 (without_leading_plus text)) most) ≡ true) = both_true (is_numeral (without_leading_plus text)) _ h in
-    let inner : (nat_le least (digits_value 10 (without_leading_plus text)) ≡ true) × (nat_le (digits_value 10 (without_leading_plus text)) most ≡ true) = both_true (nat_le least (digits_value 10 (without_leading_plus text))) _ parts.1 in
+    let parts : (is_numeral (without_leading_plus text) ≡ true) × ((nat_le least (digits_value 10 (without_leading_plus text)) && nat_le (digits_value 10 (without_leading_plus text)) most) ≡ true) = and_parts (is_numeral (without_leading_plus text)) _ h in
+    let inner : (nat_le least (digits_value 10 (without_leading_plus text)) ≡ true) × (nat_le (digits_value 10 (without_leading_plus text)) most ≡ true) = and_parts (nat_le least (digits_value 10 (without_leading_plus text))) _ parts.1 in
     (is_read _ parts.0, grind (arith, nat_tests, inner.0), grind (arith, nat_tests, inner.1))
 
 pub number_low : (least most n : ℕ) (text : List ℕ)

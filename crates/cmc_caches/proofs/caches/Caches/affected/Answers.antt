@@ -2,8 +2,8 @@ use Rattle.std.proofs.Common.{◌≡◌, ◌<◌, ◌∙◌, ℕ, List, length, 
 use Rattle.std.proofs.lemmas.List.{get_or_default}
 use Rattle.cmc_meta.specs.declared.key.Kind.TheVariants as kinds
 use Rattle.cmc_objects.specs.declared.role.Role.{Role}
-use Rattle.cmc_objects.specs.declared.role.Role.TheVariants.{Trigger}
 use Rattle.cmc_objects.specs.Roles.{role_rank}
+use Rattle.cmc_objects.proofs.Ranks.{rank_low}
 use Rattle.cmc_model.specs.declared.write.Write.{Write}
 use Rattle.cmc_rules.specs.Viewing.{Caches}
 use Rattle.cmc_caches.specs.Told.{caches_of, nothing_told}
@@ -11,10 +11,6 @@ use Rattle.cmc_caches.specs.Affected.{AreLeft}
 use Rattle.cmc_caches.proofs.Births.{each_of_one_key}
 use Rattle.cmc_caches.proofs.Naming.{stand_under_named}
 use Rattle.cmc_caches.proofs.caches.Caches.affected.Goals as goal
-
-rank_low : (role : Role) → role_rank role < 8
-rank_low Trigger = omega arith
-rank_low other = omega arith
 
 -- the row that is read is the role's
 row_is : (rows : List Caches) (role : Role) (i : ℕ) (row : Caches) → length rows ≡ 8 → i ≡ role_rank role → row ≡ get_or rows i row → caches_of rows role ≡ row

@@ -1,17 +1,11 @@
 use Rattle.std.proofs.Common.{◌<◌, ◌∙◌, List, length, subst, ap, arith}
-use Rattle.cmc_objects.specs.declared.role.Role.{Role}
-use Rattle.cmc_objects.specs.declared.role.Role.TheVariants.{Trigger}
-use Rattle.cmc_objects.specs.Roles.{role_rank}
+use Rattle.cmc_objects.proofs.Ranks.{rank_low}
 use Rattle.cmc_model.specs.Histories.{role_eq}
 use Rattle.cmc_rules.specs.Viewing.{Caches}
 use Rattle.cmc_caches.specs.Told.{caches_of}
 use Rattle.std.specs.Prelude.{◌≡◌, if◌then◌else◌, slice_set}
 use Rattle.cmc_caches.proofs.EachRole.{row_put}
 use Rattle.cmc_caches.proofs.caches.Caches.set.Goals as goal
-
-rank_low : (role : Role) → role_rank role < 8
-rank_low Trigger = omega arith
-rank_low other = omega arith
 
 pub returns : goal.returns
 returns c = λ r.
