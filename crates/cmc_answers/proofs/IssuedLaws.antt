@@ -1,5 +1,5 @@
 -- What is issued is read with the fields that it was made of.
-use Rattle.std.proofs.Common.{◌≡◌, ℕ, ℤ, pos, ◌+ℤ◌, List, ◌∷◌, ◌++◌, ◌&&◌, true, length, Option, Some, None, ◌≤ℤ◌, refl, arith, length-append, replicate, IsSome, int_le}
+use Rattle.std.proofs.Common.{◌≡◌, ℕ, ℤ, pos, ◌+ℤ◌, List, ◌∷◌, ◌++◌, true, length, Option, Some, None, ◌≤ℤ◌, refl, arith, length-append, replicate, IsSome, int_le}
 use Rattle.std.specs.Prelude.{neg_ℤ}
 use Rattle.std.proofs.lemmas.Int.{ints}
 use Rattle.std.proofs.lemmas.List.{length-replicate}
@@ -17,7 +17,7 @@ use Rattle.cmc_x509_build.specs.Octets.{signed_octets, signature_algorithm}
 use Rattle.cmc_x509_build.specs.declared.certificates.CertPlan.{CertPlan}
 use Rattle.cmc_x509_build.proofs.CertificateBuiltLaws.{planned_body_is, certificate_is}
 use Rattle.cmc_x509_build.proofs.ServeLaws.{request_serves, key_file_serves}
-use Rattle.cmc_x509_build.proofs.ValueLaws.{IsSmall, contents_small, front_small}
+use Rattle.cmc_der.proofs.SmallValues.{IsSmall, contents_small, front_small}
 use Rattle.cmc_answers.specs.StandIns.{coordinate, stand_in_point, stand_in_key}
 use Rattle.cmc_answers.specs.Signings.{certificate_of, certified_key}
 use Rattle.cmc_answers.specs.Temporary.{temporary_plan}

@@ -2,15 +2,15 @@
 use Rattle.std.specs.Prelude.{ℕ, pos, List, [], ◌∷◌, ◌+◌, codes, decimal, false, if◌then◌else◌, drop, nat_eq, Ok, Err, Some, None, option_and_then}
 use Rattle.std.specs.declared.option.Option.{Option}
 use Rattle.std.specs.List.{starts_with}
-use Rattle.std.specs.Result.{result_ok}
 use Rattle.std.specs.Str.{bytes_eq}
 use Rattle.serde_json.specs.Data.{Data, null, boolean, number, string, array, object, Items, no_items, item}
+use Rattle.cmc_meta.specs.Decimals.{number_in}
 use Rattle.cmc_meta.specs.declared.key.Kind.{Kind}
 use Rattle.cmc_meta.specs.declared.key.Kind.TheVariants.{Certificate, CertificateRequest, Secret}
 use Rattle.cmc_meta.specs.declared.owners.OwnerRef.{OwnerRef}
 use Rattle.cmc_meta.specs.declared.object_meta.ObjectMeta.{ObjectMeta}
 use Rattle.cmc_cursor.specs.Reading.{Read, ◌>>=◌, under, Field, fields_at, must_stand}
-use Rattle.cmc_cursor.specs.Readers.{name_at, decimal_in, decimal_at, flag_at, pairs_at, text_member, sought_at, dropped_at}
+use Rattle.cmc_cursor.specs.Readers.{name_at, decimal_at, flag_at, pairs_at, text_member, sought_at, dropped_at}
 use Rattle.cmc_codec.specs.Given.{given_at, given_or}
 use Rattle.cmc_codec.specs.declared.metadata_in.Labelled.{Labelled}
 use Rattle.cmc_codec.specs.declared.metadata_in.Placed.{Placed}
@@ -37,7 +37,7 @@ kind_named t = if bytes_eq t (codes "Certificate") then Some Certificate
 
 -- A uid is written `uid-` and its number in decimal.
 abbrev pub uid_in : List ℕ → Option ℕ
-uid_in t = if starts_with nat_eq t (codes "uid-") then result_ok (decimal_in (drop 4 t)) else None
+uid_in t = if starts_with nat_eq t (codes "uid-") then number_in (drop 4 t) else None
 
 abbrev pub owner_kind : Data → Option Kind
 owner_kind d = option_and_then kind_named (text_member (codes "kind") d)

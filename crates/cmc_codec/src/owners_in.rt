@@ -1,13 +1,13 @@
 // Owner references, read from JSON.
-ghost use Rattle.std.specs.Prelude.{◌≡◌, Ok, decimal, map};
+ghost use Rattle.std.specs.Prelude.{◌≡◌, decimal, map};
 ghost use Rattle.serde_json.specs.View.{view, items_view};
 ghost use Rattle.cmc_cursor.specs.Reading.{Gives, under};
 ghost use Rattle.cmc_cursor.specs.Seen.{shown};
 ghost use Rattle.cmc_codec.specs.MetadataForm as forms;
 
 use crate::metadata_in::{found_flag, found_name};
-use cmc_cursor::{BadField, Fields, at_place, decimal_of, drop_rest, fields, member};
-use cmc_meta::{Kind, OwnerRef, Owners, Text};
+use cmc_cursor::{BadField, Fields, at_place, drop_rest, fields, member};
+use cmc_meta::{Kind, OwnerRef, Owners, Text, number_in};
 use serde_json::Value;
 use std::alloc::Global;
 
@@ -31,25 +31,21 @@ fn owner_kind(value: &Value) -> Option<Kind>
     }
 }
 
-fn uid_of(alloc: Global, text: &str) -> Result<Option<u64>, BadField>
-    ensures { Gives (λ t. t) result (Ok (forms.uid_in text.now)) }
+fn uid_of(text: &str) -> Option<u64>
+    ensures { result ≡ forms.uid_in text.now }
 {
-    let Some(digits) = text.strip_prefix("uid-") else {
-        return Ok(None);
-    };
-    match decimal_of(alloc, digits) {
-        Ok(uid) => Ok(Some(uid)),
-        Err(BadField::Path(_)) => Ok(None),
-        Err(BadField::NoMemory) => Err(BadField::NoMemory),
+    match text.strip_prefix("uid-") {
+        Some(digits) => number_in(digits),
+        None => None,
     }
 }
 
-fn owner_uid(alloc: Global, value: &Value) -> Result<Option<u64>, BadField>
-    ensures { Gives (λ t. t) result (Ok (forms.owner_uid (view value.now))) }
+fn owner_uid(value: &Value) -> Option<u64>
+    ensures { result ≡ forms.owner_uid (view value.now) }
 {
     match member(value, "uid") {
-        None => Ok(None),
-        Some(text) => uid_of(alloc, text),
+        Some(text) => uid_of(text),
+        None => None,
     }
 }
 
@@ -95,8 +91,7 @@ fn owner(alloc: Global, value: &Value) -> Result<Option<OwnerRef>, BadField>
     ensures { Gives (λ t. t) result (forms.owner_at (view value.now)) }
 {
     let members = fields(alloc, value)?;
-    let uid = owner_uid(alloc, value)?;
-    owner_of(alloc, owner_kind(value), uid, &members)
+    owner_of(alloc, owner_kind(value), owner_uid(value), &members)
 }
 
 fn owner_item(alloc: Global, place: usize, value: &Value) -> Result<Option<OwnerRef>, BadField>

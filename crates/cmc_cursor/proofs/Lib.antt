@@ -1,3 +1,2 @@
 mod FloatFree
-mod Digits
 pub mod Always

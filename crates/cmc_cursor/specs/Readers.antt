@@ -1,18 +1,16 @@
 -- The readings of single values. A value of another type fails at the value itself.
-use Rattle.std.specs.Prelude.{ℕ, List, [], ◌∷◌, ◌++◌, ◌+◌, ◌^◌, decimal, Bool, not, ◌&&◌, ◌||◌, ◌==◌, if◌then◌else◌, nat_lt, nat_le, length, slice_index, Ok, Err, Some, None, option_and_then}
+use Rattle.std.specs.Prelude.{ℕ, List, [], ◌∷◌, ◌++◌, ◌+◌, ◌^◌, decimal, Bool, if◌then◌else◌, nat_lt, nat_le, length, Ok, Err, Some, None, option_and_then}
 use Rattle.std.specs.declared.option.Option.{Option}
-use Rattle.std.specs.Char.{is_ascii_digit}
-use Rattle.std.specs.List.{list_all}
 use Rattle.std.specs.Ordering.{nat_cmp, match_ordering}
 use Rattle.std.specs.Cmp.Lexicographic.{slice_cmp}
 use Rattle.std.specs.Str.{bytes_eq}
-use Rattle.std.specs.Str.Parse.{digits_value}
 use Rattle.std.specs.declared.result.Result.{Result}
 use Rattle.base64.specs.Engines.{standard}
 use Rattle.base64.specs.GeneralPurpose.{decode_of}
 use Rattle.base64.specs.declared.decode.DecodeError.{DecodeError}
 use Rattle.serde_json.specs.Data.{Data, null, boolean, number, string, array, object, Items, no_items, item, Members, no_members, member}
 use Rattle.serde_json.specs.Find.{get, as_bool, as_number, as_str, as_u64, is_float}
+use Rattle.cmc_meta.specs.Decimals.{number_in}
 use Rattle.cmc_meta.specs.Names.{is_subdomain}
 use Rattle.cmc_meta.specs.Wordings.{is_printable_name}
 use Rattle.cmc_meta.specs.PairLists.{with_text}
@@ -45,13 +43,9 @@ name_in t = if is_subdomain t then Ok t else Err []
 abbrev pub name_at : Data → Read (List ℕ)
 name_at d = text_at d >>= name_in
 
--- Decimal digits, with no zero before others.
-abbrev pub is_decimal : List ℕ → Bool
-is_decimal t = nat_lt 0 (length t) && (list_all is_ascii_digit t && ((length t == 1) || not (slice_index t 0 == 48)))
-
 -- The number of a decimal text, as resource versions are written: 0 to 2^64 - 1.
 abbrev pub decimal_in : List ℕ → Read ℕ
-decimal_in t = if is_decimal t && nat_lt (digits_value 10 t) (2 ^ 64) then Ok (digits_value 10 t) else Err []
+decimal_in t = found (number_in t)
 
 abbrev pub decimal_at : Data → Read ℕ
 decimal_at d = text_at d >>= decimal_in

@@ -19,4 +19,4 @@ pub use dropping::{drop_rest, member, pass, seek};
 pub use error::BadField;
 pub use floats::check_floats;
 pub use values::{count, flag, small_count, text, texts, word};
-pub use wording::{decimal, decimal_of, name, name_of, printable, short_text};
+pub use wording::{decimal, name, name_of, printable, short_text};

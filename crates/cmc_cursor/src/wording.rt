@@ -1,13 +1,11 @@
 // Texts of a certain form.
-ghost use Rattle.std.specs.Char.{is_ascii_digit};
-ghost use Rattle.std.specs.List.{list_all};
 ghost use Rattle.std.specs.Prelude.{◌≡◌};
 ghost use Rattle.serde_json.specs.View.{view};
 ghost use Rattle.cmc_cursor.specs.Reading.{Gives};
-ghost use Rattle.cmc_cursor.specs.Readers.{short_text_at, printable_at, name_in, name_at, is_decimal, decimal_in, decimal_at};
+ghost use Rattle.cmc_cursor.specs.Readers.{short_text_at, printable_at, name_in, name_at, decimal_in, decimal_at};
 
 use crate::error::BadField;
-use cmc_meta::{BadName, Name, Text, is_printable_name};
+use cmc_meta::{BadName, Name, Text, is_printable_name, number_in};
 use serde_json::Value;
 use std::alloc::Global;
 
@@ -52,29 +50,12 @@ pub fn name(alloc: Global, value: &Value) -> Result<Name, BadField>
     }
 }
 
-fn are_digits(bytes: &[u8]) -> bool
-    ensures { result ≡ list_all is_ascii_digit bytes.now }
-{
-    bytes.iter().all(|byte| byte.is_ascii_digit())
-}
-
-fn is_decimal_text(bytes: &[u8]) -> bool
-    ensures { result ≡ is_decimal bytes.now }
-{
-    !bytes.is_empty() && (are_digits(bytes) && (bytes.len() == 1 || bytes[0] != b'0'))
-}
-
-/// The number that a decimal text writes, without sign or leading zero: 0 to 2^64 - 1.
-#[tactic(auto, using(crate::proofs::Digits::numeral))]
-pub fn decimal_of(alloc: Global, text: &str) -> Result<u64, BadField>
+fn decimal_of(alloc: Global, text: &str) -> Result<u64, BadField>
     ensures { Gives (λ t. t) result (decimal_in text.now) }
 {
-    if !is_decimal_text(text.as_bytes()) {
-        return Err(BadField::Path(Text::new(alloc)));
-    }
-    match text.parse::<u64>() {
-        Ok(number) => Ok(number),
-        Err(_) => Err(BadField::Path(Text::new(alloc))),
+    match number_in(text) {
+        Some(number) => Ok(number),
+        None => Err(BadField::Path(Text::new(alloc))),
     }
 }
 

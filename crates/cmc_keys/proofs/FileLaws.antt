@@ -10,7 +10,7 @@ use Rattle.cmc_x509.specs.Taking.{BeginsOtherwise}
 use Rattle.cmc_x509.specs.PublicKeys.{AlgorithmIdentifier, BeginsWithAlgorithm, NamesCurve, IsPoint}
 use Rattle.cmc_x509.specs.KeyFiles.{IsIntegers, IsRsaPrivateKey, IsEcPrivateKey, IsHeldKey, IsPrivateKeyInfo}
 use Rattle.cmc_keys.specs.Files.{one, public_key, rsa_private_key, ec_private_key, bare_ec_private_key, private_key_info}
-use Rattle.cmc_keys.proofs.ValueLaws.{IsSmall, contents_small, front_small, back_small, value_is, value_first, value_last}
+use Rattle.cmc_der.proofs.SmallValues.{IsSmall, contents_small, front_small, back_small, value_is, value_first, value_last}
 
 -- ---- how long the files are
 

@@ -1,4 +1,3 @@
-pub mod ValueLaws
 pub mod FileLaws
 pub mod SyntheticLaws
 pub mod KindLaws

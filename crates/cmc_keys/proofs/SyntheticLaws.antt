@@ -16,7 +16,7 @@ use Rattle.cmc_keys.specs.Kinds.{allows_size, algorithm_of, size_of, IsKeyOf}
 use Rattle.cmc_keys.specs.declared.oids.TheConstants.{RSA_ENCRYPTION, EC_PUBLIC_KEY}
 use Rattle.cmc_keys.specs.Files.{rsa_private_key, ec_private_key, bare_ec_private_key, private_key_info}
 use Rattle.cmc_keys.specs.Synthetic.{number_octets, width_of, modulus_of, secret_of, point_of, curve_oid, synthetic_key}
-use Rattle.cmc_keys.proofs.ValueLaws.{IsSmall}
+use Rattle.cmc_der.proofs.SmallValues.{IsSmall}
 use Rattle.cmc_keys.proofs.FileLaws.{rsa_size, ec_size, bare_ec_size, info_size, rsa_file, ec_file, bare_ec_file, info_file}
 
 abbrev some : {A : Type 0} → A → Option A

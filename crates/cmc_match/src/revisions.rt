@@ -1,37 +1,10 @@
 //! The revision of a Certificate that a CertificateRequest is for.
-ghost use Rattle.std.specs.Char.{is_ascii_digit};
-ghost use Rattle.std.specs.List.{list_all};
 ghost use Rattle.std.specs.Option.{option_copied};
 ghost use Rattle.std.specs.Prelude.{◌≡◌, ◌<◌, ◌^◌, ℕ, IfSome, Some, decimal, length, filter, find};
 ghost use Rattle.cmc_match.specs.Revisions as words;
 
-use cmc_meta::Text;
+use cmc_meta::{Text, number_in};
 use cmc_objects::{CertificateRequest, Shared, text_under};
-
-fn are_digits(text: &[u8]) -> bool
-    ensures { result ≡ list_all is_ascii_digit text.now }
-{
-    text.iter().all(|byte| byte.is_ascii_digit())
-}
-
-fn is_decimal(text: &[u8]) -> bool
-    ensures { result ≡ words.is_decimal text.now }
-{
-    !text.is_empty() && (are_digits(text) && (text.len() == 1 || text[0] != b'0'))
-}
-
-#[tactic(auto, using(crate::proofs::NumberLaws::numeral))]
-fn number_in(text: &str) -> Option<u64>
-    ensures { result ≡ words.number_in text.now }
-{
-    if !is_decimal(text.as_bytes()) {
-        return None;
-    }
-    match text.parse::<u64>() {
-        Ok(number) => Some(number),
-        Err(_) => None,
-    }
-}
 
 fn number_of(text: Option<&Text>) -> Option<u64>
     ensures { result ≡ words.number_of (option_copied text.entry) }

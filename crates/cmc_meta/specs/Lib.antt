@@ -4,3 +4,4 @@ pub mod Names
 pub mod PairLists
 pub mod ConditionLists
 pub mod Wordings
+pub mod Decimals

@@ -3,6 +3,7 @@ ghost use Rattle.std.specs.Cmp.Lexicographic.{pointwise};
 ghost use Rattle.std.specs.Cmp.Rules.{comparing};
 ghost use Rattle.std.specs.Prelude.{◌≡◌, ◌↔◌, ◌++◌, ◌∷◌, [], IsTrue, IfOk, OnOk, OnErr, nat_eq};
 
+use crate::items::Item;
 use std::alloc::{AllocError, Global};
 use std::marker::Model;
 
@@ -82,4 +83,14 @@ impl PartialEq for Bytes {
 
 impl Eq for Bytes {
     ghost laws = { Prim.search (comparing, rules) };
+}
+
+impl Item for Bytes {
+    fn copy(&self) -> Result<Bytes, AllocError> {
+        Bytes::copy(self)
+    }
+
+    fn same(&self, other: &Bytes) -> bool {
+        Bytes::same(self, other)
+    }
 }

@@ -6,6 +6,7 @@
 
 mod bytes;
 mod conditions;
+mod decimals;
 mod items;
 mod key;
 mod name;
@@ -19,6 +20,7 @@ mod wording;
 
 pub use bytes::Bytes;
 pub use conditions::{Condition, ConditionKind, Conditions, Tri};
+pub use decimals::number_in;
 pub use items::{Item, Items, copy_items, copy_optional, same_items, same_optional};
 pub use key::{Key, Kind};
 pub use name::{BadName, Name};

@@ -1,23 +1,25 @@
 -- An object that a step applies, at the resource version that it names, is printed as one that is read again.
-use Rattle.std.proofs.Common.{◌≡◌, ℕ, List, [], ◌∷◌, ◌++◌, true, Option, Some, None, Ok, Err, refl, ap, drop}
+use Rattle.std.proofs.Common.{◌≡◌, ℕ, List, [], ◌∷◌, true, Option, Some, None, Ok, refl, ap, drop}
 use Rattle.std.specs.Prelude.{codes, decimal, IfSome, if◌then◌else◌}
 use Rattle.std.specs.Result.{result_ok}
 use Rattle.std.specs.Str.{bytes_eq}
-use Rattle.std.proofs.lemmas.Option.{none-some, same_Some}
+use Rattle.std.proofs.lemmas.Option.{none-some}
 use Rattle.serde_json.specs.Data.{Data, string, object}
+use Rattle.cmc_meta.specs.Decimals.{number_in}
 use Rattle.cmc_meta.specs.declared.object_meta.ObjectMeta.{ObjectMeta}
+use Rattle.cmc_meta.proofs.DecimalLaws.{number_again, number_low}
 use Rattle.cmc_objects.specs.Objects.{no_cert_status, no_request_status}
 use Rattle.cmc_objects.specs.declared.certificate.CertSpec.{CertSpec}
 use Rattle.cmc_objects.specs.declared.request.RequestSpec.{RequestSpec}
 use Rattle.cmc_objects.specs.declared.object.Object.{Object}
 use Rattle.cmc_objects.specs.declared.object.Object.TheVariants.{Cert, Request, Secret}
 use Rattle.cmc_cursor.specs.Reading.{Read, under, Field, fields_at, fields_of, optional_at, required_at, at_end}
-use Rattle.cmc_cursor.specs.Readers.{text_at, word_at, name_at, decimal_in, decimal_at, pairs_at, parts_at, passes, text_member, sought_at}
+use Rattle.cmc_cursor.specs.Readers.{found, text_at, word_at, name_at, decimal_in, decimal_at, pairs_at, parts_at, passes, text_member, sought_at}
 use Rattle.cmc_cursor.proofs.Always.{Always, so, failed, next, after, below, either, with_both}
 use Rattle.cmc_print.specs.Puts.{base64_text, map_tree}
 use Rattle.cmc_print.specs.Printed.{owners_tree, meta_members, version_tree, named_meta_tree, spec_tree, request_tree, status_members, put_moments, request_status_members, applied_head, applied_tree}
 use Rattle.cmc_codec.specs.Given.{given_at, given_or, member_or, needed_at}
-use Rattle.cmc_codec.specs.MetadataForm.{sought_member, sought_or, sought_needed, owners_at, labelled_in, placed_in, head_at, uid_in}
+use Rattle.cmc_codec.specs.MetadataForm.{sought_member, sought_or, sought_needed, owners_at, labelled_in, placed_in, head_at}
 use Rattle.cmc_codec.specs.CertificateForm.{api_at, spec_at, api_request_spec_at}
 use Rattle.cmc_codec.specs.ObjectForm.{status_last, certificate_in, request_in, secret_in, any_version_at, stranger_in, object_in, applied_at}
 use Rattle.cmc_codec.specs.Laws.{HasBytes, IsOrdered}
@@ -26,7 +28,6 @@ use Rattle.cmc_codec.specs.declared.object_in.Applied.{Applied}
 use Rattle.cmc_codec.specs.declared.metadata_in.Head.{Head}
 use Rattle.cmc_codec.specs.declared.metadata_in.Placed.{Placed}
 use Rattle.cmc_codec.proofs.Slots.{slots, start, bind, is_next, required_is, needed_is, member_or_is, put_is, some_option, put_option_is, some_list, put_list_is, list_given, option_given, sought_is}
-use Rattle.cmc_codec.proofs.DecimalsAgain.{uid_again}
 use Rattle.cmc_codec.proofs.MetadataAgain.{IsMeta, pairs_again, parts_again, parts_in_order, head_so}
 use Rattle.cmc_codec.proofs.PrintedSpecs.{IsSpec, IsRequestSpec, spec_again, request_again}
 use Rattle.cmc_codec.proofs.SpecsAgain.{IsRequest, spec_so, api_request_so}
@@ -41,18 +42,12 @@ Places = List (List ℕ × Option Data)
 abbrev IsVersion : ℕ → Type 0
 IsVersion n = decimal_at (version_tree n) ≡ Ok n
 
-ok_of : (r : Read ℕ) (n : ℕ) → result_ok r ≡ Some n → r ≡ Ok n
-ok_of (Ok x) n h = ap (λ (m : ℕ). as_ok m) (same_Some x n h)
-  where
-    as_ok : ℕ → Read ℕ
-    as_ok m = Ok m
-ok_of (Err path) n h = absurd (none-some n h)
+number_found : (o : Option ℕ) (n : ℕ) → found o ≡ Ok n → o ≡ Some n
+number_found (Some m) n h = ap (λ (r : Read ℕ). result_ok r) h
+number_found None n h = absurd (none-some n (ap (λ (r : Read ℕ). result_ok r) h))
 
--- a uid is the same decimal behind its mark
 decimal_again : (t : List ℕ) (n : ℕ) → decimal_in t ≡ Ok n → decimal_in (decimal n) ≡ Ok n
-decimal_again t n e =
-    let as_uid : uid_in (codes "uid-" ++ t) ≡ Some n = ap result_ok e in
-    ok_of (decimal_in (decimal n)) n (uid_again (codes "uid-" ++ t) n as_uid)
+decimal_again t n e = ap (λ (o : Option ℕ). found o) (number_again n (number_low t n (number_found (number_in t) n e)))
 
 decimal_so : (d : Data) → Always IsVersion (decimal_at d)
 decimal_so d = next IsVersion (text_at d) decimal_in (λ t. record { each = λ n e. decimal_again t n e })

@@ -1,8 +1,8 @@
-//! What no clause says: that a set or renewed condition stands, with ample memory.
+//! What no clause says: that a set or renewed condition stands, with ample memory, and what texts write numbers.
 use crate::checks::passes;
 use crate::values::text;
 use crate::whole::conditions;
-use cmc_meta::{Condition, ConditionKind, Conditions, Text, Tri};
+use cmc_meta::{Condition, ConditionKind, Conditions, Text, Tri, number_in};
 use std::alloc::Global;
 use std::test::Fail;
 
@@ -37,4 +37,28 @@ fn keeps_the_moment_of_a_transition(rt: HostRuntime) -> Result<(), Fail> {
         conditions.get(ConditionKind::Denied).is_none(),
     );
     Ok(())
+}
+
+/// Texts, and the numbers that they write.
+static NUMBERS: [(&str, Option<u64>); 13] = [
+    ("0", Some(0)),
+    ("7", Some(7)),
+    ("10", Some(10)),
+    ("18446744073709551615", Some(18_446_744_073_709_551_615)),
+    ("18446744073709551616", None),
+    ("99999999999999999999999", None),
+    ("", None),
+    ("00", None),
+    ("07", None),
+    ("+7", None),
+    ("-7", None),
+    ("7 ", None),
+    ("0x7", None),
+];
+
+#[test]
+fn reads_numbers(rt: HostRuntime) {
+    for (word, number) in NUMBERS {
+        passes(&rt, word, number_in(word) == number);
+    }
 }

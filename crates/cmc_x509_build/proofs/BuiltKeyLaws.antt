@@ -10,7 +10,7 @@ use Rattle.cmc_x509.specs.PublicKeys.{BeginsWithAlgorithm, IsMagnitude, IsRsaPub
 use Rattle.cmc_x509_build.specs.declared.oids.TheConstants.{RSA_ENCRYPTION, EC_PUBLIC_KEY}
 use Rattle.cmc_x509_build.specs.Octets.{key_info, rsa_octets, curve_oid, spki_octets}
 use Rattle.cmc_x509_build.specs.Keys.{IsNamedCurve, IsWritable}
-use Rattle.cmc_x509_build.proofs.ValueLaws.{IsSmall, contents_small, front_small, back_small, value_is, value_first, value_last}
+use Rattle.cmc_der.proofs.SmallValues.{IsSmall, contents_small, front_small, back_small, value_is, value_first, value_last}
 
 -- octets with no zero in front are not trimmed
 trimmed-magnitude : (m : List ℕ) → IsMagnitude m → trimmed m ≡ m

@@ -8,7 +8,8 @@ use Rattle.cmc_x509_build.specs.declared.requests.NameSet.{NameSet}
 use Rattle.cmc_x509_build.specs.Octets.{name_octets, address_value, address_octets, alternative_extension}
 use Rattle.cmc_x509_build.specs.Requests.{alternative_of, attributes_of}
 use Rattle.cmc_x509_build.specs.Addresses.{address_at}
-use Rattle.cmc_x509_build.proofs.ValueLaws.{IsSmall, contents_small, front_small, back_small, value_is, value_first, is_otherwise, list_of_one, lists_joined, no_values, one_value, flat_values}
+use Rattle.cmc_der.proofs.SmallValues.{IsSmall, contents_small, front_small, back_small, value_is, value_first}
+use Rattle.cmc_x509_build.proofs.ValueLaws.{is_otherwise, list_of_one, lists_joined, no_values, one_value, flat_values}
 
 abbrev attribute_parts : List ℕ → List ℕ
 attribute_parts text = value 6 COMMON_NAME ++ value 12 text

@@ -17,7 +17,8 @@ use Rattle.cmc_x509_build.specs.declared.certificates.CertPlan.{CertPlan}
 use Rattle.cmc_x509_build.specs.Keys.{IsWritable}
 use Rattle.cmc_x509_build.specs.Octets.{signature_algorithm, signed_octets, name_octets, spki_octets, alternative_extension}
 use Rattle.cmc_x509_build.specs.Certificates.{time_octets, validity_octets, serial_octets, fields_of, head_octets, subject_octets, extensions_of, certificate_body, IsCertificateBody}
-use Rattle.cmc_x509_build.proofs.ValueLaws.{IsSmall, contents_small, front_small, back_small, value_is, value_first, value_last, is_otherwise}
+use Rattle.cmc_der.proofs.SmallValues.{IsSmall, contents_small, front_small, back_small, value_is, value_first, value_last}
+use Rattle.cmc_x509_build.proofs.ValueLaws.{is_otherwise}
 use Rattle.cmc_x509_build.proofs.BuiltKeyLaws.{spki_first}
 use Rattle.cmc_x509_build.proofs.BuiltNameLaws.{name_first, extension_list}
 use Rattle.cmc_x509_build.proofs.RequestLaws.{signature_algorithm_is, signed_is}

@@ -11,7 +11,7 @@ use Rattle.cmc_x509_build.specs.declared.requests.NameSet.{NameSet}
 use Rattle.cmc_x509_build.specs.Keys.{IsWritable}
 use Rattle.cmc_x509_build.specs.Octets.{signature_algorithm, signed_octets, name_octets, spki_octets}
 use Rattle.cmc_x509_build.specs.Requests.{attributes_of, request_body, IsRequestBody, names_of}
-use Rattle.cmc_x509_build.proofs.ValueLaws.{IsSmall, contents_small, front_small, back_small, value_is, value_first, value_last}
+use Rattle.cmc_der.proofs.SmallValues.{IsSmall, contents_small, front_small, back_small, value_is, value_first, value_last}
 use Rattle.cmc_x509_build.proofs.BuiltKeyLaws.{spki_first}
 use Rattle.cmc_x509_build.proofs.BuiltNameLaws.{name_first, alternative_values, names_found, attributes_list, names_small}
 

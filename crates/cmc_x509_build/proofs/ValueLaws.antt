@@ -1,38 +1,9 @@
--- Values that are written, within the size that is read, are values of the grammar.
-use Rattle.std.proofs.Common.{◌≡◌, ◌≢◌, ℕ, ◌%◌, ◌≤◌, List, [], ◌∷◌, ◌++◌, length, Option, Some, None, refl, sym, arith, append_assoc, append-nil, length-append, flat_map}
-use Rattle.cmc_der.specs.Values.{IsValue, BeginsWith}
-use Rattle.cmc_der.specs.Building.{value, length_octets}
-use Rattle.cmc_der.proofs.Spelled.{value_spelled, value_begins}
+-- Lists of values that are written are lists of values that are read.
+use Rattle.std.proofs.Common.{◌≡◌, ◌≢◌, ℕ, ◌%◌, List, [], ◌∷◌, ◌++◌, Option, Some, None, refl, append_assoc, flat_map}
+use Rattle.cmc_der.specs.Building.{value}
+use Rattle.cmc_der.proofs.SmallValues.{IsSmall, front_small, back_small, value_last}
 use Rattle.cmc_x509.specs.Taking.{Value, BeginsOtherwise}
 use Rattle.cmc_x509.specs.Lists.{IsValues, IsValueList, IsListOf, or_first}
-
--- within the size that is read
-abbrev pub IsSmall : List ℕ → Type 0
-IsSmall octets = length octets ≤ 16777216
-
--- the contents octets are no longer than the value
-pub contents_small : (tag : ℕ) (body : List ℕ) → IsSmall (value tag body) → IsSmall body
-unfolding value
-contents_small tag body small = omega (arith, length-append (length_octets (length body)) body)
-
-pub front_small : (a b : List ℕ) → IsSmall (a ++ b) → IsSmall a
-front_small a b small = omega (arith, length-append a b)
-
-pub back_small : (a b : List ℕ) → IsSmall (a ++ b) → IsSmall b
-back_small a b small = omega (arith, length-append a b)
-
--- the octets of a value are that value
-pub value_is : (tag : ℕ) (body : List ℕ) → tag % 32 ≢ 31 → IsSmall (value tag body) → IsValue (value tag body) tag body
-value_is tag body low small = value_spelled tag body low (omega (arith, contents_small tag body small))
-
--- also where others stand behind them
-pub value_first : (tag : ℕ) (body rest : List ℕ) → tag % 32 ≢ 31 → IsSmall (value tag body ++ rest) → BeginsWith (value tag body ++ rest) tag body rest
-value_first tag body rest low small =
-    value_begins tag body rest low (omega (arith, contents_small tag body (front_small (value tag body) rest small)))
-
--- and where nothing does
-pub value_last : (tag : ℕ) (body : List ℕ) → tag % 32 ≢ 31 → IsSmall (value tag body) → BeginsWith (value tag body) tag body []
-value_last tag body low small = (value tag body, value_is tag body low small, sym (append-nil (value tag body)))
 
 -- a value of another tag
 pub begins_otherwise : (tag other : ℕ) (body rest : List ℕ) → other ≢ tag → BeginsOtherwise tag (value other body ++ rest)
