@@ -21,6 +21,8 @@ mod made_requests;
 #[cfg(test)]
 mod made_values;
 #[cfg(test)]
+mod marks;
+#[cfg(test)]
 mod matching;
 #[cfg(test)]
 mod meta;
@@ -34,6 +36,8 @@ mod pass;
 mod policies;
 #[cfg(test)]
 mod policy_rules;
+#[cfg(test)]
+mod requests;
 #[cfg(test)]
 mod summary;
 #[cfg(test)]
