@@ -6,4 +6,4 @@ use Rattle.std.specs.Ordering.{nat_cmp}
 use Rattle.cmc_objects.proofs.lookups.value_under.Given as goal
 
 abbrev pub invariant-loop-name : goal.invariant-loop-name
-invariant-loop-name l = lookup (is_at (slice_cmp nat_cmp l.key)) l.name-iterator ≡ lookup (is_at (slice_cmp nat_cmp l.key)) l.map.entries
+invariant-loop-name g l = lookup (is_at (slice_cmp nat_cmp l.key)) l.name-iterator ≡ lookup (is_at (slice_cmp nat_cmp l.key)) l.map.entries
