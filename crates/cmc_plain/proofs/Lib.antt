@@ -41,3 +41,5 @@ pub mod EachNamed
 pub mod SummaryItems
 pub mod Working
 pub mod AtOnce
+pub mod WakeUps
+pub mod QueueRows

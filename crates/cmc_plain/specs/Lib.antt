@@ -9,3 +9,6 @@ pub mod Ready
 pub mod Asking
 pub mod Next
 pub mod Openings
+pub mod DueMoments
+pub mod Parking
+pub mod WorkQueues

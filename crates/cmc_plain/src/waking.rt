@@ -101,7 +101,7 @@ fn wake_each(ready: &mut Ready, role: Role, writes: &[Write]) -> Result<(), Allo
 }
 
 /// Makes each key of the role's kind of work ready that an accepted write named.
-fn wake_known(world: &World, ready: &mut Ready, role: Role) -> Result<(), AllocError>
+pub(crate) fn wake_known(world: &World, ready: &mut Ready, role: Role) -> Result<(), AllocError>
     ensures keeps { Keeps ready.old ready.new }
     ensures wakes { OnOk result (on HasKnown world.now role ready.new) }
 {

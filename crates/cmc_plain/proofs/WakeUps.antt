@@ -1,0 +1,327 @@
+-- The work queue of a role loses no wake-up.
+use Rattle.std.proofs.Common.{◌≡◌, ◌⊎◌, ◌<◌, ℕ, ℤ, Bool, true, false, List, [], ◌∷◌, Option, Some, None, Result, Ok, Err, refl, sym, ap, subst, inl, inr, ◌∙◌, arith}
+use Rattle.std.proofs.lemmas.Bool.{ltb-true, lt-ltb}
+use Rattle.std.proofs.lemmas.Int.{ints}
+use Rattle.std.specs.Prelude.{IfOk, int_le, nat_lt, if◌then◌else◌, IfSome, IsSomeAnd}
+use Rattle.std.specs.List.{find}
+use Rattle.std.specs.declared.alloc.AllocError.{AllocError}
+use Rattle.cmc_meta.specs.declared.conditions.Condition.{Condition}
+use Rattle.cmc_meta.specs.declared.conditions.ConditionKind.{ConditionKind}
+use Rattle.cmc_meta.specs.ConditionLists.{condition_at}
+use Rattle.cmc_policies.specs.Renewal.{IsCertificateTime}
+use Rattle.cmc_meta.specs.declared.key.Key.{Key}
+use Rattle.cmc_meta.specs.declared.key.Kind.{Kind}
+use Rattle.cmc_meta.specs.declared.key.Kind.TheVariants as kinds
+use Rattle.cmc_objects.specs.declared.role.Role.{Role}
+use Rattle.cmc_objects.specs.declared.role.Role.TheVariants as roles
+use Rattle.cmc_objects.specs.declared.entry.Entry.{Entry}
+use Rattle.cmc_objects.specs.declared.entry.Positions.{Positions}
+use Rattle.cmc_objects.specs.Watching.{kind_of_work}
+use Rattle.cmc_queue.specs.declared.row.Parked.{Parked}
+use Rattle.cmc_queue.specs.declared.row.Row.{Row}
+use Rattle.cmc_queue.specs.Queues.{Work, row_of}
+use Rattle.cmc_objects.specs.declared.request.CertificateRequest.{CertificateRequest}
+use Rattle.cmc_objects.specs.declared.object.Object.TheVariants.{Request}
+use Rattle.cmc_objects.specs.declared.orders.Rules.{Rules}
+use Rattle.cmc_pass.specs.declared.pass.Act.TheVariants.{Nothing}
+use Rattle.cmc_pass.specs.declared.pass.Desk.{Desk}
+use Rattle.cmc_pass.specs.declared.pass.Views.{Views}
+use Rattle.cmc_model.specs.declared.write.Write.{Write}
+use Rattle.cmc_model.specs.Histories.{Setting, moment}
+use Rattle.cmc_model.specs.Writes.{writes, is_known}
+use Rattle.cmc_rules.specs.declared.progress.Obstacle.TheVariants.{Failure, Newer}
+use Rattle.cmc_rules.specs.declared.progress.Ending.{Ending}
+use Rattle.cmc_rules.specs.declared.progress.Ending.TheVariants as endings
+use Rattle.cmc_rules.specs.declared.progress.LastPass.{LastPass}
+use Rattle.cmc_rules.specs.Dates.{AreDated, HasDatedFailure, IsDated}
+use Rattle.cmc_rules.specs.Acts.{act}
+use Rattle.cmc_rules.specs.Causes.{IsCaused}
+use Rattle.cmc_rules.specs.Desks.{desk}
+use Rattle.cmc_rules.specs.Legality.{IsLegal}
+use Rattle.cmc_rules.specs.Memory.{past}
+use Rattle.cmc_rules.specs.Runs.{IsRun}
+use Rattle.cmc_rules.specs.Positions.{position_of, positions}
+use Rattle.cmc_rules.specs.Sameness.{EndsAlike, IsDue, IsSame, own_above}
+use Rattle.cmc_rules.specs.Sound.{IsDueMoment}
+use Rattle.cmc_rules.specs.Viewing.{views}
+use Rattle.cmc_moves.specs.Quiet.{IsQuiet, no_views, seen_last}
+use Rattle.cmc_plain.specs.Parking.{ahead, own_ahead, obstacle_ahead, IsRefusedUntil, OrElse}
+use Rattle.cmc_plain.specs.Ready.{IsIdleOn}
+use Rattle.cmc_plain.specs.WorkQueues.{IsOfWork, IsRowOf, IsWorkQueue, IsHeldBack, IsCovered, LosesNoWakeUp}
+use Rattle.cmc_rules.proofs.Sights.{seen_request}
+use Rattle.cmc_rules.proofs.Sighted.{views_known}
+use Rattle.cmc_safety.specs.Formed.{IsFormed}
+use Rattle.cmc_safety.proofs.Carried.{seen_has}
+use Rattle.cmc_safety.proofs.Dated.{IsDatedObject, dated_versions}
+use Rattle.cmc_moves.proofs.Sounds.{each_sound}
+use Rattle.cmc_plain.specs.DueMoments.{IsFirstAfter, sooner, IsDatedRequest, HasDatedMoments}
+use Rattle.cmc_plain.proofs.Remembering.{last_fair, IsFairEnding, IsFairPass, IsFairLast}
+use Rattle.cmc_plain.proofs.Unknown.{unknown_quiet, sees_none}
+
+-- ---- moments
+
+passed_on : (a b c : ℤ) → int_le a b ≡ true → int_le b c ≡ true → int_le a c ≡ true
+passed_on a b c one two = grind (arith, ints)
+
+turned : (a b : ℤ) → int_le a b ≡ false → int_le b a ≡ true
+turned a b later = grind (arith, ints)
+
+either_passed : (now : ℤ) (P Q : ℤ → Type 0) (at : ℤ) → ((t : ℤ) → P t → int_le t now ≡ true) → ((t : ℤ) → Q t → int_le t now ≡ true) → P at ⊎ Q at → int_le at now ≡ true
+either_passed now P Q at none nor (inl p) = none at p
+either_passed now P Q at none nor (inr q) = nor at q
+
+-- no moment of the one kind is to come, and this is the first of the other
+first_of_other : (now : ℤ) (P Q : ℤ → Type 0) (first at : ℤ) → ((t : ℤ) → P t → int_le t now ≡ true) → ((t : ℤ) → Q t → int_le t now ≡ false → int_le first t ≡ true) → P at ⊎ Q at → int_le at now ≡ false → int_le first at ≡ true
+first_of_other now P Q first at none others (inl p) later = absurd (let passed = none at p in cc (passed, later))
+first_of_other now P Q first at none others (inr q) later = others at q later
+
+first_of_one : (now : ℤ) (P Q : ℤ → Type 0) (first at : ℤ) → ((t : ℤ) → Q t → int_le t now ≡ true) → ((t : ℤ) → P t → int_le t now ≡ false → int_le first t ≡ true) → P at ⊎ Q at → int_le at now ≡ false → int_le first at ≡ true
+first_of_one now P Q first at none others (inl p) later = others at p later
+first_of_one now P Q first at none others (inr q) later = absurd (let passed = none at q in cc (passed, later))
+
+-- of two first ones the sooner
+first_of_both : (now : ℤ) (P Q : ℤ → Type 0) (first one other at : ℤ) → int_le first one ≡ true → int_le first other ≡ true → ((t : ℤ) → P t → int_le t now ≡ false → int_le one t ≡ true) → ((t : ℤ) → Q t → int_le t now ≡ false → int_le other t ≡ true)
+    → P at ⊎ Q at → int_le at now ≡ false → int_le first at ≡ true
+first_of_both now P Q first one other at low below ones others (inl p) later = passed_on first one at low (ones at p later)
+first_of_both now P Q first one other at low below ones others (inr q) later = passed_on first other at below (others at q later)
+
+itself : (a : ℤ) → int_le a a ≡ true
+itself a = grind (arith, ints)
+
+sooner_of : (b : Bool) (now : ℤ) (P Q : ℤ → Type 0) (one other : ℤ) → int_le one other ≡ b → IsFirstAfter now P (Some one) → IsFirstAfter now Q (Some other) → IsFirstAfter now (λ at. P at ⊎ Q at) (if b then Some one else Some other)
+sooner_of true now P Q one other is first second = (inl first.0, first.1, λ at. first_of_both now P Q one one other at (itself one) is first.2 second.2)
+sooner_of false now P Q one other is first second = (inr second.0, second.1, λ at. first_of_both now P Q other one other at (turned one other is) (itself other) first.2 second.2)
+
+-- of what is one or the other, the sooner is the first
+pub sooner_first : (now : ℤ) (P Q : ℤ → Type 0) (one other : Option ℤ) → IsFirstAfter now P one → IsFirstAfter now Q other → IsFirstAfter now (λ at. P at ⊎ Q at) (sooner one other)
+sooner_first now P Q None None none nor = λ at. either_passed now P Q at none nor
+sooner_first now P Q None (Some other) none first = (inr first.0, first.1, λ at. first_of_other now P Q other at none first.2)
+sooner_first now P Q (Some one) None first none = (inl first.0, first.1, λ at. first_of_one now P Q one at none first.2)
+sooner_first now P Q (Some one) (Some other) first second = sooner_of (int_le one other) now P Q one other refl first second
+
+-- ---- the moment of a condition
+
+abbrev IsDatedCondition : Condition → Type 0
+IsDatedCondition c = IsCertificateTime c.since
+
+dated_by : (b : Bool) (c : Condition) (rest : Option Condition) → IsDatedCondition c → IfSome rest IsDatedCondition → IfSome (if b then Some c else rest) IsDatedCondition
+dated_by true c rest own later = own
+dated_by false c rest own later = later
+
+dated_found : (p : Condition → Bool) (cs : List Condition) → AreDated cs → IfSome (find p cs) IsDatedCondition
+dated_found p [] dated = tt
+dated_found p (c ∷ cs) dated = dated_by (p c) c (find p cs) dated.0 (dated_found p cs dated.1)
+
+pub dated_condition : (kind : ConditionKind) (cs : List Condition) → AreDated cs → IfSome (condition_at cs kind) IsDatedCondition
+dated_condition kind cs dated = dated_found _ cs dated
+
+-- ---- what a key waits for is ahead
+
+abbrev IsAhead : Positions → Parked → Type 0
+IsAhead at p = position_of p.kind at < p.version
+
+abbrev AreAhead : Positions → Option Parked → Type 0
+AreAhead at o = IfSome o (IsAhead at)
+
+ahead_by : (b : Bool) (kind : Kind) (version : ℕ) (at : Positions) (rest : Option Parked) → nat_lt (position_of kind at) version ≡ b → AreAhead at rest
+    → AreAhead at (if b then Some (record { kind = kind; version = version }) else rest)
+ahead_by true kind version at rest test others = ltb-true (position_of kind at) version test
+ahead_by false kind version at rest test others = others
+
+ahead_is : (kind : Kind) (version : ℕ) (at : Positions) (rest : Option Parked) → AreAhead at rest → AreAhead at (ahead kind version at rest)
+ahead_is kind version at rest others = ahead_by (nat_lt (position_of kind at) version) kind version at rest refl others
+
+own_is : (own at : Positions) → AreAhead at (own_ahead own at)
+own_is own at =
+    ahead_is kinds.Certificate own.certificates at (ahead kinds.CertificateRequest own.requests at (ahead kinds.Secret own.secrets at None))
+    (ahead_is kinds.CertificateRequest own.requests at (ahead kinds.Secret own.secrets at None) (ahead_is kinds.Secret own.secrets at None tt))
+
+obstacle_is : (ending : Ending) (at : Positions) → AreAhead at (obstacle_ahead ending at)
+obstacle_is (endings.Refused (Newer kind version)) at = ahead_is kind version at None tt
+obstacle_is (endings.Refused Failure) at = tt
+obstacle_is endings.Open at = tt
+obstacle_is endings.Nothing at = tt
+obstacle_is endings.Wrote at = tt
+
+-- where no own write is ahead, none is above the positions
+abbrev parked_of : Kind → ℕ → Option Parked
+parked_of kind version = Some (record { kind = kind; version = version })
+
+abbrev number : ℕ → Option ℕ
+number n = Some n
+
+abbrev some_parked : Parked → Option Parked
+some_parked p = Some p
+
+abbrev no_parked : Option Parked
+no_parked = None
+
+abbrev no_number : Option ℕ
+no_number = None
+
+none_above : (a b c : Bool) (own : Positions)
+    → (if a then parked_of kinds.Certificate own.certificates else (if b then parked_of kinds.CertificateRequest own.requests else (if c then parked_of kinds.Secret own.secrets else no_parked))) ≡ no_parked
+    → (if a then number own.certificates else (if b then number own.requests else (if c then number own.secrets else no_number))) ≡ no_number
+none_above true b c own is = absurd (cc is)
+none_above false true c own is = absurd (cc is)
+none_above false false true own is = absurd (cc is)
+none_above false false false own is = refl
+
+own_none : (own at : Positions) → own_ahead own at ≡ no_parked → own_above own at ≡ no_number
+unfolding own_above
+own_none own at is = none_above (nat_lt at.certificates own.certificates) (nat_lt at.requests own.requests) (nat_lt at.secrets own.secrets) own is
+
+-- ---- a key that is not ready
+
+-- what a role that has nothing to do at this moment saw, it saw so
+abbrev EndedIdle : Setting → List Entry → Role → Key → Type 0
+EndedIdle s h role key = (last : LastPass) → (past s h role key).last ≡ Some last → last.ending ≡ endings.Nothing → last.seen ≡ views s h role key → last.since ≡ moment s h → IsIdleOn s h role key
+
+test_holds : (b : Bool) (m n : ℕ) → nat_lt m n ≡ b → ((b ≡ false → ⊥)) → m < n
+test_holds true m n test not_off = ltb-true m n test
+test_holds false m n test not_off = absurd (not_off refl)
+
+some_is : (p : Parked) (o : Option Parked) (at : Positions) → Some p ≡ o → AreAhead at o → IsAhead at p
+some_is p (Some q) at same above = subst (λ (o : Option Parked). AreAhead at o) (sym same) above
+some_is p None at same above = absurd (cc same)
+
+-- the last pass saw the same, though that is not told apart here: what the key waits for is ahead
+still_ahead : (last : LastPass) (seen : Views) (at : Positions) (p : Parked) → IsRefusedUntil (Some last) seen at (Some p) → IsAhead at p
+still_ahead last seen at p until =
+    test_holds (nat_lt (position_of p.kind at) p.version) (position_of p.kind at) p.version refl
+    (λ off. let other : last.seen ≡ seen → ⊥ = λ same. let above = some_is p (obstacle_ahead last.ending at) at (until.0 same) (obstacle_is last.ending at) in absurd (not_both (position_of p.kind at) p.version off above) in
+    let none : some_parked p ≡ no_parked = until.1 other in
+    absurd (cc none))
+  where
+    not_both : (m n : ℕ) → nat_lt m n ≡ false → m < n → ⊥
+    not_both m n off low = let on = lt-ltb m n low in cc (on, off)
+
+-- a pass that would end alike, where nothing is ahead, would find nothing at the same moment
+alike_nothing : (ending : Ending) (since now : ℤ) (at : Positions) → EndsAlike ending since now at → no_parked ≡ obstacle_ahead ending at → (ending ≡ endings.Nothing) × (since ≡ now)
+alike_nothing endings.Nothing since now at alike none = (refl, alike)
+alike_nothing endings.Open since now at alike none = absurd alike
+alike_nothing endings.Wrote since now at alike none = absurd alike
+alike_nothing (endings.Refused Failure) since now at alike none = absurd alike
+alike_nothing (endings.Refused (Newer kind version)) since now at alike none = absurd (behind (nat_lt (position_of kind at) version) kind version refl alike none) where
+  behind : (b : Bool) (k : Kind) (v : ℕ) → nat_lt (position_of kind at) version ≡ b → position_of kind at < version → no_parked ≡ (if b then parked_of k v else no_parked) → ⊥
+  behind true k v test low is = absurd (cc is)
+  behind false k v test low is = let on = lt-ltb (position_of kind at) version low in cc (on, test)
+
+-- so where nothing is ahead the pass would not be the last one again, or the key is quiet
+not_again : (s : Setting) (h : List Entry) (role : Role) (key : Key) (last : LastPass) → EndedIdle s h role key → (IsQuiet s h role key → ⊥) → (past s h role key).last ≡ Some last
+    → IsRefusedUntil (Some last) (views s h role key) (positions h role) None → IsSame (Some last) (views s h role key) (moment s h) (positions h role) → ⊥
+not_again s h role key last ended worth is until same =
+    let found = alike_nothing last.ending last.since (moment s h) (positions h role) same.1 (until.0 same.0) in
+    worth (record { idle = ended last is found.0 same.0 found.1; same = sym same.0 ∙ sym (ap seen_last is) })
+
+abbrev MayNot : Setting → List Entry → Role → Key → Type 0
+MayNot s h role key = IsDue (past s h role key) (views s h role key) (moment s h) (positions h role) → ⊥
+
+-- the last pass decides
+by_last : (s : Setting) (h : List Entry) (role : Role) (key : Key) (row : Row) (last : Option LastPass) (parked : Option Parked) → EndedIdle s h role key → (IsQuiet s h role key → ⊥) → MayNot s h role key
+    → own_above (past s h role key).own (positions h role) ≡ no_number → (past s h role key).last ≡ last → row.parked ≡ parked → IsRefusedUntil last (views s h role key) (positions h role) parked → IsHeldBack s h role key row
+by_last s h role key row None parked ended worth undue told is stands until =
+    absurd (undue (record { told = told; other = λ same. subst (λ (l : Option LastPass). IsSame l (views s h role key) (moment s h) (positions h role)) is same }))
+by_last s h role key row (Some last) None ended worth undue told is stands until =
+    absurd (undue (record {
+      told = told;
+      other = λ same. not_again s h role key last ended worth is until (subst (λ (l : Option LastPass). IsSame l (views s h role key) (moment s h) (positions h role)) is same);
+    }))
+by_last s h role key row (Some last) (Some p) ended worth undue told is stands until =
+    record { until = subst (λ (o : Option Parked). IsSomeAnd o (IsAhead (positions h role))) (sym stands) (still_ahead last (views s h role key) (positions h role) p until); undue = undue }
+
+-- an own write that is ahead does before it
+by_own : (s : Setting) (h : List Entry) (role : Role) (key : Key) (row : Row) (own : Option Parked) → EndedIdle s h role key → (IsQuiet s h role key → ⊥) → MayNot s h role key
+    → own_ahead (past s h role key).own (positions h role) ≡ own → OrElse own (IsRefusedUntil (past s h role key).last (views s h role key) (positions h role) row.parked) row.parked → IsHeldBack s h role key row
+by_own s h role key row (Some p) ended worth undue is stands =
+    let above = some_is p (own_ahead (past s h role key).own (positions h role)) (positions h role) (sym is) (own_is (past s h role key).own (positions h role)) in
+    record { until = subst (λ (o : Option Parked). IsSomeAnd o (IsAhead (positions h role))) (sym stands) above; undue = undue }
+by_own s h role key row None ended worth undue is until =
+    by_last s h role key row (past s h role key).last row.parked ended worth undue (own_none (past s h role key).own (positions h role) is) refl refl until
+
+by_ready : (b : Bool) (s : Setting) (h : List Entry) (role : Role) (key : Key) (row : Row) → row.ready ≡ b → EndedIdle s h role key → IsOfWork s h role key → IsRowOf s h role key row → (IsQuiet s h role key → ⊥) → IsCovered s h role key row
+by_ready true s h role key row is ended work right worth = inl is
+by_ready false s h role key row is ended work right worth =
+    let undue : MayNot s h role key = λ due. absurd (let on = right.ready.1 (record { queued = record { work = work.0; known = work.1; worth = worth }; due = due }) in cc (on, is)) in
+    inr (by_own s h role key row (own_ahead (past s h role key).own (positions h role)) ended worth undue refl right.parked)
+
+-- a key of the role's work that is not quiet is covered by its row
+covered : (s : Setting) (h : List Entry) (role : Role) (key : Key) (row : Row) → EndedIdle s h role key → IsOfWork s h role key → IsRowOf s h role key row → (IsQuiet s h role key → ⊥) → IsCovered s h role key row
+covered s h role key row ended work right worth = by_ready row.ready s h role key row refl ended work right worth
+
+-- ---- a key that no write named
+
+nothing_due : (role : Role) (at : ℤ) → IsDueMoment role no_views at → ⊥
+nothing_due roles.Trigger at due = due
+nothing_due roles.KeyManager at due = due
+nothing_due roles.RequestManager at due = due
+nothing_due roles.Approver at due = due
+nothing_due roles.Issuer at due = due
+nothing_due roles.Issuing at due = due
+nothing_due roles.Readiness at due = due
+nothing_due roles.Revision at due = due
+
+timed_by : (now at : ℤ) (P : ℤ → Type 0) (o : Option ℤ) → IsFirstAfter now P o → P at → int_le at now ≡ false → IsSomeAnd o (λ timed. int_le timed at ≡ true)
+timed_by now at P None first is later = absurd (let passed = first at is in cc (passed, later))
+timed_by now at P (Some t) first is later = first.2 at is later
+
+-- ---- all keys
+
+-- what the histories of runs say of a key that no write named
+record AreUnknown (s : Setting) (h : List Entry) (role : Role) : Type 0 where
+  quiet : (key : Key) → is_known key (writes s h) ≡ false → IsQuiet s h role key
+  unseen : (key : Key) → is_known key (writes s h) ≡ false → views s h role key ≡ no_views
+
+covered_if : (b : Bool) (s : Setting) (h : List Entry) (role : Role) (q : Work) (key : Key) → is_known key (writes s h) ≡ b → IsWorkQueue s h role q → EndedIdle s h role key → AreUnknown s h role → key.kind ≡ kind_of_work role → (IsQuiet s h role key → ⊥)
+    → IsCovered s h role key (row_of q key)
+covered_if true s h role q key known right ended none work worth = covered s h role key (row_of q key) ended (work, known) (right.rows key (work, known)) worth
+covered_if false s h role q key unknown right ended none work worth = absurd (worth (none.quiet key unknown))
+
+timed_if : (b : Bool) (s : Setting) (h : List Entry) (role : Role) (q : Work) (key : Key) (at : ℤ) → is_known key (writes s h) ≡ b → IsWorkQueue s h role q → AreUnknown s h role → key.kind ≡ kind_of_work role → IsDueMoment role (views s h role key) at
+    → int_le at (moment s h) ≡ false → IsSomeAnd (row_of q key).timed (λ timed. int_le timed at ≡ true)
+timed_if true s h role q key at known right none work is later = timed_by (moment s h) at (IsDueMoment role (views s h role key)) (row_of q key).timed (right.rows key (work, known)).timed is later
+timed_if false s h role q key at unknown right none work is later = absurd (nothing_due role at (subst (λ (seen : Views). IsDueMoment role seen at) (none.unseen key unknown) is))
+
+loses_none : (s : Setting) (h : List Entry) (role : Role) (q : Work) → IsWorkQueue s h role q → ((key : Key) → EndedIdle s h role key) → AreUnknown s h role → LosesNoWakeUp s h role q
+loses_none s h role q right ended none = record {
+  work = λ key kind busy. covered_if (is_known key (writes s h)) s h role q key refl right (ended key) none kind (λ quiet. busy quiet.idle);
+  news = λ key kind new. covered_if (is_known key (writes s h)) s h role q key refl right (ended key) none kind (λ quiet. new quiet.same);
+  due = λ key at kind is later. timed_if (is_known key (writes s h)) s h role q key at refl right none kind is later;
+}
+
+-- ---- in a run
+
+-- a pass that ended with nothing had nothing to do, on what it saw and at its moment
+ended_by : (role : Role) (rules : Rules) (ws : List Write) (last : LastPass) (ending : Ending) (seen : Views) (now : ℤ) (d : Desk) → last.ending ≡ ending → ending ≡ endings.Nothing → last.seen ≡ seen → last.since ≡ now → d.rules ≡ rules
+    → IsFairPass role rules ws last → act role seen now d ≡ Nothing
+ended_by role rules ws last ending seen now d is nothing sees at same fair =
+    let fact : IsFairEnding role rules ws last.seen last.since endings.Nothing = subst (λ (e : Ending). IsFairEnding role rules ws last.seen last.since e) (is ∙ nothing) fair in
+    subst (λ (v : Views). act role v now d ≡ Nothing) sees (subst (λ (t : ℤ). act role last.seen t d ≡ Nothing) at (fact d same))
+
+ended_idle : (s : Setting) (h : List Entry) (role : Role) (key : Key) → IsLegal s h → IsCaused s h → EndedIdle s h role key
+ended_idle s h role key legal caused last is ending sees at =
+    ended_by role s.rules (writes s h) last last.ending (views s h role key) (moment s h) (desk s h role (views s h role key)) refl ending sees at refl
+    (subst (λ (l : Option LastPass). IsFairLast role s.rules (writes s h) l) is (last_fair s h role key legal caused))
+
+pub wakes_all : (s : Setting) (h : List Entry) (role : Role) (q : Work) → IsLegal s h → IsCaused s h → IsWorkQueue s h role q → LosesNoWakeUp s h role q
+wakes_all s h role q legal caused right =
+    loses_none s h role q right (λ key. ended_idle s h role key legal caused)
+    (record { quiet = λ key none. unknown_quiet s h role key legal none; unseen = λ key none. sees_none s h role key none })
+
+-- ---- what is seen of a request is dated
+
+request_dated : (o : Option CertificateRequest) → ((r : CertificateRequest) → o ≡ Some r → IsDated (Some (Request r))) → IsDatedRequest o
+request_dated None each = tt
+request_dated (Some r) each = each r refl
+
+dated_moments : (s : Setting) (h : List Entry) (role : Role) (key : Key) → IsFormed s → IsRun s h → HasDatedFailure (views s h role key) → HasDatedMoments (views s h role key)
+dated_moments s h role key formed run failure = record {
+  failure = failure;
+  answer = request_dated (views s h role key).request
+      (λ r is. seen_has IsDatedObject (writes s h) (views s h role key) (Request r) (dated_versions each_sound s h formed (record { legal = run.legal; caused = run.caused; follows = run.follows }))
+      (views_known s h role key) (seen_request (views s h role key) r is));
+}
+
+pub views_dated : (s : Setting) (h : List Entry) (role : Role) (key : Key) (r : Result Views AllocError) → IsFormed s → IsRun s h → HasDatedFailure (views s h role key) → IfOk r (λ seen. seen ≡ views s h role key) → IfOk r (λ seen. HasDatedMoments seen)
+views_dated s h role key (Ok seen) formed run failure same = subst (λ (v : Views). HasDatedMoments v) (sym same) (dated_moments s h role key formed run failure)
+views_dated s h role key (Err lack) formed run failure same = tt
