@@ -1,12 +1,12 @@
 //! Scenarios and the values that their passes wait for.
 use cmc_answers::{ScriptedSigner, Signer, judge};
 use cmc_keys::{KeyMaker, ScriptedKeys, is_allowed_size};
-use cmc_meta::{Numbers, Texts};
+use cmc_meta::{Kind, Numbers, Texts};
 use cmc_objects::{CertStatus, Certificate, Material, Object, Order, Role, Rules, Shared, Step};
 use cmc_pass::Given;
 use cmc_policy_rules::Policies;
 use cmc_setup::{Roles, Scenario, Steps, is_setup};
-use cmc_tests::values::{least_spec, let_go, new_meta, texts};
+use cmc_tests::values::{key, least_spec, let_go, new_meta, texts};
 use cmc_world::Stepped;
 use std::alloc::Global;
 use std::test::Fail;
@@ -119,6 +119,28 @@ pub(crate) fn whole_scenario(
     let roles = all_roles(alloc)?;
     let approver = any_issuer(alloc)?;
     scenario_of(events, window, roles, faults, approver, material, script)
+}
+
+/// A scenario with all roles, and with an approver of no issuer, in which a user denies the first request of the Certificate
+/// `web` once all is at rest.
+pub(crate) fn denied_scenario(alloc: Global) -> Result<Scenario, Fail> {
+    let mut steps = Steps::new(alloc);
+    put(&mut steps, applied(alloc, "web", "web-tls", "example.com"))?;
+    steps.push(Step::Settle)?;
+    steps.push(Step::Deny {
+        certificate: key(alloc, Kind::Certificate, "web")?,
+        revision: 1,
+    })?;
+    steps.push(Step::Settle)?;
+    let roles = all_roles(alloc)?;
+    let approver = Rules {
+        issuers: Texts::new(alloc),
+        refuse: Texts::new(alloc),
+        policies: Policies::new(alloc),
+    };
+    let none = Material::new(alloc);
+    let faults = Numbers::new(alloc);
+    scenario_of(400, 1000, roles, faults, approver, none, steps)
 }
 
 /// The value of the question, as the scenario's own maker and signer have it.

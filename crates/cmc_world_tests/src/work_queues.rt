@@ -1,13 +1,14 @@
-// What no clause says: that a key leaves the work queue of a role as the role has looked at it and has nothing to do there.
-// A begin on it is refused then, at a later moment too.
+// What no clause says: that a key leaves the work queue of a role as the role has looked at it and has nothing to do there,
+// so that a begin on it is refused, at a later moment too; and for which version and which moment keys wait in some runs.
 use crate::checks::{passes, tells};
 use crate::deciding::make;
-use crate::fixtures::{ROLES, applied, put, whole_scenario};
+use crate::fixtures::{ROLES, applied, denied_scenario, put, whole_scenario};
 use cmc_answers::ScriptedSigner;
 use cmc_keys::ScriptedKeys;
 use cmc_meta::{Kind, Numbers};
 use cmc_objects::{Material, Role, Step};
-use cmc_plain::{plain, question, value_for};
+use cmc_plain::{plain, question, value_for, work_queue};
+use cmc_queue::Row;
 use cmc_setup::{Scenario, Steps};
 use cmc_tests::values::{key, let_go};
 use cmc_world::{Move, World};
@@ -131,5 +132,104 @@ fn a_key_with_nothing_to_do_is_in_no_queue(rt: HostRuntime) -> Result<(), Fail> 
         refuses(&rt, alloc, &mut world, *role, "of-nobody")?;
     }
     passes(&rt, "as it was", world.history().len() == entries);
+    Ok(())
+}
+
+// ---- what keys wait for
+
+/// Makes the plain moves up to the write of this number.
+fn come_to_write(alloc: Global, world: &mut World, number: u64) -> Result<(), Fail> {
+    for _move in 0..400 {
+        if world.log().accepted() >= number {
+            return Ok(());
+        }
+        let _ = go_on(alloc, world)?;
+    }
+    Err(Fail::from("the write is not made"))
+}
+
+/// The row of the Certificate in the role's work queue.
+fn row_of(alloc: Global, world: &World, role: Role, word: &str) -> Result<Row, Fail> {
+    let key = key(alloc, Kind::Certificate, word)?;
+    let queue = work_queue(alloc, world, role)?;
+    Ok(queue.row(&key))
+}
+
+fn is_parked(row: Row, kind: Kind, version: u64) -> bool {
+    match row.parked {
+        Some(parked) => parked.kind.same(kind) && parked.version == version,
+        None => false,
+    }
+}
+
+fn is_free(row: Row) -> bool {
+    row.ready && !row.working
+}
+
+#[test]
+fn a_key_waits_for_the_own_write(rt: HostRuntime) -> Result<(), Fail> {
+    let alloc = rt.alloc();
+    let mut world = World::new(alloc, scenario(alloc)?)?;
+    let none = row_of(alloc, &world, Role::Trigger, "web")?;
+    passes(&rt, "not named", !none.ready && none.parked.is_none());
+    come_to_write(alloc, &mut world, 2)?;
+    let own = row_of(alloc, &world, Role::Trigger, "web")?;
+    passes(&rt, "parked", is_parked(own, Kind::Certificate, 2));
+    passes(&rt, "in process", own.working && !own.ready);
+    come_to_the_tick(alloc, &mut world)?;
+    let told = row_of(alloc, &world, Role::Trigger, "web")?;
+    passes(&rt, "told", told.parked.is_none() && !told.working);
+    Ok(())
+}
+
+#[test]
+fn a_key_is_ready_where_there_is_something_to_do(rt: HostRuntime) -> Result<(), Fail> {
+    let alloc = rt.alloc();
+    let mut world = World::new(alloc, scenario(alloc)?)?;
+    come_to_write(alloc, &mut world, 1)?;
+    let untold = row_of(alloc, &world, Role::Trigger, "web")?;
+    passes(&rt, "not told", !untold.ready);
+    let step = plain(alloc, &world)?;
+    passes(&rt, "told next", matches!(step, Some(Move::Deliver { .. })));
+    let_go(step);
+    let _ = go_on(alloc, &mut world)?;
+    let told = row_of(alloc, &world, Role::Trigger, "web")?;
+    passes(&rt, "ready", is_free(told) && told.parked.is_none());
+    Ok(())
+}
+
+/// The failure is at the moment of the beginning, and the back-off takes an hour.
+#[test]
+fn a_failure_times_the_key(rt: HostRuntime) -> Result<(), Fail> {
+    let alloc = rt.alloc();
+    let mut world = World::new(alloc, denied_scenario(alloc)?)?;
+    come_to_write(alloc, &mut world, 10)?;
+    let row = row_of(alloc, &world, Role::Trigger, "web")?;
+    passes(&rt, "timed", row.timed == Some(1_893_459_600));
+    passes(&rt, "not ready", !is_free(row));
+    Ok(())
+}
+
+/// When the certificate that was issued ends and is renewed, as readiness wrote it.
+fn times(alloc: Global, world: &World) -> Result<(Option<i64>, Option<i64>), Fail> {
+    let key = key(alloc, Kind::Certificate, "web")?;
+    match &world.views(alloc, Role::Readiness, &key)?.certificate {
+        Some(certificate) => Ok((certificate.status.not_after, certificate.status.renewal)),
+        None => Err(Fail::from("no Certificate")),
+    }
+}
+
+#[test]
+fn a_certificate_times_its_key(rt: HostRuntime) -> Result<(), Fail> {
+    let alloc = rt.alloc();
+    let world = looked(alloc)?;
+    let (end, renewal) = times(alloc, &world)?;
+    passes(&rt, "issued", renewal.is_some());
+    let trigger = row_of(alloc, &world, Role::Trigger, "web")?;
+    passes(&rt, "renewal", trigger.timed == renewal);
+    let readiness = row_of(alloc, &world, Role::Readiness, "web")?;
+    passes(&rt, "expiry", readiness.timed == end);
+    let issuing = row_of(alloc, &world, Role::Issuing, "web")?;
+    passes(&rt, "no moment", issuing.timed.is_none());
     Ok(())
 }
