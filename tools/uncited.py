@@ -24,7 +24,7 @@ def sources():
     for path in sorted(pathlib.Path("crates").rglob("*")):
         if path.suffix in (".antt", ".rt") and "out" not in path.parts:
             text = path.read_text(encoding="utf-8")
-            texts[path] = re.sub(r"(?m)--.*$", "", text) if path.suffix == ".antt" else text
+            texts[path] = re.sub(r"(?m)(^|\s)-- .*$", "", text) if path.suffix == ".antt" else text
     return texts
 
 
