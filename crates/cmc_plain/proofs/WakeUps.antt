@@ -3,12 +3,7 @@ use Rattle.std.proofs.Common.{◌≡◌, ◌⊎◌, ◌<◌, ℕ, ℤ, Bool, tru
 use Rattle.std.proofs.lemmas.Bool.{ltb-true, lt-ltb}
 use Rattle.std.proofs.lemmas.Int.{ints}
 use Rattle.std.specs.Prelude.{IfOk, int_le, nat_lt, if◌then◌else◌, IfSome, IsSomeAnd}
-use Rattle.std.specs.List.{find}
 use Rattle.std.specs.declared.alloc.AllocError.{AllocError}
-use Rattle.cmc_meta.specs.declared.conditions.Condition.{Condition}
-use Rattle.cmc_meta.specs.declared.conditions.ConditionKind.{ConditionKind}
-use Rattle.cmc_meta.specs.ConditionLists.{condition_at}
-use Rattle.cmc_policies.specs.Renewal.{IsCertificateTime}
 use Rattle.cmc_meta.specs.declared.key.Key.{Key}
 use Rattle.cmc_meta.specs.declared.key.Kind.{Kind}
 use Rattle.cmc_meta.specs.declared.key.Kind.TheVariants as kinds
@@ -33,7 +28,7 @@ use Rattle.cmc_rules.specs.declared.progress.Obstacle.TheVariants.{Failure, Newe
 use Rattle.cmc_rules.specs.declared.progress.Ending.{Ending}
 use Rattle.cmc_rules.specs.declared.progress.Ending.TheVariants as endings
 use Rattle.cmc_rules.specs.declared.progress.LastPass.{LastPass}
-use Rattle.cmc_rules.specs.Dates.{AreDated, HasDatedFailure, IsDated}
+use Rattle.cmc_rules.specs.Dates.{HasDatedFailure, IsDated}
 use Rattle.cmc_rules.specs.Acts.{act}
 use Rattle.cmc_rules.specs.Causes.{IsCaused}
 use Rattle.cmc_rules.specs.Desks.{desk}
@@ -98,22 +93,6 @@ sooner_first now P Q None None none nor = λ at. either_passed now P Q at none n
 sooner_first now P Q None (Some other) none first = (inr first.0, first.1, λ at. first_of_other now P Q other at none first.2)
 sooner_first now P Q (Some one) None first none = (inl first.0, first.1, λ at. first_of_one now P Q one at none first.2)
 sooner_first now P Q (Some one) (Some other) first second = sooner_of (int_le one other) now P Q one other refl first second
-
--- ---- the moment of a condition
-
-abbrev IsDatedCondition : Condition → Type 0
-IsDatedCondition c = IsCertificateTime c.since
-
-dated_by : (b : Bool) (c : Condition) (rest : Option Condition) → IsDatedCondition c → IfSome rest IsDatedCondition → IfSome (if b then Some c else rest) IsDatedCondition
-dated_by true c rest own later = own
-dated_by false c rest own later = later
-
-dated_found : (p : Condition → Bool) (cs : List Condition) → AreDated cs → IfSome (find p cs) IsDatedCondition
-dated_found p [] dated = tt
-dated_found p (c ∷ cs) dated = dated_by (p c) c (find p cs) dated.0 (dated_found p cs dated.1)
-
-pub dated_condition : (kind : ConditionKind) (cs : List Condition) → AreDated cs → IfSome (condition_at cs kind) IsDatedCondition
-dated_condition kind cs dated = dated_found _ cs dated
 
 -- ---- what a key waits for is ahead
 

@@ -6,6 +6,7 @@ use Rattle.std.proofs.Math.Nat.{mul-le-mul_left}
 use Rattle.std.proofs.lemmas.Bool.Decides.{nat_tests}
 use Rattle.std.proofs.lemmas.Int.{ints}
 use Rattle.cmc_meta.specs.declared.conditions.Condition.{Condition}
+use Rattle.cmc_meta.specs.declared.conditions.ConditionKind.{ConditionKind}
 use Rattle.cmc_meta.specs.ConditionLists.{condition_rank, condition_at, kept_since, renewed, transitioned, tri_eq}
 use Rattle.cmc_objects.specs.declared.orders.Signing.{Signing}
 use Rattle.cmc_objects.specs.declared.orders.Signing.TheVariants.{Issued, Pending, Failed}
@@ -18,7 +19,7 @@ use Rattle.cmc_rules.specs.Dates.{AreDated, IsDatedAnswer}
 
 -- ---- conditions
 
-abbrev IsDatedCondition : Condition → Type 0
+abbrev pub IsDatedCondition : Condition → Type 0
 IsDatedCondition c = IsCertificateTime c.since
 
 dated_next : (b : Bool) (c : Condition) (rest : Option Condition) → IsDatedCondition c → IfSome rest IsDatedCondition → IfSome (if b then Some c else rest) IsDatedCondition
@@ -28,6 +29,9 @@ dated_next false c rest own later = later
 dated_found : (p : Condition → Bool) (cs : List Condition) → AreDated cs → IfSome (find p cs) IsDatedCondition
 dated_found p [] dated = tt
 dated_found p (c ∷ cs) dated = dated_next (p c) c (find p cs) dated.0 (dated_found p cs dated.1)
+
+pub dated_condition : (kind : ConditionKind) (cs : List Condition) → AreDated cs → IfSome (condition_at cs kind) IsDatedCondition
+dated_condition kind cs dated = dated_found _ cs dated
 
 dated_choice : (b : Bool) (x y : ℤ) → IsCertificateTime x → IsCertificateTime y → IsCertificateTime (if b then x else y)
 dated_choice true x y one other = one
@@ -51,7 +55,7 @@ dated_renewed (c ∷ cs) new dated is = dated_by (nat_cmp (condition_rank new.ki
 -- a condition that is set at a moment of these years
 pub dated_transitioned : (cs : List Condition) (new : Condition) → AreDated cs → IsCertificateTime new.since → AreDated (transitioned cs new)
 unfolding transitioned
-dated_transitioned cs new dated is = dated_renewed cs (kept_since (condition_at cs new.kind) new) dated (dated_kept (condition_at cs new.kind) new (dated_found (λ c. condition_rank c.kind == condition_rank new.kind) cs dated) is)
+dated_transitioned cs new dated is = dated_renewed cs (kept_since (condition_at cs new.kind) new) dated (dated_kept (condition_at cs new.kind) new (dated_condition new.kind cs dated) is)
 
 -- what the answer of an issuer makes of a request's status
 pub dated_answered : (status : RequestStatus) (answer : Signing) (moment : ℤ) → IsCertificateTime moment → IsDatedAnswer status → IsDatedAnswer (answered status answer moment)

@@ -8,7 +8,7 @@ use Rattle.cmc_policies.specs.Renewal.{IsCertificateTime}
 use Rattle.cmc_objects.specs.declared.request.RequestStatus.{RequestStatus}
 use Rattle.cmc_rules.specs.Sound.{IsMinuteAfter}
 use Rattle.cmc_plain.specs.DueMoments.{IsFirstAfter}
-use Rattle.cmc_plain.proofs.WakeUps.{dated_condition}
+use Rattle.cmc_rules.proofs.Dating.{dated_condition}
 use Rattle.cmc_plain.proofs.due.retry.Goals as goal
 
 pub minute_after-requires : goal.minute_after-requires
