@@ -8,10 +8,18 @@ use std::marker::Model;
 
 /// A question to an issuer and its answer, which is what the row of the question says, or any where the row is
 /// free.
-#[derive(Drop)]
 pub struct Answered {
     order: SignOrder,
     answer: Signing,
+}
+
+impl Drop for Answered {
+    fn drop(self) {
+        let Answered {
+            order: _order,
+            answer: _answer,
+        } = self;
+    }
 }
 
 impl Model for Answered {

@@ -6,7 +6,6 @@ use cmc_policy_rules::Field;
 use std::alloc::AllocError;
 
 /// Why a request may not be approved: the first of these that holds.
-#[derive(Drop)]
 pub enum Denial {
     /// Its signing request is not readable.
     Unreadable,
@@ -16,6 +15,20 @@ pub enum Denial {
     Policy { name: Text, field: Field },
     /// No policy is for its issuer.
     Unbound,
+}
+
+impl Drop for Denial {
+    fn drop(self) {
+        match self {
+            Denial::Unreadable => {}
+            Denial::Refused => {}
+            Denial::Policy {
+                name: _name,
+                field: _field,
+            } => {}
+            Denial::Unbound => {}
+        }
+    }
 }
 
 impl Denial {

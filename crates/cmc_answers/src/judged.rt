@@ -10,10 +10,18 @@ use std::alloc::{AllocError, Global};
 use std::marker::Model;
 
 /// A question whether a request may be approved, and its judgement. Only `judge` makes one.
-#[derive(Drop)]
 pub struct Judged {
     order: JudgeOrder,
     denial: Option<Denial>,
+}
+
+impl Drop for Judged {
+    fn drop(self) {
+        let Judged {
+            order: _order,
+            denial: _denial,
+        } = self;
+    }
 }
 
 impl Model for Judged {

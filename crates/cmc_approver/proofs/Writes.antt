@@ -10,7 +10,8 @@ use Rattle.cmc_objects.specs.declared.role.Role.TheVariants.{Approver}
 use Rattle.cmc_objects.specs.Requests.{is_stated, is_approved, is_denied}
 use Rattle.cmc_answers.specs.declared.denial.Denial.{Denial}
 use Rattle.cmc_model.specs.Admission.{is_of, refusing_rule, verdict_rules, least_failing}
-use Rattle.cmc_model.specs.Stored.{with_status, numbered}
+use Rattle.cmc_objects.specs.Objects.{numbered}
+use Rattle.cmc_model.specs.Stored.{with_status}
 use Rattle.cmc_pass.specs.declared.pass.Views.{Views}
 use Rattle.cmc_pass.specs.declared.value.Value.TheVariants.{Judged}
 use Rattle.cmc_rules.specs.Rights.{ChangesVerdict, other_conditions}

@@ -18,10 +18,15 @@ use std::alloc::{AllocError, Global};
 use std::marker::Model;
 
 /// What each of the eight roles was told of. Contracts see it in the order of roles.
-#[derive(Drop)]
 pub struct Caches {
     /// The caches of the eight roles, in the order of roles.
     rows: Vec<RoleCaches>,
+}
+
+impl Drop for Caches {
+    fn drop(self) {
+        let Caches { rows: _rows } = self;
+    }
 }
 
 impl Model for Caches {

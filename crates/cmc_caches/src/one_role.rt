@@ -18,11 +18,20 @@ use std::alloc::{AllocError, Global};
 use std::marker::Model;
 
 /// The objects of each kind that a role was told of. Contracts see the three maps of objects.
-#[derive(Drop)]
 pub struct RoleCaches {
     certificates: Cache,
     requests: Cache,
     secrets: Cache,
+}
+
+impl Drop for RoleCaches {
+    fn drop(self) {
+        let RoleCaches {
+            certificates: _certificates,
+            requests: _requests,
+            secrets: _secrets,
+        } = self;
+    }
 }
 
 impl Model for RoleCaches {

@@ -14,12 +14,20 @@ use std::marker::Model;
 /// The accepted writes, numbered from 1 from the oldest on, and room for more of them.
 /// Contracts see the list of the writes, the newest first, and the number of writes for which there
 /// is room already.
-#[derive(Drop)]
 pub struct Log {
     /// The writes, the oldest first: the write of version n is the nth.
     items: Vec<Write>,
     /// Of each kind the version of the last write, 0 where there is none.
     last: Positions,
+}
+
+impl Drop for Log {
+    fn drop(self) {
+        let Log {
+            items: _items,
+            last: _last,
+        } = self;
+    }
 }
 
 impl Model for Log {

@@ -9,10 +9,15 @@ use std::marker::Model;
 /// The origins of the passes, numbered from 1 as the passes began, and room for more of them.
 /// Contracts see the list of the origins, that of the newest pass first, and the number of origins
 /// for which there is room already.
-#[derive(Drop)]
 pub struct Origins {
     /// The origins, the oldest first: that of pass n is the nth.
     items: Vec<Origin>,
+}
+
+impl Drop for Origins {
+    fn drop(self) {
+        let Origins { items: _items } = self;
+    }
 }
 
 impl Model for Origins {

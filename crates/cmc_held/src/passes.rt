@@ -16,10 +16,15 @@ use std::collections::BTreeMap;
 use std::marker::Model;
 
 /// The open passes under their numbers; contracts see the list of both in order of number.
-#[derive(Drop)]
 pub struct Passes {
     /// A pass stands under its number from its begin to its end, or to the stop of its role.
     map: BTreeMap<u64, OpenPass>,
+}
+
+impl Drop for Passes {
+    fn drop(self) {
+        let Passes { map: _map } = self;
+    }
 }
 
 impl Model for Passes {

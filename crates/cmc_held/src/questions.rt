@@ -104,13 +104,22 @@ impl Counts {
 }
 
 /// How many questions were asked for each Certificate's name: those for keys, and those to issuers.
-#[derive(Drop)]
 pub struct Questions {
     alloc: Global,
     /// The questions of the key manager. A name that is not there was never asked for.
     keys: Counts,
     /// The questions to issuers.
     answers: Counts,
+}
+
+impl Drop for Questions {
+    fn drop(self) {
+        let Questions {
+            alloc: _alloc,
+            keys: _keys,
+            answers: _answers,
+        } = self;
+    }
 }
 
 impl Model for Questions {

@@ -111,10 +111,15 @@ impl RoleMemory {
 }
 
 /// What each of the eight roles remembers. Contracts see the memories in the order of roles.
-#[derive(Drop)]
 pub struct RoleMemories {
     /// Eight memories, one for each role, in the order of roles.
     rows: Vec<RoleMemory>,
+}
+
+impl Drop for RoleMemories {
+    fn drop(self) {
+        let RoleMemories { rows: _rows } = self;
+    }
 }
 
 impl Model for RoleMemories {

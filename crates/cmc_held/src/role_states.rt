@@ -36,10 +36,15 @@ pub struct RoleState {
 }
 
 /// How each of the eight roles stands. Contracts see the states in the order of roles.
-#[derive(Drop)]
 pub struct RoleStates {
     /// Eight states, one for each role, in the order of roles.
     rows: Vec<RoleState>,
+}
+
+impl Drop for RoleStates {
+    fn drop(self) {
+        let RoleStates { rows: _rows } = self;
+    }
 }
 
 impl Model for RoleStates {

@@ -14,9 +14,14 @@ use std::marker::Model;
 /// The entries of a run, numbered from 1 from the oldest on, and room for more of them.
 /// Contracts see the list of the entries, the newest first, and the number of entries for which there
 /// is room already.
-#[derive(Drop)]
 pub struct History {
     items: Vec<Entry>,
+}
+
+impl Drop for History {
+    fn drop(self) {
+        let History { items: _items } = self;
+    }
 }
 
 impl Model for History {

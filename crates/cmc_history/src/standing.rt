@@ -187,11 +187,6 @@ fn object_after(
     }
 }
 
-/// A call has many shapes, and to let go of it is one thing for all of them.
-fn let_go<T: Drop>(value: T) {
-    let _value = value;
-}
-
 /// The standing after one entry more, where only the first `position` accepted writes count.
 /// `Err` where there is no memory.
 fn read(
@@ -207,7 +202,6 @@ fn read(
     let moment = moment_after(entry, standing.moment);
     let accepted = count_after(position, standing.accepted, &call);
     let object = object_after(alloc, position, key, standing, &call)?;
-    let_go(call);
     Ok(Standing {
         moment,
         accepted,

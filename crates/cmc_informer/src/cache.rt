@@ -17,9 +17,14 @@ use std::marker::Model;
 
 /// Objects under their keys, with indexes by the uids of their owners, by their own, and by the Secrets that
 /// Certificates name. Contracts see the objects alone, as a finite map.
-#[derive(Drop)]
 pub struct Cache {
     rows: Rows,
+}
+
+impl Drop for Cache {
+    fn drop(self) {
+        let Cache { rows: _rows } = self;
+    }
 }
 
 impl Model for Cache {

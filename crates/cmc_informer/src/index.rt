@@ -15,9 +15,14 @@ use std::marker::Model;
 
 /// Keys under uids. A row is only ever looked for under its own uid, and nobody asks for an order of uids: so
 /// they are hashed, and not sorted.
-#[derive(Drop)]
 pub(crate) struct Index {
     map: HashMap<u64, Marks>,
+}
+
+impl Drop for Index {
+    fn drop(self) {
+        let Index { map: _map } = self;
+    }
 }
 
 impl Model for Index {

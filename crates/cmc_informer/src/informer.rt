@@ -40,11 +40,20 @@ impl From<AllocError> for Undelivered {
 
 /// An informer of one kind: the objects of the kind as they stood after the first `position` accepted
 /// writes, with indexes. Contracts see the kind, the position and the objects.
-#[derive(Drop)]
 pub struct Informer {
     kind: Kind,
     position: u64,
     cache: Cache,
+}
+
+impl Drop for Informer {
+    fn drop(self) {
+        let Informer {
+            kind: _kind,
+            position: _position,
+            cache: _cache,
+        } = self;
+    }
 }
 
 impl Model for Informer {

@@ -20,18 +20,32 @@ struct Mark {
 }
 
 /// The keys that there is room for.
-#[derive(Drop)]
 enum Held {
     Nothing,
     One(Mark),
     More(MarkMap),
 }
 
+impl Drop for Held {
+    fn drop(self) {
+        match self {
+            Held::Nothing => {}
+            Held::One(_value) => {}
+            Held::More(_value) => {}
+        }
+    }
+}
+
 /// Keys that count, and room for more. Most rows of an index are of one key, which takes no map: the least map
 /// has room for eleven.
-#[derive(Drop)]
 pub(crate) struct Marks {
     held: Held,
+}
+
+impl Drop for Marks {
+    fn drop(self) {
+        let Marks { held: _held } = self;
+    }
 }
 
 impl Model for Marks {

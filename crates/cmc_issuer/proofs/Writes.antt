@@ -8,7 +8,8 @@ use Rattle.cmc_objects.specs.declared.request.RequestStatus.{RequestStatus}
 use Rattle.cmc_objects.specs.declared.object.Object.TheVariants.{Request}
 use Rattle.cmc_objects.specs.declared.role.Role.TheVariants.{Issuer}
 use Rattle.cmc_model.specs.Admission.{refusing_rule}
-use Rattle.cmc_model.specs.Stored.{with_status, numbered}
+use Rattle.cmc_objects.specs.Objects.{numbered}
+use Rattle.cmc_model.specs.Stored.{with_status}
 use Rattle.cmc_pass.specs.declared.pass.Views.{Views}
 use Rattle.cmc_pass.specs.declared.value.Value.{Value}
 use Rattle.cmc_rules.specs.Answering.{issued_condition, pending_condition, failed_condition, answered}

@@ -14,7 +14,8 @@ use Rattle.cmc_match.specs.Facts.{key_in, certificate_in}
 use Rattle.cmc_match.specs.Marks.{is_text, is_next_key, is_temporary}
 use Rattle.cmc_pass.specs.declared.pass.Views.{Views}
 use Rattle.cmc_model.specs.Admission.{changes_type, lacks, is_tls_incomplete, refusing_rule}
-use Rattle.cmc_model.specs.Stored.{created, updated, numbered, revised}
+use Rattle.cmc_objects.specs.Objects.{numbered}
+use Rattle.cmc_model.specs.Stored.{created, updated, revised}
 use Rattle.cmc_rules.specs.Passes.{writes_stand_in}
 use Rattle.cmc_rules.specs.Safety.{IsSecretWrite}
 use Rattle.cmc_rules.specs.Viewing.{is_text_true, has_next_label}

@@ -10,7 +10,8 @@ use Rattle.cmc_objects.specs.declared.call.Call.{Call}
 use Rattle.cmc_policies.specs.Renewal.{IsCertificateTime}
 use Rattle.cmc_pass.specs.declared.pass.Views.{Views}
 use Rattle.cmc_pass.specs.declared.value.Value.{Value}
-use Rattle.cmc_model.specs.Stored.{with_status, numbered}
+use Rattle.cmc_objects.specs.Objects.{numbered}
+use Rattle.cmc_model.specs.Stored.{with_status}
 use Rattle.cmc_model.proofs.Admission.{certificate_status_passes}
 use Rattle.cmc_rules.specs.Dates.{IsDatedStatus}
 use Rattle.cmc_rules.specs.Rights.{ChangesIssuance}

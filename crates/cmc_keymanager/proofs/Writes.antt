@@ -8,7 +8,8 @@ use Rattle.cmc_pass.specs.declared.pass.Views.{Views}
 use Rattle.cmc_pass.specs.declared.value.Value.{Value}
 use Rattle.cmc_model.specs.Admission.{refusing_rule}
 use Rattle.cmc_model.specs.Generated.{named}
-use Rattle.cmc_model.specs.Stored.{created, with_status, numbered}
+use Rattle.cmc_objects.specs.Objects.{numbered}
+use Rattle.cmc_model.specs.Stored.{created, with_status}
 use Rattle.cmc_model.proofs.Admission.{certificate_status_passes}
 use Rattle.cmc_rules.specs.Viewing.{has_next_label}
 use Rattle.cmc_rules.specs.KeyManaging.{name_call, drop_call, key_secret, make_call, key_after}

@@ -8,10 +8,18 @@ use std::marker::Model;
 
 /// A private key that was made for a question: it is of the algorithm and the size that are asked for, and what
 /// the row of the question says.
-#[derive(Drop)]
 pub struct Made {
     order: KeyOrder,
     bytes: Bytes,
+}
+
+impl Drop for Made {
+    fn drop(self) {
+        let Made {
+            order: _order,
+            bytes: _bytes,
+        } = self;
+    }
 }
 
 impl Model for Made {
@@ -70,10 +78,18 @@ impl Made {
 }
 
 /// The signature that was made for a certification request: the SHA-256 digest of its body, 32 octets.
-#[derive(Drop)]
 pub struct SignedCsr {
     order: CsrOrder,
     signature: Bytes,
+}
+
+impl Drop for SignedCsr {
+    fn drop(self) {
+        let SignedCsr {
+            order: _order,
+            signature: _signature,
+        } = self;
+    }
 }
 
 impl Model for SignedCsr {

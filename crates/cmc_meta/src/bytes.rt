@@ -8,9 +8,15 @@ use std::alloc::{AllocError, Global};
 use std::marker::Model;
 
 /// A list of bytes, such as a DER value or one entry of a Secret's data.
-#[derive(Clone, Drop)]
+#[derive(Clone)]
 pub struct Bytes {
     items: Vec<u8>,
+}
+
+impl Drop for Bytes {
+    fn drop(self) {
+        let Bytes { items: _items } = self;
+    }
 }
 
 impl Model for Bytes {

@@ -71,7 +71,6 @@ impl Tri {
 }
 
 /// One condition of a status.
-#[derive(Drop)]
 pub struct Condition {
     pub kind: ConditionKind,
     pub status: Tri,
@@ -80,6 +79,18 @@ pub struct Condition {
     /// The last moment at which the status changed (`lastTransitionTime`), in seconds since
     /// 1970-01-01T00:00:00Z.
     pub since: i64,
+}
+
+impl Drop for Condition {
+    fn drop(self) {
+        let Condition {
+            kind: _kind,
+            status: _status,
+            reason: _reason,
+            message: _message,
+            since: _since,
+        } = self;
+    }
 }
 
 impl Condition {
@@ -119,9 +130,14 @@ impl Item for Condition {
 }
 
 /// The conditions of a status, in order of kind, each kind at most once.
-#[derive(Drop)]
 pub struct Conditions {
     items: Vec<Condition>,
+}
+
+impl Drop for Conditions {
+    fn drop(self) {
+        let Conditions { items: _items } = self;
+    }
 }
 
 impl Model for Conditions {
@@ -212,13 +228,12 @@ fn find_kind(conditions: &[Condition], kind: ConditionKind) -> Option<&Condition
 fn keep_since(old: Option<&Condition>, new: Condition) -> Condition
     ensures { result ≡ kept_since (option_copied old.entry) new }
 {
+    let mut kept = new;
     match old {
-        Some(old) if old.status.same(new.status) => Condition {
-            since: old.since,
-            ..new
-        },
-        _ => new,
+        Some(old) if old.status.same(kept.status) => kept.since = old.since,
+        _ => {}
     }
+    kept
 }
 
 /// Where the kind stands or would stand, and whether it is there.

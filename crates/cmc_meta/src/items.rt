@@ -16,9 +16,14 @@ pub trait Item: Drop {
 }
 
 /// A list of things; contracts see the list of what they are.
-#[derive(Drop)]
 pub struct Items<T> {
     items: Vec<T>,
+}
+
+impl<T: Drop> Drop for Items<T> {
+    fn drop(self) {
+        let Items { items: _items } = self;
+    }
 }
 
 impl<T> Model for Items<T> {

@@ -96,11 +96,20 @@ impl Hash for Kind {
 }
 
 /// What an object stands under in the store, ordered by its fields.
-#[derive(Drop)]
 pub struct Key {
     pub kind: Kind,
     pub namespace: Name,
     pub name: Name,
+}
+
+impl Drop for Key {
+    fn drop(self) {
+        let Key {
+            kind: _kind,
+            namespace: _namespace,
+            name: _name,
+        } = self;
+    }
 }
 
 impl Key {

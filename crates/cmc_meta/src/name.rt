@@ -19,11 +19,19 @@ use std::sync::Arc;
 /// The name of an object or of a namespace: a DNS subdomain of 1 to 253 bytes, as RFC 1123 has it and
 /// the Kubernetes API conventions ask of object names. Contracts see the list of its bytes. Copies
 /// share one text.
-#[derive(Drop)]
 pub struct Name {
     /// The first eight bytes as a number: it decides most comparisons without a look at the text.
     first: u64,
     text: Arc<String, Global>,
+}
+
+impl Drop for Name {
+    fn drop(self) {
+        let Name {
+            first: _first,
+            text: _text,
+        } = self;
+    }
 }
 
 impl Model for Name {

@@ -6,7 +6,6 @@ use crate::name::Name;
 use std::alloc::AllocError;
 
 /// An owner reference of an object's metadata (Kubernetes API conventions, `ownerReferences`).
-#[derive(Drop)]
 pub struct OwnerRef {
     /// The owner's kind.
     pub kind: Kind,
@@ -16,6 +15,17 @@ pub struct OwnerRef {
     pub uid: u64,
     /// Whether the owner is the managing controller.
     pub controller: bool,
+}
+
+impl Drop for OwnerRef {
+    fn drop(self) {
+        let OwnerRef {
+            kind: _kind,
+            name: _name,
+            uid: _uid,
+            controller: _controller,
+        } = self;
+    }
 }
 
 impl OwnerRef {

@@ -40,10 +40,18 @@ impl Drop for Held {
 
 /// Texts under texts, as labels and annotations are; contracts see the pairs in order of key. Copies share their map
 /// until one of them is changed.
-#[derive(Drop)]
 pub struct Pairs {
     alloc: Global,
     held: Held,
+}
+
+impl Drop for Pairs {
+    fn drop(self) {
+        let Pairs {
+            alloc: _alloc,
+            held: _held,
+        } = self;
+    }
 }
 
 impl Model for Pairs {

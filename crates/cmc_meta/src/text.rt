@@ -10,9 +10,15 @@ use std::cmp::Ordering;
 use std::marker::Model;
 
 /// A text that owns its bytes; contracts see the list of its UTF-8 bytes.
-#[derive(Clone, Drop)]
+#[derive(Clone)]
 pub struct Text {
     text: String,
+}
+
+impl Drop for Text {
+    fn drop(self) {
+        let Text { text: _text } = self;
+    }
 }
 
 impl Model for Text {

@@ -17,9 +17,9 @@ use Rattle.cmc_objects.specs.declared.object.Object.TheVariants.{Cert, Request, 
 use Rattle.cmc_objects.specs.declared.certificate.Certificate.{Certificate}
 use Rattle.cmc_meta.specs.declared.key.Key.{Key}
 use Rattle.cmc_meta.specs.Keys.{kind_rank}
-use Rattle.cmc_objects.specs.Objects.{key_of, kind_of}
+use Rattle.cmc_objects.specs.Objects.{key_of, kind_of, numbered}
 use Rattle.cmc_model.specs.Objects.{Objects}
-use Rattle.cmc_model.specs.Stored.{created, updated, with_status, numbered, revised, restated}
+use Rattle.cmc_model.specs.Stored.{created, updated, with_status, revised, restated}
 use Rattle.cmc_model.specs.Admission.{condition_eq, certificate_rules, least_failing, shares_secret, is_taken, refusing_rule}
 use Rattle.cmc_model.proofs.SameSpecs.{and-Decides}
 

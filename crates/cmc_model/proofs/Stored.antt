@@ -2,8 +2,8 @@
 use Rattle.std.proofs.Common.{◌≡◌, ℕ, ℤ, refl, ◌∙◌}
 use Rattle.cmc_objects.specs.declared.object.Object.{Object}
 use Rattle.cmc_objects.specs.declared.object.Object.TheVariants.{Cert, Request, Secret}
-use Rattle.cmc_objects.specs.Objects.{meta_of, key_of, version_of}
-use Rattle.cmc_model.specs.Stored.{created, updated, with_status, generation_after, numbered, revised, restated}
+use Rattle.cmc_objects.specs.Objects.{meta_of, key_of, version_of, numbered}
+use Rattle.cmc_model.specs.Stored.{created, updated, with_status, generation_after, revised, restated}
 use Rattle.cmc_model.specs.Versions.{uid_of}
 
 pub version_of-created : (v : ℕ) (now : ℤ) (o : Object) → version_of (created v now o) ≡ v

@@ -13,10 +13,10 @@ use Rattle.cmc_objects.specs.declared.entry.Entry.{Entry}
 use Rattle.cmc_objects.specs.declared.entry.Entry.TheVariants.{Call as Called}
 use Rattle.cmc_objects.specs.declared.object.Object.{Object}
 use Rattle.cmc_objects.specs.declared.object.Object.TheVariants.{Cert, Request, Secret}
-use Rattle.cmc_objects.specs.Objects.{meta_of}
+use Rattle.cmc_objects.specs.Objects.{meta_of, numbered}
 use Rattle.cmc_objects.specs.Requests.{is_stated}
 use Rattle.cmc_model.specs.Objects.{Objects, object_at}
-use Rattle.cmc_model.specs.Stored.{created, updated, with_status, generation_after, numbered, revised, restated}
+use Rattle.cmc_model.specs.Stored.{created, updated, with_status, generation_after, revised, restated}
 use Rattle.cmc_model.specs.Admission.{stands, is_unsettled, condition_eq, is_lost, loses, verdict_rules, refusing_rule}
 use Rattle.cmc_model.specs.Replies.{is_accepted, key_of_call, settled, stored}
 use Rattle.cmc_model.specs.Accepting.{IsFounded}

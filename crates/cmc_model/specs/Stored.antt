@@ -3,7 +3,7 @@ use Rattle.std.specs.Prelude.{ℕ, ℤ, ◌+◌, ◌-◌, ◌^◌, min, if◌the
 use Rattle.cmc_meta.specs.declared.object_meta.ObjectMeta.{ObjectMeta}
 use Rattle.cmc_objects.specs.declared.object.Object.{Object}
 use Rattle.cmc_objects.specs.declared.object.Object.TheVariants.{Cert, Request, Secret}
-use Rattle.cmc_objects.specs.Objects.{meta_of, no_cert_status, no_request_status}
+use Rattle.cmc_objects.specs.Objects.{meta_of, numbered, no_cert_status, no_request_status}
 use Rattle.cmc_model.specs.Specs.{keeps_spec}
 
 -- the metadata of a new object: its uid is its first version
@@ -36,15 +36,6 @@ with_status old other = old
 -- the generation of the object after an update: it rises by one where the spec changes, up to the greatest u64
 unfoldable pub generation_after : Object → Object → ℕ
 generation_after old new = if keeps_spec old new then (meta_of old).generation else min ((meta_of old).generation + 1) (2 ^ 64 - 1)
-
-abbrev pub numbered_meta : ℕ → ℕ → ObjectMeta → ObjectMeta
-numbered_meta version generation m = record m { version = version; generation = generation }
-
--- the object under this version and this generation
-unfoldable pub numbered : ℕ → ℕ → Object → Object
-numbered version generation (Cert c) = Cert (record c { meta = numbered_meta version generation c.meta })
-numbered version generation (Request r) = Request (record r { meta = numbered_meta version generation r.meta })
-numbered version generation (Secret s) = Secret (record s { meta = numbered_meta version generation s.meta })
 
 -- what an accepted update stores as this version, and what an accepted status update stores
 abbrev pub revised : ℕ → Object → Object → Object

@@ -52,6 +52,11 @@ abbrev pub is_done : Stepped → Bool
 is_done Done = true
 is_done other = false
 
+-- the question that is told, with the number of the pass that asks it
+abbrev pub told_order : Stepped → Option (ℕ × Order)
+told_order (Asks pass order) = Some (pass, order)
+told_order other = None
+
 -- ---- tables of answers
 
 -- A need of a move: where it is not met, this is the answer; else what stands behind it decides.

@@ -17,12 +17,21 @@ use std::marker::Model;
 
 /// What a pass saw as it began. It keeps by its type that the pass's role may decide on it, so that this can be done where
 /// there is no world.
-#[derive(Drop)]
 pub struct Begun {
     role: Role,
     views: Views,
     /// The moment of the begin, in seconds since 1970-01-01T00:00:00Z.
     since: i64,
+}
+
+impl Drop for Begun {
+    fn drop(self) {
+        let Begun {
+            role: _role,
+            views: _views,
+            since: _since,
+        } = self;
+    }
 }
 
 impl Model for Begun {
@@ -38,10 +47,18 @@ impl Model for Begun {
 
 /// A decision: what a role does on what a pass saw. It keeps by its type that this is the act of the role, which is one that
 /// decides by what it sees alone. Only `decide` makes one.
-#[derive(Drop)]
 pub struct Decided {
     begun: Begun,
     act: Act,
+}
+
+impl Drop for Decided {
+    fn drop(self) {
+        let Decided {
+            begun: _begun,
+            act: _act,
+        } = self;
+    }
 }
 
 impl Model for Decided {

@@ -82,7 +82,6 @@ pub enum Lack {
 }
 
 /// What a step answers.
-#[derive(Drop)]
 pub enum Stepped {
     /// The move was made: the history has its one or two entries more.
     Done,
@@ -102,12 +101,44 @@ pub enum Stepped {
     Spent { entries: u64 },
 }
 
+impl Drop for Stepped {
+    fn drop(self) {
+        match self {
+            Stepped::Done => {}
+            Stepped::Order {
+                pass: _pass,
+                order: _order,
+            } => {}
+            Stepped::NotNow(_value) => {}
+            Stepped::Ended {
+                incarnation: _incarnation,
+            } => {}
+            Stepped::NotMine {
+                kept: _kept,
+                given: _given,
+            } => {}
+            Stepped::OtherViews { pass: _pass } => {}
+            Stepped::Spent { entries: _entries } => {}
+        }
+    }
+}
+
 impl Stepped {
     /// Whether the move was made.
     pub fn is_done(&self) -> bool
         ensures { result ≡ answers.is_done self.now }
     {
         matches!(self, Stepped::Done)
+    }
+
+    /// The question that the pass of this number asks; `None` where the move was answered otherwise.
+    pub fn into_order(self) -> Option<(u64, Order)>
+        ensures { result ≡ answers.told_order self }
+    {
+        match self {
+            Stepped::Order { pass, order } => Some((pass, order)),
+            _other => None,
+        }
     }
 }
 

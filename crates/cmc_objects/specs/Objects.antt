@@ -29,6 +29,15 @@ name_of object = (meta_of object).name
 abbrev pub version_of : Object → ℕ
 version_of object = (meta_of object).version
 
+abbrev pub numbered_meta : ℕ → ℕ → ObjectMeta → ObjectMeta
+numbered_meta version generation m = record m { version = version; generation = generation }
+
+-- the object under this version and this generation
+unfoldable pub numbered : ℕ → ℕ → Object → Object
+numbered version generation (Cert c) = Cert (record c { meta = numbered_meta version generation c.meta })
+numbered version generation (Request r) = Request (record r { meta = numbered_meta version generation r.meta })
+numbered version generation (Secret s) = Secret (record s { meta = numbered_meta version generation s.meta })
+
 -- the status of a new Certificate
 abbrev pub no_cert_status : CertStatus
 no_cert_status = record { conditions = []; last_failure = None; attempts = None; not_before = None; not_after = None; renewal = None; revision = None; next_key = None }

@@ -6,7 +6,6 @@ use cmc_meta::{Key, Name};
 use std::alloc::AllocError;
 
 /// A call on the store (Kubernetes API conventions, verbs and optimistic concurrency).
-#[derive(Drop)]
 pub enum Call {
     /// Stores a new object. With `generate` the object's name and a dash are the prefix from which its name is made
     /// (Kubernetes API conventions, `generateName`).
@@ -19,6 +18,30 @@ pub enum Call {
     Delete { key: Key, version: Option<u64> },
     /// Reads the object.
     Get { key: Key },
+}
+
+impl Drop for Call {
+    fn drop(self) {
+        match self {
+            Call::Create {
+                object: _object,
+                generate: _generate,
+            } => {}
+            Call::Update {
+                object: _object,
+                version: _version,
+            } => {}
+            Call::UpdateStatus {
+                object: _object,
+                version: _version,
+            } => {}
+            Call::Delete {
+                key: _key,
+                version: _version,
+            } => {}
+            Call::Get { key: _key } => {}
+        }
+    }
 }
 
 impl Call {
@@ -65,7 +88,6 @@ impl Call {
 }
 
 /// What the store answers to a call.
-#[derive(Drop)]
 pub enum Reply {
     /// The write was accepted as this version of the object of this name.
     Ok { version: u64, name: Name },
@@ -83,6 +105,27 @@ pub enum Reply {
     Invalid { rule: u32 },
     /// The call of this number was made to fail.
     Unavailable { number: u64 },
+}
+
+impl Drop for Reply {
+    fn drop(self) {
+        match self {
+            Reply::Ok {
+                version: _version,
+                name: _name,
+            } => {}
+            Reply::Unchanged { version: _version } => {}
+            Reply::Found { object: _object } => {}
+            Reply::Conflict {
+                named: _named,
+                have: _have,
+            } => {}
+            Reply::NotFound { at: _at } => {}
+            Reply::AlreadyExists { have: _have } => {}
+            Reply::Invalid { rule: _rule } => {}
+            Reply::Unavailable { number: _number } => {}
+        }
+    }
 }
 
 impl Reply {

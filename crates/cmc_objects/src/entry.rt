@@ -38,7 +38,6 @@ pub struct Positions {
 }
 
 /// One event of a history.
-#[derive(Drop)]
 pub enum Entry {
     /// The script's step of this number, counted from 1, is made.
     Script {
@@ -115,8 +114,67 @@ pub enum Entry {
     },
 }
 
+impl Drop for Entry {
+    fn drop(self) {
+        match self {
+            Entry::Script { step: _step } => {}
+            Entry::Call {
+                who: _who,
+                call: _call,
+                reply: _reply,
+            } => {}
+            Entry::Deliver {
+                role: _role,
+                kind: _kind,
+                to: _to,
+            } => {}
+            Entry::List {
+                role: _role,
+                kind: _kind,
+                to: _to,
+            } => {}
+            Entry::Begin {
+                pass: _pass,
+                role: _role,
+                key: _key,
+                at: _at,
+                now: _now,
+            } => {}
+            Entry::Ask {
+                pass: _pass,
+                order: _order,
+            } => {}
+            Entry::Made {
+                pass: _pass,
+                key: _key,
+            } => {}
+            Entry::Signed {
+                pass: _pass,
+                signature: _signature,
+            } => {}
+            Entry::Answered {
+                pass: _pass,
+                answer: _answer,
+            } => {}
+            Entry::Judged {
+                pass: _pass,
+                yes: _yes,
+            } => {}
+            Entry::End {
+                pass: _pass,
+                cause: _cause,
+            } => {}
+            Entry::Stop { role: _role } => {}
+            Entry::Start {
+                role: _role,
+                at: _at,
+            } => {}
+            Entry::Tick { now: _now } => {}
+        }
+    }
+}
+
 /// One step of a script.
-#[derive(Drop)]
 pub enum Step {
     /// Creates the object, or updates it where its key is taken. `version` is the resource version
     /// that the object names; where it names one, the step is always an update.
@@ -180,6 +238,57 @@ pub enum Step {
     },
     /// Waits until all is at rest.
     Settle,
+}
+
+impl Drop for Step {
+    fn drop(self) {
+        match self {
+            Step::Apply {
+                object: _object,
+                version: _version,
+            } => {}
+            Step::Delete {
+                key: _key,
+                version: _version,
+            } => {}
+            Step::Approve {
+                certificate: _certificate,
+                revision: _revision,
+            } => {}
+            Step::Deny {
+                certificate: _certificate,
+                revision: _revision,
+            } => {}
+            Step::Answer {
+                certificate: _certificate,
+                revision: _revision,
+                row: _row,
+            } => {}
+            Step::Renew {
+                certificate: _certificate,
+            } => {}
+            Step::Tick { seconds: _seconds } => {}
+            Step::Stop { role: _role } => {}
+            Step::Start {
+                role: _role,
+                behind: _behind,
+            } => {}
+            Step::Hold {
+                role: _role,
+                kind: _kind,
+            } => {}
+            Step::Release {
+                role: _role,
+                kind: _kind,
+            } => {}
+            Step::Until {
+                role: _role,
+                kind: _kind,
+                writes: _writes,
+            } => {}
+            Step::Settle => {}
+        }
+    }
 }
 
 impl Step {

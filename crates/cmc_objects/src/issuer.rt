@@ -4,13 +4,22 @@ use cmc_meta::{Text, copy_optional, same_optional};
 use std::alloc::AllocError;
 
 /// The issuer that a Certificate or a CertificateRequest names (cert-manager.io/v1 `issuerRef`).
-#[derive(Drop)]
 pub struct IssuerRef {
     pub name: Text,
     /// `Issuer` where absent.
     pub kind: Option<Text>,
     /// `cert-manager.io` where absent.
     pub group: Option<Text>,
+}
+
+impl Drop for IssuerRef {
+    fn drop(self) {
+        let IssuerRef {
+            name: _name,
+            kind: _kind,
+            group: _group,
+        } = self;
+    }
 }
 
 impl IssuerRef {

@@ -10,10 +10,18 @@ use std::marker::Model;
 
 /// What a scenario says of the keys and the issuers of Certificates; contracts see the pairs of a
 /// Certificate's key and its rows, in order of key.
-#[derive(Drop)]
 pub struct Material {
     map: BTreeMap<Key, Rows>,
     alloc: Global,
+}
+
+impl Drop for Material {
+    fn drop(self) {
+        let Material {
+            map: _map,
+            alloc: _alloc,
+        } = self;
+    }
 }
 
 impl Model for Material {

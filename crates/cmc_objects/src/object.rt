@@ -8,15 +8,24 @@ use cmc_meta::{Key, Kind, ObjectMeta};
 use std::alloc::{AllocError, Global};
 
 /// An object of the store. Its copies share it.
-#[derive(Drop)]
 pub enum Object {
     Cert(Shared<Certificate>),
     Request(Shared<CertificateRequest>),
     Secret(Shared<Secret>),
 }
 
+impl Drop for Object {
+    fn drop(self) {
+        match self {
+            Object::Cert(_value) => {}
+            Object::Request(_value) => {}
+            Object::Secret(_value) => {}
+        }
+    }
+}
+
 impl Object {
-    ghost use Rattle.cmc_objects.specs.Objects.{key_of, kind_of, meta_of};
+    ghost use Rattle.cmc_objects.specs.Objects.{key_of, kind_of, meta_of, numbered};
     ghost use Rattle.cmc_objects.specs.declared.object.Object.TheVariants as variants;
 
     /// The object that is this Certificate. An error is one of memory.
@@ -73,6 +82,39 @@ impl Object {
             namespace: meta.namespace.copy()?,
             name: meta.name.copy()?,
         })
+    }
+
+    /// The object under this resource version and this generation. What no one else holds is not copied; an error is one of
+    /// memory.
+    #[tactic(auto, unfolding(crate::specs::Objects::numbered))]
+    pub fn numbered(
+        self,
+        alloc: Global,
+        version: u64,
+        generation: u64,
+    ) -> Result<Object, AllocError>
+        ensures { IfOk result (λ o. o ≡ numbered version generation self) }
+    {
+        match self {
+            Object::Cert(shared) => {
+                let mut certificate = shared.into_own()?;
+                certificate.meta.version = version;
+                certificate.meta.generation = generation;
+                Object::of_certificate(alloc, certificate)
+            }
+            Object::Request(shared) => {
+                let mut request = shared.into_own()?;
+                request.meta.version = version;
+                request.meta.generation = generation;
+                Object::of_request(alloc, request)
+            }
+            Object::Secret(shared) => {
+                let mut secret = shared.into_own()?;
+                secret.meta.version = version;
+                secret.meta.generation = generation;
+                Object::of_secret(alloc, secret)
+            }
+        }
     }
 
     /// An equal object: the same one, shared.

@@ -10,7 +10,6 @@ use std::alloc::AllocError;
 use std::marker::Model;
 
 /// A question for a private key.
-#[derive(Drop)]
 pub struct KeyOrder {
     /// The number of the question among those for this Certificate's name, from 1.
     pub number: u64,
@@ -20,6 +19,19 @@ pub struct KeyOrder {
     pub size: u32,
     pub encoding: Encoding,
     pub row: KeyRow,
+}
+
+impl Drop for KeyOrder {
+    fn drop(self) {
+        let KeyOrder {
+            number: _number,
+            certificate: _certificate,
+            algorithm: _algorithm,
+            size: _size,
+            encoding: _encoding,
+            row: _row,
+        } = self;
+    }
 }
 
 impl KeyOrder {
@@ -51,12 +63,20 @@ impl KeyOrder {
 }
 
 /// A question for the signature of a certificate signing request.
-#[derive(Drop)]
 pub struct CsrOrder {
     /// The key file that signs, in DER.
     pub key: Bytes,
     /// The body that is signed (RFC 2986, CertificationRequestInfo), in DER.
     pub body: Bytes,
+}
+
+impl Drop for CsrOrder {
+    fn drop(self) {
+        let CsrOrder {
+            key: _key,
+            body: _body,
+        } = self;
+    }
 }
 
 impl CsrOrder {
@@ -187,7 +207,6 @@ impl SignOrder {
 }
 
 /// What an approver lets pass.
-#[derive(Drop)]
 pub struct Rules {
     /// The names of the issuers whose requests it judges, or `*` for all.
     pub issuers: Texts,
@@ -195,6 +214,16 @@ pub struct Rules {
     pub refuse: Texts,
     /// The approval policies; with none each request is allowed.
     pub policies: Policies,
+}
+
+impl Drop for Rules {
+    fn drop(self) {
+        let Rules {
+            issuers: _issuers,
+            refuse: _refuse,
+            policies: _policies,
+        } = self;
+    }
 }
 
 impl Rules {
@@ -220,10 +249,18 @@ impl Rules {
 }
 
 /// A question whether a request may be approved.
-#[derive(Drop)]
 pub struct JudgeOrder {
     pub request: Shared<CertificateRequest>,
     pub rules: Rules,
+}
+
+impl Drop for JudgeOrder {
+    fn drop(self) {
+        let JudgeOrder {
+            request: _request,
+            rules: _rules,
+        } = self;
+    }
 }
 
 impl JudgeOrder {
@@ -281,7 +318,6 @@ impl Order {
 }
 
 /// What an issuer answers.
-#[derive(Drop)]
 pub enum Signing {
     /// A certificate, and the CA's certificate, which is empty where there is none; both in DER.
     Issued { certificate: Bytes, ca: Bytes },
@@ -289,6 +325,19 @@ pub enum Signing {
     Pending,
     /// The issuer refuses.
     Failed { message: Text },
+}
+
+impl Drop for Signing {
+    fn drop(self) {
+        match self {
+            Signing::Issued {
+                certificate: _certificate,
+                ca: _ca,
+            } => {}
+            Signing::Pending => {}
+            Signing::Failed { message: _message } => {}
+        }
+    }
 }
 
 impl Signing {

@@ -14,10 +14,18 @@ use std::marker::Model;
 
 /// The data of a Secret: bytes under names; contracts see the pairs in order of name. What is known of its key and its
 /// certificate can be kept beside it, so that they are read once for all who look at the Secret.
-#[derive(Drop)]
 pub struct Parts {
     map: BTreeMap<Text, Bytes>,
     pairing: Option<Pairing>,
+}
+
+impl Drop for Parts {
+    fn drop(self) {
+        let Parts {
+            map: _map,
+            pairing: _pairing,
+        } = self;
+    }
 }
 
 impl Model for Parts {
@@ -97,8 +105,12 @@ impl Parts {
         ensures { result ≡ self }
     {
         let pairing = self.pairing();
+        let Parts {
+            map,
+            pairing: _pairing,
+        } = self;
         Parts {
-            map: self.map,
+            map,
             pairing: Some(pairing),
         }
     }

@@ -18,7 +18,6 @@ pub enum KeyRow {
 }
 
 /// What a scenario says of one question to an issuer.
-#[derive(Drop)]
 pub enum SignRow {
     /// A certificate is issued.
     Issue {
@@ -45,6 +44,24 @@ pub enum SignRow {
     },
     /// Any answer. No scenario that is read has this row.
     Free,
+}
+
+impl Drop for SignRow {
+    fn drop(self) {
+        match self {
+            SignRow::Issue {
+                seconds: _seconds,
+                before: _before,
+                serial: _serial,
+                key: _key,
+                ca: _ca,
+            } => {}
+            SignRow::Pending => {}
+            SignRow::Fail { message: _message } => {}
+            SignRow::Raw { der: _der } => {}
+            SignRow::Free => {}
+        }
+    }
 }
 
 impl KeyRow {
@@ -165,10 +182,18 @@ impl Item for SignRow {
 }
 
 /// What a scenario says of the keys and the issuer of one Certificate.
-#[derive(Drop)]
 pub struct Rows {
     pub keys: KeyRows,
     pub replies: SignRows,
+}
+
+impl Drop for Rows {
+    fn drop(self) {
+        let Rows {
+            keys: _keys,
+            replies: _replies,
+        } = self;
+    }
 }
 
 impl Rows {

@@ -1,5 +1,5 @@
 //! Values that several holders share.
-ghost use Rattle.std.specs.Prelude.{◌≡◌, IfOk, MatchResult};
+ghost use Rattle.std.specs.Prelude.{◌≡◌, IfOk};
 
 use cmc_meta::Item;
 use std::alloc::{AllocError, Global};
@@ -8,9 +8,14 @@ use std::ops::Deref;
 use std::sync::Arc;
 
 /// A value that is never changed, held by as many as want it; contracts see the value.
-#[derive(Drop)]
 pub struct Shared<T> {
     value: Arc<T, Global>,
+}
+
+impl<T: Drop> Drop for Shared<T> {
+    fn drop(self) {
+        let Shared { value: _value } = self;
+    }
 }
 
 impl<T> Model for Shared<T> {
@@ -41,14 +46,17 @@ impl<T: Drop> Shared<T> {
             value: Arc::try_clone(&self.value)?,
         })
     }
+}
 
-    /// The value itself where no one else holds it, and else the same holder again.
-    pub fn into_value(self) -> Result<T, Shared<T>>
-        ensures { MatchResult result (λ v. v ≡ self) (λ s. s ≡ self) }
+impl<T: Item> Shared<T> {
+    /// The value by itself, which is copied only where someone else holds it too. An error is one of memory.
+    pub fn into_own(self) -> Result<T, AllocError>
+        ensures { IfOk result (λ v. v ≡ self) }
     {
-        match Arc::try_unwrap(self.value) {
+        let Shared { value } = self;
+        match Arc::try_unwrap(value) {
             Ok(value) => Ok(value),
-            Err(value) => Err(Shared { value }),
+            Err(value) => value.as_ref().copy(),
         }
     }
 }

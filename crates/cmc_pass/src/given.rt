@@ -10,7 +10,6 @@ use cmc_objects::Order;
 use std::alloc::AllocError;
 
 /// A value with the question that it answers. Each variant keeps by its type that it does.
-#[derive(Drop)]
 pub enum Given {
     /// A private key that was made.
     Made(Made),
@@ -20,6 +19,17 @@ pub enum Given {
     Answered(Answered),
     /// A judgement of a request.
     Judged(Judged),
+}
+
+impl Drop for Given {
+    fn drop(self) {
+        match self {
+            Given::Made(_value) => {}
+            Given::Signed(_value) => {}
+            Given::Answered(_value) => {}
+            Given::Judged(_value) => {}
+        }
+    }
 }
 
 impl Given {

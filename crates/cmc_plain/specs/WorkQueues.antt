@@ -27,7 +27,7 @@ use Rattle.cmc_plain.specs.DueMoments.{IsFirstAfter}
 abbrev pub IsOfWork : Setting → List Entry → Role → Key → Type 0
 IsOfWork s h role key = (key.kind ≡ kind_of_work role) × (is_known key (writes s h) ≡ true)
 
--- the role may begin a pass on the key, and it is worth one
+-- the key is queued, and a pass on it is due
 pub record MayBegin (s : Setting) (h : List Entry) (role : Role) (key : Key) : Type 0 where
   pub queued : IsQueued s h role key
   pub due : IsDue (past s h role key) (views s h role key) (moment s h) (positions h role)

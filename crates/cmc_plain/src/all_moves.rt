@@ -5,7 +5,6 @@ ghost use Rattle.cmc_pass.specs.Values.{IsValue};
 ghost use Rattle.cmc_world.specs.Kept.{on, setting_of};
 ghost use Rattle.cmc_world.specs.Leading.{IsRight, IsStep, Lead, LeadsSome};
 
-use cmc_moves::let_go;
 use cmc_pass::Given;
 use cmc_world::{Move, World};
 use std::alloc::{AllocError, Global};
@@ -51,8 +50,7 @@ fn make_one(world: &mut World, alloc: Global, step: Move) -> Result<(), AllocErr
     ensures err { OnErr result (world.new ≡ world.old) }
 {
     is_right(&step);
-    let answer = world.step(alloc, step)?;
-    let_go(answer);
+    let _answer = world.step(alloc, step)?;
     Ok(())
 }
 

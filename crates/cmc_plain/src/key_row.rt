@@ -11,11 +11,19 @@ use std::marker::Model;
 
 /// A set of keys; contracts see it as an ordered one. Searches go over the keys in their order, from a key on. But most
 /// calls ask of one key alone, or add one that is there: for them all keys are hashed too.
-#[derive(Drop)]
 pub(crate) struct KeyRow {
     ordered: BTreeSet<Key>,
     /// The same keys.
     hashed: HashSet<Key>,
+}
+
+impl Drop for KeyRow {
+    fn drop(self) {
+        let KeyRow {
+            ordered: _ordered,
+            hashed: _hashed,
+        } = self;
+    }
 }
 
 impl Model for KeyRow {

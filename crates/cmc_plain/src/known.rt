@@ -21,10 +21,18 @@ use std::alloc::{AllocError, Global};
 
 /// For each role the keys of its work on which it may have something to do by what it sees now, which are awake, and those
 /// on which it is known to have something to do.
-#[derive(Drop)]
 pub(crate) struct Known {
     pub awake: Ready,
     pub busy: Ready,
+}
+
+impl Drop for Known {
+    fn drop(self) {
+        let Known {
+            awake: _awake,
+            busy: _busy,
+        } = self;
+    }
 }
 
 impl Known {

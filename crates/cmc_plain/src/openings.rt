@@ -71,9 +71,10 @@ pub struct Opened {
 
 impl Drop for Opened {
     fn drop(self) {
-        let Opened { begin, first } = self;
-        let_go(begin);
-        let_go(first);
+        let Opened {
+            begin: _begin,
+            first: _first,
+        } = self;
     }
 }
 
@@ -193,9 +194,6 @@ pub(crate) fn open(
     };
     match act_if(alloc, world, ready, known, begin.is_done(), does) {
         Ok(first) => Ok(Opened { begin, first }),
-        Err(lack) => {
-            let_go(begin);
-            Err(lack)
-        }
+        Err(lack) => Err(lack),
     }
 }

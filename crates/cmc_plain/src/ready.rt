@@ -16,9 +16,14 @@ use std::collections::BTreeSet;
 use std::marker::Model;
 
 /// A set of keys for each of the eight roles. Contracts see the sets in the order of roles.
-#[derive(Drop)]
 pub(crate) struct Ready {
     rows: Vec<KeyRow>,
+}
+
+impl Drop for Ready {
+    fn drop(self) {
+        let Ready { rows: _rows } = self;
+    }
 }
 
 impl Model for Ready {

@@ -38,7 +38,7 @@ pub(crate) enum Turn {
 fn goes_on(answer: Stepped) -> bool
     ensures { result ≡ spec.goes_on answer }
 {
-    matches!(answer, Stepped::Done | Stepped::Order { .. })
+    matches!(&answer, Stepped::Done | Stepped::Order { .. })
 }
 
 /// Makes the plain move, which is this one, where it fits.

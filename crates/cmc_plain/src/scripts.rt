@@ -4,23 +4,14 @@ ghost use Rattle.cmc_world.specs.Kept.{on};
 ghost use Rattle.cmc_plain.specs.Searches as words;
 ghost use Rattle.cmc_plain.specs.Searches.{IsAwaitedBy, IsAwaiting};
 
-use cmc_moves::let_go;
 use cmc_objects::Step;
 use cmc_world::{Stepped, World};
-
-fn accepts(answer: &Stepped) -> bool
-    ensures { result ≡ words.is_accepted answer.now }
-{
-    matches!(answer, Stepped::Done | Stepped::Spent { .. })
-}
 
 /// Whether a step answers so to a move that is possible: it was made, or there is no room for it.
 pub(crate) fn is_accepted(answer: Stepped) -> bool
     ensures { result ≡ words.is_accepted answer }
 {
-    let accepted = accepts(&answer);
-    let_go(answer);
-    accepted
+    matches!(&answer, Stepped::Done | Stepped::Spent { .. })
 }
 
 /// What the next step of the script waits for.

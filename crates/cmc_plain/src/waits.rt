@@ -15,7 +15,6 @@ ghost use Rattle.cmc_plain.specs.Waits as words;
 use crate::deliveries::told_answer;
 use cmc_match::{is_next_key, next_request};
 use cmc_meta::{Condition, ConditionKind, Key, Kind, Tri};
-use cmc_moves::let_go;
 use cmc_next::{is_approved, is_denied, is_issuing};
 use cmc_objects::{CertStatus, Certificate, CertificateRequest, Role, Secret, Shared};
 use cmc_pass::Views;
@@ -140,9 +139,7 @@ fn is_kept_from(alloc: Global, world: &World, role: Role, kind: Kind) -> Result<
     ensures { IfOk result (λ b. b ≡ on words.is_kept_from world.now role kind) }
 {
     let answer = told_answer(alloc, world, role, kind, 0)?;
-    let refusal = is_refusal(&answer);
-    let_go(answer);
-    Ok(refusal)
+    Ok(is_refusal(&answer))
 }
 
 fn is_hindered(alloc: Global, world: &World, role: Role) -> Result<bool, AllocError>

@@ -45,7 +45,6 @@ use std::marker::Model;
 /// A world with the keys that are ready: for each role the keys of its work at which it has to look. Contracts see the world
 /// alone: on a key that is not ready, the role has nothing to do, and sees what it saw as it last began a pass on it. So
 /// the next move of each sort is found without a look at all keys.
-#[derive(Drop)]
 pub struct Waking {
     world: World,
     /// The keys that are ready, from the first search of the plain order for a begin on. Many hands begin only where there
@@ -53,6 +52,16 @@ pub struct Waking {
     ready: Option<Ready>,
     /// On which keys each role may have something to do, and on which it is known to have.
     known: Known,
+}
+
+impl Drop for Waking {
+    fn drop(self) {
+        let Waking {
+            world: _world,
+            ready: _ready,
+            known: _known,
+        } = self;
+    }
 }
 
 impl Model for Waking {
@@ -379,7 +388,12 @@ impl Waking {
     pub fn into_world(self) -> World
         ensures { result ≡ self }
     {
-        self.world
+        let Waking {
+            world,
+            ready: _ready,
+            known: _known,
+        } = self;
+        world
     }
 
     /// The move that a run by one hand makes next, as `plain` has it. Nothing of the world changes.

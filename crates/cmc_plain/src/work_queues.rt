@@ -169,12 +169,12 @@ fn put_each(
     Ok(())
 }
 
-/// The work queue of the role, as the history has it. A key is *ready* where a begin of the role on it would be made: it is
-/// one of the role's kind of work, an accepted write named it, the role has something to do there or sees what it did not
-/// see as it last began there, it was told of its own writes, and the pass would not be the last one again. It is *in
-/// process* while a pass of the role on it is open. It is *parked* for a version of a kind of which the role is not yet told:
-/// that of its own write on the key, or of the write that refused its last pass, which saw the same. And it is *timed* at the
-/// next moment at which the role may come to have something to do without seeing anything new.
+/// The work queue of the role, as the history has it. A key is *ready* where it is queued and due: it is one of the role's
+/// kind of work, an accepted write named it, the role has something to do there or sees what it did not see as it last began
+/// there, it was told of its own writes, and the pass would not be the last one again. It is *in process* while a pass of
+/// the role on it is open. It is *parked* for a version of a kind of which the role is not yet told: that of its own write
+/// on the key, or of the write that refused its last pass, which saw the same. And it is *timed* at the next moment at which
+/// the role may come to have something to do without seeing anything new.
 ///
 /// # Errors
 ///

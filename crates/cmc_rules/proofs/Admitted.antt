@@ -10,13 +10,13 @@ use Rattle.cmc_objects.specs.declared.certificate.Certificate.{Certificate}
 use Rattle.cmc_objects.specs.declared.entry.Entry.{Entry}
 use Rattle.cmc_objects.specs.declared.object.Object.{Object}
 use Rattle.cmc_objects.specs.declared.object.Object.TheVariants.{Cert, Request, Secret}
-use Rattle.cmc_objects.specs.Objects.{meta_of}
+use Rattle.cmc_objects.specs.Objects.{meta_of, numbered}
 use Rattle.cmc_model.specs.Accepting.{IsFounded}
 use Rattle.cmc_model.specs.Admission.{certificate_rules, least_failing, is_secret_refused, changes_type, is_tls_incomplete, verdict_rules, is_name_long, has_many_names, are_usages_wrong, is_outside_limits, refusing_rule, is_taken}
 use Rattle.cmc_model.specs.Histories.{Setting, moment, state, objects, accepted}
 use Rattle.cmc_model.specs.Objects.{Objects, object_at}
 use Rattle.cmc_model.specs.Replies.{key_of_call, settled, stored}
-use Rattle.cmc_model.specs.Stored.{created, updated, with_status, generation_after, numbered}
+use Rattle.cmc_model.specs.Stored.{created, updated, with_status, generation_after}
 use Rattle.cmc_model.specs.Verdicts.{IsAnswered}
 use Rattle.cmc_model.specs.Versions.{HasVersion}
 use Rattle.cmc_model.specs.Writes.{writes}

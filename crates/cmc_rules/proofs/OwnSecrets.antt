@@ -15,14 +15,14 @@ use Rattle.cmc_objects.specs.declared.entry.Entry.{Entry}
 use Rattle.cmc_objects.specs.declared.entry.Entry.TheVariants.{Call as Called}
 use Rattle.cmc_objects.specs.declared.object.Object.{Object}
 use Rattle.cmc_objects.specs.declared.object.Object.TheVariants.{Cert, Request, Secret}
-use Rattle.cmc_objects.specs.Objects.{key_of}
+use Rattle.cmc_objects.specs.Objects.{key_of, numbered}
 use Rattle.cmc_model.specs.declared.write.Write.{Write}
 use Rattle.cmc_model.specs.Accepting.{IsFounded}
 use Rattle.cmc_model.specs.Admission.{shares_secret, is_taken, refusing_rule}
 use Rattle.cmc_model.specs.Histories.{Setting, moment, state, objects, accepted}
 use Rattle.cmc_model.specs.Objects.{Objects, no_objects, object_at}
 use Rattle.cmc_model.specs.Replies.{is_accepted, key_of_call, settled, stored}
-use Rattle.cmc_model.specs.Stored.{created, updated, with_status, numbered, revised, restated}
+use Rattle.cmc_model.specs.Stored.{created, updated, with_status, revised, restated}
 use Rattle.cmc_model.specs.Writes.{writes, write_of, contents}
 use Rattle.cmc_model.proofs.Accepting.{accepted_found}
 use Rattle.cmc_model.proofs.Admission.{admitted_free, is_taken-revised}

@@ -14,7 +14,6 @@ pub enum Obstacle {
 }
 
 /// How far an open pass has come.
-#[derive(Drop)]
 pub enum Stage {
     /// It has begun.
     Fresh,
@@ -32,6 +31,27 @@ pub enum Stage {
     Refused { entry: u64, obstacle: Obstacle },
     /// An admission rule refused its call. No pass comes to this.
     Barred,
+}
+
+impl Drop for Stage {
+    fn drop(self) {
+        match self {
+            Stage::Fresh => {}
+            Stage::Asked { order: _order } => {}
+            Stage::Given {
+                order: _order,
+                value: _value,
+            } => {}
+            Stage::Read => {}
+            Stage::Saved => {}
+            Stage::Wrote => {}
+            Stage::Refused {
+                entry: _entry,
+                obstacle: _obstacle,
+            } => {}
+            Stage::Barred => {}
+        }
+    }
 }
 
 /// A pass between its Begin and its End.

@@ -24,7 +24,7 @@ use Rattle.cmc_objects.specs.declared.entry.Positions.{Positions}
 use Rattle.cmc_objects.specs.declared.entry.Who.TheVariants.{User, Pass}
 use Rattle.cmc_objects.specs.declared.entry.Entry.{Entry}
 use Rattle.cmc_objects.specs.declared.entry.Entry.TheVariants.{Script, Call as Called, Deliver, List as Listed, Begin, Ask, Made, Signed, Answered, Judged, End, Stop, Start, Tick}
-use Rattle.cmc_objects.specs.Objects.{key_of, name_of, version_of}
+use Rattle.cmc_objects.specs.Objects.{key_of, name_of, version_of, numbered}
 use Rattle.cmc_pass.specs.declared.pass.Views.{Views}
 use Rattle.cmc_pass.specs.declared.pass.Act.{Act}
 use Rattle.cmc_pass.specs.declared.pass.Act.TheVariants.{Nothing, Call as Calls, Ask as Asks, Issue, Temporary}
@@ -33,7 +33,7 @@ use Rattle.cmc_pass.specs.declared.pass.TemporaryPlan.{TemporaryPlan}
 use Rattle.cmc_pass.specs.declared.value.Value.{Value}
 use Rattle.cmc_pass.specs.declared.value.Value.TheVariants as values
 use Rattle.cmc_model.specs.Objects.{Objects, object_at}
-use Rattle.cmc_model.specs.Stored.{updated, with_status, numbered, restated}
+use Rattle.cmc_model.specs.Stored.{updated, with_status, restated}
 use Rattle.cmc_model.specs.Admission.{is_taken, refusing_rule}
 use Rattle.cmc_model.specs.Replies.{State, IsReply, IsServed as IsServedBy, IsCreated, IsUpdated, IsRestated, IsGot, IsChange, IsAdmitted, is_accepted, key_of_call, settled, stored, put_at}
 use Rattle.cmc_model.specs.Histories.{Setting, moment, state, objects, accepted}

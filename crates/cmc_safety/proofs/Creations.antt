@@ -2,9 +2,9 @@
 use Rattle.std.proofs.Common.{ℤ, List}
 use Rattle.cmc_objects.specs.declared.object.Object.{Object}
 use Rattle.cmc_objects.specs.declared.entry.Entry.{Entry}
-use Rattle.cmc_objects.specs.Objects.{meta_of}
+use Rattle.cmc_objects.specs.Objects.{meta_of, numbered}
 use Rattle.cmc_policies.specs.Renewal.{IsCertificateTime}
-use Rattle.cmc_model.specs.Stored.{created, updated, with_status, numbered}
+use Rattle.cmc_model.specs.Stored.{created, updated, with_status}
 use Rattle.cmc_model.specs.Histories.{Setting, moment}
 use Rattle.cmc_model.specs.Writes.{writes}
 use Rattle.cmc_safety.specs.Formed.{IsFormed}

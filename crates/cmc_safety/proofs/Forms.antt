@@ -24,7 +24,8 @@ use Rattle.cmc_pass.specs.declared.pass.Views.{Views}
 use Rattle.cmc_model.specs.declared.write.Write.{Write}
 use Rattle.cmc_model.specs.Objects.{object_at}
 use Rattle.cmc_model.specs.Generated.{named}
-use Rattle.cmc_model.specs.Stored.{created, updated, with_status, numbered}
+use Rattle.cmc_objects.specs.Objects.{numbered}
+use Rattle.cmc_model.specs.Stored.{created, updated, with_status}
 use Rattle.cmc_model.specs.Replies.{key_of_call, settled}
 use Rattle.cmc_model.specs.Histories.{Setting, moment, objects}
 use Rattle.cmc_model.specs.Writes.{writes}

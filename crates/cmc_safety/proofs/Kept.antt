@@ -10,10 +10,10 @@ use Rattle.cmc_objects.specs.declared.call.Call.TheVariants.{Create, Update, Upd
 use Rattle.cmc_objects.specs.declared.call.Reply.{Reply}
 use Rattle.cmc_objects.specs.declared.call.Reply.TheVariants.{Ok}
 use Rattle.cmc_objects.specs.declared.entry.Entry.{Entry}
-use Rattle.cmc_objects.specs.Objects.{meta_of, no_cert_status, no_request_status}
+use Rattle.cmc_objects.specs.Objects.{meta_of, no_cert_status, no_request_status, numbered}
 use Rattle.cmc_model.specs.Objects.{object_at}
 use Rattle.cmc_model.specs.Generated.{named}
-use Rattle.cmc_model.specs.Stored.{created, updated, with_status, generation_after, numbered}
+use Rattle.cmc_model.specs.Stored.{created, updated, with_status, generation_after}
 use Rattle.cmc_model.specs.Replies.{key_of_call, settled, stored_over}
 use Rattle.cmc_model.specs.Histories.{Setting, moment, objects, accepted}
 use Rattle.cmc_model.specs.Writes.{writes}

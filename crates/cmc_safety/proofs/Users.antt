@@ -19,9 +19,9 @@ use Rattle.cmc_objects.specs.declared.entry.Step.{Step}
 use Rattle.cmc_objects.specs.declared.entry.Step.TheVariants as steps
 use Rattle.cmc_objects.specs.declared.entry.Entry.{Entry}
 use Rattle.cmc_objects.specs.declared.entry.Entry.TheVariants.{Script}
-use Rattle.cmc_objects.specs.Objects.{key_of, meta_of, version_of}
+use Rattle.cmc_objects.specs.Objects.{key_of, meta_of, version_of, numbered}
 use Rattle.cmc_model.specs.Objects.{Objects, object_at}
-use Rattle.cmc_model.specs.Stored.{created, updated, with_status, generation_after, numbered}
+use Rattle.cmc_model.specs.Stored.{created, updated, with_status, generation_after}
 use Rattle.cmc_model.specs.Replies.{IsReply, is_accepted, settled}
 use Rattle.cmc_model.specs.Accepting.{IsFounded}
 use Rattle.cmc_model.specs.Histories.{Setting, moment, state, objects, accepted}

@@ -9,9 +9,14 @@ use std::alloc::{AllocError, Global};
 use std::marker::Model;
 
 /// Roles in their order, each once.
-#[derive(Drop)]
 pub struct Roles {
     items: Vec<Role>,
+}
+
+impl Drop for Roles {
+    fn drop(self) {
+        let Roles { items: _items } = self;
+    }
 }
 
 impl Model for Roles {

@@ -7,9 +7,14 @@ use std::alloc::{AllocError, Global};
 use std::marker::Model;
 
 /// The steps of a script, in their order.
-#[derive(Drop)]
 pub struct Steps {
     items: Vec<Step>,
+}
+
+impl Drop for Steps {
+    fn drop(self) {
+        let Steps { items: _items } = self;
+    }
 }
 
 impl Model for Steps {

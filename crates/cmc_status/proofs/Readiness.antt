@@ -26,7 +26,8 @@ use Rattle.cmc_pass.specs.declared.pass.Desk.{Desk}
 use Rattle.cmc_pass.specs.declared.pass.Act.{Act}
 use Rattle.cmc_pass.specs.declared.pass.Act.TheVariants.{Nothing}
 use Rattle.cmc_model.proofs.Admission.{certificate_status_passes}
-use Rattle.cmc_model.specs.Stored.{with_status, numbered}
+use Rattle.cmc_objects.specs.Objects.{numbered}
+use Rattle.cmc_model.specs.Stored.{with_status}
 use Rattle.cmc_rules.specs.Rights.{other_conditions}
 use Rattle.cmc_rules.specs.Dates.{IsDatedOption, IsDatedStatus}
 use Rattle.cmc_rules.specs.Chains.{readiness_chain, readiness_reason}

@@ -1,6 +1,6 @@
 // What a create, an update and a status update make of objects.
 ghost use Rattle.std.specs.Prelude.{◌≡◌, IfOk};
-ghost use Rattle.cmc_model.specs.Stored.{new_meta, created, merged_meta, updated, with_status, generation_after, numbered, revised, restated};
+ghost use Rattle.cmc_model.specs.Stored.{new_meta, created, merged_meta, updated, with_status, generation_after, revised, restated};
 ghost use Rattle.cmc_store.specs.Changes.{IsRevision, IsRestatement};
 
 use cmc_admit::is_spec_kept;
@@ -153,67 +153,6 @@ fn next_generation(old: &Object, new: &Object) -> u64
     }
 }
 
-// The Certificate by itself. It is copied only where someone else holds it too.
-fn own_certificate(certificate: Shared<Certificate>) -> Result<Certificate, AllocError>
-    ensures { IfOk result (λ c. c ≡ certificate) }
-{
-    match certificate.into_value() {
-        Ok(certificate) => Ok(certificate),
-        Err(certificate) => Certificate::copy(&certificate),
-    }
-}
-
-// The CertificateRequest by itself. It is copied only where someone else holds it too.
-fn own_request(request: Shared<CertificateRequest>) -> Result<CertificateRequest, AllocError>
-    ensures { IfOk result (λ r. r ≡ request) }
-{
-    match request.into_value() {
-        Ok(request) => Ok(request),
-        Err(request) => CertificateRequest::copy(&request),
-    }
-}
-
-// The Secret by itself. It is copied only where someone else holds it too.
-fn own_secret(secret: Shared<Secret>) -> Result<Secret, AllocError>
-    ensures { IfOk result (λ s. s ≡ secret) }
-{
-    match secret.into_value() {
-        Ok(secret) => Ok(secret),
-        Err(secret) => Secret::copy(&secret),
-    }
-}
-
-#[tactic(auto, unfolding(cmc_model::specs::Stored::numbered))]
-fn renumber(
-    alloc: Global,
-    object: Object,
-    version: u64,
-    generation: u64,
-) -> Result<Object, AllocError>
-    ensures { IfOk result (λ o. o ≡ numbered version generation object) }
-{
-    match object {
-        Object::Cert(c) => {
-            let mut c = own_certificate(c)?;
-            c.meta.version = version;
-            c.meta.generation = generation;
-            Object::of_certificate(alloc, c)
-        }
-        Object::Request(r) => {
-            let mut r = own_request(r)?;
-            r.meta.version = version;
-            r.meta.generation = generation;
-            Object::of_request(alloc, r)
-        }
-        Object::Secret(s) => {
-            let mut s = own_secret(s)?;
-            s.meta.version = version;
-            s.meta.generation = generation;
-            Object::of_secret(alloc, s)
-        }
-    }
-}
-
 /// What an update of the object stores as this version; none where it would leave it as it is.
 pub fn revise(
     alloc: Global,
@@ -228,7 +167,7 @@ pub fn revise(
         Ok(None)
     } else {
         let generation = next_generation(old, &new);
-        Ok(Some(renumber(alloc, new, version, generation)?))
+        Ok(Some(new.numbered(alloc, version, generation)?))
     }
 }
 
@@ -246,7 +185,7 @@ pub fn restate(
         Ok(None)
     } else {
         let generation = old.meta().generation;
-        Ok(Some(renumber(alloc, new, version, generation)?))
+        Ok(Some(new.numbered(alloc, version, generation)?))
     }
 }
 
@@ -262,7 +201,7 @@ pub fn revision(
 {
     let new = merge(alloc, old, object)?;
     let generation = next_generation(old, &new);
-    renumber(alloc, new, version, generation)
+    new.numbered(alloc, version, generation)
 }
 
 /// What an accepted status update of the object that stands stores as this version, whether it changes the object
@@ -277,5 +216,5 @@ pub fn restatement(
 {
     let new = merge_status(alloc, old, object)?;
     let generation = old.meta().generation;
-    renumber(alloc, new, version, generation)
+    new.numbered(alloc, version, generation)
 }

@@ -19,12 +19,22 @@ use std::collections::BTreeMap;
 use std::marker::Model;
 
 /// The versioned store, which answers one call at a time.
-#[derive(Drop)]
 pub struct Store {
     catalogue: Catalogue,
     accepted: u64,
     calls: u64,
     faults: Numbers,
+}
+
+impl Drop for Store {
+    fn drop(self) {
+        let Store {
+            catalogue: _catalogue,
+            accepted: _accepted,
+            calls: _calls,
+            faults: _faults,
+        } = self;
+    }
 }
 
 impl Model for Store {

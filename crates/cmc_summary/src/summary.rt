@@ -23,16 +23,29 @@ pub enum WaitName {
 }
 
 /// A Certificate that is not Ready, and what it waits for.
-#[derive(Drop)]
 pub struct Waiting {
     pub certificate: Key,
     pub wait: WaitName,
 }
 
+impl Drop for Waiting {
+    fn drop(self) {
+        let Waiting {
+            certificate: _certificate,
+            wait: _wait,
+        } = self;
+    }
+}
+
 /// Certificates that are not Ready, with what they wait for, in order of key.
-#[derive(Drop)]
 pub struct Waits {
     items: Vec<Waiting>,
+}
+
+impl Drop for Waits {
+    fn drop(self) {
+        let Waits { items: _items } = self;
+    }
 }
 
 impl Waiting {
@@ -103,7 +116,6 @@ fn copy_waits(alloc: Global, waits: &[Waiting]) -> Result<Vec<Waiting>, AllocErr
 }
 
 /// What stands at the end of a run.
-#[derive(Drop)]
 pub struct Summary {
     /// How many Certificates stand.
     pub certificates: u64,
@@ -113,4 +125,15 @@ pub struct Summary {
     pub secrets: u64,
     /// Those that are not Ready, with what they wait for.
     pub waiting: Waits,
+}
+
+impl Drop for Summary {
+    fn drop(self) {
+        let Summary {
+            certificates: _certificates,
+            ready: _ready,
+            secrets: _secrets,
+            waiting: _waiting,
+        } = self;
+    }
 }

@@ -26,7 +26,8 @@ use Rattle.cmc_pass.specs.declared.pass.Act.{Act}
 use Rattle.cmc_pass.specs.declared.pass.Act.TheVariants.{Nothing}
 use Rattle.cmc_model.proofs.Admission.{certificate_status_passes}
 use Rattle.cmc_rules.specs.Rights.{other_conditions}
-use Rattle.cmc_model.specs.Stored.{with_status, numbered}
+use Rattle.cmc_objects.specs.Objects.{numbered}
+use Rattle.cmc_model.specs.Stored.{with_status}
 use Rattle.cmc_rules.specs.Dates.{IsDatedStatus}
 use Rattle.cmc_rules.specs.Chains.{trigger_chain, trigger_reason}
 use Rattle.cmc_rules.specs.Triggering.{trigger, for_option, for_certificate, for_reason, frame_of, is_issuing, is_backing_off, is_held_back, is_waiting_since, issuing_condition, issuing_status, with_issuing, issue_call}

@@ -103,7 +103,7 @@ struct Started {
 
 /// An answer of the world has many shapes, and which of them it was is all that is needed.
 fn told(answer: Stepped) -> Went {
-    match answer {
+    match &answer {
         Stepped::Done => Went::On,
         Stepped::Order { .. } => Went::Asks,
         _ => Went::Not,

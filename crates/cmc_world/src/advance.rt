@@ -45,9 +45,8 @@ impl Drop for Calling {
             key: _key,
             named: _named,
             stand_in: _stand_in,
-            call,
+            call: _call,
         } = self;
-        let_go(call);
     }
 }
 
@@ -93,13 +92,10 @@ pub(crate) struct Taking {
 impl Drop for Taking {
     fn drop(self) {
         let Taking {
-            order,
-            value,
-            entry,
+            order: _order,
+            value: _value,
+            entry: _entry,
         } = self;
-        let_go(order);
-        let_go(value);
-        let_go(entry);
     }
 }
 
@@ -111,26 +107,14 @@ impl Taking {
         ensures entry { IfOk result (λ t. t.entry ≡ value_entry pass (value_of given)) }
         ensures right { IfOk result (λ _. IsValue (order_of given) (value_of given)) }
     {
-        let order = match given.order() {
-            Ok(order) => order,
-            Err(lack) => {
-                let_go(given);
-                return Err(lack);
-            }
-        };
+        let order = given.order()?;
         let value = given.into_value();
-        match value_entry_of(pass, &value) {
-            Ok(entry) => Ok(Taking {
-                order,
-                value,
-                entry,
-            }),
-            Err(lack) => {
-                let_go(order);
-                let_go(value);
-                Err(lack)
-            }
-        }
+        let entry = value_entry_of(pass, &value)?;
+        Ok(Taking {
+            order,
+            value,
+            entry,
+        })
     }
 
     fn into_parts(self) -> (Order, Value, Entry)
@@ -167,13 +151,8 @@ impl Asking {
         ensures order { IfOk result (λ a. a.order ≡ order) }
         ensures kept { IfOk result (λ a. a.kept ≡ order) }
     {
-        match order.copy() {
-            Ok(kept) => Ok(Asking { order, kept }),
-            Err(lack) => {
-                let_go(order);
-                Err(lack)
-            }
-        }
+        let kept = order.copy()?;
+        Ok(Asking { order, kept })
     }
 
     fn into_parts(self) -> (Order, Order)
@@ -185,14 +164,6 @@ impl Asking {
     }
 }
 
-/// The key of the open pass, and that which the call names. An error is one of memory.
-fn keys_of(current: &OpenPass, call: &Call) -> Result<(Key, Key), AllocError>
-    ensures key { IfOk result (λ k. k.0 ≡ current.now.key) }
-    ensures named { IfOk result (λ k. k.1 ≡ replies.key_of_call call.now) }
-{
-    Ok((current.key.copy()?, call.key()?))
-}
-
 /// The call of the open pass, with what it needs to know of that. An error is one of memory.
 fn calling_of(current: &OpenPass, call: Call) -> Result<Calling, AllocError>
     ensures role { IfOk result (λ c. c.role ≡ current.now.role) }
@@ -201,19 +172,13 @@ fn calling_of(current: &OpenPass, call: Call) -> Result<Calling, AllocError>
     ensures stand_in { IfOk result (λ c. c.stand_in ≡ spec.writes_stand_in c.call) }
     ensures call { IfOk result (λ c. c.call ≡ call) }
 {
-    match keys_of(current, &call) {
-        Ok((key, named)) => Ok(Calling {
-            role: current.role,
-            key,
-            named,
-            stand_in: writes_stand_in(&call),
-            call,
-        }),
-        Err(lack) => {
-            let_go(call);
-            Err(lack)
-        }
-    }
+    Ok(Calling {
+        role: current.role,
+        key: current.key.copy()?,
+        named: call.key()?,
+        stand_in: writes_stand_in(&call),
+        call,
+    })
 }
 
 impl World {
@@ -502,13 +467,8 @@ impl World {
                 return Err(lack);
             }
         };
-        match self.go_on(alloc, pass, doing) {
-            Ok(()) => Ok(answer),
-            Err(lack) => {
-                let_go(answer);
-                Err(lack)
-            }
-        }
+        self.go_on(alloc, pass, doing)?;
+        Ok(answer)
     }
 
     pub(crate) fn step_next(
@@ -539,18 +499,10 @@ impl World {
         ensures leaves { IfOk result (λ r. on Leaves self.old (moves.Give pass named given) r self.new.history) }
         ensures err { OnErr result (self.new ≡ self.old) }
     {
-        let answer = match self.judge_give(pass, named, &given) {
-            Ok(answer) => answer,
-            Err(lack) => {
-                let_go(given);
-                return Err(lack);
-            }
-        };
+        let answer = self.judge_give(pass, named, &given)?;
         if !answer.is_done() {
-            let_go(given);
             return Ok(answer);
         }
-        let_go(answer);
         self.take(pass, given)?;
         Ok(Stepped::Done)
     }

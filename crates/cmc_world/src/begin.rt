@@ -22,7 +22,7 @@ ghost use Rattle.cmc_moves.specs.declared.moves.Stepped.TheVariants as answers;
 use crate::world::{World, has_room};
 use cmc_held::{Log, is_same, own_above, shown_positions};
 use cmc_meta::Key;
-use cmc_moves::{Stepped, answer_begin, let_go};
+use cmc_moves::{Stepped, answer_begin};
 use cmc_objects::{Entry, Positions, Role, kind_of_work};
 use cmc_pass::Views;
 use cmc_rules::{OpenPass, Origin, Past, Stage};
@@ -219,7 +219,6 @@ impl World {
         if !answer.is_done() {
             return Ok(answer);
         }
-        let_go(answer);
         let prepared = self.prepare(role, key, seen)?;
         self.open(role, prepared)?;
         Ok(Stepped::Done)

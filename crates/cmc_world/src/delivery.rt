@@ -13,7 +13,7 @@ ghost use Rattle.cmc_moves.specs.declared.moves.Stepped.TheVariants as answers;
 use crate::world::{World, has_room};
 use cmc_held::{Log, is_held, told_of, with_told};
 use cmc_meta::Kind;
-use cmc_moves::{Stepped, answer_delivery, let_go};
+use cmc_moves::{Stepped, answer_delivery};
 use cmc_objects::{Entry, Role, has_informer};
 use std::alloc::{AllocError, Global};
 
@@ -127,7 +127,6 @@ impl World {
         if !answer.is_done() {
             return Ok(answer);
         }
-        let_go(answer);
         self.tell(alloc, role, kind, to)?;
         Ok(Stepped::Done)
     }

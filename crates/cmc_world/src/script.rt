@@ -30,7 +30,7 @@ use crate::world::World;
 use cmc_caches::RoleCaches;
 use cmc_held::{Log, RoleState, RoleStates, shown_positions, with_held};
 use cmc_meta::Kind;
-use cmc_moves::{Stepped, answer, approve, deny, let_go, renew, request_for};
+use cmc_moves::{Stepped, answer, approve, deny, renew, request_for};
 use cmc_objects::{Call, Entry, Object, Positions, Role, Step, Who};
 use cmc_rules::Effect;
 use cmc_setup::Scenario;
@@ -413,7 +413,6 @@ impl World {
         if !answer.is_done() {
             return Ok(answer);
         }
-        let_go(answer);
         self.make_step(alloc)?;
         Ok(Stepped::Done)
     }

@@ -27,12 +27,22 @@ const BODY: usize = 512;
 
 /// What a certificate says that its request does not: the serial number, the issuer's common name, and the first
 /// and the last moment of its validity, in seconds since 1970-01-01T00:00:00Z.
-#[derive(Drop)]
 pub struct CertPlan {
     pub serial: u64,
     pub issuer: Text,
     pub not_before: i64,
     pub not_after: i64,
+}
+
+impl Drop for CertPlan {
+    fn drop(self) {
+        let CertPlan {
+            serial: _serial,
+            issuer: _issuer,
+            not_before: _not_before,
+            not_after: _not_after,
+        } = self;
+    }
 }
 
 impl CertPlan {

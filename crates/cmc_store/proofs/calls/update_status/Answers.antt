@@ -1,11 +1,12 @@
-use Rattle.std.proofs.Common.{sym, ap, ◌∙◌}
+use Rattle.std.proofs.Common.{◌+◌, sym, ap, ◌∙◌}
 use Rattle.cmc_meta.specs.declared.key.Key.{Key}
 use Rattle.cmc_objects.specs.Objects.{key_of}
 use Rattle.cmc_model.specs.Objects.{object_at}
-use Rattle.cmc_model.specs.Replies.{IsRestated}
+use Rattle.cmc_model.specs.Stored.{restated}
+use Rattle.cmc_model.specs.Replies.{IsRestated, from_old}
 use Rattle.cmc_model.proofs.Admission.{is_taken-restated}
 use Rattle.cmc_model.proofs.Stored.{key_of-restated}
-use Rattle.cmc_store.proofs.Right.{not_refused, restated_reply, reply_of_write}
+use Rattle.cmc_store.proofs.Right.{not_refused, refused_answer, restated_reply, reply_of_write}
 use Rattle.cmc_store.proofs.calls.update_status.Goals as goal
 
 pub returns-in-Some-2-clause-reply : goal.returns-in-Some-2-clause-reply
@@ -20,3 +21,6 @@ write-requires-clause-key c = rw (rw c.in-Some-2.is at c.in_ok-restate-in-None.e
 pub write-requires-clause-free : goal.write-requires-clause-free
 write-requires-clause-free c =
     rw (rw c.in-Some-2.is at c.in_ok-restate-in-None.ensures).1 (is_taken-restated _ _ c.in-Some.old.now c.args.object.now ∙ c.in-Some.ensures.stands.1)
+
+pub returns-in-Some-refusal-clause-answer : goal.returns-in-Some-refusal-clause-answer
+returns-in-Some-refusal-clause-answer c = refused_answer (key_of c.args.object.now) (from_old (λ old. restated (c.args.accepted + 1) old c.args.object.now) (object_at c.args.catalogue.now (key_of c.args.object.now))) c.args.catalogue.now _ c.in-Some-refusal.replied c.in-Some-refusal.ensures
