@@ -349,9 +349,7 @@ fn order_in(act: Act) -> Result<JudgeOrder, Fail> {
 fn question(alloc: Global, views: &Views, rules: Rules) -> Result<JudgeOrder, Fail> {
     let mut desk = desk(alloc);
     desk.rules = rules;
-    let act = act(alloc, views, 0, &desk);
-    let_go(desk);
-    order_in(act?)
+    order_in(act(alloc, views, 0, &desk)?)
 }
 
 /// What is written of the request that is seen, at 2030-01-01T00:01:00Z.
@@ -360,9 +358,7 @@ fn written_on(alloc: Global, views: &Views, order: JudgeOrder) -> Result<String,
     requires { IsSome views.now.request }
 {
     let given = Given::Judged(judge(alloc, order)?);
-    let call = then(alloc, views, 1_893_456_060, &given);
-    let_go(given);
-    call_told_then(alloc, call?)
+    call_told_then(alloc, then(alloc, views, 1_893_456_060, &given)?)
 }
 
 fn views_with(alloc: Global, row: &RequestRow) -> Result<Views, Fail>

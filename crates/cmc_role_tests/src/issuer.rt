@@ -361,9 +361,7 @@ fn told_on(alloc: Global, views: &Views, count: u32) -> Result<String, AllocErro
     requires { HasForm views.now.request }
 {
     let desk = asked(alloc, count);
-    let act = act(alloc, views, NOW, &desk);
-    let_go(desk);
-    told_then(alloc, act?)
+    told_then(alloc, act(alloc, views, NOW, &desk)?)
 }
 
 fn told_of(alloc: Global, case: &Case) -> Result<String, Fail> {
@@ -479,9 +477,7 @@ fn question(alloc: Global, views: &Views) -> Result<SignOrder, Fail>
     requires { HasForm views.now.request }
 {
     let desk = asked(alloc, 0);
-    let act = act(alloc, views, NOW, &desk);
-    let_go(desk);
-    order_in(act?)
+    order_in(act(alloc, views, NOW, &desk)?)
 }
 
 #[tactic(auto, unfolding(cmc_rules::specs::Granting::answered_after))]
@@ -495,10 +491,7 @@ fn written_on(
 {
     let order = Order::Sign(order);
     let value = Value::Answered(answer);
-    let call = follow(alloc, views, NOW, &order, &value);
-    let_go(order);
-    let_go(value);
-    call_told_then(alloc, call?)
+    call_told_then(alloc, follow(alloc, views, NOW, &order, &value)?)
 }
 
 fn views_with(alloc: Global, case: &Case) -> Result<Views, Fail>
@@ -543,9 +536,7 @@ fn scripted(alloc: Global, views: &Views) -> Result<String, Fail>
 {
     let order = question(alloc, views)?;
     let given = Given::Answered(ScriptedSigner.sign(alloc, &order)?);
-    let call = then(alloc, views, NOW, &given);
-    let_go(given);
-    Ok(call_told_then(alloc, call?)?)
+    Ok(call_told_then(alloc, then(alloc, views, NOW, &given)?)?)
 }
 
 // A plain answer is a certificate for what the request asks for.

@@ -10,7 +10,6 @@ use crate::trigger::{CERTIFICATE, KEY, OTHER, OTHER_KEY, OTHER_NAME, desk};
 use cmc_issuing::{act, is_sound};
 use cmc_meta::{ConditionKind, Tri};
 use cmc_pass::Views;
-use cmc_tests::values::let_go;
 use std::alloc::{AllocError, Global};
 use std::process::Abort;
 use std::test::Fail;
@@ -711,9 +710,7 @@ fn told_on(alloc: Global, views: &Views) -> Result<String, AllocError>
     requires { HasNextRevision views.now.certificate }
 {
     let desk = desk(alloc);
-    let act = act(alloc, views, NOW, &desk);
-    let_go(desk);
-    told_then(alloc, act?)
+    told_then(alloc, act(alloc, views, NOW, &desk)?)
 }
 
 fn told_of(alloc: Global, case: &Case) -> Result<String, Fail> {

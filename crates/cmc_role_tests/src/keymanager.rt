@@ -284,9 +284,7 @@ fn asked(alloc: Global) -> Desk
 
 fn told_on(alloc: Global, views: &Views) -> Result<String, AllocError> {
     let desk = asked(alloc);
-    let act = act(alloc, views, 0, &desk);
-    let_go(desk);
-    told_then(alloc, act?)
+    told_then(alloc, act(alloc, views, 0, &desk)?)
 }
 
 fn told_of(alloc: Global, case: &Case) -> Result<String, Fail> {
@@ -349,9 +347,7 @@ fn order_in(act: Act) -> Result<KeyOrder, Fail> {
 
 fn question(alloc: Global, views: &Views) -> Result<KeyOrder, Fail> {
     let desk = scripted(alloc)?;
-    let act = act(alloc, views, 0, &desk);
-    let_go(desk);
-    order_in(act?)
+    order_in(act(alloc, views, 0, &desk)?)
 }
 
 static BEGUN_ONCE: Case = BEGUN;
@@ -372,9 +368,7 @@ fn kept(alloc: Global, views: &Views, order: &KeyOrder) -> Result<String, AllocE
         return String::from_str(alloc, "another size");
     }
     let given = Given::Made(ScriptedKeys.make(alloc, order)?);
-    let call = then(alloc, views, 0, &given);
-    let_go(given);
-    call_told_then(alloc, call?)
+    call_told_then(alloc, then(alloc, views, 0, &given)?)
 }
 
 // The key that was made, by the row of the first question, is kept in a new Secret.

@@ -337,9 +337,7 @@ fn told_on(alloc: Global, views: &Views) -> Result<String, AllocError>
     requires { HasNextRevision views.now.certificate }
 {
     let desk = desk(alloc);
-    let act = act(alloc, views, 0, &desk);
-    let_go(desk);
-    told_then(alloc, act?)
+    told_then(alloc, act(alloc, views, 0, &desk)?)
 }
 
 fn told_of(alloc: Global, case: &Case) -> Result<String, Fail> {
@@ -430,9 +428,7 @@ fn question(alloc: Global, views: &Views) -> Result<CsrOrder, Fail>
     requires { HasNextRevision views.now.certificate }
 {
     let desk = desk(alloc);
-    let act = act(alloc, views, 0, &desk);
-    let_go(desk);
-    order_in(act?)
+    order_in(act(alloc, views, 0, &desk)?)
 }
 
 #[tactic(auto, unfolding(cmc_rules::specs::RequestManaging::request_after))]
@@ -443,9 +439,7 @@ fn made_on(alloc: Global, views: &Views, order: &CsrOrder) -> Result<String, All
         return String::from_str(alloc, "no readable key");
     }
     let given = Given::Signed(ScriptedKeys.sign(alloc, order)?);
-    let call = then(alloc, views, 0, &given);
-    let_go(given);
-    call_told_then(alloc, call?)
+    call_told_then(alloc, then(alloc, views, 0, &given)?)
 }
 
 // The signature that was made stands in a new request.

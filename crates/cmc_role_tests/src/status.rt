@@ -74,9 +74,7 @@ fn told_then(alloc: Global, act: Act) -> Result<String, AllocError> {
 
 fn told_on(alloc: Global, views: &Views, now: i64) -> Result<String, AllocError> {
     let desk = desk(alloc);
-    let act = act_readiness(alloc, views, now, &desk);
-    let_go(desk);
-    told_then(alloc, act?)
+    told_then(alloc, act_readiness(alloc, views, now, &desk)?)
 }
 
 fn told_of(alloc: Global, case: &Case) -> Result<String, Fail>
@@ -252,9 +250,7 @@ fn gone_then(alloc: Global, act: Act) -> Result<String, AllocError> {
 
 fn gone_on(alloc: Global, views: &Views) -> Result<String, AllocError> {
     let desk = desk(alloc);
-    let act = act_revision(alloc, views, 0, &desk);
-    let_go(desk);
-    gone_then(alloc, act?)
+    gone_then(alloc, act_revision(alloc, views, 0, &desk)?)
 }
 
 const ISSUING: Case = Case {

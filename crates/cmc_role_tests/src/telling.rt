@@ -199,7 +199,5 @@ pub(crate) fn told_then(alloc: Global, act: Act) -> Result<String, AllocError> {
 
 /// The call, which is let go behind it.
 pub(crate) fn call_told_then(alloc: Global, call: Call) -> Result<String, AllocError> {
-    let told = call_told(alloc, &call);
-    let_go(call);
-    told
+    call_told(alloc, &call)
 }

@@ -280,9 +280,7 @@ fn told_on(alloc: Global, views: &Views, now: i64) -> Result<String, AllocError>
     requires { HasDatedFailure views.now }
 {
     let desk = desk(alloc);
-    let act = act(alloc, views, now, &desk);
-    let_go(desk);
-    told_then(alloc, act?)
+    told_then(alloc, act(alloc, views, now, &desk)?)
 }
 
 fn told_of(alloc: Global, case: &Case) -> Result<String, Fail>

@@ -4,7 +4,7 @@ use cmc_meta::{Numbers, Texts};
 use cmc_objects::{CertSpec, CertStatus, Certificate, Material, Object, Rules, Shared, Step};
 use cmc_policy_rules::Policies;
 use cmc_scenario::{Roles, Steps, is_setup};
-use cmc_tests::values::{column, least_spec, let_go, new_meta, number, text, texts};
+use cmc_tests::values::{column, least_spec, new_meta, number, text, texts};
 use std::alloc::Global;
 use std::test::Fail;
 
@@ -79,9 +79,7 @@ fn is_scenario(alloc: Global, script: &Steps) -> bool {
 
 fn is_applied(alloc: Global, row: &str) -> Result<bool, Fail> {
     let script = script(alloc, row)?;
-    let is_scenario = is_scenario(alloc, &script);
-    let_go(script);
-    Ok(is_scenario)
+    Ok(is_scenario(alloc, &script))
 }
 
 #[test]

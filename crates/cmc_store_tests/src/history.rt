@@ -7,7 +7,7 @@ use cmc_history::History;
 use cmc_meta::{Key, Kind, Numbers};
 use cmc_objects::{Call, Entry, Object, Reply, Who};
 use cmc_store::Store;
-use cmc_tests::values::{key, let_go};
+use cmc_tests::values::key;
 use std::alloc::Global;
 use std::process::Abort;
 use std::test::Fail;
@@ -32,16 +32,9 @@ fn note_call(
 ) -> Result<(), Fail>
     requires { 0 < history.old.spare }
 {
-    match made(store, alloc, &call) {
-        Ok(reply) => {
-            push(history, call, reply);
-            Ok(())
-        }
-        Err(lack) => {
-            let_go(call);
-            Err(lack)
-        }
-    }
+    let reply = made(store, alloc, &call)?;
+    push(history, call, reply);
+    Ok(())
 }
 
 /// Makes the call of this word, which names the version where it names one, and notes it.

@@ -3,7 +3,7 @@ use crate::checks::{counts, passes, tells};
 use cmc_meta::{Kind, Numbers};
 use cmc_objects::{Call, Object, Reply};
 use cmc_store::Store;
-use cmc_tests::values::{key, let_go};
+use cmc_tests::values::key;
 use cmc_tests::whole::admitted_certificate;
 use std::alloc::{AllocError, Global};
 use std::process::Abort;
@@ -37,16 +37,12 @@ fn replied(reply: &Reply) -> Replied {
 /// What the store replies to the call.
 fn replied_to(store: &mut Store, alloc: Global, call: &Call) -> Result<Replied, Fail> {
     let reply = made(store, alloc, call)?;
-    let told = replied(&reply);
-    let_go(reply);
-    Ok(told)
+    Ok(replied(&reply))
 }
 
 /// What the store replies to the call, which is let go behind it.
 fn replied_once(store: &mut Store, alloc: Global, call: Call) -> Result<Replied, Fail> {
-    let replied = replied_to(store, alloc, &call);
-    let_go(call);
-    replied
+    replied_to(store, alloc, &call)
 }
 
 /// The store replies to the call as is wanted.

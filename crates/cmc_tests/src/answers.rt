@@ -5,7 +5,7 @@ ghost use Rattle.cmc_objects.specs.Requests.{is_lifetime, is_row_form};
 
 use crate::checks::{passes, tells};
 use crate::orders::question;
-use crate::values::{let_go, made, octets, patterns, policy, text, texts};
+use crate::values::{made, octets, patterns, policy, text, texts};
 use crate::whole::request;
 use crate::{made_keys, made_requests};
 use cmc_answers::{
@@ -88,9 +88,7 @@ fn issues(
     requires { is_row_form row.now ≡ true }
 {
     let answer = signing_of(alloc, row, 7, asked, NOW)?;
-    let is_same = issued(&answer) == want;
-    let_go(answer);
-    Ok(is_same)
+    Ok(issued(&answer) == want)
 }
 
 /// The answer by the row is a failure with this message.
@@ -103,9 +101,7 @@ fn fails(
     requires { is_row_form row.now ≡ true }
 {
     let answer = signing_of(alloc, row, 1, asked, NOW)?;
-    let is_same = failure(&answer) == want;
-    let_go(answer);
-    Ok(is_same)
+    Ok(failure(&answer) == want)
 }
 
 /// The answer by the row has these octets, of a text that is handed on by reference, so that it is not spelt in what is
@@ -124,16 +120,12 @@ fn is_issued(
 
 fn is_of_request(alloc: Global, asked: &CertificateRequest) -> Result<bool, AllocError> {
     let row = issue(alloc, None, 60, Some(300), None);
-    let is_issued = is_issued(alloc, &row, asked, &OF_REQUEST);
-    let_go(row);
-    is_issued
+    is_issued(alloc, &row, asked, &OF_REQUEST)
 }
 
 fn is_of_stand_in(alloc: Global, asked: &CertificateRequest) -> Result<bool, AllocError> {
     let row = issue(alloc, Some(86_400), 0, None, Some(1));
-    let is_issued = is_issued(alloc, &row, asked, &OF_STAND_IN);
-    let_go(row);
-    is_issued
+    is_issued(alloc, &row, asked, &OF_STAND_IN)
 }
 
 // The request comes by reference, so that no `?` lets it go.
@@ -198,9 +190,7 @@ static NOT_READABLE: &str = "The request is not readable";
 
 fn is_not_readable(alloc: Global, asked: &CertificateRequest) -> Result<bool, AllocError> {
     let row = issue(alloc, None, 0, None, None);
-    let fails = fails(alloc, &row, asked, NOT_READABLE);
-    let_go(row);
-    fails
+    fails(alloc, &row, asked, NOT_READABLE)
 }
 
 #[test]
@@ -222,17 +212,13 @@ fn fails_what_is_no_request(rt: HostRuntime) -> Result<(), Fail> {
 fn is_raw(alloc: Global, asked: &CertificateRequest) -> Result<bool, AllocError> {
     let der = Bytes::from_slice(alloc, &[1, 2])?;
     let row = SignRow::Raw { der };
-    let issues = issues(alloc, &row, asked, &[1, 2]);
-    let_go(row);
-    issues
+    issues(alloc, &row, asked, &[1, 2])
 }
 
 fn is_refusal(alloc: Global, asked: &CertificateRequest) -> Result<bool, AllocError> {
     let message = Text::from_str(alloc, "no")?;
     let row = SignRow::Fail { message };
-    let fails = fails(alloc, &row, asked, "no");
-    let_go(row);
-    fails
+    fails(alloc, &row, asked, "no")
 }
 
 fn answers_both(

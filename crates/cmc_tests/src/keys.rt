@@ -2,7 +2,7 @@
 //! octets that another writer of DER gave. openssl reads each of those as DER.
 use crate::checks::{passes, tells};
 use crate::made_keys;
-use crate::values::{column, let_go, made, name, number, octets};
+use crate::values::{column, made, name, number, octets};
 use crate::whole::bytes;
 use cmc_keys::{
     KeyMaker, Made, ScriptedKeys, SignedCsr, is_allowed_size, is_key_of, one_key_value,
@@ -271,9 +271,7 @@ fn question(alloc: Global, row: &str) -> Result<KeyOrder, Fail> {
 fn is_made_again(made: Made, other: &Made) -> bool {
     let (asked, file) = made.into_parts();
     let again = Made::new(asked, file);
-    let is_same = again.order().same(other.order()) && again.bytes() == other.bytes();
-    let_go(again);
-    is_same
+    again.order().same(other.order()) && again.bytes() == other.bytes()
 }
 
 fn made_for(alloc: Global, order: &KeyOrder) -> Result<Made, Fail> {
@@ -300,16 +298,12 @@ fn is_right(alloc: Global, made: &Made, order: &KeyOrder, want: &str) -> Result<
 
 fn is_answer(alloc: Global, order: &KeyOrder, want: &str) -> Result<bool, Fail> {
     let made = made_for(alloc, order)?;
-    let is_right = is_right(alloc, &made, order, want);
-    let_go(made);
-    Ok(is_right?)
+    Ok(is_right(alloc, &made, order, want)?)
 }
 
 fn is_answered(alloc: Global, row: &str) -> Result<bool, Fail> {
     let order = question(alloc, row)?;
-    let is_answer = is_answer(alloc, &order, column(row, 7));
-    let_go(order);
-    is_answer
+    is_answer(alloc, &order, column(row, 7))
 }
 
 #[test]
@@ -324,9 +318,7 @@ fn makes_keys_by_the_row(rt: HostRuntime) -> Result<(), Fail> {
 fn is_signed_again(signed: SignedCsr, other: &SignedCsr) -> bool {
     let (order, signature) = signed.into_parts();
     let again = SignedCsr::new(order, signature);
-    let is_same = again.order().same(other.order()) && again.signature() == other.signature();
-    let_go(again);
-    is_same
+    again.order().same(other.order()) && again.signature() == other.signature()
 }
 
 fn body_order(alloc: Global, file: &str, body: &str) -> Result<CsrOrder, Fail> {
@@ -354,9 +346,7 @@ fn is_written(
 
 fn is_signature(alloc: Global, order: &CsrOrder, want: &str) -> Result<bool, AllocError> {
     let signed = ScriptedKeys.sign(alloc, order)?;
-    let is_written = is_written(alloc, &signed, order, want);
-    let_go(signed);
-    is_written
+    is_written(alloc, &signed, order, want)
 }
 
 fn is_signed(alloc: Global, row: &str) -> Result<bool, Fail> {

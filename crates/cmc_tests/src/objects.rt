@@ -1,11 +1,12 @@
 //! What no clause says: that copies are made where memory is ample, and are equal.
 use crate::checks::{passes, tells};
-use crate::values::{key, least_spec, let_go, text, texts};
+use crate::values::{key, least_spec, text, texts};
 use crate::whole::{bytes, certificate, request, secret};
 use cmc_meta::{Key, Kind, Texts};
 use cmc_objects::{
-    Algorithm, Call, CertSpec, CsrOrder, Encoding, JudgeOrder, KeyOrder, KeyRow, KeyRows, Material,
-    Object, Order, Role, Rotation, Rows, Rules, Shared, SignRow, SignRows, Signing, Step,
+    Algorithm, Call, CertSpec, Certificate, CsrOrder, Encoding, JudgeOrder, KeyOrder, KeyRow,
+    KeyRows, Material, Object, Order, Role, Rotation, Rows, Rules, Shared, SignRow, SignRows,
+    Signing, Step,
 };
 use cmc_policy_rules::Policies;
 use cmc_setup::Steps;
@@ -48,46 +49,18 @@ fn judgement(alloc: Global) -> Result<Order, Fail> {
     }))
 }
 
-fn are_apart(copy: &Order, order: &Order, other: &Order) -> bool {
-    copy.same(order) && !copy.same(other)
-}
-
 /// The copy is the same question, and not the other one.
 fn is_copied(order: &Order, other: &Order) -> Result<bool, AllocError> {
     let copy = order.copy()?;
-    let are_apart = are_apart(&copy, order, other);
-    let_go(copy);
-    Ok(are_apart)
-}
-
-fn is_copied_then(order: Order, other: &Order) -> Result<bool, AllocError> {
-    let is_copied = is_copied(&order, other);
-    let_go(order);
-    is_copied
-}
-
-fn is_key_copied(alloc: Global, other: &Order) -> Result<bool, Fail> {
-    Ok(is_copied_then(key_question(alloc)?, other)?)
-}
-
-fn is_judgement_copied(alloc: Global, other: &Order) -> Result<bool, Fail> {
-    Ok(is_copied_then(judgement(alloc)?, other)?)
-}
-
-fn are_copied(alloc: Global, other: &Order) -> Result<(bool, bool), Fail> {
-    let key = is_key_copied(alloc, other)?;
-    Ok((key, is_judgement_copied(alloc, other)?))
+    Ok(copy.same(order) && !copy.same(other))
 }
 
 #[test]
 fn copies_questions(rt: HostRuntime) -> Result<(), Fail> {
     let alloc = rt.alloc();
     let csr = signature(alloc)?;
-    let copied = are_copied(alloc, &csr);
-    let_go(csr);
-    let (key, judgement) = copied?;
-    passes(&rt, "key", key);
-    passes(&rt, "judge", judgement);
+    passes(&rt, "key", is_copied(&key_question(alloc)?, &csr)?);
+    passes(&rt, "judge", is_copied(&judgement(alloc)?, &csr)?);
     Ok(())
 }
 
@@ -97,9 +70,7 @@ fn raw(alloc: Global) -> Result<SignRow, Fail> {
 
 fn is_row_copied(row: &SignRow) -> Result<bool, AllocError> {
     let copy = row.copy()?;
-    let is_same = copy.same(row);
-    let_go(copy);
-    Ok(is_same)
+    Ok(copy.same(row))
 }
 
 #[test]
@@ -262,30 +233,17 @@ fn failed(alloc: Global) -> Result<Signing, Fail> {
 
 fn is_answer_copied(answer: &Signing) -> Result<bool, AllocError> {
     let copy = answer.copy()?;
-    let is_same = copy.same(answer);
-    let_go(copy);
-    Ok(is_same)
-}
-
-fn is_copied_and_gone(answer: Signing) -> Result<bool, AllocError> {
-    let is_copied = is_answer_copied(&answer);
-    let_go(answer);
-    is_copied
-}
-
-fn is_pending(answer: Signing) -> bool {
-    let is_pending = answer.same(&Signing::Pending);
-    let_go(answer);
-    is_pending
+    Ok(copy.same(answer))
 }
 
 #[test]
 fn copies_each_answer(rt: HostRuntime) -> Result<(), Fail> {
     let alloc = rt.alloc();
-    passes(&rt, "issued", is_copied_and_gone(issued(alloc)?)?);
-    passes(&rt, "pending", is_copied_and_gone(Signing::Pending)?);
-    passes(&rt, "failed", is_copied_and_gone(failed(alloc)?)?);
-    passes(&rt, "not pending", !is_pending(failed(alloc)?));
+    let failed = failed(alloc)?;
+    passes(&rt, "issued", is_answer_copied(&issued(alloc)?)?);
+    passes(&rt, "pending", is_answer_copied(&Signing::Pending)?);
+    passes(&rt, "failed", is_answer_copied(&failed)?);
+    passes(&rt, "not pending", !failed.same(&Signing::Pending));
     Ok(())
 }
 
@@ -442,19 +400,9 @@ fn word_of(call: &Call) -> &'static str {
     }
 }
 
-/// The call, in a word, and then let go.
-fn word_then(call: Call) -> &'static str {
-    let word = word_of(&call);
-    let_go(call);
-    word
-}
-
 /// The copy of the call that was made, in a word.
 fn copied(made: Result<Call, Fail>) -> Result<&'static str, Fail> {
-    let call = made?;
-    let copy = call.copy();
-    let_go(call);
-    Ok(word_then(copy?))
+    Ok(word_of(&made?.copy()?))
 }
 
 #[test]
@@ -470,6 +418,33 @@ fn copies_each_call(rt: HostRuntime) -> Result<(), Fail> {
     );
     tells(&rt, "delete", copied(delete(alloc))?, "delete");
     tells(&rt, "get", copied(get(alloc))?, "get");
+    Ok(())
+}
+
+fn is_numbered(object: &Object) -> bool {
+    object.meta().version == 7 && object.meta().generation == 3
+}
+
+fn is_as_before(object: &Object, before: &Certificate) -> bool {
+    match object {
+        Object::Cert(certificate) => certificate.spec.same(&before.spec),
+        _ => false,
+    }
+}
+
+#[test]
+fn numbers_objects(rt: HostRuntime) -> Result<(), Fail> {
+    let alloc = rt.alloc();
+    let before = certificate(alloc)?;
+    let held = Object::of_certificate(alloc, before.copy()?)?;
+    let numbered = held.copy()?.numbered(alloc, 7, 3)?;
+    passes(&rt, "certificate", is_numbered(&numbered));
+    passes(&rt, "its spec", is_as_before(&numbered, &before));
+    passes(&rt, "another holder's", held.meta().same(&before.meta));
+    let request = Object::of_request(alloc, request(alloc)?)?;
+    passes(&rt, "request", is_numbered(&request.numbered(alloc, 7, 3)?));
+    let secret = Object::of_secret(alloc, secret(alloc)?)?;
+    passes(&rt, "Secret", is_numbered(&secret.numbered(alloc, 7, 3)?));
     Ok(())
 }
 

@@ -4,7 +4,6 @@ ghost use Rattle.cmc_meta.specs.ConditionLists.{condition_rank};
 ghost use Rattle.cmc_objects.specs.Requests.{is_stated, is_short_text, is_short_option, is_duration_form, is_request_form};
 
 use crate::checks::passes;
-use crate::values::let_go;
 use crate::whole::request;
 use cmc_meta::{Condition, ConditionKind, Text, Tri};
 use cmc_objects::{CertificateRequest, Order, Shared, SignOrder, SignRow};
@@ -93,16 +92,11 @@ fn is_copied(order: &SignOrder) -> Result<(bool, bool), AllocError> {
 
 fn is_same(order: &Order) -> Result<bool, AllocError> {
     let copied = order.copy()?;
-    let is_same = copied.same(order);
-    let_go(copied);
-    Ok(is_same)
+    Ok(copied.same(order))
 }
 
 fn is_copied_as_any(order: SignOrder) -> Result<bool, AllocError> {
-    let order = Order::Sign(order);
-    let is_same = is_same(&order);
-    let_go(order);
-    is_same
+    is_same(&Order::Sign(order))
 }
 
 fn order(alloc: Global) -> Result<SignOrder, Fail> {

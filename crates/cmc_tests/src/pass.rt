@@ -78,19 +78,10 @@ fn are_copied(rt: &impl Abort, copied: &Views) -> Result<(), AllocError> {
     Ok(())
 }
 
-fn copied_views(alloc: Global) -> Result<Views, Fail> {
-    let views = views(alloc)?;
-    let copied = views.copy();
-    let_go(views);
-    Ok(copied?)
-}
-
 #[test]
 fn views_are_copied(rt: HostRuntime) -> Result<(), Fail> {
-    let copied = copied_views(rt.alloc())?;
-    let are_copied = are_copied(&rt, &copied);
-    let_go(copied);
-    are_copied?;
+    let copied = views(rt.alloc())?.copy()?;
+    are_copied(&rt, &copied)?;
     Ok(())
 }
 
@@ -195,17 +186,8 @@ fn said(value: &Value) -> &'static str {
     }
 }
 
-/// The value, in a word, and then let go.
-fn said_then(value: Value) -> &'static str {
-    let word = said(&value);
-    let_go(value);
-    word
-}
-
 fn said_of_copy(value: Value) -> Result<&'static str, AllocError> {
-    let copy = value.copy();
-    let_go(value);
-    Ok(said_then(copy?))
+    Ok(said(&value.copy()?))
 }
 
 fn said_of_key(alloc: Global) -> Result<&'static str, AllocError> {

@@ -57,9 +57,7 @@ fn word_of(answer: &Stepped) -> &'static str {
 
 /// The answer in a word; it is let go behind that.
 fn word_then(answer: Stepped) -> &'static str {
-    let word = word_of(&answer);
-    let_go(answer);
-    word
+    word_of(&answer)
 }
 
 /// Makes the move, and tells the answer in a word.
@@ -337,9 +335,7 @@ fn told_trigger(alloc: Global) -> Result<&'static str, Fail> {
 /// Whether there is a decision on what the pass saw; it is let go behind that.
 fn has_decision(alloc: Global, world: &World, pass: u64) -> Result<bool, Fail> {
     let decided = decision(alloc, world, pass)?;
-    let is_there = decided.is_some();
-    let_go(decided);
-    Ok(is_there)
+    Ok(decided.is_some())
 }
 
 /// Whether there is a decision on what a pass of the trigger saw.

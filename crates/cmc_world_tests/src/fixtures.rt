@@ -6,7 +6,7 @@ use cmc_objects::{CertStatus, Certificate, Material, Object, Order, Role, Rules,
 use cmc_pass::Given;
 use cmc_policy_rules::Policies;
 use cmc_setup::{Roles, Scenario, Steps, is_setup};
-use cmc_tests::values::{key, least_spec, let_go, new_meta, texts};
+use cmc_tests::values::{key, least_spec, new_meta, texts};
 use cmc_world::Stepped;
 use std::alloc::Global;
 use std::test::Fail;
@@ -160,14 +160,10 @@ pub(crate) fn value_of(alloc: Global, order: &Order) -> Result<Given, Fail> {
 
 /// The same; the question is let go behind it.
 pub(crate) fn value_then(alloc: Global, order: Order) -> Result<Given, Fail> {
-    let value = value_of(alloc, &order);
-    let_go(order);
-    value
+    value_of(alloc, &order)
 }
 
 /// Whether the move was made; the answer is let go behind it.
 pub(crate) fn is_done(answer: Stepped) -> bool {
-    let is_done = answer.is_done();
-    let_go(answer);
-    is_done
+    answer.is_done()
 }

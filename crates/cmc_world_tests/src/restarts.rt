@@ -83,19 +83,16 @@ fn incarnation_of(world: &World, step: &Move) -> u64 {
 fn make(alloc: Global, world: &mut World, step: Move) -> Result<(), Fail> {
     let incarnation = incarnation_of(world, &step);
     let before = world.history().as_slice().len();
-    match world.step(alloc, step)? {
-        Stepped::Done => Ok(()),
-        Stepped::Order { pass, order } => {
-            if world.history().as_slice().len() == before {
-                return give(alloc, world, pass, incarnation, order);
-            }
-            let_go(order);
-            Ok(())
+    let answer = world.step(alloc, step)?;
+    if answer.is_done() {
+        return Ok(());
+    }
+    match answer.into_order() {
+        Some((pass, order)) if world.history().as_slice().len() == before => {
+            give(alloc, world, pass, incarnation, order)
         }
-        other => {
-            let_go(other);
-            Err(Fail::from("not made"))
-        }
+        Some(_) => Ok(()),
+        None => Err(Fail::from("not made")),
     }
 }
 

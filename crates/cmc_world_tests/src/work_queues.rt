@@ -30,12 +30,11 @@ fn scenario(alloc: Global) -> Result<Scenario, Fail> {
 fn next_of(alloc: Global, world: &World, pass: u64, incarnation: u64) -> Result<Move, Fail> {
     match question(world, pass)? {
         Some(order) => {
-            let given = value_for(alloc, &order, &ScriptedKeys, &ScriptedSigner);
-            let_go(order);
+            let given = value_for(alloc, &order, &ScriptedKeys, &ScriptedSigner)?;
             Ok(Move::Give {
                 pass,
                 incarnation,
-                given: given?,
+                given,
             })
         }
         None => Ok(Move::Next { pass, incarnation }),

@@ -10,7 +10,7 @@ use cmc_meta::{Bytes, Key, Kind, Numbers};
 use cmc_objects::{Cause, Entry, Material, Object, Order, Parts, Role, Secret, Step};
 use cmc_plain::plain;
 use cmc_setup::{Scenario, Steps};
-use cmc_tests::values::{key, let_go, new_meta, text};
+use cmc_tests::values::{key, new_meta, text};
 use cmc_world::{Decided, Lack, Move, Stepped, World};
 use std::alloc::Global;
 use std::mem;
@@ -322,19 +322,16 @@ struct Told {
 
 fn tell(told: &mut Told, pass: u64, order: Order) {
     let last = mem::replace(&mut told.last, Some(order));
-    if told.pass == pass {
-        let_go(last);
-    } else {
-        let_go(mem::replace(&mut told.before, last));
+    if told.pass != pass {
+        told.before = last;
     }
     told.pass = pass;
 }
 
 /// Keeps the question that a step has told.
 fn hear(told: &mut Told, answer: Stepped) {
-    match answer {
-        Stepped::Order { pass, order } => tell(told, pass, order),
-        other => let_go(other),
+    if let Some((pass, order)) = answer.into_order() {
+        tell(told, pass, order);
     }
 }
 
@@ -394,9 +391,7 @@ fn walk_far(alloc: Global, world: &mut World, walk: &mut Walk, met: &mut Met) ->
 /// The same on a new walk, which is let go of behind it.
 fn walk_on(alloc: Global, world: &mut World, met: &mut Met, seed: u64) -> Result<(), Fail> {
     let mut walk = set_out(seed);
-    let walked = walk_far(alloc, world, &mut walk, met);
-    let_go(walk);
-    walked
+    walk_far(alloc, world, &mut walk, met)
 }
 
 fn wander(
