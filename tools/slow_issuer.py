@@ -4,9 +4,9 @@
 usage: tools/slow_issuer.py [--count 200] [--milliseconds 2] [--workers 0,8] [--times 10]
 
 It makes a copy of the repository, puts into its `main` a gate that sleeps for so long before each question to an issuer
-(the gate is called where the issuer is, outside of the lock), builds that program by `rt run`, which proves it once more
-(some minutes where the repository's own `rt run` was made before, and all of it else), and prints the best time of `cmrun load COUNT --summary` of so many, for each number of workers. It is no
-part of the gate.
+(the gate is called where the issuer is, outside of the lock), links the libraries that `rt ci` has proved on this machine
+into the copy, builds the program by `rt run`, which proves it alone once more (some minutes), and prints the best time of
+`cmrun load COUNT --summary` of so many, for each number of workers. It is no part of the gate.
 """
 import argparse
 import pathlib
@@ -45,7 +45,8 @@ def patched(main, milliseconds):
 def built(root, milliseconds):
     """The program with the gate, in a copy of the repository."""
     copy = pathlib.Path(tempfile.mkdtemp()) / "repository"
-    shutil.copytree(root, copy, ignore=shutil.ignore_patterns(".git", "must-fail"))
+    shutil.copytree(root, copy, ignore=shutil.ignore_patterns(".git", "must-fail", "out"))
+    subprocess.run([root / "tools" / "link_proved.py", copy], check=True)
     crate = copy / "crates" / "cmrun"
     main = crate / "src" / "main.rt"
     main.write_text(patched(main.read_text(), milliseconds))
