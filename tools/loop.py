@@ -167,7 +167,7 @@ def deletion_cause(write, state):
         later = [key for key, request in state.owned(name, "CertificateRequest").items() if is_true(request.value, "Ready") and (revision_of(request.value) or 0) > (revision_of(write.before) or 0)]
         if later and annotation(write.before, f"{PREFIX}certificate-name") == name.split("/")[1]:
             limit = it.value["spec"].get("revisionHistoryLimit")
-            yield f"revisionHistoryLimit of {name} is {limit}, and {later[-1].split('/')[2]} has revision {revision_of(state.objects[later[-1]].value)}, so the request of the revision in use is deleted as the oldest, and the trigger asks for another"
+            yield f"revisionHistoryLimit of {name} is {limit}, and {later[-1].split('/')[2]} has revision {revision_of(state.objects[later[-1]].value)}, so a request of revision {revision_of(write.before)} is deleted as the oldest as soon as it is Ready, and comes again"
 
 
 def turn_lines(loop):

@@ -162,9 +162,15 @@ def written(event, write):
     if who == "readiness":
         was, told = condition(write.before or {}, "Ready"), condition(thing, "Ready")
         return [] if was and was["reason"] == told["reason"] else [("Normal" if told["status"] == "True" else "Warning", told["reason"], who, told["message"])]
-    if who == "user":
-        return [("Normal", "Applied" if not deleted else "Deleted", who, f"{write.verb} of {write.key}")]
-    return []
+    return of_user(who, write, deleted)
+
+
+def of_user(who, write, deleted):
+    """What a step of the script wrote: an object, or conditions."""
+    if write.verb != "updateStatus":
+        return [("Normal", "Deleted" if deleted else "Applied", who, f"{write.verb} of {write.key}")]
+    changed = [it for it in write.after.get("status", {}).get("conditions", []) if it != condition(write.before, it["type"])]
+    return [("Normal", it["reason"], who, f"{write.key}: {it['type']} {it['status']}: {it['message']}") for it in changed]
 
 
 def issued(who, write, thing, short):
@@ -250,7 +256,8 @@ def describe(state, name, events, most):
     yield f"Waits for: {'nothing' if ready else wait or 'nothing that has a name'}{'' if ready else f' ({cause_of(state, name, wait)})'}"
     yield from secret(state, name)
     yield from requests(state, name)
-    yield f"Events: (the last {most} of {len(events)})" if len(events) > most else "Events:" if events else "Events: none"
+    count = len(events)
+    yield "Events: none" if not count else f"Events: {count}" if not most else f"Events: (the last {most} of {count})" if count > most else "Events:"
     for at, kind, reason, who, message in events[-most:] if most else []:
         yield f"  {at}  {kind:<8} {reason:<19} {who:<15} {message}"
 

@@ -110,7 +110,7 @@ def bound_of(text, option):
 
 
 def is_past(event, bound, strictly):
-    """Whether an event lies at or after a bound, or strictly after it."""
+    """Whether an event lies at or after a bound, or strictly after it. Without a bound all lie after it, and none strictly."""
     if bound is None:
         return not strictly
     at = seconds_of(event.state.now) if bound[0] else event.n
@@ -119,9 +119,12 @@ def is_past(event, bound, strictly):
 
 def lines(history, name=None, first=None, last=None):
     """The lines of the timeline."""
-    shown = None
+    shown, is_cut = None, False
     for event in history.events():
-        if not is_past(event, first, False) or is_past(event, last, True):
+        is_cut = is_past(event, last, True)
+        if is_cut:
+            break
+        if not is_past(event, first, False):
             continue
         text = event_text(event)
         if text is None or name and not concerns(event, name):
@@ -130,7 +133,8 @@ def lines(history, name=None, first=None, last=None):
             shown = event.state.now
             yield f"--- {shown} ---"
         yield f"{event.n:>6}  {event.who:<14} {text}"
-    yield summary_text(history.summary)
+    if not is_cut:
+        yield summary_text(history.summary)
 
 
 def summary_text(summary):

@@ -10,6 +10,7 @@ run that never comes to rest it shows one turn of the loop, with its cause. The 
 import difflib
 import json
 import re
+import sys
 
 import cli
 from history import KINDS, ROLES, WATCHES, History, key_fingerprint, rule_text, seconds_of
@@ -450,8 +451,9 @@ def main():
     cli.add_program(parser)
     given = parser.parse_args()
     status, told = explain(cli.program_of(given.program), cli.read_bytes(given.scenario))
+    # The program's own line goes where the program writes it.
     for line in told:
-        print(line)
+        print(line, file=sys.stderr if line.startswith("cmrun: ") else sys.stdout, flush=True)
     return status
 
 
