@@ -119,6 +119,22 @@ def write_text(path, text):
         file.write(text)
 
 
+def scenario_text(scenario):
+    """A scenario as JSON with a line for each step and for the rows of each Certificate."""
+    line = lambda value: json.dumps(value, ensure_ascii=False)
+    parts = []
+    for name, value in scenario.items():
+        if name == "script" and value:
+            inner = ",\n".join(f"    {line(step)}" for step in value)
+            parts.append(f'  "script": [\n{inner}\n  ]')
+        elif name == "material" and value:
+            inner = ",\n".join(f"    {line(key)}: {line(rows)}" for key, rows in value.items())
+            parts.append(f'  "material": {{\n{inner}\n  }}')
+        else:
+            parts.append(f"  {line(name)}: {line(value)}")
+    return "{\n" + ",\n".join(parts) + "\n}\n"
+
+
 def add_program(parser):
     parser.add_argument("--program", metavar="CMRUN", help="the program to run (where it is not named: the proved one of crates/cmrun/out, else the one that tools/demo has built)")
 
