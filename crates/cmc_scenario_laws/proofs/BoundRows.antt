@@ -1,5 +1,5 @@
 -- What is read of a scenario, or made for a load, leaves no key and no answer open.
-use Rattle.std.proofs.Common.{◌≡◌, ℕ, ◌≤◌, List, [], ◌∷◌, true, false, Ok, Err, Option, Some, None, refl, codes}
+use Rattle.std.proofs.Common.{◌≡◌, ℕ, ◌≤◌, List, [], ◌∷◌, true, false, Ok, Err, Option, Some, None, refl, ap, codes}
 use Rattle.std.specs.Prelude.{Bool, ◌&&◌}
 use Rattle.std.specs.List.{list_all}
 use Rattle.std.specs.declared.cmp.Ordering.{Ordering}
@@ -20,7 +20,7 @@ use Rattle.cmc_objects.specs.Requests.{is_row_form}
 use Rattle.cmc_setup.specs.Forms.{is_certificate, is_said, is_step_form, is_bound_key, is_bound_entry, is_bound_step}
 use Rattle.cmc_setup.specs.Setups.{Setup, LeavesNothingFree}
 use Rattle.cmc_setup.specs.Stages.{first_stage}
-use Rattle.cmc_cursor.specs.Reading.{under, Field, fields_at, optional_at, at_end}
+use Rattle.cmc_cursor.specs.Reading.{Read, in_words, under, Field, fields_at, optional_at, at_end}
 use Rattle.cmc_cursor.specs.Readers.{count_at, bytes_at}
 use Rattle.cmc_cursor.specs.Readers.{floats_at}
 use Rattle.cmc_cursor.proofs.Always.{Always, so, failed, next, after, below, further}
@@ -33,7 +33,7 @@ use Rattle.cmc_material.proofs.RowForms.{IsSaid, of_reply_row}
 use Rattle.cmc_scenario.specs.Loads.{load_setup}
 use Rattle.cmc_scenario.specs.Roles.{roles_at}
 use Rattle.cmc_scenario.specs.Scripts.{script_at}
-use Rattle.cmc_scenario.specs.Scenarios.{size_at, faults_at, world_in, beginning_in, setup_of, setup_in, members_at, scenario_at}
+use Rattle.cmc_scenario.specs.Scenarios.{size_at, faults_at, world_in, beginning_in, setup_of, setup_in, members_at, whole_at, scenario_at}
 use Rattle.cmc_scenario.specs.declared.members.World.{World}
 use Rattle.cmc_scenario.proofs.LoadLaws.{is_setup}
 use Rattle.cmc_scenario.proofs.SetupForms.{IsScript, of_script}
@@ -144,12 +144,17 @@ of_setup : (fs : List Field) → Always LeavesNothingFree (setup_in fs)
 unfolding setup_in
 of_setup fs = after IsBoundWorld LeavesNothingFree (world_in fs) _ (of_world fs) (λ world bound. next LeavesNothingFree (beginning_in world.1) _ (λ beginning. next LeavesNothingFree (optional_at (codes "script") beginning.1) _ (λ first. after (IsScript (first_stage beginning.0.roles beginning.0.moment)) LeavesNothingFree (script_at (first_stage beginning.0.roles beginning.0.moment) first.0) _ (of_script (first_stage beginning.0.roles beginning.0.moment) first.0) (λ script formed. next LeavesNothingFree (optional_at (codes "window") first.1) _ (λ second. next LeavesNothingFree (member_or 1000 (codes "window") size_at second.0) _ (λ window. next LeavesNothingFree (at_end second.1) _ (λ end. so (record { material = bound; script = script_bound script formed.forms }))))))))
 
-of_scenario : (d : Data) → Always LeavesNothingFree (scenario_at d)
-unfolding scenario_at members_at
+of_scenario : (d : Data) → Always LeavesNothingFree (whole_at d)
+unfolding whole_at members_at
 of_scenario d = after LeavesNothingFree LeavesNothingFree (members_at d) _ (next LeavesNothingFree (fields_at d) setup_in of_setup) (λ scenario bound. next LeavesNothingFree (floats_at d) _ (λ none. so bound))
 
+in_its_words : (u : Setup) (r : Read Setup) → in_words r ≡ Ok u → r ≡ Ok u
+in_its_words u (Ok x) is = ap Ok (let same : x ≡ u = cc is in same)
+in_its_words u (Err path) is = absurd (cc is)
+
 pub what_is_read : (d : Data) (u : Setup) → scenario_at d ≡ Ok u → LeavesNothingFree u
-what_is_read d u is = (of_scenario d).each u is
+unfolding scenario_at
+what_is_read d u is = (of_scenario d).each u (in_its_words u (whole_at d) is)
 
 pub what_is_made : (count : ℕ) → 1 ≤ count → count ≤ 200 → LeavesNothingFree (load_setup count)
 what_is_made count some few = record { material = refl; script = script_bound (load_setup count).script (is_setup count some few).steps }
