@@ -61,7 +61,7 @@ stranger_in fs = do
   given ← optional_at (codes "data") api.1
   passed ← passes (codes "data") given.0
   kind ← required_at (codes "kind") given.1
-  Err (codes "kind")
+  Err (codes "kind" ∷ [])
 
 abbrev pub object_in : Option (List ℕ) → List Field → Read Applied
 object_in None fs = stranger_in fs

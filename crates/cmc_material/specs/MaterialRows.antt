@@ -103,7 +103,7 @@ no_reply_in fs = do
   message ← optional_at (codes "message") key.1
   fifth ← passes (codes "message") message.0
   word ← required_at (codes "reply") message.1
-  Err (codes "reply")
+  Err (codes "reply" ∷ [])
 
 -- The word decides the form of the members.
 abbrev pub reply_row_in : Option (List ℕ) → List Field → Read SignRow

@@ -1,7 +1,7 @@
 use Rattle.std.proofs.Common.{◌≡◌, ◌++◌}
 use Rattle.cmc_world.specs.Kept.{setting_of}
 use Rattle.cmc_plain.specs.Waits.{waits_among}
-use Rattle.cmc_plain.proofs.summaries.waiting.Given as goal
+use Rattle.cmc_plain.proofs.summaries.waiting_by.Given as goal
 
 abbrev pub invariant-loop-key : goal.invariant-loop-key
 invariant-loop-key l =
