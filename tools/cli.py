@@ -3,6 +3,7 @@
 A tool ends with the status 1 where its input cannot be used, and with 2 where its words cannot, with one line on standard error.
 """
 import argparse
+import gc
 import json
 import os
 import subprocess
@@ -57,6 +58,8 @@ def one_line(text):
 
 def run_tool(main, name=None):
     """Runs `main`, and ends the process with its status; an error that input can cause is told in one line."""
+    # A history is a tree of some million values without cycles: looking for cycles would take most of the time.
+    gc.disable()
     name = name or os.path.splitext(os.path.basename(sys.argv[0]))[0]
     # Names of people's objects may have any character.
     for stream in (sys.stdout, sys.stderr):

@@ -238,7 +238,7 @@ class Cluster:
             self.secret(thing, applied)
         for place, (thing, applied) in enumerate(self.certificates):
             self.request(thing, applied, place)
-        self.script += [{"do": "start", "role": role, "behind": 0} for role in ROLES] + [{"do": "settle"}]
+        self.script += [{"do": "start", "role": role, "behind": 0} for role in ROLES]
         return self.script
 
     def fits(self, thing, applied):
@@ -456,7 +456,8 @@ def main():
     now = given.now or datetime.datetime.now(datetime.timezone.utc).strftime("%Y-%m-%dT%H:%M:%SZ")
     if not is_moment(now):
         raise BadInput("--now takes a moment as 2030-01-01T00:00:00Z", 2)
-    cluster = Cluster(items_of(cli.read_json(given.list, "the list")), Keys(given.keep_keys), is_before_118(given.cert_manager))
+    before_118 = is_before_118(given.cert_manager)
+    cluster = Cluster(items_of(cli.read_json(given.list, "the list")), Keys(given.keep_keys), before_118)
     script = cluster.build()
     print(cli.scenario_text({"now": now, "roles": [], "events": 250000, "script": script}), end="")
     for text in cluster.notes:

@@ -86,6 +86,11 @@ class Forecast:
             if self.runs >= MOST_RUNS:
                 raise BadInput(f"more than {MOST_RUNS} runs are needed: ask for fewer days")
 
+    def later(self):
+        """The events from the last step of the scenario itself on."""
+        last = len(self.base.get("script", []))
+        return (event for event in self.history.events() if event.state.step >= last)
+
     # ---- what is missing
 
     def add_moments(self):
@@ -111,8 +116,8 @@ class Forecast:
     def mend_rows(self):
         """Sets the row of the first question of each Certificate that was not answered as its issuer would then."""
         changed, done = False, set()
-        for event in self.history.events():
-            if event.kind != "answered" or seconds_of(event.state.now) < self.begin:
+        for event in self.later():
+            if event.kind != "answered":
                 continue
             stored = event.state.objects.get("CertificateRequest/" + event.order["request"])
             name = event.order["request"].split("/")[0] + "/" + stored.value["metadata"].get("annotations", {}).get("cert-manager.io/certificate-name", "")
@@ -171,26 +176,17 @@ class Forecast:
     # ---- what is told
 
     def news(self):
-        """What happens at each moment from the beginning on, as (moment, texts)."""
+        """What happens at each moment from the end of the scenario on, as (moment, texts)."""
         told = collections.OrderedDict()
-        started = False
-        for event in self.history.events():
-            started = started or event.kind == "script" and event.entry["step"] > len(self.base.get("script", []))
+        for event in self.later():
             text = news_of(event) if event.write or event.kind == "answered" else None
-            if text and (started or self.is_first(event)):
+            if text:
                 told.setdefault(event.state.now, []).append(text)
         return told
 
-    def is_first(self, event):
-        return event.who != "user" and seconds_of(event.state.now) >= self.begin
-
     def questions(self):
         """How many questions issuers were asked, by the hour."""
-        counts = collections.Counter()
-        for event in self.history.events():
-            if event.kind == "answered" and seconds_of(event.state.now) >= self.begin:
-                counts[event.state.now[:13]] += 1
-        return counts
+        return collections.Counter(event.state.now[:13] for event in self.later() if event.kind == "answered")
 
 
 def due(thing):
@@ -212,6 +208,8 @@ def news_of(event):
         answer, request = event.entry["answer"], event.order["request"]
         return f"{request} pending" if answer["is"] == "pending" else f"{request} refused: {answer['message']}" if answer["is"] == "failed" else None
     write = event.write
+    if event.who == "user":
+        return None
     if event.who == "trigger":
         return f"{event.of.key} is to be issued ({condition(write.after, 'Issuing')['reason']})"
     if event.who == "issuing" and write.key.startswith("Certificate/"):

@@ -741,8 +741,16 @@ def creation(thing):
     return [f"{name}={value}" for name, value in told.items()]
 
 
+def changed_parts(before, after):
+    """The two objects without the parts that are equal in both, so that only what differs is read."""
+    names = [name for name in ("status", "spec", "data") if before.get(name) != after.get(name)]
+    pick = lambda thing: {"metadata": thing["metadata"], **{name: thing[name] for name in names if name in thing}}
+    return pick(before), pick(after)
+
+
 def difference(before, after):
     """What changed from one object to another, as texts."""
+    before, after = changed_parts(before, after)
     old, new = facts(before), facts(after)
     changed = []
     for name in dict.fromkeys([*old, *new]):

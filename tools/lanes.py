@@ -45,6 +45,8 @@ def main():
     parser.add_argument("--title", metavar="TEXT")
     given = parser.parse_args()
     history = History.read(cli.read_bytes(given.history))
+    # (a history that cannot be folded is refused here, and not by the page)
+    history.end()
     title = given.title or (os.path.basename(given.history) if given.history else "history")
     print(page_of(history, title), end="")
 

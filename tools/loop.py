@@ -49,7 +49,7 @@ def stops(scenario, steps):
 
 def enough_events(scenario):
     """More entries than the scenario needs, unless it goes round without end."""
-    return min(20000 + 1000 * len(scenario.get("script", [])), MOST_EVENTS)
+    return min(6000 + 600 * len(scenario.get("script", [])), MOST_EVENTS)
 
 
 def with_script(scenario, steps):

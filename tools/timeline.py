@@ -153,7 +153,8 @@ def main():
         raise BadInput("--certificate takes namespace/name", 2)
     first, last = bound_of(given.first, "--from"), bound_of(given.last, "--to")
     history = History.read(cli.read_bytes(given.history))
-    for line in lines(history, given.certificate, first, last):
+    # (a history that cannot be folded is refused before anything is printed)
+    for line in list(lines(history, given.certificate, first, last)):
         print(line)
 
 
