@@ -319,7 +319,12 @@ def is_stored_form(value):
 
 
 def is_reply(value):
-    return isinstance(value, dict) and any(it in value for it in REPLIES) and is_count(value.get("ok", 0)) and is_text(value.get("name", ""))
+    """Whether the value has the form of a reply: one of the known ones, with a number, or two of a conflict."""
+    if not isinstance(value, dict) or len(set(value) & set(REPLIES)) != 1:
+        return False
+    if "conflict" in value:
+        return has_members(have=is_count, named=is_count)(value["conflict"])
+    return all(is_count(it) for name, it in value.items() if name != "name") and is_text(value.get("name", ""))
 
 
 def is_order(value):

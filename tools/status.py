@@ -297,26 +297,34 @@ def state_and_events(history, name):
     return state, events
 
 
+def name_and_path(words):
+    """The Certificate and the history that the words name; a word with one slash that is no file is a Certificate."""
+    words = list(words)
+    is_name = words and is_name_pair(words[0]) and not os.path.exists(words[0]) and not words[0].startswith("/")
+    name = words.pop(0) if is_name else None
+    if len(words) > 1:
+        raise BadInput("it takes one Certificate namespace/name and one history", 2)
+    return name, words[0] if words else None
+
+
 def main():
     parser = cli.Parser(__doc__)
     parser.add_argument("words", nargs="*", metavar="NS/NAME or HISTORY")
     parser.add_argument("--at", metavar="AT")
     parser.add_argument("--events", type=int, default=20, metavar="N", help="how many of the last events to show (default 20)")
     given = parser.parse_args()
-    name = given.words.pop(0) if given.words and is_name_pair(given.words[0]) and not given.words[0].startswith("/") and not os.path.exists(given.words[0]) else None
-    if len(given.words) > 1:
-        raise BadInput("it takes one Certificate namespace/name and one history", 2)
+    name, path = name_and_path(given.words)
     bound = bound_of(given.at, "--at")
-    history = History.read(cli.read_bytes(given.words[0] if given.words else None))
+    history = History.read(cli.read_bytes(path))
     state, events = state_and_events(up_to(history, bound), name)
     if name is None:
-        for line in overview(state):
-            print(line)
-        return 0
-    if state.certificate(name) is None:
+        found = overview(state)
+    elif state.certificate(name):
+        found = describe(state, name, events, max(given.events, 0))
+    else:
         close = difflib.get_close_matches(name, state.certificates(), 1)
         raise BadInput(f"no Certificate {name} exists at {state.now}{f'; did you mean {close[0]}?' if close else ''}")
-    for line in describe(state, name, events, max(given.events, 0)):
+    for line in list(found):
         print(line)
     return 0
 

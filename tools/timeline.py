@@ -26,21 +26,18 @@ def step_text(step):
 
 
 def reply_text(entry):
-    """Why a call was not accepted."""
+    """What a call was answered that wrote nothing."""
     reply = entry["reply"]
     if "conflict" in reply:
         lost = reply["conflict"]
         return f"conflict: it names version {lost.get('named')}, and version {lost.get('have')} is stored"
-    for name, text in (
-        ("notFound", "it does not exist"),
-        ("alreadyExists", "it exists already"),
-        ("invalid", f"invalid by rule {reply.get('invalid')}: {rule_text(reply.get('invalid'))}" if "invalid" in reply else ""),
-        ("unavailable", f"the store's call {reply.get('unavailable')} is made to fail"),
-        ("unchanged", "unchanged"),
-    ):
-        if name in reply:
-            return text
-    return str(reply)
+    if "invalid" in reply:
+        return f"invalid by rule {reply['invalid']}: {rule_text(reply['invalid'])}"
+    if "unavailable" in reply:
+        return f"the store's call {reply['unavailable']} is made to fail"
+    if "notFound" in reply:
+        return "it does not exist"
+    return "it exists already" if "alreadyExists" in reply else "unchanged"
 
 
 def answer_text(event):
@@ -57,13 +54,24 @@ def answer_text(event):
     return f"asks the issuer about {order.get('request')} (question {order.get('number')}): {told}"
 
 
+def call_text(event):
+    """The line of a call that wrote nothing; None for a read that was answered."""
+    entry = event.entry
+    if "found" in entry["reply"]:
+        return None
+    refused = "" if "unchanged" in entry["reply"] else "REFUSED "
+    return f"{refused}{entry['call']} {call_key(entry)}: {reply_text(entry)}"
+
+
 def event_text(event):
     """The line of an event; None for one that people leave out."""
     entry, kind = event.entry, event.kind
     if event.write:
         return f"v{event.write.version} {write_text(event.write)}"
     if kind == "call":
-        return None if entry["call"] == "get" and "found" in entry["reply"] else f"REFUSED {entry['call']} {call_key(entry)}: {reply_text(entry)}" if "unchanged" not in entry["reply"] else f"{entry['call']} {call_key(entry)}: unchanged"
+        return call_text(event)
+    if kind in ("answered", "judged", "made"):
+        return answer_text(event)
     if kind == "script":
         return f"step {entry['step']}: {step_text(event.step)}"
     if kind == "stop":
@@ -72,8 +80,6 @@ def event_text(event):
         return f"STARTS, told of the writes up to v{entry['at']}"
     if kind == "list":
         return f"lists {entry['kind']} anew, up to v{entry['to']}: its window had passed"
-    if kind in ("answered", "judged", "made"):
-        return answer_text(event)
     return None
 
 

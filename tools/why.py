@@ -292,13 +292,15 @@ def warn_of_object(path, thing):
 
 
 def warn_of_ticks(scenario):
-    waits = True
+    """A tick right after a step of a user, where some controller runs: it has had no pass yet."""
+    is_acted = False
     for place, step in enumerate(scenario.get("script", [])):
-        if step["do"] == "tick":
-            if not waits:
-                yield f"script.{place}: time passes before the controllers have acted on the steps before it; put a `settle` in front"
-        waits = step["do"] in ("settle", "until") or waits and step["do"] not in ("apply", "delete", "approve", "deny", "answer", "renew")
-        waits = waits or not scenario.get("roles", True)
+        if step["do"] == "tick" and is_acted and scenario.get("roles", ROLES):
+            yield f"script.{place}: time passes before the controllers have acted on the steps before it; put a `settle` in front"
+        if step["do"] in ("apply", "delete", "approve", "deny", "answer", "renew"):
+            is_acted = True
+        elif step["do"] in ("settle", "until"):
+            is_acted = False
 
 
 def held_at_end(scenario):
