@@ -11,6 +11,8 @@ mod deciding;
 #[cfg(test)]
 mod fixtures;
 #[cfg(test)]
+mod handed_in;
+#[cfg(test)]
 mod informer;
 #[cfg(test)]
 mod queue;
