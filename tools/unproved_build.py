@@ -8,7 +8,7 @@ crate. To see before that what a change gains, this lets `rt try` compile the pr
 takes that code out on its way to clang, drops the checks and the filling of locals that stand for the proofs, and links it
 anew. It counts some 15 % more instructions than the proved program does (bounds of slices are still looked at), in the same
 proportions: 525 million where the proved one had 458. Nothing that it builds is ever handed in, and no verdict rests on it.
-It needs the toolchain's folder at KIT (kit 13f).
+It needs the toolchain's folder at KIT (it was run with kits 13b and 13f).
 """
 import os
 import re
