@@ -368,12 +368,7 @@ fn views_with(alloc: Global, case: &Case) -> Result<Views, Fail>
 }
 
 #[tactic(auto, unfolding(cmc_rules::specs::KeyManaging::key_after))]
-fn kept(
-    alloc: Global,
-    views: &Views,
-    desk: &Desk,
-    order: &KeyOrder,
-) -> Result<String, AllocError>
+fn kept(alloc: Global, views: &Views, desk: &Desk, order: &KeyOrder) -> Result<String, AllocError>
     requires stands { IsSome views.now.certificate }
     requires asked { key_manager views.now desk.now ≡ acts.Ask (orders.Key order.now) }
 {

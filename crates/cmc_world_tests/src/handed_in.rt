@@ -7,9 +7,7 @@ ghost use Rattle.cmc_keys.specs.Kinds.{IsKeyOf, allows_size};
 use crate::checks::passes;
 use crate::fixtures::{apply, certificate, put, whole_scenario};
 use cmc_answers::{Answered, ScriptedSigner, Signer, signing_of};
-use cmc_keys::{
-    KeyMaker, Made, ScriptedKeys, SignedCsr, is_allowed_size, synthetic_key,
-};
+use cmc_keys::{KeyMaker, Made, ScriptedKeys, SignedCsr, is_allowed_size, synthetic_key};
 use cmc_meta::{Bytes, Kind, Numbers};
 use cmc_objects::{
     Algorithm, CertSpec, CsrOrder, Entry, KeyOrder, KeyRow, KeyRows, Material, Order, Role, Rows,
@@ -247,7 +245,8 @@ fn work_of(order: &Order) -> Work {
 /// Whether the entry of this number begins a pass of a role that decides on what it saw.
 fn begins_decider(world: &World, number: u64) -> bool {
     match world.history().entry(number) {
-        Some(Entry::Begin { role, .. }) => role.same(Role::Issuing) || role.same(Role::RequestManager),
+        Some(Entry::Begin { role, .. }) => role.same(Role::Issuing)
+            || role.same(Role::RequestManager),
         _ => false,
     }
 }
@@ -324,7 +323,10 @@ fn find(
     match entry {
         Entry::Ask { pass, order } => {
             raise(&mut found.questions, true);
-            raise(&mut found.wrong, ledger.came_at(number, work_of(order)) != 1);
+            raise(
+                &mut found.wrong,
+                ledger.came_at(number, work_of(order)) != 1,
+            );
             if let Order::Key(order) = order {
                 raise(&mut found.wrong, !are_own_keys(alloc, world, *pass, order)?);
             }
@@ -358,17 +360,46 @@ fn found_in(alloc: Global, world: &World, ledger: &Ledger) -> Result<Found, Fail
 
 /// Each question has one point, each point a question or a decision, and each key, signature and answer of the history was
 /// made by what was handed in, behind its point. Four questions are asked for each of the two Certificates.
-fn is_handed_in(rt: &impl Abort, alloc: Global, world: &World, ledger: &Ledger) -> Result<u64, Fail> {
+fn is_handed_in(
+    rt: &impl Abort,
+    alloc: Global,
+    world: &World,
+    ledger: &Ledger,
+) -> Result<u64, Fail> {
     let found = found_in(alloc, world, ledger)?;
     passes(rt, "questions", found.questions == 8);
-    passes(rt, "points, keys and answers of questions", found.wrong == 0);
+    passes(
+        rt,
+        "points, keys and answers of questions",
+        found.wrong == 0,
+    );
     passes(rt, "points", name_their_entries(world, ledger));
-    passes(rt, "no point too late", ledger.early.load(Ordering::SeqCst) == 0);
-    passes(rt, "keys", found.keys == 2 && ledger.keys.load(Ordering::SeqCst) == 2);
-    passes(rt, "signatures", found.signatures == 2 && ledger.signatures.load(Ordering::SeqCst) == 2);
-    passes(rt, "answers", found.answers == 2 && ledger.answers.load(Ordering::SeqCst) == 2);
+    passes(
+        rt,
+        "no point too late",
+        ledger.early.load(Ordering::SeqCst) == 0,
+    );
+    passes(
+        rt,
+        "keys",
+        found.keys == 2 && ledger.keys.load(Ordering::SeqCst) == 2,
+    );
+    passes(
+        rt,
+        "signatures",
+        found.signatures == 2 && ledger.signatures.load(Ordering::SeqCst) == 2,
+    );
+    passes(
+        rt,
+        "answers",
+        found.answers == 2 && ledger.answers.load(Ordering::SeqCst) == 2,
+    );
     let came = ledger.came.load(Ordering::SeqCst);
-    passes(rt, "decisions", came == ledger.came_of(Work::Decide).saturating_add(8));
+    passes(
+        rt,
+        "decisions",
+        came == ledger.came_of(Work::Decide).saturating_add(8),
+    );
     Ok(ledger.came_of(Work::Decide))
 }
 
