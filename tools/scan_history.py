@@ -79,6 +79,7 @@ class Scan:
         self.stands = {}
         self.certificates = {}
         self.roles = {}
+        self.calls = {}
         self.approved = set()
         self.secrets = self.raises = self.questions = 0
         self.denied = {key_of(e) for e in entries if is_write(e, "CertificateRequest") and is_true(e["object"], "Denied")}
@@ -90,6 +91,8 @@ class Scan:
         for entry in self.entries:
             if entry["is"] == "begin":
                 self.roles[entry["pass"]] = entry
+            if entry["is"] == "call":
+                self.calls.setdefault(entry["who"], []).append(entry)
             if entry["is"] == "ask" and entry["order"]["is"] == "sign":
                 self.question(entry)
             if entry["is"] == "call" and "ok" in entry["reply"]:
@@ -161,7 +164,7 @@ class Scan:
         return revision == str(self.certificates[certificate] + 1) and signed == entry["object"]["data"]["tls.crt"]
 
     def end(self, entry):
-        own = [e for e in self.entries[: entry["n"]] if e["is"] == "call" and e["who"] == entry["pass"]]
+        own = self.calls.get(entry["pass"], [])
         if entry["cause"] == "wrote" and not any(e["reply"].keys() & {"ok", "unchanged"} for e in own):
             self.fault(entry, "it says that it wrote, and did not")
         if entry["cause"] == "nothing" and own:

@@ -1,5 +1,5 @@
 #!/usr/bin/env python3
-"""Builds `cmrun` of a checkout with optimisation and without a proof, in some two minutes, for measuring alone.
+"""Builds `cmrun` of a checkout with optimisation and without a proof, in some three minutes, to look at it and to measure it.
 
 usage: tools/unproved_build.py CHECKOUT PROGRAM
 
@@ -8,7 +8,7 @@ crate. To see before that what a change gains, this lets `rt try` compile the pr
 takes that code out on its way to clang, drops the checks and the filling of locals that stand for the proofs, and links it
 anew. It counts some 15 % more instructions than the proved program does (bounds of slices are still looked at), in the same
 proportions: 525 million where the proved one had 458. Nothing that it builds is ever handed in, and no verdict rests on it.
-It needs the toolchain's folder at KIT (it was run with kits 13b and 13f).
+The toolchain is the one whose `rt` is the command; it works with the kits 13b and 13f.
 """
 import os
 import re
@@ -17,7 +17,10 @@ import subprocess
 import sys
 import tempfile
 
-KIT = "/opt/rattle"
+RT = shutil.which("rt")
+if RT is None:
+    sys.exit("unproved_build: there is no command `rt`: put the kit's folder bin on the PATH")
+KIT = os.path.dirname(os.path.dirname(os.path.realpath(RT)))
 CLANG = f"{KIT}/toolchain/bin/clang"
 # What stands in for clang and for the linker while `rt try` runs: each keeps what it is given, and goes on.
 KEEPS_CODE = f"""#!/bin/sh
