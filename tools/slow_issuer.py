@@ -1,11 +1,11 @@
 #!/usr/bin/env python3
 """Times loads whose issuers take their time, with and without threads.
 
-usage: tools/slow_issuer.py [--count 200] [--milliseconds 2] [--workers 0,8] [--times 10]
+usage: tools/slow_issuer.py [--count 200] [--milliseconds 2] [--workers 0,8] [--times 10] [--from PROVED]
 
 It makes a copy of the repository, puts into its `main` a gate that sleeps for so long before each question to an issuer
-(the gate is called where the issuer is, outside of the lock), links the libraries that `rt ci` has proved on this machine
-into the copy, builds the program by `rt run`, which proves it alone once more (some minutes), and prints the best time of
+(the gate is called where the issuer is, outside of the lock), links proved libraries into the copy (tools/link_proved.py: those
+of the checkout PROVED, this one where none is named; each kit will do), builds the program by `rt run`, which proves it alone once more (some minutes), and prints the best time of
 `cmrun load COUNT --summary` of so many, for each number of workers. It is no part of the gate.
 """
 import argparse
@@ -42,11 +42,11 @@ def patched(main, milliseconds):
     return main
 
 
-def built(root, milliseconds):
+def built(root, proved, milliseconds):
     """The program with the gate, in a copy of the repository."""
     copy = pathlib.Path(tempfile.mkdtemp()) / "repository"
     shutil.copytree(root, copy, ignore=shutil.ignore_patterns(".git", "must-fail", "out"))
-    subprocess.run([root / "tools" / "link_proved.py", copy], check=True)
+    subprocess.run([root / "tools" / "link_proved.py", copy, "--from", proved], check=True)
     crate = copy / "crates" / "cmrun"
     main = crate / "src" / "main.rt"
     main.write_text(patched(main.read_text(), milliseconds))
@@ -67,8 +67,10 @@ def main():
     parser.add_argument("--milliseconds", type=int, default=2)
     parser.add_argument("--workers", default="0,8")
     parser.add_argument("--times", type=int, default=10)
+    root = pathlib.Path(__file__).resolve().parent.parent
+    parser.add_argument("--from", dest="proved", default=root)
     given = parser.parse_args()
-    program = built(pathlib.Path(__file__).resolve().parent.parent, given.milliseconds)
+    program = built(root, given.proved, given.milliseconds)
     for workers in map(int, given.workers.split(",")):
         best = min(seconds(program, given.count, workers) for _ in range(given.times))
         print(f"{workers} workers: {best:.2f} seconds, best of {given.times}", flush=True)

@@ -61,7 +61,7 @@ owner_only o h = go (bool_cases (is_subdomain o.name))
   where
     go : (is_subdomain o.name ≡ true) ⊎ (is_subdomain o.name ≡ false) → Only (Some o) (owner_at (owner_tree o))
     go (inl holds) = given (owner_printed o.kind o.name o.uid o.controller (rw holds refl) (uid_written o.uid h))
-    go (inr fails) = nothing (codes "name") (owner_fails o.kind o.name o.uid o.controller (rw fails refl) (uid_written o.uid h))
+    go (inr fails) = nothing (codes "name" ∷ []) (owner_fails o.kind o.name o.uid o.controller (rw fails refl) (uid_written o.uid h))
 
 owners_from_only : (n : ℕ) (os : List OwnerRef) → HaveUids os → Only os (owners_from n (items_of (map owner_tree os)))
 owners_from_only n [] h = so refl

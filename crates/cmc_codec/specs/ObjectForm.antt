@@ -1,5 +1,5 @@
 -- The form of an object that is read: its kind decides it.
-use Rattle.std.specs.Prelude.{ℕ, List, [], ◌||◌, codes, Bool, if◌then◌else◌, Ok, Err, Some, None}
+use Rattle.std.specs.Prelude.{ℕ, List, [], ◌∷◌, ◌||◌, codes, Bool, if◌then◌else◌, Ok, Err, Some, None}
 use Rattle.std.specs.declared.option.Option.{Option}
 use Rattle.std.specs.Str.{bytes_eq}
 use Rattle.serde_json.specs.Data.{Data}

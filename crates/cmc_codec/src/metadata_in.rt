@@ -8,7 +8,9 @@ ghost use Rattle.cmc_codec.specs.Given.{given_or};
 ghost use Rattle.cmc_codec.specs.MetadataForm.{sought_member, sought_or, sought_needed, owners_at, labelled_in, placed_in, head_of, head_at};
 
 use crate::owners_in::owners;
-use cmc_cursor::{BadField, Fields, at, decimal, drop_rest, fields, flag, name, pairs, path_to, seek};
+use cmc_cursor::{
+    BadField, Fields, at, decimal, drop_rest, fields, flag, name, pairs, path_to, seek,
+};
 use cmc_meta::{Name, ObjectMeta, Owners, Pairs};
 use serde_json::Value;
 use std::alloc::Global;

@@ -11,7 +11,10 @@ ghost use Rattle.cmc_codec.specs.ObjectForm as forms;
 use crate::certificate_in::needed_api;
 use crate::metadata_in::{Head, metadata};
 use crate::{certificate_in, request_in};
-use cmc_cursor::{BadField, Fields, at, check_end, fields, member, optional, parts, pass, path_to, required, text, word};
+use cmc_cursor::{
+    BadField, Fields, at, check_end, fields, member, optional, parts, pass, path_to, required,
+    text, word,
+};
 use cmc_meta::{Text, Texts};
 use cmc_objects::{
     CertStatus, Certificate, CertificateRequest, Object, Parts, RequestStatus, Secret, Shared,

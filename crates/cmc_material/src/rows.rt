@@ -8,7 +8,10 @@ ghost use Rattle.cmc_material.specs.Lists.{items_from, member_or, numbered_at};
 ghost use Rattle.cmc_material.specs.MaterialRows.{synthetic_in, key_row_in, key_row_at, issue_in, pending_in, fail_in, raw_in, no_reply_in, reply_row_in, reply_row_at, key_rows_at, reply_rows_at};
 
 use crate::optional::{bounded_option, bounded_or, count_option};
-use cmc_cursor::{BadField, Fields, at, at_place, bytes, check_end, count, fields, member, optional, pass, path_to, required, text};
+use cmc_cursor::{
+    BadField, Fields, at, at_place, bytes, check_end, count, fields, member, optional, pass,
+    path_to, required, text,
+};
 use cmc_meta::{Bytes, Text, Texts};
 use cmc_objects::{KeyRow, KeyRows, SignRow, SignRows};
 use serde_json::Value;

@@ -1,5 +1,5 @@
 -- The question of an open pass is one that its act asks by some desk, and the value that was given is a right one of it.
-use Rattle.std.proofs.Common.{◌≡◌, ◌==◌, ℕ, ℤ, List, [], ◌∷◌, Option, Some, None, Bool, true, false, refl, sym, ap, subst, ◌∙◌}
+use Rattle.std.proofs.Common.{◌≡◌, ◌==◌, ℕ, List, [], ◌∷◌, Option, Some, Bool, true, false, sym, ap, subst, ◌∙◌}
 use Rattle.std.specs.Prelude.{IfSome}
 use Rattle.cmc_meta.specs.declared.key.Kind.{Kind}
 use Rattle.cmc_objects.specs.declared.certificate.Certificate.{Certificate}
@@ -12,6 +12,7 @@ use Rattle.cmc_objects.specs.declared.entry.Entry.{Entry}
 use Rattle.cmc_objects.specs.declared.entry.Entry.TheVariants.{Call as Called, Begin, Ask, Made, Signed, Answered, Judged, End, Stop}
 use Rattle.cmc_objects.specs.Objects.{version_of}
 use Rattle.cmc_pass.specs.declared.pass.Act.{Act}
+use Rattle.cmc_pass.specs.declared.pass.Act.TheVariants.{Nothing, Call as Calls, Ask as Asks, Issue, Temporary}
 use Rattle.cmc_pass.specs.declared.pass.Desk.{Desk}
 use Rattle.cmc_pass.specs.declared.value.Value.{Value}
 use Rattle.cmc_pass.specs.declared.value.Value.TheVariants as values
@@ -55,8 +56,15 @@ replied_owns does c stand_in stage entry kind last (Unavailable number) = tt
 
 -- ---- questions and values
 
+asked_is : (a : Act) (order : Order) → IsAsked a order → a ≡ Asks order
+asked_is (Asks asked) order is = ap (λ (o : Order). Asks o) (sym is)
+asked_is Nothing order is = absurd is
+asked_is (Calls call) order is = absurd is
+asked_is (Issue plan) order is = absurd is
+asked_is (Temporary plan) order is = absurd is
+
 asks_own : (does : Desk → Act) (d : Desk) (stage : Stage) (order : Order) → AsksBy stage (does d) order → HasOwnQuestion (Asked order) does
-asks_own does d Fresh order asks = (d, asks)
+asks_own does d Fresh order asks = (d, asked_is (does d) order asks)
 asks_own does d (Asked asked) order asks = absurd asks
 asks_own does d (Given asked value) order asks = absurd asks
 asks_own does d Read order asks = absurd asks
