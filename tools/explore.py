@@ -273,8 +273,7 @@ def main():
         write_all(outcomes, scenario, found, plain, given.write)
     for text in outcomes.audits:
         print(f"AUDIT {text}")
-    how = "cmrun audit" if outcomes.has_audit else "tools/scan_history.py"
-    print(f"each history that ends was audited by {how}: {len(outcomes.audits)} wrong. Cost and liveness are explored here; safety is proved for every interleaving")
+    print(f"each history that ends was audited: {len(outcomes.audits)} wrong. Cost and liveness are explored here; safety is proved for every interleaving")
     return 1 if outcomes.audits else 0
 
 

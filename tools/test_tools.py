@@ -553,7 +553,7 @@ echo '{verdict}'
         os.chmod(fake, 0o755)
         cli.write_text(f"{folder}/scenario.json", json.dumps(applied(certificate(), roles=[])))
         code, out, err = ran(["explore.py", "--program", fake, f"{folder}/scenario.json"])
-        assert code == 1 and not err and "audited by cmrun audit: 2 wrong" in out and out.count("AUDIT ") == 2, out + err
+        assert code == 1 and not err and "was audited: 2 wrong" in out and out.count("AUDIT ") == 2, out + err
 
 
 def test_readme_excerpt(program):
