@@ -486,6 +486,10 @@ EXPLAINED = [
     ('{"script":[]}\n{}', "one JSON value is wanted"),
     ('\ufeff{}', "byte order mark"),
     ('{"a":' * 200 + "1" + "}" * 200, "127 levels"),
+    ('{"events":' + "9" * 5000 + "}", "no double holds"),
+    ('{"events":NaN}', "NaN is no JSON"),
+    ("{}".encode("utf-16"), "it looks like UTF-16"),
+    (b'{"a":"\xff"}', "its byte 7 is none of a text"),
     ('{"roles":["key-manager"]}', "did you mean keymanager?"),
     ('{"steps":[]}', "did you mean `script`?"),
     ('{"faults":[5,3]}', "each above the one before"),
@@ -510,8 +514,8 @@ EXPLAINED = [
 
 def test_why(program):
     for scenario, text in EXPLAINED:
-        data = scenario if isinstance(scenario, str) else json.dumps(scenario)
-        told = "\n".join(why.explain(program, data.encode())[1])
+        data = scenario if isinstance(scenario, bytes) else scenario.encode() if isinstance(scenario, str) else json.dumps(scenario).encode()
+        told = "\n".join(why.explain(program, data)[1])
         assert text in told, f"{data[:80]}: wanted {text!r} in {told[:400]!r}"
 
 
