@@ -150,12 +150,13 @@ own_is_one s [] role key kind = inl (none_yet kind)
 own_is_one s (Called User call reply ∷ h) role key kind = still_one s (Called User call reply) h role key kind (own_of s h role key kind) (own_of s h role key kind) refl refl (own_is_one s h role key kind)
 own_is_one s (Called (Pass pass) call reply ∷ h) role key kind =
     by (call_leaves (is_accepted reply) (is_pass_of role key (open_pass s h pass)) (key_of_call call).kind kind (accepted s h) (past s h role key)) (own_is_one s h role key kind) where
-  new : ℕ
-  new = own_of s (Called (Pass pass) call reply ∷ h) role key kind
-  by : (((is_accepted reply ≡ true) × (is_pass_of role key (open_pass s h pass) ≡ true) × ((key_of_call call).kind ≡ kind)) × (new ≡ accepted s h + 1)) ⊎ (new ≡ own_of s h role key kind)
-      → IsOne s h role key kind (own_of s h role key kind) → IsOne s (Called (Pass pass) call reply ∷ h) role key kind new
-  by (inl (own, is)) old = inr (inl (pass, call, reply, refl, own.0, own.1, own.2, is))
-  by (inr same) old = still_one s (Called (Pass pass) call reply) h role key kind new (own_of s h role key kind) refl same old
+      new : ℕ
+      new = own_of s (Called (Pass pass) call reply ∷ h) role key kind
+
+      by : (((is_accepted reply ≡ true) × (is_pass_of role key (open_pass s h pass) ≡ true) × ((key_of_call call).kind ≡ kind)) × (new ≡ accepted s h + 1)) ⊎ (new ≡ own_of s h role key kind)
+          → IsOne s h role key kind (own_of s h role key kind) → IsOne s (Called (Pass pass) call reply ∷ h) role key kind new
+      by (inl (own, is)) old = inr (inl (pass, call, reply, refl, own.0, own.1, own.2, is))
+      by (inr same) old = still_one s (Called (Pass pass) call reply) h role key kind new (own_of s h role key kind) refl same old
 own_is_one s (Begin pass r k at now ∷ h) role key kind =
     still_one s (Begin pass r k at now) h role key kind (own_of s (Begin pass r k at now ∷ h) role key kind) (own_of s h role key kind) refl
     (begun_same (role_eq r role && key_eq k key) kind (past s h role key) (with_begin (views s h r k) now (past s h role key)) refl) (own_is_one s h role key kind)

@@ -114,6 +114,7 @@ calls_end s g n seen cause (call ∷ calls) (x ∷ xs) last legal stand is (repl
   more : lets_on seen reply ≡ true → AllMade s g n seen calls ⊎ Tells g n seen cause → AllMade s g n seen (call ∷ calls) ⊎ Tells g n seen cause
   more on (inl all) = inl (made_at s g n seen x call reply legal stand.0 made on, all)
   more on (inr tells) = inr tells
+
   split : (AreCalls n seen calls (xs ++ (last ∷ [])) → AllMade s g n seen calls ⊎ Tells g n seen cause) → (b : Bool) → lets_on seen reply ≡ b → MatchBool b (AreCalls n seen calls (xs ++ (last ∷ []))) (IsEnding n (causes.Stopper (length x.before + 1)) (xs ++ (last ∷ []))) → AllMade s g n seen (call ∷ calls) ⊎ Tells g n seen cause
   split ends true on are = more on (ends are)
   split others false off ends = inr (length x.before + 1, end_of n (causes.Stopper (length x.before + 1)) cause xs last is ends, stopped_at g n seen x call reply stand.0 made off)
