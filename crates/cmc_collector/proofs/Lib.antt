@@ -1,0 +1,9 @@
+pub mod Dead
+pub mod Examined
+pub mod Promise
+pub mod OneKind
+pub mod Unchanged
+pub mod Settled
+pub mod Keeping
+pub mod Turning
+pub mod OneRow
