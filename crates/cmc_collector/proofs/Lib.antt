@@ -7,3 +7,9 @@ pub mod Settled
 pub mod Keeping
 pub mod Turning
 pub mod OneRow
+pub mod Firsts
+pub mod Looping
+pub mod ByVersion
+pub mod Reading
+pub mod Seeing
+pub mod Turned

@@ -1,23 +1,22 @@
 //! The collection and its moves.
 ghost use Rattle.std.specs.FinMap as finite;
 ghost use Rattle.std.specs.Option.{option_copied};
-ghost use Rattle.std.specs.Prelude.{◌≡◌, ◌<◌, ◌≤◌, IfOk, OnOk, OnErr, [], None, true, length, is_some};
+ghost use Rattle.std.specs.Prelude.{◌≡◌, ◌-◌, ◌<◌, ◌≤◌, IfOk, OnOk, OnErr, [], None, Some, true, length, nat_lt, if◌then◌else◌};
 ghost use Rattle.cmc_collector.specs.Caching as caching;
 ghost use Rattle.cmc_collector.specs.Examining as examining;
 ghost use Rattle.cmc_collector.specs.Moving as spec;
 ghost use Rattle.cmc_collector.specs.Owning.{CollectsWell};
-ghost use Rattle.cmc_collector.specs.Playing.{on};
+ghost use Rattle.cmc_collector.specs.Playing.{given, on, store_state, stored};
 ghost use Rattle.cmc_collector.specs.Settling.{FindsDue};
 ghost use Rattle.cmc_collector.specs.declared.moves.Collected.TheVariants as answers;
 ghost use Rattle.cmc_collector.specs.declared.moves.CollectMove.TheVariants as moves;
-ghost use Rattle.cmc_collector.specs.Playing.{store_state, stored};
 
 use crate::caches::Caches;
 use crate::entries::CollectEntries;
 use crate::entry::CollectEntry;
 use crate::examination::Examination;
 use crate::moves::{CollectLack, CollectMove, Collected};
-use crate::orphans::{current, first_due, is_due, owner_key};
+use crate::orphans::{current, delete_of, first_due, get_of, is_due};
 use crate::rows::{Row, Rows, give_up_rows, make_rows};
 use crate::watched::WatchedStore;
 use cmc_meta::{Key, Kind, Numbers, OwnerRef};
@@ -128,7 +127,7 @@ impl Collection {
     fn first_due(&self) -> Result<Option<&Key>, AllocError>
         ensures { IfOk result (λ key. on (FindsDue (option_copied key)) self.now) }
     {
-        first_due(&self.rows, &self.caches, self.server.accepted())
+        first_due(self.rows.map(), &self.caches, self.server.accepted())
     }
 
     fn is_due(&self, key: &Key) -> Result<bool, AllocError>
@@ -201,6 +200,14 @@ impl Collection {
         Ok(Collected::Spent { entries })
     }
 
+    /// A law of every collection: each reply is the store's, and directly before each accepted delete of an examination the
+    /// deleted object had owners, each of which was dead.
+    pub fn collects_well(&self)
+        ensures { on CollectsWell self.now }
+    {
+        let _entries = self.entries.len();
+    }
+
     /// Makes the move at the moment `now`, in seconds since 1970-01-01T00:00:00Z, where it is possible.
     ///
     /// A delivery from below the window lists what the newest accepted write left. An examination begins with an object of
@@ -215,9 +222,10 @@ impl Collection {
     ) -> Result<Collected, AllocError>
         ensures answer { IfOk result (λ answer. answer ≡ on (spec.answer step) self.old) }
         ensures leaves { IfOk result (λ answer. spec.Leaves now step self.old answer self.new) }
-        ensures promise { on CollectsWell self.new }
+        ensures promise { IfOk result (λ answer. on CollectsWell self.new) }
         ensures err { OnErr result (self.new ≡ self.old) }
     {
+        self.collects_well();
         let answer = self.answer(&step)?;
         if !answer.is_done() {
             return Ok(answer);
@@ -227,6 +235,7 @@ impl Collection {
             CollectMove::Deliver { kind, to } => self.deliver(alloc, now, kind, to)?,
             CollectMove::Examine { key } => self.examine(alloc, now, key)?,
         }
+        self.collects_well();
         Ok(Collected::Done)
     }
 
@@ -250,11 +259,11 @@ impl Collection {
         self.entries.reserve()?;
         let from = self.caches.position(kind);
         let at = self.told_to(from, to);
+        let entry = self.told(from, kind, to);
         let changed = self.server.watch().changed(alloc, kind, from, at)?;
         make_rows(&mut self.rows, changed.as_slice())?;
         self.caches.tell(alloc, self.server.watch(), kind, to)?;
         give_up_rows(&mut self.rows, &self.caches, changed.as_slice());
-        let entry = self.told(from, kind, to);
         self.entries.push(now, entry);
         Ok(())
     }
@@ -296,7 +305,7 @@ impl Collection {
         };
         match examination.copy_next_owner()? {
             Some(owner) => self.look(alloc, now, key, examination, owner),
-            None => self.delete(alloc, now, key, examination.version()),
+            None => self.delete(alloc, now, key, &examination),
         }
     }
 
@@ -315,9 +324,7 @@ impl Collection {
         ensures err { OnErr result (self.new ≡ self.old) }
     {
         self.entries.reserve()?;
-        let call = Call::Get {
-            key: owner_key(&key.namespace, &owner)?,
-        };
+        let call = get_of(&key.namespace, &owner)?;
         let reply = self.server.call(alloc, now, &call)?;
         let examination = examination.after(&owner, &reply);
         self.rows.set(&key, Row { examination });
@@ -326,17 +333,22 @@ impl Collection {
         Ok(())
     }
 
-    fn delete(&mut self, alloc: Global, now: i64, key: Key, version: u64) -> Result<(), AllocError>
+    fn delete(
+        &mut self,
+        alloc: Global,
+        now: i64,
+        key: Key,
+        examination: &Examination,
+    ) -> Result<(), AllocError>
         requires room { length self.old.moments < self.old.events }
-        requires ready { IsReady (on examining.current self.old key) version }
+        requires going { on examining.current self.old key ≡ Some examination.now }
+        requires last { examining.next_owner examination.now ≡ None }
         ensures ok { OnOk result (spec.Leaves now (moves.Examine key) self.old answers.Done self.new) }
         ensures err { OnErr result (self.new ≡ self.old) }
     {
+        let version = examination.version();
         self.entries.reserve()?;
-        let call = Call::Delete {
-            key: key.copy()?,
-            version: Some(version),
-        };
+        let call = delete_of(&key, version)?;
         let reply = self.server.call(alloc, now, &call)?;
         self.rows.set(&key, Row { examination: None });
         self.entries.push(

@@ -1,8 +1,9 @@
 //! Which keys are due by the caches.
 ghost use Rattle.std.specs.Option.{option_copied};
-ghost use Rattle.std.specs.Prelude.{◌≡◌, IfOk, None, is_some, true};
+ghost use Rattle.std.specs.Prelude.{◌≡◌, IfOk, None, Some, is_some, true};
 ghost use Rattle.cmc_informer.specs.Caches.{has_uid};
 ghost use Rattle.cmc_meta.specs.declared.key.Key.{Key as KeyValue};
+ghost use Rattle.cmc_objects.specs.declared.call.Call.TheVariants as calls;
 ghost use Rattle.cmc_collector.specs.Caches.{held};
 ghost use Rattle.cmc_collector.specs.Caching as spec;
 ghost use Rattle.cmc_collector.specs.Examining.{current_of};
@@ -12,19 +13,39 @@ ghost use Rattle.cmc_collector.specs.Settling.{FindsFirst};
 
 use crate::caches::Caches;
 use crate::examination::Examination;
-use crate::rows::Rows;
+use crate::rows::Row;
 use cmc_meta::{Key, Name, OwnerRef};
-use cmc_objects::Object;
+use cmc_objects::{Call, Object};
 use std::alloc::AllocError;
+use std::collections::BTreeMap;
 
 /// The key of the owner of an object of this namespace.
-pub(crate) fn owner_key(namespace: &Name, owner: &OwnerRef) -> Result<Key, AllocError>
+fn owner_key(namespace: &Name, owner: &OwnerRef) -> Result<Key, AllocError>
     ensures { IfOk result (λ k. k ≡ playing.owner_key namespace.now owner.now) }
 {
     Ok(Key {
         kind: owner.kind,
         namespace: namespace.copy()?,
         name: owner.name.copy()?,
+    })
+}
+
+/// The read of the owner of an object of this namespace.
+pub(crate) fn get_of(namespace: &Name, owner: &OwnerRef) -> Result<Call, AllocError>
+    ensures { IfOk result (λ call. call ≡ calls.Get (playing.owner_key namespace.now owner.now)) }
+{
+    Ok(Call::Get {
+        key: owner_key(namespace, owner)?,
+    })
+}
+
+/// The delete of the key's object at this version.
+pub(crate) fn delete_of(key: &Key, version: u64) -> Result<Call, AllocError>
+    ensures { IfOk result (λ call. call ≡ calls.Delete key.now (Some version)) }
+{
+    Ok(Call::Delete {
+        key: key.copy()?,
+        version: Some(version),
     })
 }
 
@@ -145,14 +166,14 @@ fn begun(object: Option<&Object>) -> Result<Option<Examination>, AllocError>
 
 /// The least key that is due. Each key under which a cache holds an object with owners has a row.
 pub(crate) fn first_due<'a>(
-    rows: &'a Rows,
+    rows: &'a BTreeMap<Key, Row>,
     caches: &Caches,
     given: u64,
 ) -> Result<Option<&'a Key>, AllocError>
-    requires { (k : KeyValue) → spec.is_owned (held caches.now k) ≡ true → has_row rows.now k ≡ true }
-    ensures { IfOk result (λ key. FindsFirst (λ k. is_some (current_of (row_in rows.now k) (spec.is_orphan_in (held caches.now) given k.namespace (held caches.now k)) (held caches.now k))) (option_copied key)) }
+    requires { (k : KeyValue) → spec.is_owned (held caches.now k) ≡ true → has_row rows.now.entries k ≡ true }
+    ensures { IfOk result (λ key. FindsFirst (λ k. is_some (current_of (row_in rows.now.entries k) (spec.is_orphan_in (held caches.now) given k.namespace (held caches.now k)) (held caches.now k))) (option_copied key)) }
 {
-    for (key, row) in rows.map().iter() {
+    for (key, row) in rows.iter() {
         if is_due(caches, given, key, row.examination.as_ref())? {
             return Ok(Some(key));
         }

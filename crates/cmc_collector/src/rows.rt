@@ -129,15 +129,26 @@ pub(crate) fn make_rows(rows: &mut Rows, keys: &[Key]) -> Result<(), AllocError>
     Ok(())
 }
 
+/// Gives up the row of the key, where it has no examination and its cache no object with owners. It takes no memory.
+fn give_up_row(rows: &mut Rows, caches: &Caches, key: &Key)
+    ensures same { (k : KeyValue) → row_in rows.new k ≡ row_in rows.old k }
+    ensures keeps { (k : KeyValue) → is_owned (held caches.now k) ≡ true → has_row rows.old k ≡ true → has_row rows.new k ≡ true }
+{
+    if rows.get(key).is_some() {
+        return;
+    }
+    if is_owned(caches.get(key)) {
+        return;
+    }
+    rows.remove(key);
+}
+
 /// Gives up the rows of those of the keys that need none. It takes no memory.
 pub(crate) fn give_up_rows(rows: &mut Rows, caches: &Caches, keys: &[Key])
-    requires { (k : KeyValue) → is_owned (held caches.now k) ≡ true → has_row rows.old k ≡ true }
     ensures same { (k : KeyValue) → row_in rows.new k ≡ row_in rows.old k }
-    ensures covered { (k : KeyValue) → is_owned (held caches.now k) ≡ true → has_row rows.new k ≡ true }
+    ensures keeps { (k : KeyValue) → is_owned (held caches.now k) ≡ true → has_row rows.old k ≡ true → has_row rows.new k ≡ true }
 {
     for key in keys {
-        if rows.get(key).is_none() && !is_owned(caches.get(key)) {
-            rows.remove(key);
-        }
+        give_up_row(rows, caches, key);
     }
 }

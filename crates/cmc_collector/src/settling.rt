@@ -85,10 +85,11 @@ impl Collection {
         ensures settles { on (spec.Settles now) self.old self.new.moments }
         ensures ends { IfOk result (λ end. on spec.EndsAs self.new end) }
         ensures none_left { IfOk result (λ end. end ≡ Done → (key : KeyValue) → IsGoodCollect (setting self.new) (played self.new.moments) key → ⊥) }
-        ensures promise { on CollectsWell self.new }
+        ensures promise { IfOk result (λ end. on CollectsWell self.new) }
     {
         for _turn in 0..=self.events() {
             if let Some(end) = self.turn(alloc, now)? {
+                self.collects_well();
                 return Ok(end);
             }
         }

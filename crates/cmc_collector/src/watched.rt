@@ -1,17 +1,18 @@
 //! A store together with the watch over its accepted writes.
 ghost use Rattle.std.specs.Option.{option_copied};
 ghost use Rattle.std.specs.FinMap as finite;
-ghost use Rattle.std.specs.Prelude.{◌≡◌, ◌+◌, ◌-◌, ◌<◌, ◌^◌, IfOk, OnErr, [], ◌∷◌, length, reverse, if◌then◌else◌};
+ghost use Rattle.std.specs.Prelude.{◌≡◌, ◌+◌, ◌-◌, ◌<◌, ◌^◌, IfOk, OnErr, [], ◌∷◌, length, reverse, slice_get, if◌then◌else◌};
 ghost use Rattle.cmc_model.specs.Replies.{IsReply, empty_store, is_accepted, settled, state_after};
 ghost use Rattle.cmc_model.specs.Writes as spec;
 ghost use Rattle.cmc_collector.specs.Moving.{is_of_kind};
-ghost use Rattle.cmc_collector.specs.Watched.{after_call};
+ghost use Rattle.cmc_meta.specs.declared.key.Kind.{Kind as KindValue};
+ghost use Rattle.cmc_collector.specs.Watched.{after_call, position_of};
 
 use cmc_informer::Watch;
 use cmc_meta::{Key, Kind, Numbers};
 use cmc_model::Write;
 use cmc_objects::{Call, Object, Positions, Reply};
-use cmc_store::Store;
+use cmc_store::{Replied, Store};
 use std::alloc::{AllocError, Global};
 use std::marker::Model;
 
@@ -35,12 +36,15 @@ impl Drop for WatchedStore {
 
 impl Model for WatchedStore {
     ghost use Rattle.std.specs.Coded.{codes};
-    ghost use Rattle.cmc_store.specs.contracts.store.Store as store_row;
+    ghost use Rattle.std.specs.FinMap as finite;
+    ghost use Rattle.cmc_meta.specs.Keys.{key_cmp};
+    ghost use Rattle.cmc_meta.specs.contracts.key.Key as keys;
+    ghost use Rattle.cmc_objects.specs.contracts.object.Object as object;
     ghost use Rattle.cmc_collector.specs.Watched.{Served, AreTied};
 
     ghost Value = { Served };
 
-    ghost coded = { Prim.hlevel (codes, store_row.the_row.coded) };
+    ghost coded = { Prim.hlevel (codes, finite.code {R = key_cmp} keys.the_row.coded object.the_row.coded) };
 
     ghost view = { λ w. record { faults = w.store.faults; window = w.watch.window; state = w.store.state; writes = w.watch.writes } };
 
@@ -110,18 +114,20 @@ impl WatchedStore {
         ensures err { OnErr result (self.new ≡ self.old) }
     {
         self.watch.reserve(1)?;
-        let replied = self.store.call(alloc, now, call)?;
-        if let Some(key) = replied.key {
+        let Replied { reply, key, object } = self.store.call(alloc, now, call)?;
+        if let Some(key) = key {
             let kind = key.kind;
             let version = self.store.accepted();
-            self.watch.push(version, key, replied.object);
+            self.watch.push(version, key, object);
             self.newest = with_newest(self.newest, kind, version);
         }
-        Ok(replied.reply)
+        Ok(reply)
     }
 }
 
-fn with_newest(newest: Positions, kind: Kind, version: u64) -> Positions {
+fn with_newest(newest: Positions, kind: Kind, version: u64) -> Positions
+    ensures { (k : KindValue) → position_of k result ≡ (if spec.kind_eq kind k then version else position_of k newest) }
+{
     let mut newest = newest;
     match kind {
         Kind::Certificate => newest.certificates = version,
@@ -146,5 +152,11 @@ fn write_of(writes: &[Write], version: u64) -> Option<&Write>
     if version == 0 {
         return None;
     }
-    writes.get((version - 1) as usize)
+    write_in_place(writes, version - 1)
+}
+
+fn write_in_place(writes: &[Write], place: u64) -> Option<&Write>
+    ensures { option_copied result ≡ slice_get writes.now place }
+{
+    writes.get(place as usize)
 }
