@@ -1,7 +1,6 @@
 -- Each pass keeps to its course: what stands in the history of an open pass can be gone on with by its stage.
 use Rattle.std.proofs.Common.{◌≡◌, ◌==◌, ◌⊎◌, ◌++◌, ℕ, ℤ, ◌+◌, ◌<◌, ◌≤◌, List, [], ◌∷◌, length, Option, Some, None, Bool, true, false, refl, sym, ap, subst, ◌∙◌, inl, inr, arith}
-use Rattle.std.proofs.lemmas.Bool.Decides.{nat_tests}
-use Rattle.std.specs.Prelude.{if◌then◌else◌, option_map, IfSome, MatchBool}
+use Rattle.std.specs.Prelude.{if◌then◌else◌, IfSome, MatchBool}
 use Rattle.std.specs.List.{list_any}
 use Rattle.cmc_meta.specs.declared.key.Key.{Key}
 use Rattle.cmc_meta.specs.declared.key.Kind.{Kind}
@@ -21,7 +20,6 @@ use Rattle.cmc_objects.specs.declared.entry.Who.TheVariants.{User, Pass}
 use Rattle.cmc_objects.specs.declared.entry.Entry.{Entry}
 use Rattle.cmc_objects.specs.declared.entry.Entry.TheVariants.{Script, Call as Called, Deliver, List as Listed, Begin, Ask, Made, Signed, Answered, Judged, End, Stop, Start, Tick}
 use Rattle.cmc_objects.specs.Objects.{version_of}
-use Rattle.cmc_pass.specs.Values.{IsValue}
 use Rattle.cmc_pass.specs.declared.value.Value.{Value}
 use Rattle.cmc_pass.specs.declared.value.Value.TheVariants as values
 use Rattle.cmc_pass.specs.declared.pass.Views.{Views}
@@ -40,18 +38,17 @@ use Rattle.cmc_rules.specs.Issuing.{issuing}
 use Rattle.cmc_rules.specs.Desks.{desk}
 use Rattle.cmc_rules.specs.Viewing.{views}
 use Rattle.cmc_rules.specs.Origins.{begun}
-use Rattle.cmc_rules.specs.Passes.{open_pass, asking, given, gone_on, called, is_as_seen, stands_in, stage_read, stage_written, stage_by, stage_after, stage_given, new_pass, with_stage, unless_of}
+use Rattle.cmc_rules.specs.Passes.{open_pass, given, gone_on, is_as_seen, stands_in, stage_read, stage_written, stage_by, stage_after, stage_given, new_pass, with_stage}
 use Rattle.cmc_rules.specs.Legality.{IsLegal, IsOpen}
 use Rattle.cmc_rules.specs.Causes.{act_of, after_of, IsNextCall, MayCall, IsCaused, IsAsked, AsksBy, MayAsk, IsGivenBy, MayGive, EndsBy, MayEnd}
-use Rattle.cmc_rules.specs.Safety.{Stands, IsServed}
+use Rattle.cmc_rules.specs.Safety.{IsServed}
 use Rattle.cmc_rules.specs.Sound.{IsOrdinary, IsAnswer, WritesTarget, IsSigned, IsMarked, IsRaiseOf, IsWithin}
 use Rattle.cmc_rules.proofs.Passes.{closed_beyond}
-use Rattle.cmc_rules.proofs.Carrying.{over_begin, over_end, over_stop}
+use Rattle.cmc_rules.proofs.Carrying.{over_end, over_stop}
 use Rattle.cmc_rules.proofs.WellSeen.{SawAll, saw_all}
-use Rattle.cmc_safety.specs.Completing.{is_own, IsPlan, IsServedCall}
-use Rattle.cmc_safety.specs.Courses.{is_entry_of, Placed, course_of, GivesValue, IsEnding, lets_on, AreCalls, IsFollowing, IsAnswering, IsAsking, IsCourseBy, IsCourse, HaveCourses}
+use Rattle.cmc_safety.specs.Courses.{is_entry_of, Placed, course_of, GivesValue, IsEnding, lets_on, AreCalls, IsFollowing, IsAnswering, IsCourseBy, IsCourse, HaveCourses}
 use Rattle.cmc_safety.proofs.Plans.{act_of_issuing}
-use Rattle.cmc_safety.proofs.NextCalls.{IsCallAt, ReadsObject, found_is_read, no_read, following_call}
+use Rattle.cmc_safety.proofs.NextCalls.{IsCallAt, ReadsObject, found_is_read, no_read}
 use Rattle.cmc_safety.proofs.Completing.{own_number, legal_below}
 use Rattle.cmc_safety.proofs.Course.{AreSound, of_open, with_equation, over_own_entry, same_number, HasComeTo, has_come, within_act, next_call}
 

@@ -7,8 +7,6 @@ use Rattle.cmc_meta.specs.declared.key.Kind.{Kind}
 use Rattle.cmc_meta.specs.declared.key.Kind.TheVariants as kinds
 use Rattle.cmc_meta.specs.Keys.{key_eq}
 use Rattle.cmc_objects.specs.declared.role.Role.{Role}
-use Rattle.cmc_objects.specs.declared.call.Call.{Call}
-use Rattle.cmc_objects.specs.declared.call.Reply.{Reply}
 use Rattle.cmc_objects.specs.declared.entry.Positions.{Positions}
 use Rattle.cmc_objects.specs.declared.entry.Who.TheVariants.{User, Pass}
 use Rattle.cmc_objects.specs.declared.entry.Entry.{Entry}
@@ -19,7 +17,7 @@ use Rattle.cmc_rules.specs.declared.progress.Past.{Past}
 use Rattle.cmc_rules.specs.Positions.{position_of}
 use Rattle.cmc_rules.specs.Viewing.{views}
 use Rattle.cmc_rules.specs.Passes.{open_pass, is_pass_of}
-use Rattle.cmc_rules.specs.Memory.{past, with_own, with_position, with_begin, with_ending, ending_of, no_past}
+use Rattle.cmc_rules.specs.Memory.{past, with_own, with_begin, with_ending, ending_of, no_past}
 use Rattle.cmc_rules.specs.Sameness.{if_above, own_above}
 use Rattle.cmc_safety.specs.Begins.{is_start_of, Since, IsOwnWrite, IsToldOfOwn}
 

@@ -14,7 +14,6 @@ use Rattle.cmc_objects.specs.declared.call.Reply.TheVariants.{Ok, Unchanged, Fou
 use Rattle.cmc_objects.specs.declared.entry.Cause.{Cause}
 use Rattle.cmc_objects.specs.declared.entry.Cause.TheVariants as causes
 use Rattle.cmc_objects.specs.declared.entry.Positions.{Positions}
-use Rattle.cmc_objects.specs.declared.entry.Who.{Who}
 use Rattle.cmc_objects.specs.declared.entry.Who.TheVariants.{User, Pass}
 use Rattle.cmc_objects.specs.declared.entry.Entry.{Entry}
 use Rattle.cmc_objects.specs.declared.entry.Entry.TheVariants.{Script, Call as Called, Deliver, List as Listed, Begin, Ask, Made, Signed, Answered, Judged, End, Stop, Start, Tick}
@@ -35,22 +34,20 @@ use Rattle.cmc_rules.specs.declared.progress.Ending.{Ending}
 use Rattle.cmc_rules.specs.declared.progress.Ending.TheVariants as endings
 use Rattle.cmc_rules.specs.declared.progress.LastPass.{LastPass}
 use Rattle.cmc_rules.specs.declared.progress.Past.{Past}
-use Rattle.cmc_rules.specs.Positions.{position_of}
 use Rattle.cmc_rules.specs.Viewing.{views}
 use Rattle.cmc_rules.specs.Origins.{begun}
 use Rattle.cmc_rules.specs.Issuing.{issuing}
-use Rattle.cmc_rules.specs.Passes.{open_pass, called, asking, given, gone_on, is_as_seen, stands_in, stage_read, stage_written, stage_by, stage_after, stage_given, new_pass, with_stage, unless_of, is_pass_of}
+use Rattle.cmc_rules.specs.Passes.{open_pass, gone_on, is_as_seen, stands_in, stage_read, stage_written, stage_by, stage_after, stage_given, new_pass, with_stage, unless_of, is_pass_of}
 use Rattle.cmc_rules.specs.Memory.{past, with_own, with_begin, with_ending, ending_at, ending_of, no_past}
 use Rattle.cmc_rules.specs.Sameness.{IsStillBehind, EndsAlike, IsSame}
-use Rattle.cmc_rules.specs.Legality.{IsLegal, IsOpen}
+use Rattle.cmc_rules.specs.Legality.{IsLegal}
 use Rattle.cmc_rules.specs.Causes.{act_of, IsCaused, EndsBy, MayEnd}
 use Rattle.cmc_rules.specs.Safety.{Stands}
 use Rattle.cmc_rules.proofs.Carrying.{over_begin, over_end, over_stop, over_call, over_ask, over_given}
-use Rattle.cmc_rules.specs.Sameness.{IsDue}
 use Rattle.cmc_safety.specs.Begins.{is_start_of, is_begin_on, IsLastPass, stopping, IsStoppedBy, EndedSo, WouldRepeat, IsDueExactly}
-use Rattle.cmc_safety.proofs.Alone.{WorksOn, HaveOnePass, role_is_one, role_is_own, key_is_one, key_is_own, worked_at_entry, worked_at_call, worked_unended, worked_unstopped}
-use Rattle.cmc_safety.proofs.Course.{of_open, with_equation, over_own_entry, same_number}
-use Rattle.cmc_safety.proofs.Completing.{own_number, legal_below, caused_below}
+use Rattle.cmc_safety.proofs.Alone.{WorksOn, role_is_one, role_is_own, key_is_one, key_is_own, worked_at_entry, worked_at_call, worked_unended, worked_unstopped}
+use Rattle.cmc_safety.proofs.Course.{of_open, over_own_entry, same_number}
+use Rattle.cmc_safety.proofs.Completing.{own_number, legal_below}
 use Rattle.cmc_safety.proofs.OwnWrites.{told_of_own, own_is_told}
 
 -- ---- what refused an open pass stands in its history
