@@ -1,5 +1,5 @@
 -- Where no Certificate waits, a summary has no item; and what is seen of all that stands is dated.
-use Rattle.std.proofs.Common.{◌≡◌, ℕ, List, [], ◌∷◌, Option, Some, None, Ok, Err, option_and_then, Bool, true, false, refl, sym, ap, subst, ◌∙◌, length}
+use Rattle.std.proofs.Common.{◌≡◌, ℕ, List, [], ◌∷◌, Option, Some, None, Ok, Err, option_and_then, false, refl, sym, ap, subst, ◌∙◌}
 use Rattle.std.specs.Prelude.{IfOk, Result, if◌then◌else◌}
 use Rattle.std.specs.declared.alloc.AllocError.{AllocError}
 use Rattle.std.specs.List.{list_any}
@@ -7,7 +7,6 @@ use Rattle.std.proofs.lemmas.Bool.{or_parts}
 use Rattle.cmc_meta.specs.declared.key.Key.{Key}
 use Rattle.cmc_objects.specs.declared.object.Object.{Object}
 use Rattle.cmc_objects.specs.declared.object.Object.TheVariants.{Cert, Request, Secret}
-use Rattle.cmc_objects.specs.declared.certificate.Certificate.{Certificate}
 use Rattle.cmc_objects.specs.declared.role.Role.TheVariants.{Issuing}
 use Rattle.cmc_objects.specs.declared.entry.Entry.{Entry}
 use Rattle.cmc_summary.specs.declared.summary.Waiting.{Waiting}
@@ -16,7 +15,7 @@ use Rattle.cmc_model.specs.Objects.{object_at}
 use Rattle.cmc_model.specs.Histories.{Setting, objects}
 use Rattle.cmc_model.specs.Summaries.{is_waiting}
 use Rattle.cmc_rules.specs.Dates.{HasDatedFailure, IsDatedCertificate}
-use Rattle.cmc_rules.specs.Viewing.{Caches, certificate_in, certificate_at, views_of, views_in, present_views}
+use Rattle.cmc_rules.specs.Viewing.{Caches, certificate_in, views_of, views_in, present_views}
 use Rattle.cmc_rules.specs.Legality.{IsLegal}
 use Rattle.cmc_rules.proofs.Versions.{stands_is_version}
 use Rattle.cmc_safety.specs.Standing.{IsInOrder}

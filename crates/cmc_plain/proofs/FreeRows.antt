@@ -38,9 +38,9 @@ use Rattle.cmc_rules.specs.declared.progress.Stage.TheVariants.{Fresh, Asked, Gi
 use Rattle.cmc_rules.specs.Acts.{act}
 use Rattle.cmc_rules.specs.Desks.{desk}
 use Rattle.cmc_rules.specs.Triggering.{is_issuing}
-use Rattle.cmc_rules.specs.KeyManaging.{key_order, ask_key, make_call, drop_call, name_call, reused, rotated, only_key, dropped, while_issuing, unnamed, while_idle, keys_for, keys_of, key_manager, target_key}
+use Rattle.cmc_rules.specs.KeyManaging.{key_order, ask_key, make_call, drop_call, name_call, reused, rotated, only_key, dropped, while_issuing, unnamed, while_idle, keys_of, key_manager, target_key}
 use Rattle.cmc_rules.specs.NextKeys.{is_named, has_fitting_key}
-use Rattle.cmc_rules.specs.Granting.{certificate_of, has_reason, is_open, is_waiting, sign_order, ask_issuer, deny, grant, grant_one, grant_of, issuer}
+use Rattle.cmc_rules.specs.Granting.{certificate_of, has_reason, is_open, is_waiting, sign_order, ask_issuer, deny, grant, grant_of, issuer}
 use Rattle.cmc_rules.specs.Passes.{open_pass}
 use Rattle.cmc_rules.specs.Legality.{IsLegal}
 use Rattle.cmc_rules.specs.Causes.{act_of, IsAsked, AsksBy, MayAsk, IsCaused}

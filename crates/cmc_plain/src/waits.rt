@@ -16,9 +16,7 @@ use cmc_caches::RoleCaches;
 use cmc_match::{is_next_key, next_request};
 use cmc_meta::{Condition, ConditionKind, Key, Kind, Tri};
 use cmc_next::{is_approved, is_denied, is_issuing};
-use cmc_objects::{
-    CertStatus, Certificate, CertificateRequest, Positions, Role, Secret, Shared,
-};
+use cmc_objects::{CertStatus, Certificate, CertificateRequest, Positions, Role, Secret, Shared};
 use cmc_pass::Views;
 use cmc_policies::backoff_until;
 use cmc_summary::WaitName;

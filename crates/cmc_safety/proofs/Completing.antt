@@ -51,7 +51,7 @@ use Rattle.cmc_rules.specs.Legality.{IsLegalEntry, IsLegal}
 use Rattle.cmc_rules.specs.Origins.{begun}
 use Rattle.cmc_rules.specs.Passes.{open_pass, is_as_seen, stands_in, stage_read, stage_written, stage_after, stage_given, new_pass, with_stage, given}
 use Rattle.cmc_rules.specs.Raising.{RaisesRevision}
-use Rattle.cmc_rules.specs.Safety.{Stands, IsSecretWrite, IsStatusUpdate, IsServed}
+use Rattle.cmc_rules.specs.Safety.{Stands, IsStatusUpdate, IsServed}
 use Rattle.cmc_rules.specs.Sighting.{OnSeen, IsWellSeen}
 use Rattle.cmc_rules.specs.Sound.{IsRaiseOf, IsWithin, IsSigned, IsMarked, WritesTarget}
 use Rattle.cmc_rules.specs.Viewing.{certificate_in, secret_in, certificate_at, target_at, views_of, views_in, views, present_views}

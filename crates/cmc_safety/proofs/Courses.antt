@@ -1,7 +1,6 @@
 -- Each pass keeps to its course: what stands in the history of an open pass can be gone on with by its stage.
 use Rattle.std.proofs.Common.{◌≡◌, ◌==◌, ◌⊎◌, ◌++◌, ℕ, ℤ, ◌+◌, ◌<◌, ◌≤◌, List, [], ◌∷◌, length, Option, Some, None, Bool, true, false, refl, sym, ap, subst, ◌∙◌, inl, inr, arith}
-use Rattle.std.proofs.lemmas.Bool.Decides.{nat_tests}
-use Rattle.std.specs.Prelude.{if◌then◌else◌, option_map, IfSome, MatchBool}
+use Rattle.std.specs.Prelude.{if◌then◌else◌, IfSome, MatchBool}
 use Rattle.std.specs.List.{list_any}
 use Rattle.cmc_meta.specs.declared.key.Key.{Key}
 use Rattle.cmc_meta.specs.declared.key.Kind.{Kind}
@@ -21,7 +20,6 @@ use Rattle.cmc_objects.specs.declared.entry.Who.TheVariants.{User, Pass}
 use Rattle.cmc_objects.specs.declared.entry.Entry.{Entry}
 use Rattle.cmc_objects.specs.declared.entry.Entry.TheVariants.{Script, Call as Called, Deliver, List as Listed, Begin, Ask, Made, Signed, Answered, Judged, End, Stop, Start, Tick}
 use Rattle.cmc_objects.specs.Objects.{version_of}
-use Rattle.cmc_pass.specs.Values.{IsValue}
 use Rattle.cmc_pass.specs.declared.value.Value.{Value}
 use Rattle.cmc_pass.specs.declared.value.Value.TheVariants as values
 use Rattle.cmc_pass.specs.declared.pass.Views.{Views}
@@ -40,18 +38,17 @@ use Rattle.cmc_rules.specs.Issuing.{issuing}
 use Rattle.cmc_rules.specs.Desks.{desk}
 use Rattle.cmc_rules.specs.Viewing.{views}
 use Rattle.cmc_rules.specs.Origins.{begun}
-use Rattle.cmc_rules.specs.Passes.{open_pass, asking, given, gone_on, called, is_as_seen, stands_in, stage_read, stage_written, stage_by, stage_after, stage_given, new_pass, with_stage, unless_of}
+use Rattle.cmc_rules.specs.Passes.{open_pass, given, gone_on, is_as_seen, stands_in, stage_read, stage_written, stage_by, stage_after, stage_given, new_pass, with_stage}
 use Rattle.cmc_rules.specs.Legality.{IsLegal, IsOpen}
 use Rattle.cmc_rules.specs.Causes.{act_of, after_of, IsNextCall, MayCall, IsCaused, IsAsked, AsksBy, MayAsk, IsGivenBy, MayGive, EndsBy, MayEnd}
-use Rattle.cmc_rules.specs.Safety.{Stands, IsServed}
+use Rattle.cmc_rules.specs.Safety.{IsServed}
 use Rattle.cmc_rules.specs.Sound.{IsOrdinary, IsAnswer, WritesTarget, IsSigned, IsMarked, IsRaiseOf, IsWithin}
 use Rattle.cmc_rules.proofs.Passes.{closed_beyond}
-use Rattle.cmc_rules.proofs.Carrying.{over_begin, over_end, over_stop}
+use Rattle.cmc_rules.proofs.Carrying.{over_end, over_stop}
 use Rattle.cmc_rules.proofs.WellSeen.{SawAll, saw_all}
-use Rattle.cmc_safety.specs.Completing.{is_own, IsPlan, IsServedCall}
-use Rattle.cmc_safety.specs.Courses.{is_entry_of, Placed, course_of, GivesValue, IsEnding, lets_on, AreCalls, IsFollowing, IsAnswering, IsAsking, IsCourseBy, IsCourse, HaveCourses}
+use Rattle.cmc_safety.specs.Courses.{is_entry_of, Placed, course_of, GivesValue, IsEnding, lets_on, AreCalls, IsFollowing, IsAnswering, IsCourseBy, IsCourse, HaveCourses}
 use Rattle.cmc_safety.proofs.Plans.{act_of_issuing}
-use Rattle.cmc_safety.proofs.NextCalls.{IsCallAt, ReadsObject, found_is_read, no_read, following_call}
+use Rattle.cmc_safety.proofs.NextCalls.{IsCallAt, ReadsObject, found_is_read, no_read}
 use Rattle.cmc_safety.proofs.Completing.{own_number, legal_below}
 use Rattle.cmc_safety.proofs.Course.{AreSound, of_open, with_equation, over_own_entry, same_number, HasComeTo, has_come, within_act, next_call}
 
@@ -173,19 +170,28 @@ first_goes : (s : Setting) (h : List Entry) (n : ℕ) (p : OpenPass) (call : Cal
     → IsCourseBy n p.seen.certificate (call_after p.role p.seen p.since) does (called_at h n call reply ∷ es)
 first_goes s h n p call reply Nothing es fresh acts k next within goes = absurd next
 first_goes s h n p call reply (Asks order) es fresh acts k next within goes = absurd next
-first_goes s h n p call reply (Calls first) es fresh acts k next within goes =
-    (reply, ap (λ (c : Call). Called (Pass n) c reply) next, by_reply s n p.role p.seen p.since (stands_in (issuing p.seen p.since)) Fresh (length h + 1) _ _ reply [] es (λ served it. it)
-    (λ o is. absurd (no_read (IsOrdinary p.role p.since) (objects s h) p.seen first o (subst (λ (c : Call). ReadsObject (objects s h) c o) next (reads s h n p call reply o k is)) within)) goes)
+first_goes s h n p call reply (Calls first) es fresh acts k next within goes = (
+  reply,
+  ap (λ (c : Call). Called (Pass n) c reply) next,
+  by_reply s n p.role p.seen p.since (stands_in (issuing p.seen p.since)) Fresh (length h + 1) _ _ reply [] es (λ served it. it)
+      (λ o is. absurd (no_read (IsOrdinary p.role p.since) (objects s h) p.seen first o (subst (λ (c : Call). ReadsObject (objects s h) c o) next (reads s h n p call reply o k is)) within)) goes,
+)
 first_goes s h n p call reply (Issue plan) es fresh acts k next within goes =
-    let its : issuing p.seen p.since ≡ Issue plan = sym (act_of_issuing p.role p.seen p.since (desk s h p.role p.seen) within.issuing) ∙ acts in
-    (reply, ap (λ (c : Call). Called (Pass n) c reply) next, by_reply s n p.role p.seen p.since (stands_in (issuing p.seen p.since)) Fresh (length h + 1) _ _ reply (plan.secret ∷ plan.status ∷ []) es
-    (λ served. absurd (read_is_no_write s.faults (state s h) call plan.get reply next k.right served))
-    (λ o is it. subst (λ (a : Act). AreCalls n p.seen.certificate (after_read a) es) its it) goes)
+    let its : issuing p.seen p.since ≡ Issue plan = sym (act_of_issuing p.role p.seen p.since (desk s h p.role p.seen) within.issuing) ∙ acts in (
+      reply,
+      ap (λ (c : Call). Called (Pass n) c reply) next,
+      by_reply s n p.role p.seen p.since (stands_in (issuing p.seen p.since)) Fresh (length h + 1) _ _ reply (plan.secret ∷ plan.status ∷ []) es
+          (λ served. absurd (read_is_no_write s.faults (state s h) call plan.get reply next k.right served))
+          (λ o is it. subst (λ (a : Act). AreCalls n p.seen.certificate (after_read a) es) its it) goes,
+    )
 first_goes s h n p call reply (Temporary plan) es fresh acts k next within goes =
-    let its : issuing p.seen p.since ≡ Temporary plan = sym (act_of_issuing p.role p.seen p.since (desk s h p.role p.seen) within.issuing) ∙ acts in
-    (reply, ap (λ (c : Call). Called (Pass n) c reply) next, by_reply s n p.role p.seen p.since (stands_in (issuing p.seen p.since)) Fresh (length h + 1) _ _ reply (plan.secret ∷ []) es
-    (λ served. absurd (read_is_no_write s.faults (state s h) call plan.get reply next k.right served))
-    (λ o is it. subst (λ (a : Act). AreCalls n p.seen.certificate (after_read a) es) its it) goes)
+    let its : issuing p.seen p.since ≡ Temporary plan = sym (act_of_issuing p.role p.seen p.since (desk s h p.role p.seen) within.issuing) ∙ acts in (
+      reply,
+      ap (λ (c : Call). Called (Pass n) c reply) next,
+      by_reply s n p.role p.seen p.since (stands_in (issuing p.seen p.since)) Fresh (length h + 1) _ _ reply (plan.secret ∷ []) es
+          (λ served. absurd (read_is_no_write s.faults (state s h) call plan.get reply next k.right served))
+          (λ o is it. subst (λ (a : Act). AreCalls n p.seen.certificate (after_read a) es) its it) goes,
+    )
 
 -- the Secret of a plan, and its status
 secret_goes : (s : Setting) (h : List Entry) (n : ℕ) (p : OpenPass) (call : Call) (reply : Reply) (does : Act) (es : List Placed) → issuing p.seen p.since ≡ does → IsNextCall Read does (after_of p) call
@@ -195,14 +201,20 @@ secret_goes : (s : Setting) (h : List Entry) (n : ℕ) (p : OpenPass) (call : Ca
 secret_goes s h n p call reply Nothing es its next unread goes = absurd next
 secret_goes s h n p call reply (Calls first) es its next unread goes = absurd next
 secret_goes s h n p call reply (Asks order) es its next unread goes = absurd next
-secret_goes s h n p call reply (Issue plan) es its next unread goes =
-    (reply, ap (λ (c : Call). Called (Pass n) c reply) next, by_reply s n p.role p.seen p.since (stands_in (issuing p.seen p.since)) Read (length h + 1) _ _ reply (plan.status ∷ []) es
-    (λ served it. subst (λ (a : Act). AreCalls n p.seen.certificate (after_secret a) es) its (subst (λ (a : Act). GoesOn s n p.role p.seen p.since (stage_written (stands_in a) Read) es) its it))
-    (λ o is. absurd (unread o is)) goes)
-secret_goes s h n p call reply (Temporary plan) es its next unread goes =
-    (reply, ap (λ (c : Call). Called (Pass n) c reply) next, by_reply s n p.role p.seen p.since (stands_in (issuing p.seen p.since)) Read (length h + 1) _ _ reply [] es
-    (λ served it. subst (λ (a : Act). GoesOn s n p.role p.seen p.since (stage_written (stands_in a) Read) es) its it)
-    (λ o is. absurd (unread o is)) goes)
+secret_goes s h n p call reply (Issue plan) es its next unread goes = (
+  reply,
+  ap (λ (c : Call). Called (Pass n) c reply) next,
+  by_reply s n p.role p.seen p.since (stands_in (issuing p.seen p.since)) Read (length h + 1) _ _ reply (plan.status ∷ []) es
+      (λ served it. subst (λ (a : Act). AreCalls n p.seen.certificate (after_secret a) es) its (subst (λ (a : Act). GoesOn s n p.role p.seen p.since (stage_written (stands_in a) Read) es) its it))
+      (λ o is. absurd (unread o is)) goes,
+)
+secret_goes s h n p call reply (Temporary plan) es its next unread goes = (
+  reply,
+  ap (λ (c : Call). Called (Pass n) c reply) next,
+  by_reply s n p.role p.seen p.since (stands_in (issuing p.seen p.since)) Read (length h + 1) _ _ reply [] es
+      (λ served it. subst (λ (a : Act). GoesOn s n p.role p.seen p.since (stage_written (stands_in a) Read) es) its it)
+      (λ o is. absurd (unread o is)) goes,
+)
 
 status_goes : (s : Setting) (h : List Entry) (n : ℕ) (p : OpenPass) (call : Call) (reply : Reply) (does : Act) (es : List Placed) → IsNextCall Saved does (after_of p) call
     → ((o : Object) → reply ≡ Found o → ⊥)
@@ -378,9 +390,11 @@ by_entry s e h n m role seen now stage own is_open next keeps = split (n == m) r
       (λ here p on. one_entry s e h n role seen now p (stage p) (own ∙ here) on.1 (next here p on.0))
       (λ there p on. still_on s e h n role seen now p (own ∙ there) on.1)
       (with_equation (IsOnCourse s h n role seen now) (open_pass s h n) keeps.opened)
+
   there_is : (x : Option OpenPass) → IsOpen x → (p : OpenPass) × (x ≡ Some p)
   there_is None off = absurd off
   there_is (Some p) on = (p, refl)
+
   split : (b : Bool) → (n == m) ≡ b → IfSome (gone_on n m stage (open_pass s h n)) (IsOnCourse s (e ∷ h) n role seen now) × IsCourse s n role seen now (course_of n (e ∷ h))
   split false there = (after, still_so s e h n role seen now (own ∙ there) keeps.so_far)
   split true here =
@@ -405,6 +419,7 @@ by_end s h n m cause role seen now may keeps = split (n == m) refl where
   there_is : (x : Option OpenPass) → MayEnd s h x cause → (p : OpenPass) × (x ≡ Some p)
   there_is None off = absurd off
   there_is (Some p) on = (p, refl)
+
   split : (b : Bool) → (n == m) ≡ b → KeepsCourse s (End m cause ∷ h) n role seen now
   split false there = record {
     so_far = still_so s (End m cause) h n role seen now there keeps.so_far;
@@ -455,6 +470,7 @@ by_begin : (s : Setting) (h : List Entry) (n pass : ℕ) (role : Role) (key : Ke
 by_begin s h n pass role key at now r seen t numbered keeps = split (n == pass) refl where
   low : n ≤ begun s h
   low = keeps.numbered
+
   split : (b : Bool) → (n == pass) ≡ b → KeepsCourse s (Begin pass role key at now ∷ h) n r seen t
   split true here = absurd (let same : n ≡ pass = same_number n pass here in omega (arith, low, numbered, same))
   split false there = record {

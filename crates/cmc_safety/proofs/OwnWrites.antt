@@ -7,8 +7,6 @@ use Rattle.cmc_meta.specs.declared.key.Kind.{Kind}
 use Rattle.cmc_meta.specs.declared.key.Kind.TheVariants as kinds
 use Rattle.cmc_meta.specs.Keys.{key_eq}
 use Rattle.cmc_objects.specs.declared.role.Role.{Role}
-use Rattle.cmc_objects.specs.declared.call.Call.{Call}
-use Rattle.cmc_objects.specs.declared.call.Reply.{Reply}
 use Rattle.cmc_objects.specs.declared.entry.Positions.{Positions}
 use Rattle.cmc_objects.specs.declared.entry.Who.TheVariants.{User, Pass}
 use Rattle.cmc_objects.specs.declared.entry.Entry.{Entry}
@@ -19,7 +17,7 @@ use Rattle.cmc_rules.specs.declared.progress.Past.{Past}
 use Rattle.cmc_rules.specs.Positions.{position_of}
 use Rattle.cmc_rules.specs.Viewing.{views}
 use Rattle.cmc_rules.specs.Passes.{open_pass, is_pass_of}
-use Rattle.cmc_rules.specs.Memory.{past, with_own, with_position, with_begin, with_ending, ending_of, no_past}
+use Rattle.cmc_rules.specs.Memory.{past, with_own, with_begin, with_ending, ending_of, no_past}
 use Rattle.cmc_rules.specs.Sameness.{if_above, own_above}
 use Rattle.cmc_safety.specs.Begins.{is_start_of, Since, IsOwnWrite, IsToldOfOwn}
 
@@ -150,12 +148,13 @@ own_is_one s [] role key kind = inl (none_yet kind)
 own_is_one s (Called User call reply ∷ h) role key kind = still_one s (Called User call reply) h role key kind (own_of s h role key kind) (own_of s h role key kind) refl refl (own_is_one s h role key kind)
 own_is_one s (Called (Pass pass) call reply ∷ h) role key kind =
     by (call_leaves (is_accepted reply) (is_pass_of role key (open_pass s h pass)) (key_of_call call).kind kind (accepted s h) (past s h role key)) (own_is_one s h role key kind) where
-  new : ℕ
-  new = own_of s (Called (Pass pass) call reply ∷ h) role key kind
-  by : (((is_accepted reply ≡ true) × (is_pass_of role key (open_pass s h pass) ≡ true) × ((key_of_call call).kind ≡ kind)) × (new ≡ accepted s h + 1)) ⊎ (new ≡ own_of s h role key kind)
-      → IsOne s h role key kind (own_of s h role key kind) → IsOne s (Called (Pass pass) call reply ∷ h) role key kind new
-  by (inl (own, is)) old = inr (inl (pass, call, reply, refl, own.0, own.1, own.2, is))
-  by (inr same) old = still_one s (Called (Pass pass) call reply) h role key kind new (own_of s h role key kind) refl same old
+      new : ℕ
+      new = own_of s (Called (Pass pass) call reply ∷ h) role key kind
+
+      by : (((is_accepted reply ≡ true) × (is_pass_of role key (open_pass s h pass) ≡ true) × ((key_of_call call).kind ≡ kind)) × (new ≡ accepted s h + 1)) ⊎ (new ≡ own_of s h role key kind)
+          → IsOne s h role key kind (own_of s h role key kind) → IsOne s (Called (Pass pass) call reply ∷ h) role key kind new
+      by (inl (own, is)) old = inr (inl (pass, call, reply, refl, own.0, own.1, own.2, is))
+      by (inr same) old = still_one s (Called (Pass pass) call reply) h role key kind new (own_of s h role key kind) refl same old
 own_is_one s (Begin pass r k at now ∷ h) role key kind =
     still_one s (Begin pass r k at now) h role key kind (own_of s (Begin pass r k at now ∷ h) role key kind) (own_of s h role key kind) refl
     (begun_same (role_eq r role && key_eq k key) kind (past s h role key) (with_begin (views s h r k) now (past s h role key)) refl) (own_is_one s h role key kind)

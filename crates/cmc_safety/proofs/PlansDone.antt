@@ -1,17 +1,15 @@
 -- A pass of issuing that has its End did what it had planned, or names the call of its own that was refused: by its course.
-use Rattle.std.proofs.Common.{◌≡◌, ◌==◌, ◌⊎◌, ◌++◌, ℕ, ℤ, ◌+◌, List, [], ◌∷◌, length, Option, Some, None, Bool, true, false, refl, sym, ap, subst, ◌∙◌, inl, inr}
+use Rattle.std.proofs.Common.{◌≡◌, ◌==◌, ◌⊎◌, ◌++◌, ℕ, ℤ, ◌+◌, List, [], ◌∷◌, length, Option, Bool, true, false, refl, sym, ap, subst, ◌∙◌, inl, inr}
 use Rattle.std.specs.Prelude.{if◌then◌else◌, MatchBool}
-use Rattle.cmc_meta.specs.declared.key.Key.{Key}
 use Rattle.cmc_objects.specs.declared.certificate.Certificate.{Certificate}
 use Rattle.cmc_objects.specs.declared.object.Object.{Object}
 use Rattle.cmc_objects.specs.declared.call.Call.{Call}
-use Rattle.cmc_objects.specs.declared.call.Call.TheVariants.{Create, Update, Get}
+use Rattle.cmc_objects.specs.declared.call.Call.TheVariants.{Get}
 use Rattle.cmc_objects.specs.declared.call.Reply.{Reply}
 use Rattle.cmc_objects.specs.declared.call.Reply.TheVariants.{Ok, Unchanged, Found}
 use Rattle.cmc_objects.specs.declared.role.Role.TheVariants as roles
 use Rattle.cmc_objects.specs.declared.entry.Cause.{Cause}
 use Rattle.cmc_objects.specs.declared.entry.Cause.TheVariants as causes
-use Rattle.cmc_objects.specs.declared.entry.Positions.{Positions}
 use Rattle.cmc_objects.specs.declared.entry.Who.TheVariants.{Pass}
 use Rattle.cmc_objects.specs.declared.entry.Entry.{Entry}
 use Rattle.cmc_objects.specs.declared.entry.Entry.TheVariants.{Call as Called, Begin, End}
@@ -21,7 +19,7 @@ use Rattle.cmc_pass.specs.declared.pass.Act.TheVariants.{Nothing, Call as Calls,
 use Rattle.cmc_model.specs.Objects.{Objects}
 use Rattle.cmc_model.specs.Replies.{IsReply}
 use Rattle.cmc_model.specs.Histories.{Setting, state, objects}
-use Rattle.cmc_rules.specs.Acts.{act, call_after}
+use Rattle.cmc_rules.specs.Acts.{call_after}
 use Rattle.cmc_rules.specs.Desks.{desk}
 use Rattle.cmc_rules.specs.Issuing.{issuing}
 use Rattle.cmc_rules.specs.Viewing.{views}
@@ -31,7 +29,7 @@ use Rattle.cmc_rules.specs.Safety.{Stands, IsServed}
 use Rattle.cmc_rules.specs.Sound.{WritesTarget, IsSigned, IsMarked, IsWithin}
 use Rattle.cmc_rules.proofs.WellSeen.{views_well}
 use Rattle.cmc_safety.specs.Completing.{IsPlan, IsServedCall}
-use Rattle.cmc_safety.specs.Courses.{is_entry_of, Placed, course_of, IsEnding, lets_on, AreCalls, IsCourseBy, IsCourse, HaveCourses, IsSecretDone, IsStopped, DoesOrTells, PlansAreDone}
+use Rattle.cmc_safety.specs.Courses.{is_entry_of, Placed, course_of, IsEnding, lets_on, AreCalls, IsCourseBy, IsCourse, IsStopped, DoesOrTells, PlansAreDone}
 use Rattle.cmc_safety.proofs.Plans.{act_of_issuing}
 use Rattle.cmc_safety.proofs.NextCalls.{ReadsObject, found_is_read, no_read}
 use Rattle.cmc_safety.proofs.Course.{AreSound}
@@ -114,6 +112,7 @@ calls_end s g n seen cause (call ∷ calls) (x ∷ xs) last legal stand is (repl
   more : lets_on seen reply ≡ true → AllMade s g n seen calls ⊎ Tells g n seen cause → AllMade s g n seen (call ∷ calls) ⊎ Tells g n seen cause
   more on (inl all) = inl (made_at s g n seen x call reply legal stand.0 made on, all)
   more on (inr tells) = inr tells
+
   split : (AreCalls n seen calls (xs ++ (last ∷ [])) → AllMade s g n seen calls ⊎ Tells g n seen cause) → (b : Bool) → lets_on seen reply ≡ b → MatchBool b (AreCalls n seen calls (xs ++ (last ∷ []))) (IsEnding n (causes.Stopper (length x.before + 1)) (xs ++ (last ∷ []))) → AllMade s g n seen (call ∷ calls) ⊎ Tells g n seen cause
   split ends true on are = more on (ends are)
   split others false off ends = inr (length x.before + 1, end_of n (causes.Stopper (length x.before + 1)) cause xs last is ends, stopped_at g n seen x call reply stand.0 made off)

@@ -14,7 +14,6 @@ use Rattle.cmc_objects.specs.declared.call.Reply.TheVariants.{Ok, Unchanged, Fou
 use Rattle.cmc_objects.specs.declared.entry.Cause.{Cause}
 use Rattle.cmc_objects.specs.declared.entry.Cause.TheVariants as causes
 use Rattle.cmc_objects.specs.declared.entry.Positions.{Positions}
-use Rattle.cmc_objects.specs.declared.entry.Who.{Who}
 use Rattle.cmc_objects.specs.declared.entry.Who.TheVariants.{User, Pass}
 use Rattle.cmc_objects.specs.declared.entry.Entry.{Entry}
 use Rattle.cmc_objects.specs.declared.entry.Entry.TheVariants.{Script, Call as Called, Deliver, List as Listed, Begin, Ask, Made, Signed, Answered, Judged, End, Stop, Start, Tick}
@@ -35,22 +34,20 @@ use Rattle.cmc_rules.specs.declared.progress.Ending.{Ending}
 use Rattle.cmc_rules.specs.declared.progress.Ending.TheVariants as endings
 use Rattle.cmc_rules.specs.declared.progress.LastPass.{LastPass}
 use Rattle.cmc_rules.specs.declared.progress.Past.{Past}
-use Rattle.cmc_rules.specs.Positions.{position_of}
 use Rattle.cmc_rules.specs.Viewing.{views}
 use Rattle.cmc_rules.specs.Origins.{begun}
 use Rattle.cmc_rules.specs.Issuing.{issuing}
-use Rattle.cmc_rules.specs.Passes.{open_pass, called, asking, given, gone_on, is_as_seen, stands_in, stage_read, stage_written, stage_by, stage_after, stage_given, new_pass, with_stage, unless_of, is_pass_of}
+use Rattle.cmc_rules.specs.Passes.{open_pass, gone_on, is_as_seen, stands_in, stage_read, stage_written, stage_by, stage_after, stage_given, new_pass, with_stage, unless_of, is_pass_of}
 use Rattle.cmc_rules.specs.Memory.{past, with_own, with_begin, with_ending, ending_at, ending_of, no_past}
 use Rattle.cmc_rules.specs.Sameness.{IsStillBehind, EndsAlike, IsSame}
-use Rattle.cmc_rules.specs.Legality.{IsLegal, IsOpen}
+use Rattle.cmc_rules.specs.Legality.{IsLegal}
 use Rattle.cmc_rules.specs.Causes.{act_of, IsCaused, EndsBy, MayEnd}
 use Rattle.cmc_rules.specs.Safety.{Stands}
 use Rattle.cmc_rules.proofs.Carrying.{over_begin, over_end, over_stop, over_call, over_ask, over_given}
-use Rattle.cmc_rules.specs.Sameness.{IsDue}
 use Rattle.cmc_safety.specs.Begins.{is_start_of, is_begin_on, IsLastPass, stopping, IsStoppedBy, EndedSo, WouldRepeat, IsDueExactly}
-use Rattle.cmc_safety.proofs.Alone.{WorksOn, HaveOnePass, role_is_one, role_is_own, key_is_one, key_is_own, worked_at_entry, worked_at_call, worked_unended, worked_unstopped}
-use Rattle.cmc_safety.proofs.Course.{of_open, with_equation, over_own_entry, same_number}
-use Rattle.cmc_safety.proofs.Completing.{own_number, legal_below, caused_below}
+use Rattle.cmc_safety.proofs.Alone.{WorksOn, role_is_one, role_is_own, key_is_one, key_is_own, worked_at_entry, worked_at_call, worked_unended, worked_unstopped}
+use Rattle.cmc_safety.proofs.Course.{of_open, over_own_entry, same_number}
+use Rattle.cmc_safety.proofs.Completing.{own_number, legal_below}
 use Rattle.cmc_safety.proofs.OwnWrites.{told_of_own, own_is_told}
 
 -- ---- what refused an open pass stands in its history
@@ -244,11 +241,14 @@ by_begin : (s : Setting) (h : List Entry) (role : Role) (key : Key) (n pass : �
 by_begin s h role key n pass r k at now above seen since numbered elsewhere m = by (n == pass) refl where
   low : n ≤ begun s h
   low = m.numbered
+
   new : OpenPass
   new = new_pass r k (views s h r k) now
+
   worked : (i : ℕ) (b : Bool) → WorksOn role key (if b then Some new else open_pass s h i) → WorksOn role key (open_pass s h i)
   worked i true works = absurd (cc (elsewhere, works))
   worked i false works = works
+
   by : (b : Bool) → (n == pass) ≡ b → Remembers s (Begin pass r k at now ∷ h) role key n (Begin pass r k at now ∷ above) seen since
   by true same = absurd (let one : n ≡ pass = same_number n pass same in omega (arith, low, numbered, one))
   by false there =
@@ -271,21 +271,28 @@ by_end : (s : Setting) (h : List Entry) (role : Role) (key : Key) (n m : ℕ) (c
 by_end s h role key n m cause above seen since may r = by (n == m) refl where
   low : n ≤ begun s h
   low = r.numbered
+
   worked : (i : ℕ) → WorksOn role key (open_pass s (End m cause ∷ h) i) → WorksOn role key (open_pass s h i)
   worked i works = worked_unended role key (i == m) (open_pass s h i) works
+
   its : IfSome (open_pass s (End m cause ∷ h) n) (λ p. is_pass_of role key (Some p) ≡ true)
   its = over_end (λ p. is_pass_of role key (Some p) ≡ true) (n == m) (open_pass s h n) r.its
+
   other_end : (n == m) ≡ false → (c : Cause) → End m cause ≡ End n c → ⊥
   other_end there c is = let one : m ≡ n = cc is in absurd (grind (arith, nat_tests))
+
   elsewhere : (n == m) ≡ false → (b : Bool) → is_pass_of role key (open_pass s h m) ≡ b → b ≡ false
   elsewhere there true works = absurd (let one : m ≡ n = r.only m works in grind (arith, nat_tests))
   elsewhere there false off = refl
+
   there_is : (x : Option OpenPass) → MayEnd s h x cause → (p : OpenPass) × (x ≡ Some p)
   there_is None off = absurd off
   there_is (Some p) on = (p, refl)
+
   first : (IsRemembered s h n above r.ending) → open_pass s h n ≡ None ⊎ HasNoEnd n above
   first (inl (is, none)) = inr none
   first (inr (shut, rest)) = inl shut
+
   by : (b : Bool) → (n == m) ≡ b → Remembers s (End m cause ∷ h) role key n (End m cause ∷ above) seen since
   by false there = record {
     ending = r.ending;
@@ -319,6 +326,7 @@ by_end s h role key n m cause above seen since may r = by (n == m) refl where
         still : open_pass s h n ≡ None ⊎ HasNoEnd n above → (p : OpenPass) → open_pass s h n ≡ Some p → HasNoEnd n above
         still (inl shut) p opened = absurd (let e : None ≡ Some p = sym shut ∙ opened in cc e)
         still (inr none) p opened = none
+
         only : HasNoEnd n above → (c : Cause) → HasEnd n c (End m cause ∷ above) → c ≡ cause
         only none c (inl is) = let e : End m cause ≡ End n c = is in cc e
         only none c (inr there) = absurd (none c there)
@@ -353,8 +361,10 @@ begins s h role key n at since legal = record {
 } where
   mine : (role_eq role role && key_eq key key) ≡ true
   mine = and_from (role_eq role role) (key_eq key key) (role_is_own role) (key_is_own key)
+
   new : OpenPass
   new = new_pass role key (views s h role key) since
+
   alone : (m : ℕ) (b : Bool) → (m == n) ≡ b → WorksOn role key (if b then Some new else open_pass s h m) → m ≡ n
   alone m true same works = same_number m n same
   alone m false there works = absurd (legal.0.free (m, works))
@@ -368,24 +378,25 @@ unfolding IsLegal IsCaused
 remembers s [] base role key n seen since legal caused leave r = r
 remembers s (e ∷ above) base role key n seen since legal caused leave r =
     step e legal caused (leave e (inl refl)) (remembers s above base role key n seen since legal.1 caused.1 (λ x there. leave x (inr there)) r) where
-  h : List Entry
-  h = above ++ base
-  step : (e : Entry) → IsLegal s (e ∷ h) → IsCaused s (e ∷ h) → (is_start_of role e ≡ false) × (is_begin_on role key e ≡ false) → Remembers s h role key n above seen since → Remembers s (e ∷ h) role key n (e ∷ above) seen since
-  step (Called User call reply) legal caused off m = quiet s (Called User call reply) h role key n above seen since tt refl (λ i. refl) refl m
-  step (Called (Pass pass) call reply) legal caused off m = by_call s h role key n pass call reply above seen since m
-  step (Begin pass r k at now) legal caused off m = by_begin s h role key n pass r k at now above seen since legal.0.numbered off.1 m
-  step (Ask pass order) legal caused off m = by_step s (Ask pass order) h role key n pass (λ (q : OpenPass). Asked order) above seen since tt refl (λ i. refl) refl m
-  step (Made pass v) legal caused off m = by_step s (Made pass v) h role key n pass (λ (q : OpenPass). stage_given (values.Made v) q.stage) above seen since tt refl (λ i. refl) refl m
-  step (Signed pass v) legal caused off m = by_step s (Signed pass v) h role key n pass (λ (q : OpenPass). stage_given (values.Signed v) q.stage) above seen since tt refl (λ i. refl) refl m
-  step (Answered pass v) legal caused off m = by_step s (Answered pass v) h role key n pass (λ (q : OpenPass). stage_given (values.Answered v) q.stage) above seen since tt refl (λ i. refl) refl m
-  step (Judged pass v) legal caused off m = by_step s (Judged pass v) h role key n pass (λ (q : OpenPass). stage_given (values.Judged v) q.stage) above seen since tt refl (λ i. refl) refl m
-  step (End pass cause) legal caused off m = by_end s h role key n pass cause above seen since caused.0 m
-  step (Stop r) legal caused off m = by_stop s h role key n r above seen since m
-  step (Start r at) legal caused off m = quiet s (Start r at) h role key n above seen since tt (started_last (role_eq r role) (past s h role key) off.0) (λ i. refl) refl m
-  step (Script x) legal caused off m = quiet s (Script x) h role key n above seen since tt refl (λ i. refl) refl m
-  step (Deliver r kind to) legal caused off m = quiet s (Deliver r kind to) h role key n above seen since tt refl (λ i. refl) refl m
-  step (Listed r kind to) legal caused off m = quiet s (Listed r kind to) h role key n above seen since tt refl (λ i. refl) refl m
-  step (Tick now) legal caused off m = quiet s (Tick now) h role key n above seen since tt refl (λ i. refl) refl m
+      h : List Entry
+      h = above ++ base
+
+      step : (e : Entry) → IsLegal s (e ∷ h) → IsCaused s (e ∷ h) → (is_start_of role e ≡ false) × (is_begin_on role key e ≡ false) → Remembers s h role key n above seen since → Remembers s (e ∷ h) role key n (e ∷ above) seen since
+      step (Called User call reply) legal caused off m = quiet s (Called User call reply) h role key n above seen since tt refl (λ i. refl) refl m
+      step (Called (Pass pass) call reply) legal caused off m = by_call s h role key n pass call reply above seen since m
+      step (Begin pass r k at now) legal caused off m = by_begin s h role key n pass r k at now above seen since legal.0.numbered off.1 m
+      step (Ask pass order) legal caused off m = by_step s (Ask pass order) h role key n pass (λ (q : OpenPass). Asked order) above seen since tt refl (λ i. refl) refl m
+      step (Made pass v) legal caused off m = by_step s (Made pass v) h role key n pass (λ (q : OpenPass). stage_given (values.Made v) q.stage) above seen since tt refl (λ i. refl) refl m
+      step (Signed pass v) legal caused off m = by_step s (Signed pass v) h role key n pass (λ (q : OpenPass). stage_given (values.Signed v) q.stage) above seen since tt refl (λ i. refl) refl m
+      step (Answered pass v) legal caused off m = by_step s (Answered pass v) h role key n pass (λ (q : OpenPass). stage_given (values.Answered v) q.stage) above seen since tt refl (λ i. refl) refl m
+      step (Judged pass v) legal caused off m = by_step s (Judged pass v) h role key n pass (λ (q : OpenPass). stage_given (values.Judged v) q.stage) above seen since tt refl (λ i. refl) refl m
+      step (End pass cause) legal caused off m = by_end s h role key n pass cause above seen since caused.0 m
+      step (Stop r) legal caused off m = by_stop s h role key n r above seen since m
+      step (Start r at) legal caused off m = quiet s (Start r at) h role key n above seen since tt (started_last (role_eq r role) (past s h role key) off.0) (λ i. refl) refl m
+      step (Script x) legal caused off m = quiet s (Script x) h role key n above seen since tt refl (λ i. refl) refl m
+      step (Deliver r kind to) legal caused off m = quiet s (Deliver r kind to) h role key n above seen since tt refl (λ i. refl) refl m
+      step (Listed r kind to) legal caused off m = quiet s (Listed r kind to) h role key n above seen since tt refl (λ i. refl) refl m
+      step (Tick now) legal caused off m = quiet s (Tick now) h role key n above seen since tt refl (λ i. refl) refl m
 
 of_last : (s : Setting) (h : List Entry) (role : Role) (key : Key) (l : IsLastPass s h role key) → IsLegal s h → IsCaused s h → Remembers s h role key l.pass l.above (views s l.before role key) l.since
 of_last s h role key l legal caused =

@@ -1,6 +1,6 @@
 -- What is read of a scenario, or made for a load, leaves no key and no answer open.
-use Rattle.std.proofs.Common.{◌≡◌, ℕ, ◌≤◌, List, [], ◌∷◌, true, false, Ok, Err, Option, Some, None, refl, ap, codes}
-use Rattle.std.specs.Prelude.{Bool, ◌&&◌}
+use Rattle.std.proofs.Common.{◌≡◌, ℕ, ◌≤◌, List, [], ◌∷◌, true, Ok, Err, Option, Some, None, refl, ap, codes}
+use Rattle.std.specs.Prelude.{◌&&◌}
 use Rattle.std.specs.List.{list_all}
 use Rattle.std.specs.declared.cmp.Ordering.{Ordering}
 use Rattle.std.specs.declared.cmp.Ordering.TheVariants.{Less, Equal, Greater}
@@ -31,9 +31,8 @@ use Rattle.cmc_material.specs.MaterialRows.{synthetic_in, key_row_in, key_row_at
 use Rattle.cmc_material.proofs.ListForms.{of_member_or, of_numbered, of_list}
 use Rattle.cmc_material.proofs.RowForms.{IsSaid, of_reply_row}
 use Rattle.cmc_scenario.specs.Loads.{load_setup}
-use Rattle.cmc_scenario.specs.Roles.{roles_at}
 use Rattle.cmc_scenario.specs.Scripts.{script_at}
-use Rattle.cmc_scenario.specs.Scenarios.{size_at, faults_at, world_in, beginning_in, setup_of, setup_in, members_at, whole_at, scenario_at}
+use Rattle.cmc_scenario.specs.Scenarios.{size_at, faults_at, world_in, beginning_in, setup_in, members_at, whole_at, scenario_at}
 use Rattle.cmc_scenario.specs.declared.members.World.{World}
 use Rattle.cmc_scenario.proofs.LoadLaws.{is_setup}
 use Rattle.cmc_scenario.proofs.SetupForms.{IsScript, of_script}

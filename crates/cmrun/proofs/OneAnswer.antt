@@ -1,5 +1,5 @@
 -- With 0 workers what is written is a function of what is read, or of the count of a load.
-use Rattle.std.proofs.Common.{◌≡◌, ◌∙◌, ℕ, ◌≤◌, Bool, List, Option, Some, Ok, refl, sym, ap, subst, inl}
+use Rattle.std.proofs.Common.{◌≡◌, ◌∙◌, ℕ, ◌≤◌, Bool, List, Some, Ok, refl, sym, ap, subst, inl}
 use Rattle.serde_json.specs.Data.{Data}
 use Rattle.cmc_objects.specs.declared.entry.Entry.{Entry}
 use Rattle.cmc_setup.specs.declared.scenario.Scenario.{Scenario}
