@@ -244,7 +244,7 @@ def numbers_in(text, option):
 
 def main():
     parser = cli.Parser(__doc__)
-    parser.add_argument("scenario")
+    parser.add_argument("scenario", metavar="SCENARIO", help="a scenario, or - for standard input")
     parser.add_argument("--pairs", type=int, default=0, metavar="N", help="how many pairs of disturbances to try (default 0)")
     parser.add_argument("--seed", type=int, default=1, metavar="S", help="what draws the pairs (default 1)")
     parser.add_argument("--lags", default="2,6", metavar="N,..", help="for how many writes a watch is held (default 2,6)")
@@ -254,8 +254,9 @@ def main():
     cli.add_program(parser)
     given = parser.parse_args()
     lags, program = numbers_in(given.lags, "--lags"), cli.program_of(given.program)
-    scenario = cli.read_json(given.scenario, "scenario")
-    ran = cli.run_scenario(program, cli.read_bytes(given.scenario))
+    data = cli.read_bytes(given.scenario)
+    scenario = cli.json_of(data, "scenario")
+    ran = cli.run_scenario(program, data)
     if ran.status:
         raise BadInput(f"{given.scenario}: {ran.error.removeprefix('cmrun: ')} (tools/why.py says more)")
     history = History.read(ran.output)
@@ -273,8 +274,7 @@ def main():
         write_all(outcomes, scenario, found, plain, given.write)
     for text in outcomes.audits:
         print(f"AUDIT {text}")
-    how = "cmrun audit" if outcomes.has_audit else "tools/scan_history.py"
-    print(f"each history that ends was audited by {how}: {len(outcomes.audits)} wrong. Cost and liveness are explored here; safety is proved for every interleaving")
+    print(f"each history that ends was audited: {len(outcomes.audits)} wrong. Cost and liveness are explored here; safety is proved for every interleaving")
     return 1 if outcomes.audits else 0
 
 

@@ -9,7 +9,7 @@ From the end of the scenario on, time goes from one moment to the next at which 
 
   --down ISSUER FROM UNTIL      the issuer does not answer: requests stay pending, and are looked at again at UNTIL
   --fails ISSUER FROM UNTIL     the issuer refuses each request, so that back-offs begin
-  --denies ISSUER FROM UNTIL    the approver denies each request for it
+  --denies ISSUER FROM UNTIL    each request for it is denied
 
 --histogram counts the questions to issuers by the hour; --scenario writes the scenario with all its ticks, for the other tools.
 """
@@ -19,7 +19,8 @@ import sys
 
 import cli
 from cli import BadInput
-from history import DEFAULT_NOW, History, back_off_end, condition, is_moment, is_name_pair, is_true, moment_of, seconds_of
+from history import DEFAULT_NOW, History, back_off_end, condition, is_moment, is_name_pair, moment_of, seconds_of
+from loop import running_after
 
 MOST_RUNS = 400
 MOST_EVENTS = 250000
@@ -44,30 +45,26 @@ class Forecast:
         self.begin = seconds_of(scenario.get("now", DEFAULT_NOW)) + sum(it.get("seconds", 0) for it in scenario.get("script", []))
         self.end = min(self.begin + int(days * 86400), LAST)
         self.moments = {moment for it in what_ifs for moment in (it.first, it.last) if self.begin < moment <= self.end}
-        self.verdicts = {}
+        self.denials = {}
         self.rows = {name: dict(rows) for name, rows in scenario.get("material", {}).items()}
         self.history, self.runs = None, 0
 
     def scenario(self):
-        """The scenario with a tick to each moment, and the verdicts that people would give."""
-        script, now = [*self.base.get("script", []), {"do": "settle"}], self.begin
-        script += self.verdicts.get(now, [])
+        """The scenario with a tick to each moment, at each of which all comes to rest."""
+        script, now = [*self.base.get("script", []), *self.rest_at(self.begin)], self.begin
         for moment in sorted(self.moments):
-            script += [{"do": "tick", "seconds": moment - now}, {"do": "settle"}, *self.verdicts.get(moment, [])]
+            script += [{"do": "tick", "seconds": moment - now}, *self.rest_at(moment)]
             now = moment
         material = {name: rows for name, rows in self.rows.items() if rows}
         changed = {**self.base, "events": MOST_EVENTS, "script": script}
-        if material:
-            changed["material"] = material
-        denied = {it.issuer for it in self.what_ifs if it.kind == "denies"}
-        if denied:
-            # (the approver leaves these to the verdicts of the script)
-            approver = dict(self.base.get("approver", {}))
-            names = {it["object"]["spec"]["issuerRef"]["name"] for it in script if it["do"] == "apply" and it["object"]["kind"] == "Certificate"}
-            known = approver.get("issuers", ["*"])
-            approver["issuers"] = sorted((names if "*" in known else set(known)) - denied)
-            changed["approver"] = approver
-        return changed
+        return {**changed, "material": material} if material else changed
+
+    def rest_at(self, moment):
+        """The steps that let all come to rest. Where requests are to be denied, the approver comes after the denials."""
+        if not any(it.kind == "denies" and it.first <= moment < it.last for it in self.what_ifs):
+            return [{"do": "settle"}]
+        stop, start = {"do": "stop", "role": "approver"}, {"do": "start", "role": "approver", "behind": 0}
+        return [stop, {"do": "settle"}, *self.denials.get(moment, []), start, {"do": "settle"}]
 
     def run(self):
         self.runs += 1
@@ -78,10 +75,10 @@ class Forecast:
         self.history = History.read(ran.output)
 
     def go(self):
-        """Runs until no moment, no row and no verdict is missing."""
+        """Runs until no moment, no row and no denial is missing."""
         while True:
             self.run()
-            if not (self.mend_rows() or self.give_verdicts() or self.add_moments()):
+            if not (self.mend_rows() or self.deny() or self.add_moments()):
                 return
             if self.runs >= MOST_RUNS:
                 raise BadInput(f"more than {MOST_RUNS} runs are needed: ask for fewer days")
@@ -145,33 +142,26 @@ class Forecast:
                 return {"reply": "fail", "message": f"{issuer} is out of order"}
         return self.usual_row(name, number)
 
-    def give_verdicts(self):
-        """Adds a verdict for each request that waits for one at some moment, since the approver leaves its issuer to the script."""
-        names = {it.issuer for it in self.what_ifs if it.kind == "denies"}
-        if not names:
-            return False
-        moment, state = self.begin, None
-        for event in self.history.events():
-            state = event.state
-            if event.kind == "tick":
-                # (a tick changes the moment alone: what is stored is what stood before it)
-                if moment >= self.begin and self.add_verdicts(state, names, moment):
+    def deny(self):
+        """Adds denials for the first moment at which requests wait for the approver that are to be denied."""
+        for event in self.later():
+            if event.kind == "start" and event.entry["role"] == "approver":
+                moment = seconds_of(event.state.now)
+                steps = [step for name in event.state.certificates() for step in self.denial(event.state, name, moment)]
+                if steps:
+                    self.denials.setdefault(moment, []).extend(steps)
                     return True
-            moment = seconds_of(state.now)
-        return state is not None and self.add_verdicts(state, names, moment)
+        return False
 
-    def add_verdicts(self, state, names, moment):
-        """Adds a step for each request without a verdict of an issuer that is denied for a time."""
-        steps = []
-        for name, it in state.certificates().items():
-            issuer = it.value["spec"]["issuerRef"]["name"]
-            revision = it.value.get("status", {}).get("revision", 0) + 1
-            found = list(state.requests(name, revision).values()) if is_true(it.value, "Issuing") and issuer in names else []
-            if len(found) == 1 and not condition(found[0].value, "Approved") and not condition(found[0].value, "Denied"):
-                no = any(what.kind == "denies" and what.holds(issuer, moment) for what in self.what_ifs)
-                steps += [{"do": "deny" if no else "approve", "certificate": name, "revision": revision}, {"do": "settle"}]
-        self.verdicts.setdefault(moment, []).extend(steps)
-        return bool(steps)
+    def denial(self, state, name, moment):
+        """The step that denies the request of a Certificate, where its issuer's are denied at the moment and it has no verdict."""
+        value = state.certificate(name).value
+        issuer, revision = value["spec"]["issuerRef"]["name"], value.get("status", {}).get("revision", 0) + 1
+        if not any(it.kind == "denies" and it.holds(issuer, moment) for it in self.what_ifs):
+            return []
+        found = [it.value for it in state.requests(name, revision).values()]
+        is_open = len(found) == 1 and not condition(found[0], "Approved") and not condition(found[0], "Denied")
+        return [{"do": "deny", "certificate": name, "revision": revision}] if is_open else []
 
     # ---- what is told
 
@@ -248,6 +238,8 @@ def check_issuers(what_ifs, scenario):
     """Refuses a what-if about an issuer that no Certificate names."""
     names = {it["object"].get("spec", {}).get("issuerRef", {}).get("name") for it in scenario.get("script", []) if it.get("do") == "apply" and it["object"].get("kind") == "Certificate"}
     for it in what_ifs:
+        if it.kind == "denies" and "approver" not in running_after(scenario, scenario.get("script", [])):
+            raise BadInput("--denies: the approver does not run at the end of the scenario", 2)
         if it.issuer not in names:
             raise BadInput(f"no Certificate names the issuer {it.issuer}: there are {', '.join(sorted(filter(None, names))) or 'none'}", 2)
 

@@ -128,6 +128,16 @@ def test_rules_are_the_models():
     assert set(admission_rules()) == numbers == set(range(1, 17)), f"{sorted(numbers)}"
 
 
+def test_links():
+    """Each link of a page leads to a file of the repository."""
+    pages = [f"{TOP}/README.md", *(f"{TOP}/{folder}/{name}" for folder in ("docs", "scenarios") for name in os.listdir(f"{TOP}/{folder}") if name.endswith(".md"))]
+    for page in pages:
+        with open(page, encoding="utf-8") as file:
+            for target in re.findall(r"\]\(([^)#\s]+)(?:#[^)]*)?\)", file.read()):
+                path = os.path.join(os.path.dirname(page), target)
+                assert "://" in target or os.path.exists(path), f"{os.path.relpath(page, TOP)}: {target}"
+
+
 def test_expect_members():
     """Each member that an expectation may have is told of a Certificate or of all."""
     facts = expect.Facts(History.read(stored("shop.history")))
@@ -476,6 +486,10 @@ EXPLAINED = [
     ('{"script":[]}\n{}', "one JSON value is wanted"),
     ('\ufeff{}', "byte order mark"),
     ('{"a":' * 200 + "1" + "}" * 200, "127 levels"),
+    ('{"events":' + "9" * 5000 + "}", "no double holds"),
+    ('{"events":NaN}', "NaN is no JSON"),
+    ("{}".encode("utf-16"), "it looks like UTF-16"),
+    (b'{"a":"\xff"}', "its byte 7 is none of a text"),
     ('{"roles":["key-manager"]}', "did you mean keymanager?"),
     ('{"steps":[]}', "did you mean `script`?"),
     ('{"faults":[5,3]}', "each above the one before"),
@@ -500,8 +514,8 @@ EXPLAINED = [
 
 def test_why(program):
     for scenario, text in EXPLAINED:
-        data = scenario if isinstance(scenario, str) else json.dumps(scenario)
-        told = "\n".join(why.explain(program, data.encode())[1])
+        data = scenario if isinstance(scenario, bytes) else scenario.encode() if isinstance(scenario, str) else json.dumps(scenario).encode()
+        told = "\n".join(why.explain(program, data)[1])
         assert text in told, f"{data[:80]}: wanted {text!r} in {told[:400]!r}"
 
 
@@ -526,6 +540,24 @@ def test_library(program):
     wrong += library.check_index([page for page, _ in results.values()], False)
     assert not wrong, "; ".join(wrong[:5])
     assert len(results) >= 40
+    with open(f"{TOP}/README.md", encoding="utf-8") as file:
+        assert f"\n{len(results)} questions with answers" in file.read(), f"README says another number than {len(results)}"
+
+
+def test_explore_asks_the_audit(program):
+    """Where the program has the command audit, each history is audited by it, and what it finds is the exit status."""
+    with tempfile.TemporaryDirectory() as folder:
+        fake = f"{folder}/cmrun"
+        verdict = '{"audit":{"clause":"issue","entry":2,"yes":false}}'
+        cli.write_text(fake, f"""#!/bin/sh
+if [ "$1" != audit ]; then exec {program} "$@"; fi
+if [ "$(wc -c)" = 0 ]; then echo "cmrun: bad history at line 1" >&2; exit 1; fi
+echo '{verdict}'
+""")
+        os.chmod(fake, 0o755)
+        cli.write_text(f"{folder}/scenario.json", json.dumps(applied(certificate(), roles=[])))
+        code, out, err = ran(["explore.py", "--program", fake, f"{folder}/scenario.json"])
+        assert code == 1 and not err and "was audited: 2 wrong" in out and out.count("AUDIT ") == 2, out + err
 
 
 def test_readme_excerpt(program):

@@ -76,11 +76,21 @@ def shown_line(text, at):
     """The line of an offset with a mark beneath, cut to what fits a terminal."""
     line, column, whole = line_of(text, at)
     first = max(0, column - 60)
-    part = whole[first : first + 110].replace("\t", " ")
+    part = "".join(c if c.isprintable() else "?" for c in whole[first : first + 110].replace("\t", " "))
     return [f"  line {line}, column {column}:", f"    {part}", f"    {' ' * (column - 1 - first)}^"]
 
 
 # ---- a refused scenario
+
+
+def explain_bytes(data):
+    """Why bytes are no JSON."""
+    try:
+        yield from explain_json(data.decode())
+    except UnicodeDecodeError as bad:
+        yield f"  it is not UTF-8: its byte {bad.start + 1} is none of a text"
+        if data[:2] in (b"\xff\xfe", b"\xfe\xff"):
+            yield "  it looks like UTF-16: save it as UTF-8"
 
 
 def explain_json(text):
@@ -92,9 +102,9 @@ def explain_json(text):
         yield from shown_line(text, min(bad.pos, max(len(text) - 1, 0))) if text else ["  the input is empty"]
         yield from json_hints(text, bad)
         return
-    except RecursionError:
+    except (ValueError, RecursionError):
         pass
-    yield "  it is nested more than 127 levels deep, or has a number that no double holds"
+    yield "  it is nested more than 127 levels deep, or has a number that no double holds, or half a surrogate pair"
 
 
 def json_hints(text, bad):
@@ -420,8 +430,8 @@ def explain_full(program, scenario):
 def first_run(program, data):
     """Runs a scenario, with no more entries than it is likely to need: a run without end takes long to fill its history."""
     try:
-        scenario = json.loads(data)
-    except ValueError:
+        scenario = json.loads(data.decode())
+    except (ValueError, RecursionError):
         return cli.run_scenario(program, data)
     steps = scenario.get("script") if isinstance(scenario, dict) else None
     if isinstance(steps, list) and scenario.get("events", USUAL_EVENTS) == USUAL_EVENTS:
@@ -436,13 +446,13 @@ def explain(program, data):
     ran = first_run(program, data)
     told = [ran.error] if ran.error else []
     if ran.error == "cmrun: not JSON":
-        told += explain_json(data.decode("utf-8", errors="replace"))
+        told += explain_bytes(data)
     elif ran.error.startswith("cmrun: bad scenario at"):
         told += explain_refusal(ran.error.partition(" at ")[2] if " at " in ran.error else "", data.decode())
     elif ran.status == 6:
-        told += explain_full(program, json.loads(data))
+        told += explain_full(program, json.loads(data.decode()))
     elif ran.status == 0:
-        found = list(explain_run(json.loads(data), History.read(ran.output)))
+        found = list(explain_run(json.loads(data.decode()), History.read(ran.output)))
         told += found or ["nothing to explain: the run is finished, and all its Certificates are ready"]
     return ran.status, told
 
