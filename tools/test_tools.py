@@ -14,10 +14,10 @@ import json
 import os
 import random
 import re
-import resource
 import subprocess
 import sys
 import tempfile
+from concurrent.futures import ThreadPoolExecutor
 
 TOOLS = os.path.dirname(os.path.realpath(__file__))
 TOP = os.path.dirname(TOOLS)
@@ -339,16 +339,17 @@ def test_long_history():
         with open(path, "wb") as file:
             file.write(long_history(250000))
         for words in (["timeline.py", path], ["status.py", "default/c007", path], ["lanes.py", path]):
-            began = time_of_children()
-            code, out, err = ran(words, seconds=600)
-            took = time_of_children() - began
-            assert code == 0 and len(out) > 1000 and took < LONGEST, f"{words[0]}: status {code}, {took:.0f} seconds, {err[-200:]}"
+            code, size, took = measured(words, f"{folder}/output")
+            assert code == 0 and size > 1000 and took < LONGEST, f"{words[0]}: status {code}, {took:.0f} seconds, {size} bytes"
 
 
-def time_of_children():
-    """The seconds of a processor that processes took which have ended."""
-    used = resource.getrusage(resource.RUSAGE_CHILDREN)
-    return used.ru_utime + used.ru_stime
+def measured(words, path):
+    """Runs a tool with its output in a file, and gives its status, the size of the output, and the seconds of a processor that it took."""
+    with open(path, "wb") as file:
+        child = subprocess.Popen([sys.executable, f"{TOOLS}/{words[0]}", *words[1:]], stdin=subprocess.DEVNULL, stdout=file, stderr=file)
+        _, ended, used = os.wait4(child.pid, 0)
+        child.returncode = os.waitstatus_to_exitcode(ended)
+    return child.returncode, os.path.getsize(path), used.ru_utime + used.ru_stime
 
 
 def test_page_is_escaped():
@@ -613,19 +614,28 @@ def main():
             raise
         print(f"skipped what needs the program: {bad}")
         program = None
-    passed = failed = skipped = 0
-    for name, function in cases(program, write):
-        if function is None:
-            skipped += 1
-            continue
-        try:
-            function()
-            passed += 1
-        except (AssertionError, cli.BadInput, OSError, subprocess.TimeoutExpired) as error:
-            failed += 1
-            print(f"FAILED {name}: {type(error).__name__}: {str(error)[:1500]}", flush=True)
-    print(f"{passed} passed, {failed} failed{f', {skipped} skipped' if skipped else ''}")
+    results = []
+    # (what is written anew is read by later tests)
+    with ThreadPoolExecutor(1 if write else 4) as pool:
+        for why_not in pool.map(lambda case: outcome(*case), cases(program, write)):
+            results.append(why_not)
+            if why_not:
+                print(f"FAILED {why_not}", flush=True)
+    skipped = sum(1 for it in results if it is None)
+    failed = sum(1 for it in results if it)
+    print(f"{len(results) - skipped - failed} passed, {failed} failed{f', {skipped} skipped' if skipped else ''}")
     return 1 if failed else 0
+
+
+def outcome(name, function):
+    """Runs a test: why it failed, an empty text where it passed, and None where it is skipped."""
+    if function is None:
+        return None
+    try:
+        function()
+        return ""
+    except (AssertionError, cli.BadInput, OSError, subprocess.TimeoutExpired) as error:
+        return f"{name}: {type(error).__name__}: {str(error)[:1500]}"
 
 
 if __name__ == "__main__":
