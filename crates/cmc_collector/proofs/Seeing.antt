@@ -32,17 +32,18 @@ use Rattle.cmc_model.specs.Writes.{write_at, writes}
 use Rattle.cmc_informer.specs.Indexes.{AreKeys}
 use Rattle.cmc_informer.specs.Watching.{is_changed}
 use Rattle.cmc_collector.specs.Caches.{position_in, told_to}
-use Rattle.cmc_collector.specs.Moving.{is_of_kind}
+use Rattle.cmc_collector.specs.Moving.{is_news, is_of_kind}
 use Rattle.cmc_collector.proofs.Keeping.{called_kept, deleted_kept, delivered_kept, looked_kept, still_covered}
 use Rattle.cmc_collector.proofs.Promise.{is_told_news, news_within}
 use Rattle.std.specs.Prelude.{is_some}
+use Rattle.cmc_objects.specs.declared.object.Object.{Object}
 use Rattle.cmc_model.specs.declared.write.Write.{Write}
 use Rattle.cmc_informer.specs.Watching.{Watched, start_of}
 use Rattle.cmc_collector.specs.Caching.{is_orphan_in}
 use Rattle.cmc_collector.specs.Examining.{current_of, is_due}
 use Rattle.cmc_collector.specs.Settling.{FindsDue, FindsFirst}
 use Rattle.cmc_collector.proofs.Firsts.{due_has_row, due_test}
-use Rattle.cmc_collector.proofs.Reading.{count_is, current_is, due_is, held_covered}
+use Rattle.cmc_collector.proofs.Reading.{count_is, current_is, due_is, given_is, held_covered}
 
 -- what contracts see of a collection of these parts
 abbrev pub seen : Served → ℕ → List Moment → Collecting

@@ -8,17 +8,18 @@ use Rattle.cmc_meta.specs.declared.key.Kind.TheVariants.{Certificate, Certificat
 use Rattle.cmc_model.specs.declared.write.Write.{Write}
 use Rattle.cmc_model.specs.Histories.{Setting}
 use Rattle.cmc_model.specs.Writes.{kind_eq, last_of_kind, write_at, writes}
+use Rattle.cmc_collector.specs.declared.entry.CollectEntry.{CollectEntry}
 use Rattle.cmc_collector.specs.declared.entry.Moment.{Moment}
 use Rattle.cmc_collector.specs.declared.moves.CollectMove.{CollectMove}
 use Rattle.cmc_collector.specs.declared.moves.CollectMove.TheVariants.{User, Deliver, Examine}
 use Rattle.cmc_collector.specs.declared.moves.CollectLack.{CollectLack}
 use Rattle.cmc_collector.specs.declared.moves.CollectLack.TheVariants.{NoOrphan, Current, NotAWrite}
 use Rattle.cmc_collector.specs.declared.moves.Collected.{Collected}
-use Rattle.cmc_collector.specs.declared.moves.Collected.TheVariants.{Done, Spent}
+use Rattle.cmc_collector.specs.declared.moves.Collected.TheVariants.{Done, NotNow, Spent}
 use Rattle.cmc_collector.specs.Caching.{position}
 use Rattle.cmc_collector.specs.Examining.{is_due}
-use Rattle.cmc_collector.specs.Moving.{IsEntry, answer, answer_of, is_news, is_of_kind, lack, lack_of_delivery, newest}
-use Rattle.cmc_collector.specs.Playing.{Collecting, played, setting}
+use Rattle.cmc_collector.specs.Moving.{IsEntry, answer, answer_of, is_news, is_of_kind, lack, lack_of_delivery, newest, with_entry}
+use Rattle.cmc_collector.specs.Playing.{Collecting, on, played, setting}
 use Rattle.cmc_collector.specs.Settling.{EndsAs, IsSettled, IsSettling, IsTurn, IsTurned, Settles, behind, is_behind}
 
 -- ---- the newest write of a kind is one of it
