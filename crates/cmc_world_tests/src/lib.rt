@@ -3,8 +3,6 @@
 #![tactic(auto)]
 
 #[cfg(test)]
-mod answers;
-#[cfg(test)]
 mod audit;
 #[cfg(test)]
 mod checks;
@@ -12,8 +10,6 @@ mod checks;
 mod deciding;
 #[cfg(test)]
 mod fixtures;
-#[cfg(test)]
-mod handed_in;
 #[cfg(test)]
 mod informer;
 #[cfg(test)]
