@@ -2,5 +2,3 @@ pub mod Formed
 pub mod Acting
 pub mod Completing
 pub mod Standing
-pub mod Courses
-pub mod Begins

@@ -20,4 +20,3 @@ mod Floats
 mod ObjectFloats
 mod ScenarioFloats
 mod ScenarioLaws
-pub mod BoundRows

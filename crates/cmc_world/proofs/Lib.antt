@@ -23,4 +23,3 @@ pub mod Ending
 pub mod Spare
 pub mod Elsewhere
 pub mod Prospects
-pub mod OwnQuestions

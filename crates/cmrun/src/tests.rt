@@ -281,14 +281,9 @@ fn writes_the_rows_of_the_trigger(rt: HostRuntime) -> Result<(), Fail> {
     Ok(writes(&rt, rt.alloc(), &TRIGGER)?)
 }
 
-/// Inputs, and all that is written where no role runs, or nothing is to do.
-static WORKED: [(&str, &str); 5] = [
-    // Nothing at all.
-    (
-        "{}",
-        "{\"scenario\":{}}\n{\"summary\":{\"certificates\":0,\"ready\":0,\"secrets\":0,\"waiting\":[]}}\n",
-    ),
-    // No role.
+/// Inputs, and all that is written where no role runs.
+static WORKED: [(&str, &str); 4] = [
+    // No step.
     (
         r#"{"roles":[]}"#,
         "{\"scenario\":{\"roles\":[]}}\n{\"summary\":{\"certificates\":0,\"ready\":0,\"secrets\":0,\"waiting\":[]}}\n",
