@@ -1,7 +1,9 @@
 //! The call that follows a value.
 ghost use Rattle.std.specs.Prelude.{◌≡◌, IfOk, IsSome, Some};
 ghost use Rattle.cmc_answers.specs.Judging.{denial_of};
+ghost use Rattle.cmc_next.specs.Questions.{IsQuestionOf};
 ghost use Rattle.cmc_pass.specs.Giving.{order_of, value_of};
+ghost use Rattle.cmc_pass.specs.Values.{IsValue};
 ghost use Rattle.cmc_rules.specs.Approving as table;
 
 use crate::calls::judge_call;
@@ -63,17 +65,8 @@ fn judged_for(
     }
 }
 
-/// The call that follows this value of the question on these views: the status update with Approved on a yes, and on a
-/// no with Denied, whose message is the reason that the question's rules give. The condition's moment is `now`, in
-/// seconds since 1970-01-01T00:00:00Z.
-///
-/// A call follows: there is a request, the question is for a judgement, the value is one, and a no has a reason.
-///
-/// # Errors
-///
-/// Want of memory alone.
 #[tactic(auto, unfolding(cmc_rules::specs::Approving::judged_after))]
-pub fn follow(
+fn followed(
     alloc: Global,
     views: &Views,
     now: i64,
@@ -90,18 +83,45 @@ pub fn follow(
     }
 }
 
+/// The call that follows this value of the question on these views: the status update with Approved on a yes, and on a
+/// no with Denied, whose message is the reason that the question's rules give. The condition's moment is `now`, in
+/// seconds since 1970-01-01T00:00:00Z.
+///
+/// `order` is the question that the controller asks on these views by some desk, and `value` a right value of it.
+/// A call follows: there is a request, the question is for a judgement, the value is one, and a no has a reason.
+///
+/// # Errors
+///
+/// Want of memory alone.
+pub fn follow(
+    alloc: Global,
+    views: &Views,
+    now: i64,
+    order: &Order,
+    value: &Value,
+) -> Result<Call, AllocError>
+    requires asked { IsQuestionOf (table.approver views.now) order.now }
+    requires right { IsValue order.now value.now }
+    requires follows { IsSome (table.judged_after views.now now order.now value.now) }
+    ensures { IfOk result (λ c. table.judged_after views.now now order.now value.now ≡ Some c) }
+{
+    followed(alloc, views, now, order, value)
+}
+
 /// The call that follows what is given back for the controller's question on these views.
 ///
+/// What is given back answers the question that the controller asks on these views by some desk.
 /// A call follows: there is a request, and a judgement is given back.
 ///
 /// # Errors
 ///
 /// Want of memory alone.
 pub fn then(alloc: Global, views: &Views, now: i64, given: &Given) -> Result<Call, AllocError>
-    requires { IsSome (table.judged_after views.now now (order_of given.now) (value_of given.now)) }
+    requires asked { IsQuestionOf (table.approver views.now) (order_of given.now) }
+    requires follows { IsSome (table.judged_after views.now now (order_of given.now) (value_of given.now)) }
     ensures { IfOk result (λ c. table.judged_after views.now now (order_of given.now) (value_of given.now) ≡ Some c) }
 {
     let order = given.order()?;
     let value = value_in(alloc, given)?;
-    follow(alloc, views, now, &order, &value)
+    followed(alloc, views, now, &order, &value)
 }

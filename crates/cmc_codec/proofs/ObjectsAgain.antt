@@ -169,7 +169,7 @@ stranger_so : (fs : List Field) → Always IsAgain (stranger_in fs)
 unfolding stranger_in
 stranger_so fs =
     next IsAgain (needed_at any_version_at (codes "apiVersion") fs) _ (λ api. next IsAgain (optional_at (codes "data") api.1) _
-    (λ given. next IsAgain (passes (codes "data") given.0) _ (λ _. next IsAgain (required_at (codes "kind") given.1) _ (λ kind. failed (codes "kind")))))
+    (λ given. next IsAgain (passes (codes "data") given.0) _ (λ _. next IsAgain (required_at (codes "kind") given.1) _ (λ kind. failed (codes "kind" ∷ [])))))
 
 either : (b : Bool) (x y : Read Applied) → Always IsAgain x → Always IsAgain y → Always IsAgain (if b then x else y)
 either true x y first second = first

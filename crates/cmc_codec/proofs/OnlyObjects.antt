@@ -17,7 +17,7 @@ use Rattle.cmc_objects.specs.declared.request.CertificateRequest.{CertificateReq
 use Rattle.cmc_objects.specs.declared.secret.Secret.{Secret as SecretObject}
 use Rattle.cmc_objects.specs.declared.object.Object.{Object}
 use Rattle.cmc_objects.specs.declared.object.Object.TheVariants as objects
-use Rattle.cmc_cursor.specs.Reading.{Read, under, fields_of}
+use Rattle.cmc_cursor.specs.Reading.{Path, Read, under, fields_of}
 use Rattle.cmc_cursor.specs.Readers.{word_at, name_at, pairs_at, parts_at}
 use Rattle.cmc_print.specs.Puts.{base64_text, map_tree, put_object}
 use Rattle.cmc_print.specs.Printed.{owner_tree, owners_tree, meta_tree, spec_tree, request_tree, status_members, request_status_members, head_members, object_tree}
@@ -43,11 +43,11 @@ bool_cases : (b : Bool) → (b ≡ true) ⊎ (b ≡ false)
 bool_cases true = inl refl
 bool_cases false = inr refl
 
-nothing : {A : Type 0} {x : A} {r : Read A} (path : List ℕ) → r ≡ Err path → Only x r
+nothing : {A : Type 0} {x : A} {r : Read A} (path : Path) → r ≡ Err path → Only x r
 nothing {x = x} path e = subst (Only x) (sym e) (failed path)
 
 owner_fails : (kind : Kind) (name : List ℕ) (uid : ℕ) (controller : Bool) → name_at (string name) ≡ Err [] → uid_in (uid_text uid) ≡ Some uid
-    → owner_at (owner_tree (record { kind = kind; name = name; uid = uid; controller = controller })) ≡ Err (codes "name")
+    → owner_at (owner_tree (record { kind = kind; name = name; uid = uid; controller = controller })) ≡ Err (codes "name" ∷ [])
 unfolding owner_at owner_tree kept_owner
 owner_fails Certificate name uid true n u = rw (u, n) refl
 owner_fails Certificate name uid false n u = rw (u, n) refl
@@ -61,7 +61,7 @@ owner_only o h = go (bool_cases (is_subdomain o.name))
   where
     go : (is_subdomain o.name ≡ true) ⊎ (is_subdomain o.name ≡ false) → Only (Some o) (owner_at (owner_tree o))
     go (inl holds) = given (owner_printed o.kind o.name o.uid o.controller (rw holds refl) (uid_written o.uid h))
-    go (inr fails) = nothing (codes "name") (owner_fails o.kind o.name o.uid o.controller (rw fails refl) (uid_written o.uid h))
+    go (inr fails) = nothing (codes "name" ∷ []) (owner_fails o.kind o.name o.uid o.controller (rw fails refl) (uid_written o.uid h))
 
 owners_from_only : (n : ℕ) (os : List OwnerRef) → HaveUids os → Only os (owners_from n (items_of (map owner_tree os)))
 owners_from_only n [] h = so refl

@@ -1,5 +1,5 @@
 -- The form of an object that is read: its kind decides it.
-use Rattle.std.specs.Prelude.{ℕ, List, [], ◌||◌, codes, Bool, if◌then◌else◌, Ok, Err, Some, None}
+use Rattle.std.specs.Prelude.{ℕ, List, [], ◌∷◌, ◌||◌, codes, Bool, if◌then◌else◌, Ok, Err, Some, None}
 use Rattle.std.specs.declared.option.Option.{Option}
 use Rattle.std.specs.Str.{bytes_eq}
 use Rattle.serde_json.specs.Data.{Data}
@@ -61,7 +61,7 @@ stranger_in fs = do
   given ← optional_at (codes "data") api.1
   passed ← passes (codes "data") given.0
   kind ← required_at (codes "kind") given.1
-  Err (codes "kind")
+  Err (codes "kind" ∷ [])
 
 abbrev pub object_in : Option (List ℕ) → List Field → Read Applied
 object_in None fs = stranger_in fs

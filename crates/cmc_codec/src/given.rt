@@ -39,7 +39,7 @@ fn address(alloc: Global, value: &Value) -> Result<Text, BadField>
 {
     match value.as_str() {
         Some(text) if is_address(text) => Ok(Text::from_str(alloc, text)?),
-        _ => Err(BadField::Path(Text::new(alloc))),
+        _ => Err(BadField::Path(Texts::new(alloc))),
     }
 }
 
@@ -82,7 +82,7 @@ fn list(alloc: Global, wording: Wording, value: &Value) -> Result<Texts, BadFiel
 {
     match value {
         Value::Array(items) => list_of(alloc, wording, items.as_slice()),
-        _ => Err(BadField::Path(Text::new(alloc))),
+        _ => Err(BadField::Path(Texts::new(alloc))),
     }
 }
 
@@ -91,7 +91,7 @@ fn clean_text(alloc: Global, value: &Value) -> Result<Text, BadField>
 {
     match value.as_str() {
         Some(text) if is_clean(text) => Ok(Text::from_str(alloc, text)?),
-        _ => Err(BadField::Path(Text::new(alloc))),
+        _ => Err(BadField::Path(Texts::new(alloc))),
     }
 }
 
@@ -99,11 +99,11 @@ fn duration(alloc: Global, value: &Value) -> Result<u64, BadField>
     ensures { Gives (λ t. t) result (duration_at (view value.now)) }
 {
     let Some(text) = value.as_str() else {
-        return Err(BadField::Path(Text::new(alloc)));
+        return Err(BadField::Path(Texts::new(alloc)));
     };
     match read_duration(text) {
         Ok(seconds) => Ok(seconds),
-        Err(_) => Err(BadField::Path(Text::new(alloc))),
+        Err(_) => Err(BadField::Path(Texts::new(alloc))),
     }
 }
 
@@ -119,7 +119,7 @@ pub fn choice<T: Copy + Drop>(
     match value.as_str() {
         Some(text) if text == first.0 => Ok(first.1),
         Some(text) if text == second.0 => Ok(second.1),
-        _ => Err(BadField::Path(Text::new(alloc))),
+        _ => Err(BadField::Path(Texts::new(alloc))),
     }
 }
 

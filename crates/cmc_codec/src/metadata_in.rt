@@ -8,8 +8,10 @@ ghost use Rattle.cmc_codec.specs.Given.{given_or};
 ghost use Rattle.cmc_codec.specs.MetadataForm.{sought_member, sought_or, sought_needed, owners_at, labelled_in, placed_in, head_of, head_at};
 
 use crate::owners_in::owners;
-use cmc_cursor::{BadField, Fields, at, decimal, drop_rest, fields, flag, name, pairs, seek};
-use cmc_meta::{Name, ObjectMeta, Owners, Pairs, Text};
+use cmc_cursor::{
+    BadField, Fields, at, decimal, drop_rest, fields, flag, name, pairs, path_to, seek,
+};
+use cmc_meta::{Name, ObjectMeta, Owners, Pairs};
 use serde_json::Value;
 use std::alloc::Global;
 
@@ -72,7 +74,7 @@ pub fn found_name<'a, 'b>(
     ensures { Gives (λ p. (p.0, map shown p.1.now)) result (sought_needed name_at member.now (map shown rest.now)) }
 {
     match seek(alloc, rest, member)? {
-        (None, _) => Err(BadField::Path(Text::from_str(alloc, member)?)),
+        (None, _) => Err(BadField::Path(path_to(alloc, member)?)),
         (Some(value), rest) => Ok((at(alloc, member, name(alloc, value))?, rest)),
     }
 }

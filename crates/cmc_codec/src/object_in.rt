@@ -12,9 +12,10 @@ use crate::certificate_in::needed_api;
 use crate::metadata_in::{Head, metadata};
 use crate::{certificate_in, request_in};
 use cmc_cursor::{
-    BadField, Fields, at, check_end, fields, member, optional, parts, pass, required, text, word,
+    BadField, Fields, at, check_end, fields, member, optional, parts, pass, path_to, required,
+    text, word,
 };
-use cmc_meta::Text;
+use cmc_meta::{Text, Texts};
 use cmc_objects::{
     CertStatus, Certificate, CertificateRequest, Object, Parts, RequestStatus, Secret, Shared,
 };
@@ -156,7 +157,7 @@ fn check_any_version(alloc: Global, value: &Value) -> Result<(), BadField>
 {
     match value.as_str() {
         Some(text) if is_any_version(text) => Ok(()),
-        _ => Err(BadField::Path(Text::new(alloc))),
+        _ => Err(BadField::Path(Texts::new(alloc))),
     }
 }
 
@@ -169,7 +170,7 @@ fn stranger(alloc: Global, rest: Fields<'_, '_>) -> Result<Applied, BadField>
     let (given, rest) = optional(alloc, rest, "data")?;
     pass(alloc, "data", given)?;
     required(alloc, rest, "kind")?;
-    Err(BadField::Path(Text::from_str(alloc, "kind")?))
+    Err(BadField::Path(path_to(alloc, "kind")?))
 }
 
 fn object(alloc: Global, kind: Option<&str>, rest: Fields<'_, '_>) -> Result<Applied, BadField>

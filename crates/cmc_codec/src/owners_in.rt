@@ -7,7 +7,7 @@ ghost use Rattle.cmc_codec.specs.MetadataForm as forms;
 
 use crate::metadata_in::{found_flag, found_name};
 use cmc_cursor::{BadField, Fields, at_place, drop_rest, fields, member};
-use cmc_meta::{Kind, OwnerRef, Owners, Text, number_in};
+use cmc_meta::{Kind, OwnerRef, Owners, Texts, number_in};
 use serde_json::Value;
 use std::alloc::Global;
 
@@ -121,6 +121,6 @@ pub fn owners(alloc: Global, value: &Value) -> Result<Owners, BadField>
 {
     match value {
         Value::Array(items) => owners_of(alloc, items.as_slice()),
-        _ => Err(BadField::Path(Text::new(alloc))),
+        _ => Err(BadField::Path(Texts::new(alloc))),
     }
 }

@@ -4,7 +4,7 @@ use Rattle.std.specs.Prelude.{if◌then◌else◌, IfOk}
 use Rattle.std.specs.declared.result.Result.{Result}
 use Rattle.cmc_cursor.specs.declared.error.BadField.{BadField}
 use Rattle.cmc_cursor.specs.declared.error.BadField.TheVariants.{Path, NoMemory}
-use Rattle.cmc_cursor.specs.Reading.{Read, Gives, ◌>>=◌, under}
+use Rattle.cmc_cursor.specs.Reading.{Path as Names, Read, Gives, ◌>>=◌, under}
 
 -- what a reading gives, if it gives anything, is so
 pub record Always {A : Type 0} (P : A → Type 0) (r : Read A) : Type 0 where
@@ -22,7 +22,7 @@ pub so : {A : Type 0} {P : A → Type 0} {x : A} → P x → Always P (Ok x)
 unfolding got
 so {P = P} {x = x} is = record { each = λ y e. subst P (ap (got x) e) is }
 
-pub failed : {A : Type 0} {P : A → Type 0} (path : List ℕ) → Always P (Err path)
+pub failed : {A : Type 0} {P : A → Type 0} (path : Names) → Always P (Err path)
 unfolding is_ok
 failed path = record { each = λ y e. absurd (let k = ap is_ok e in cc) }
 
@@ -43,7 +43,7 @@ either P true x y first second = first
 either P false x y first second = second
 
 -- where the test passes, the first; else the second fails
-pub where_true : {A : Type 0} (P : A → Type 0) (b : Bool) (x : Read A) (path : List ℕ) → (b ≡ true → Always P x) → Always P (if b then x else Err path)
+pub where_true : {A : Type 0} (P : A → Type 0) (b : Bool) (x : Read A) (path : Names) → (b ≡ true → Always P x) → Always P (if b then x else Err path)
 where_true P true x path first = first refl
 where_true P false x path first = failed path
 

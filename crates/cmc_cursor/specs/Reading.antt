@@ -8,13 +8,28 @@ use Rattle.serde_json.specs.Data.{Data, null, boolean, number, string, array, ob
 use Rattle.cmc_cursor.specs.declared.error.BadField.{BadField}
 use Rattle.cmc_cursor.specs.declared.error.BadField.TheVariants as bad
 
--- A path is the text of member names and of places in lists, joined by dots.
+-- A path: the names of members and the places in lists that lead from a value down to what fails.
+-- The path of no names is the value itself.
 abbrev pub Path : Type 0
-Path = List ℕ
+Path = List (List ℕ)
+
+abbrev pub dotted : Path → List ℕ
+dotted [] = []
+dotted (name ∷ names) = codes "." ++ name ++ dotted names
+
+-- Its text: the names joined by dots, an empty name like any other.
+abbrev pub text_of : Path → List ℕ
+text_of [] = []
+text_of (name ∷ names) = name ++ dotted names
 
 -- What reading gives.
 abbrev pub Read : Type 0 → Type 0
 Read A = Result A Path
+
+-- What reading gives, with the path as its text.
+abbrev pub in_words : {A : Type 0} → Read A → Result A (List ℕ)
+in_words (Ok x) = Ok x
+in_words (Err path) = Err (text_of path)
 
 -- A reading that only looks whether a value may stand.
 abbrev pub Check : Type 0
@@ -26,15 +41,10 @@ abbrev pub ◌>>=◌ : {A B : Type 0} → Read A → (A → Read B) → Read B
 (Ok x) >>= f = f x
 (Err path) >>= f = Err path
 
--- A path below a name.
-abbrev pub join : List ℕ → Path → Path
-join name [] = name
-join name (c ∷ cs) = name ++ (codes "." ++ c ∷ cs)
-
 -- A reading of what stands under a name: it fails below that name.
 abbrev pub under : {A : Type 0} → List ℕ → Read A → Read A
 under name (Ok x) = Ok x
-under name (Err path) = Err (join name path)
+under name (Err path) = Err (name ∷ path)
 
 -- A member: its name and its value.
 abbrev pub Field : Type 0
@@ -57,10 +67,10 @@ fields_at (array ds) = Err []
 -- before its place is not known, and fails.
 abbrev pub optional_at : List ℕ → List Field → Read (Option Data × List Field)
 optional_at name [] = Ok (None, [])
-optional_at name (f ∷ fs) = match_ordering (slice_cmp nat_cmp f.0 name) (Err f.0) (Ok (Some f.1, fs)) (Ok (None, f ∷ fs))
+optional_at name (f ∷ fs) = match_ordering (slice_cmp nat_cmp f.0 name) (Err (f.0 ∷ [])) (Ok (Some f.1, fs)) (Ok (None, f ∷ fs))
 
 abbrev pub must_stand : List ℕ → Option Data × List Field → Read (Data × List Field)
-must_stand name (None, fs) = Err name
+must_stand name (None, fs) = Err (name ∷ [])
 must_stand name (Some d, fs) = Ok (d, fs)
 
 -- The same, where the member has to stand: it fails at its name.
@@ -70,7 +80,7 @@ required_at name fs = optional_at name fs >>= must_stand name
 -- No member is left: one that is left is not known, and fails.
 abbrev pub at_end : List Field → Check
 at_end [] = Ok tt
-at_end (f ∷ fs) = Err f.0
+at_end (f ∷ fs) = Err (f.0 ∷ [])
 
 -- What a function answered, with its value seen by `view`, is what reading gives; or memory ran out.
 abbrev pub Gives : {X Y : Type 0} → (X → Y) → Result X BadField → Read Y → Type 0

@@ -12,7 +12,7 @@ use crate::error::BadField;
 use crate::values::text;
 use base64::DecodeAllocError;
 use base64::engine::general_purpose::STANDARD;
-use cmc_meta::{Bytes, Pairs, Text};
+use cmc_meta::{Bytes, Pairs, Text, Texts};
 use cmc_objects::Parts;
 use serde_json::{Map, Value};
 use std::alloc::Global;
@@ -23,7 +23,7 @@ fn bytes_of(alloc: Global, text: &str) -> Result<Bytes, BadField>
 {
     match STANDARD.decode(alloc, text.as_bytes()) {
         Ok(items) => Ok(Bytes::from_slice(alloc, items.as_slice())?),
-        Err(DecodeAllocError::DecodeError(_)) => Err(BadField::Path(Text::new(alloc))),
+        Err(DecodeAllocError::DecodeError(_)) => Err(BadField::Path(Texts::new(alloc))),
         Err(DecodeAllocError::OutOfMemory) => Err(BadField::NoMemory),
     }
 }
@@ -39,7 +39,7 @@ pub fn bytes(alloc: Global, value: &Value) -> Result<Bytes, BadField>
 {
     match value {
         Value::String(text) => bytes_of(alloc, text.as_str()),
-        _ => Err(BadField::Path(Text::new(alloc))),
+        _ => Err(BadField::Path(Texts::new(alloc))),
     }
 }
 
@@ -71,7 +71,7 @@ pub fn parts(alloc: Global, value: &Value) -> Result<Parts, BadField>
 {
     match value {
         Value::Object(members) => parts_of(alloc, members),
-        _ => Err(BadField::Path(Text::new(alloc))),
+        _ => Err(BadField::Path(Texts::new(alloc))),
     }
 }
 
@@ -103,6 +103,6 @@ pub fn pairs(alloc: Global, value: &Value) -> Result<Pairs, BadField>
 {
     match value {
         Value::Object(members) => pairs_of(alloc, members),
-        _ => Err(BadField::Path(Text::new(alloc))),
+        _ => Err(BadField::Path(Texts::new(alloc))),
     }
 }

@@ -2,11 +2,12 @@
 ghost use Rattle.std.specs.Prelude.{◌≡◌, IfOk, map, decimal};
 ghost use Rattle.std.specs.declared.result.Result.{Result};
 ghost use Rattle.serde_json.specs.View.{view, members_view};
-ghost use Rattle.cmc_cursor.specs.Reading.{Gives, Read, fields_of, fields_at, optional_at, required_at, at_end, join, under};
+ghost use Rattle.cmc_cursor.specs.Reading.{Gives, Read, fields_of, fields_at, optional_at, required_at, at_end, under};
 ghost use Rattle.cmc_cursor.specs.Seen.{shown, shown_option};
 
 use crate::error::BadField;
-use cmc_meta::Text;
+use crate::paths::{below, path_to};
+use cmc_meta::Texts;
 use serde_json::{Map, Value};
 use std::alloc::{AllocError, Global};
 use std::cmp::Ordering;
@@ -22,7 +23,7 @@ pub fn fields(alloc: Global, value: &Value) -> Result<Vec<(&str, &Value)>, BadFi
 {
     match value {
         Value::Object(members) => Ok(members_of(alloc, members)?),
-        _ => Err(BadField::Path(Text::new(alloc))),
+        _ => Err(BadField::Path(Texts::new(alloc))),
     }
 }
 
@@ -52,7 +53,7 @@ pub fn optional<'a, 'b>(
     match rest {
         [] => Ok((None, rest)),
         [(found, value), after @ ..] => match found.cmp(&name) {
-            Ordering::Less => Err(BadField::Path(Text::from_str(alloc, found)?)),
+            Ordering::Less => Err(BadField::Path(path_to(alloc, found)?)),
             Ordering::Equal => Ok((Some(*value), after)),
             Ordering::Greater => Ok((None, rest)),
         },
@@ -73,7 +74,7 @@ pub fn required<'a, 'b>(
 {
     match optional(alloc, rest, name)? {
         (Some(value), after) => Ok((value, after)),
-        (None, _) => Err(BadField::Path(Text::from_str(alloc, name)?)),
+        (None, _) => Err(BadField::Path(path_to(alloc, name)?)),
     }
 }
 
@@ -83,19 +84,8 @@ pub fn check_end(alloc: Global, rest: Fields<'_, '_>) -> Result<(), BadField>
 {
     match rest {
         [] => Ok(()),
-        [(found, _), ..] => Err(BadField::Path(Text::from_str(alloc, found)?)),
+        [(found, _), ..] => Err(BadField::Path(path_to(alloc, found)?)),
     }
-}
-
-fn joined(alloc: Global, name: &str, path: Text) -> Result<Text, AllocError>
-    ensures { IfOk result (λ t. t ≡ join name.now path) }
-{
-    let rest = path.as_str();
-    if rest.is_empty() {
-        return Text::from_str(alloc, name);
-    }
-    let whole = format!(in alloc; "{name}.{rest}")?;
-    Text::from_str(alloc, whole.as_str())
 }
 
 /// What was read of the value under a name: a failing path goes below that name.
@@ -105,16 +95,8 @@ pub fn at<T: Drop>(alloc: Global, name: &str, found: Result<T, BadField>) -> Res
     match found {
         Ok(value) => Ok(value),
         Err(BadField::NoMemory) => Err(BadField::NoMemory),
-        Err(BadField::Path(path)) => Err(BadField::Path(joined(alloc, name, path)?)),
+        Err(BadField::Path(path)) => Err(BadField::Path(below(alloc, name, &path)?)),
     }
-}
-
-/// The path of a place in a list: its decimal digits.
-pub fn place_path(alloc: Global, place: usize) -> Result<Text, AllocError>
-    ensures { IfOk result (λ path. path ≡ decimal place) }
-{
-    let digits = place.to_string(alloc)?;
-    Text::from_str(alloc, digits.as_str())
 }
 
 /// What was read of the item at that place of a list: a failing path goes below the place, which is

@@ -1,13 +1,13 @@
 // Why a value was not read.
-use cmc_meta::Text;
+use cmc_meta::Texts;
 use std::alloc::{AllocError, AllocFailed};
 
 /// Why a value was not read.
 #[derive(Drop)]
 pub enum BadField {
-    /// The value fails at this path: member names and places in lists (from 0), joined by dots.
-    /// The empty path is the value itself.
-    Path(Text),
+    /// The value fails at this path: the names of members and the places in lists (from 0) that lead there. The path
+    /// of no names is the value itself.
+    Path(Texts),
     /// Memory ran out.
     NoMemory,
 }

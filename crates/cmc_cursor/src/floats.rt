@@ -7,7 +7,7 @@ ghost use Rattle.cmc_cursor.specs.Readers.{floats_at, floats_from, floats_in};
 
 use crate::cursor::{at, at_place};
 use crate::error::BadField;
-use cmc_meta::Text;
+use cmc_meta::Texts;
 use serde_json::{Map, Value};
 use std::alloc::Global;
 
@@ -66,7 +66,7 @@ fn check_value(alloc: Global, value: &Value) -> Result<(), BadField>
     ensures { Gives (λ t. t) result (floats_at (view value.now)) }
 {
     match value {
-        Value::Number(number) if number.is_f64() => Err(BadField::Path(Text::new(alloc))),
+        Value::Number(number) if number.is_f64() => Err(BadField::Path(Texts::new(alloc))),
         Value::Array(items) => check_items(alloc, items),
         Value::Object(members) => check_members(alloc, members),
         _ => Ok(()),

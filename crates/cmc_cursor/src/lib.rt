@@ -10,13 +10,15 @@ mod cursor;
 mod dropping;
 mod error;
 mod floats;
+mod paths;
 mod values;
 mod wording;
 
 pub use contents::{bytes, pairs, parts};
-pub use cursor::{Fields, at, at_place, check_end, fields, optional, place_path, required};
+pub use cursor::{Fields, at, at_place, check_end, fields, optional, required};
 pub use dropping::{drop_rest, member, pass, seek};
 pub use error::BadField;
 pub use floats::check_floats;
+pub use paths::{path_text, path_to, path_to_place};
 pub use values::{count, flag, small_count, text, texts, word};
 pub use wording::{decimal, name, name_of, printable, short_text};

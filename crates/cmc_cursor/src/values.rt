@@ -16,7 +16,7 @@ pub fn text(alloc: Global, value: &Value) -> Result<Text, BadField>
 {
     match value.as_str() {
         Some(text) => Ok(Text::from_str(alloc, text)?),
-        None => Err(BadField::Path(Text::new(alloc))),
+        None => Err(BadField::Path(Texts::new(alloc))),
     }
 }
 
@@ -26,7 +26,7 @@ pub fn word(alloc: Global, value: &Value, word: &str) -> Result<(), BadField>
 {
     match value.as_str() {
         Some(found) if found == word => Ok(()),
-        _ => Err(BadField::Path(Text::new(alloc))),
+        _ => Err(BadField::Path(Texts::new(alloc))),
     }
 }
 
@@ -36,7 +36,7 @@ pub fn flag(alloc: Global, value: &Value) -> Result<bool, BadField>
 {
     match value.as_bool() {
         Some(flag) => Ok(flag),
-        None => Err(BadField::Path(Text::new(alloc))),
+        None => Err(BadField::Path(Texts::new(alloc))),
     }
 }
 
@@ -46,7 +46,7 @@ pub fn count(alloc: Global, value: &Value) -> Result<u64, BadField>
 {
     match value.as_u64() {
         Some(number) => Ok(number),
-        None => Err(BadField::Path(Text::new(alloc))),
+        None => Err(BadField::Path(Texts::new(alloc))),
     }
 }
 
@@ -58,7 +58,7 @@ pub fn small_count(alloc: Global, value: &Value) -> Result<u32, BadField>
     if number < 1 << 32 {
         return Ok(number as u32);
     }
-    Err(BadField::Path(Text::new(alloc)))
+    Err(BadField::Path(Texts::new(alloc)))
 }
 
 fn text_in_list(alloc: Global, place: usize, value: &Value) -> Result<Text, BadField>
@@ -73,7 +73,7 @@ pub fn texts(alloc: Global, value: &Value) -> Result<Texts, BadField>
 {
     match value {
         Value::Array(items) => texts_of(alloc, items.as_slice()),
-        _ => Err(BadField::Path(Text::new(alloc))),
+        _ => Err(BadField::Path(Texts::new(alloc))),
     }
 }
 

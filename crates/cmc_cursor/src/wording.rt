@@ -5,7 +5,7 @@ ghost use Rattle.cmc_cursor.specs.Reading.{Gives};
 ghost use Rattle.cmc_cursor.specs.Readers.{short_text_at, printable_at, name_in, name_at, decimal_in, decimal_at};
 
 use crate::error::BadField;
-use cmc_meta::{BadName, Name, Text, is_printable_name, number_in};
+use cmc_meta::{BadName, Name, Text, Texts, is_printable_name, number_in};
 use serde_json::Value;
 use std::alloc::Global;
 
@@ -15,7 +15,7 @@ pub fn short_text(alloc: Global, value: &Value, most: usize) -> Result<Text, Bad
 {
     match value.as_str() {
         Some(text) if text.len() <= most => Ok(Text::from_str(alloc, text)?),
-        _ => Err(BadField::Path(Text::new(alloc))),
+        _ => Err(BadField::Path(Texts::new(alloc))),
     }
 }
 
@@ -25,7 +25,7 @@ pub fn printable(alloc: Global, value: &Value) -> Result<Text, BadField>
 {
     match value.as_str() {
         Some(text) if is_printable_name(text) => Ok(Text::from_str(alloc, text)?),
-        _ => Err(BadField::Path(Text::new(alloc))),
+        _ => Err(BadField::Path(Texts::new(alloc))),
     }
 }
 
@@ -35,7 +35,7 @@ pub fn name_of(alloc: Global, text: &str) -> Result<Name, BadField>
 {
     match Name::read(alloc, text) {
         Ok(name) => Ok(name),
-        Err(BadName::NotSubdomain) => Err(BadField::Path(Text::new(alloc))),
+        Err(BadName::NotSubdomain) => Err(BadField::Path(Texts::new(alloc))),
         Err(BadName::NoMemory) => Err(BadField::NoMemory),
     }
 }
@@ -46,7 +46,7 @@ pub fn name(alloc: Global, value: &Value) -> Result<Name, BadField>
 {
     match value.as_str() {
         Some(text) => name_of(alloc, text),
-        None => Err(BadField::Path(Text::new(alloc))),
+        None => Err(BadField::Path(Texts::new(alloc))),
     }
 }
 
@@ -55,7 +55,7 @@ fn decimal_of(alloc: Global, text: &str) -> Result<u64, BadField>
 {
     match number_in(text) {
         Some(number) => Ok(number),
-        None => Err(BadField::Path(Text::new(alloc))),
+        None => Err(BadField::Path(Texts::new(alloc))),
     }
 }
 
@@ -66,6 +66,6 @@ pub fn decimal(alloc: Global, value: &Value) -> Result<u64, BadField>
 {
     match value.as_str() {
         Some(text) => decimal_of(alloc, text),
-        None => Err(BadField::Path(Text::new(alloc))),
+        None => Err(BadField::Path(Texts::new(alloc))),
     }
 }

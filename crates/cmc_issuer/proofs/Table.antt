@@ -48,18 +48,18 @@ followed seen now r order sees settled (Answered answer) right = record {
 
 -- ---- each act is within
 
-asked : (seen : Views) (now : ℤ) (desk : Desk) (r : CertificateRequest) → seen.request ≡ Some r → AreSettled r.status.conditions → is_approved r ≡ true → Is seen now (ask_issuer now desk r)
+asked : (seen : Views) (now : ℤ) (desk : Desk) (r : CertificateRequest) → seen.request ≡ Some r → AreSettled r.status.conditions → is_approved r ≡ true → is_denied r ≡ false → Is seen now (ask_issuer now desk r)
 unfolding ask_issuer sign_order
-asked seen now desk r sees settled approved = ((refl, sees, approved), followed seen now r (sign_order now desk r) sees settled)
+asked seen now desk r sees settled approved undenied = ((refl, sees, approved, undenied), followed seen now r (sign_order now desk r) sees settled)
 
 denied_is : (seen : Views) (now : ℤ) (r : CertificateRequest) → seen.request ≡ Some r → AreSettled r.status.conditions → Is seen now (deny now r)
 denied_is seen now r sees settled =
     by_test (Is seen now) (has_reason (codes "Denied") r) _ _ (λ on. tt) (λ off. marking seen now r (denied_status r.status now) sees settled (denies r.status now) (dated_denied r now))
 
-granted_is : (seen : Views) (now : ℤ) (desk : Desk) (r : CertificateRequest) → seen.request ≡ Some r → AreSettled r.status.conditions → Is seen now (grant now desk r)
-granted_is seen now desk r sees settled =
+granted_is : (seen : Views) (now : ℤ) (desk : Desk) (r : CertificateRequest) → seen.request ≡ Some r → AreSettled r.status.conditions → is_denied r ≡ false → Is seen now (grant now desk r)
+granted_is seen now desk r sees settled undenied =
     by_test (Is seen now) (is_open r) _ _
-    (λ on. by_test (Is seen now) (is_waiting now r) _ _ (λ waits. tt) (λ due. asked seen now desk r sees settled (and_parts (is_approved r) _ on).0)) (λ off. tt)
+    (λ on. by_test (Is seen now) (is_waiting now r) _ _ (λ waits. tt) (λ due. asked seen now desk r sees settled (and_parts (is_approved r) _ on).0 undenied)) (λ off. tt)
 
 settled_by : (seen : Views) (r : CertificateRequest) → IsWellSeen seen → seen.request ≡ Some r → AreSettled r.status.conditions
 settled_by seen r well sees = let admitted = well.admitted (Request r) (seen_request seen r sees) in are_settled r.status.conditions admitted.0 admitted.1
@@ -68,7 +68,7 @@ of_is : (seen : Views) (now : ℤ) (desk : Desk) (o : Option CertificateRequest)
 of_is seen now desk None well sees = tt
 of_is seen now desk (Some r) well sees =
     let settled = settled_by seen r well sees in
-    by_test (Is seen now) (is_denied r) _ _ (λ on. denied_is seen now r sees settled) (λ off. granted_is seen now desk r sees settled)
+    by_test (Is seen now) (is_denied r) _ _ (λ on. denied_is seen now r sees settled) (λ off. granted_is seen now desk r sees settled off)
 
 pub within : (seen : Views) (now : ℤ) (desk : Desk) → IsWellSeen seen → Is seen now (issuer seen now desk)
 unfolding issuer

@@ -1,6 +1,8 @@
 //! The call that follows a value.
 ghost use Rattle.std.specs.Prelude.{◌≡◌, IfOk, IsSome, Some};
+ghost use Rattle.cmc_next.specs.Questions.{IsQuestionOf};
 ghost use Rattle.cmc_pass.specs.Giving.{order_of, value_of};
+ghost use Rattle.cmc_pass.specs.Values.{IsValue};
 ghost use Rattle.cmc_rules.specs.Granting as table;
 
 use crate::answering::status_of;
@@ -56,16 +58,8 @@ fn answered_to(
     }
 }
 
-/// The call that follows this value of the question on these views: the status update with what the issuer's answer
-/// makes of the request's status. The moment `now` is in seconds since 1970-01-01T00:00:00Z.
-///
-/// A call follows: there is a request, the question is one to an issuer, and the value its answer.
-///
-/// # Errors
-///
-/// Want of memory alone.
 #[tactic(auto, unfolding(cmc_rules::specs::Granting::answered_after))]
-pub fn follow(
+fn followed(
     alloc: Global,
     views: &Views,
     now: i64,
@@ -81,18 +75,44 @@ pub fn follow(
     }
 }
 
+/// The call that follows this value of the question on these views: the status update with what the issuer's answer
+/// makes of the request's status. The moment `now` is in seconds since 1970-01-01T00:00:00Z.
+///
+/// `order` is the question that the controller asks on these views by some desk, and `value` a right value of it.
+/// A call follows: there is a request, the question is one to an issuer, and the value its answer.
+///
+/// # Errors
+///
+/// Want of memory alone.
+pub fn follow(
+    alloc: Global,
+    views: &Views,
+    now: i64,
+    order: &Order,
+    value: &Value,
+) -> Result<Call, AllocError>
+    requires asked { IsQuestionOf (table.issuer views.now now) order.now }
+    requires right { IsValue order.now value.now }
+    requires follows { IsSome (table.answered_after views.now now order.now value.now) }
+    ensures { IfOk result (λ c. table.answered_after views.now now order.now value.now ≡ Some c) }
+{
+    followed(alloc, views, now, order, value)
+}
+
 /// The call that follows what is given back for the controller's question on these views.
 ///
+/// What is given back answers the question that the controller asks on these views by some desk.
 /// A call follows: there is a request, and the answer of an issuer is given back.
 ///
 /// # Errors
 ///
 /// Want of memory alone.
 pub fn then(alloc: Global, views: &Views, now: i64, given: &Given) -> Result<Call, AllocError>
-    requires { IsSome (table.answered_after views.now now (order_of given.now) (value_of given.now)) }
+    requires asked { IsQuestionOf (table.issuer views.now now) (order_of given.now) }
+    requires follows { IsSome (table.answered_after views.now now (order_of given.now) (value_of given.now)) }
     ensures { IfOk result (λ c. table.answered_after views.now now (order_of given.now) (value_of given.now) ≡ Some c) }
 {
     let order = given.order()?;
     let value = value_in(alloc, given)?;
-    follow(alloc, views, now, &order, &value)
+    followed(alloc, views, now, &order, &value)
 }

@@ -34,7 +34,7 @@ of_numbered P read each n d = below P (decimal n) (read d) (each d)
 
 pub of_numbered_below : {A : Type 0} (P : A → Type 0) (most : ℕ) (read : Data → Read A) → ((d : Data) → Always P (read d)) → (n : ℕ) (d : Data) → Always P (numbered_below most read n d)
 unfolding numbered_below
-of_numbered_below P most read each n d = where_true P (nat_lt n most) (under (decimal n) (read d)) (decimal n) (λ e. below P (decimal n) (read d) (each d))
+of_numbered_below P most read each n d = where_true P (nat_lt n most) (under (decimal n) (read d)) (decimal n ∷ []) (λ e. below P (decimal n) (read d) (each d))
 
 pub of_items : {A : Type 0} (p : A → Bool) (read : ℕ → Data → Read A) → ((n : ℕ) (d : Data) → Always (λ x. p x ≡ true) (read n d)) → (n : ℕ) (ds : Items) → Always (λ xs. list_all p xs ≡ true) (items_from read n ds)
 of_items p read each n no_items = so refl
@@ -66,7 +66,7 @@ unfolding numbered_below
 of_short most read n no_items = so (record { short = λ h. omega (arith, h) })
 of_short most read n (item d ds) =
     after (λ x. n < most) (IsShortFrom most n) (numbered_below most read n d) (λ x. items_from (numbered_below most read) (n + 1) ds >>= (λ xs. Ok (x ∷ xs)))
-    (where_true (λ x. n < most) (nat_lt n most) (under (decimal n) (read d)) (decimal n) (λ e. record { each = λ x is. is_below n most e }))
+    (where_true (λ x. n < most) (nat_lt n most) (under (decimal n) (read d)) (decimal n ∷ []) (λ e. record { each = λ x is. is_below n most e }))
     (λ x room. after (IsShortFrom most (n + 1)) (IsShortFrom most n) (items_from (numbered_below most read) (n + 1) ds) (λ xs. Ok (x ∷ xs)) (of_short most read (n + 1) ds) (λ xs rest. so (one_more most n x xs room rest)))
 
 is_most : {A : Type 0} (most : ℕ) (xs : List A) → IsShortFrom most 0 xs → nat_le (length xs) most ≡ true

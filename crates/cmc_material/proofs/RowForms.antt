@@ -86,7 +86,7 @@ of_raw fs = next (IsSaid) (required_at (codes "der") fs) _ (λ given. next (IsSa
 
 of_no_reply : (fs : List Field) → Always IsSaid (no_reply_in fs)
 unfolding no_reply_in
-of_no_reply fs = next (IsSaid) (optional_at (codes "before") fs) _ (λ before. next (IsSaid) (passes (codes "before") before.0) _ (λ first. next (IsSaid) (optional_at (codes "ca") before.1) _ (λ ca. next (IsSaid) (passes (codes "ca") ca.0) _ (λ second. next (IsSaid) (optional_at (codes "der") ca.1) _ (λ der. next (IsSaid) (passes (codes "der") der.0) _ (λ third. next (IsSaid) (optional_at (codes "key") der.1) _ (λ key. next (IsSaid) (passes (codes "key") key.0) _ (λ fourth. next (IsSaid) (optional_at (codes "message") key.1) _ (λ message. next (IsSaid) (passes (codes "message") message.0) _ (λ fifth. next (IsSaid) (required_at (codes "reply") message.1) _ (λ word. failed (codes "reply"))))))))))))
+of_no_reply fs = next (IsSaid) (optional_at (codes "before") fs) _ (λ before. next (IsSaid) (passes (codes "before") before.0) _ (λ first. next (IsSaid) (optional_at (codes "ca") before.1) _ (λ ca. next (IsSaid) (passes (codes "ca") ca.0) _ (λ second. next (IsSaid) (optional_at (codes "der") ca.1) _ (λ der. next (IsSaid) (passes (codes "der") der.0) _ (λ third. next (IsSaid) (optional_at (codes "key") der.1) _ (λ key. next (IsSaid) (passes (codes "key") key.0) _ (λ fourth. next (IsSaid) (optional_at (codes "message") key.1) _ (λ message. next (IsSaid) (passes (codes "message") message.0) _ (λ fifth. next (IsSaid) (required_at (codes "reply") message.1) _ (λ word. failed (codes "reply" ∷ []))))))))))))
 
 of_reply_form : (word : Option (List ℕ)) (fs : List Field) → Always IsSaid (reply_row_in word fs)
 of_reply_form None fs = of_no_reply fs

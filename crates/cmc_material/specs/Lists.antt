@@ -11,7 +11,7 @@ numbered_at read n d = under (decimal n) (read d)
 
 -- The same in a list of at most so many items: the first one past that fails.
 unfoldable pub numbered_below : {A : Type 0} → ℕ → (Data → Read A) → ℕ → Data → Read A
-numbered_below most read n d = if nat_lt n most then under (decimal n) (read d) else Err (decimal n)
+numbered_below most read n d = if nat_lt n most then under (decimal n) (read d) else Err (decimal n ∷ [])
 
 -- The items of a list whose places count from n.
 abbrev pub items_from : {A : Type 0} → (ℕ → Data → Read A) → ℕ → Items → Read (List A)

@@ -1,5 +1,5 @@
 -- What a scenario says of keys and issuers.
-use Rattle.std.specs.Prelude.{ℕ, List, [], codes, if◌then◌else◌, Ok, Err, Some, None}
+use Rattle.std.specs.Prelude.{ℕ, List, [], ◌∷◌, codes, if◌then◌else◌, Ok, Err, Some, None}
 use Rattle.std.specs.declared.option.Option.{Option}
 use Rattle.std.specs.Str.{bytes_eq}
 use Rattle.serde_json.specs.Data.{Data, null, boolean, number, string, array, object, Members, no_members, member}
@@ -103,7 +103,7 @@ no_reply_in fs = do
   message ← optional_at (codes "message") key.1
   fifth ← passes (codes "message") message.0
   word ← required_at (codes "reply") message.1
-  Err (codes "reply")
+  Err (codes "reply" ∷ [])
 
 -- The word decides the form of the members.
 abbrev pub reply_row_in : Option (List ℕ) → List Field → Read SignRow

@@ -5,7 +5,7 @@ ghost use Rattle.cmc_cursor.specs.Reading.{Gives};
 ghost use Rattle.cmc_material.specs.Keys.{split_slash, kind_in, key_of_kind, key_in, key_at};
 
 use cmc_cursor::{BadField, name_of};
-use cmc_meta::{Key, Kind, Text};
+use cmc_meta::{Key, Kind, Texts};
 use serde_json::Value;
 use std::alloc::Global;
 
@@ -17,7 +17,7 @@ pub fn kind_of(alloc: Global, text: &str) -> Result<Kind, BadField>
         "Certificate" => Ok(Kind::Certificate),
         "CertificateRequest" => Ok(Kind::CertificateRequest),
         "Secret" => Ok(Kind::Secret),
-        _ => Err(BadField::Path(Text::new(alloc))),
+        _ => Err(BadField::Path(Texts::new(alloc))),
     }
 }
 
@@ -26,7 +26,7 @@ fn split(alloc: Global, text: &str) -> Result<(&str, &str), BadField>
 {
     match text.split_once('/') {
         Some(parts) => Ok(parts),
-        None => Err(BadField::Path(Text::new(alloc))),
+        None => Err(BadField::Path(Texts::new(alloc))),
     }
 }
 
@@ -60,6 +60,6 @@ pub fn key(alloc: Global, value: &Value) -> Result<Key, BadField>
 {
     match value.as_str() {
         Some(text) => key_of(alloc, text),
-        None => Err(BadField::Path(Text::new(alloc))),
+        None => Err(BadField::Path(Texts::new(alloc))),
     }
 }

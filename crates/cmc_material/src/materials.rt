@@ -9,7 +9,7 @@ ghost use Rattle.cmc_material.specs.MaterialRows.{certificate_at, entry_at, mate
 use crate::keys::key_under;
 use crate::rows::{key_rows, reply_rows};
 use cmc_cursor::{BadField, at, check_end, fields, optional};
-use cmc_meta::{Key, Kind, Text};
+use cmc_meta::{Key, Kind, Texts};
 use cmc_objects::{Material, Rows};
 use serde_json::{Map, Value};
 use std::alloc::Global;
@@ -33,7 +33,7 @@ pub fn certificate(alloc: Global, value: &Value) -> Result<Key, BadField>
 {
     match value.as_str() {
         Some(text) => key_under(alloc, Kind::Certificate, text),
-        None => Err(BadField::Path(Text::new(alloc))),
+        None => Err(BadField::Path(Texts::new(alloc))),
     }
 }
 
@@ -70,7 +70,7 @@ fn listed(alloc: Global, value: &Value) -> Result<Material, BadField>
 {
     match value {
         Value::Object(members) => entries(alloc, members),
-        _ => Err(BadField::Path(Text::new(alloc))),
+        _ => Err(BadField::Path(Texts::new(alloc))),
     }
 }
 

@@ -7,7 +7,7 @@ ghost use Rattle.cmc_cursor.specs.Seen.{shown_option};
 ghost use Rattle.cmc_material.specs.Lists.{bounded_at, member_option, member_or};
 
 use cmc_cursor::{BadField, at, count, small_count};
-use cmc_meta::Text;
+use cmc_meta::Texts;
 use serde_json::Value;
 use std::alloc::Global;
 
@@ -19,7 +19,7 @@ pub fn bounded(alloc: Global, value: &Value, least: u64, most: u64) -> Result<u6
     if least <= number && number <= most {
         return Ok(number);
     }
-    Err(BadField::Path(Text::new(alloc)))
+    Err(BadField::Path(Texts::new(alloc)))
 }
 
 /// A member with a number in these bounds; where it is left out, `default`.

@@ -11,8 +11,8 @@ ghost use Rattle.cmc_material.specs.Lists.{items_from, member_option, member_or,
 ghost use Rattle.cmc_material.specs.Approvers.{address_in, address_pattern_at, addresses_at, duration_at, every_issuer, is_rsa_at, is_rsa_in, limits_in, named_in, pattern_at, patterns_at, policy_at, policy_of, policies_at};
 
 use crate::optional::small_count_option;
-use cmc_cursor::{BadField, Fields, at, check_end, fields, flag, optional, required};
-use cmc_meta::Text;
+use cmc_cursor::{BadField, Fields, at, check_end, fields, flag, optional, path_to, required};
+use cmc_meta::Texts;
 use cmc_policy_rules::{Pattern, Patterns, Policies, Policy};
 use cmc_time::read_duration;
 use cmc_x509_build::address_at;
@@ -55,7 +55,7 @@ fn pattern(alloc: Global, value: &Value) -> Result<Pattern, BadField>
 {
     match value.as_str() {
         Some(text) if is_pattern(text) => Ok(Pattern::from_slice(alloc, text.as_bytes())?),
-        _ => Err(BadField::Path(Text::new(alloc))),
+        _ => Err(BadField::Path(Texts::new(alloc))),
     }
 }
 
@@ -76,7 +76,7 @@ fn address_of(alloc: Global, text: &str) -> Result<Pattern, BadField>
     }
     match address_at(text) {
         Some(address) => Ok(octets(alloc, address)?),
-        None => Err(BadField::Path(Text::new(alloc))),
+        None => Err(BadField::Path(Texts::new(alloc))),
     }
 }
 
@@ -86,7 +86,7 @@ fn address(alloc: Global, value: &Value) -> Result<Pattern, BadField>
 {
     match value.as_str() {
         Some(text) => address_of(alloc, text),
-        None => Err(BadField::Path(Text::new(alloc))),
+        None => Err(BadField::Path(Texts::new(alloc))),
     }
 }
 
@@ -98,7 +98,7 @@ fn numbered_pattern(alloc: Global, place: usize, value: &Value) -> Result<Patter
     if place < LONGEST_LIST {
         return at(alloc, name.as_str(), pattern(alloc, value));
     }
-    Err(BadField::Path(Text::from_str(alloc, name.as_str())?))
+    Err(BadField::Path(path_to(alloc, name.as_str())?))
 }
 
 #[tactic(auto, unfolding(crate::specs::Lists::numbered_below))]
@@ -109,7 +109,7 @@ fn numbered_address(alloc: Global, place: usize, value: &Value) -> Result<Patter
     if place < LONGEST_LIST {
         return at(alloc, name.as_str(), address(alloc, value));
     }
-    Err(BadField::Path(Text::from_str(alloc, name.as_str())?))
+    Err(BadField::Path(path_to(alloc, name.as_str())?))
 }
 
 fn patterns_of(alloc: Global, items: &[Value]) -> Result<Patterns, BadField>
@@ -143,7 +143,7 @@ fn patterns(alloc: Global, value: &Value) -> Result<Patterns, BadField>
 {
     match value {
         Value::Array(items) => patterns_of(alloc, items.as_slice()),
-        _ => Err(BadField::Path(Text::new(alloc))),
+        _ => Err(BadField::Path(Texts::new(alloc))),
     }
 }
 
@@ -152,7 +152,7 @@ fn addresses(alloc: Global, value: &Value) -> Result<Patterns, BadField>
 {
     match value {
         Value::Array(items) => addresses_of(alloc, items.as_slice()),
-        _ => Err(BadField::Path(Text::new(alloc))),
+        _ => Err(BadField::Path(Texts::new(alloc))),
     }
 }
 
@@ -215,7 +215,7 @@ fn names_rsa(alloc: Global, text: &str) -> Result<bool, BadField>
     match text {
         "RSA" => Ok(true),
         "ECDSA" => Ok(false),
-        _ => Err(BadField::Path(Text::new(alloc))),
+        _ => Err(BadField::Path(Texts::new(alloc))),
     }
 }
 
@@ -224,7 +224,7 @@ fn is_rsa(alloc: Global, value: &Value) -> Result<bool, BadField>
 {
     match value.as_str() {
         Some(text) => names_rsa(alloc, text),
-        None => Err(BadField::Path(Text::new(alloc))),
+        None => Err(BadField::Path(Texts::new(alloc))),
     }
 }
 
@@ -242,7 +242,7 @@ fn duration_of(alloc: Global, text: &str) -> Result<u64, BadField>
 {
     match read_duration(text) {
         Ok(seconds) => Ok(seconds),
-        Err(_) => Err(BadField::Path(Text::new(alloc))),
+        Err(_) => Err(BadField::Path(Texts::new(alloc))),
     }
 }
 
@@ -251,7 +251,7 @@ fn duration(alloc: Global, value: &Value) -> Result<u64, BadField>
 {
     match value.as_str() {
         Some(text) => duration_of(alloc, text),
-        None => Err(BadField::Path(Text::new(alloc))),
+        None => Err(BadField::Path(Texts::new(alloc))),
     }
 }
 
@@ -339,7 +339,7 @@ fn policy_name(alloc: Global, value: &Value) -> Result<Pattern, BadField>
 {
     match value.as_str() {
         Some(text) => Ok(Pattern::from_slice(alloc, text.as_bytes())?),
-        None => Err(BadField::Path(Text::new(alloc))),
+        None => Err(BadField::Path(Texts::new(alloc))),
     }
 }
 
@@ -410,7 +410,7 @@ fn numbered_policy(alloc: Global, place: usize, value: &Value) -> Result<Policy,
     if place < LONGEST_LIST {
         return at(alloc, name.as_str(), policy(alloc, value));
     }
-    Err(BadField::Path(Text::from_str(alloc, name.as_str())?))
+    Err(BadField::Path(path_to(alloc, name.as_str())?))
 }
 
 fn policies_of(alloc: Global, items: &[Value]) -> Result<Policies, BadField>
@@ -431,7 +431,7 @@ fn listed(alloc: Global, value: &Value) -> Result<Policies, BadField>
 {
     match value {
         Value::Array(items) => policies_of(alloc, items.as_slice()),
-        _ => Err(BadField::Path(Text::new(alloc))),
+        _ => Err(BadField::Path(Texts::new(alloc))),
     }
 }
 

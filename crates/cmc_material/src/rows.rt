@@ -10,9 +10,9 @@ ghost use Rattle.cmc_material.specs.MaterialRows.{synthetic_in, key_row_in, key_
 use crate::optional::{bounded_option, bounded_or, count_option};
 use cmc_cursor::{
     BadField, Fields, at, at_place, bytes, check_end, count, fields, member, optional, pass,
-    required, text,
+    path_to, required, text,
 };
-use cmc_meta::{Bytes, Text};
+use cmc_meta::{Bytes, Text, Texts};
 use cmc_objects::{KeyRow, KeyRows, SignRow, SignRows};
 use serde_json::Value;
 use std::alloc::Global;
@@ -28,7 +28,7 @@ fn synthetic(alloc: Global, given: Option<&Value>, rest: Fields<'_, '_>) -> Resu
     match given {
         None => {
             check_end(alloc, rest)?;
-            Err(BadField::Path(Text::new(alloc)))
+            Err(BadField::Path(Texts::new(alloc)))
         }
         Some(value) => {
             let number = at(alloc, "synthetic", count(alloc, value))?;
@@ -153,7 +153,7 @@ fn no_reply(alloc: Global, rest: Fields<'_, '_>) -> Result<SignRow, BadField>
     let (given, rest) = optional(alloc, rest, "message")?;
     pass(alloc, "message", given)?;
     required(alloc, rest, "reply")?;
-    Err(BadField::Path(Text::from_str(alloc, "reply")?))
+    Err(BadField::Path(path_to(alloc, "reply")?))
 }
 
 fn reply_form(alloc: Global, word: Option<&str>, rest: Fields<'_, '_>) -> Result<SignRow, BadField>
@@ -222,7 +222,7 @@ fn key_list(alloc: Global, value: &Value) -> Result<KeyRows, BadField>
 {
     match value {
         Value::Array(items) => key_rows_of(alloc, items.as_slice()),
-        _ => Err(BadField::Path(Text::new(alloc))),
+        _ => Err(BadField::Path(Texts::new(alloc))),
     }
 }
 
@@ -231,7 +231,7 @@ fn reply_list(alloc: Global, value: &Value) -> Result<SignRows, BadField>
 {
     match value {
         Value::Array(items) => reply_rows_of(alloc, items.as_slice()),
-        _ => Err(BadField::Path(Text::new(alloc))),
+        _ => Err(BadField::Path(Texts::new(alloc))),
     }
 }
 

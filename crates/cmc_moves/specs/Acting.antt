@@ -5,11 +5,14 @@ use Rattle.cmc_objects.specs.declared.orders.Order.{Order}
 use Rattle.cmc_pass.specs.declared.value.Value.{Value}
 use Rattle.cmc_objects.specs.declared.entry.Entry.{Entry}
 use Rattle.cmc_pass.specs.declared.pass.Act.{Act}
+use Rattle.cmc_pass.specs.declared.pass.Desk.{Desk}
 use Rattle.cmc_pass.specs.declared.pass.Act.TheVariants.{Issue, Temporary}
 use Rattle.cmc_rules.specs.declared.progress.Stage.{Stage}
 use Rattle.cmc_rules.specs.declared.progress.Stage.TheVariants.{Fresh, Asked, Given, Read, Saved, Barred}
 use Rattle.cmc_model.specs.Histories.{Setting}
 use Rattle.cmc_rules.specs.Passes.{open_pass}
+use Rattle.cmc_pass.specs.Values.{IsValue}
+use Rattle.cmc_next.specs.Questions.{IsQuestionOf}
 use Rattle.cmc_rules.specs.Causes.{IsNextCall, AsksBy, EndsBy, MayCall, MayAsk, MayEnd}
 use Rattle.cmc_rules.specs.Legality.{IsOpen}
 use Rattle.cmc_moves.specs.Answers.{kept_of, new_of, next_answer, AnswersGoing, AnswersNext, AnswersDecided, AnswersDecide}
@@ -38,6 +41,13 @@ HasNext Read does after = HasSecret does
 HasNext Saved does after = HasStatus does
 HasNext Barred does after = ⊥
 HasNext other does after = Unit {0}
+
+-- The question of a pass that has asked is one that its act, which hangs so on the desk, asks by some desk; and a value that was given
+-- is a right one of that question.
+abbrev pub HasOwnQuestion : Stage → (Desk → Act) → Type 0
+HasOwnQuestion (Asked order) act = IsQuestionOf act order
+HasOwnQuestion (Given order value) act = IsQuestionOf act order × IsValue order value
+HasOwnQuestion other act = Unit {0}
 
 -- whether what comes next of a pass that has come so far hangs on its act
 abbrev pub hangs_on_act : Stage → Bool

@@ -1,6 +1,8 @@
 //! What the roles do, and what they call for the values of their questions.
 ghost use Rattle.std.specs.Prelude.{◌≡◌, ◌↔◌, IfOk, IsSome, IsTrue, Some, true, false};
 ghost use Rattle.cmc_pass.specs.declared.pass.Act.TheVariants.{Nothing};
+ghost use Rattle.cmc_next.specs.Questions.{IsQuestionOf};
+ghost use Rattle.cmc_pass.specs.Values.{IsValue};
 ghost use Rattle.cmc_rules.specs.Acts as acts;
 ghost use Rattle.cmc_rules.specs.NextRequests.{HasNextRevision};
 ghost use Rattle.cmc_safety.specs.Acting.{MayAct};
@@ -127,8 +129,8 @@ pub fn prospect_of(
     }
 }
 
-/// The call that follows this value of the role's question on these views.
-#[tactic(auto, unfolding(cmc_rules::specs::Acts::call_after))]
+/// The call that follows this value of the question `order` that the role asks on these views by some desk.
+#[tactic(auto, unfolding(cmc_rules::specs::Acts::call_after, cmc_rules::specs::Acts::act))]
 pub fn follow_of(
     alloc: Global,
     role: Role,
@@ -138,6 +140,8 @@ pub fn follow_of(
     value: &Value,
 ) -> Result<Call, AllocError>
     requires revision { HasNextRevision seen.now.certificate }
+    requires asked { IsQuestionOf (acts.act role seen.now now) order.now }
+    requires right { IsValue order.now value.now }
     requires follows { IsSome (acts.call_after role seen.now now order.now value.now) }
     ensures { IfOk result (λ c. acts.call_after role seen.now now order.now value.now ≡ Some c) }
 {

@@ -8,7 +8,7 @@ ghost use Rattle.cmc_rules.specs.Acts.{act, call_after};
 ghost use Rattle.cmc_rules.specs.Memory as memory;
 ghost use Rattle.cmc_safety.specs.Acting.{MayAct};
 ghost use Rattle.cmc_moves.specs.Acting as spec;
-ghost use Rattle.cmc_moves.specs.Acting.{HasNext, HasSecret, HasStatus, IsDoingBy, asked_in};
+ghost use Rattle.cmc_moves.specs.Acting.{HasNext, HasOwnQuestion, HasSecret, HasStatus, IsDoingBy, asked_in};
 ghost use Rattle.cmc_moves.specs.Answers.{next_answer, outdated_at, value_entry};
 
 use crate::acts::{act_of, follow_of};
@@ -125,6 +125,7 @@ pub fn hangs_on_act(stage: &Stage) -> bool
 /// What comes next of the pass, where its role decides by this desk.
 pub fn doing_of(alloc: Global, pass: &OpenPass, desk: &Desk) -> Result<Doing, AllocError>
     requires acts { MayAct pass.now.seen pass.now.since desk.now }
+    requires own { HasOwnQuestion pass.now.stage (act pass.now.role pass.now.seen pass.now.since) }
     requires goes { HasNext pass.now.stage (act pass.now.role pass.now.seen pass.now.since desk.now) (call_after pass.now.role pass.now.seen pass.now.since) }
     ensures { IfOk result (λ d. IsDoingBy pass.now.stage (act pass.now.role pass.now.seen pass.now.since desk.now) (call_after pass.now.role pass.now.seen pass.now.since) d) }
 {

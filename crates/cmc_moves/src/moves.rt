@@ -64,7 +64,8 @@ pub enum Lack {
     Current { position: u64 },
     /// No accepted write of the kind above the role's position has this version.
     NotAWrite { to: u64 },
-    /// No accepted write named the key, or the role works on keys of another kind.
+    /// The key is not in the role's work queue: the role works on keys of another kind, or no accepted write named the
+    /// key, or the role has nothing to do on it and sees what it saw as it last began a pass there.
     NotQueued,
     /// The role has an open pass on the key.
     InProcess,

@@ -1,5 +1,5 @@
 -- Plain histories of one setting agree: the one begins the other, unless a question has a free row.
-use Rattle.std.proofs.Common.{◌≡◌, ◌∙◌, ◌⊎◌, ◌+◌, ◌<◌, length, arith, List, [], ◌∷◌, Option, Some, None, inl, inr, sym, ap, subst}
+use Rattle.std.proofs.Common.{◌≡◌, ◌∙◌, ◌⊎◌, ◌+◌, ◌<◌, length, arith, List, [], ◌∷◌, Option, Some, None, inl, inr, refl, sym, ap, subst}
 use Rattle.cmc_objects.specs.declared.entry.Entry.{Entry}
 use Rattle.cmc_objects.specs.declared.entry.Entry.TheVariants.{Script}
 use Rattle.cmc_rules.specs.declared.effect.Effect.{Effect}
@@ -50,7 +50,15 @@ agree s (m ∷ ms) (n ∷ ns) g h k run none (a, x, rest) (b, y, others) =
 
 empty_run : (s : Setting) → IsRun s []
 unfolding IsLegal IsCaused Follows
-empty_run s = record { legal = tt; caused = tt; follows = tt; short = omega arith }
+empty_run s = record { legal = tt; caused = tt; follows = tt; short = omega arith; settled = refl }
+
+plain_run : (s : Setting) (ms : List Move) (g h : List Entry) → IsRun s g → LeadsPlainly s ms g h → IsRun s h
+plain_run s [] g h run same = subst (IsRun s) (sym same) run
+plain_run s (m ∷ ms) g h run (a, x, rest) = plain_run s ms a h x.run rest
+
+-- a plain history is that of a run
+pub is_run : (s : Setting) (h : List Entry) → IsPlain s h → IsRun s h
+is_run s h (ms, led) = plain_run s ms [] h (empty_run s) led
 
 -- of two plain histories of one setting the one begins the other
 pub plain_agree : (s : Setting) (h k : List Entry) → IsPlain s h → IsPlain s k → HasNoFree h → Extends h k ⊎ Extends k h

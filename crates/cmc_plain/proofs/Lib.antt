@@ -43,3 +43,5 @@ pub mod Working
 pub mod AtOnce
 pub mod WakeUps
 pub mod QueueRows
+pub mod FreeRows
+pub mod AllReady

@@ -8,9 +8,9 @@ use Rattle.cmc_keys.proofs.ScriptedLaws.{one_value as one_key}
 use Rattle.cmc_pass.specs.declared.value.Value.{Value}
 use Rattle.cmc_pass.specs.declared.value.Value.TheVariants as values
 use Rattle.cmc_pass.specs.Values.{IsValue}
-use Rattle.cmc_rules.specs.Safety.{Stands}
+use Rattle.cmc_rules.specs.Safety.{LastAsks}
 use Rattle.cmc_world.specs.Leading.{Extends}
-use Rattle.cmc_plain.specs.Histories.{IsBound, IsBoundEntry, HasNoFree}
+use Rattle.cmc_plain.specs.Histories.{IsBound, HasNoFree}
 
 pub one_value : (order : Order) (v w : Value) → IsBound order → IsValue order v → IsValue order w → v ≡ w
 one_value (Key order) (values.Made a) (values.Made b) bound x y = ap values.Made (one_key order a b bound x y)
@@ -28,11 +28,12 @@ one_value (Judge order) other w bound x y = absurd x
 
 -- ---- questions of a history
 
--- a question that stands in the history has no free row
-pub bound_in : (h : List Entry) (n : ℕ) (order : Order) → HasNoFree h → Stands (λ e. e ≡ Ask n order) h → IsBound order
-bound_in [] n order none stands = absurd stands
-bound_in (e ∷ h) n order none (inl here) = subst IsBoundEntry here none.0
-bound_in (e ∷ h) n order none (inr there) = bound_in h n order none.1 there
+-- the last question of a pass has no free row
+pub bound_in : (h : List Entry) (n : ℕ) (order : Order) → HasNoFree h → LastAsks n (λ o. o ≡ order) h → IsBound order
+bound_in [] n order none last = absurd last
+bound_in (Ask m asked ∷ h) n order none (inl here) = subst IsBound here.1 none.0
+bound_in (Ask m asked ∷ h) n order none (inr there) = bound_in h n order none.1 there.1
+bound_in (e ∷ h) n order none last = bound_in h n order none.1 last
 
 -- what stands below has none where there is none above
 none_below : (es h : List Entry) → HasNoFree (es ++ h) → HasNoFree h

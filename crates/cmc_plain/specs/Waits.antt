@@ -1,5 +1,5 @@
--- What each Certificate that is not Ready waits for at the end of a run, and the summary of the run.
-use Rattle.std.specs.Prelude.{ℤ, Bool, true, false, not, ◌&&◌, ◌||◌, ◌==◌, List, [], ◌∷◌, length, count_by, codes, Option, Some, None, if◌then◌else◌}
+-- What each Certificate that is not Ready waits for, and the summary of what stands.
+use Rattle.std.specs.Prelude.{◌≡◌, ℤ, Bool, true, false, not, ◌&&◌, ◌||◌, ◌==◌, List, [], ◌∷◌, length, count_by, codes, Option, Some, None, if◌then◌else◌}
 use Rattle.std.specs.List.{list_any}
 use Rattle.std.specs.Str.{bytes_eq}
 use Rattle.std.specs.FinMap as finite
@@ -24,12 +24,14 @@ use Rattle.cmc_summary.specs.declared.summary.WaitName.TheVariants as names
 use Rattle.cmc_pass.specs.declared.pass.Views.{Views}
 use Rattle.cmc_match.specs.Revisions.{next_request}
 use Rattle.cmc_model.specs.Histories.{Setting, moment, objects, runs}
+use Rattle.cmc_model.specs.Writes.{writes}
 use Rattle.cmc_model.specs.Summaries.{is_certificate, is_secret, is_ready, is_waiting}
 use Rattle.cmc_objects.specs.Watching.{has_informer}
 use Rattle.cmc_rules.specs.Scripting.{held}
 use Rattle.cmc_rules.specs.Triggering.{is_issuing, is_backing_off}
 use Rattle.cmc_rules.specs.Issuing.{says_issued, is_kept_for_keys}
-use Rattle.cmc_rules.specs.Viewing.{present_views}
+use Rattle.cmc_rules.specs.Viewing.{Caches, present_views}
+use Rattle.cmc_caches.specs.Told.{caches_at}
 use Rattle.cmc_moves.specs.declared.moves.Stepped.{Stepped}
 use Rattle.cmc_moves.specs.declared.moves.Stepped.TheVariants.{NotNow}
 use Rattle.cmc_moves.specs.declared.moves.Lack.{Lack}
@@ -93,6 +95,10 @@ wait_of_seen moment seen (Some c) = wait_of moment seen c
 abbrev pub wait_in : ℤ → Views → Option WaitName
 wait_in moment seen = wait_of_seen moment seen seen.certificate
 
+-- what a role sees that was told of all writes
+abbrev pub IsAllThatStands : Setting → List Entry → Caches → Type 0
+IsAllThatStands s h all = all ≡ caches_at (writes s h) (record { certificates = length (writes s h); requests = length (writes s h); secrets = length (writes s h) })
+
 -- ---- all Certificates
 
 -- where a role does not do its work that is what each Certificate waits for
@@ -118,6 +124,6 @@ summary_among s h entries = record {
   waiting = waits_among s h entries;
 }
 
--- the summary of what stands at the end of the history
+-- the summary of what stands after the history
 abbrev pub summary_at : Setting → List Entry → Summary
 summary_at s h = summary_among s h (finite.entries (objects s h))

@@ -2,6 +2,8 @@
 ghost use Rattle.std.specs.Prelude.{List, ◌≡◌, ◌⊎◌};
 ghost use Rattle.cmc_objects.specs.declared.entry.Entry.{Entry};
 ghost use Rattle.cmc_model.specs.Histories.{Setting};
+ghost use Rattle.cmc_setup.specs.Setups.{LeavesNothingFree, Setup};
+ghost use Rattle.cmc_world.specs.Kept.{setting_of};
 ghost use Rattle.cmc_world.specs.Leading.{Extends};
 ghost use Rattle.cmc_rules.specs.Resting.{IsAtRest};
 ghost use Rattle.cmc_rules.specs.Runs.{IsRun, IsFinished};
@@ -31,4 +33,10 @@ pub fn plain_ends_agree()
 pub fn each_wait_is_named()
     ensures named { (s : Setting) (h : List Entry) → IsRun s h → IsAtRest s h → NamesEachWait s h }
     ensures whole { (s : Setting) (h : List Entry) → IsRun s h → IsAtRest s h → IsWhole s h (summary_at s h) }
+{}
+
+/// A law: where a scenario leaves neither a key nor an answer open, no question of a plain history of it has a free
+/// row. So by the two laws on plain histories it has one, and one end.
+pub fn plain_histories_have_no_free_question()
+    ensures { (u : Setup) (h : List Entry) → LeavesNothingFree u → IsPlain (setting_of u) h → HasNoFree h }
 {}

@@ -29,7 +29,10 @@ mod work_queues;
 
 pub use all_moves::make_all;
 pub use gate::{Gate, NoGate, Point, Work};
-pub use laws::{each_wait_is_named, plain_ends_agree, plain_histories_agree};
+pub use laws::{
+    each_wait_is_named, plain_ends_agree, plain_histories_agree,
+    plain_histories_have_no_free_question,
+};
 pub use next_move::plain;
 pub use openings::{Opened, Opening};
 pub use questions::{point_of, question};

@@ -1,15 +1,15 @@
-//! What stands at the end of a run.
+//! What stands, and what Certificates wait for.
 ghost use Rattle.std.specs.List.{list_any};
 ghost use Rattle.std.specs.Prelude.{◌≡◌, ◌&&◌, ◌==◌, IfOk, count_by};
 ghost use Rattle.cmc_meta.specs.ConditionLists.{condition_rank, tri_eq};
 ghost use Rattle.cmc_meta.specs.declared.conditions.ConditionKind.TheVariants.{Ready};
 ghost use Rattle.cmc_meta.specs.declared.conditions.Tri.TheVariants.{True};
 ghost use Rattle.cmc_model.specs.Summaries.{says_ready, is_certificate, is_secret, is_ready, is_waiting};
-ghost use Rattle.cmc_rules.specs.Runs.{IsFinished};
 ghost use Rattle.cmc_world.specs.Kept.{on};
-ghost use Rattle.cmc_plain.specs.Waits.{is_stopped, waits_among, summary_among, summary_at};
+ghost use Rattle.cmc_plain.specs.Waits.{IsAllThatStands, is_stopped, waits_among, summary_among, summary_at};
 
-use crate::waits::{is_stopped, wait_at};
+use crate::waits::{all_that_stands, is_stopped, wait_at};
+use cmc_caches::RoleCaches;
 use cmc_meta::{Condition, ConditionKind, Key, Tri};
 use cmc_objects::Object;
 use cmc_summary::{Summary, Waiting, Waits};
@@ -90,27 +90,52 @@ fn secrets(objects: &Objects) -> u64
         .count() as u64
 }
 
-/// The Certificates that are not Ready, with what they wait for.
-fn waiting(
+/// Whether some Certificate is not Ready.
+fn has_waiting(objects: &Objects) -> bool
+    ensures { result ≡ list_any (λ e. is_waiting e.1) objects.now.entries }
+{
+    objects.iter().any(|(_, object)| counts_as_waiting(object))
+}
+
+/// The Certificates that are not Ready, with what they wait for, where `all` is all that stands.
+fn waiting_by(
     alloc: Global,
     world: &World,
     stopped: bool,
+    all: &RoleCaches,
     objects: &Objects,
 ) -> Result<Waits, AllocError>
-    requires finished { on IsFinished world.now }
     requires stopped { stopped ≡ on is_stopped world.now }
+    requires all { on IsAllThatStands world.now all.now }
     ensures { IfOk result (λ w. w ≡ on waits_among world.now objects.now.entries) }
 {
     let mut waiting = Waits::new(alloc);
     for (key, object) in objects.iter() {
         if counts_as_waiting(object) {
-            if let Some(wait) = wait_at(alloc, world, stopped, key)? {
+            if let Some(wait) = wait_at(alloc, world, stopped, all, key)? {
                 let certificate = key.copy()?;
                 waiting.push(Waiting { certificate, wait })?;
             }
         }
     }
     Ok(waiting)
+}
+
+/// The Certificates that are not Ready, with what they wait for. What stands is listed only where there is one.
+fn waiting(
+    alloc: Global,
+    world: &World,
+    stopped: bool,
+    objects: &Objects,
+) -> Result<Waits, AllocError>
+    requires stopped { stopped ≡ on is_stopped world.now }
+    ensures { IfOk result (λ w. w ≡ on waits_among world.now objects.now.entries) }
+{
+    if !has_waiting(objects) {
+        return Ok(Waits::new(alloc));
+    }
+    let all = all_that_stands(alloc, world)?;
+    waiting_by(alloc, world, stopped, &all, objects)
 }
 
 /// The summary of these objects.
@@ -120,7 +145,6 @@ fn summarize(
     stopped: bool,
     objects: &Objects,
 ) -> Result<Summary, AllocError>
-    requires finished { on IsFinished world.now }
     requires stopped { stopped ≡ on is_stopped world.now }
     ensures { IfOk result (λ s. s ≡ on summary_among world.now objects.now.entries) }
 {
@@ -132,19 +156,18 @@ fn summarize(
     })
 }
 
-/// The summary of a finished run: how many Certificates stand, how many of them are Ready, how many Secrets stand, and
+/// The summary of what stands: how many Certificates stand, how many of them are Ready, how many Secrets stand, and
 /// what each Certificate waits for that is not Ready, in order of key. Where some role does not run, or some informer
 /// is held, that is what each waits for. Else it is the first of these that is so: its last issuance failed and the
 /// moment lies in the back-off; it is being issued and there is no next key; its one next request is neither approved
 /// nor denied; that is issued, and the Secret of the Certificate's name for it holds a next key itself; that is
-/// approved, and its issuer has not answered or was not ready. Of each one of these is so, and none is left out
-/// (`each_wait_is_named`).
+/// approved, and its issuer has not answered or was not ready. Where a run is at rest one of these is so of each
+/// (`each_wait_is_named`); before that a Certificate of which none is so has no item.
 ///
 /// # Errors
 ///
 /// Want of memory alone.
 pub fn summary(alloc: Global, world: &World) -> Result<Summary, AllocError>
-    requires { on IsFinished world.now }
     ensures { IfOk result (λ s. s ≡ on summary_at world.now) }
 {
     let stopped = is_stopped(alloc, world)?;

@@ -1,4 +1,4 @@
-//! What Certificates that are not Ready wait for at the end of a run.
+//! What Certificates that are not Ready wait for.
 ghost use Rattle.std.specs.List.{list_any};
 ghost use Rattle.std.specs.Option.{option_copied};
 ghost use Rattle.std.specs.Prelude.{◌≡◌, false, IfOk};
@@ -6,17 +6,17 @@ ghost use Rattle.cmc_model.specs.Histories as histories;
 ghost use Rattle.cmc_objects.specs.declared.role.Role.TheVariants.{Issuing};
 ghost use Rattle.cmc_rules.specs.Dates.{HasDatedFailure, IsDatedOption};
 ghost use Rattle.cmc_rules.specs.Issuing as issuing;
-ghost use Rattle.cmc_rules.specs.Runs.{IsFinished};
 ghost use Rattle.cmc_rules.specs.Triggering as triggering;
 ghost use Rattle.cmc_rules.specs.Viewing as viewing;
 ghost use Rattle.cmc_world.specs.Kept.{on};
 ghost use Rattle.cmc_plain.specs.Waits as words;
 
 use crate::deliveries::told_answer;
+use cmc_caches::RoleCaches;
 use cmc_match::{is_next_key, next_request};
 use cmc_meta::{Condition, ConditionKind, Key, Kind, Tri};
 use cmc_next::{is_approved, is_denied, is_issuing};
-use cmc_objects::{CertStatus, Certificate, CertificateRequest, Role, Secret, Shared};
+use cmc_objects::{CertStatus, Certificate, CertificateRequest, Positions, Role, Secret, Shared};
 use cmc_pass::Views;
 use cmc_policies::backoff_until;
 use cmc_summary::WaitName;
@@ -186,32 +186,57 @@ pub(crate) fn is_stopped(alloc: Global, world: &World) -> Result<bool, AllocErro
     is_any_hindered(alloc, world, &roles)
 }
 
-// ---- a Certificate at the end of a run
+// ---- a Certificate, by all that stands
 
-/// What there is to see of the key.
-fn present_views(alloc: Global, world: &World, key: &Key) -> Result<Views, AllocError>
-    requires finished { on IsFinished world.now }
-    requires free { on words.is_stopped world.now ≡ false }
+/// Lists all that stands, as a role sees it that was told of all writes. It goes over the whole log.
+///
+/// # Errors
+///
+/// Want of memory alone.
+pub(crate) fn all_that_stands(alloc: Global, world: &World) -> Result<RoleCaches, AllocError>
+    ensures { IfOk result (λ all. on words.IsAllThatStands world.now all) }
+{
+    let log = world.log();
+    let newest = log.accepted();
+    let at = Positions {
+        certificates: newest,
+        requests: newest,
+        secrets: newest,
+    };
+    RoleCaches::list(alloc, log.as_slice(), at)
+}
+
+/// What there is to see of the key, where `all` is all that stands.
+fn present_views(
+    alloc: Global,
+    world: &World,
+    all: &RoleCaches,
+    key: &Key,
+) -> Result<Views, AllocError>
+    requires { on words.IsAllThatStands world.now all.now }
     ensures same { IfOk result (λ seen. seen ≡ on viewing.present_views world.now Issuing key.now) }
     ensures dated { IfOk result (λ seen. HasDatedFailure seen) }
 {
     world.is_run();
-    world.can_act();
-    world.views(alloc, Role::Issuing, key)
+    all.views(alloc, Role::Issuing, key)
 }
 
-fn wait_seen(alloc: Global, world: &World, key: &Key) -> Result<Option<WaitName>, AllocError>
-    requires finished { on IsFinished world.now }
-    requires free { on words.is_stopped world.now ≡ false }
+fn wait_seen(
+    alloc: Global,
+    world: &World,
+    all: &RoleCaches,
+    key: &Key,
+) -> Result<Option<WaitName>, AllocError>
+    requires { on words.IsAllThatStands world.now all.now }
     ensures { IfOk result (λ wait. wait ≡ words.wait_in (on histories.moment world.now) (on viewing.present_views world.now Issuing key.now)) }
 {
-    let seen = present_views(alloc, world, key)?;
+    let seen = present_views(alloc, world, all, key)?;
     Ok(wait_in(world.moment(), &seen))
 }
 
-/// What the Certificate of the key waits for in a finished run, of which `stopped` says whether some role does not run
-/// or some informer is held: for that, or else for the end of its back-off, a next key, a verdict on its next request,
-/// the name of its Secret, or its issuer, the first of these that is so. `None` where none is so.
+/// What the Certificate of `key` waits for, where `all` is all that stands and `stopped` says whether some role does not
+/// run or some informer is held: for that, or else for the end of its back-off, a next key, a verdict on its next
+/// request, the name of its Secret, or its issuer, the first of these that is so. `None` where none is so.
 ///
 /// # Errors
 ///
@@ -220,14 +245,15 @@ pub(crate) fn wait_at(
     alloc: Global,
     world: &World,
     stopped: bool,
+    all: &RoleCaches,
     key: &Key,
 ) -> Result<Option<WaitName>, AllocError>
-    requires finished { on IsFinished world.now }
     requires stopped { stopped ≡ on words.is_stopped world.now }
+    requires all { on words.IsAllThatStands world.now all.now }
     ensures { IfOk result (λ wait. wait ≡ on words.wait_at world.now key.now) }
 {
     if stopped {
         return Ok(Some(WaitName::Stopped));
     }
-    wait_seen(alloc, world, key)
+    wait_seen(alloc, world, all, key)
 }

@@ -2,7 +2,9 @@
 ghost use Rattle.std.specs.Option.{option_copied};
 ghost use Rattle.std.specs.Prelude.{◌≡◌, IfOk, IsSome, Some, option_map};
 ghost use Rattle.cmc_der.specs.Keys.{key_shown};
+ghost use Rattle.cmc_next.specs.Questions.{IsQuestionOf};
 ghost use Rattle.cmc_pass.specs.Giving.{order_of, value_of};
+ghost use Rattle.cmc_pass.specs.Values.{IsValue};
 ghost use Rattle.cmc_rules.specs.NextRequests as next_words;
 ghost use Rattle.cmc_rules.specs.RequestManaging as table;
 
@@ -94,17 +96,8 @@ fn request_from(alloc: Global, views: &Views, value: &Value) -> Result<Option<Ca
     }
 }
 
-/// The call that follows this value of the question on these views: the create of the request, signed as the value
-/// says. It looks at neither the moment `now` nor the question.
-///
-/// A call follows: the Certificate's next key stands and is readable, and the value is a signature. The revision that
-/// stands is below 2^63.
-///
-/// # Errors
-///
-/// Want of memory alone.
 #[tactic(auto, unfolding(cmc_rules::specs::RequestManaging::request_after))]
-pub fn follow(
+fn followed(
     alloc: Global,
     views: &Views,
     now: i64,
@@ -122,8 +115,35 @@ pub fn follow(
     }
 }
 
+/// The call that follows this value of the question on these views: the create of the request, signed as the value
+/// says. It looks at neither the moment `now` nor the question.
+///
+/// `order` is the question that the controller asks on these views by some desk, and `value` a right value of it.
+/// A call follows: the Certificate's next key stands and is readable, and the value is a signature. The revision that
+/// stands is below 2^63.
+///
+/// # Errors
+///
+/// Want of memory alone.
+pub fn follow(
+    alloc: Global,
+    views: &Views,
+    now: i64,
+    order: &Order,
+    value: &Value,
+) -> Result<Call, AllocError>
+    requires revision { next_words.HasNextRevision views.now.certificate }
+    requires asked { IsQuestionOf (λ desk. table.request_manager views.now) order.now }
+    requires right { IsValue order.now value.now }
+    requires follows { IsSome (table.request_after views.now now order.now value.now) }
+    ensures { IfOk result (λ c. table.request_after views.now now order.now value.now ≡ Some c) }
+{
+    followed(alloc, views, now, order, value)
+}
+
 /// The call that follows what is given back for the controller's question on these views.
 ///
+/// What is given back answers the question that the controller asks on these views by some desk.
 /// A call follows: the Certificate's next key stands and is readable, and a signature is given back. The revision that
 /// stands is below 2^63.
 ///
@@ -132,10 +152,11 @@ pub fn follow(
 /// Want of memory alone.
 pub fn then(alloc: Global, views: &Views, now: i64, given: &Given) -> Result<Call, AllocError>
     requires revision { next_words.HasNextRevision views.now.certificate }
+    requires asked { IsQuestionOf (λ desk. table.request_manager views.now) (order_of given.now) }
     requires follows { IsSome (table.request_after views.now now (order_of given.now) (value_of given.now)) }
     ensures { IfOk result (λ c. table.request_after views.now now (order_of given.now) (value_of given.now) ≡ Some c) }
 {
     let order = given.order()?;
     let value = value_in(alloc, given)?;
-    follow(alloc, views, now, &order, &value)
+    followed(alloc, views, now, &order, &value)
 }

@@ -1,5 +1,8 @@
 //! What no clause says: what the approver asks and writes, as texts, and that there is an answer where memory is ample.
-ghost use Rattle.std.specs.Prelude.{IfOk, IsSome};
+ghost use Rattle.std.specs.Prelude.{◌≡◌, IfOk, IsSome};
+ghost use Rattle.cmc_objects.specs.declared.orders.Order.TheVariants as orders;
+ghost use Rattle.cmc_pass.specs.declared.pass.Act.TheVariants as acts;
+ghost use Rattle.cmc_rules.specs.Approving.{approver};
 
 use crate::checks::{passes, tells_at};
 use crate::fixtures::{RequestRow, ask_group, request};
@@ -336,7 +339,9 @@ fn rules(alloc: Global, ruled: &Ruled) -> Result<Rules, Fail> {
     })
 }
 
-fn order_in(act: Act) -> Result<JudgeOrder, Fail> {
+fn order_in(act: Act) -> Result<JudgeOrder, Fail>
+    ensures { IfOk result (λ order. act ≡ acts.Ask (orders.Judge order)) }
+{
     match act {
         Act::Ask(Order::Judge(order)) => Ok(order),
         other => {
@@ -346,17 +351,24 @@ fn order_in(act: Act) -> Result<JudgeOrder, Fail> {
     }
 }
 
-fn question(alloc: Global, views: &Views, rules: Rules) -> Result<JudgeOrder, Fail> {
-    let mut desk = desk(alloc);
-    desk.rules = rules;
-    order_in(act(alloc, views, 0, &desk)?)
+fn question(alloc: Global, views: &Views, desk: &Desk) -> Result<JudgeOrder, Fail>
+    ensures { IfOk result (λ order. approver views.now desk.now ≡ acts.Ask (orders.Judge order)) }
+{
+    order_in(act(alloc, views, 0, desk)?)
 }
 
 /// What is written of the request that is seen, at 2030-01-01T00:01:00Z.
 #[tactic(auto, unfolding(cmc_rules::specs::Approving::judged_after))]
-fn written_on(alloc: Global, views: &Views, order: JudgeOrder) -> Result<String, AllocError>
-    requires { IsSome views.now.request }
+fn written_on(
+    alloc: Global,
+    views: &Views,
+    desk: &Desk,
+    order: JudgeOrder,
+) -> Result<String, AllocError>
+    requires stands { IsSome views.now.request }
+    requires asked { approver views.now desk.now ≡ acts.Ask (orders.Judge order) }
 {
+    let _desk = desk;
     let given = Given::Judged(judge(alloc, order)?);
     call_told_then(alloc, then(alloc, views, 1_893_456_060, &given)?)
 }
@@ -371,8 +383,10 @@ fn views_with(alloc: Global, row: &RequestRow) -> Result<Views, Fail>
 
 fn written(alloc: Global, ruled: &Ruled) -> Result<String, Fail> {
     let views = views_with(alloc, &ruled.row)?;
-    let order = question(alloc, &views, rules(alloc, ruled)?)?;
-    Ok(written_on(alloc, &views, order)?)
+    let mut desk = desk(alloc);
+    desk.rules = rules(alloc, ruled)?;
+    let order = question(alloc, &views, &desk)?;
+    Ok(written_on(alloc, &views, &desk, order)?)
 }
 
 fn verdict(alloc: Global, kind: &str, message: &str) -> Result<String, AllocError> {

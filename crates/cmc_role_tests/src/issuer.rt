@@ -1,7 +1,9 @@
 //! What no clause says: what the controller that asks issuers does, as texts, and that there is an answer where memory
 //! is ample.
 ghost use Rattle.std.specs.Prelude.{◌≡◌, ◌<◌, ◌^◌, [], IfOk, IsSome, true};
-ghost use Rattle.cmc_rules.specs.Granting.{HasForm};
+ghost use Rattle.cmc_objects.specs.declared.orders.Order.TheVariants as orders;
+ghost use Rattle.cmc_pass.specs.declared.pass.Act.TheVariants as acts;
+ghost use Rattle.cmc_rules.specs.Granting.{HasForm, issuer};
 ghost use Rattle.cmc_objects.specs.Requests.{is_short_text, is_short_option, is_duration_form, is_request_form};
 
 use crate::checks::{tells, tells_at};
@@ -10,9 +12,9 @@ use crate::requestmanager::WANTED;
 use crate::telling::{call_told_then, told_then};
 use crate::trigger::desk;
 use cmc_answers::{ScriptedSigner, Signer};
-use cmc_issuer::{act, follow, is_sound, then};
+use cmc_issuer::{act, follow, is_sound, status_of, then};
 use cmc_meta::{ConditionKind, Text, Tri};
-use cmc_objects::{CertificateRequest, Order, Shared, SignOrder, Signing};
+use cmc_objects::{Call, CertificateRequest, Object, Order, Shared, SignOrder, Signing};
 use cmc_pass::{Act, Desk, Given, Value, Views};
 use cmc_tests::values::{let_go, text};
 use std::alloc::{AllocError, Global};
@@ -461,7 +463,9 @@ fn signing(alloc: Global, answer: &Answer) -> Result<Signing, Fail> {
     }
 }
 
-fn order_in(act: Act) -> Result<SignOrder, Fail> {
+fn order_in(act: Act) -> Result<SignOrder, Fail>
+    ensures { IfOk result (λ order. act ≡ acts.Ask (orders.Sign order)) }
+{
     match act {
         Act::Ask(Order::Sign(order)) => Ok(order),
         other => {
@@ -473,25 +477,28 @@ fn order_in(act: Act) -> Result<SignOrder, Fail> {
 
 /// The question about the request.
 #[tactic(auto, unfolding(cmc_rules::specs::Orders::reply_row))]
-fn question(alloc: Global, views: &Views) -> Result<SignOrder, Fail>
-    requires { HasForm views.now.request }
+fn question(alloc: Global, views: &Views, desk: &Desk) -> Result<SignOrder, Fail>
+    requires form { HasForm views.now.request }
+    requires few { desk.now.asked < 2 ^ 63 }
+    requires plain { desk.now.material ≡ [] }
+    ensures { IfOk result (λ order. issuer views.now NOW desk.now ≡ acts.Ask (orders.Sign order)) }
 {
-    let desk = asked(alloc, 0);
-    order_in(act(alloc, views, NOW, &desk)?)
+    order_in(act(alloc, views, NOW, desk)?)
 }
 
-#[tactic(auto, unfolding(cmc_rules::specs::Granting::answered_after))]
-fn written_on(
+/// The request with the status that the answer makes.
+fn answered(
     alloc: Global,
-    views: &Views,
-    order: SignOrder,
-    answer: Signing,
-) -> Result<String, AllocError>
-    requires { IsSome views.now.request }
-{
-    let order = Order::Sign(order);
-    let value = Value::Answered(answer);
-    call_told_then(alloc, follow(alloc, views, NOW, &order, &value)?)
+    request: &CertificateRequest,
+    answer: &Signing,
+) -> Result<Object, AllocError> {
+    let status = status_of(alloc, request, answer, NOW)?;
+    let answered = CertificateRequest {
+        meta: request.meta.copy()?,
+        spec: request.spec.copy()?,
+        status: Shared::new(alloc, status)?,
+    };
+    Object::of_request(alloc, answered)
 }
 
 fn views_with(alloc: Global, case: &Case) -> Result<Views, Fail>
@@ -504,9 +511,10 @@ fn views_with(alloc: Global, case: &Case) -> Result<Views, Fail>
 }
 
 fn written(alloc: Global, case: &Case, answer: &Answer) -> Result<String, Fail> {
-    let views = views_with(alloc, case)?;
-    let order = question(alloc, &views)?;
-    Ok(written_on(alloc, &views, order, signing(alloc, answer)?)?)
+    let request = request_of(alloc, case)?;
+    let object = answered(alloc, &request, &signing(alloc, answer)?)?;
+    let version = request.meta.version;
+    Ok(call_told_then(alloc, Call::UpdateStatus { object, version })?)
 }
 
 fn status_told(alloc: Global, members: &str) -> Result<String, AllocError> {
@@ -534,17 +542,34 @@ fn scripted(alloc: Global, views: &Views) -> Result<String, Fail>
     requires form { HasForm views.now.request }
     requires stands { IsSome views.now.request }
 {
-    let order = question(alloc, views)?;
+    let desk = asked(alloc, 0);
+    let order = question(alloc, views, &desk)?;
     let given = Given::Answered(ScriptedSigner.sign(alloc, &order)?);
     Ok(call_told_then(alloc, then(alloc, views, NOW, &given)?)?)
+}
+
+/// The same, where question and answer are handed in each by itself.
+#[tactic(auto, unfolding(cmc_rules::specs::Granting::answered_after))]
+fn scripted_apart(alloc: Global, views: &Views) -> Result<String, Fail>
+    requires form { HasForm views.now.request }
+    requires stands { IsSome views.now.request }
+{
+    let desk = asked(alloc, 0);
+    let order = question(alloc, views, &desk)?;
+    let (order, answer) = ScriptedSigner.sign(alloc, &order)?.into_parts();
+    let (order, value) = (Order::Sign(order), Value::Answered(answer));
+    Ok(call_told_then(alloc, follow(alloc, views, NOW, &order, &value)?)?)
 }
 
 // A plain answer is a certificate for what the request asks for.
 #[test]
 fn writes_the_certificate_that_was_issued(rt: HostRuntime) -> Result<(), Fail> {
     let alloc = rt.alloc();
-    let written = scripted(alloc, &views_with(alloc, &ASKED_ONCE)?)?;
+    let views = views_with(alloc, &ASKED_ONCE)?;
     let want = status_told(alloc, BY_SCRIPT)?;
+    let written = scripted(alloc, &views)?;
     tells(&rt, "by script", written.as_str(), want.as_str());
+    let written = scripted_apart(alloc, &views)?;
+    tells(&rt, "each by itself", written.as_str(), want.as_str());
     Ok(())
 }

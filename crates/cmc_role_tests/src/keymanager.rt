@@ -1,5 +1,8 @@
 //! What no clause says: what the key manager does, as texts, and that there is an answer where memory is ample.
-ghost use Rattle.std.specs.Prelude.{◌<◌, ◌^◌, IfOk, IsSome};
+ghost use Rattle.std.specs.Prelude.{◌≡◌, ◌<◌, ◌^◌, IfOk, IsSome};
+ghost use Rattle.cmc_objects.specs.declared.orders.Order.TheVariants as orders;
+ghost use Rattle.cmc_pass.specs.declared.pass.Act.TheVariants as acts;
+ghost use Rattle.cmc_rules.specs.KeyManaging.{key_manager};
 
 use crate::checks::{passes, tells, tells_at};
 use crate::fixtures::{Case, SecretRow, Stated, bytes, certificate, views};
@@ -335,7 +338,9 @@ fn scripted(alloc: Global) -> Result<Desk, Fail>
     Ok(desk)
 }
 
-fn order_in(act: Act) -> Result<KeyOrder, Fail> {
+fn order_in(act: Act) -> Result<KeyOrder, Fail>
+    ensures { IfOk result (λ order. act ≡ acts.Ask (orders.Key order)) }
+{
     match act {
         Act::Ask(Order::Key(order)) => Ok(order),
         other => {
@@ -345,9 +350,11 @@ fn order_in(act: Act) -> Result<KeyOrder, Fail> {
     }
 }
 
-fn question(alloc: Global, views: &Views) -> Result<KeyOrder, Fail> {
-    let desk = scripted(alloc)?;
-    order_in(act(alloc, views, 0, &desk)?)
+fn question(alloc: Global, views: &Views, desk: &Desk) -> Result<KeyOrder, Fail>
+    requires { desk.now.asked < 2 ^ 63 }
+    ensures { IfOk result (λ order. key_manager views.now desk.now ≡ acts.Ask (orders.Key order)) }
+{
+    order_in(act(alloc, views, 0, desk)?)
 }
 
 static BEGUN_ONCE: Case = BEGUN;
@@ -361,9 +368,11 @@ fn views_with(alloc: Global, case: &Case) -> Result<Views, Fail>
 }
 
 #[tactic(auto, unfolding(cmc_rules::specs::KeyManaging::key_after))]
-fn kept(alloc: Global, views: &Views, order: &KeyOrder) -> Result<String, AllocError>
-    requires { IsSome views.now.certificate }
+fn kept(alloc: Global, views: &Views, desk: &Desk, order: &KeyOrder) -> Result<String, AllocError>
+    requires stands { IsSome views.now.certificate }
+    requires asked { key_manager views.now desk.now ≡ acts.Ask (orders.Key order.now) }
 {
+    let _desk = desk;
     if !is_allowed_size(order.algorithm, order.size) {
         return String::from_str(alloc, "another size");
     }
@@ -376,9 +385,10 @@ fn kept(alloc: Global, views: &Views, order: &KeyOrder) -> Result<String, AllocE
 fn keeps_the_key_that_was_made(rt: HostRuntime) -> Result<(), Fail> {
     let alloc = rt.alloc();
     let views = views_with(alloc, &BEGUN_ONCE)?;
-    let order = question(alloc, &views)?;
+    let desk = scripted(alloc)?;
+    let order = question(alloc, &views, &desk)?;
     passes(&rt, "the first", order.number == 1);
-    let kept = kept(alloc, &views, &order)?;
+    let kept = kept(alloc, &views, &desk, &order)?;
     tells(&rt, "kept", kept.as_str(), CREATED);
     Ok(())
 }

@@ -1,7 +1,9 @@
 //! What no clause says: what the request manager does, as texts, and that there is an answer where memory is ample.
 ghost use Rattle.std.specs.Option.{option_copied};
-ghost use Rattle.std.specs.Prelude.{ℕ, List, IsSome, IsTrue, option_map};
+ghost use Rattle.std.specs.Prelude.{◌≡◌, ℕ, List, IfOk, IsSome, IsTrue, option_map};
 ghost use Rattle.cmc_der.specs.Keys.{key_shown};
+ghost use Rattle.cmc_objects.specs.declared.orders.Order.TheVariants as orders;
+ghost use Rattle.cmc_pass.specs.declared.pass.Act.TheVariants as acts;
 ghost use Rattle.cmc_rules.specs.NextRequests.{HasNextRevision};
 ghost use Rattle.cmc_rules.specs.RequestManaging as table;
 
@@ -14,7 +16,7 @@ use cmc_keys::{KeyMaker, ScriptedKeys};
 use cmc_meta::{Bytes, ConditionKind, Tri};
 use cmc_next::{key_in, named_key};
 use cmc_objects::{Algorithm, Certificate, CsrOrder, Order, Secret, Shared};
-use cmc_pass::{Act, Given, Views};
+use cmc_pass::{Act, Desk, Given, Views};
 use cmc_requestmanager::{act, is_sound, then};
 use cmc_tests::values::let_go;
 use cmc_x509::{Spki, key_public};
@@ -414,7 +416,9 @@ fn follows(views: &Views) -> bool
     }
 }
 
-fn order_in(act: Act) -> Result<CsrOrder, Fail> {
+fn order_in(act: Act) -> Result<CsrOrder, Fail>
+    ensures { IfOk result (λ order. act ≡ acts.Ask (orders.Csr order)) }
+{
     match act {
         Act::Ask(Order::Csr(order)) => Ok(order),
         other => {
@@ -424,17 +428,24 @@ fn order_in(act: Act) -> Result<CsrOrder, Fail> {
     }
 }
 
-fn question(alloc: Global, views: &Views) -> Result<CsrOrder, Fail>
+fn question(alloc: Global, views: &Views, desk: &Desk) -> Result<CsrOrder, Fail>
     requires { HasNextRevision views.now.certificate }
+    ensures { IfOk result (λ order. table.request_manager views.now ≡ acts.Ask (orders.Csr order)) }
 {
-    let desk = desk(alloc);
-    order_in(act(alloc, views, 0, &desk)?)
+    order_in(act(alloc, views, 0, desk)?)
 }
 
 #[tactic(auto, unfolding(cmc_rules::specs::RequestManaging::request_after))]
-fn made_on(alloc: Global, views: &Views, order: &CsrOrder) -> Result<String, AllocError>
-    requires { HasNextRevision views.now.certificate }
+fn made_on(
+    alloc: Global,
+    views: &Views,
+    desk: &Desk,
+    order: &CsrOrder,
+) -> Result<String, AllocError>
+    requires revision { HasNextRevision views.now.certificate }
+    requires asked { table.request_manager views.now ≡ acts.Ask (orders.Csr order.now) }
 {
+    let _desk = desk;
     if !follows(views) {
         return String::from_str(alloc, "no readable key");
     }
@@ -447,11 +458,12 @@ fn made_on(alloc: Global, views: &Views, order: &CsrOrder) -> Result<String, All
 fn makes_the_request_that_was_signed(rt: HostRuntime) -> Result<(), Fail> {
     let alloc = rt.alloc();
     let views = views(alloc, &KEYED_ONCE)?;
-    let order = question(alloc, &views)?;
+    let desk = desk(alloc);
+    let order = question(alloc, &views, &desk)?;
     tells(
         &rt,
         "new request",
-        made_on(alloc, &views, &order)?.as_str(),
+        made_on(alloc, &views, &desk, &order)?.as_str(),
         MADE,
     );
     Ok(())

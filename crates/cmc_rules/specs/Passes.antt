@@ -19,6 +19,8 @@ use Rattle.cmc_objects.specs.declared.entry.Entry.{Entry}
 use Rattle.cmc_objects.specs.declared.entry.Entry.TheVariants.{Call as Called, Begin, Ask, Made, Signed, Answered, Judged, End, Stop}
 use Rattle.cmc_objects.specs.Objects.{version_of}
 use Rattle.cmc_pass.specs.declared.pass.Views.{Views}
+use Rattle.cmc_pass.specs.declared.pass.Act.{Act}
+use Rattle.cmc_pass.specs.declared.pass.Act.TheVariants.{Temporary}
 use Rattle.cmc_pass.specs.declared.value.Value.{Value}
 use Rattle.cmc_pass.specs.declared.value.Value.TheVariants as values
 use Rattle.cmc_rules.specs.declared.progress.Obstacle.TheVariants.{Failure, Newer}
@@ -29,8 +31,14 @@ use Rattle.cmc_model.specs.Replies.{key_of_call}
 use Rattle.cmc_model.specs.Histories.{Setting, role_eq}
 use Rattle.cmc_model.specs.Writes.{writes, last_under}
 use Rattle.cmc_rules.specs.Viewing.{views}
+use Rattle.cmc_rules.specs.Issuing.{issuing}
 
 -- ---- how far a pass comes
+
+-- the act is the plan of a stand-in certificate
+abbrev pub stands_in : Act → Bool
+stands_in (Temporary plan) = true
+stands_in other = false
 
 -- the call writes a Secret that is marked as temporary
 abbrev pub is_stand_in : Object → Bool
@@ -48,8 +56,8 @@ abbrev pub is_as_seen : Option Certificate → Object → Bool
 is_as_seen None object = false
 is_as_seen (Some c) object = version_of object == c.meta.version
 
--- A write that is served is the last one of a pass, but where it saves the Secret of an issuance: behind the live read of the
--- Certificate, and with a certificate that an issuer has signed.
+-- A write that is served is the last one of a pass, but for the Secret of an issuance, which its status follows: after the live read
+-- of the Certificate, and where the plan is not one of a stand-in certificate.
 abbrev pub stage_written : Bool → Stage → Stage
 stage_written stand_in Read = if stand_in then Wrote else Saved
 stage_written stand_in other = Wrote
@@ -70,10 +78,10 @@ stage_by c stand_in stage entry kind last (AlreadyExists have) = Refused entry (
 stage_by c stand_in stage entry kind last (Invalid rule) = Barred
 stage_by c stand_in stage entry kind last (Unavailable number) = Refused entry Failure
 
--- entries are numbered from 1 in the order of time
+-- Entries are numbered from 1 in the order of time. Only passes of issuing read live, and their act looks at no desk.
 abbrev pub stage_after : Setting → List Entry → Call → Reply → OpenPass → Stage
 stage_after s h call reply p =
-    stage_by p.seen.certificate (writes_stand_in call) p.stage (length h + 1) (key_of_call call).kind (last_under (key_of_call call) (writes s h)) reply
+    stage_by p.seen.certificate (stands_in (issuing p.seen p.since)) p.stage (length h + 1) (key_of_call call).kind (last_under (key_of_call call) (writes s h)) reply
 
 -- a question that was asked has its value
 abbrev pub stage_given : Value → Stage → Stage

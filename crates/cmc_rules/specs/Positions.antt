@@ -22,7 +22,7 @@ position_with r k p (Listed role kind to) = if is_informer role kind r k then to
 position_with r k p (Start role at) = if role_eq role r then at else p
 position_with r k p other = p
 
--- the newest of the accepted writes of the kind that the role was told of: by the last delivery or list, or as it started
+-- up to which accepted write, counted over all kinds, the role was told of this kind: as its last delivery, list or start says
 abbrev pub position : List Entry → Role → Kind → ℕ
 position [] r k = 0
 position (e ∷ h) r k = position_with r k (position h r k) e

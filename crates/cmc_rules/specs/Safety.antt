@@ -11,7 +11,6 @@ use Rattle.cmc_objects.specs.declared.secret.Secret.{Secret as SecretObject}
 use Rattle.cmc_objects.specs.declared.object.Object.{Object}
 use Rattle.cmc_objects.specs.declared.object.Object.TheVariants.{Cert, Request, Secret}
 use Rattle.cmc_objects.specs.declared.orders.Order.{Order}
-use Rattle.cmc_objects.specs.declared.orders.Rules.{Rules}
 use Rattle.cmc_objects.specs.declared.orders.Order.TheVariants as orders
 use Rattle.cmc_objects.specs.declared.role.Role.{Role}
 use Rattle.cmc_objects.specs.declared.role.Role.TheVariants as roles
@@ -151,10 +150,21 @@ LeavesRevisions before after = (old new : Object) → before ≡ Some old → af
 
 -- ---- an approval by the approver
 
--- the pass asked about the request, and the judgement was yes
-pub record IsJudgedYes (h : List Entry) (pass : ℕ) (r : CertificateRequest) : Type 0 where
-  pub asked : Stands (λ e. (rules : Rules) × (e ≡ Ask pass (orders.Judge (record { request = r; rules = rules })))) h
-  pub judged : Stands (λ e. e ≡ Judged pass true) h
+-- the last question of the pass is one of these
+abbrev pub LastAsks : ℕ → (Order → Type 0) → List Entry → Type 0
+LastAsks pass P [] = ⊥
+LastAsks pass P (Ask m order ∷ h) = ((m ≡ pass) × P order) ⊎ ((m ≢ pass) × LastAsks pass P h)
+LastAsks pass P (other ∷ h) = LastAsks pass P h
+
+-- it asks whether to approve just this version of the request
+abbrev pub AsksToApprove : CertificateRequest → Order → Type 0
+AsksToApprove r (orders.Judge order) = order.request ≡ r
+AsksToApprove r other = ⊥
+
+-- the pass was told yes, and the last question before that was about this version of the request
+abbrev pub IsJudgedYes : List Entry → ℕ → CertificateRequest → Type 0
+IsJudgedYes [] pass r = ⊥
+IsJudgedYes (e ∷ h) pass r = ((e ≡ Judged pass true) × LastAsks pass (AsksToApprove r) h) ⊎ IsJudgedYes h pass r
 
 abbrev pub ApprovesWell : List Entry → ℕ → Role → Option Object → Option Object → Type 0
 ApprovesWell h pass role before after =

@@ -15,7 +15,7 @@ use Rattle.cmc_objects.specs.declared.call.Call.{Call}
 use Rattle.cmc_objects.specs.declared.role.Role.{Role}
 use Rattle.cmc_objects.specs.declared.role.Role.TheVariants as roles
 use Rattle.cmc_objects.specs.Objects.{key_of}
-use Rattle.cmc_objects.specs.Requests.{is_run_time, is_approved}
+use Rattle.cmc_objects.specs.Requests.{is_run_time, is_approved, is_denied}
 use Rattle.cmc_der.specs.Keys.{CertificateFields}
 use Rattle.cmc_policies.specs.declared.renewal.Renew.{Renew}
 use Rattle.cmc_policies.specs.Renewal.{backoff, renewal}
@@ -167,11 +167,11 @@ pub record IsStandingIn (role : Role) (seen : Views) (now : ℤ) (plan : Tempora
 -- ---- what a role asks
 
 -- Key manager, request manager, approver and issuer ask, each its own kind of question: for a key of a kind that there is, for a signature,
--- and about the request that is seen; an issuer only about one that is approved.
+-- and about the request that is seen; an issuer only about one that is approved and not denied.
 abbrev pub IsQuestion : Role → Views → Order → Type 0
 IsQuestion role seen (orders.Key order) = (role ≡ roles.KeyManager) × (allows_size order.algorithm order.size ≡ true)
 IsQuestion role seen (orders.Csr order) = role ≡ roles.RequestManager
-IsQuestion role seen (orders.Sign order) = (role ≡ roles.Issuer) × (seen.request ≡ Some order.request) × (is_approved order.request ≡ true)
+IsQuestion role seen (orders.Sign order) = (role ≡ roles.Issuer) × (seen.request ≡ Some order.request) × (is_approved order.request ≡ true) × (is_denied order.request ≡ false)
 IsQuestion role seen (orders.Judge order) = (role ≡ roles.Approver) × (seen.request ≡ Some order.request)
 
 -- a call follows the value, and is for what is seen

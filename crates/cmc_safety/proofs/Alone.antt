@@ -27,10 +27,10 @@ use Rattle.cmc_rules.specs.Legality.{IsLegal}
 
 -- ---- the tests say that roles and keys are one
 
-role_is_one : (a b : Role) → role_eq a b ≡ true → a ≡ b
+pub role_is_one : (a b : Role) → role_eq a b ≡ true → a ≡ b
 role_is_one a b e = role_of_rank a b (grind (arith, nat_tests))
 
-role_is_own : (r : Role) → role_eq r r ≡ true
+pub role_is_own : (r : Role) → role_eq r r ≡ true
 role_is_own r = grind (arith, nat_tests)
 
 key_eq-by_cmp : (a b : Key) → key_eq a b ≡ eq_by_cmp key_cmp a b
@@ -41,10 +41,10 @@ tie_of Less e = absurd (cc e)
 tie_of Equal e = refl
 tie_of Greater e = absurd (cc e)
 
-key_is_one : (a b : Key) → key_eq a b ≡ true → a ≡ b
+pub key_is_one : (a b : Key) → key_eq a b ≡ true → a ≡ b
 key_is_one a b e = key_cmp-IsAntisymmetric a b (tie_of (key_cmp a b) (sym (key_eq-by_cmp a b) ∙ e))
 
-key_is_own : (a : Key) → key_eq a a ≡ true
+pub key_is_own : (a : Key) → key_eq a a ≡ true
 key_is_own a = key_eq-by_cmp a a ∙ (eq_by_cmp_equiv key_cmp-total).refl a
 
 -- ---- a pass that is open was so before, but for the one that begins
@@ -57,18 +57,18 @@ worked_before role key true stage None is = is
 worked_before role key true stage (Some p) is = is
 worked_before role key false stage p is = is
 
-worked_at_entry : (role : Role) (key : Key) (n m : ℕ) (stage : OpenPass → Stage) (p : Option OpenPass) → WorksOn role key (gone_on n m stage p) → WorksOn role key p
+pub worked_at_entry : (role : Role) (key : Key) (n m : ℕ) (stage : OpenPass → Stage) (p : Option OpenPass) → WorksOn role key (gone_on n m stage p) → WorksOn role key p
 worked_at_entry role key n m stage p is = worked_before role key (n == m) stage p is
 
-worked_at_call : (role : Role) (key : Key) (n : ℕ) (who : Who) (stage : OpenPass → Stage) (p : Option OpenPass) → WorksOn role key (called n who stage p) → WorksOn role key p
+pub worked_at_call : (role : Role) (key : Key) (n : ℕ) (who : Who) (stage : OpenPass → Stage) (p : Option OpenPass) → WorksOn role key (called n who stage p) → WorksOn role key p
 worked_at_call role key n User stage p is = is
 worked_at_call role key n (Pass pass) stage p is = worked_at_entry role key n pass stage p is
 
-worked_unended : (role : Role) (key : Key) (own : Bool) (p : Option OpenPass) → WorksOn role key (if own then None else p) → WorksOn role key p
+pub worked_unended : (role : Role) (key : Key) (own : Bool) (p : Option OpenPass) → WorksOn role key (if own then None else p) → WorksOn role key p
 worked_unended role key true p is = absurd (cc is)
 worked_unended role key false p is = is
 
-worked_unstopped : (role : Role) (key : Key) (stop : Role) (p : Option OpenPass) → WorksOn role key (unless_of stop p) → WorksOn role key p
+pub worked_unstopped : (role : Role) (key : Key) (stop : Role) (p : Option OpenPass) → WorksOn role key (unless_of stop p) → WorksOn role key p
 worked_unstopped role key stop None is = is
 worked_unstopped role key stop (Some p) is = worked_unended role key (role_eq stop p.role) (Some p) is
 

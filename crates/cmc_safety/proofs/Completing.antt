@@ -49,9 +49,9 @@ use Rattle.cmc_rules.specs.Desks.{desk}
 use Rattle.cmc_rules.specs.Issuing.{secret_call, new_target, old_target, issuing}
 use Rattle.cmc_rules.specs.Legality.{IsLegalEntry, IsLegal}
 use Rattle.cmc_rules.specs.Origins.{begun}
-use Rattle.cmc_rules.specs.Passes.{open_pass, is_as_seen, writes_stand_in, stage_read, stage_written, stage_after, stage_given, new_pass, with_stage, given}
+use Rattle.cmc_rules.specs.Passes.{open_pass, is_as_seen, stands_in, stage_read, stage_written, stage_after, stage_given, new_pass, with_stage, given}
 use Rattle.cmc_rules.specs.Raising.{RaisesRevision}
-use Rattle.cmc_rules.specs.Safety.{Stands, IsSecretWrite, IsStatusUpdate, IsServed}
+use Rattle.cmc_rules.specs.Safety.{Stands, IsStatusUpdate, IsServed}
 use Rattle.cmc_rules.specs.Sighting.{OnSeen, IsWellSeen}
 use Rattle.cmc_rules.specs.Sound.{IsRaiseOf, IsWithin, IsSigned, IsMarked, WritesTarget}
 use Rattle.cmc_rules.specs.Viewing.{certificate_in, secret_in, certificate_at, target_at, views_of, views_in, views, present_views}
@@ -302,11 +302,14 @@ status_accepted n m seen since c (UpdateStatus object named) reply status on the
 
 -- ---- the calls of the pass itself
 
+-- what issuing makes of what it saw is the act of the scene
+issuing_as : (seen : Views) (since : ℤ) (c : Certificate) (does : Act) (s : Setting) (h k : List Entry) (n : ℕ) (q : OpenPass) → IsScene s seen since c does → GoesWell s h k n seen since c does q → issuing q.seen q.since ≡ does
+issuing_as seen since c does s h k n q scene g = ap (λ (v : Views). issuing v q.since) g.saw ∙ ap (λ (t : ℤ). issuing seen t) g.began ∙ scene.acts
+
 -- the act of an open pass that goes well
 its_act : (s : Setting) (h k : List Entry) (n : ℕ) (seen : Views) (since : ℤ) (c : Certificate) (does : Act) (q : OpenPass) → IsScene s seen since c does → GoesWell s h k n seen since c does q → act_of s h q ≡ does
 its_act s h k n seen since c does q scene g =
-    act_of_issuing q.role q.seen q.since (desk s h q.role q.seen) g.issuing
-    ∙ ap (λ (v : Views). issuing v q.since) g.saw ∙ ap (λ (t : ℤ). issuing seen t) g.began ∙ scene.acts
+    act_of_issuing q.role q.seen q.since (desk s h q.role q.seen) g.issuing ∙ issuing_as seen since c does s h k n q scene g
 
 -- what the reply in the next entry makes of it
 well_after : (s : Setting) (e : Entry) (h k : List Entry) (n : ℕ) (seen : Views) (since : ℤ) (c : Certificate) (does : Act) (call : Call) (reply : Reply) (q : OpenPass) (stage : Stage) → GoesWell s h k n seen since c does q
@@ -339,32 +342,27 @@ own_read s h k n seen since c does q call reply key g sees stage there is same r
       keeps_at s h (settled call reply) (is_accepted reply) (target_key c) (λ ok. absurd (cc (ok, no_write))) ∙ there.1,
     )
 
-written_stage : (s : Setting) (h : List Entry) (call : Call) (reply : Reply) (q : OpenPass) → IsServed reply → stage_after s h call reply q ≡ stage_written (writes_stand_in call) q.stage
+written_stage : (s : Setting) (h : List Entry) (call : Call) (reply : Reply) (q : OpenPass) → IsServed reply → stage_after s h call reply q ≡ stage_written (stands_in (issuing q.seen q.since)) q.stage
 written_stage s h call (Ok version name) q served = refl
 written_stage s h call (Unchanged version) q served = refl
 written_stage s h call (Found object) q served = absurd served
 written_stage s h call other q served = absurd served
-
-unmarked : (call : Call) → IsSecretWrite call → writes_stand_in call ≡ false
-unmarked (Create (Secret k) generate) is = is
-unmarked (Update (Secret k) named) is = is
-unmarked other is = absurd is
 
 kinds_apart : (c : Certificate) → target_key c ≡ key_of (Cert c) → ⊥
 kinds_apart c is = let kinds_ : kinds.Secret ≡ kinds.Certificate = ap (λ (k : Key). k.kind) is in cc kinds_
 
 -- the Secret of either plan
 own_save : (P : Option Object → Option Object → Type 0) (s : Setting) (h k : List Entry) (n : ℕ) (seen : Views) (since : ℤ) (c : Certificate) (does : Act) (q : OpenPass) (call planned : Call) (reply : Reply) (stand_in : Bool) → IsLegal s h
-    → AreKnown (writes s h) seen → GoesWell s h k n seen since c does q → q.stage ≡ Read → AreThere s h c seen.secret → call ≡ planned → OnSeen P seen planned → IsTargetCall c seen.secret planned → writes_stand_in planned ≡ stand_in
+    → AreKnown (writes s h) seen → GoesWell s h k n seen since c does q → q.stage ≡ Read → AreThere s h c seen.secret → call ≡ planned → OnSeen P seen planned → IsTargetCall c seen.secret planned → issuing q.seen q.since ≡ does → stands_in does ≡ stand_in
     → IsServedBy (accepted s h) (objects s h) call reply
     → (object_at (objects s (Called (Pass n) call reply ∷ h)) (key_of (Cert c)) ≡ Some (Cert c) → Stands (IsServedCall n planned) (Called (Pass n) call reply ∷ k)
     → StandsAt s (Called (Pass n) call reply ∷ h) (Called (Pass n) call reply ∷ k) n c seen.secret does (stage_written stand_in Read))
     → GoesWell s (Called (Pass n) call reply ∷ h) (Called (Pass n) call reply ∷ k) n seen since c does (with_stage (stage_after s h call reply q) q)
-own_save P s h k n seen since c does q call planned reply stand_in legal known g stage there is on fits marked right gives =
+own_save P s h k n seen since c does q call planned reply stand_in legal known g stage there is on fits acts marked right gives =
     let fitting : IsTargetCall c seen.secret call = subst (IsTargetCall c seen.secret) (sym is) fits in
     let served : IsServed reply = target_served P s h seen c seen.secret call reply legal known refl (subst (OnSeen P seen) (sym is) on) fitting there.1 right in
     let saved : stage_after s h call reply q ≡ stage_written stand_in Read =
-    written_stage s h call reply q served ∙ ap (λ (b : Bool). stage_written b q.stage) (ap writes_stand_in is ∙ marked) ∙ ap (stage_written stand_in) stage in
+    written_stage s h call reply q served ∙ ap (λ (b : Bool). stage_written b q.stage) (ap stands_in acts ∙ marked) ∙ ap (stage_written stand_in) stage in
     well_after s (Called (Pass n) call reply) h k n seen since c does call reply q (stage_written stand_in Read) g saved
     (gives (keeps_at s h (settled call reply) (is_accepted reply) (key_of (Cert c)) (λ ok same. kinds_apart c (sym (target_settled c seen.secret call reply fitting) ∙ same)) ∙ there.0)
     (inl (reply, ap (λ (x : Call). Called (Pass n) x reply) is, served)))
@@ -377,13 +375,13 @@ own_issue s h k n seen since c plan q call reply after Fresh legal known scene g
     own_read s h k n seen since c (Issue plan) q call reply plan.get g scene.sees at stands next scene.planned.0 right
 own_issue s h k n seen since c plan q call reply after Read legal known scene g at stands next right =
     own_save (WritesTarget roles.Issuing since (IsSigned scene.within.certificate scene.within.request scene.within.file)) s h k n seen since c (Issue plan) q call plan.secret reply false legal known g at stands next scene.within.secret
-    (for_target false c seen.secret plan.secret scene.named scene.planned.1) (unmarked plan.secret scene.within.is_secret) right (λ certificate saved. (certificate, saved))
+    (for_target false c seen.secret plan.secret scene.named scene.planned.1) (issuing_as seen since c (Issue plan) s h k n q scene g) refl right (λ certificate saved. (certificate, saved))
 own_issue s h k n seen since c plan q call reply after Saved legal known scene g at stands next right =
     let one : scene.within.certificate ≡ c = some_one scene.within.certificate c seen.certificate scene.within.prepared.sees scene.sees in
     let on : OnSeen (IsRaiseOf c since) seen call = subst (OnSeen (IsRaiseOf c since) seen) (sym next) (subst (λ (x : Certificate). OnSeen (IsRaiseOf x since) seen plan.status) one scene.within.status) in
     let ok : is_accepted reply ≡ true = status_accepted (accepted s h) (objects s h) seen since c call reply (subst IsStatusUpdate (sym next) scene.within.is_status) on stands.0 right in
     well_after s (Called (Pass n) call reply) h k n seen since c (Issue plan) call reply q Wrote g
-    (written_stage s h call reply q (accepted_served reply ok) ∙ ap (stage_written (writes_stand_in call)) at)
+    (written_stage s h call reply q (accepted_served reply ok) ∙ ap (stage_written (stands_in (issuing q.seen q.since))) at)
     (inr stands.1, inl (reply, ap (λ (x : Call). Called (Pass n) x reply) next, ok)) where
       accepted_served : (reply : Reply) → is_accepted reply ≡ true → IsServed reply
       accepted_served (Ok version name) ok = tt
@@ -400,7 +398,7 @@ own_stand_in s h k n seen since c plan q call reply after Fresh legal known scen
     own_read s h k n seen since c (Temporary plan) q call reply plan.get g scene.sees at stands next scene.planned.0 right
 own_stand_in s h k n seen since c plan q call reply after Read legal known scene g at stands next right =
     own_save (WritesTarget roles.Issuing since (IsMarked scene.within.certificate scene.within.request scene.within.file since)) s h k n seen since c (Temporary plan) q call plan.secret reply true legal known g at stands next
-    scene.within.secret (for_target true c seen.secret plan.secret scene.named scene.planned.1) scene.within.is_marked right (λ certificate saved. saved)
+    scene.within.secret (for_target true c seen.secret plan.secret scene.named scene.planned.1) (issuing_as seen since c (Temporary plan) s h k n q scene g) refl right (λ certificate saved. saved)
 own_stand_in s h k n seen since c plan q call reply after Saved legal known scene g at stands next right = absurd next
 own_stand_in s h k n seen since c plan q call reply after Wrote legal known scene g at stands next right = absurd next
 own_stand_in s h k n seen since c plan q call reply after other legal known scene g at stands next right = absurd stands
@@ -650,19 +648,19 @@ keys_of_plan s base k n c target Nothing is named planned left = absurd is
 keys_of_plan s base k n c target (Calls call) is named planned left = absurd is
 keys_of_plan s base k n c target (Asks order) is named planned left = absurd is
 
-own_number : (n : ℕ) → (n == n) ≡ true
+pub own_number : (n : ℕ) → (n == n) ≡ true
 own_number n = (Decides-eqb n n).1 refl
 
 some_by : (x : Option Certificate) (target : Option SecretObject) (does : Act) → PlansOf x target does → IsPlan does → (c : Certificate) × (x ≡ Some c)
 some_by None target does of is = absurd (of is)
 some_by (Some c) target does of is = (c, refl)
 
-legal_below : (s : Setting) (k base : List Entry) → IsLegal s (k ++ base) → IsLegal s base
+pub legal_below : (s : Setting) (k base : List Entry) → IsLegal s (k ++ base) → IsLegal s base
 unfolding IsLegal
 legal_below s [] base legal = legal
 legal_below s (e ∷ k) base legal = legal_below s k base legal.1
 
-caused_below : (s : Setting) (k base : List Entry) → IsCaused s (k ++ base) → IsCaused s base
+pub caused_below : (s : Setting) (k base : List Entry) → IsCaused s (k ++ base) → IsCaused s base
 unfolding IsCaused
 caused_below s [] base caused = caused
 caused_below s (e ∷ k) base caused = caused_below s k base caused.1

@@ -1,7 +1,7 @@
 -- What stands in the history of an open pass, by how far it has come.
 use Rattle.std.proofs.Common.{◌≡◌, ◌==◌, ℕ, ℤ, ◌+◌, List, [], ◌∷◌, length, Option, Some, None, Bool, true, false, refl, sym, ap, subst, ◌∙◌, inl, inr}
 use Rattle.std.proofs.lemmas.Bool.Decides.{Decides-eqb}
-use Rattle.std.specs.Prelude.{if◌then◌else◌, option_map, IfSome}
+use Rattle.std.specs.Prelude.{◌≢◌, ◌⊎◌, if◌then◌else◌, option_map, IfSome}
 use Rattle.cmc_meta.specs.declared.key.Kind.{Kind}
 use Rattle.cmc_objects.specs.declared.certificate.Certificate.{Certificate}
 use Rattle.cmc_objects.specs.declared.object.Object.{Object}
@@ -29,18 +29,21 @@ use Rattle.cmc_rules.specs.declared.progress.OpenPass.{OpenPass}
 use Rattle.cmc_rules.specs.declared.progress.Stage.{Stage}
 use Rattle.cmc_rules.specs.declared.progress.Stage.TheVariants.{Fresh, Asked, Given, Read, Saved, Wrote, Refused, Barred}
 use Rattle.cmc_rules.specs.Acts.{call_after}
+use Rattle.cmc_rules.specs.Issuing.{issuing}
 use Rattle.cmc_rules.specs.Desks.{desk}
 use Rattle.cmc_rules.specs.Viewing.{views}
-use Rattle.cmc_rules.specs.Passes.{open_pass, asking, given, gone_on, is_as_seen, writes_stand_in, stage_read, stage_written, stage_by, stage_after, stage_given, new_pass, with_stage}
+use Rattle.cmc_rules.specs.Passes.{open_pass, asking, given, gone_on, is_as_seen, stands_in, writes_stand_in, stage_read, stage_written, stage_by, stage_after, stage_given, new_pass, with_stage}
 use Rattle.cmc_rules.specs.Legality.{IsLegal}
-use Rattle.cmc_rules.specs.Causes.{act_of, MayCall, IsCaused, IsAsked, AsksBy, MayAsk, IsGivenBy, MayGive}
-use Rattle.cmc_rules.specs.Safety.{Stands, IsLiveRead, IsSecretWrite, IsServed, IsSecretSaved}
+use Rattle.cmc_rules.specs.Causes.{act_of, after_of, IsNextCall, IsSecretCall, MayCall, IsCaused, IsAsked, AsksBy, MayAsk, IsGivenBy, MayGive}
+use Rattle.cmc_rules.specs.Safety.{Stands, LastAsks, IsLiveRead, IsSecretWrite, IsServed, IsSecretSaved}
 use Rattle.cmc_rules.specs.Sound.{IsOrdinary, IsAnswer, WritesTarget, IsSigned, IsMarked, IsRaiseOf, IsQuestion, IsFollowed, IsWithin, IsSound}
 use Rattle.cmc_rules.proofs.Carrying.{over_begin, over_end, over_stop}
 use Rattle.cmc_rules.proofs.Sights.{seen_certificate}
 use Rattle.cmc_rules.proofs.Sighted.{AreKnown, stands_as_seen}
 use Rattle.cmc_rules.proofs.WellSeen.{SawAll, saw_all}
-use Rattle.cmc_safety.proofs.NextCalls.{IsLiveCall, IsCallAt, IsFollowedAt, ReadsObject, call_at, found_is_read, no_read}
+use Rattle.cmc_safety.specs.Courses.{GivesValue}
+use Rattle.cmc_safety.proofs.Plans.{act_of_issuing}
+use Rattle.cmc_safety.proofs.NextCalls.{IsLiveCall, IsCallAt, IsFollowedAt, ReadsObject, call_at, found_is_read, no_read, marked_by}
 
 -- the tables of all roles are sound
 abbrev pub AreSound : Type 0
@@ -73,22 +76,21 @@ same_number n m is = (Decides-eqb n m).0 is
 
 -- ---- what has happened
 
--- the entry that gives the value
-abbrev pub GivesValue : ℕ → Value → Entry → Type 0
-GivesValue pass (values.Made key) e = e ≡ Made pass key
-GivesValue pass (values.Signed signature) e = e ≡ Signed pass signature
-GivesValue pass (values.Answered answer) e = e ≡ Answered pass answer
-GivesValue pass (values.Judged approved) e = e ≡ Judged pass approved
-
--- the question is the role's, and a call follows each right value of it
+-- it is the last question of the pass and the role's, and a call follows each right value of it
 pub record HasAsked (h : List Entry) (pass : ℕ) (role : Role) (seen : Views) (since : ℤ) (order : Order) : Type 0 where
-  pub asked : Stands (λ e. e ≡ Ask pass order) h
+  pub asked : LastAsks pass (λ o. o ≡ order) h
   pub question : IsQuestion role seen order
   pub followed : (value : Value) → IsValue order value → IsFollowed role (call_after role seen since) seen since order value
 
+-- the value was given when the last question of the pass was one of these
+abbrev pub IsGivenOn : ℕ → (Order → Type 0) → Value → List Entry → Type 0
+IsGivenOn pass P value [] = ⊥
+IsGivenOn pass P value (e ∷ h) = (GivesValue pass value e × LastAsks pass P h) ⊎ IsGivenOn pass P value h
+
 pub record HasValue (h : List Entry) (pass : ℕ) (role : Role) (seen : Views) (since : ℤ) (order : Order) (value : Value) : Type 0 where
-  pub asked : HasAsked h pass role seen since order
-  pub given : Stands (GivesValue pass value) h
+  pub question : IsQuestion role seen order
+  pub followed : IsFollowed role (call_after role seen since) seen since order value
+  pub given : IsGivenOn pass (λ o. o ≡ order) value h
   pub right : IsValue order value
 
 pub record HasReadLive (h : List Entry) (pass : ℕ) (seen : Views) : Type 0 where
@@ -109,25 +111,43 @@ HasCome h pass role seen since Barred = Unit {0}
 abbrev pub HasComeTo : List Entry → ℕ → OpenPass → Type 0
 HasComeTo h pass p = HasCome h pass p.role p.seen p.since p.stage
 
-asked_more : (e : Entry) (h : List Entry) (pass : ℕ) (role : Role) (seen : Views) (since : ℤ) (order : Order) → HasAsked h pass role seen since order → HasAsked (e ∷ h) pass role seen since order
-asked_more e h pass role seen since order has = record { asked = inr has.asked; question = has.question; followed = has.followed }
+-- the entry is no question of the pass
+abbrev pub IsNoAskOf : ℕ → Entry → Type 0
+IsNoAskOf pass (Ask m order) = m ≢ pass
+IsNoAskOf pass other = Unit {0}
 
-come_more : (e : Entry) (h : List Entry) (pass : ℕ) (role : Role) (seen : Views) (since : ℤ) (stage : Stage) → HasCome h pass role seen since stage → HasCome (e ∷ h) pass role seen since stage
-come_more e h pass role seen since Fresh has = has
-come_more e h pass role seen since (Asked order) has = asked_more e h pass role seen since order has
-come_more e h pass role seen since (Given order value) has = record { asked = asked_more e h pass role seen since order has.asked; given = inr has.given; right = has.right }
-come_more e h pass role seen since Read has = record { certificate = has.certificate; sees = has.sees; read = inr has.read }
-come_more e h pass role seen since Saved has = inr has
-come_more e h pass role seen since Wrote has = has
-come_more e h pass role seen since (Refused entry obstacle) has = has
-come_more e h pass role seen since Barred has = has
+last_more : (pass : ℕ) (P : Order → Type 0) (e : Entry) (h : List Entry) → IsNoAskOf pass e → LastAsks pass P h → LastAsks pass P (e ∷ h)
+last_more pass P (Ask m order) h off has = inr (off, has)
+last_more pass P other h off has = has
 
-so_more : (e : Entry) (h : List Entry) (n : ℕ) (q : OpenPass) → HasComeTo h n q → HasComeTo (e ∷ h) n q
-so_more e h n q has = come_more e h n q.role q.seen q.since q.stage has
+asked_more : (e : Entry) (h : List Entry) (pass : ℕ) (role : Role) (seen : Views) (since : ℤ) (order : Order) → IsNoAskOf pass e → HasAsked h pass role seen since order → HasAsked (e ∷ h) pass role seen since order
+asked_more e h pass role seen since order off has = record { asked = last_more pass (λ o. o ≡ order) e h off has.asked; question = has.question; followed = has.followed }
 
-come_longer : (e : Entry) (h : List Entry) (n : ℕ) (x : Option OpenPass) → IfSome x (HasComeTo h n) → IfSome x (HasComeTo (e ∷ h) n)
-come_longer e h n None has = tt
-come_longer e h n (Some p) has = so_more e h n p has
+come_more : (e : Entry) (h : List Entry) (pass : ℕ) (role : Role) (seen : Views) (since : ℤ) (stage : Stage) → IsNoAskOf pass e → HasCome h pass role seen since stage → HasCome (e ∷ h) pass role seen since stage
+come_more e h pass role seen since Fresh off has = has
+come_more e h pass role seen since (Asked order) off has = asked_more e h pass role seen since order off has
+come_more e h pass role seen since (Given order value) off has = record { question = has.question; followed = has.followed; given = inr has.given; right = has.right }
+come_more e h pass role seen since Read off has = record { certificate = has.certificate; sees = has.sees; read = inr has.read }
+come_more e h pass role seen since Saved off has = inr has
+come_more e h pass role seen since Wrote off has = has
+come_more e h pass role seen since (Refused entry obstacle) off has = has
+come_more e h pass role seen since Barred off has = has
+
+so_more : (e : Entry) (h : List Entry) (n : ℕ) (q : OpenPass) → IsNoAskOf n e → HasComeTo h n q → HasComeTo (e ∷ h) n q
+so_more e h n q off has = come_more e h n q.role q.seen q.since q.stage off has
+
+come_longer : (e : Entry) (h : List Entry) (n : ℕ) (x : Option OpenPass) → IsNoAskOf n e → IfSome x (HasComeTo h n) → IfSome x (HasComeTo (e ∷ h) n)
+come_longer e h n None off has = tt
+come_longer e h n (Some p) off has = so_more e h n p off has
+
+other_number : (n m : ℕ) → (n == m) ≡ false → m ≢ n
+other_number n m off same = absurd (let on : (n == m) ≡ true = (Decides-eqb n m).1 (sym same) in cc (off, on))
+
+no_ask_given : (n pass : ℕ) (value : Value) (e : Entry) → GivesValue pass value e → IsNoAskOf n e
+no_ask_given n pass (values.Made key) e is = subst (IsNoAskOf n) (sym is) tt
+no_ask_given n pass (values.Signed signature) e is = subst (IsNoAskOf n) (sym is) tt
+no_ask_given n pass (values.Answered answer) e is = subst (IsNoAskOf n) (sym is) tt
+no_ask_given n pass (values.Judged approved) e is = subst (IsNoAskOf n) (sym is) tt
 
 -- ---- the act of a pass, and its next call
 
@@ -135,16 +155,23 @@ pub within_act : AreSound → (s : Setting) (h : List Entry) (p : OpenPass) → 
 within_act sound s h p saw = (sound p.role).within p.seen p.since (desk s h p.role p.seen) saw.well
 
 pub followed_at : (h : List Entry) (pass : ℕ) (role : Role) (seen : Views) (since : ℤ) (stage : Stage) → HasCome h pass role seen since stage → IsFollowedAt stage role (call_after role seen since) seen since
-followed_at h pass role seen since (Given order value) has = has.asked.followed value has.right
+followed_at h pass role seen since (Given order value) has = has.followed
 followed_at h pass role seen since other has = tt
 
 pub next_call : AreSound → (s : Setting) (h : List Entry) (n : ℕ) (p : OpenPass) (call : Call) → SawAll (writes s h) p → HasComeTo h n p → MayCall s h (Some p) call → IsCallAt p.stage p.role p.seen p.since call
 next_call sound s h n p call saw has may =
     call_at p.stage p.role (call_after p.role p.seen p.since) p.seen p.since (act_of s h p) call (within_act sound s h p saw) (followed_at h n p.role p.seen p.since p.stage has) may
 
+-- after the live read the Secret has a mark exactly where the plan is one of a stand-in certificate
+pub marked_as_planned : AreSound → (s : Setting) (h : List Entry) (p : OpenPass) (call : Call) → SawAll (writes s h) p → MayCall s h (Some p) call → p.stage ≡ Read → writes_stand_in call ≡ stands_in (issuing p.seen p.since)
+marked_as_planned sound s h p call saw may read =
+    let next : IsSecretCall (act_of s h p) call = subst (λ (t : Stage). IsNextCall t (act_of s h p) (after_of p) call) read may in
+    let is = marked_by p.role (call_after p.role p.seen p.since) p.seen p.since (act_of s h p) call (within_act sound s h p saw) next in
+    is.1 ∙ ap stands_in (act_of_issuing p.role p.seen p.since (desk s h p.role p.seen) is.0)
+
 -- ---- a question and its value
 
-asked_by : (h : List Entry) (pass : ℕ) (role : Role) (seen : Views) (since : ℤ) (does : Act) (order : Order) → Stands (λ e. e ≡ Ask pass order) h → IsWithin role (call_after role seen since) seen since does → IsAsked does order
+asked_by : (h : List Entry) (pass : ℕ) (role : Role) (seen : Views) (since : ℤ) (does : Act) (order : Order) → LastAsks pass (λ o. o ≡ order) h → IsWithin role (call_after role seen since) seen since does → IsAsked does order
     → HasAsked h pass role seen since order
 asked_by h pass role seen since Nothing order stands within is = absurd is
 asked_by h pass role seen since (Calls call) order stands within is = absurd is
@@ -156,7 +183,7 @@ asked_by h pass role seen since (Asks asked) order stands within is = record {
 asked_by h pass role seen since (Issue plan) order stands within is = absurd is
 asked_by h pass role seen since (Temporary plan) order stands within is = absurd is
 
-asked_at : (h : List Entry) (pass : ℕ) (role : Role) (seen : Views) (since : ℤ) (stage : Stage) (does : Act) (order : Order) → Stands (λ e. e ≡ Ask pass order) h → IsWithin role (call_after role seen since) seen since does
+asked_at : (h : List Entry) (pass : ℕ) (role : Role) (seen : Views) (since : ℤ) (stage : Stage) (does : Act) (order : Order) → LastAsks pass (λ o. o ≡ order) h → IsWithin role (call_after role seen since) seen since does
     → AsksBy stage does order → HasAsked h pass role seen since order
 asked_at h pass role seen since Fresh does order stands within is = asked_by h pass role seen since does order stands within is
 asked_at h pass role seen since (Asked asked) does order stands within is = absurd is
@@ -169,7 +196,7 @@ asked_at h pass role seen since Barred does order stands within is = absurd is
 
 -- what a pass asks, in the history with the question
 pub question_of : AreSound → (s : Setting) (h : List Entry) (n : ℕ) (q : OpenPass) (order : Order) → SawAll (writes s h) q → MayAsk s h (Some q) order → HasAsked (Ask n order ∷ h) n q.role q.seen q.since order
-question_of sound s h n q order saw may = asked_at (Ask n order ∷ h) n q.role q.seen q.since q.stage (act_of s h q) order (inl refl) (within_act sound s h q saw) may
+question_of sound s h n q order saw may = asked_at (Ask n order ∷ h) n q.role q.seen q.since q.stage (act_of s h q) order (inl (refl, refl)) (within_act sound s h q saw) may
 
 come_asking : AreSound → (s : Setting) (h : List Entry) (n pass : ℕ) (order : Order) → IsLegal s h → MayAsk s h (open_pass s h pass) order → IfSome (open_pass s h n) (HasComeTo h n)
     → IfSome (asking n pass order (open_pass s h n)) (HasComeTo (Ask pass order ∷ h) n)
@@ -180,13 +207,13 @@ come_asking sound s h n pass order legal may has =
     let its : open_pass s h pass ≡ Some q = ap (open_pass s h) (sym one) ∙ holds.0 in
     let saw : SawAll (writes s h) q = of_open (SawAll (writes s h)) (open_pass s h n) q holds.0 (saw_all s h n legal) in
     subst (λ (m : ℕ). HasAsked (Ask m order ∷ h) n q.role q.seen q.since order) one (question_of sound s h n q order saw (subst (λ (x : Option OpenPass). MayAsk s h x order) its may)))
-    (λ there q holds. so_more (Ask pass order) h n q holds.1)
+    (λ there q holds. so_more (Ask pass order) h n q (other_number n pass there) holds.1)
     (with_equation (HasComeTo h n) (open_pass s h n) has)
 
 given_at : (e : Entry) (h : List Entry) (n : ℕ) (value : Value) (role : Role) (seen : Views) (since : ℤ) (stage : Stage) → GivesValue n value e → IsGivenBy stage value → HasCome h n role seen since stage
     → HasCome (e ∷ h) n role seen since (stage_given value stage)
 given_at e h n value role seen since Fresh is may has = absurd may
-given_at e h n value role seen since (Asked order) is may has = record { asked = asked_more e h n role seen since order has; given = inl is; right = may }
+given_at e h n value role seen since (Asked order) is may has = record { question = has.question; followed = has.followed value may; given = inl (is, has.asked); right = may }
 given_at e h n value role seen since (Given order old) is may has = absurd may
 given_at e h n value role seen since Read is may has = absurd may
 given_at e h n value role seen since Saved is may has = absurd may
@@ -202,7 +229,7 @@ come_giving s e h n pass value is may has =
     let one : n ≡ pass = same_number n pass here in
     let its : open_pass s h pass ≡ Some q = ap (open_pass s h) (sym one) ∙ holds.0 in
     given_at e h n value q.role q.seen q.since q.stage (subst (λ (m : ℕ). GivesValue m value e) (sym one) is) (subst (λ (x : Option OpenPass). MayGive x value) its may) holds.1)
-    (λ there q holds. so_more e h n q holds.1)
+    (λ there q holds. so_more e h n q (no_ask_given n pass value e is) holds.1)
     (with_equation (HasComeTo h n) (open_pass s h n) has)
 
 -- ---- calls
@@ -261,18 +288,20 @@ come_found : (b : Bool) (entry : ℕ) (kind : Kind) (version : ℕ) (h : List En
 come_found true entry kind version h n role seen since reads = reads refl
 come_found false entry kind version h n role seen since reads = tt
 
-saved_by : (n : ℕ) (e : Entry) (call : Call) (reply : Reply) (stage : Stage) (role : Role) (seen : Views) (since : ℤ) → e ≡ Called (Pass n) call reply → IsServed reply → IsCallAt stage role seen since call
-    → stage ≡ Read → writes_stand_in call ≡ false → IsSecretSaved n e
-saved_by n e call reply stage role seen since is served at read off = (call, reply, is, saves_secret role seen since call (subst (λ (t : Stage). IsCallAt t role seen since call) read at) off, served)
+saved_by : (n : ℕ) (e : Entry) (call : Call) (reply : Reply) (stage : Stage) (role : Role) (seen : Views) (since : ℤ) (stand_in : Bool) → e ≡ Called (Pass n) call reply → IsServed reply → IsCallAt stage role seen since call
+    → (stage ≡ Read → writes_stand_in call ≡ stand_in) → stage ≡ Read → stand_in ≡ false → IsSecretSaved n e
+saved_by n e call reply stage role seen since stand_in is served at marked read off =
+    (call, reply, is, saves_secret role seen since call (subst (λ (t : Stage). IsCallAt t role seen since call) read at) (marked read ∙ off), served)
 
 -- by the reply
-come_replied : (s : Setting) (h : List Entry) (n : ℕ) (role : Role) (seen : Views) (since : ℤ) (stage : Stage) (entry : ℕ) (kind : Kind) (last : ℕ) (call : Call) (reply : Reply) (e : Entry) → IsLegal s h → AreKnown (writes s h) seen
-    → IsReply s.faults (state s h) call reply → e ≡ Called (Pass n) call reply → IsCallAt stage role seen since call → HasCome (e ∷ h) n role seen since (stage_by seen.certificate (writes_stand_in call) stage entry kind last reply)
-come_replied s h n role seen since stage entry kind last call (Ok version name) e legal known right is at =
-    come_written e h n role seen since (writes_stand_in call) stage (saved_by n e call (Ok version name) stage role seen since is tt at)
-come_replied s h n role seen since stage entry kind last call (Unchanged version) e legal known right is at =
-    come_written e h n role seen since (writes_stand_in call) stage (saved_by n e call (Unchanged version) stage role seen since is tt at)
-come_replied s h n role seen since stage entry kind last call (Found o) e legal known right is at =
+come_replied : (s : Setting) (h : List Entry) (n : ℕ) (role : Role) (seen : Views) (since : ℤ) (stage : Stage) (stand_in : Bool) (entry : ℕ) (kind : Kind) (last : ℕ) (call : Call) (reply : Reply) (e : Entry) → IsLegal s h → AreKnown (writes s h) seen
+    → IsReply s.faults (state s h) call reply → e ≡ Called (Pass n) call reply → IsCallAt stage role seen since call → (stage ≡ Read → writes_stand_in call ≡ stand_in)
+    → HasCome (e ∷ h) n role seen since (stage_by seen.certificate stand_in stage entry kind last reply)
+come_replied s h n role seen since stage stand_in entry kind last call (Ok version name) e legal known right is at marked =
+    come_written e h n role seen since stand_in stage (saved_by n e call (Ok version name) stage role seen since stand_in is tt at marked)
+come_replied s h n role seen since stage stand_in entry kind last call (Unchanged version) e legal known right is at marked =
+    come_written e h n role seen since stand_in stage (saved_by n e call (Unchanged version) stage role seen since stand_in is tt at marked)
+come_replied s h n role seen since stage stand_in entry kind last call (Found o) e legal known right is at marked =
     come_found (is_as_seen seen.certificate o) entry kind (version_of o) (e ∷ h) n role seen since
     (λ same.
     let read = found_is_read s.faults (state s h) call o right in
@@ -283,11 +312,11 @@ come_replied s h n role seen since stage entry kind last call (Found o) e legal 
       sees = live.sees;
       read = inl (key_of (Cert live.certificate), is ∙ ap (λ (k : Call). Called (Pass n) k (Found o)) live.get ∙ ap (λ (x : Object). Called (Pass n) (Get (key_of (Cert live.certificate))) (Found x)) (sym found));
     })
-come_replied s h n role seen since stage entry kind last call (Conflict named have) e legal known right is at = tt
-come_replied s h n role seen since stage entry kind last call (NotFound seen_at) e legal known right is at = tt
-come_replied s h n role seen since stage entry kind last call (AlreadyExists have) e legal known right is at = tt
-come_replied s h n role seen since stage entry kind last call (Invalid rule) e legal known right is at = tt
-come_replied s h n role seen since stage entry kind last call (Unavailable number) e legal known right is at = tt
+come_replied s h n role seen since stage stand_in entry kind last call (Conflict named have) e legal known right is at marked = tt
+come_replied s h n role seen since stage stand_in entry kind last call (NotFound seen_at) e legal known right is at marked = tt
+come_replied s h n role seen since stage stand_in entry kind last call (AlreadyExists have) e legal known right is at marked = tt
+come_replied s h n role seen since stage stand_in entry kind last call (Invalid rule) e legal known right is at marked = tt
+come_replied s h n role seen since stage stand_in entry kind last call (Unavailable number) e legal known right is at marked = tt
 
 come_calling : AreSound → (s : Setting) (h : List Entry) (n m : ℕ) (call : Call) (reply : Reply) → IsLegal s h → IsReply s.faults (state s h) call reply → MayCall s h (open_pass s h m) call → IfSome (open_pass s h n) (HasComeTo h n)
     → IfSome (gone_on n m (stage_after s h call reply) (open_pass s h n)) (HasComeTo (Called (Pass m) call reply ∷ h) n)
@@ -297,10 +326,11 @@ come_calling sound s h n m call reply legal right may has =
     let one : n ≡ m = same_number n m here in
     let its : open_pass s h m ≡ Some q = ap (open_pass s h) (sym one) ∙ holds.0 in
     let saw : SawAll (writes s h) q = of_open (SawAll (writes s h)) (open_pass s h n) q holds.0 (saw_all s h n legal) in
-    come_replied s h n q.role q.seen q.since q.stage (length h + 1) (key_of_call call).kind (last_under (key_of_call call) (writes s h)) call reply (Called (Pass m) call reply) legal saw.known right
+    come_replied s h n q.role q.seen q.since q.stage (stands_in (issuing q.seen q.since)) (length h + 1) (key_of_call call).kind (last_under (key_of_call call) (writes s h)) call reply (Called (Pass m) call reply) legal saw.known right
     (ap (λ (i : ℕ). Called (Pass i) call reply) (sym one))
-    (next_call sound s h n q call saw holds.1 (subst (λ (x : Option OpenPass). MayCall s h x call) its may)))
-    (λ there q holds. so_more (Called (Pass m) call reply) h n q holds.1)
+    (next_call sound s h n q call saw holds.1 (subst (λ (x : Option OpenPass). MayCall s h x call) its may))
+    (marked_as_planned sound s h q call saw (subst (λ (x : Option OpenPass). MayCall s h x call) its may)))
+    (λ there q holds. so_more (Called (Pass m) call reply) h n q tt holds.1)
     (with_equation (HasComeTo h n) (open_pass s h n) has)
 
 -- ---- histories
@@ -309,22 +339,22 @@ come_calling sound s h n m call reply legal right may has =
 pub has_come : AreSound → (s : Setting) (h : List Entry) (n : ℕ) → IsLegal s h → IsCaused s h → IfSome (open_pass s h n) (HasComeTo h n)
 unfolding IsLegal IsCaused
 has_come sound s [] n legal caused = tt
-has_come sound s (Called User call reply ∷ h) n legal caused = come_longer (Called User call reply) h n (open_pass s h n) (has_come sound s h n legal.1 caused.1)
+has_come sound s (Called User call reply ∷ h) n legal caused = come_longer (Called User call reply) h n (open_pass s h n) tt (has_come sound s h n legal.1 caused.1)
 has_come sound s (Called (Pass m) call reply ∷ h) n legal caused = come_calling sound s h n m call reply legal.1 legal.0.0 caused.0 (has_come sound s h n legal.1 caused.1)
 has_come sound s (Begin pass role key at now ∷ h) n legal caused =
     over_begin (HasComeTo (Begin pass role key at now ∷ h) n) (n == pass) (new_pass role key (views s h role key) now) (open_pass s h n) tt
-    (come_longer (Begin pass role key at now) h n (open_pass s h n) (has_come sound s h n legal.1 caused.1))
+    (come_longer (Begin pass role key at now) h n (open_pass s h n) tt (has_come sound s h n legal.1 caused.1))
 has_come sound s (Ask pass order ∷ h) n legal caused = come_asking sound s h n pass order legal.1 caused.0 (has_come sound s h n legal.1 caused.1)
 has_come sound s (Made pass key ∷ h) n legal caused = come_giving s (Made pass key) h n pass (values.Made key) refl caused.0 (has_come sound s h n legal.1 caused.1)
 has_come sound s (Signed pass signature ∷ h) n legal caused = come_giving s (Signed pass signature) h n pass (values.Signed signature) refl caused.0 (has_come sound s h n legal.1 caused.1)
 has_come sound s (Answered pass answer ∷ h) n legal caused = come_giving s (Answered pass answer) h n pass (values.Answered answer) refl caused.0 (has_come sound s h n legal.1 caused.1)
 has_come sound s (Judged pass approved ∷ h) n legal caused = come_giving s (Judged pass approved) h n pass (values.Judged approved) refl caused.0 (has_come sound s h n legal.1 caused.1)
 has_come sound s (End pass cause ∷ h) n legal caused =
-    over_end (HasComeTo (End pass cause ∷ h) n) (n == pass) (open_pass s h n) (come_longer (End pass cause) h n (open_pass s h n) (has_come sound s h n legal.1 caused.1))
+    over_end (HasComeTo (End pass cause ∷ h) n) (n == pass) (open_pass s h n) (come_longer (End pass cause) h n (open_pass s h n) tt (has_come sound s h n legal.1 caused.1))
 has_come sound s (Stop role ∷ h) n legal caused =
-    over_stop (HasComeTo (Stop role ∷ h) n) role (open_pass s h n) (come_longer (Stop role) h n (open_pass s h n) (has_come sound s h n legal.1 caused.1))
-has_come sound s (Script step ∷ h) n legal caused = come_longer (Script step) h n (open_pass s h n) (has_come sound s h n legal.1 caused.1)
-has_come sound s (Deliver role kind to ∷ h) n legal caused = come_longer (Deliver role kind to) h n (open_pass s h n) (has_come sound s h n legal.1 caused.1)
-has_come sound s (Listed role kind to ∷ h) n legal caused = come_longer (Listed role kind to) h n (open_pass s h n) (has_come sound s h n legal.1 caused.1)
-has_come sound s (Start role at ∷ h) n legal caused = come_longer (Start role at) h n (open_pass s h n) (has_come sound s h n legal.1 caused.1)
-has_come sound s (Tick now ∷ h) n legal caused = come_longer (Tick now) h n (open_pass s h n) (has_come sound s h n legal.1 caused.1)
+    over_stop (HasComeTo (Stop role ∷ h) n) role (open_pass s h n) (come_longer (Stop role) h n (open_pass s h n) tt (has_come sound s h n legal.1 caused.1))
+has_come sound s (Script step ∷ h) n legal caused = come_longer (Script step) h n (open_pass s h n) tt (has_come sound s h n legal.1 caused.1)
+has_come sound s (Deliver role kind to ∷ h) n legal caused = come_longer (Deliver role kind to) h n (open_pass s h n) tt (has_come sound s h n legal.1 caused.1)
+has_come sound s (Listed role kind to ∷ h) n legal caused = come_longer (Listed role kind to) h n (open_pass s h n) tt (has_come sound s h n legal.1 caused.1)
+has_come sound s (Start role at ∷ h) n legal caused = come_longer (Start role at) h n (open_pass s h n) tt (has_come sound s h n legal.1 caused.1)
+has_come sound s (Tick now ∷ h) n legal caused = come_longer (Tick now) h n (open_pass s h n) tt (has_come sound s h n legal.1 caused.1)

@@ -15,7 +15,6 @@ use Rattle.cmc_objects.specs.declared.entry.Entry.{Entry}
 use Rattle.cmc_objects.specs.declared.entry.Entry.TheVariants.{Call as Called, Begin, Ask, Made, Signed, Answered, Judged, End, Stop}
 use Rattle.cmc_objects.specs.Objects.{version_of}
 use Rattle.cmc_pass.specs.declared.pass.Views.{Views}
-use Rattle.cmc_pass.specs.declared.pass.Desk.{Desk}
 use Rattle.cmc_pass.specs.declared.value.Value.{Value}
 use Rattle.cmc_pass.specs.declared.value.Value.TheVariants as values
 use Rattle.cmc_pass.specs.declared.pass.Act.{Act}
@@ -27,17 +26,18 @@ use Rattle.cmc_model.specs.Writes.{writes, last_under}
 use Rattle.cmc_rules.specs.declared.progress.OpenPass.{OpenPass}
 use Rattle.cmc_rules.specs.declared.progress.Stage.{Stage}
 use Rattle.cmc_rules.specs.declared.progress.Stage.TheVariants.{Fresh, Asked, Given, Read, Saved, Wrote, Refused, Barred}
-use Rattle.cmc_rules.specs.Acts.{act, call_after}
+use Rattle.cmc_rules.specs.Acts.{call_after}
 use Rattle.cmc_rules.specs.Issuing.{issuing}
 use Rattle.cmc_rules.specs.Desks.{desk}
 use Rattle.cmc_rules.specs.Viewing.{views}
-use Rattle.cmc_rules.specs.Passes.{open_pass, gone_on, is_as_seen, new_pass, stage_read, stage_written, stage_by, stage_after, stage_given, writes_stand_in}
+use Rattle.cmc_rules.specs.Passes.{open_pass, gone_on, is_as_seen, new_pass, stage_read, stage_written, stage_by, stage_after, stage_given, stands_in}
 use Rattle.cmc_rules.specs.Legality.{IsLegal}
 use Rattle.cmc_rules.specs.Causes.{act_of, after_of, IsNextCall, MayCall, IsCaused}
 use Rattle.cmc_rules.specs.Runs.{IsRun}
 use Rattle.cmc_rules.specs.Sound.{IsOrdinary, IsAnswer, IsWithin}
 use Rattle.cmc_rules.proofs.Carrying.{over_ask, over_given, over_begin, over_end, over_stop}
 use Rattle.cmc_rules.proofs.WellSeen.{SawAll, saw_all}
+use Rattle.cmc_safety.proofs.Plans.{act_of_issuing}
 use Rattle.cmc_safety.proofs.NextCalls.{IsFollowedAt, ReadsObject, found_is_read, following_call, no_read}
 use Rattle.cmc_safety.proofs.Course.{AreSound, of_open, with_equation, over_own_entry, same_number, HasComeTo, has_come, within_act, followed_at, next_call, live_at}
 
@@ -61,14 +61,6 @@ IsOnItsWay other role does = Unit {0}
 
 abbrev OnItsWay : OpenPass → Type 0
 OnItsWay p = IsOnItsWay p.stage p.role (issuing p.seen p.since)
-
--- the act of a pass of issuing
-act_issuing : (seen : Views) (now : ℤ) (d : Desk) → act roles.Issuing seen now d ≡ issuing seen now
-unfolding act
-act_issuing seen now d = refl
-
-act_is : (role : Role) (seen : Views) (now : ℤ) (d : Desk) → role ≡ roles.Issuing → act role seen now d ≡ issuing seen now
-act_is role seen now d is = subst (λ (r : Role). act r seen now d ≡ issuing seen now) (sym is) (act_issuing seen now d)
 
 -- ---- calls
 
@@ -108,14 +100,11 @@ reads_at Wrote role after seen since does objects call o within followed is next
 reads_at (Refused entry obstacle) role after seen since does objects call o within followed is next = absurd next
 reads_at Barred role after seen since does objects call o within followed is next = absurd next
 
--- a Secret without the mark is one of an act that writes a status
-saves_for : (role : Role) (after : Order → Value → Option Call) (seen : Views) (since : ℤ) (does : Act) (call : Call) → IsWithin role after seen since does → IsNextCall Read does after call → writes_stand_in call ≡ false
-    → WritesStatus does
-saves_for role after seen since Nothing call within next off = absurd next
-saves_for role after seen since (Calls first) call within next off = absurd next
-saves_for role after seen since (Asks order) call within next off = absurd next
-saves_for role after seen since (Issue plan) call within next off = tt
-saves_for role after seen since (Temporary plan) call within next off = absurd (let on : writes_stand_in call ≡ true = ap writes_stand_in next ∙ within.is_marked in cc (off, on))
+-- a Secret of a plan that is none of a stand-in certificate is followed by a status
+saves_for : (does : Act) → WritesSecret does → stands_in does ≡ false → WritesStatus does
+saves_for (Issue plan) writes off = tt
+saves_for (Temporary plan) writes off = absurd (cc off)
+saves_for other writes off = absurd writes
 
 -- ---- by the reply
 
@@ -149,18 +138,17 @@ record CallsNow (s : Setting) (h : List Entry) (p : OpenPass) (call : Call) : Ty
   way : OnItsWay p
   may : MayCall s h (Some p) call
 
-role_at_read : (stage : Stage) (role : Role) (does : Act) → stage ≡ Read → IsOnItsWay stage role does → role ≡ roles.Issuing
-role_at_read stage role does is way = (subst (λ (t : Stage). IsOnItsWay t role does) is way).0
+at_read : (stage : Stage) (role : Role) (does : Act) → stage ≡ Read → IsOnItsWay stage role does → (role ≡ roles.Issuing) × WritesSecret does
+at_read stage role does is way = subst (λ (t : Stage). IsOnItsWay t role does) is way
 
 called_way : AreSound → (s : Setting) (h : List Entry) (p : OpenPass) (call : Call) (reply : Reply) → IsReply s.faults (state s h) call reply → CallsNow s h p call → IsOnItsWay (stage_after s h call reply p) p.role (issuing p.seen p.since)
 called_way sound s h p call reply right k =
     let within = within_act sound s h p k.saw in
     let after = call_after p.role p.seen p.since in
-    let its : p.role ≡ roles.Issuing → act_of s h p ≡ issuing p.seen p.since = λ is. act_is p.role p.seen p.since (desk s h p.role p.seen) is in
-    replied_way p.seen.certificate (writes_stand_in call) p.stage (length h + 1) (key_of_call call).kind (last_under (key_of_call call) (writes s h)) reply p.role (issuing p.seen p.since)
+    let its : p.role ≡ roles.Issuing → act_of s h p ≡ issuing p.seen p.since = λ is. act_of_issuing p.role p.seen p.since (desk s h p.role p.seen) is in
+    replied_way p.seen.certificate (stands_in (issuing p.seen p.since)) p.stage (length h + 1) (key_of_call call).kind (last_under (key_of_call call) (writes s h)) reply p.role (issuing p.seen p.since)
     (λ read off.
-    let role = role_at_read p.stage p.role (issuing p.seen p.since) read k.way in
-    (role, subst WritesStatus (its role) (saves_for p.role after p.seen p.since (act_of s h p) call within (subst (λ (t : Stage). IsNextCall t (act_of s h p) after call) read k.may) off)))
+    let reads = at_read p.stage p.role (issuing p.seen p.since) read k.way in (reads.0, saves_for (issuing p.seen p.since) reads.1 off))
     (λ o found.
     let is_read : ReadsObject (objects s h) call o = found_is_read s.faults (state s h) call o (subst (IsReply s.faults (state s h) call) found right) in
     let live = live_at s h p.role p.seen p.since p.stage call o is_read (next_call sound s h k.done.0 p call k.saw k.done.1 k.may) in (
@@ -253,10 +241,10 @@ status_next (Temporary plan) after is = absurd is
 pub follows_read : AreSound → (s : Setting) (h : List Entry) (n : ℕ) (p : OpenPass) → IsRun s h → open_pass s h n ≡ Some p → p.stage ≡ Read → (call : Call) × IsNextCall Read (act_of s h p) (after_of p) call
 follows_read sound s h n p run opened is =
     let way = subst (λ (t : Stage). IsOnItsWay t p.role (issuing p.seen p.since)) is (open_way sound s h n p run opened) in
-    secret_next (act_of s h p) (after_of p) (subst WritesSecret (sym (act_is p.role p.seen p.since (desk s h p.role p.seen) way.0)) way.1)
+    secret_next (act_of s h p) (after_of p) (subst WritesSecret (sym (act_of_issuing p.role p.seen p.since (desk s h p.role p.seen) way.0)) way.1)
 
 -- and the status the Secret of an issuance
 pub follows_secret : AreSound → (s : Setting) (h : List Entry) (n : ℕ) (p : OpenPass) → IsRun s h → open_pass s h n ≡ Some p → p.stage ≡ Saved → (call : Call) × IsNextCall Saved (act_of s h p) (after_of p) call
 follows_secret sound s h n p run opened is =
     let way = subst (λ (t : Stage). IsOnItsWay t p.role (issuing p.seen p.since)) is (open_way sound s h n p run opened) in
-    status_next (act_of s h p) (after_of p) (subst WritesStatus (sym (act_is p.role p.seen p.since (desk s h p.role p.seen) way.0)) way.1)
+    status_next (act_of s h p) (after_of p) (subst WritesStatus (sym (act_of_issuing p.role p.seen p.since (desk s h p.role p.seen) way.0)) way.1)

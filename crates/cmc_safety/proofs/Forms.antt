@@ -34,7 +34,7 @@ use Rattle.cmc_rules.specs.Granting.{certificate_of, HasForm, HasReplyForm}
 use Rattle.cmc_rules.specs.Rights.{MayChange, OfCertificates, OfRequests, IsLabelled}
 use Rattle.cmc_rules.specs.Sound.{IsOfCertificate}
 use Rattle.cmc_rules.specs.UserWrites.{judge_call, answer_call, renew_call}
-use Rattle.cmc_rules.proofs.Replies.{reply_row_form}
+use Rattle.cmc_rules.proofs.Replies.{reply_row_fits}
 use Rattle.cmc_rules.proofs.Sights.{seen_certificate, seen_request}
 use Rattle.cmc_rules.proofs.Sighted.{AreKnown}
 use Rattle.cmc_setup.specs.Forms.{is_certificate, is_key_row_form, is_rows_form, is_entry_form, is_step_form}
@@ -198,7 +198,7 @@ replies_formed entry is =
 
 reply_part : (s : Setting) (h : List Entry) (role : Role) (seen : Views) (x : Option CertificateRequest) → IsFormed s → HasReplyForm x (desk s h role seen)
 reply_part s h role seen None formed = tt
-reply_part s h role seen (Some r) formed = reply_row_form is_entry_form s.material (certificate_of r) (desk s h role seen).asked replies_formed formed.material
+reply_part s h role seen (Some r) formed = reply_row_fits is_row_form is_entry_form s.material (certificate_of r) (desk s h role seen).asked refl replies_formed formed.material
 
 -- the answer that is set out has its form
 pub reply_seen : (s : Setting) (h : List Entry) (role : Role) (seen : Views) → IsFormed s → HasReplyForm seen.request (desk s h role seen)

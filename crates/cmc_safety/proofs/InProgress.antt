@@ -38,7 +38,8 @@ use Rattle.cmc_rules.specs.declared.progress.Stage.TheVariants.{Fresh, Asked, Gi
 use Rattle.cmc_objects.specs.Watching.{works_on_requests}
 use Rattle.cmc_rules.specs.Positions.{cache}
 use Rattle.cmc_rules.specs.Viewing.{certificate_in, certificate_at, views_of, views_in, views}
-use Rattle.cmc_rules.specs.Passes.{open_pass, called, gone_on, is_as_seen, writes_stand_in, stage_read, stage_written, stage_by, stage_after, stage_given, new_pass}
+use Rattle.cmc_rules.specs.Issuing.{issuing}
+use Rattle.cmc_rules.specs.Passes.{open_pass, called, gone_on, is_as_seen, stands_in, stage_read, stage_written, stage_by, stage_after, stage_given, new_pass}
 use Rattle.cmc_rules.specs.Legality.{IsLegal}
 use Rattle.cmc_rules.specs.Causes.{MayCall, IsCaused}
 use Rattle.cmc_rules.specs.Following.{Follows}
@@ -310,7 +311,7 @@ by_itself : (s : Setting) (h : List Entry) (m : ℕ) (q : OpenPass) (call : Call
     → SawVersion (writes s h) q → IsCallAt q.stage q.role q.seen q.since call → IsUnmoved (writes s h) q
     → HoldsWhileIssuing (stage_after s h call reply q) (IsInProgress (writes s (Called (Pass m) call reply ∷ h)) q.role q.key q.seen)
 by_itself s h m q call reply new legal right known version at is =
-    by_reply q.seen.certificate (writes_stand_in call) q.stage (length h + 1) (key_of_call call).kind (last_under (key_of_call call) (writes s h)) reply
+    by_reply q.seen.certificate (stands_in (issuing q.seen q.since)) q.stage (length h + 1) (key_of_call call).kind (last_under (key_of_call call) (writes s h)) reply
     (IsInProgress (writes s h) q.role q.key q.seen) (IsInProgress (writes s (Called (Pass m) call reply ∷ h)) q.role q.key q.seen)
     (λ read was. by_secret s h m q call reply new legal right known
     (secret_keeps q.role q.seen q.since call (subst (λ (t : Stage). IsCallAt t q.role q.seen q.since call) read at)) was)

@@ -19,4 +19,8 @@ pub mod Barred
 pub mod Following
 pub mod Plans
 pub mod Completing
+pub mod Courses
+pub mod PlansDone
+pub mod OwnWrites
+pub mod Repeating
 pub mod Standing

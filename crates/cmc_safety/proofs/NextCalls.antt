@@ -4,7 +4,7 @@ use Rattle.std.specs.Prelude.{MatchBool}
 use Rattle.std.specs.List.{list_any}
 use Rattle.cmc_objects.specs.declared.certificate.Certificate.{Certificate}
 use Rattle.cmc_objects.specs.declared.object.Object.{Object}
-use Rattle.cmc_objects.specs.declared.object.Object.TheVariants.{Cert}
+use Rattle.cmc_objects.specs.declared.object.Object.TheVariants.{Cert, Secret}
 use Rattle.cmc_objects.specs.declared.call.Call.{Call}
 use Rattle.cmc_objects.specs.declared.call.Call.TheVariants.{Create, Update, UpdateStatus, Delete, Get}
 use Rattle.cmc_objects.specs.declared.call.Reply.TheVariants.{Ok, Found, Conflict, Unavailable}
@@ -25,6 +25,8 @@ use Rattle.cmc_model.specs.Generated.{named, free_named}
 use Rattle.cmc_model.specs.Replies.{State, IsReply, IsServed, IsCreated, IsUpdated, IsRestated, IsDeleted, IsGot, IsChange, IsAdmitted}
 use Rattle.cmc_rules.specs.declared.progress.Stage.{Stage}
 use Rattle.cmc_rules.specs.declared.progress.Stage.TheVariants.{Fresh, Asked, Given, Read, Saved, Wrote, Refused, Barred}
+use Rattle.cmc_rules.specs.Passes.{stands_in, writes_stand_in}
+use Rattle.cmc_rules.specs.Safety.{IsSecretWrite}
 use Rattle.cmc_rules.specs.Causes.{IsFirstCall, IsSecretCall, IsStatusCall, IsNextCall}
 use Rattle.cmc_rules.specs.Sighting.{ForNone, OnSeen}
 use Rattle.cmc_rules.specs.Sound.{IsOrdinary, IsAnswer, IsIssuance, IsStandingIn, IsFollowed, IsWithin}
@@ -81,6 +83,19 @@ status_call role after seen since (Calls first) call within next = absurd next
 status_call role after seen since (Asks order) call within next = absurd next
 status_call role after seen since (Issue plan) call within next = record { plan = plan; issues = within; planned = next }
 status_call role after seen since (Temporary plan) call within next = absurd next
+
+-- a Secret is marked exactly where the plan is one of a stand-in certificate
+unmarked : (call : Call) → IsSecretWrite call → writes_stand_in call ≡ false
+unmarked (Create (Secret k) generate) is = is
+unmarked (Update (Secret k) named) is = is
+unmarked other is = absurd is
+
+pub marked_by : (role : Role) (after : Order → Value → Option Call) (seen : Views) (since : ℤ) (does : Act) (call : Call) → IsWithin role after seen since does → IsSecretCall does call → (role ≡ roles.Issuing) × (writes_stand_in call ≡ stands_in does)
+marked_by role after seen since Nothing call within next = absurd next
+marked_by role after seen since (Calls first) call within next = absurd next
+marked_by role after seen since (Asks order) call within next = absurd next
+marked_by role after seen since (Issue plan) call within next = (within.issuing, ap writes_stand_in next ∙ unmarked plan.secret within.is_secret)
+marked_by role after seen since (Temporary plan) call within next = (within.issuing, ap writes_stand_in next ∙ within.is_marked)
 
 -- the call that follows is the one that is for what was seen
 pub following_call : (role : Role) (after : Order → Value → Option Call) (seen : Views) (since : ℤ) (order : Order) (value : Value) (call : Call) → IsFollowed role after seen since order value → after order value ≡ Some call

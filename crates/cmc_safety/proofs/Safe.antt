@@ -13,7 +13,6 @@ use Rattle.cmc_objects.specs.declared.call.Call.TheVariants.{UpdateStatus}
 use Rattle.cmc_objects.specs.declared.call.Reply.{Reply}
 use Rattle.cmc_objects.specs.declared.orders.Order.{Order}
 use Rattle.cmc_objects.specs.declared.orders.Order.TheVariants as orders
-use Rattle.cmc_objects.specs.declared.orders.Rules.{Rules}
 use Rattle.cmc_objects.specs.declared.role.Role.{Role}
 use Rattle.cmc_objects.specs.declared.role.Role.TheVariants as roles
 use Rattle.cmc_objects.specs.declared.entry.Who.{Who}
@@ -46,7 +45,7 @@ use Rattle.cmc_rules.specs.Raising.{stated_revision, revision, revision_of_uid, 
 use Rattle.cmc_rules.specs.Rights.{MayChange, IsRightful}
 use Rattle.cmc_rules.specs.Sighting.{IsAmong, IsWellSeen, OnSeen}
 use Rattle.cmc_rules.specs.Sound.{IsOrdinary, IsAnswer, IsPrepared, IsTarget, WritesTarget, IsSigned, IsMarked, IsRaiseOf, IsQuestion}
-use Rattle.cmc_rules.specs.Safety.{Stands, IsNeverDenied, IsLiveRead, IsIssued, IsOfIssuer, IsStandIn, IsGoodIssue, IsSecretSaved, IsStatusUpdate, RaisesWell, IsJudgedYes, AsksWell, IsGoodWrite, IsSafeWrite, AreSafe, IsSafe}
+use Rattle.cmc_rules.specs.Safety.{Stands, LastAsks, AsksToApprove, IsNeverDenied, IsLiveRead, IsIssued, IsOfIssuer, IsStandIn, IsGoodIssue, IsSecretSaved, IsStatusUpdate, RaisesWell, IsJudgedYes, AsksWell, IsGoodWrite, IsSafeWrite, AreSafe, IsSafe}
 use Rattle.cmc_rules.proofs.Answered.{verdicts_stay_in}
 use Rattle.cmc_rules.proofs.Sights.{seen_request, seen_owned, found_among}
 use Rattle.cmc_rules.proofs.Sighted.{AreKnown, IsStored, as_seen}
@@ -55,7 +54,7 @@ use Rattle.cmc_safety.specs.Formed.{IsFormed}
 use Rattle.cmc_safety.proofs.Moments.{BeganInRun, began_in_run}
 use Rattle.cmc_safety.proofs.Users.{users_keep}
 use Rattle.cmc_safety.proofs.NextCalls.{IsCallAt}
-use Rattle.cmc_safety.proofs.Course.{AreSound, of_open, GivesValue, HasValue, HasReadLive, HasCome, question_of}
+use Rattle.cmc_safety.proofs.Course.{AreSound, of_open, IsGivenOn, HasValue, HasReadLive, HasCome, question_of}
 use Rattle.cmc_safety.proofs.InProgress.{IsCaller, caller_of, not_accepted, IsInProgress, HoldsWhileIssuing, IsUnmoved, IsPlayed, played_below, in_progress}
 
 -- ---- words
@@ -131,18 +130,22 @@ good_ordinary s whole h pass p call before after is = record {
 }
 
 -- the approver asked about the request that it saw
-judged_by : (h : List Entry) (pass : ℕ) (p : OpenPass) (order : Order) (r : CertificateRequest) → IsValue order (values.Judged true) → IsQuestion p.role p.seen order → p.seen.request ≡ Some r
-    → Stands (λ e. e ≡ Ask pass order) h → Stands (λ e. e ≡ Judged pass true) h → IsJudgedYes h pass r
-judged_by h pass p (orders.Key order) r right question sees asked given = absurd right
-judged_by h pass p (orders.Csr order) r right question sees asked given = absurd right
-judged_by h pass p (orders.Sign order) r right question sees asked given = absurd right
-judged_by h pass p (orders.Judge order) r right question sees asked given =
-    let same : order.request ≡ r = one_in CertificateRequest order.request r p.seen.request question.1 sees in
-    record {
-      asked = stands_as (λ e. e ≡ Ask pass (orders.Judge order)) (λ e. (rules : Rules) × (e ≡ Ask pass (orders.Judge (record { request = r; rules = rules })))) h
-          (λ e is. (order.rules, is ∙ ap (λ (q : CertificateRequest). Ask pass (orders.Judge (record { request = q; rules = order.rules }))) same)) asked;
-      judged = given;
-    }
+asks_about : (p : OpenPass) (order : Order) (r : CertificateRequest) → IsValue order (values.Judged true) → IsQuestion p.role p.seen order → p.seen.request ≡ Some r → AsksToApprove r order
+asks_about p (orders.Key order) r right question sees = absurd right
+asks_about p (orders.Csr order) r right question sees = absurd right
+asks_about p (orders.Sign order) r right question sees = absurd right
+asks_about p (orders.Judge order) r right question sees = one_in CertificateRequest order.request r p.seen.request question.1 sees
+
+last_as : (P Q : Order → Type 0) (pass : ℕ) (h : List Entry) → ((order : Order) → P order → Q order) → LastAsks pass P h → LastAsks pass Q h
+last_as P Q pass [] gives last = absurd last
+last_as P Q pass (Ask m order ∷ h) gives (inl here) = inl (here.0, gives order here.1)
+last_as P Q pass (Ask m order ∷ h) gives (inr there) = inr (there.0, last_as P Q pass h gives there.1)
+last_as P Q pass (other ∷ h) gives last = last_as P Q pass h gives last
+
+judged_by : (h : List Entry) (pass : ℕ) (r : CertificateRequest) (P : Order → Type 0) → ((order : Order) → P order → AsksToApprove r order) → IsGivenOn pass P (values.Judged true) h → IsJudgedYes h pass r
+judged_by [] pass r P gives given = absurd given
+judged_by (e ∷ h) pass r P gives (inl here) = inl (here.0, last_as P (AsksToApprove r) pass h gives here.1)
+judged_by (e ∷ h) pass r P gives (inr there) = inr (judged_by h pass r P gives there)
 
 good_answer : (s : Setting) (whole h : List Entry) (pass : ℕ) (p : OpenPass) (call : Call) (order : Order) (value : Value) (before after : Option Object) → HasValue h pass p.role p.seen p.since order value
     → IsAnswer p.role p.seen p.since value before after → IsGoodCall s whole h pass p call before after
@@ -152,7 +155,8 @@ good_answer s whole h pass p call order value before after has is = record {
     raise = no_raise h pass p.role call before after is.revision;
     approval = λ old new role a b x y.
         let it = is.approval old new role a b x y in
-        judged_by h pass p order old (subst (IsValue order) it.0 has.right) has.asked.question it.1 has.asked.asked (subst (λ (v : Value). Stands (GivesValue pass v) h) it.0 has.given);
+        let about : AsksToApprove old order = asks_about p order old (subst (IsValue order) it.0 has.right) has.question it.1 in
+        judged_by h pass old (λ o. o ≡ order) (λ o same. subst (AsksToApprove old) (sym same) about) (subst (λ (v : Value). IsGivenOn pass (λ o. o ≡ order) v h) it.0 has.given);
   };
   rights = is.rights;
 }

@@ -1,10 +1,7 @@
 -- What controllers take for granted where they act, and what no call of a pass comes to.
-use Rattle.std.specs.Prelude.{◌≡◌, ◌⊎◌, ◌<◌, ◌^◌, ℤ, true, List, [], ◌∷◌, Some}
-use Rattle.cmc_objects.specs.declared.call.Call.{Call}
+use Rattle.std.specs.Prelude.{◌≡◌, ◌<◌, ◌^◌, ℤ, true, List, [], ◌∷◌}
 use Rattle.cmc_objects.specs.declared.call.Reply.{Reply}
 use Rattle.cmc_objects.specs.declared.call.Reply.TheVariants.{Invalid}
-use Rattle.cmc_objects.specs.declared.orders.Order.{Order}
-use Rattle.cmc_objects.specs.declared.entry.Cause.{Cause}
 use Rattle.cmc_objects.specs.declared.entry.Who.{Who}
 use Rattle.cmc_objects.specs.declared.entry.Who.TheVariants.{Pass}
 use Rattle.cmc_objects.specs.declared.entry.Entry.{Entry}
@@ -12,11 +9,9 @@ use Rattle.cmc_objects.specs.declared.entry.Entry.TheVariants.{Call as Called}
 use Rattle.cmc_objects.specs.Requests.{is_run_time}
 use Rattle.cmc_pass.specs.declared.pass.Views.{Views}
 use Rattle.cmc_pass.specs.declared.pass.Desk.{Desk}
-use Rattle.cmc_model.specs.Histories.{Setting}
 use Rattle.cmc_rules.specs.declared.progress.OpenPass.{OpenPass}
 use Rattle.cmc_rules.specs.declared.progress.Stage.{Stage}
-use Rattle.cmc_rules.specs.declared.progress.Stage.TheVariants.{Asked, Barred}
-use Rattle.cmc_rules.specs.Causes.{MayCall, MayAsk, MayEnd}
+use Rattle.cmc_rules.specs.declared.progress.Stage.TheVariants.{Barred}
 use Rattle.cmc_rules.specs.Dates.{HasDatedFailure}
 use Rattle.cmc_rules.specs.Granting.{HasForm, HasReplyForm}
 use Rattle.cmc_rules.specs.NextRequests.{HasNextRevision}
@@ -35,17 +30,6 @@ pub record MayAct (seen : Views) (now : ℤ) (desk : Desk) : Type 0 where
   pub form : HasForm seen.request
   -- and the answer that is set out for it can be given
   pub reply : HasReplyForm seen.request desk
-
--- ---- how far a pass has come
-
--- it does not stand at a question that has no value yet
-abbrev pub IsAnswered : Stage → Type 0
-IsAnswered (Asked order) = ⊥
-IsAnswered other = Unit {0}
-
--- it may call, ask or end
-abbrev pub CanGoOn : Setting → List Entry → OpenPass → Type 0
-CanGoOn s h p = ((call : Call) × MayCall s h (Some p) call) ⊎ (((order : Order) × MayAsk s h (Some p) order) ⊎ ((cause : Cause) × MayEnd s h (Some p) cause))
 
 -- ---- no rule refuses a call of a pass
 

@@ -2,4 +2,4 @@ pub mod OneMore
 pub mod ReadForms
 pub mod StepForms
 pub mod SetupForms
-mod LoadLaws
+pub mod LoadLaws

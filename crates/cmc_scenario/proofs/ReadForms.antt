@@ -263,7 +263,7 @@ of_secret fs = next IsApplied (needed_at (word_at (codes "v1")) (codes "apiVersi
 
 of_stranger : (fs : List Field) → Always IsApplied (stranger_in fs)
 unfolding stranger_in
-of_stranger fs = next IsApplied (needed_at any_version_at (codes "apiVersion") fs) _ (λ api. next IsApplied (optional_at (codes "data") api.1) _ (λ given. next IsApplied (passes (codes "data") given.0) _ (λ passed. next IsApplied (required_at (codes "kind") given.1) _ (λ kind. failed (codes "kind")))))
+of_stranger fs = next IsApplied (needed_at any_version_at (codes "apiVersion") fs) _ (λ api. next IsApplied (optional_at (codes "data") api.1) _ (λ given. next IsApplied (passes (codes "data") given.0) _ (λ passed. next IsApplied (required_at (codes "kind") given.1) _ (λ kind. failed (codes "kind" ∷ [])))))
 
 of_object : (kind : Option (List ℕ)) (fs : List Field) → Always IsApplied (object_in kind fs)
 of_object None fs = of_stranger fs

@@ -108,12 +108,12 @@ is_early : (n : ℕ) → nat_lt n 10000 ≡ true → n < 10000
 is_early n is = grind (arith, nat_tests)
 
 of_turn : (n : ℕ) (stage : Stage) (step : Step) → n < 10000 → IsStep step → Always (IsTurn stage n) (in_turn n stage step)
-of_turn n stage step early form = where_true (IsTurn stage n) (is_in_turn stage step) (Ok step) (decimal n) (λ e. so (record { early = early; step_form = form; turn = e }))
+of_turn n stage step early form = where_true (IsTurn stage n) (is_in_turn stage step) (Ok step) (decimal n ∷ []) (λ e. so (record { early = early; step_form = form; turn = e }))
 
 of_numbered_step : (n : ℕ) (stage : Stage) (d : Data) → Always (IsTurn stage n) (numbered_step_at n stage d)
 unfolding numbered_step_at
 of_numbered_step n stage d =
-    where_true (IsTurn stage n) (nat_lt n 10000) (under (decimal n) (step_at d) >>= in_turn n stage) (decimal n)
+    where_true (IsTurn stage n) (nat_lt n 10000) (under (decimal n) (step_at d) >>= in_turn n stage) (decimal n ∷ [])
     (λ e. after IsStep (IsTurn stage n) (under (decimal n) (step_at d)) (in_turn n stage) (below IsStep (decimal n) (step_at d) (of_value d)) (λ step form. of_turn n stage step (is_early n e) form))
 
 -- the steps from place n and this stage on

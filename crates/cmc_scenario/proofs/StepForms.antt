@@ -1,5 +1,5 @@
 -- What is read of a step has the form of one.
-use Rattle.std.proofs.Common.{◌≡◌, ℕ, List, true, false, Option, Some, None, refl, sym, ◌∙◌, codes, arith}
+use Rattle.std.proofs.Common.{◌≡◌, ℕ, List, [], ◌∷◌, true, false, Option, Some, None, refl, sym, ◌∙◌, codes, arith}
 use Rattle.std.specs.Prelude.{if◌then◌else◌, nat_le, ◌&&◌}
 use Rattle.std.specs.Str.{bytes_eq}
 use Rattle.std.proofs.lemmas.Bool.Decides.{nat_tests}
@@ -121,7 +121,7 @@ of_settle fs = next (IsStep) (required_at (codes "do") fs) _ (λ word. next (IsS
 
 of_stray : (fs : List Field) → Always IsStep (stray_in fs)
 unfolding stray_in
-of_stray fs = next (IsStep) (optional_at (codes "behind") fs) _ (λ behind. next (IsStep) (passes (codes "behind") behind.0) _ (λ first. next (IsStep) (optional_at (codes "certificate") behind.1) _ (λ certificate. next (IsStep) (passes (codes "certificate") certificate.0) _ (λ second. next (IsStep) (required_at (codes "do") certificate.1) _ (λ word. failed (codes "do"))))))
+of_stray fs = next (IsStep) (optional_at (codes "behind") fs) _ (λ behind. next (IsStep) (passes (codes "behind") behind.0) _ (λ first. next (IsStep) (optional_at (codes "certificate") behind.1) _ (λ certificate. next (IsStep) (passes (codes "certificate") certificate.0) _ (λ second. next (IsStep) (required_at (codes "do") certificate.1) _ (λ word. failed (codes "do" ∷ []))))))
 
 of_waiting : (word : List ℕ) (fs : List Field) → Always IsStep (waiting_in word fs)
 of_waiting word fs = either IsStep (bytes_eq word (codes "hold")) (hold_in fs) (if bytes_eq word (codes "release") then release_in fs else (if bytes_eq word (codes "until") then until_in fs else (if bytes_eq word (codes "settle") then settle_in fs else (stray_in fs)))) (of_hold fs) (either IsStep (bytes_eq word (codes "release")) (release_in fs) (if bytes_eq word (codes "until") then until_in fs else (if bytes_eq word (codes "settle") then settle_in fs else (stray_in fs))) (of_release fs) (either IsStep (bytes_eq word (codes "until")) (until_in fs) (if bytes_eq word (codes "settle") then settle_in fs else (stray_in fs)) (of_until fs) (either IsStep (bytes_eq word (codes "settle")) (settle_in fs) (stray_in fs) (of_settle fs) (of_stray fs))))

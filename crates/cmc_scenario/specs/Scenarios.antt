@@ -4,7 +4,7 @@ use Rattle.std.specs.declared.result.Result.{Result}
 use Rattle.serde_json.specs.Data.{Data, null, boolean, number, string, array, object, Items, no_items, item}
 use Rattle.cmc_time.specs.Reading.{rfc3339_seconds}
 use Rattle.cmc_objects.specs.declared.entry.Step.{Step}
-use Rattle.cmc_cursor.specs.Reading.{Read, ◌>>=◌, under, Field, fields_at, optional_at, at_end}
+use Rattle.cmc_cursor.specs.Reading.{Path, Read, text_of, in_words, ◌>>=◌, under, Field, fields_at, optional_at, at_end}
 use Rattle.cmc_cursor.specs.Readers.{found, text_at, count_at, floats_at}
 use Rattle.cmc_setup.specs.Setups.{Setup, first_moment, last_moment}
 use Rattle.cmc_setup.specs.Stages.{first_stage}
@@ -106,14 +106,23 @@ unfoldable pub members_at : Data → Read Scenario
 members_at d = fields_at d >>= setup_in
 
 -- The same, where no number in the whole value is kept as a float.
-unfoldable pub scenario_at : Data → Read Scenario
-scenario_at d = do
+unfoldable pub whole_at : Data → Read Scenario
+whole_at d = do
   scenario ← members_at d
   none ← floats_at d
   Ok scenario
 
+-- The scenario of a value, or the text of the first path that fails.
+unfoldable pub scenario_at : Data → Result Scenario (List ℕ)
+scenario_at d = in_words (whole_at d)
+
+-- The text of a path, or memory ran out.
+abbrev pub FailsAt : Path → BadScenario → Type 0
+FailsAt path (bad.Path text) = text ≡ text_of path
+FailsAt path bad.NoMemory = Unit {0}
+
 -- What `read` answered is what the form gives; or memory ran out.
-abbrev pub IsReading : Read Scenario → Result Scenario BadScenario → Type 0
+abbrev pub IsReading : Result Scenario (List ℕ) → Result Scenario BadScenario → Type 0
 IsReading read (Ok scenario) = read ≡ Ok scenario
 IsReading read (Err (bad.Path path)) = read ≡ Err path
 IsReading read (Err bad.NoMemory) = Unit {0}

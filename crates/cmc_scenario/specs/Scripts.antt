@@ -161,7 +161,7 @@ stray_in fs = do
   certificate ← optional_at (codes "certificate") behind.1
   second ← passes (codes "certificate") certificate.0
   word ← required_at (codes "do") certificate.1
-  Err (codes "do")
+  Err (codes "do" ∷ [])
 
 -- The word decides the form of the members: steps on informers and waits,
 abbrev pub waiting_in : List ℕ → List Field → Read Step
@@ -191,11 +191,11 @@ step_at d = fields_at d >>= step_in (text_member (codes "do") d)
 
 -- The step at place n, once it has been read: one that may not be made when its turn comes fails as a whole.
 abbrev pub in_turn : ℕ → Stage → Step → Read Step
-in_turn n stage step = if is_in_turn stage step then Ok step else Err (decimal n)
+in_turn n stage step = if is_in_turn stage step then Ok step else Err (decimal n ∷ [])
 
 -- The step at place n of a list. A list has at most 10,000: the first one past that fails.
 unfoldable pub numbered_step_at : ℕ → Stage → Data → Read Step
-numbered_step_at n stage d = if nat_lt n 10000 then under (decimal n) (step_at d) >>= in_turn n stage else Err (decimal n)
+numbered_step_at n stage d = if nat_lt n 10000 then under (decimal n) (step_at d) >>= in_turn n stage else Err (decimal n ∷ [])
 
 -- The steps of a list, whose places count from n, from this stage on.
 abbrev pub steps_from : ℕ → Stage → Items → Read (List Step)

@@ -11,7 +11,7 @@ ghost use Rattle.cmc_scenario.specs.Scenarios.{beginning_in, faults_at, in_run, 
 use crate::roles::given_roles;
 use cmc_cursor::{BadField, Fields, at, at_place, count, optional};
 use cmc_material::{approver, bounded_or, material};
-use cmc_meta::{Numbers, Text};
+use cmc_meta::{Numbers, Texts};
 use cmc_objects::{Material, Rules};
 use cmc_setup::Roles;
 use cmc_time::read_rfc3339;
@@ -52,7 +52,7 @@ fn rising(alloc: Global, last: u64, value: &Value) -> Result<u64, BadField>
     if last < number {
         return Ok(number);
     }
-    Err(BadField::Path(Text::new(alloc)))
+    Err(BadField::Path(Texts::new(alloc)))
 }
 
 fn numbered_fault(alloc: Global, place: usize, last: u64, value: &Value) -> Result<u64, BadField>
@@ -83,7 +83,7 @@ fn listed(alloc: Global, value: &Value) -> Result<Numbers, BadField>
 {
     match value {
         Value::Array(items) => faults_of(alloc, items.as_slice()),
-        _ => Err(BadField::Path(Text::new(alloc))),
+        _ => Err(BadField::Path(Texts::new(alloc))),
     }
 }
 
@@ -102,7 +102,7 @@ fn within(alloc: Global, at: i64) -> Result<i64, BadField>
     if FIRST_MOMENT <= at && at <= LAST_MOMENT {
         return Ok(at);
     }
-    Err(BadField::Path(Text::new(alloc)))
+    Err(BadField::Path(Texts::new(alloc)))
 }
 
 fn second_of(alloc: Global, text: &str) -> Result<i64, BadField>
@@ -110,7 +110,7 @@ fn second_of(alloc: Global, text: &str) -> Result<i64, BadField>
 {
     match read_rfc3339(text) {
         Ok(at) => Ok(at),
-        Err(_) => Err(BadField::Path(Text::new(alloc))),
+        Err(_) => Err(BadField::Path(Texts::new(alloc))),
     }
 }
 
@@ -126,7 +126,7 @@ fn moment(alloc: Global, value: &Value) -> Result<i64, BadField>
 {
     match value.as_str() {
         Some(text) => moment_of(alloc, text),
-        None => Err(BadField::Path(Text::new(alloc))),
+        None => Err(BadField::Path(Texts::new(alloc))),
     }
 }
 

@@ -5,13 +5,13 @@ ghost use Rattle.serde_json.specs.Written.{has_float};
 ghost use Rattle.cmc_setup.specs.Setups.{IsSetup};
 ghost use Rattle.cmc_cursor.specs.Reading.{Gives};
 ghost use Rattle.cmc_cursor.specs.Seen.{shown};
-ghost use Rattle.cmc_scenario.specs.Scenarios.{setup_of, setup_in, members_at, scenario_at, IsReading};
+ghost use Rattle.cmc_scenario.specs.Scenarios.{setup_of, setup_in, members_at, whole_at, scenario_at, FailsAt, IsReading};
 
 use crate::members::{Beginning, LARGEST_SIZE, World, beginning_members, world_members};
 use crate::steps::script;
-use cmc_cursor::{BadField, Fields, check_end, check_floats, fields, optional};
+use cmc_cursor::{BadField, Fields, check_end, check_floats, fields, optional, path_text};
 use cmc_material::bounded_or;
-use cmc_meta::Text;
+use cmc_meta::{Text, Texts};
 use cmc_setup::{Scenario, Steps};
 use serde_json::Value;
 use std::alloc::Global;
@@ -19,8 +19,8 @@ use std::alloc::Global;
 /// Why a value is no scenario.
 #[derive(Drop)]
 pub enum BadScenario {
-    /// The value fails at this path first: member names and places in lists (from 0), joined by
-    /// dots. The empty path is the value itself.
+    /// The value fails at this path first: member names and places in lists (from 0), joined by dots. The empty text
+    /// is the value itself, or a member of it whose name is empty.
     Path(Text),
     /// Memory ran out.
     NoMemory,
@@ -64,14 +64,23 @@ fn members(alloc: Global, value: &Value) -> Result<Scenario, BadField>
     setup(alloc, &members)
 }
 
-#[tactic(auto, unfolding(crate::specs::Scenarios::scenario_at))]
+#[tactic(auto, unfolding(crate::specs::Scenarios::whole_at))]
 fn whole(alloc: Global, value: &Value) -> Result<Scenario, BadField>
-    ensures first { Gives (λ t. t) result (scenario_at (view value.now)) }
+    ensures first { Gives (λ t. t) result (whole_at (view value.now)) }
     ensures none { OnOk result (has_float (view value.now) ≡ false) }
 {
     let scenario = members(alloc, value)?;
     check_floats(alloc, value)?;
     Ok(scenario)
+}
+
+fn failing_at(alloc: Global, path: &Texts) -> BadScenario
+    ensures { FailsAt path.now result }
+{
+    match path_text(alloc, path) {
+        Ok(text) => BadScenario::Path(text),
+        Err(_) => BadScenario::NoMemory,
+    }
 }
 
 /// The scenario that a value describes.
@@ -94,13 +103,14 @@ fn whole(alloc: Global, value: &Value) -> Result<Scenario, BadField>
 /// # Errors
 ///
 /// `Path` exactly where the value is not of this form, with the first failing path.
+#[tactic(auto, unfolding(crate::specs::Scenarios::scenario_at))]
 pub fn read(alloc: Global, value: &Value) -> Result<Scenario, BadScenario>
     ensures form { IsReading (scenario_at (view value.now)) result }
     ensures whole { OnOk result (has_float (view value.now) ≡ false) }
 {
     match whole(alloc, value) {
         Ok(scenario) => Ok(scenario),
-        Err(BadField::Path(path)) => Err(BadScenario::Path(path)),
+        Err(BadField::Path(path)) => Err(failing_at(alloc, &path)),
         Err(BadField::NoMemory) => Err(BadScenario::NoMemory),
     }
 }

@@ -7,7 +7,7 @@ ghost use Rattle.cmc_scenario.specs.Roles.{all_roles, kind_at, named_roles_at, r
 
 use cmc_cursor::{BadField, at, at_place};
 use cmc_material::kind_of;
-use cmc_meta::{Kind, Text};
+use cmc_meta::{Kind, Texts};
 use cmc_objects::Role;
 use cmc_setup::Roles;
 use serde_json::Value;
@@ -25,7 +25,7 @@ fn role_of(alloc: Global, text: &str) -> Result<Role, BadField>
         "issuing" => Ok(Role::Issuing),
         "readiness" => Ok(Role::Readiness),
         "revision" => Ok(Role::Revision),
-        _ => Err(BadField::Path(Text::new(alloc))),
+        _ => Err(BadField::Path(Texts::new(alloc))),
     }
 }
 
@@ -35,7 +35,7 @@ pub fn role(alloc: Global, value: &Value) -> Result<Role, BadField>
 {
     match value.as_str() {
         Some(text) => role_of(alloc, text),
-        None => Err(BadField::Path(Text::new(alloc))),
+        None => Err(BadField::Path(Texts::new(alloc))),
     }
 }
 
@@ -45,7 +45,7 @@ pub fn kind(alloc: Global, value: &Value) -> Result<Kind, BadField>
 {
     match value.as_str() {
         Some(text) => kind_of(alloc, text),
-        None => Err(BadField::Path(Text::new(alloc))),
+        None => Err(BadField::Path(Texts::new(alloc))),
     }
 }
 
@@ -73,7 +73,7 @@ fn named_roles(alloc: Global, value: &Value) -> Result<Roles, BadField>
 {
     match value {
         Value::Array(items) => roles_of(alloc, items.as_slice()),
-        _ => Err(BadField::Path(Text::new(alloc))),
+        _ => Err(BadField::Path(Texts::new(alloc))),
     }
 }
 

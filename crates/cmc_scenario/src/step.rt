@@ -8,9 +8,8 @@ ghost use Rattle.cmc_scenario.specs.Scripts.{apply_in, delete_in, stray_in, step
 use crate::applied::{applied, member, pass};
 use crate::certificate_steps::{answer, approve, deny, renew};
 use crate::role_steps::{hold, release, settle, start, stop, tick, until};
-use cmc_cursor::{BadField, Fields, at, check_end, fields, optional, required};
+use cmc_cursor::{BadField, Fields, at, check_end, fields, optional, path_to, required};
 use cmc_material::{count_option, key};
-use cmc_meta::Text;
 use cmc_objects::Step;
 use serde_json::Value;
 use std::alloc::Global;
@@ -48,7 +47,7 @@ fn stray(alloc: Global, rest: Fields<'_, '_>) -> Result<Step, BadField>
     let (given, rest) = optional(alloc, rest, "certificate")?;
     pass(alloc, "certificate", given)?;
     required(alloc, rest, "do")?;
-    Err(BadField::Path(Text::from_str(alloc, "do")?))
+    Err(BadField::Path(path_to(alloc, "do")?))
 }
 
 fn waiting(alloc: Global, word: &str, rest: Fields<'_, '_>) -> Result<Step, BadField>

@@ -7,8 +7,8 @@ ghost use Rattle.cmc_cursor.specs.Seen.{shown_option};
 ghost use Rattle.cmc_scenario.specs.Scripts.{GivesStep, numbered_step_at, steps_from, steps_at, script_at};
 
 use crate::step::step;
-use cmc_cursor::{BadField, at, at_place, place_path};
-use cmc_meta::Text;
+use cmc_cursor::{BadField, at, at_place, path_to_place};
+use cmc_meta::Texts;
 use cmc_objects::{Role, Step};
 use cmc_setup::{Stage, Steps};
 use serde_json::Value;
@@ -26,12 +26,12 @@ fn numbered_step(
     ensures { (before : StageValue) → IsStage stage before → GivesStep before result (numbered_step_at place before (view value.now)) }
 {
     if place >= MOST_STEPS {
-        return Err(BadField::Path(place_path(alloc, place)?));
+        return Err(BadField::Path(path_to_place(alloc, place)?));
     }
     let step = at_place(alloc, place, step(alloc, value))?;
     match stage.after(&step) {
         Some(next) => Ok((step, next)),
-        None => Err(BadField::Path(place_path(alloc, place)?)),
+        None => Err(BadField::Path(path_to_place(alloc, place)?)),
     }
 }
 
@@ -57,7 +57,7 @@ fn listed(alloc: Global, roles: &[Role], now: i64, value: &Value) -> Result<Step
 {
     match value {
         Value::Array(items) => steps_of(alloc, roles, now, items.as_slice()),
-        _ => Err(BadField::Path(Text::new(alloc))),
+        _ => Err(BadField::Path(Texts::new(alloc))),
     }
 }
 

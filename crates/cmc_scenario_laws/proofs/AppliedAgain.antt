@@ -277,7 +277,7 @@ stranger_so : (fs : List Field) → Always IsAppliedAgain (stranger_in fs)
 unfolding stranger_in
 stranger_so fs =
     next IsAppliedAgain (needed_at any_version_at (codes "apiVersion") fs) _ (λ api. next IsAppliedAgain (optional_at (codes "data") api.1) _
-    (λ given. next IsAppliedAgain (passes (codes "data") given.0) _ (λ _. next IsAppliedAgain (required_at (codes "kind") given.1) _ (λ kind. failed (codes "kind")))))
+    (λ given. next IsAppliedAgain (passes (codes "data") given.0) _ (λ _. next IsAppliedAgain (required_at (codes "kind") given.1) _ (λ kind. failed (codes "kind" ∷ [])))))
 
 object_so : (kind : Option (List ℕ)) (fs : List Field) → Always IsAppliedAgain (object_in kind fs)
 object_so None fs = stranger_so fs

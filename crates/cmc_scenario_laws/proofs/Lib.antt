@@ -20,3 +20,4 @@ mod Floats
 mod ObjectFloats
 mod ScenarioFloats
 mod ScenarioLaws
+pub mod BoundRows

@@ -86,10 +86,10 @@ pub numbered_below_again : {A : Type 0} (Q : A → Type 0) (most : ℕ) (read : 
     → (n : ℕ) (d : Data) → Always (Again Q (numbered_below most read n) tree) (numbered_below most read n d)
 unfolding numbered_below
 numbered_below_again Q most read tree each n d =
-    where_true (Again Q (numbered_below most read n) tree) (nat_lt n most) (under (decimal n) (read d)) (decimal n)
+    where_true (Again Q (numbered_below most read n) tree) (nat_lt n most) (under (decimal n) (read d)) (decimal n ∷ [])
     (λ e. below (Again Q (numbered_below most read n) tree) (decimal n) (read d)
     (further (Again Q read tree) (Again Q (numbered_below most read n) tree) (read d)
-    (λ x is q. early (nat_lt n most) (under (decimal n) (read (tree x))) (Err (decimal n)) x e (under_given (decimal n) (read (tree x)) x (is q))) (each d)))
+    (λ x is q. early (nat_lt n most) (under (decimal n) (read (tree x))) (Err (decimal n ∷ [])) x e (under_given (decimal n) (read (tree x)) x (is q))) (each d)))
 
 abbrev AreAgain : {A : Type 0} → (A → Type 0) → (ℕ → Data → Read A) → (A → Data) → ℕ → List A → Type 0
 AreAgain Q read tree n xs = AllByRecursion Q xs → items_from read n (items_of (map tree xs)) ≡ Ok xs

@@ -187,7 +187,7 @@ no_reply_so fs =
     (λ second. next IsReplyAgain (optional_at (codes "der") ca.1) _ (λ der. next IsReplyAgain (passes (codes "der") der.0) _
     (λ third. next IsReplyAgain (optional_at (codes "key") der.1) _ (λ key. next IsReplyAgain (passes (codes "key") key.0) _
     (λ fourth. next IsReplyAgain (optional_at (codes "message") key.1) _ (λ message. next IsReplyAgain (passes (codes "message") message.0) _
-    (λ fifth. next IsReplyAgain (required_at (codes "reply") message.1) _ (λ word. failed (codes "reply"))))))))))))
+    (λ fifth. next IsReplyAgain (required_at (codes "reply") message.1) _ (λ word. failed (codes "reply" ∷ []))))))))))))
 
 reply_form_so : (word : Option (List ℕ)) (fs : List Field) → Always IsReplyAgain (reply_row_in word fs)
 reply_form_so None fs = no_reply_so fs

@@ -23,9 +23,9 @@ numbered_again n stage step early again turn = rw (early, again, turn) refl
 numbered_so : (n : ℕ) (stage : Stage) (d : Data) → Always (IsNumbered n stage) (numbered_step_at n stage d)
 unfolding numbered_step_at
 numbered_so n stage d =
-    where_true (IsNumbered n stage) (nat_lt n 10000) (under (decimal n) (step_at d) >>= in_turn n stage) (decimal n)
+    where_true (IsNumbered n stage) (nat_lt n 10000) (under (decimal n) (step_at d) >>= in_turn n stage) (decimal n ∷ [])
     (λ early. after IsStepAgain (IsNumbered n stage) (under (decimal n) (step_at d)) (in_turn n stage) (below IsStepAgain (decimal n) (step_at d) (step_so d))
-    (λ step again. where_true (IsNumbered n stage) (is_in_turn stage step) (Ok step) (decimal n) (λ turn. so (λ bytes. numbered_again n stage step early (again bytes) turn))))
+    (λ step again. where_true (IsNumbered n stage) (is_in_turn stage step) (Ok step) (decimal n ∷ []) (λ turn. so (λ bytes. numbered_again n stage step early (again bytes) turn))))
 
 abbrev AreNumbered : ℕ → Stage → List Step → Type 0
 AreNumbered n stage steps = HaveStepBytes steps → steps_from n stage (items_of (map step_tree steps)) ≡ Ok steps

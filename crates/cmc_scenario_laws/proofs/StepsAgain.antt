@@ -1,5 +1,5 @@
 -- Steps that were read are printed as steps that are read again.
-use Rattle.std.proofs.Common.{◌≡◌, ℕ, List, Ok, Option, Some, None, refl, codes}
+use Rattle.std.proofs.Common.{◌≡◌, ℕ, List, [], ◌∷◌, Ok, Option, Some, None, refl, codes}
 use Rattle.std.specs.Prelude.{if◌then◌else◌}
 use Rattle.std.specs.Str.{bytes_eq}
 use Rattle.serde_json.specs.Data.{Data, string}
@@ -225,7 +225,7 @@ unfolding stray_in
 stray_so fs =
     next IsStepAgain (optional_at (codes "behind") fs) _ (λ behind. next IsStepAgain (passes (codes "behind") behind.0) _
     (λ first. next IsStepAgain (optional_at (codes "certificate") behind.1) _ (λ certificate. next IsStepAgain (passes (codes "certificate") certificate.0) _
-    (λ second. next IsStepAgain (required_at (codes "do") certificate.1) _ (λ word. failed (codes "do"))))))
+    (λ second. next IsStepAgain (required_at (codes "do") certificate.1) _ (λ word. failed (codes "do" ∷ []))))))
 
 -- ---- the word decides
 

@@ -10,4 +10,4 @@ pub use laws::{
     printed_reply_is_read, printed_rows_are_read,
 };
 pub use policies::{printed_approver_is_read, printed_policy_is_read};
-pub use scenarios::{printed_scenario_is_read, printed_step_is_read};
+pub use scenarios::{printed_scenario_is_read, printed_step_is_read, scenarios_leave_nothing_free};

@@ -1,6 +1,11 @@
 // The laws of steps and of whole scenarios, and what they rest on.
+ghost use Rattle.std.specs.Prelude.{◌≡◌, ◌≤◌, ℕ, Ok};
+ghost use Rattle.serde_json.specs.Data.{Data};
 ghost use Rattle.base64.specs.GeneralPurpose.{IsBytes};
 ghost use Rattle.cmc_codec.specs.Laws.{EachValue, HasBytes};
+ghost use Rattle.cmc_setup.specs.Setups.{LeavesNothingFree, Setup};
+ghost use Rattle.cmc_scenario.specs.Loads.{load_setup};
+ghost use Rattle.cmc_scenario.specs.Scenarios.{scenario_at};
 ghost use Rattle.cmc_scenario_laws.specs.Steps.{HasStepBytes, HaveStepBytes, IsStepReadAgain};
 ghost use Rattle.cmc_scenario_laws.specs.Scenarios.{IsScenarioReadAgain, IsWholeScenario};
 
@@ -82,3 +87,10 @@ pub fn printed_scenario_is_read(scenario: &Scenario)
 {
     is_whole(scenario);
 }
+
+/// A law: a scenario that is read, and the generated one of 1 to 200 Certificates, leaves neither a key nor an answer
+/// of an issuer open. So whoever makes keys and answers for issuers has one value for each question.
+pub fn scenarios_leave_nothing_free()
+    ensures read { (d : Data) (u : Setup) → scenario_at d ≡ Ok u → LeavesNothingFree u }
+    ensures made { (count : ℕ) → 1 ≤ count → count ≤ 200 → LeavesNothingFree (load_setup count) }
+{}

@@ -107,3 +107,18 @@ is_step_form (steps.Deny certificate revision) = is_certificate certificate
 is_step_form (steps.Answer certificate revision row) = is_certificate certificate && (is_said row && is_row_form row)
 is_step_form (steps.Renew certificate) = is_certificate certificate
 is_step_form other = true
+
+-- ---- rows that leave nothing open
+
+-- the row says which key it is
+abbrev pub is_bound_key : KeyRow → Bool
+is_bound_key key_rows.Free = false
+is_bound_key other = true
+
+-- each row of the Certificate says which key, or which answer it is
+abbrev pub is_bound_entry : Key × Rows → Bool
+is_bound_entry entry = list_all is_bound_key entry.1.keys && list_all is_said entry.1.replies
+
+abbrev pub is_bound_step : Step → Bool
+is_bound_step (steps.Answer certificate revision row) = is_said row
+is_bound_step other = true

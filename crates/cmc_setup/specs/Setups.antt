@@ -9,7 +9,7 @@ use Rattle.cmc_objects.specs.declared.orders.Rules.{Rules}
 use Rattle.cmc_objects.specs.declared.role.Role.{Role}
 use Rattle.cmc_objects.specs.declared.rows.Rows.{Rows}
 use Rattle.cmc_objects.specs.Roles.{role_rank}
-use Rattle.cmc_setup.specs.Forms.{is_approver_form, is_material_form, is_step_form}
+use Rattle.cmc_setup.specs.Forms.{is_approver_form, is_material_form, is_step_form, is_bound_entry, is_bound_step}
 use Rattle.cmc_setup.specs.Holds.{AreHeldInTurn, none_held}
 
 -- what contracts see of a scenario
@@ -29,6 +29,11 @@ pub record Setup : Type 0 where
   -- what the scenario says of keys and issuers
   pub material : List (Key × Rows)
   pub script : List Step
+
+-- neither what is said of keys and issuers nor a step leaves a key or an answer open
+pub record LeavesNothingFree (u : Setup) : Type 0 where
+  pub material : list_all is_bound_entry u.material ≡ true
+  pub script : list_all is_bound_step u.script ≡ true
 
 -- how many seconds a step lets pass
 abbrev pub seconds_of : Step → ℕ

@@ -1,7 +1,7 @@
 //! What no clause says: which texts are values of a type, as JSON writes them.
 use crate::checks::tells;
 use crate::json_texts::value;
-use cmc_cursor::{BadField, flag, small_count, texts};
+use cmc_cursor::{BadField, flag, path_text, small_count, texts};
 use serde_json::Value;
 use std::alloc::{AllocError, Global};
 use std::process::Abort;
@@ -10,7 +10,7 @@ use std::test::Fail;
 /// Where a value fails.
 pub(crate) fn path_told(alloc: Global, bad: BadField) -> Result<String, AllocError> {
     match bad {
-        BadField::Path(path) => format!(in alloc; "at {}", path.as_str()),
+        BadField::Path(path) => format!(in alloc; "at {}", path_text(alloc, &path)?.as_str()),
         BadField::NoMemory => Err(AllocError),
     }
 }

@@ -142,7 +142,7 @@ fn reads_objects_of_each_kind(rt: HostRuntime) -> Result<(), Fail> {
 }
 
 /// Texts that are no objects, and where they fail.
-static NO_OBJECTS: [&str; 34] = [
+static NO_OBJECTS: [&str; 37] = [
     "5|at ",
     "{}|at apiVersion",
     r#"{"apiVersion":"v1"}|at kind"#,
@@ -150,6 +150,9 @@ static NO_OBJECTS: [&str; 34] = [
     r#"{"apiVersion":"v1","data":5,"kind":"X"}|at kind"#,
     r#"{"apiVersion":"v1","data":{"a":[1.5]},"kind":"X"}|at data.a.0"#,
     r#"{"a":1,"apiVersion":5}|at a"#,
+    r#"{"":1,"apiVersion":5}|at "#,
+    r#"{"apiVersion":"v1","data":{"":[{"":1.5}]},"kind":"X"}|at data..0."#,
+    r#"{"apiVersion":"v1","kind":"Secret","metadata":{"labels":{"":5},"name":5}}|at metadata.labels."#,
     r#"{"apiVersion":"cert-manager.io/v1","kind":"Secret"}|at apiVersion"#,
     r#"{"apiVersion":"v1","kind":"Certificate"}|at apiVersion"#,
     r#"{"apiVersion":"cert-manager.io/v1","data":{},"kind":"Certificate"}|at data"#,

@@ -300,7 +300,7 @@ fn reads_rows_and_policies(rt: HostRuntime) -> Result<(), Fail> {
 }
 
 /// Texts, and behind a bar where each fails that is no scenario.
-static TEXTS: [&str; 31] = [
+static TEXTS: [&str; 37] = [
     r#"{"events":0}|at events"#,
     r#"{"events":1.5}|at events"#,
     r#"{"events":250001}|at events"#,
@@ -314,6 +314,12 @@ static TEXTS: [&str; 31] = [
     r#"{"script":5}|at script"#,
     "[]|at ",
     r#"{"":1}|at "#,
+    r#"{"":{"x":1}}|at "#,
+    r#"{"material":{"":{}}}|at material."#,
+    r#"{"approver":{"":1}}|at approver."#,
+    r#"{"script":[{"":1}]}|at script.0."#,
+    r#"{"script":[{"do":"apply","object":{"":{"":1}}}]}|at script.0.object."#,
+    r#"{"script":[{"do":"apply","object":{"apiVersion":"cert-manager.io/v1","kind":"Certificate","metadata":{"name":"web","namespace":"default"},"spec":{"":1,"issuerRef":{"name":"ca"},"secretName":"web-tls"}}}]}|at script.0.object.spec."#,
     r#"{"now":[1.5]}|at now"#,
     r#"{"now":"1951-01-01T00:00:00Z","roles":[]}|ok"#,
     r#"{"now":"1950-12-31T23:59:59Z","roles":[]}|at now"#,

@@ -10,24 +10,32 @@ use Rattle.cmc_objects.specs.declared.role.Role.{Role}
 use Rattle.cmc_objects.specs.declared.object.Object.{Object}
 use Rattle.cmc_objects.specs.declared.call.Call.{Call}
 use Rattle.cmc_objects.specs.declared.call.Reply.{Reply}
+use Rattle.cmc_objects.specs.declared.call.Reply.TheVariants.{Ok, Unchanged}
+use Rattle.cmc_objects.specs.declared.certificate.Certificate.{Certificate}
 use Rattle.cmc_objects.specs.declared.entry.Cause.{Cause}
 use Rattle.cmc_objects.specs.declared.entry.Who.TheVariants.{Pass}
 use Rattle.cmc_objects.specs.declared.entry.Entry.{Entry}
 use Rattle.cmc_objects.specs.declared.entry.Entry.TheVariants.{Call as Called, End}
 use Rattle.cmc_model.specs.declared.write.Write.{Write}
 use Rattle.cmc_rules.specs.declared.progress.Stage.{Stage}
+use Rattle.cmc_rules.specs.declared.progress.Stage.TheVariants.{Read}
 use Rattle.cmc_rules.specs.declared.progress.OpenPass.{OpenPass}
 use Rattle.cmc_rules.specs.declared.progress.Past.{Past}
 use Rattle.cmc_model.specs.Replies.{State, IsReply, is_accepted, key_of_call, key_written, object_written, settled, state_after}
 use Rattle.cmc_model.specs.Histories.{Setting, moment, state, accepted, role_eq}
 use Rattle.cmc_model.specs.Writes.{write_of, writes, last_under}
 use Rattle.cmc_rules.specs.Positions.{position_of}
-use Rattle.cmc_rules.specs.Passes.{open_pass, stage_by, stage_after, with_stage}
+use Rattle.cmc_rules.specs.Issuing.{issuing}
+use Rattle.cmc_rules.specs.Passes.{open_pass, stands_in, writes_stand_in, stage_written, stage_by, stage_after, with_stage}
+use Rattle.cmc_rules.specs.Runs.{IsPartOfRun}
 use Rattle.cmc_rules.specs.Memory.{with_ending}
 use Rattle.cmc_rules.specs.Causes.{MayCall, MayEnd}
 use Rattle.cmc_rules.specs.Following.{written}
 use Rattle.cmc_model.proofs.Writes.{writes_count}
 use Rattle.cmc_rules.proofs.Positions.{calls_short, accepted_short}
+use Rattle.cmc_rules.proofs.WellSeen.{SawAll, saw_all}
+use Rattle.cmc_safety.proofs.Course.{of_open, marked_as_planned}
+use Rattle.cmc_moves.proofs.Sounds.{each_sound}
 use Rattle.cmc_held.specs.declared.role_states.RoleState.{RoleState}
 use Rattle.cmc_world.specs.declared.advance.Calling.{Calling}
 use Rattle.cmc_world.specs.declared.advance.Closing.{Closing}
@@ -73,6 +81,20 @@ own_stage : (own : Bool) (m n : ℕ) (p : OpenPass) (stage : OpenPass → Stage)
 own_stage true m n p stage o is there = let same : m ≡ n = grind (arith, nat_tests) in rw (there same) refl
 own_stage false m n p stage o is there = refl
 
+-- what is written has a mark exactly where the plan of the pass says so, at the one stage that asks
+same_written : (a b : Bool) (stage : Stage) → (stage ≡ Read → a ≡ b) → stage_written a stage ≡ stage_written b stage
+same_written a b Read same = ap (λ (x : Bool). stage_written x Read) (same refl)
+same_written a b other same = refl
+
+same_stage : (a b : Bool) (c : Option Certificate) (stage : Stage) (entry : ℕ) (kind : Kind) (last : ℕ) (reply : Reply) → (stage ≡ Read → a ≡ b) → stage_by c a stage entry kind last reply ≡ stage_by c b stage entry kind last reply
+same_stage a b c stage entry kind last (Ok version name) same = same_written a b stage same
+same_stage a b c stage entry kind last (Unchanged version) same = same_written a b stage same
+same_stage a b c stage entry kind last other same = refl
+
+marked : (s : Setting) (h : List Entry) (n : ℕ) (p : OpenPass) (call : Call) → IsPartOfRun s h → open_pass s h n ≡ Some p → MayCall s h (Some p) call → p.stage ≡ Read → writes_stand_in call ≡ stands_in (issuing p.seen p.since)
+marked s h n p call run opened may read =
+    marked_as_planned each_sound s h p call (of_open (SawAll (writes s h)) (open_pass s h n) p opened (saw_all s h n run.legal)) may read
+
 pub kept_call : (s : Setting) (h : List Entry) (w : Holdings) (n : ℕ) (call : Call) (c : Calling) (reply : Reply) (key : Option Key) (object : Option Object) (stage : Stage) (now : ℤ) (version entry : ℕ)
     (fs : List ℕ) (st : State) (log : List Write) (t : Role → RoleState) (opened : ℕ → Option OpenPass) (pasts : Role → Key → Past)
     → IsKept s h w → IsCalling s h n call c → MayCall s h (open_pass s h n) call → length h < s.events → now ≡ w.moment
@@ -89,7 +111,9 @@ kept_call s h w n call c reply key object stage now version entry fs st log t op
     staged is.pass (k.held.opened n ∙ is.opened) ∙ ap (λ (m : ℕ). stage_by is.pass.seen.certificate c.stand_in is.pass.stage m c.named.kind (last_under c.named w.log) reply) e
     ∙ ap (λ (ws : List Write). stage_by is.pass.seen.certificate c.stand_in is.pass.stage (length h + 1) c.named.kind (last_under c.named ws) reply) k.held.log
     ∙ ap (λ (q : Key). stage_by is.pass.seen.certificate c.stand_in is.pass.stage (length h + 1) q.kind (last_under q (writes s h)) reply) is.named
-    ∙ ap (λ (b : Bool). stage_by is.pass.seen.certificate b is.pass.stage (length h + 1) (key_of_call call).kind (last_under (key_of_call call) (writes s h)) reply) is.stand_in in
+    ∙ ap (λ (b : Bool). stage_by is.pass.seen.certificate b is.pass.stage (length h + 1) (key_of_call call).kind (last_under (key_of_call call) (writes s h)) reply) is.stand_in
+    ∙ same_stage (writes_stand_in call) (stands_in (issuing is.pass.seen is.pass.since)) is.pass.seen.certificate is.pass.stage (length h + 1) (key_of_call call).kind (last_under (key_of_call call) (writes s h)) reply
+    (marked s h n is.pass call k.held.run is.opened (subst (λ (o : Option OpenPass). MayCall s h o call) is.opened may)) in
     let right_is = right_reply s h w call reply k right in
     let after_is : st ≡ state_after (moment s h) (state s h) call reply = after ∙ ap (λ (x : ℤ). state_after x w.state call reply) now_is ∙ ap (λ (x : State). state_after (moment s h) x call reply) k.held.state in
     let log_is : log ≡ (if is_accepted reply then write_of (moment s h) (state s h) (settled call reply) ∷ w.log else w.log) =

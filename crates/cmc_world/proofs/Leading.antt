@@ -29,7 +29,7 @@ use Rattle.cmc_rules.specs.Causes.{IsCausedEntry, IsCaused, act_of, IsAsked, Ask
 use Rattle.cmc_rules.specs.Scripting.{scripted, step_at}
 use Rattle.cmc_rules.specs.Following.{FollowsEntry, Follows, effect_of, owed}
 use Rattle.cmc_rules.specs.Rights.{KeepsRights}
-use Rattle.cmc_rules.specs.Runs.{IsRun}
+use Rattle.cmc_rules.specs.Runs.{IsPartOfRun, IsRun}
 use Rattle.cmc_moves.specs.declared.moves.Move.{Move}
 use Rattle.cmc_moves.specs.declared.moves.Move.TheVariants as moves
 use Rattle.cmc_moves.specs.declared.moves.Stepped.{Stepped}
@@ -41,15 +41,16 @@ use Rattle.cmc_safety.specs.Formed.{IsFormed}
 use Rattle.cmc_safety.proofs.Rights.{keeps_rights}
 use Rattle.cmc_safety.proofs.Safe.{safe}
 use Rattle.cmc_world.proofs.Asking.{silent}
+use Rattle.cmc_world.proofs.Said.{settled_run}
 use Rattle.cmc_moves.proofs.Sounds.{each_sound}
 use Rattle.cmc_world.proofs.Stepping.{low_start}
 use Rattle.cmc_moves.proofs.Tables.{MayDeliver, may_deliver, may_begin, may_step, room_next, MayTell, may_tell, next_done, next_told, may_give}
 
 -- ---- one entry more
 
--- a run, with nothing owed to the script
+-- a part of a run, with nothing owed to the script
 pub record IsSettled (s : Setting) (h : List Entry) : Type 0 where
-  pub run : IsRun s h
+  pub run : IsPartOfRun s h
   pub settled : owed s h ≡ None
 
 -- legal, caused and following, and it fits
@@ -59,7 +60,7 @@ pub record IsFair (s : Setting) (h : List Entry) (e : Entry) : Type 0 where
   pub follows : FollowsEntry s h e
   pub short : length h < s.events
 
-one_more : (s : Setting) (h : List Entry) (e : Entry) → IsRun s h → IsFair s h e → IsRun s (e ∷ h)
+one_more : (s : Setting) (h : List Entry) (e : Entry) → IsPartOfRun s h → IsFair s h e → IsPartOfRun s (e ∷ h)
 unfolding IsLegal IsCaused Follows
 one_more s h e run fair = record { legal = (fair.legal, run.legal); caused = (fair.caused, run.caused); follows = (fair.follows, run.follows); short = omega (arith, fair.short) }
 
@@ -84,7 +85,7 @@ fair_effect s h (effects.Start role at) e due is room =
     subst (λ (x : Entry). IsFair s (Script (scripted h + 1) ∷ h) x × (owed s (x ∷ Script (scripted h + 1) ∷ h) ≡ None)) (sym is)
     (record { legal = low_of s h (step_at s.script (scripted h + 1)) role at due; caused = tt; follows = due; short = omega (arith, room) }, refl)
 
-by_effect : (s : Setting) (h k : List Entry) (o : Option Effect) → next_effect s h ≡ o → length h + entries_of o ≤ s.events → IsRun s (Script (scripted h + 1) ∷ h)
+by_effect : (s : Setting) (h k : List Entry) (o : Option Effect) → next_effect s h ≡ o → length h + entries_of o ≤ s.events → IsPartOfRun s (Script (scripted h + 1) ∷ h)
     → GrowsBy s (Script (scripted h + 1) ∷ h) o k → IsSettled s k
 by_effect s h k None due room run grown = subst (IsSettled s) (sym grown) (record { run = run; settled = due })
 by_effect s h k (Some effect) due room run (e, is, grown) =
@@ -241,7 +242,8 @@ begins_settled s = record { run = record { legal = tt; caused = tt; follows = tt
 pub keeps : (s : Setting) (ms : List Move) (h : List Entry) → IsFormed s → Lead s ms [] h → IsRun s h × (KeepsRights s h × IsSafe s h)
 keeps s ms h formed led =
     let so = leads s ms [] h led (begins_settled s) in
-    (so.run, (keeps_rights each_sound s h formed so.run, safe each_sound s h formed so.run.legal so.run.caused so.run.follows))
+    let run = settled_run s h so.run so.settled in
+    (run, (keeps_rights each_sound s h formed run, safe each_sound s h formed so.run.legal so.run.caused so.run.follows))
 
 -- one move more
 pub led_on : (s : Setting) (ms : List Move) (h g k : List Entry) (move : Move) → Lead s ms h g → IsStep s g move k → Lead s (ms ++ move ∷ []) h k

@@ -23,3 +23,4 @@ pub mod Ending
 pub mod Spare
 pub mod Elsewhere
 pub mod Prospects
+pub mod OwnQuestions

@@ -1,5 +1,5 @@
 -- A role that was told of all writes of the kinds that it looks at sees what there is to see.
-use Rattle.std.proofs.Common.{◌≡◌, ℕ, ◌≤◌, List, [], Option, Some, None, Bool, true, false, cond, refl, sym, ap, ◌∙◌, filter_map, option_and_then}
+use Rattle.std.proofs.Common.{◌≡◌, ℕ, ◌≤◌, length, arith, List, [], Option, Some, None, Bool, true, false, cond, refl, sym, ap, ◌∙◌, filter_map, option_and_then}
 use Rattle.std.proofs.lemmas.Bool.{or_left, or_right}
 use Rattle.std.specs.Prelude.{if◌then◌else◌}
 use Rattle.std.specs.FinMap as map
@@ -24,7 +24,8 @@ use Rattle.cmc_rules.specs.Legality.{IsLegal}
 use Rattle.cmc_model.proofs.Versions.{standing}
 use Rattle.cmc_rules.proofs.Versions.{version_keyed}
 use Rattle.cmc_model.proofs.Writes.{writes_leave}
-use Rattle.cmc_world.proofs.OneKind.{of_kind-oldest, object_at-of_kind, entries-of_kind, filter_map-where}
+use Rattle.cmc_caches.specs.Told.{caches_at}
+use Rattle.cmc_world.proofs.OneKind.{last_low, of_kind-oldest, object_at-of_kind, entries-of_kind, filter_map-where}
 
 -- ---- what only objects of one kind have
 
@@ -110,12 +111,15 @@ each_same f g (Some c) same = same c
 abbrev pub IsToldOfAll : Setting → List Entry → Role → Type 0
 IsToldOfAll s h role = (kind : Kind) → has_informer role kind ≡ true → last_of_kind kind (writes s h) ≤ position h role kind
 
-pub views_newest : (s : Setting) (h : List Entry) (role : Role) (key : Key) → IsLegal s h → IsToldOfAll s h role → views s h role key ≡ present_views s h role key
+-- what is seen at positions that leave no write of these kinds out
+pub views_up_to : (s : Setting) (h : List Entry) (role : Role) (key : Key) (at : Kind → ℕ) → IsLegal s h → ((kind : Kind) → has_informer role kind ≡ true → last_of_kind kind (writes s h) ≤ at kind)
+    → views_in role (record { certificates = objects_of kinds.Certificate s h (at kinds.Certificate); requests = objects_of kinds.CertificateRequest s h (at kinds.CertificateRequest); secrets = objects_of kinds.Secret s h (at kinds.Secret) }) key
+    ≡ present_views s h role key
 unfolding views_in views_of
-views_newest s h role key legal told =
-    let certificates : Objects = objects_of kinds.Certificate s h (position h role kinds.Certificate) in
-    let requests : Objects = objects_of kinds.CertificateRequest s h (position h role kinds.CertificateRequest) in
-    let secrets : Objects = objects_of kinds.Secret s h (position h role kinds.Secret) in
+views_up_to s h role key at legal told =
+    let certificates : Objects = objects_of kinds.Certificate s h (at kinds.Certificate) in
+    let requests : Objects = objects_of kinds.CertificateRequest s h (at kinds.CertificateRequest) in
+    let secrets : Objects = objects_of kinds.Secret s h (at kinds.Secret) in
     let present : Objects = objects s h in
     let certificate : (if works_on_requests role then None else certificate_at certificates key) ≡ (if works_on_requests role then None else certificate_at present key) =
     on_no (works_on_requests role) _ _ _ (λ b. seen_at s h kinds.Certificate _ certificate_in key legal of_certificates (told kinds.Certificate (ap (λ r. if r then false else true) b))) in
@@ -133,3 +137,11 @@ views_newest s h role key legal told =
     ap (λ (c : Option Certificate). if looks_at_requests role then of_certificate (requests_of requests) c else []) certificate
     ∙ on_yes (looks_at_requests role) _ _ _ (λ b. each_same (requests_of requests) (requests_of present) stands (λ c. seen_all s h kinds.CertificateRequest _ (owned_in c) legal (owned_of_requests c) (told kinds.CertificateRequest (or_right _ _ b)))) in
     λ i. record { certificate = certificate i; secret = secret i; next = next i; requests = owned i; request = request i }
+
+pub views_newest : (s : Setting) (h : List Entry) (role : Role) (key : Key) → IsLegal s h → IsToldOfAll s h role → views s h role key ≡ present_views s h role key
+views_newest s h role key legal told = views_up_to s h role key (position h role) legal told
+
+-- and after all writes
+pub views_of_all : (s : Setting) (h : List Entry) (role : Role) (key : Key) (n : ℕ) → n ≡ length (writes s h) → IsLegal s h
+    → views_in role (caches_at (writes s h) (record { certificates = n; requests = n; secrets = n })) key ≡ present_views s h role key
+views_of_all s h role key n all legal = views_up_to s h role key (λ kind. n) legal (λ kind informed. let low = last_low kind (writes s h) in omega (arith, low, all))

@@ -1,5 +1,5 @@
 -- What the history says of each part that a world holds, all at once: a lemma on one entry names the parts that it changes alone.
-use Rattle.std.proofs.Common.{◌≡◌, ◌<◌, List, ◌∷◌, length, arith}
+use Rattle.std.proofs.Common.{◌≡◌, ◌<◌, None, List, ◌∷◌, length, arith}
 use Rattle.cmc_objects.specs.declared.entry.Entry.{Entry}
 use Rattle.cmc_model.specs.Histories.{Setting, moment, state}
 use Rattle.cmc_model.specs.Writes.{writes}
@@ -10,13 +10,13 @@ use Rattle.cmc_rules.specs.Memory.{past}
 use Rattle.cmc_rules.specs.Scripting.{scripted}
 use Rattle.cmc_rules.specs.Legality.{IsLegal, IsLegalEntry}
 use Rattle.cmc_rules.specs.Causes.{IsCaused, IsCausedEntry}
-use Rattle.cmc_rules.specs.Following.{Follows, FollowsEntry}
-use Rattle.cmc_rules.specs.Runs.{IsRun}
+use Rattle.cmc_rules.specs.Following.{Follows, FollowsEntry, owed}
+use Rattle.cmc_rules.specs.Runs.{IsPartOfRun, IsRun}
 use Rattle.cmc_rules.specs.Desks.{asked}
 use Rattle.cmc_held.specs.Questioned.{asks_key_at, asks_issuer_at}
 use Rattle.cmc_safety.specs.Formed.{IsFormed}
 use Rattle.cmc_caches.specs.Told.{caches_at}
-use Rattle.cmc_world.specs.Kept.{first_desk, role_state, Holdings, IsHeld}
+use Rattle.cmc_world.specs.Kept.{first_desk, role_state, Holdings, IsHeld, IsKept}
 
 -- what the history says of each part
 abbrev pub said : Setting → List Entry → Holdings
@@ -55,7 +55,7 @@ are_said s h w k = λ i. record {
 }
 
 -- and what is so is held
-pub held_by : (s : Setting) (h : List Entry) (w : Holdings) → w ≡ said s h → IsRun s h → IsFormed s → IsHeld s h w
+pub held_by : (s : Setting) (h : List Entry) (w : Holdings) → w ≡ said s h → IsPartOfRun s h → IsFormed s → IsHeld s h w
 held_by s h w is run formed = record {
   faults = λ i. (is i).faults;
   state = λ i. (is i).state;
@@ -74,7 +74,14 @@ held_by s h w is run formed = record {
   formed = formed;
 }
 
--- an entry that is legal, has its cause and follows the script goes on with a run
-pub run_on : (s : Setting) (h : List Entry) (e : Entry) → IsRun s h → IsLegalEntry s h e → IsCausedEntry s h e → FollowsEntry s h e → length h < s.events → IsRun s (e ∷ h)
+-- an entry that is legal, has its cause and follows the script goes on with it
+pub run_on : (s : Setting) (h : List Entry) (e : Entry) → IsPartOfRun s h → IsLegalEntry s h e → IsCausedEntry s h e → FollowsEntry s h e → length h < s.events → IsPartOfRun s (e ∷ h)
 unfolding IsLegal IsCaused Follows
 run_on s h e run legal caused follows room = record { legal = (legal, run.legal); caused = (caused, run.caused); follows = (follows, run.follows); short = omega (arith, room) }
+
+-- where nothing is owed to the script the history is one of a run
+pub settled_run : (s : Setting) (h : List Entry) → IsPartOfRun s h → owed s h ≡ None → IsRun s h
+settled_run s h part settled = record { legal = part.legal; caused = part.caused; follows = part.follows; short = part.short; settled = settled }
+
+pub run_of : (s : Setting) (h : List Entry) (w : Holdings) → IsKept s h w → IsRun s h
+run_of s h w k = settled_run s h k.held.run k.settled

@@ -19,7 +19,7 @@ use Rattle.cmc_rules.specs.Origins.{origins}
 use Rattle.cmc_rules.specs.Memory.{past}
 use Rattle.cmc_rules.specs.Scripting.{scripted, held}
 use Rattle.cmc_rules.specs.Following.{owed, written}
-use Rattle.cmc_rules.specs.Runs.{IsRun}
+use Rattle.cmc_rules.specs.Runs.{IsPartOfRun}
 use Rattle.cmc_rules.specs.Desks.{asked}
 use Rattle.cmc_setup.specs.Setups.{Setup}
 use Rattle.cmc_safety.specs.Formed.{IsFormed}
@@ -83,7 +83,7 @@ pub record Holdings : Type 0 where
 abbrev pub first_desk : Setting → Desk
 first_desk s = record { material = s.material; asked = 0; rules = s.rules }
 
--- each is what the history says, and the history is one of a run
+-- each is what the history says, and the history is a part of one of a run
 pub record IsHeld (s : Setting) (h : List Entry) (w : Holdings) : Type 0 where
   pub faults : w.faults ≡ s.faults
   pub state : w.state ≡ state s h
@@ -98,7 +98,7 @@ pub record IsHeld (s : Setting) (h : List Entry) (w : Holdings) : Type 0 where
   pub keys_asked : (subject : Subject) → w.keys_asked subject ≡ asked (asks_key_at subject) h
   pub answers_asked : (subject : Subject) → w.answers_asked subject ≡ asked (asks_issuer_at subject) h
   pub desk : w.desk ≡ first_desk s
-  pub run : IsRun s h
+  pub run : IsPartOfRun s h
   pub formed : IsFormed s
 
 -- and nothing is owed to the script

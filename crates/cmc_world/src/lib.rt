@@ -16,4 +16,4 @@ mod work_queue;
 mod world;
 
 pub use cmc_moves::{Begun, Decided, Lack, Move, Prospect, Stepped, decide, decides_alone};
-pub use world::{World, every_list_of_moves};
+pub use world::{World, every_list_of_moves, passes_keep_to_their_courses};

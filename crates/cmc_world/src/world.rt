@@ -13,7 +13,9 @@ ghost use Rattle.cmc_rules.specs.Desks.{desk as desk_at};
 ghost use Rattle.cmc_rules.specs.Safety.{IsSafe};
 ghost use Rattle.cmc_rules.specs.Viewing.{views};
 ghost use Rattle.cmc_safety.specs.Acting.{MayAct, IsNeverInvalid};
+ghost use Rattle.cmc_safety.specs.Begins.{IsDueExactly};
 ghost use Rattle.cmc_safety.specs.Completing.{CompletesIssuing};
+ghost use Rattle.cmc_safety.specs.Courses.{HaveCourses, PlansAreDone};
 ghost use Rattle.cmc_safety.specs.Formed.{IsFormed};
 ghost use Rattle.cmc_safety.specs.Standing.{IsInOrder};
 ghost use Rattle.cmc_world.specs.Kept.{on, setting_of};
@@ -318,4 +320,16 @@ impl World {
 pub fn every_list_of_moves()
     ensures keeps { (s : Setting) (moves : List MoveValue) (h : List Entry) → IsFormed s → Lead s moves [] h → IsRun s h × (KeepsRights s h × IsSafe s h) }
     ensures grows { (s : Setting) (moves : List MoveValue) (h k : List Entry) → Lead s moves h k → Extends h k }
+{}
+
+/// A law of every run, in the words of its entries. Each pass that has begun keeps to the course of its act: nothing; its
+/// call; its question, a right value and the call that follows; or the live read, the Secret and the status of an
+/// issuance, of which a stand-in certificate has no status. A call that does not let it go on is what it ends with. Each
+/// pass of issuing that has its End, and whose act is a plan, wrote its Secret or found it so, or names the own call that
+/// was refused. And a pass is due exactly where its role was told of each own write on the key since its last start, and
+/// would not repeat the last pass there.
+pub fn passes_keep_to_their_courses()
+    ensures courses { (s : Setting) (h : List Entry) → IsRun s h → HaveCourses s h }
+    ensures plans { (s : Setting) (h : List Entry) → IsRun s h → PlansAreDone s h }
+    ensures due { (s : Setting) (h : List Entry) → IsRun s h → IsDueExactly s h }
 {}

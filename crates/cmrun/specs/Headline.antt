@@ -4,7 +4,6 @@ use Rattle.std.specs.Str.{IsUtf8}
 use Rattle.serde_json.specs.Data.{Data}
 use Rattle.serde_json.specs.Read.{read}
 use Rattle.cmc_objects.specs.declared.entry.Entry.{Entry}
-use Rattle.cmc_rules.specs.Rights.{KeepsRights}
 use Rattle.cmc_rules.specs.Safety.{IsSafe}
 use Rattle.cmc_rules.specs.Runs.{IsRun, IsFinished}
 use Rattle.cmc_safety.specs.Completing.{CompletesIssuing}
@@ -17,6 +16,7 @@ use Rattle.cmc_scenario.specs.Loads.{load_setup}
 use Rattle.cmc_scenario_print.specs.ScenarioTree.{scenario_tree}
 use Rattle.cmc_world.specs.Kept.{setting_of}
 use Rattle.cmc_plain.specs.Histories.{IsPlain, IsFull}
+use Rattle.cmc_plain.specs.Named.{NamesEachWait, IsWhole}
 use Rattle.cmc_plain.specs.Waits.{summary_at}
 
 -- the bytes are UTF-8, and the JSON text of this value
@@ -34,12 +34,14 @@ printed_lines true value history summary = summary_lines summary
 pub record RunsOn (workers : ℕ) (alone : Bool) (value : Data) (scenario : Scenario) (text : List ℕ) : Type 0 where
   pub history : List Entry
   pub run : IsRun (setting_of scenario) history
-  pub rights : KeepsRights (setting_of scenario) history
   pub safe : IsSafe (setting_of scenario) history
   pub complete : CompletesIssuing (setting_of scenario) history
   pub order : IsInOrder (setting_of scenario) history
   pub plain : workers ≡ 0 → IsPlain (setting_of scenario) history
   pub finished : IsFinished (setting_of scenario) history
+  -- each Certificate that is not Ready waits for something that the summary names
+  pub named : NamesEachWait (setting_of scenario) history
+  pub whole : IsWhole (setting_of scenario) history (summary_at (setting_of scenario) history)
   pub is : text ≡ joined (printed_lines alone value history (summary_at (setting_of scenario) history))
 
 -- the value is that of a scenario, and the text that of a finished history of it

@@ -7,6 +7,7 @@
 // with 0 there is no thread but the first, and the run is that of the plain order.
 #![tactic(auto)]
 
+mod laws;
 mod memory;
 mod sink;
 mod source;

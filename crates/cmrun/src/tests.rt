@@ -281,9 +281,14 @@ fn writes_the_rows_of_the_trigger(rt: HostRuntime) -> Result<(), Fail> {
     Ok(writes(&rt, rt.alloc(), &TRIGGER)?)
 }
 
-/// Inputs, and all that is written where no role runs.
-static WORKED: [(&str, &str); 4] = [
-    // No step.
+/// Inputs, and all that is written where no role runs, or nothing is to do.
+static WORKED: [(&str, &str); 5] = [
+    // Nothing at all.
+    (
+        "{}",
+        "{\"scenario\":{}}\n{\"summary\":{\"certificates\":0,\"ready\":0,\"secrets\":0,\"waiting\":[]}}\n",
+    ),
+    // No role.
     (
         r#"{"roles":[]}"#,
         "{\"scenario\":{\"roles\":[]}}\n{\"summary\":{\"certificates\":0,\"ready\":0,\"secrets\":0,\"waiting\":[]}}\n",

@@ -154,6 +154,64 @@ fn refuses_at_the_path(rt: HostRuntime) -> Result<(), Fail> {
     Ok(())
 }
 
+/// The scenario that every reader of these tests knows, with room for so many entries.
+fn with_room(alloc: Global, entries: usize) -> Result<String, AllocError> {
+    let room = format!(in alloc; "\"events\":{entries},")?;
+    issuance(alloc, room.as_str(), r#""keys":[{"synthetic":1}]"#)
+}
+
+/// Whether the run that has room for so many entries is finished, and has as many.
+fn fits<R: Threads + Wait + Sync>(
+    rt: &R,
+    alloc: Global,
+    entries: usize,
+) -> Result<bool, AllocError> {
+    let input = with_room(alloc, entries)?;
+    let ended = run_on(rt, alloc, input.as_str())?;
+    let is_done = matches!(ended.status, Status::Done);
+    // The scenario and the summary are the other two lines.
+    Ok(is_done && line_count(ended.written.as_slice()) == entries.saturating_add(2))
+}
+
+/// Whether the run with these words comes to a full history, and writes nothing.
+fn is_spent<R: Threads + Wait + Sync>(
+    rt: &R,
+    alloc: Global,
+    words: &str,
+    input: &str,
+) -> Result<bool, AllocError> {
+    let ended = run_with(rt, alloc, words, input.as_bytes(), &[], &[])?;
+    Ok(matches!(ended.status, Status::Spent) && ended.written.is_empty())
+}
+
+/// A trigger that never sees the Secret asks for an issuance again and again.
+static ENDLESS: &str =
+    r#"{"events":2000,"script":[{"do":"hold","kind":"Secret","role":"trigger"},{"do":"apply","object":@}]}"#;
+
+fn endless(alloc: Global) -> Result<String, AllocError> {
+    ENDLESS.replace(alloc, "@", web())
+}
+
+/// By one hand and by threads.
+static HANDS: [&str; 3] = ["run --workers 0", "run --workers 1", "run --summary"];
+
+#[test]
+fn ends_where_the_history_is_full(rt: HostRuntime) -> Result<(), Fail> {
+    let alloc = rt.alloc();
+    let whole = run_on(&rt, alloc, first(alloc)?.as_str())?.written;
+    let entries = line_count(whole.as_slice()).saturating_sub(2);
+    passes_at(&rt, "room for", entries as u64, fits(&rt, alloc, entries)?);
+    let short = with_room(alloc, entries.saturating_sub(1))?;
+    let endless = endless(alloc)?;
+    for words in &HANDS {
+        let passed = is_spent(&rt, alloc, words, short.as_str())?;
+        passes_at(&rt, words, 0, passed);
+        let passed = is_spent(&rt, alloc, words, endless.as_str())?;
+        passes_at(&rt, words, 2000, passed);
+    }
+    Ok(())
+}
+
 /// So many blanks behind the scenario, and a read of its run that fails.
 static READS: [(usize, u64); 6] = [
     (0, 1),

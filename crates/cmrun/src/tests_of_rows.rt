@@ -141,12 +141,40 @@ keymanager STATUS .. !"nextPrivateKeySecretName""#,
 ];
 
 /// Runs that issue, or wait for something else than a verdict.
-static ISSUING: [Row; 11] = [
+static ISSUING: [Row; 13] = [
     Row {
         scenario: r#""material":{"default/web":{"keys":[{"synthetic":1}]}},"script":[APPLY]"#,
         writes: "ISSUED",
         told: r#""call":"get","is":"call","key":"Certificate/default/web" .. "reply":{"found":4} .. "call":"create","is":"call","key":"Secret/default/web-tls" .. "reply":{"name":"web-tls","ok":8}"#,
         calls: 13,
+        end: READY,
+    },
+    // The key manager is not told of its own Secret, and makes no second key. Released it goes on.
+    Row {
+        scenario: r#""script":[{"do":"hold","kind":"Secret","role":"keymanager"},APPLY,SETTLE,{"do":"release","kind":"Secret","role":"keymanager"},SETTLE]"#,
+        writes: r#"user "call":"create","is":"call","key":"Certificate/default/web"
+trigger STATUS .. "reason":"DoesNotExist","status":"True","type":"Issuing"}
+keymanager KEYED{"name":"web-bbbbf","ok":3}
+ABSENT .. "reply":{"ok":4}
+keymanager STATUS .. "nextPrivateKeySecretName":"web-bbbbf" .. "reply":{"ok":5}
+requestmanager FILED{"name":"web-bbbbj","ok":6}
+approver REQUEST .. "status":"True","type":"Approved"} .. "reply":{"ok":7}
+issuer REQUEST .. "reason":"Issued","status":"True","type":"Ready"} .. "reply":{"ok":8}
+issuing "call":"create","is":"call","key":"Secret/default/web-tls" .. "reply":{"name":"web-tls","ok":9}
+issuing STATUS .. "reason":"Issued","status":"False","type":"Issuing"} .. "revision":1} .. "reply":{"ok":10}
+keymanager "call":"delete","is":"call","key":"Secret/default/web-bbbbf" .. "reply":{"ok":11}
+keymanager STATUS .. !"nextPrivateKeySecretName" .. "reply":{"ok":12}
+VALID .. "reply":{"ok":13}"#,
+        told: r#""reply":{"ok":4} .. "step":3} .. "step":4} .. "reply":{"ok":5}"#,
+        calls: 0,
+        end: READY,
+    },
+    // A certificate of an hour is renewed after two thirds of it, since as much as it lasts cannot be left at its renewal.
+    Row {
+        scenario: r#""material":{"default/web":{"replies":[{"reply":"issue","seconds":3600}]}},"script":[{"do":"apply","object":{OBJECT,NAMED,"spec":{COMMON,"privateKey":{"algorithm":"ECDSA"},"renewBefore":"1h"}}},SETTLE,{"do":"tick","seconds":2399},SETTLE,{"do":"tick","seconds":1},SETTLE]"#,
+        writes: "",
+        told: r#""renewalTime":"2030-01-01T00:40:00Z" .. "now":"2030-01-01T00:39:59Z" .. !"lastTransitionTime":"2030-01-01T00:39:59Z" .. "now":"2030-01-01T00:40:00Z" .. "lastTransitionTime":"2030-01-01T00:40:00Z" .. "revision":2} .. "renewalTime":"2030-01-01T01:20:00Z" .. !"revision":3}"#,
+        calls: 0,
         end: READY,
     },
     // Issuing is stopped between its two writes. The next incarnation writes what stands, which changes nothing, and goes on.

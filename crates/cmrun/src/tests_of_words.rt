@@ -127,7 +127,7 @@ fn reads_the_command_line(rt: HostRuntime) -> Result<(), Fail> {
 }
 
 /// Words, and all that is written.
-static WRITTEN: [(&str, &str); 4] = [
+static WRITTEN: [(&str, &str); 6] = [
     (
         "load 20 --summary --workers 0",
         "{\"summary\":{\"certificates\":20,\"ready\":20,\"secrets\":20,\"waiting\":[]}}\n",
@@ -135,6 +135,14 @@ static WRITTEN: [(&str, &str); 4] = [
     (
         "load 20 --summary --workers 8",
         "{\"summary\":{\"certificates\":20,\"ready\":20,\"secrets\":20,\"waiting\":[]}}\n",
+    ),
+    (
+        "load 200 --summary --workers 0",
+        "{\"summary\":{\"certificates\":200,\"ready\":200,\"secrets\":200,\"waiting\":[]}}\n",
+    ),
+    (
+        "load 200 --summary --workers 8",
+        "{\"summary\":{\"certificates\":200,\"ready\":200,\"secrets\":200,\"waiting\":[]}}\n",
     ),
     (
         "load --workers=64 +01 --summary",

@@ -19,7 +19,7 @@ use crate::words::{Command, read_words};
 use cmc_answers::Signer;
 use cmc_keys::KeyMaker;
 use cmc_meta::Text;
-use cmc_plain::summary;
+use cmc_plain::{each_wait_is_named, summary};
 use cmc_report::{Lines, history_text, summary_text};
 use cmc_scenario::{BadScenario, Scenario, generate, read, value_of_scenario};
 use cmc_workers::{Driven, Gate, drive};
@@ -77,6 +77,7 @@ fn lines_of(
     ensures { IfOk result (λ lines. RunsOn workers alone (view value.now) world.now.scenario (joined lines)) }
 {
     world.is_run();
+    each_wait_is_named();
     let counts = summary(alloc, world)?;
     if alone {
         return summary_text(alloc, &counts);

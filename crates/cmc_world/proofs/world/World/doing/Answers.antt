@@ -6,8 +6,10 @@ use Rattle.cmc_rules.specs.Passes.{open_pass}
 use Rattle.cmc_safety.specs.Acting.{MayAct}
 use Rattle.cmc_moves.specs.Acting.{IsDoingBy}
 use Rattle.cmc_world.specs.Kept.{Seen, first_desk, setting_of, on}
+use Rattle.cmc_world.proofs.Said.{run_of}
 use Rattle.cmc_world.proofs.NextSteps.{desk_is, doing_by_any, may_on, next_anyway, next_on, doing_on}
 use Rattle.cmc_world.proofs.Idling.{on_first_desk}
+use Rattle.cmc_world.proofs.OwnQuestions.{own_question}
 use Rattle.cmc_world.proofs.world.World.doing.Goals as goal
 
 pub doing_of-requires-clause-acts : goal.doing_of-requires-clause-acts
@@ -17,8 +19,13 @@ doing_of-requires-clause-acts c =
     let p = c.args.current.now in
     subst (MayAct p.seen p.since) (sym held.desk)
     (on_first_desk s p.seen p.since (desk s c.self.inside.history.entries p.role p.seen) held.formed
-    (may_on s c.self.inside.history.entries c.args.pass p (desk s c.self.inside.history.entries p.role p.seen) held.formed held.run
+    (may_on s c.self.inside.history.entries c.args.pass p (desk s c.self.inside.history.entries p.role p.seen) held.formed (run_of _ _ _ c.self.invariant)
     (subst (λ (v : Seen). on open_pass v c.args.pass ≡ Some p) (sym c.self.view_is) c.requires.opened) refl))
+
+pub doing_of-requires-clause-own : goal.doing_of-requires-clause-own
+doing_of-requires-clause-own c =
+    own_question (setting_of c.self.inside.scenario) c.self.inside.history.entries c.args.pass c.args.current.now (run_of _ _ _ c.self.invariant)
+    (subst (λ (v : Seen). on open_pass v c.args.pass ≡ Some c.args.current.now) (sym c.self.view_is) c.requires.opened)
 
 pub doing_of-requires-clause-goes : goal.doing_of-requires-clause-goes
 doing_of-requires-clause-goes c =
@@ -26,7 +33,7 @@ doing_of-requires-clause-goes c =
     let s = setting_of c.self.inside.scenario in
     let p = c.args.current.now in
     next_anyway p.stage _ _ (call_after p.role p.seen p.since) (sym c.hangs_on_act.ensures ∙ c.if-not-hangs_on_act.true)
-    (next_on s c.self.inside.history.entries c.args.pass p (desk s c.self.inside.history.entries p.role p.seen) held.run
+    (next_on s c.self.inside.history.entries c.args.pass p (desk s c.self.inside.history.entries p.role p.seen) (run_of _ _ _ c.self.invariant)
     (subst (λ (v : Seen). on open_pass v c.args.pass ≡ Some p) (sym c.self.view_is) c.requires.opened) c.requires.free refl)
 
 pub returns-then-not-hangs_on_act : goal.returns-then-not-hangs_on_act
@@ -38,16 +45,21 @@ pub doing_of-requires-then-asked-eq0-clause-acts : goal.doing_of-requires-then-a
 doing_of-requires-then-asked-eq0-clause-acts c =
     let held = c.self.invariant.held in
     let s = setting_of c.self.inside.scenario in
-    may_on s c.self.inside.history.entries c.args.pass c.args.current.now c.self.inside.desk held.formed held.run
+    may_on s c.self.inside.history.entries c.args.pass c.args.current.now c.self.inside.desk held.formed (run_of _ _ _ c.self.invariant)
     (subst (λ (v : Seen). on open_pass v c.args.pass ≡ Some c.args.current.now) (sym c.self.view_is) c.requires.opened)
     (desk_is s c.self.inside.history.entries c.args.current.now.role c.args.current.now.seen c.self.inside.questions c.self.inside.desk c.in_ok-asked.asked held.keys_asked held.answers_asked c.in_ok-asked.ensures
     (held.desk ∙ ap (λ (m : ℕ). record (first_desk s) { asked = m }) (sym c.if-asked-eq0.true)))
+
+pub doing_of-requires-then-asked-eq0-clause-own : goal.doing_of-requires-then-asked-eq0-clause-own
+doing_of-requires-then-asked-eq0-clause-own c =
+    own_question (setting_of c.self.inside.scenario) c.self.inside.history.entries c.args.pass c.args.current.now (run_of _ _ _ c.self.invariant)
+    (subst (λ (v : Seen). on open_pass v c.args.pass ≡ Some c.args.current.now) (sym c.self.view_is) c.requires.opened)
 
 pub doing_of-requires-then-asked-eq0-clause-goes : goal.doing_of-requires-then-asked-eq0-clause-goes
 doing_of-requires-then-asked-eq0-clause-goes c =
     let held = c.self.invariant.held in
     let s = setting_of c.self.inside.scenario in
-    next_on s c.self.inside.history.entries c.args.pass c.args.current.now c.self.inside.desk held.run
+    next_on s c.self.inside.history.entries c.args.pass c.args.current.now c.self.inside.desk (run_of _ _ _ c.self.invariant)
     (subst (λ (v : Seen). on open_pass v c.args.pass ≡ Some c.args.current.now) (sym c.self.view_is) c.requires.opened) c.requires.free
     (desk_is s c.self.inside.history.entries c.args.current.now.role c.args.current.now.seen c.self.inside.questions c.self.inside.desk c.in_ok-asked.asked held.keys_asked held.answers_asked c.in_ok-asked.ensures
     (held.desk ∙ ap (λ (m : ℕ). record (first_desk s) { asked = m }) (sym c.if-asked-eq0.true)))
@@ -67,16 +79,21 @@ pub doing_of-requires-2-clause-acts : goal.doing_of-requires-2-clause-acts
 doing_of-requires-2-clause-acts c =
     let held = c.self.invariant.held in
     let s = setting_of c.self.inside.scenario in
-    may_on s c.self.inside.history.entries c.args.pass c.args.current.now (record { material = c.in_ok-copy.field-0; asked = c.in_ok-asked.asked; rules = c.in_ok-copy-2.field-0 }) held.formed held.run
+    may_on s c.self.inside.history.entries c.args.pass c.args.current.now (record { material = c.in_ok-copy.field-0; asked = c.in_ok-asked.asked; rules = c.in_ok-copy-2.field-0 }) held.formed (run_of _ _ _ c.self.invariant)
     (subst (λ (v : Seen). on open_pass v c.args.pass ≡ Some c.args.current.now) (sym c.self.view_is) c.requires.opened)
     (desk_is s c.self.inside.history.entries c.args.current.now.role c.args.current.now.seen c.self.inside.questions _ c.in_ok-asked.asked held.keys_asked held.answers_asked c.in_ok-asked.ensures
     (λ i. record { material = (c.in_ok-copy.ensures ∙ ap (λ (x : Desk). x.material) held.desk) i; asked = c.in_ok-asked.asked; rules = (c.in_ok-copy-2.ensures ∙ ap (λ (x : Desk). x.rules) held.desk) i }))
+
+pub doing_of-requires-2-clause-own : goal.doing_of-requires-2-clause-own
+doing_of-requires-2-clause-own c =
+    own_question (setting_of c.self.inside.scenario) c.self.inside.history.entries c.args.pass c.args.current.now (run_of _ _ _ c.self.invariant)
+    (subst (λ (v : Seen). on open_pass v c.args.pass ≡ Some c.args.current.now) (sym c.self.view_is) c.requires.opened)
 
 pub doing_of-requires-2-clause-goes : goal.doing_of-requires-2-clause-goes
 doing_of-requires-2-clause-goes c =
     let held = c.self.invariant.held in
     let s = setting_of c.self.inside.scenario in
-    next_on s c.self.inside.history.entries c.args.pass c.args.current.now (record { material = c.in_ok-copy.field-0; asked = c.in_ok-asked.asked; rules = c.in_ok-copy-2.field-0 }) held.run
+    next_on s c.self.inside.history.entries c.args.pass c.args.current.now (record { material = c.in_ok-copy.field-0; asked = c.in_ok-asked.asked; rules = c.in_ok-copy-2.field-0 }) (run_of _ _ _ c.self.invariant)
     (subst (λ (v : Seen). on open_pass v c.args.pass ≡ Some c.args.current.now) (sym c.self.view_is) c.requires.opened) c.requires.free
     (desk_is s c.self.inside.history.entries c.args.current.now.role c.args.current.now.seen c.self.inside.questions _ c.in_ok-asked.asked held.keys_asked held.answers_asked c.in_ok-asked.ensures
     (λ i. record { material = (c.in_ok-copy.ensures ∙ ap (λ (x : Desk). x.material) held.desk) i; asked = c.in_ok-asked.asked; rules = (c.in_ok-copy-2.ensures ∙ ap (λ (x : Desk). x.rules) held.desk) i }))

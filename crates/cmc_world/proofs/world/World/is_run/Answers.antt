@@ -1,6 +1,7 @@
 use Rattle.std.proofs.Common.{subst}
 use Rattle.cmc_rules.specs.Rights.{KeepsRights}
 use Rattle.cmc_rules.specs.Safety.{IsSafe}
+use Rattle.cmc_rules.specs.Runs.{IsRun}
 use Rattle.cmc_safety.specs.Acting.{IsNeverInvalid}
 use Rattle.cmc_safety.specs.Completing.{CompletesIssuing}
 use Rattle.cmc_safety.specs.Standing.{IsInOrder}
@@ -11,10 +12,14 @@ use Rattle.cmc_safety.proofs.Safe.{safe}
 use Rattle.cmc_safety.proofs.Standing.{in_order}
 use Rattle.cmc_world.specs.Kept.{Seen, on}
 use Rattle.cmc_moves.proofs.Sounds.{each_sound}
+use Rattle.cmc_world.proofs.Said.{run_of}
 use Rattle.cmc_world.proofs.world.World.is_run.Goals as goal
 
+pub returns-clause-run : goal.returns-clause-run
+returns-clause-run c = subst (λ (v : Seen). on IsRun v) c.self.view_is (run_of _ _ _ c.self.invariant)
+
 pub returns-clause-rights : goal.returns-clause-rights
-returns-clause-rights c = subst (λ (v : Seen). on KeepsRights v) c.self.view_is (keeps_rights each_sound _ _ c.self.invariant.held.formed c.self.invariant.held.run)
+returns-clause-rights c = subst (λ (v : Seen). on KeepsRights v) c.self.view_is (keeps_rights each_sound _ _ c.self.invariant.held.formed (run_of _ _ _ c.self.invariant))
 
 pub returns-clause-safe : goal.returns-clause-safe
 returns-clause-safe c =

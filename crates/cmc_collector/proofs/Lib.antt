@@ -1,0 +1,15 @@
+pub mod Dead
+pub mod Examined
+pub mod Promise
+pub mod OneKind
+pub mod Unchanged
+pub mod Settled
+pub mod Keeping
+pub mod Turning
+pub mod OneRow
+pub mod Firsts
+pub mod Looping
+pub mod ByVersion
+pub mod Reading
+pub mod Seeing
+pub mod Turned

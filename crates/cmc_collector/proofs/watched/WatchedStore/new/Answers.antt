@@ -1,0 +1,12 @@
+use Rattle.std.proofs.Common.{List, ap, length, sym, ◌∙◌}
+use Rattle.cmc_model.specs.declared.write.Write.{Write}
+use Rattle.cmc_model.specs.Writes.{last_of_kind}
+use Rattle.cmc_store.specs.Kept.{Kept}
+use Rattle.cmc_collector.proofs.ByVersion.{none_newest}
+use Rattle.cmc_collector.proofs.watched.WatchedStore.new.Goals as goal
+
+pub invariant_of-result : goal.invariant_of-result
+invariant_of-result c = record {
+  count = ap (λ (ws : List Write). length ws) c.new-2.ensures.writes ∙ sym (ap (λ (s : Kept). s.state.accepted) c.new.ensures);
+  last = λ kind. none_newest kind ∙ ap (last_of_kind kind) (sym c.new-2.ensures.writes);
+}

@@ -1,0 +1,11 @@
+pub mod Playing
+pub mod Owning
+pub mod Caching
+pub mod Examining
+pub mod Moving
+pub mod Settling
+pub mod Entries
+pub mod Watched
+pub mod Rows
+pub mod Caches
+pub mod Kept

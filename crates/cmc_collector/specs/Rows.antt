@@ -1,0 +1,22 @@
+-- What contracts see of the rows.
+use Rattle.std.specs.Prelude.{Bool, List, Option, Some, None, is_some}
+use Rattle.std.specs.BTreeMap.{is_at}
+use Rattle.std.specs.Map.{lookup}
+use Rattle.cmc_meta.specs.declared.key.Key.{Key}
+use Rattle.cmc_meta.specs.Keys.{key_cmp}
+use Rattle.cmc_collector.specs.declared.examination.Examination.{Examination}
+use Rattle.cmc_collector.specs.declared.rows.Row.{Row}
+
+-- keys, in order, each with its row; one without an examination is room alone
+abbrev pub Rowed : Type 0
+Rowed = List (Key × Row)
+
+abbrev pub held_in : Option Row → Option Examination
+held_in None = None
+held_in (Some row) = row.examination
+
+unfoldable pub row_in : Rowed → Key → Option Examination
+row_in rows key = held_in (lookup (is_at (key_cmp key)) rows)
+
+unfoldable pub has_row : Rowed → Key → Bool
+has_row rows key = is_some (lookup (is_at (key_cmp key)) rows)

@@ -1,0 +1,364 @@
+//! The collection and its moves.
+ghost use Rattle.std.specs.FinMap as finite;
+ghost use Rattle.std.specs.Option.{option_copied};
+ghost use Rattle.std.specs.Prelude.{◌≡◌, ◌-◌, ◌<◌, ◌≤◌, IfOk, OnOk, OnErr, [], None, Some, true, length, nat_lt, if◌then◌else◌};
+ghost use Rattle.cmc_collector.specs.Caching as caching;
+ghost use Rattle.cmc_collector.specs.Examining as examining;
+ghost use Rattle.cmc_collector.specs.Moving as spec;
+ghost use Rattle.cmc_collector.specs.Owning.{CollectsWell};
+ghost use Rattle.cmc_collector.specs.Playing.{given, on, store_state, stored};
+ghost use Rattle.cmc_collector.specs.Settling.{FindsDue};
+ghost use Rattle.cmc_collector.specs.declared.moves.Collected.TheVariants as answers;
+ghost use Rattle.cmc_collector.specs.declared.moves.CollectMove.TheVariants as moves;
+
+use crate::caches::Caches;
+use crate::entries::CollectEntries;
+use crate::entry::CollectEntry;
+use crate::examination::Examination;
+use crate::moves::{CollectLack, CollectMove, Collected};
+use crate::orphans::{current, delete_of, first_due, get_of, is_due};
+use crate::rows::{Row, Rows, give_up_rows, make_rows};
+use crate::watched::WatchedStore;
+use cmc_meta::{Key, Kind, Numbers, OwnerRef};
+use cmc_objects::Call;
+use cmc_store::Store;
+use std::alloc::{AllocError, Global};
+use std::marker::Model;
+
+/// A collector of objects whose owners are gone, over a store of its own.
+pub struct Collection {
+    server: WatchedStore,
+    caches: Caches,
+    rows: Rows,
+    entries: CollectEntries,
+    events: u64,
+}
+
+impl Drop for Collection {
+    fn drop(self) {
+        let Collection {
+            server: _server,
+            caches: _caches,
+            rows: _rows,
+            entries: _entries,
+            events: _events,
+        } = self;
+    }
+}
+
+impl Model for Collection {
+    ghost use Rattle.cmc_collector.specs.Kept.{IsKept};
+    ghost use Rattle.cmc_collector.specs.Playing.{Collecting};
+
+    ghost Value = { Collecting };
+
+    ghost view = { λ c. record { window = c.server.window; faults = c.server.faults; events = c.events; moments = c.entries.moments } };
+
+    ghost invariant = { λ c. IsKept (record { window = c.server.window; faults = c.server.faults; events = c.events; moments = c.entries.moments }) c.server c.caches c.rows };
+}
+
+impl Collection {
+    /// An empty store, whose calls with the numbers `faults` (counted from 1) are answered Unavailable, caches that were told
+    /// nothing, watches that reach back over `window` accepted writes, and room for at most `events` entries.
+    pub fn new(alloc: Global, window: u64, faults: Numbers, events: u64) -> Collection
+        ensures { result ≡ record { window = window; faults = faults; events = events; moments = [] } }
+    {
+        Collection {
+            server: WatchedStore::new(alloc, window, faults),
+            caches: Caches::new(alloc),
+            rows: Rows::new(alloc),
+            entries: CollectEntries::new(alloc),
+            events,
+        }
+    }
+
+    /// The entries so far.
+    pub fn entries(&self) -> &CollectEntries
+        ensures { result.now.moments ≡ self.now.moments }
+    {
+        &self.entries
+    }
+
+    /// The store.
+    pub fn store(&self) -> &Store
+        ensures { result.now ≡ record { faults = self.now.faults; state = on store_state self.now } }
+    {
+        self.server.store()
+    }
+
+    /// The version of the last accepted write of the kind, 0 where there is none.
+    pub fn newest(&self, kind: Kind) -> u64
+        ensures { result ≡ on (spec.newest kind) self.now }
+    {
+        self.server.newest(kind)
+    }
+
+    /// How many objects are stored.
+    pub fn stored(&self) -> u64
+        ensures { result ≡ length (finite.entries (on stored self.now)) }
+    {
+        self.server.store().objects().len() as u64
+    }
+
+    /// The least key on which `Examine` is not refused as no orphan; `None` exactly where it is on each.
+    pub fn orphan(&self) -> Result<Option<Key>, AllocError>
+        ensures { IfOk result (λ key. on (FindsDue key) self.now) }
+    {
+        match self.first_due()? {
+            Some(key) => Ok(Some(key.copy()?)),
+            None => Ok(None),
+        }
+    }
+
+    pub(crate) fn events(&self) -> u64
+        ensures { result ≡ self.now.events }
+    {
+        self.events
+    }
+
+    /// How many entries there are; they are never more than the collection may have.
+    pub(crate) fn count(&self) -> u64
+        ensures value { result ≡ length self.now.moments }
+        ensures fits { length self.now.moments ≤ self.now.events }
+    {
+        self.entries.len()
+    }
+
+    fn first_due(&self) -> Result<Option<&Key>, AllocError>
+        ensures { IfOk result (λ key. on (FindsDue (option_copied key)) self.now) }
+    {
+        first_due(self.rows.map(), &self.caches, self.server.accepted())
+    }
+
+    fn is_due(&self, key: &Key) -> Result<bool, AllocError>
+        ensures { IfOk result (λ due. due ≡ on examining.is_due self.now key.now) }
+    {
+        is_due(
+            &self.caches,
+            self.server.accepted(),
+            key,
+            self.rows.get(key),
+        )
+    }
+
+    fn current(&self, key: &Key) -> Result<Option<Examination>, AllocError>
+        ensures { IfOk result (λ x. x ≡ on examining.current self.now key.now) }
+    {
+        current(
+            &self.caches,
+            self.server.accepted(),
+            key,
+            self.rows.get(key),
+        )
+    }
+
+    /// Of how many accepted writes the cache of the kind was told.
+    pub(crate) fn position(&self, kind: Kind) -> u64
+        ensures { result ≡ caching.position kind self.now.moments }
+    {
+        self.caches.position(kind)
+    }
+
+    fn lack_of_delivery(&self, kind: Kind, to: u64) -> Option<CollectLack>
+        ensures { result ≡ on (spec.lack_of_delivery kind to) self.now }
+    {
+        let position = self.position(kind);
+        if self.newest(kind) <= position {
+            return Some(CollectLack::Current { position });
+        }
+        if position < to && self.server.is_of_kind(kind, to) {
+            return None;
+        }
+        Some(CollectLack::NotAWrite { to })
+    }
+
+    fn lack(&self, step: &CollectMove) -> Result<Option<CollectLack>, AllocError>
+        ensures { IfOk result (λ lack. lack ≡ on (spec.lack step.now) self.now) }
+    {
+        match step {
+            CollectMove::User(_) => Ok(None),
+            CollectMove::Deliver { kind, to } => Ok(self.lack_of_delivery(*kind, *to)),
+            CollectMove::Examine { key } => {
+                if self.is_due(key)? {
+                    return Ok(None);
+                }
+                Ok(Some(CollectLack::NoOrphan))
+            }
+        }
+    }
+
+    fn answer(&self, step: &CollectMove) -> Result<Collected, AllocError>
+        ensures { IfOk result (λ answer. answer ≡ on (spec.answer step.now) self.now) }
+    {
+        if let Some(lack) = self.lack(step)? {
+            return Ok(Collected::NotNow(lack));
+        }
+        let entries = self.entries.len();
+        if entries < self.events {
+            return Ok(Collected::Done);
+        }
+        Ok(Collected::Spent { entries })
+    }
+
+    /// A law of every collection: each reply is the store's, and directly before each accepted delete of an examination the
+    /// deleted object had owners, each of which was dead.
+    pub fn collects_well(&self)
+        ensures { on CollectsWell self.now }
+    {
+        let _entries = self.entries.len();
+    }
+
+    /// Makes the move at the moment `now`, in seconds since 1970-01-01T00:00:00Z, where it is possible.
+    ///
+    /// A delivery from below the window lists what the newest accepted write left. An examination begins with an object of
+    /// which the caches say that it has owners and all are dead, looks for one owner after another in the store, and
+    /// deletes the object at the version at which the cache had it. A look that finds the owner's uid, a call that is
+    /// unavailable, and every delete end it.
+    pub fn step(
+        &mut self,
+        alloc: Global,
+        now: i64,
+        step: CollectMove,
+    ) -> Result<Collected, AllocError>
+        ensures answer { IfOk result (λ answer. answer ≡ on (spec.answer step) self.old) }
+        ensures leaves { IfOk result (λ answer. spec.Leaves now step self.old answer self.new) }
+        ensures promise { IfOk result (λ answer. on CollectsWell self.new) }
+        ensures err { OnErr result (self.new ≡ self.old) }
+    {
+        self.collects_well();
+        let answer = self.answer(&step)?;
+        if !answer.is_done() {
+            return Ok(answer);
+        }
+        match step {
+            CollectMove::User(call) => self.make_call(alloc, now, call)?,
+            CollectMove::Deliver { kind, to } => self.deliver(alloc, now, kind, to)?,
+            CollectMove::Examine { key } => self.examine(alloc, now, key)?,
+        }
+        self.collects_well();
+        Ok(Collected::Done)
+    }
+
+    fn make_call(&mut self, alloc: Global, now: i64, call: Call) -> Result<(), AllocError>
+        requires { length self.old.moments < self.old.events }
+        ensures ok { OnOk result (spec.Leaves now (moves.User call) self.old answers.Done self.new) }
+        ensures err { OnErr result (self.new ≡ self.old) }
+    {
+        self.entries.reserve()?;
+        let reply = self.server.call(alloc, now, &call)?;
+        self.entries.push(now, CollectEntry::User { call, reply });
+        Ok(())
+    }
+
+    fn deliver(&mut self, alloc: Global, now: i64, kind: Kind, to: u64) -> Result<(), AllocError>
+        requires room { length self.old.moments < self.old.events }
+        requires may { on (spec.lack_of_delivery kind to) self.old ≡ None }
+        ensures ok { OnOk result (spec.Leaves now (moves.Deliver kind to) self.old answers.Done self.new) }
+        ensures err { OnErr result (self.new ≡ self.old) }
+    {
+        self.entries.reserve()?;
+        let from = self.caches.position(kind);
+        let at = self.told_to(from, to);
+        let entry = self.told(from, kind, to);
+        let changed = self.server.watch().changed(alloc, kind, from, at)?;
+        make_rows(&mut self.rows, changed.as_slice())?;
+        self.caches.tell(alloc, self.server.watch(), kind, to)?;
+        give_up_rows(&mut self.rows, &self.caches, changed.as_slice());
+        self.entries.push(now, entry);
+        Ok(())
+    }
+
+    /// Where a cache at this position comes to that is told up to this write.
+    fn told_to(&self, position: u64, to: u64) -> u64
+        ensures { result ≡ (if nat_lt position (on given self.now - self.now.window) then on given self.now else to) }
+    {
+        let watch = self.server.watch();
+        if position < watch.start() {
+            return watch.accepted();
+        }
+        to
+    }
+
+    /// The entry for a cache at this position that is told up to this write.
+    fn told(&self, position: u64, kind: Kind, to: u64) -> CollectEntry
+        requires { position ≡ caching.position kind self.now.moments }
+        ensures { result ≡ on (spec.told kind to) self.now }
+    {
+        let watch = self.server.watch();
+        if position < watch.start() {
+            return CollectEntry::List {
+                kind,
+                to: watch.accepted(),
+            };
+        }
+        CollectEntry::Deliver { kind, to }
+    }
+
+    fn examine(&mut self, alloc: Global, now: i64, key: Key) -> Result<(), AllocError>
+        requires room { length self.old.moments < self.old.events }
+        requires due { on examining.is_due self.old key ≡ true }
+        ensures ok { OnOk result (spec.Leaves now (moves.Examine key) self.old answers.Done self.new) }
+        ensures err { OnErr result (self.new ≡ self.old) }
+    {
+        let Some(examination) = self.current(&key)? else {
+            unreachable!()
+        };
+        match examination.copy_next_owner()? {
+            Some(owner) => self.look(alloc, now, key, examination, owner),
+            None => self.delete(alloc, now, key, &examination),
+        }
+    }
+
+    fn look(
+        &mut self,
+        alloc: Global,
+        now: i64,
+        key: Key,
+        examination: Examination,
+        owner: OwnerRef,
+    ) -> Result<(), AllocError>
+        requires room { length self.old.moments < self.old.events }
+        requires going { on examining.current self.old key ≡ Some examination }
+        requires next { examining.next_owner examination ≡ Some owner }
+        ensures ok { OnOk result (spec.Leaves now (moves.Examine key) self.old answers.Done self.new) }
+        ensures err { OnErr result (self.new ≡ self.old) }
+    {
+        self.entries.reserve()?;
+        let call = get_of(&key.namespace, &owner)?;
+        let reply = self.server.call(alloc, now, &call)?;
+        let examination = examination.after(&owner, &reply);
+        self.rows.set(&key, Row { examination });
+        self.entries
+            .push(now, CollectEntry::Look { key, owner, reply });
+        Ok(())
+    }
+
+    fn delete(
+        &mut self,
+        alloc: Global,
+        now: i64,
+        key: Key,
+        examination: &Examination,
+    ) -> Result<(), AllocError>
+        requires room { length self.old.moments < self.old.events }
+        requires going { on examining.current self.old key ≡ Some examination.now }
+        requires last { examining.next_owner examination.now ≡ None }
+        ensures ok { OnOk result (spec.Leaves now (moves.Examine key) self.old answers.Done self.new) }
+        ensures err { OnErr result (self.new ≡ self.old) }
+    {
+        let version = examination.version();
+        self.entries.reserve()?;
+        let call = delete_of(&key, version)?;
+        let reply = self.server.call(alloc, now, &call)?;
+        self.rows.set(&key, Row { examination: None });
+        self.entries.push(
+            now,
+            CollectEntry::Delete {
+                key,
+                version,
+                reply,
+            },
+        );
+        Ok(())
+    }
+}

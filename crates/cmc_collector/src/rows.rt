@@ -1,0 +1,154 @@
+//! A row for each key that may be due.
+ghost use Rattle.std.specs.Prelude.{◌≡◌, IfOk, OnOk, None, false, if◌then◌else◌, true};
+ghost use Rattle.std.specs.Option.{option_copied};
+ghost use Rattle.cmc_meta.specs.declared.key.Key.{Key as KeyValue};
+ghost use Rattle.cmc_meta.specs.Keys.{key_cmp, key_eq};
+ghost use Rattle.std.specs.BTreeMap.{is_at};
+ghost use Rattle.std.specs.List.{list_any};
+ghost use Rattle.cmc_collector.specs.Caches.{held};
+ghost use Rattle.cmc_collector.specs.Caching.{is_owned};
+ghost use Rattle.cmc_collector.specs.Rows.{has_row, row_in};
+
+use crate::caches::Caches;
+use crate::examination::Examination;
+use crate::orphans::is_owned;
+use cmc_meta::Key;
+use std::alloc::{AllocError, Global};
+use std::collections::BTreeMap;
+use std::marker::Model;
+
+/// What is kept of one key.
+pub(crate) struct Row {
+    pub(crate) examination: Option<Examination>,
+}
+
+impl Drop for Row {
+    fn drop(self) {
+        let Row {
+            examination: _examination,
+        } = self;
+    }
+}
+
+/// A row for each key with an examination, and for each under which a cache holds an object with owners. A row without an
+/// examination is room for one.
+pub(crate) struct Rows {
+    map: BTreeMap<Key, Row>,
+}
+
+impl Drop for Rows {
+    fn drop(self) {
+        let Rows { map: _map } = self;
+    }
+}
+
+impl Model for Rows {
+    ghost use Rattle.cmc_collector.specs.Rows.{Rowed};
+
+    ghost Value = { Rowed };
+
+    ghost view = { λ r. r.map.entries };
+}
+
+impl Rows {
+    /// No rows. It takes no memory.
+    #[tactic(auto, unfolding(crate::specs::Rows::row_in))]
+    pub(crate) fn new(alloc: Global) -> Rows
+        ensures { (k : KeyValue) → row_in result k ≡ None }
+    {
+        Rows {
+            map: BTreeMap::new(alloc),
+        }
+    }
+
+    /// The examination of the key.
+    #[tactic(auto, unfolding(crate::specs::Rows::row_in))]
+    pub(crate) fn get(&self, key: &Key) -> Option<&Examination>
+        ensures { option_copied result ≡ row_in self.now key.now }
+    {
+        match self.map.get(key) {
+            Some(row) => row.examination.as_ref(),
+            None => None,
+        }
+    }
+
+    /// Makes a row for the key, where it has none.
+    #[tactic(auto, unfolding(crate::specs::Rows::row_in, crate::specs::Rows::has_row))]
+    pub(crate) fn room(&mut self, key: &Key) -> Result<(), AllocError>
+        ensures room { OnOk result (has_row self.new key.now ≡ true) }
+        ensures same { (k : KeyValue) → row_in self.new k ≡ row_in self.old k }
+        ensures keeps { (k : KeyValue) → has_row self.old k ≡ true → has_row self.new k ≡ true }
+    {
+        if self.map.contains_key(key) {
+            return Ok(());
+        }
+        let key = key.copy()?;
+        self.map.insert(key, Row { examination: None })?;
+        Ok(())
+    }
+
+    /// Writes the row of the key, which has one. It takes no memory.
+    #[tactic(auto, unfolding(crate::specs::Rows::row_in, crate::specs::Rows::has_row))]
+    pub(crate) fn set(&mut self, key: &Key, row: Row)
+        requires { has_row self.old key.now ≡ true }
+        ensures rows { (k : KeyValue) → row_in self.new k ≡ (if key_eq key.now k then row.examination else row_in self.old k) }
+        ensures room { (k : KeyValue) → has_row self.new k ≡ has_row self.old k }
+    {
+        if let Some(place) = self.map.get_mut(key) {
+            *place = row;
+        }
+    }
+
+    /// Gives up the row of the key, which has no examination. It takes no memory.
+    #[tactic(auto, unfolding(crate::specs::Rows::row_in, crate::specs::Rows::has_row))]
+    pub(crate) fn remove(&mut self, key: &Key)
+        requires { row_in self.old key.now ≡ None }
+        ensures same { (k : KeyValue) → row_in self.new k ≡ row_in self.old k }
+        ensures keeps { (k : KeyValue) → has_row self.new k ≡ (if key_eq key.now k then false else has_row self.old k) }
+    {
+        let _ = self.map.remove(key);
+    }
+
+    /// The rows, in order of key.
+    pub(crate) fn map(&self) -> &BTreeMap<Key, Row>
+        ensures { result.now.entries ≡ self.now }
+    {
+        &self.map
+    }
+}
+
+/// Makes a row for each of the keys.
+pub(crate) fn make_rows(rows: &mut Rows, keys: &[Key]) -> Result<(), AllocError>
+    ensures room { OnOk result ((k : KeyValue) → list_any (is_at (key_cmp k)) keys.now ≡ true → has_row rows.new k ≡ true) }
+    ensures same { (k : KeyValue) → row_in rows.new k ≡ row_in rows.old k }
+    ensures keeps { (k : KeyValue) → has_row rows.old k ≡ true → has_row rows.new k ≡ true }
+{
+    for key in keys {
+        rows.room(key)?;
+    }
+    Ok(())
+}
+
+/// Gives up the row of the key, where it has no examination and its cache no object with owners. It takes no memory.
+fn give_up_row(rows: &mut Rows, caches: &Caches, key: &Key)
+    ensures same { (k : KeyValue) → row_in rows.new k ≡ row_in rows.old k }
+    ensures keeps { (k : KeyValue) → is_owned (held caches.now k) ≡ true → has_row rows.old k ≡ true → has_row rows.new k ≡ true }
+{
+    if rows.get(key).is_some() {
+        return;
+    }
+    if is_owned(caches.get(key)) {
+        return;
+    }
+    rows.remove(key);
+}
+
+/// Gives up the rows of those of the keys that need none. It takes no memory.
+pub(crate) fn give_up_rows(rows: &mut Rows, caches: &Caches, keys: &[Key])
+    ensures same { (k : KeyValue) → row_in rows.new k ≡ row_in rows.old k }
+    ensures keeps { (k : KeyValue) → is_owned (held caches.now k) ≡ true → has_row rows.old k ≡ true → has_row rows.new k ≡ true }
+{
+    for key in keys {
+        give_up_row(rows, caches, key);
+    }
+}
