@@ -142,7 +142,8 @@ fn names(alloc: Global, keys: &Keys) -> Result<String, Fail> {
 }
 
 fn owned_told(alloc: Global, informer: &Informer, uid: u64) -> Result<String, Fail> {
-    names(alloc, &informer.owned_by(alloc, uid)?)
+    let keys = informer.owned_by(alloc, uid)?;
+    names(alloc, &keys.copy()?)
 }
 
 /// The names of the Secrets that the owner of this uid has, where an informer was listed at the one position and told up

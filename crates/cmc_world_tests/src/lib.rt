@@ -3,6 +3,8 @@
 #![tactic(auto)]
 
 #[cfg(test)]
+mod answers;
+#[cfg(test)]
 mod audit;
 #[cfg(test)]
 mod checks;
@@ -10,6 +12,8 @@ mod checks;
 mod deciding;
 #[cfg(test)]
 mod fixtures;
+#[cfg(test)]
+mod handed_in;
 #[cfg(test)]
 mod informer;
 #[cfg(test)]

@@ -44,7 +44,7 @@ fn material(alloc: Global) -> Result<Material, Fail> {
 }
 
 /// The scenario of this script, with all roles and no faults.
-fn scenario(alloc: Global, script: Steps) -> Result<Scenario, Fail> {
+pub(crate) fn scenario(alloc: Global, script: Steps) -> Result<Scenario, Fail> {
     let material = material(alloc)?;
     whole_scenario(alloc, 100_000, 1000, Numbers::new(alloc), material, script)
 }
@@ -80,7 +80,7 @@ fn incarnation_of(world: &World, step: &Move) -> u64 {
 
 /// Makes the move. A pass that has asked is told its question once more by the next move, which adds no entry, and is
 /// then given the value.
-fn make(alloc: Global, world: &mut World, step: Move) -> Result<(), Fail> {
+pub(crate) fn make(alloc: Global, world: &mut World, step: Move) -> Result<(), Fail> {
     let incarnation = incarnation_of(world, &step);
     let before = world.history().as_slice().len();
     let answer = world.step(alloc, step)?;
@@ -163,7 +163,7 @@ fn plain_moves(alloc: Global, world: &mut World) -> Result<Vec<Move>, Fail> {
 }
 
 /// The open pass that the newest entry is of; `None` where it is of none, or ends one.
-fn open_pass(history: &History) -> Option<u64> {
+pub(crate) fn open_pass(history: &History) -> Option<u64> {
     match history.as_slice().last() {
         Some(Entry::Begin { pass, .. }) => Some(*pass),
         Some(Entry::Ask { pass, .. }) => Some(*pass),
@@ -182,7 +182,7 @@ fn open_pass(history: &History) -> Option<u64> {
 }
 
 /// Makes the move. Where a pass is open then, it goes on to its end, as the plain order has it.
-fn make_whole(alloc: Global, world: &mut World, step: Move) -> Result<(), Fail> {
+pub(crate) fn make_whole(alloc: Global, world: &mut World, step: Move) -> Result<(), Fail> {
     let incarnation = incarnation_of(world, &step);
     make(alloc, world, step)?;
     for _ in 0..20 {
