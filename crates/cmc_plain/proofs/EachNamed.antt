@@ -24,14 +24,14 @@ use Rattle.cmc_world.proofs.Known.{none_under}
 use Rattle.cmc_plain.proofs.Finishing.{idle_at_rest}
 use Rattle.cmc_plain.proofs.NothingHeld.{runs_free, told_of_all}
 
-known_by : (b : Bool) (s : Setting) (h : List Entry) (key : Key) (o : Object) → is_known key (writes s h) ≡ b → object_at (objects s h) key ≡ Some o → b ≡ true
+pub known_by : (b : Bool) (s : Setting) (h : List Entry) (key : Key) (o : Object) → is_known key (writes s h) ≡ b → object_at (objects s h) key ≡ Some o → b ≡ true
 known_by true s h key o is stands = refl
 known_by false s h key o is stands =
     let none : object_at (objects s h) key ≡ None = ap (λ (m : Objects). object_at m key) (sym (writes_leave s h)) ∙ none_under key (writes s h) is in
     absurd (cc (none, stands))
 
 -- where each role runs and no informer is held, none has anything to do on what stands
-still : (s : Setting) (h : List Entry) → IsRun s h → IsAtRest s h → is_stopped s h ≡ false → IsStill s h
+pub still : (s : Setting) (h : List Entry) → IsRun s h → IsAtRest s h → is_stopped s h ≡ false → IsStill s h
 still s h run rest free role key o stands =
     idle_at_rest s h role key run (told_of_all s h role rest free) ((rest.rests role (runs_free s h role free)).1 key (known_by (is_known key (writes s h)) s h key o refl stands))
 

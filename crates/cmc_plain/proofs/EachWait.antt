@@ -52,38 +52,38 @@ IsStill s h = (role : Role) (key : Key) (o : Object) → object_at (objects s h)
 
 -- ---- what each role does not do
 
-trigger_rests : (s : Setting) (h : List Entry) (key : Key) (c : Certificate) → certificate_at (objects s h) key ≡ Some c → IsIdle s h Trigger (present_views s h Trigger key)
+pub trigger_rests : (s : Setting) (h : List Entry) (key : Key) (c : Certificate) → certificate_at (objects s h) key ≡ Some c → IsIdle s h Trigger (present_views s h Trigger key)
     → for_certificate (moment s h) (target_at (objects s h) c) (requests_of (objects s h) c) c ≡ Nothing
 unfolding act trigger views_in views_of
 trigger_rests s h key c is idle =
     subst (λ (x : Option Certificate). for_option (moment s h) (option_and_then (target_at (objects s h)) x) (of_certificate (requests_of (objects s h)) x) x ≡ Nothing) is idle
 
-readiness_rests : (s : Setting) (h : List Entry) (key : Key) (c : Certificate) → certificate_at (objects s h) key ≡ Some c → IsIdle s h Readiness (present_views s h Readiness key)
+pub readiness_rests : (s : Setting) (h : List Entry) (key : Key) (c : Certificate) → certificate_at (objects s h) key ≡ Some c → IsIdle s h Readiness (present_views s h Readiness key)
     → ready_of (moment s h) (target_at (objects s h) c) (requests_of (objects s h) c) (Some c) ≡ Nothing
 unfolding act readiness views_in views_of
 readiness_rests s h key c is idle =
     subst (λ (x : Option Certificate). ready_of (moment s h) (option_and_then (target_at (objects s h)) x) (of_certificate (requests_of (objects s h)) x) x ≡ Nothing) is idle
 
-keys_rest : (s : Setting) (h : List Entry) (key : Key) (c : Certificate) → certificate_at (objects s h) key ≡ Some c → IsIdle s h KeyManager (present_views s h KeyManager key)
+pub keys_rest : (s : Setting) (h : List Entry) (key : Key) (c : Certificate) → certificate_at (objects s h) key ≡ Some c → IsIdle s h KeyManager (present_views s h KeyManager key)
     → keys_of (Some c) (desk s h KeyManager (present_views s h KeyManager key)) (target_at (objects s h) c) (next_of (objects s h) c) ≡ Nothing
 unfolding act key_manager views_in views_of
 keys_rest s h key c is idle =
     subst (λ (x : Option Certificate). keys_of x (desk s h KeyManager (present_views s h KeyManager key)) (option_and_then (target_at (objects s h)) x) (of_certificate (next_of (objects s h)) x) ≡ Nothing) is idle
 
-requests_rest : (s : Setting) (h : List Entry) (key : Key) (c : Certificate) → certificate_at (objects s h) key ≡ Some c → IsIdle s h RequestManager (present_views s h RequestManager key)
+pub requests_rest : (s : Setting) (h : List Entry) (key : Key) (c : Certificate) → certificate_at (objects s h) key ≡ Some c → IsIdle s h RequestManager (present_views s h RequestManager key)
     → managing.request_of (Some c) (next_of (objects s h) c) (requests_of (objects s h) c) ≡ Nothing
 unfolding act request_manager views_in views_of
 requests_rest s h key c is idle =
     subst (λ (x : Option Certificate). managing.request_of x (of_certificate (next_of (objects s h)) x) (of_certificate (requests_of (objects s h)) x) ≡ Nothing) is idle
 
-issuing_rests : (s : Setting) (h : List Entry) (key : Key) (c : Certificate) → certificate_at (objects s h) key ≡ Some c → IsIdle s h Issuing (present_views s h Issuing key)
+pub issuing_rests : (s : Setting) (h : List Entry) (key : Key) (c : Certificate) → certificate_at (objects s h) key ≡ Some c → IsIdle s h Issuing (present_views s h Issuing key)
     → issuance.issuing_of (moment s h) (next_of (objects s h) c) (target_at (objects s h) c) (requests_of (objects s h) c) (Some c) ≡ Nothing
 unfolding act issuing views_in views_of
 issuing_rests s h key c is idle =
     subst (λ (x : Option Certificate).
     issuance.issuing_of (moment s h) (of_certificate (next_of (objects s h)) x) (option_and_then (target_at (objects s h)) x) (of_certificate (requests_of (objects s h)) x) x ≡ Nothing) is idle
 
-issuer_rests : (s : Setting) (h : List Entry) (key : Key) (r : CertificateRequest) → request_at (objects s h) key ≡ Some r → IsIdle s h Issuer (present_views s h Issuer key)
+pub issuer_rests : (s : Setting) (h : List Entry) (key : Key) (r : CertificateRequest) → request_at (objects s h) key ≡ Some r → IsIdle s h Issuer (present_views s h Issuer key)
     → grant_one (moment s h) (desk s h Issuer (present_views s h Issuer key)) r ≡ Nothing
 unfolding act issuer views_in views_of
 issuer_rests s h key r is idle = subst (λ (x : Option CertificateRequest). grant_of (moment s h) (desk s h Issuer (present_views s h Issuer key)) x ≡ Nothing) is idle
@@ -99,13 +99,13 @@ owned_is c (Cert d) r is = absurd (cc is)
 owned_is c (Secret k) r is = absurd (cc is)
 owned_is c (Request q) r is = owned_by (is_owned c q.meta) q r is
 
-owned_stands : (m : Objects) (c : Certificate) (r : CertificateRequest) → IsAmong r (requests_of m c) → (key : Key) × (object_at m key ≡ Some (Request r))
+pub owned_stands : (m : Objects) (c : Certificate) (r : CertificateRequest) → IsAmong r (requests_of m c) → (key : Key) × (object_at m key ≡ Some (Request r))
 owned_stands m c r among =
     let p = picked (λ (e : Key × Object). owned_in c e.1) (map.entries m) r among in (p.0.0, stands_among m p.0 p.1 ∙ ap Some (owned_is c p.0.1 r p.2))
 
 -- ---- what issuing does with the request that it finds
 
-where_wanted : (moment : ℤ) (c : Certificate) (next : List SecretObject) (target : Option SecretObject) (list : List CertificateRequest) → is_issuing c ≡ true → (k : HasNextKey c next) → (r : HasNextRequest c k.file list)
+pub where_wanted : (moment : ℤ) (c : Certificate) (next : List SecretObject) (target : Option SecretObject) (list : List CertificateRequest) → is_issuing c ≡ true → (k : HasNextKey c next) → (r : HasNextRequest c k.file list)
     → issuance.issuing_of moment next target list (Some c) ≡ Nothing → issuance.with_wanted moment c k.file target r.request ≡ Nothing
 where_wanted moment c next target list on k r idle =
     let keyed : issuance.with_key_of moment c target list (named_key c.status.next_key next) ≡ Nothing =
@@ -139,7 +139,7 @@ wants_more false backing none rest on some = absurd (cc on)
 abbrev present : Setting → List Entry → Caches
 present s h = record { certificates = objects s h; requests = objects s h; secrets = objects s h }
 
-request_waits_on : (s : Setting) (h : List Entry) (c : Certificate) (k : HasNextKey c (next_of (objects s h) c)) (r : HasNextRequest c k.file (requests_of (objects s h) c)) → IsCaused s h → Follows s h → IsStill s h → is_issuing c ≡ true
+pub request_waits_on : (s : Setting) (h : List Entry) (c : Certificate) (k : HasNextKey c (next_of (objects s h) c)) (r : HasNextRequest c k.file (requests_of (objects s h) c)) → IsCaused s h → Follows s h → IsStill s h → is_issuing c ≡ true
     → issuance.issuing_of (moment s h) (next_of (objects s h) c) (target_at (objects s h) c) (requests_of (objects s h) c) (Some c) ≡ Nothing → IsSome (wait_of_request (target_at (objects s h) c) r.request)
 request_waits_on s h c k r caused follows still on idle =
     let there = owned_stands (objects s h) c r.request r.among in

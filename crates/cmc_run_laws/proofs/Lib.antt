@@ -1,0 +1,5 @@
+mod Settling
+mod Readied
+mod Failing
+mod Going
+mod Issued

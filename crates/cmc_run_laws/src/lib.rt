@@ -1,0 +1,11 @@
+//! What is known of every run that rests, and of one issuance. Nothing here runs: each function is a law.
+#![tactic(auto)]
+
+mod at_rest;
+mod issuance;
+
+pub use at_rest::{each_certificate_is_settled_at_rest, what_can_be_issued_is_ready_at_rest};
+pub use issuance::{
+    due_at_once, lead_is_below_the_lifetime, nothing_is_due_after_a_failure,
+    nothing_is_due_after_an_issuance,
+};
