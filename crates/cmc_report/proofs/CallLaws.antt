@@ -10,12 +10,12 @@ use Rattle.cmc_objects.specs.declared.entry.Who.{Who}
 use Rattle.cmc_objects.specs.declared.entry.Entry.TheVariants.{Call as Called}
 use Rattle.cmc_print.specs.Trees.{natural, line_of}
 use Rattle.cmc_print.specs.Printed.{object_tree}
-use Rattle.cmc_report.specs.Trees.{lone, ok_members, conflict_tree, reply_tree, call_key, call_name, who_tree, put_written, put_version, put_call, entry_tree}
-use Rattle.cmc_writer.specs.Adding.{Row, with_value, with_rows}
+use Rattle.cmc_report.specs.Trees.{lone, ok_members, conflict_tree, reply_tree, call_key, call_name, who_tree, put_written, put_version, put_call, call_tree, entry_tree}
+use Rattle.cmc_writer.specs.Adding.{Row, with_value, with_row, with_rows}
 use Rattle.cmc_writer.proofs.Placed.{placed, has_place, IsBuilt, is_none, is_put}
 use Rattle.cmc_writer.proofs.Written.{object_written, text_written}
 use Rattle.cmc_object_lines.proofs.Laws.{of_rows}
-use Rattle.cmc_report.specs.Rows.{written_row, version_row, ok_rows, call_head, call_tail}
+use Rattle.cmc_report.specs.Rows.{written_row, version_row, ok_rows, call_body, call_head, call_rows}
 
 is_written : {ms : Members} {rows : List Row} (call : Call) → IsBuilt ms rows → has_place (codes "object") rows ≡ true → IsBuilt (put_written call ms) (placed (codes "object") (written_row call) rows)
 is_written (Create o generate) b h = is_put (codes "object") (Some (object_tree o)) b h
@@ -54,11 +54,11 @@ pub conflict_around : (ts : List Token) (named have : ℕ)
 unfolding conflict_tree
 conflict_around ts named have = of_rows ts _ _ (is_put (codes "conflict") (Some _) is_none refl)
 
-pub call_written : (ts : List Token) (n : ℕ) (who : Who) (call : Call) (reply : Reply)
-    → with_rows (with_rows (ts ++ begin_object ∷ []) (call_head n call)) (call_tail who call reply) ++ end_object ∷ [] ≡ with_value ts (entry_tree n (Called who call reply))
-unfolding entry_tree put_call
-call_written ts n who call reply = of_rows ts (call_head n call ++ call_tail who call reply) _
-    (is_put (codes "who") (Some (who_tree who))
+pub call_written : (ts : List Token) (n : ℕ) (who : Data) (call : Call) (reply : Reply)
+    → with_row (with_rows (with_rows (ts ++ begin_object ∷ []) (call_head n call)) (call_body call reply)) (codes "who") (Some who) ++ end_object ∷ [] ≡ with_value ts (call_tree n who call reply)
+unfolding call_tree put_call
+call_written ts n who call reply = of_rows ts (call_rows n who call reply) _
+    (is_put (codes "who") (Some who)
     (is_version call
     (is_put (codes "reply") (Some (reply_tree call reply))
     (is_written call
@@ -66,6 +66,11 @@ call_written ts n who call reply = of_rows ts (call_head n call ++ call_tail who
     (is_put (codes "call") (Some (string (call_name call)))
     (is_put (codes "is") (Some (string (codes "call")))
     (is_put (codes "n") (Some (natural n)) is_none refl) refl) refl) refl) refl) refl) refl) refl)
+
+pub entry_of_call : (ts : List Token) (n : ℕ) (who : Who) (call : Call) (reply : Reply)
+    → with_row (with_rows (with_rows (ts ++ begin_object ∷ []) (call_head n call)) (call_body call reply)) (codes "who") (Some (who_tree who)) ++ end_object ∷ [] ≡ with_value ts (entry_tree n (Called who call reply))
+unfolding call_tree entry_tree
+entry_of_call ts n who call reply = call_written ts n (who_tree who) call reply
 
 pub line_written : (d : Data) → print (with_value [] d) ++ 10 ∷ [] ≡ line_of d
 unfolding line_of

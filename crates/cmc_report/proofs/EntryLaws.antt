@@ -11,9 +11,9 @@ use Rattle.cmc_print.specs.Trees.{natural}
 use Rattle.cmc_print.specs.Puts.{base64_text}
 use Rattle.cmc_print.specs.Printed.{moment_tree}
 use Rattle.cmc_print.specs.Words.{role_name}
-use Rattle.cmc_report.specs.Trees.{answer_tree, cause_tree, entry_tree, order_tree, positions_tree, put_begin, put_told}
-use Rattle.cmc_report.specs.Rows.{begin_head, begin_tail, call_head, call_tail, position_rows, told_head, told_tail, told_tree}
-use Rattle.cmc_report.proofs.CallLaws.{call_written}
+use Rattle.cmc_report.specs.Trees.{answer_tree, cause_tree, entry_tree, order_tree, positions_tree, put_begin, put_told, who_tree}
+use Rattle.cmc_report.specs.Rows.{begin_head, begin_tail, call_rows, position_rows, told_head, told_tail, told_tree}
+use Rattle.cmc_report.proofs.CallLaws.{entry_of_call}
 use Rattle.cmc_writer.specs.Adding.{Row, with_value, with_rows}
 use Rattle.cmc_writer.proofs.Written.{object_written}
 
@@ -32,7 +32,7 @@ named role = (codes "role", Some (string (role_name role)))
 -- The rows of an entry, in byte order of their names.
 abbrev pub rows_of : ℕ → Entry → List Row
 rows_of n (Script step) = word (codes "script") ∷ place n ∷ (codes "step", Some (natural step)) ∷ []
-rows_of n (Called who call reply) = call_head n call ++ call_tail who call reply
+rows_of n (Called who call reply) = call_rows n (who_tree who) call reply
 rows_of n (Deliver role kind to) = told_head (codes "deliver") n kind ++ told_tail role to
 rows_of n (Listed role kind to) = told_head (codes "list") n kind ++ told_tail role to
 rows_of n (Begin pass role key at now) = begin_head n key at ++ begin_tail pass role now
@@ -49,7 +49,7 @@ rows_of n (Tick now) = word (codes "tick") ∷ place n ∷ (codes "now", Some (m
 rows_written : (ts : List Token) (n : ℕ) (e : Entry) → with_rows (ts ++ begin_object ∷ []) (rows_of n e) ++ end_object ∷ [] ≡ with_value ts (entry_tree n e)
 unfolding entry_tree put_told put_begin
 rows_written ts n (Script step) = object_written ts (rows_of n (Script step))
-rows_written ts n (Called who call reply) = call_written ts n who call reply
+rows_written ts n (Called who call reply) = entry_of_call ts n who call reply
 rows_written ts n (Deliver role kind to) = object_written ts (rows_of n (Deliver role kind to))
 rows_written ts n (Listed role kind to) = object_written ts (rows_of n (Listed role kind to))
 rows_written ts n (Begin pass role key at now) = object_written ts (rows_of n (Begin pass role key at now))

@@ -1,5 +1,5 @@
 -- The rows of calls and replies, in byte order of their names, and trees that several entries share.
-use Rattle.std.specs.Prelude.{ℕ, ℤ, List, map, [], ◌∷◌, codes, Some, None, option_map}
+use Rattle.std.specs.Prelude.{ℕ, ℤ, List, map, [], ◌∷◌, ◌++◌, codes, Some, None, option_map}
 use Rattle.std.specs.declared.option.Option.{Option}
 use Rattle.serde_json.specs.Data.{Data, string, array, object, no_members, put}
 use Rattle.serde_json.specs.View.{items_of}
@@ -8,7 +8,6 @@ use Rattle.cmc_meta.specs.declared.key.Key.{Key}
 use Rattle.cmc_objects.specs.declared.call.Call.{Call}
 use Rattle.cmc_objects.specs.declared.call.Call.TheVariants.{Create, Update, UpdateStatus, Delete, Get}
 use Rattle.cmc_objects.specs.declared.call.Reply.{Reply}
-use Rattle.cmc_objects.specs.declared.entry.Who.{Who}
 use Rattle.cmc_objects.specs.declared.entry.Positions.{Positions}
 use Rattle.cmc_objects.specs.declared.role.Role.{Role}
 use Rattle.cmc_summary.specs.declared.summary.Summary.{Summary}
@@ -16,7 +15,7 @@ use Rattle.cmc_print.specs.Trees.{natural}
 use Rattle.cmc_print.specs.Puts.{base64_text}
 use Rattle.cmc_print.specs.Printed.{object_tree, moment_tree}
 use Rattle.cmc_print.specs.Words.{kind_name, name_text, role_name}
-use Rattle.cmc_report.specs.Trees.{call_name, call_key, reply_tree, who_tree, positions_tree, put_told, waiting_tree}
+use Rattle.cmc_report.specs.Trees.{call_name, call_key, reply_tree, positions_tree, put_told, waiting_tree}
 use Rattle.cmc_writer.specs.Adding.{Row}
 use Rattle.cmc_writer.specs.Rows.{list_row}
 
@@ -44,7 +43,7 @@ name_row (Get k) name = None
 abbrev pub ok_rows : Call → ℕ → List ℕ → List Row
 ok_rows call version name = (codes "name", name_row call name) ∷ (codes "ok", Some (natural version)) ∷ []
 
--- Up to the number, and from the object on.
+-- Up to the number, from the object on, and with the word for whom at the end.
 abbrev pub call_head : ℕ → Call → List Row
 call_head n call =
     (codes "call", Some (string (call_name call)))
@@ -53,13 +52,15 @@ call_head n call =
     ∷ (codes "n", Some (natural n))
     ∷ []
 
-abbrev pub call_tail : Who → Call → Reply → List Row
-call_tail who call reply =
+abbrev pub call_body : Call → Reply → List Row
+call_body call reply =
     (codes "object", written_row call)
     ∷ (codes "reply", Some (reply_tree call reply))
     ∷ (codes "version", version_row call)
-    ∷ (codes "who", Some (who_tree who))
     ∷ []
+
+abbrev pub call_rows : ℕ → Data → Call → Reply → List Row
+call_rows n who call reply = call_head n call ++ (call_body call reply ++ (codes "who", Some who) ∷ [])
 
 -- What a role is told, under the word for it.
 unfoldable pub told_tree : List ℕ → ℕ → Role → Kind → ℕ → Data

@@ -104,16 +104,20 @@ put_version (Get k) ms = ms
 
 -- ---- entries
 
--- What an entry has beside its number.
-unfoldable pub put_call : Who → Call → Reply → Members → Members
+-- What the entry of a call has beside its number; `who` says by whom it is.
+unfoldable pub put_call : Data → Call → Reply → Members → Members
 put_call who call reply ms =
-    put (codes "who") (who_tree who)
+    put (codes "who") who
     (put_version call
     (put (codes "reply") (reply_tree call reply)
     (put_written call
     (put (codes "key") (string (call_key call))
     (put (codes "call") (string (call_name call))
     (put (codes "is") (string (codes "call")) ms))))))
+
+-- The entry of a call, with its number.
+unfoldable pub call_tree : ℕ → Data → Call → Reply → Data
+call_tree n who call reply = object (put_call who call reply (put (codes "n") (natural n) no_members))
 
 -- ---- handed-out work
 
@@ -194,7 +198,7 @@ put_pass (Tick now) ms = ms
 -- What an entry has beside its number.
 abbrev pub put_entry : Entry → Members → Members
 put_entry (Script step) ms = put (codes "step") (natural step) (put (codes "is") (string (codes "script")) ms)
-put_entry (Called who call reply) ms = put_call who call reply ms
+put_entry (Called who call reply) ms = put_call (who_tree who) call reply ms
 put_entry (Deliver role kind to) ms = put_told role kind to (put (codes "is") (string (codes "deliver")) ms)
 put_entry (Listed role kind to) ms = put_told role kind to (put (codes "is") (string (codes "list")) ms)
 put_entry (Begin pass role key at now) ms = put_begin role key at now (put_named (codes "begin") pass ms)

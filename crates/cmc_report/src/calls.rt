@@ -6,9 +6,9 @@ ghost use Rattle.cmc_objects.specs.declared.entry.Entry.TheVariants.{Call as Cal
 ghost use Rattle.cmc_print.specs.Trees.{natural};
 ghost use Rattle.cmc_print.specs.Printed.{object_tree};
 ghost use Rattle.cmc_print.specs.Words.{key_text};
-ghost use Rattle.cmc_report.specs.Trees.{lone, ok_members, conflict_tree, reply_tree, who_tree, call_key, call_name, entry_tree};
+ghost use Rattle.cmc_report.specs.Trees.{lone, ok_members, conflict_tree, reply_tree, who_tree, call_key, call_name, call_tree, entry_tree};
 ghost use Rattle.cmc_report.specs.Rows as spec;
-ghost use Rattle.cmc_report.specs.Rows.{ok_rows, call_head, call_tail};
+ghost use Rattle.cmc_report.specs.Rows.{ok_rows, call_body, call_head};
 ghost use Rattle.cmc_writer.specs.Adding.{with_value, with_row, with_rows};
 
 use cmc_meta::{Key, Name};
@@ -227,23 +227,21 @@ fn add_head(printer: &mut Printer, number: u64, call: &Call) -> Result<(), Alloc
     printer.count_row("n", number)
 }
 
-fn add_tail(
+fn add_body(
     printer: &mut Printer,
     alloc: Global,
-    who: Who,
     call: &Call,
     reply: &Reply,
 ) -> Result<(), AllocError>
-    ensures { OnOk result (printer.new ≡ with_rows printer.old (call_tail who call.now reply.now)) }
+    ensures { OnOk result (printer.new ≡ with_rows printer.old (call_body call.now reply.now)) }
 {
     written_row(printer, alloc, call)?;
     reply_row(printer, call, reply)?;
-    version_row(printer, call)?;
-    who_row(printer, who)
+    version_row(printer, call)
 }
 
 /// The entry of a call.
-#[tactic(auto, using(crate::proofs::CallLaws::call_written))]
+#[tactic(auto, using(crate::proofs::CallLaws::entry_of_call))]
 pub fn write_call(
     printer: &mut Printer,
     alloc: Global,
@@ -256,6 +254,26 @@ pub fn write_call(
 {
     printer.begin_object()?;
     add_head(printer, number, call)?;
-    add_tail(printer, alloc, who, call, reply)?;
+    add_body(printer, alloc, call, reply)?;
+    who_row(printer, who)?;
+    printer.end_object()
+}
+
+/// Writes the entry of a call by whom the word `who` names.
+#[tactic(auto, using(crate::proofs::CallLaws::call_written))]
+pub fn write_call_by(
+    printer: &mut Printer,
+    alloc: Global,
+    number: u64,
+    who: &str,
+    call: &Call,
+    reply: &Reply,
+) -> Result<(), AllocError>
+    ensures { OnOk result (printer.new ≡ with_value printer.old (call_tree number (string who.now) call.now reply.now)) }
+{
+    printer.begin_object()?;
+    add_head(printer, number, call)?;
+    add_body(printer, alloc, call, reply)?;
+    printer.text_row("who", who)?;
     printer.end_object()
 }

@@ -11,5 +11,7 @@ mod orders;
 mod summaries;
 mod text;
 
+pub use calls::write_call_by;
 pub use lines::Lines;
+pub use summaries::scenario_line;
 pub use text::{history_text, summary_text};

@@ -17,4 +17,6 @@ mod steps;
 pub use cmc_scenario_print::value_of_scenario;
 pub use cmc_setup::{Roles, Scenario, Steps, is_setup};
 pub use generating::generate;
+pub use members::{LARGEST_SIZE, faults, now};
 pub use reading::{BadScenario, read};
+pub use roles::kind;

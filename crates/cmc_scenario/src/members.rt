@@ -87,7 +87,8 @@ fn listed(alloc: Global, value: &Value) -> Result<Numbers, BadField>
     }
 }
 
-fn faults(alloc: Global, value: Option<&Value>) -> Result<Numbers, BadField>
+/// The numbers of the store calls that fail, of the member `faults`; none where it is left out.
+pub fn faults(alloc: Global, value: Option<&Value>) -> Result<Numbers, BadField>
     ensures { Gives (λ t. t) result (member_or [] (codes "faults") faults_at (shown_option value.entry)) }
 {
     match value {
@@ -130,7 +131,8 @@ fn moment(alloc: Global, value: &Value) -> Result<i64, BadField>
     }
 }
 
-fn now(alloc: Global, value: Option<&Value>) -> Result<i64, BadField>
+/// The moment of the member `now`; the usual one where it is left out.
+pub fn now(alloc: Global, value: Option<&Value>) -> Result<i64, BadField>
     ensures { Gives (λ t. t) result (member_or usual_moment (codes "now") moment_at (shown_option value.entry)) }
 {
     match value {

@@ -6,7 +6,7 @@ use Rattle.cmrun.specs.Statuses.{ExplainsRun, IsShort, Refuses}
 use Rattle.cmrun.specs.declared.top.Status.{Status}
 use Rattle.cmrun.specs.declared.top.Status.TheVariants.{Done, TooLong, NotJson, BadScenario, Usage, ReadFault, WriteFault, NoMemory, Spent}
 
-all_kept : (held : Option (List ℕ)) → Keeps held held
+pub all_kept : (held : Option (List ℕ)) → Keeps held held
 all_kept None = tt
 all_kept (Some xs) = refl
 

@@ -18,6 +18,8 @@ use Rattle.cmc_world.specs.Kept.{setting_of}
 use Rattle.cmc_plain.specs.Histories.{IsPlain, IsFull}
 use Rattle.cmc_plain.specs.Named.{NamesEachWait, IsWhole}
 use Rattle.cmc_plain.specs.Waits.{summary_at}
+use Rattle.cmc_collect_run.specs.Answers as collection
+use Rattle.cmc_collect_run.specs.declared.answering.NotCollected.{NotCollected}
 
 -- the bytes are UTF-8, and the JSON text of this value
 pub record Reads (bytes : List ℕ) (value : Data) : Type 0 where
@@ -60,6 +62,12 @@ pub record IsRunOf (workers : ℕ) (alone : Bool) (bytes text : List ℕ) : Type
 abbrev pub IsLoadOf : ℕ → Bool → ℕ → List ℕ → Type 0
 IsLoadOf workers alone count text = RunsOn workers alone (scenario_tree (load_setup count)) (load_setup count) text
 
+-- the bytes are JSON of a script of owner collection, and the text is that of what its steps make in order
+pub record IsCollectOf (bytes text : List ℕ) : Type 0 where
+  pub value : Data
+  pub reads : Reads bytes value
+  pub answer : collection.Answers value text
+
 -- the bytes are no JSON
 abbrev pub HasNoReading : List ℕ → Type 0
 HasNoReading bytes = (¬ (IsUtf8 bytes)) ⊎ (read bytes ≡ None)
@@ -85,3 +93,9 @@ pub record SpendsAll (bytes : List ℕ) : Type 0 where
   pub value : Data
   pub reads : Reads bytes value
   pub spends : SpendsValue value
+
+-- why the script of owner collection that the bytes are was not run to its end
+pub record RefusesCollect (bytes : List ℕ) (why : NotCollected) : Type 0 where
+  pub value : Data
+  pub reads : Reads bytes value
+  pub refused : collection.Refuses value why

@@ -6,9 +6,11 @@ use Rattle.cmc_setup.specs.declared.scenario.Scenario.{Scenario}
 use Rattle.cmc_scenario.specs.Scenarios.{scenario_at}
 use Rattle.cmc_scenario.specs.Loads.{load_setup}
 use Rattle.cmrun.specs.Ends.{AppendsPrefix, ConsumesExactly, ConsumesAtMost, risen}
-use Rattle.cmrun.specs.Headline.{IsRunOf, IsLoadOf, HasNoReading, FailsAt, Spends, SpendsValue, SpendsAll}
+use Rattle.cmrun.specs.Headline.{IsCollectOf, IsRunOf, IsLoadOf, HasNoReading, FailsAt, RefusesCollect, Spends, SpendsValue, SpendsAll}
+use Rattle.cmc_collect_run.specs.Answers as collection
+use Rattle.cmc_collect_run.specs.declared.answering.NotCollected.TheVariants as refusals
 use Rattle.cmrun.specs.declared.words.Command.{Command}
-use Rattle.cmrun.specs.declared.words.Command.TheVariants.{Run, Load}
+use Rattle.cmrun.specs.declared.words.Command.TheVariants.{Run, Load, Collect}
 use Rattle.cmrun.specs.declared.top.Status.{Status}
 use Rattle.cmrun.specs.declared.top.Status.TheVariants.{Done, TooLong, NotJson, BadScenario, Usage, ReadFault, WriteFault, NoMemory, Spent}
 
@@ -81,13 +83,50 @@ ExplainsLoad workers alone count (BadScenario path) old new = ⊥
 ExplainsLoad workers alone count ReadFault old new = ⊥
 ExplainsLoad workers alone count Usage old new = ⊥
 
+-- why the value was not run as a script of owner collection
+abbrev pub RefusesScript : Data → Status → Type 0
+RefusesScript value (BadScenario path) = collection.Refuses value (refusals.Path path)
+RefusesScript value Spent = collection.Refuses value refusals.Spent
+RefusesScript value NoMemory = Unit {0}
+RefusesScript value NotJson = ⊥
+RefusesScript value Done = ⊥
+RefusesScript value TooLong = ⊥
+RefusesScript value Usage = ⊥
+RefusesScript value ReadFault = ⊥
+RefusesScript value WriteFault = ⊥
+
+-- why the bytes were not run as one
+abbrev pub RefusesScriptIn : List ℕ → Status → Type 0
+RefusesScriptIn bytes NotJson = HasNoReading bytes
+RefusesScriptIn bytes (BadScenario path) = RefusesCollect bytes (refusals.Path path)
+RefusesScriptIn bytes Spent = RefusesCollect bytes refusals.Spent
+RefusesScriptIn bytes NoMemory = Unit {0}
+RefusesScriptIn bytes Done = ⊥
+RefusesScriptIn bytes TooLong = ⊥
+RefusesScriptIn bytes Usage = ⊥
+RefusesScriptIn bytes ReadFault = ⊥
+RefusesScriptIn bytes WriteFault = ⊥
+
+-- What a status says, at `collect`, of the bytes that could be read, and of what the sink held and holds.
+abbrev pub ExplainsCollect : Status → List ℕ → Option (List ℕ) → Option (List ℕ) → Type 0
+ExplainsCollect Done bytes old new = IsShort bytes × ((text : List ℕ) × IsCollectOf bytes text × Appends old new text)
+ExplainsCollect WriteFault bytes old new = IsShort bytes × ((text : List ℕ) × IsCollectOf bytes text × AppendsPrefix old new text)
+ExplainsCollect TooLong bytes old new = IsLong bytes × Keeps old new
+ExplainsCollect NotJson bytes old new = IsShort bytes × (HasNoReading bytes × Keeps old new)
+ExplainsCollect (BadScenario path) bytes old new = IsShort bytes × (RefusesCollect bytes (refusals.Path path) × Keeps old new)
+ExplainsCollect Spent bytes old new = IsShort bytes × (RefusesCollect bytes refusals.Spent × Keeps old new)
+ExplainsCollect ReadFault bytes old new = Keeps old new
+ExplainsCollect NoMemory bytes old new = Keeps old new
+ExplainsCollect Usage bytes old new = ⊥
+
 -- What a status says of what was left to read, where that is told, and of what the sink held and holds.
 abbrev pub Explains : Option Command → Status → Option (List ℕ) → Option (List ℕ) → Option (List ℕ) → Type 0
 Explains None status left old new = Keeps old new
 Explains (Some (Run workers alone)) status left old new = IfSome left (λ bytes. ExplainsRun workers alone status bytes old new)
 Explains (Some (Load count workers alone)) status left old new = ExplainsLoad workers alone count status old new
+Explains (Some Collect) status left old new = IfSome left (λ bytes. ExplainsCollect status bytes old new)
 
--- What a status says, at `run`, of what was left of the source and of what is left: at a fault or want of memory what stands
+-- What a status says, at `run` and `collect`, of what was left of the source and of what is left: at a fault or want of memory what stands
 -- behind at most one byte above the limit, and at TooLong what stands behind exactly that byte. Else it was read to its end.
 abbrev pub LeavesRun : Status → Option (List ℕ) → Option (List ℕ) → Type 0
 LeavesRun TooLong old new = ConsumesExactly old new 16777217
@@ -95,11 +134,12 @@ LeavesRun ReadFault old new = ConsumesAtMost old new 16777217
 LeavesRun NoMemory old new = ConsumesAtMost old new 16777217
 LeavesRun other old new = IsAtEnd new
 
--- The same for every command: all of it is left but at `run`.
+-- The same for every command: at `load` all of it is left.
 abbrev pub Leaves : Option Command → Status → Option (List ℕ) → Option (List ℕ) → Type 0
 Leaves None status old new = Keeps old new
 Leaves (Some (Run workers alone)) status old new = LeavesRun status old new
 Leaves (Some (Load count workers alone)) status old new = Keeps old new
+Leaves (Some Collect) status old new = LeavesRun status old new
 
 -- the count of reads that failed: one more at ReadFault, and none else
 abbrev pub reads_failed : Status → ℕ → ℕ
@@ -111,11 +151,12 @@ abbrev pub writes_failed : Status → ℕ → ℕ
 writes_failed WriteFault before = risen before
 writes_failed other before = before
 
--- only `run` reads
+-- only `run` and `collect` read
 abbrev pub reads_nothing : Option Command → Bool
 reads_nothing None = true
 reads_nothing (Some (Run workers alone)) = false
 reads_nothing (Some (Load count workers alone)) = true
+reads_nothing (Some Collect) = false
 
 -- the status comes before anything is written
 abbrev pub writes_nothing : Status → Bool
@@ -141,7 +182,7 @@ message_of Done = []
 message_of TooLong = codes "input too long"
 message_of NotJson = codes "not JSON"
 message_of (BadScenario path) = codes "bad scenario at "
-message_of Usage = codes "usage: cmrun run|load COUNT [--workers N] [--summary]"
+message_of Usage = codes "usage: cmrun run|load COUNT [--workers N] [--summary] or cmrun collect"
 message_of ReadFault = codes "read failed"
 message_of WriteFault = codes "write failed"
 message_of NoMemory = codes "out of memory"

@@ -2,7 +2,8 @@
 //
 // `cmrun run` reads a scenario from standard input, runs its script and its controllers on an empty store,
 // and prints the history of the run and a summary to standard output. `cmrun load COUNT` does the same with a
-// scenario that it makes, of COUNT Certificates that are issued and renewed, and reads nothing. With `--summary`
+// scenario that it makes, of COUNT Certificates that are issued and renewed, and reads nothing. `cmrun collect` reads a
+// script of owner collection, and prints what its steps make. With `--summary`
 // the summary alone is printed. `--workers N` says how many threads take passes of controllers, 4 where it is not given;
 // with 0 there is no thread but the first, and the run is that of the plain order.
 #![tactic(auto)]

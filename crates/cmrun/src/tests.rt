@@ -602,7 +602,8 @@ fn bad_at(alloc: Global, path: &str) -> Result<Status, AllocError> {
     Ok(Status::BadScenario(Text::from_str(alloc, path)?))
 }
 
-static USAGE: &str = "cmrun: usage: cmrun run|load COUNT [--workers N] [--summary]";
+static USAGE: &str =
+    "cmrun: usage: cmrun run|load COUNT [--workers N] [--summary] or cmrun collect";
 
 #[test]
 fn tells_each_status(rt: HostRuntime) -> Result<(), Fail> {

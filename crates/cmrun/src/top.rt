@@ -3,20 +3,22 @@ ghost use Rattle.serde_json.specs.View.{view};
 ghost use Rattle.serde_json.specs.Written.{has_float};
 ghost use Rattle.std.specs.Prelude.{◌≡◌, ◌≢◌, ◌≤◌, ◌↔◌, true, false, None, IfOk, IfErr, IfSome};
 ghost use Rattle.std.specs.Str.{IsUtf8};
+ghost use Rattle.cmc_collect_run.specs.Answers as collection;
 ghost use Rattle.cmc_report.specs.Text.{joined};
 ghost use Rattle.cmc_plain.specs.Histories.{IsPlain};
 ghost use Rattle.cmc_rules.specs.Runs.{IsFinished};
 ghost use Rattle.cmc_scenario.specs.Loads.{load_setup};
 ghost use Rattle.cmc_scenario_print.specs.ScenarioTree.{scenario_tree};
 ghost use Rattle.cmc_world.specs.Kept.{on};
-ghost use Rattle.cmrun.specs.Headline.{Answers, IsLoadOf, IsRunOf, RunsOn};
-ghost use Rattle.cmrun.specs.Statuses.{Explains, ExplainsLoad, ExplainsRun, Leaves, LeavesRun, Refuses, RefusesValue, SpendsOn, exit_code, message_of, path_of, reads_failed, reads_nothing, writes_failed, writes_nothing};
+ghost use Rattle.cmrun.specs.Headline.{Answers, IsCollectOf, IsLoadOf, IsRunOf, RunsOn};
+ghost use Rattle.cmrun.specs.Statuses.{Explains, ExplainsCollect, ExplainsLoad, ExplainsRun, Leaves, LeavesRun, Refuses, RefusesScript, RefusesScriptIn, RefusesValue, SpendsOn, exit_code, message_of, path_of, reads_failed, reads_nothing, writes_failed, writes_nothing};
 ghost use Rattle.cmrun.specs.Words.{command_of};
 
 use crate::sink::{Sink, write_lines};
 use crate::source::{ReadError, Source, read_all};
 use crate::words::{Command, read_words};
 use cmc_answers::Signer;
+use cmc_collect_run::{NotCollected, collect};
 use cmc_keys::KeyMaker;
 use cmc_meta::Text;
 use cmc_plain::{each_wait_is_named, summary};
@@ -39,7 +41,7 @@ pub enum Status {
     TooLong,
     /// The input is no JSON.
     NotJson,
-    /// The input is JSON, but no scenario: it fails at this path first.
+    /// The input is JSON, but no scenario, or no script of owner collection: it fails at this path first.
     BadScenario(Text),
     /// The words are not of the command line's form.
     Usage,
@@ -49,7 +51,7 @@ pub enum Status {
     WriteFault,
     /// Memory ran out.
     NoMemory,
-    /// The run needs more entries than the scenario allows.
+    /// The run needs more entries than the scenario or the script allows.
     Spent,
 }
 
@@ -248,7 +250,7 @@ pub fn message(status: &Status) -> &'static str
         Status::TooLong => "input too long",
         Status::NotJson => "not JSON",
         Status::BadScenario(_) => "bad scenario at ",
-        Status::Usage => "usage: cmrun run|load COUNT [--workers N] [--summary]",
+        Status::Usage => "usage: cmrun run|load COUNT [--workers N] [--summary] or cmrun collect",
         Status::ReadFault => "read failed",
         Status::WriteFault => "write failed",
         Status::NoMemory => "out of memory",
@@ -338,18 +340,86 @@ fn run_load<R: Threads + Wait + Sync, K: Sink, M: KeyMaker, N: Signer, G: Gate>(
     }
 }
 
+/// The lines that the value is answered with as a script of owner collection.
+fn collect_value(alloc: Global, value: &Value) -> Result<Lines, Status>
+    ensures ok { IfOk result (λ lines. collection.Answers (view value.now) (joined lines)) }
+    ensures err { IfErr result (λ status. RefusesScript (view value.now) status) }
+{
+    match collect(alloc, value) {
+        Ok(lines) => Ok(lines),
+        Err(NotCollected::Path(path)) => Err(Status::BadScenario(path)),
+        Err(NotCollected::Spent) => Err(Status::Spent),
+        Err(NotCollected::NoMemory) => Err(Status::NoMemory),
+    }
+}
+
+/// The same of a text.
+fn collect_text(alloc: Global, text: &str) -> Result<Lines, Status>
+    requires { IsUtf8 text.now }
+    ensures ok { IfOk result (λ lines. IsCollectOf text.now (joined lines)) }
+    ensures err { IfErr result (λ status. RefusesScriptIn text.now status) }
+{
+    match Value::from_str(alloc, text) {
+        Ok(value) => {
+            let lines = collect_value(alloc, &value);
+            leave(value);
+            lines
+        }
+        Err(error) => match error.classify() {
+            Category::Memory => Err(Status::NoMemory),
+            _ => Err(Status::NotJson),
+        },
+    }
+}
+
+/// The same of some bytes.
+fn collect_bytes(alloc: Global, bytes: &[u8]) -> Result<Lines, Status>
+    ensures ok { IfOk result (λ lines. IsCollectOf bytes.now (joined lines)) }
+    ensures err { IfErr result (λ status. RefusesScriptIn bytes.now status) }
+{
+    match str::from_utf8(bytes) {
+        Ok(text) => collect_text(alloc, text),
+        Err(_) => Err(Status::NotJson),
+    }
+}
+
+/// Runs the script of owner collection that the source gives.
+fn run_collect<S: Source, K: Sink>(alloc: Global, source: &mut S, sink: &mut K) -> Status
+    ensures told { IfSome (S.left source.old) (λ bytes. ExplainsCollect result bytes (K.holds sink.old) (K.holds sink.new)) }
+    ensures left { LeavesRun result (S.left source.old) (S.left source.new) }
+    ensures unwritten { writes_nothing result ≡ true → sink.new ≡ sink.old }
+    ensures words { result ≢ Status.Usage }
+    ensures read { S.faults source.new ≡ reads_failed result (S.faults source.old) }
+    ensures write { K.faults sink.new ≡ writes_failed result (K.faults sink.old) }
+{
+    let bytes = match read_all(alloc, source) {
+        Ok(bytes) => bytes,
+        Err(ReadError::NoMemory) => return Status::NoMemory,
+        Err(ReadError::Fault) => return Status::ReadFault,
+        Err(ReadError::TooLong) => return Status::TooLong,
+    };
+    let lines = match collect_bytes(alloc, bytes.as_slice()) {
+        Ok(lines) => lines,
+        Err(status) => return status,
+    };
+    match write_lines(sink, lines.as_slice()) {
+        Ok(()) => Status::Done,
+        Err(_) => Status::WriteFault,
+    }
+}
+
 /// Does all that the program does. With `run` it reads a scenario from the source, and with `load` it makes one of
 /// so many Certificates, and reads nothing. It runs the scenario on an empty store and writes the history and its
 /// summary to the sink, with `--summary` the line of the summary alone. `keys` makes keys and signs requests, and
 /// `signer` answers for the issuers, whatever they answer; the gate is called before each such piece of work. With 0
 /// workers the run is that of the plain order, and no thread is started. With more of them, so many threads of the
 /// runtime `rt` take passes, and which history is printed depends on how they come; all that is promised of it is
-/// promised of each.
+/// promised of each. With `collect` it reads a script of owner collection from the source, and writes what its steps make.
 ///
 /// The lines are made before the first of them is written, each as one piece. Each status has its cause,
 /// as its variant says; at `WriteFault` some first part of the text was written, and at every status but
 /// `Done` and `WriteFault` nothing was. `Usage` comes exactly where the words are not of the command line's form. At
-/// `run` reading stopped at the first byte above the limit, at the end, or at the read that failed; else nothing was
+/// `run` and `collect` reading stopped at the first byte above the limit, at the end, or at the read that failed; else nothing was
 /// read.
 pub fn run<R: Threads + Wait + Sync, S: Source, K: Sink, M: KeyMaker, N: Signer, G: Gate>(
     rt: &R,
@@ -383,5 +453,6 @@ pub fn run<R: Threads + Wait + Sync, S: Source, K: Sink, M: KeyMaker, N: Signer,
                 summary,
             },
         ) => run_load(rt, alloc, workers, summary, count, sink, keys, signer, gate),
+        Some(Command::Collect) => run_collect(alloc, source, sink),
     }
 }

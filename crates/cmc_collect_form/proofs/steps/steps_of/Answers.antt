@@ -1,0 +1,5 @@
+use Rattle.cmc_collect_form.proofs.OneMore.{at_first, one_more, all_read, all_in_time}
+use Rattle.cmc_collect_form.proofs.steps.steps_of.Goals as goal
+
+pub loop-place-preserved : goal.loop-place-preserved
+loop-place-preserved c = rw (c.in_ok-push-in-Ok.ensures.ok) (one_more _ _ _ _ _ _ _ _ _ c.loop-place-test.true c.index-items-place.is c.in-Ok.ensures.step c.in-Ok.ensures.next.0 c.in-Ok.ensures.next.1 c.loop-place.invariant)
