@@ -4,7 +4,7 @@ ghost use Rattle.cmc_queue.specs.Queues.{ChangesRow, has_room, row_of};
 ghost use Rattle.cmc_queue.specs.Rows.{no_row};
 
 use cmc_meta::Key;
-use cmc_queue::{Parked, Queue, Row};
+use cmc_queue::{Found, Parked, Queue, Row};
 use std::alloc::AllocError;
 
 /// Puts the key into process, where that is so.
@@ -24,6 +24,7 @@ fn put_working(queue: &mut Queue, key: &Key, working: bool)
 fn put_ready(queue: &mut Queue, key: &Key, ready: bool)
     requires room { has_room queue.old key.now ≡ true }
     requires new { (row_of queue.old key.now).ready ≡ false }
+    requires unknown { (row_of queue.old key.now).work ≡ Found.Unknown }
     ensures rows { ChangesRow (λ row. record row { ready = ready }) key.now queue.old queue.new }
     ensures room { has_room queue.new key.now ≡ true }
 {
@@ -59,9 +60,10 @@ fn put_timed(queue: &mut Queue, key: &Key, timed: Option<i64>) -> Result<(), All
     Ok(())
 }
 
-/// Gives the key, which has no row, this one.
+/// Gives the key, which has no row and was not looked at, this one.
 pub(crate) fn put_row(queue: &mut Queue, key: &Key, row: Row) -> Result<(), AllocError>
-    requires { row_of queue.old key.now ≡ no_row }
+    requires new { row_of queue.old key.now ≡ no_row }
+    requires unknown { row.work ≡ Found.Unknown }
     ensures { OnOk result (ChangesRow (λ old. row) key.now queue.old queue.new) }
 {
     queue.room(key)?;

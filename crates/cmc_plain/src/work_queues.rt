@@ -23,7 +23,7 @@ use crate::waking::wake_known;
 use cmc_meta::Key;
 use cmc_objects::{Role, kind_of_work};
 use cmc_pass::Views;
-use cmc_queue::{Parked, Queue, Row};
+use cmc_queue::{Found, Parked, Queue, Row};
 use cmc_world::World;
 use std::alloc::{AllocError, Global};
 use std::collections::BTreeSet;
@@ -91,12 +91,14 @@ fn timed_on(world: &World, role: Role, seen: &Views) -> Option<i64>
 /// The row of the key in the role's queue.
 fn row_on(alloc: Global, world: &World, role: Role, key: &Key) -> Result<Row, AllocError>
     requires { on words.IsOfWork world.now role key.now }
-    ensures { IfOk result (λ row. on words.IsRowOf world.now role key.now row) }
+    ensures right { IfOk result (λ row. on words.IsRowOf world.now role key.now row) }
+    ensures unknown { IfOk result (λ row. row.work ≡ Found.Unknown) }
 {
     let seen = dated_views(alloc, world, role, key)?;
     let ready = may_begin(alloc, world, role, key, &seen)?;
     Ok(Row {
         ready,
+        work: Found::Unknown,
         working: is_working(world, role, key),
         parked: parked_on(world, role, key, &seen),
         timed: timed_on(world, role, &seen),
@@ -107,7 +109,9 @@ fn row_on(alloc: Global, world: &World, role: Role, key: &Key) -> Result<Row, Al
 fn is_no_row(row: Row) -> bool
     ensures { IsTrue result ↔ (row ≡ no_row) }
 {
-    !row.ready && (!row.working && (row.parked.is_none() && row.timed.is_none()))
+    !row.ready
+        && (row.work.is_unknown()
+            && (!row.working && (row.parked.is_none() && row.timed.is_none())))
 }
 
 /// Gives the key, which is one of the role's work, its row, where it has none yet.

@@ -1,10 +1,11 @@
 -- A search for the first key that a test holds of, through the rows in order of key.
-use Rattle.std.proofs.Common.{◌≡◌, List, [], ◌∷◌, Some, None, Bool, true, false, cond, refl, ap, subst, ◌∙◌, Less}
+use Rattle.std.proofs.Common.{◌≡◌, List, [], ◌∷◌, Some, None, Bool, true, false, cond, refl, sym, ap, subst, ◌∙◌, Less}
 use Rattle.std.proofs.lemmas.List.Elements.{All-head, All-tail}
+use Rattle.std.proofs.lemmas.List.Kept.{IsStrictlySortedBy-filter}
 use Rattle.std.proofs.lemmas.Map.Keys.{sorted_head, sorted_tail}
-use Rattle.std.specs.Prelude.{◌&&◌, ◌||◌, is_some}
+use Rattle.std.specs.Prelude.{◌||◌, ⊤, is_some}
 use Rattle.std.specs.BTreeMap.{is_at}
-use Rattle.std.specs.List.{All, AllByRecursion, list_any}
+use Rattle.std.specs.List.{All, AllByRecursion, filter, list_any}
 use Rattle.std.specs.List.Sorted.{IsStrictlySortedBy}
 use Rattle.std.specs.Map.{keys_of, lookup}
 use Rattle.std.specs.Ordering.{is_eq}
@@ -15,7 +16,7 @@ use Rattle.cmc_queue.specs.Rows.{has_row, is_free, row_in, row_or_new}
 use Rattle.cmc_queue.specs.Queues.{FindsFirst}
 use Rattle.cmc_meta.proofs.KeyOrder.{key_cmp-total}
 use Rattle.cmc_queue.proofs.OneRow.{same_key}
-use Rattle.cmc_queue.proofs.Found.{free_has_row}
+use Rattle.cmc_queue.proofs.Waits.{free_has_row}
 
 -- the key stands in the rows
 abbrev stands : Key → List (Key × Row) → Bool
@@ -58,6 +59,52 @@ all_rows_left es test ordered found free = record {
   each = own_rows es es found;
   left = λ k on. row_stands k es (free_has_row es k (free k on));
 }
+
+-- ---- above a key
+
+-- each key comes after this one
+abbrev pub AreAfter : Key → List (Key × Row) → Type 0
+AreAfter below rest = AllByRecursion (λ e. key_cmp below e.0 ≡ Less) rest
+
+passing : (b : Bool) (p : Key → Bool) (e : Key × Row) (es : List (Key × Row)) → p e.0 ≡ b → keys_of (filter (λ q. p q.0) es) ≡ filter p (keys_of es) → keys_of (cond b (e ∷ filter (λ q. p q.0) es) (filter (λ q. p q.0) es)) ≡ cond b (e.0 ∷ filter p (keys_of es)) (filter p (keys_of es))
+passing true p e es is rest = ap (λ ks. e.0 ∷ ks) rest
+passing false p e es is rest = rest
+
+keys_filtered : (p : Key → Bool) (es : List (Key × Row)) → keys_of (filter (λ q. p q.0) es) ≡ filter p (keys_of es)
+keys_filtered p [] = refl
+keys_filtered p (e ∷ es) = passing (p e.0) p e es refl (keys_filtered p es)
+
+still_stands : (b c : Bool) (p : Key → Bool) (k : Key) (e : Key × Row) (es : List (Key × Row)) → is_eq (key_cmp k e.0) ≡ b → p e.0 ≡ c → p k ≡ true → (stands k es ≡ true → stands k (filter (λ q. p q.0) es) ≡ true) → (b || stands k es) ≡ true
+    → stands k (cond c (e ∷ filter (λ q. p q.0) es) (filter (λ q. p q.0) es)) ≡ true
+still_stands true true p k e es here passes on later any = ap (λ t. t || stands k (filter (λ q. p q.0) es)) here
+still_stands true false p k e es here passes on later any = let off : p k ≡ false = ap p (same_key k e.0 here) ∙ passes in absurd (cc (on, off))
+still_stands false true p k e es here passes on later any = ap (λ t. t || stands k (filter (λ q. p q.0) es)) here ∙ later any
+still_stands false false p k e es here passes on later any = later any
+
+stands_filtered : (p : Key → Bool) (k : Key) (es : List (Key × Row)) → p k ≡ true → stands k es ≡ true → stands k (filter (λ q. p q.0) es) ≡ true
+stands_filtered p k [] on any = any
+stands_filtered p k (e ∷ es) on any = still_stands (is_eq (key_cmp k e.0)) (p e.0) p k e es refl refl on (stands_filtered p k es on) any
+
+abbrev IsInPart : Key → List (Key × Row) → Key × Row → Type 0
+IsInPart below es e = ((key_cmp below e.0 ≡ Less) × ⊤) × (lookup (is_at (key_cmp e.0)) es ≡ Some e.1)
+
+part_rows : (below : Key) (es rest : List (Key × Row)) → All (IsInPart below es) rest → AllByRecursion (λ e. row_in es e.0 ≡ e.1) rest
+part_rows below es [] all = tt
+part_rows below es (e ∷ rest) all = (own_row es e.0 e.1 (All-head (IsInPart below es) e rest all).1, part_rows below es rest (All-tail (IsInPart below es) e rest all))
+
+pub part_after : (below : Key) (es rest : List (Key × Row)) → All (IsInPart below es) rest → AreAfter below rest
+part_after below es [] all = tt
+part_after below es (e ∷ rest) all = ((All-head (IsInPart below es) e rest all).0.0, part_after below es rest (All-tail (IsInPart below es) e rest all))
+
+-- what is left to look at of the keys above one
+pub part_left : (es part : List (Key × Row)) (below : Key) (p : Key → Bool) (test : Key → Bool) → IsStrictlySortedBy key_cmp (keys_of es) → part ≡ filter (λ e. p e.0) es → All (IsInPart below es) part → IsOfFree es test → ((k : Key) → test k ≡ true → p k ≡ true) → RowsLeft es test part
+part_left es part below p test ordered is within free passes = record {
+  ordered = subst (λ (ks : List Key). IsStrictlySortedBy key_cmp ks) (sym (ap keys_of is ∙ keys_filtered p es)) (IsStrictlySortedBy-filter key_cmp p (keys_of es) ordered);
+  each = part_rows below es part within;
+  left = λ k on. subst (λ (rest : List (Key × Row)). stands k rest ≡ true) (sym is) (stands_filtered p k es (passes k on) (row_stands k es (free_has_row es k (free k on))));
+}
+
+-- ----
 
 left_beyond : (b : Bool) (k key : Key) (rest : List (Key × Row)) → is_eq (key_cmp k key) ≡ b → (k ≡ key → ⊥) → (b || stands k rest) ≡ true → stands k rest ≡ true
 left_beyond true k key rest e apart any = absurd (apart (same_key k key e))

@@ -2,6 +2,6 @@ pub mod OneRow
 pub mod Places
 pub mod Ticking
 pub mod Moving
-pub mod Found
+pub mod Waits
 pub mod Firsts
 pub mod Counts

@@ -5,6 +5,7 @@ use Rattle.std.specs.Prelude.{if◌then◌else◌, nat_le, ◌==◌, ◌&&◌}
 use Rattle.cmc_meta.specs.declared.key.Key.{Key}
 use Rattle.cmc_meta.specs.declared.key.Kind.{Kind}
 use Rattle.cmc_meta.specs.Keys.{key_eq, kind_rank}
+use Rattle.cmc_queue.specs.declared.row.Found.TheVariants.{Unknown}
 use Rattle.cmc_queue.specs.declared.row.Parked.{Parked}
 use Rattle.cmc_queue.specs.declared.row.Row.{Row}
 use Rattle.cmc_queue.specs.Rows.{row_in, moved, is_reached}
@@ -13,7 +14,7 @@ use Rattle.cmc_queue.proofs.OneRow.{come, one_row}
 use Rattle.cmc_queue.proofs.Places.{late_left, other_left, AreLeft}
 
 same_twice : (b : Bool) (kind : Kind) (to : ℕ) (row : Row) → is_reached kind to row.parked ≡ b
-    → moved kind to (if b then record row { ready = true; parked = None } else row) ≡ (if b then record row { ready = true; parked = None } else row)
+    → moved kind to (if b then record row { ready = true; work = Unknown; parked = None } else row) ≡ (if b then record row { ready = true; work = Unknown; parked = None } else row)
 unfolding moved
 same_twice true kind to row e = refl
 same_twice false kind to row e = rw e refl
@@ -22,7 +23,7 @@ twice : (kind : Kind) (to : ℕ) (row : Row) → moved kind to (moved kind to ro
 unfolding moved
 twice kind to row = same_twice (is_reached kind to row.parked) kind to row refl
 
-parked_before : (b : Bool) (kind : Kind) (to : ℕ) (row : Row) (p : Parked) → is_reached kind to row.parked ≡ b → (if b then record row { ready = true; parked = None } else row).parked ≡ Some p
+parked_before : (b : Bool) (kind : Kind) (to : ℕ) (row : Row) (p : Parked) → is_reached kind to row.parked ≡ b → (if b then record row { ready = true; work = Unknown; parked = None } else row).parked ≡ Some p
     → (row.parked ≡ Some p) × (((kind_rank p.kind == kind_rank kind) && nat_le p.version to) ≡ false)
 parked_before true kind to row p e is = absurd (cc is)
 parked_before false kind to row p e is = (is, subst (λ (o : Option Parked). is_reached kind to o ≡ false) is e)

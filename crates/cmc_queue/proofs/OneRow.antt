@@ -105,3 +105,13 @@ pub rooms_stay : (m n : BTreeMap Key Row) (key : Key) (old row : Row) → get_by
 rooms_stay m n key old row found through k =
     let some : IsSome (get_by (key_cmp key) m) = rw found refl in
     stays (is_eq (key_cmp key k)) m.entries n.entries key k old row refl found ((through.3 some).0 k)
+
+-- the row that is found
+pub row_found : (es : List (Key × Row)) (key : Key) (row : Row) → lookup (is_at (key_cmp key)) es ≡ Some row → row_in es key ≡ row
+unfolding row_in
+row_found es key row found = ap row_or_new found
+
+-- a key that is not found has no row
+pub no_row_found : (es : List (Key × Row)) (key : Key) → is_some (lookup (is_at (key_cmp key)) es) ≡ false → row_in es key ≡ no_row
+unfolding row_in
+no_row_found es key absent = ap row_or_new (none_from_test (lookup (is_at (key_cmp key)) es) absent)

@@ -1,16 +1,18 @@
 -- What a work queue keeps of one key, and what each call makes of it.
-use Rattle.std.specs.Prelude.{ℕ, ℤ, ◌==◌, ◌&&◌, not, Bool, true, false, List, Option, Some, None, if◌then◌else◌, int_le, nat_le, is_some}
+use Rattle.std.specs.Prelude.{ℕ, ℤ, negsuc, ◌==◌, ◌&&◌, not, Bool, true, false, List, Option, Some, None, if◌then◌else◌, int_le, nat_le, is_some}
 use Rattle.std.specs.BTreeMap.{is_at}
 use Rattle.std.specs.Map.{lookup}
 use Rattle.cmc_meta.specs.declared.key.Key.{Key}
 use Rattle.cmc_meta.specs.declared.key.Kind.{Kind}
 use Rattle.cmc_meta.specs.Keys.{key_cmp, kind_rank}
+use Rattle.cmc_queue.specs.declared.row.Found.{Found}
+use Rattle.cmc_queue.specs.declared.row.Found.TheVariants.{Unknown, Nothing, Something}
 use Rattle.cmc_queue.specs.declared.row.Parked.{Parked}
 use Rattle.cmc_queue.specs.declared.row.Row.{Row}
 
 -- nothing is to be done
 abbrev pub no_row : Row
-no_row = record { ready = false; working = false; parked = None; timed = None }
+no_row = record { ready = false; work = Unknown; working = false; parked = None; timed = None }
 
 -- the key can be given: it is ready, and not in process
 abbrev pub is_free : Row → Bool
@@ -18,11 +20,29 @@ is_free row = row.ready && not row.working
 
 -- the key is ready
 abbrev pub added : Row → Row
-added row = record row { ready = true }
+added row = record row { ready = true; work = Unknown }
+
+-- nothing was found out since the key changed
+abbrev pub is_unknown : Found → Bool
+is_unknown Unknown = true
+is_unknown Nothing = false
+is_unknown Something = false
+
+-- the key can be given, and is to be looked at
+abbrev pub is_fresh : Row → Bool
+is_fresh row = is_free row && is_unknown row.work
 
 -- a key that can be given is in process, and ready no more
 abbrev pub taken : Row → Row
-taken row = if is_free row then record row { ready = false; working = true } else row
+taken row = if is_free row then record row { ready = false; work = Unknown; working = true } else row
+
+-- this is what a look at the key found
+abbrev pub looked : Found → Row → Row
+looked work row = record row { work = work }
+
+-- a look found that the key may be left alone
+abbrev pub left : Row → Row
+left row = record row { ready = false; work = Unknown }
 
 -- the key is in process no more
 abbrev pub ended : Row → Row
@@ -41,7 +61,7 @@ is_reached kind to (Some p) = (kind_rank p.kind == kind_rank kind) && nat_le p.v
 
 -- the kind was told of up to a version: a key that waited for it is ready, and waits no more
 unfoldable pub moved : Kind → ℕ → Row → Row
-moved kind to row = if is_reached kind to row.parked then record row { ready = true; parked = None } else row
+moved kind to row = if is_reached kind to row.parked then record row { ready = true; work = Unknown; parked = None } else row
 
 -- ---- what waits for a moment
 
@@ -59,9 +79,19 @@ abbrev pub is_due : ℤ → Option ℤ → Bool
 is_due now None = false
 is_due now (Some at) = int_le at now
 
--- it is now: a key whose moment has come is ready, and timed no more
+-- that there is something to do is not known for the next moment
+abbrev pub lapsed : Found → Found
+lapsed Unknown = Unknown
+lapsed Nothing = Nothing
+lapsed Something = Unknown
+
+-- it is now: a key whose moment has come is ready, and timed no more; of each other key what was found lapses
 unfoldable pub ticked : ℤ → Row → Row
-ticked now row = if is_due now row.timed then record row { ready = true; timed = None } else row
+ticked now row = if is_due now row.timed then record row { ready = true; work = Unknown; timed = None } else record row { work = lapsed row.work }
+
+-- the moment at which a key is noted where something was found: each tick passes it
+abbrev pub earliest : ℤ
+earliest = negsuc 9223372036854775807
 
 -- ---- the rows of all keys
 

@@ -1,14 +1,14 @@
 //! A work queue.
 ghost use Rattle.std.specs.Option.{option_copied};
 ghost use Rattle.std.specs.Ordering.{is_lt};
-ghost use Rattle.std.specs.Prelude.{◌≡◌, OnOk, ◌&&◌, true};
+ghost use Rattle.std.specs.Prelude.{◌≡◌, ◌+◌, OnOk, ◌&&◌, true};
 ghost use Rattle.cmc_meta.specs.declared.key.Key.{Key as KeyValue};
 ghost use Rattle.cmc_meta.specs.Keys.{key_cmp};
-ghost use Rattle.cmc_queue.specs.Queues.{has_room, has_room_at, has_room_for, is_offered, row_of, versions_of, AreAbove, AreAfter, ChangesRow, ChangesRows, FindsFirst, KeepsMoments, KeepsRoom, KeepsRows, KeepsVersions, KeepsVersionsOfOthers, StayAbove, StayAfter};
-ghost use Rattle.cmc_queue.specs.Rows.{added, ended, is_free, moved, no_row, parked_for, taken, ticked, timed_at};
+ghost use Rattle.cmc_queue.specs.Queues.{fresh_count, has_room, has_room_at, has_room_for, has_room_to_find, is_offered, row_of, versions_of, AreAbove, AreAfter, ChangesRow, ChangesRows, FindsFirst, KeepsMoments, KeepsRoom, KeepsRows, KeepsVersions, KeepsVersionsOfOthers, StayAbove, StayAfter};
+ghost use Rattle.cmc_queue.specs.Rows.{added, ended, is_fresh, is_free, left, looked, moved, no_row, parked_for, taken, ticked, timed_at};
 
 use crate::moments::Moments;
-use crate::row::Row;
+use crate::row::{Found, Row};
 use crate::rows::Rows;
 use crate::searching::{move_rows, tick_rows};
 use crate::versions::Versions;
@@ -109,6 +109,50 @@ impl Queue {
         false
     }
 
+    /// A look found nothing to do on the key but to see what is new. It takes no memory.
+    pub fn found_nothing(&mut self, key: &Key)
+        requires { has_room self.old key.now ≡ true }
+        ensures rows { ChangesRow (looked Found.Nothing) key.now self.old self.new }
+        ensures room { KeepsRoom self.old self.new }
+        ensures fewer { is_fresh (row_of self.old key.now) ≡ true → fresh_count self.old.rows ≡ fresh_count self.new.rows + 1 }
+    {
+        let row = self.rows.get(key);
+        self.rows.put_looked(key, row.looked(Found::Nothing));
+    }
+
+    /// Makes room to note that a look found something; no row changes, and room that stands is kept. An error is one of memory.
+    pub fn room_to_find(&mut self, key: &Key) -> Result<(), AllocError>
+        ensures made { OnOk result (has_room self.new key.now ≡ true) }
+        ensures place { OnOk result (has_room_to_find self.new key.now ≡ true) }
+        ensures rows { (k : KeyValue) → row_of self.new k ≡ row_of self.old k }
+        ensures room { KeepsRoom self.old self.new }
+    {
+        self.room_at(key, i64::MIN)
+    }
+
+    /// A look found something to do on the key, which holds until the next tick. It takes no memory.
+    pub fn found_something(&mut self, key: &Key)
+        requires row { has_room self.old key.now ≡ true }
+        requires place { has_room_to_find self.old key.now ≡ true }
+        ensures rows { ChangesRow (looked Found.Something) key.now self.old self.new }
+        ensures room { KeepsRoom self.old self.new }
+        ensures fewer { is_fresh (row_of self.old key.now) ≡ true → fresh_count self.old.rows ≡ fresh_count self.new.rows + 1 }
+    {
+        let row = self.rows.get(key);
+        self.rows.put_looked(key, row.looked(Found::Something));
+    }
+
+    /// A look found that the key may be left alone: it is ready no more. It takes no memory.
+    pub fn leave(&mut self, key: &Key)
+        requires { has_room self.old key.now ≡ true }
+        ensures rows { ChangesRow left key.now self.old self.new }
+        ensures room { KeepsRoom self.old self.new }
+        ensures fewer { is_fresh (row_of self.old key.now) ≡ true → fresh_count self.old.rows ≡ fresh_count self.new.rows + 1 }
+    {
+        let row = self.rows.get(key);
+        self.rows.put_looked(key, row.left());
+    }
+
     /// The work on the key is done. It takes no memory.
     pub fn done(&mut self, key: &Key)
         ensures rows { ChangesRow ended key.now self.old self.new }
@@ -143,8 +187,9 @@ impl Queue {
         self.rows.put(key, row.timed_at(at));
     }
 
-    /// It is now this moment: each key whose moment is no later is ready, and timed no more. The places at moments no
-    /// later are given up, and no other. It takes no memory.
+    /// It is now this moment: each key whose moment is no later is ready, and timed no more; of each other key it is not
+    /// known any more that there is something to do. The places at moments no later are given up, and no other. Only
+    /// keys with such a place are gone through. It takes no memory.
     pub fn tick(&mut self, now: i64)
         ensures rows { ChangesRows (ticked now) self.old self.new }
         ensures room { KeepsRows self.old self.new }
@@ -210,6 +255,19 @@ impl Queue {
     {
         self.rows.first()
     }
+
+    /// The first key that is ready and to be looked at; `None` exactly where there is none.
+    pub fn first_fresh(&self) -> Option<&Key>
+        ensures { FindsFirst (λ k. is_fresh (row_of self.now k)) (option_copied result) }
+    {
+        self.rows.first_fresh()
+    }
+
+    /// A law: a key that is to be looked at has room.
+    pub fn has_fresh(&self, key: &Key)
+        requires { is_fresh (row_of self.now key.now) ≡ true }
+        ensures { has_room self.now key.now ≡ true }
+    {}
 
     /// The first key above the given one that can be given; `None` exactly where no such key can.
     pub fn following<'a>(&'a self, key: &Key) -> Option<&'a Key>

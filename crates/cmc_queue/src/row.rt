@@ -1,8 +1,39 @@
 //! What is kept of one key.
 ghost use Rattle.std.specs.Prelude.{◌≡◌, if◌then◌else◌};
-ghost use Rattle.cmc_queue.specs.Rows.{added, earlier, ended, is_due, is_free, is_reached, moved, no_row, parked_for, taken, ticked, timed_at};
+ghost use Rattle.cmc_queue.specs.Rows.{added, earlier, ended, is_due, is_free, is_fresh, is_reached, is_unknown, lapsed, left, looked, moved, no_row, parked_for, taken, ticked, timed_at};
 
 use cmc_meta::Kind;
+
+/// What the last look at a key found.
+#[derive(Clone, Copy)]
+pub enum Found {
+    /// Nothing was found out since the key was made ready.
+    Unknown,
+    /// There is nothing to do on the key but to see what is new.
+    Nothing,
+    /// There is something to do on the key. This holds until the next tick.
+    Something,
+}
+
+impl Found {
+    /// Whether a look is needed.
+    pub fn is_unknown(self) -> bool
+        ensures { result ≡ is_unknown self }
+    {
+        matches!(self, Found::Unknown)
+    }
+
+    /// What is still known at the next moment.
+    pub fn lapsed(self) -> Found
+        ensures { result ≡ lapsed self }
+    {
+        match self {
+            Found::Unknown => Found::Unknown,
+            Found::Nothing => Found::Nothing,
+            Found::Something => Found::Unknown,
+        }
+    }
+}
 
 /// What a key waits for: that its controller is told of this version of the kind.
 #[derive(Clone, Copy)]
@@ -18,6 +49,8 @@ pub struct Parked {
 pub struct Row {
     /// There is something to do on the key.
     pub ready: bool,
+    /// What the last look at the key found, where it is ready.
+    pub work: Found,
     /// The key was given, and its work is not done.
     pub working: bool,
     /// Until when the key waits for a version, if it does.
@@ -33,6 +66,7 @@ impl Row {
     {
         Row {
             ready: false,
+            work: Found::Unknown,
             working: false,
             parked: None,
             timed: None,
@@ -52,10 +86,18 @@ impl Row {
     {
         Row {
             ready: true,
+            work: Found::Unknown,
             working: self.working,
             parked: self.parked,
             timed: self.timed,
         }
+    }
+
+    /// Whether the key can be given, and is to be looked at.
+    pub fn is_fresh(self) -> bool
+        ensures { result ≡ is_fresh self }
+    {
+        self.is_free() && self.work.is_unknown()
     }
 
     /// The row of the key once it is given, where it can be given.
@@ -65,6 +107,7 @@ impl Row {
         if self.is_free() {
             return Row {
                 ready: false,
+                work: Found::Unknown,
                 working: true,
                 parked: self.parked,
                 timed: self.timed,
@@ -73,12 +116,39 @@ impl Row {
         self
     }
 
+    /// The row of the key once a look found this.
+    pub fn looked(self, work: Found) -> Row
+        ensures { result ≡ looked work self }
+    {
+        Row {
+            ready: self.ready,
+            work,
+            working: self.working,
+            parked: self.parked,
+            timed: self.timed,
+        }
+    }
+
+    /// The row of the key once a look found that it may be left alone.
+    pub fn left(self) -> Row
+        ensures { result ≡ left self }
+    {
+        Row {
+            ready: false,
+            work: Found::Unknown,
+            working: self.working,
+            parked: self.parked,
+            timed: self.timed,
+        }
+    }
+
     /// The row of the key once its work is done.
     pub fn ended(self) -> Row
         ensures { result ≡ ended self }
     {
         Row {
             ready: self.ready,
+            work: self.work,
             working: false,
             parked: self.parked,
             timed: self.timed,
@@ -91,6 +161,7 @@ impl Row {
     {
         Row {
             ready: self.ready,
+            work: self.work,
             working: self.working,
             parked: Some(Parked { kind, version }),
             timed: self.timed,
@@ -113,6 +184,7 @@ impl Row {
     {
         Row {
             ready: self.ready,
+            work: self.work,
             working: self.working,
             parked: self.parked,
             timed: Some(self.earlier(at)),
@@ -137,12 +209,19 @@ impl Row {
         if self.is_due(now) {
             return Row {
                 ready: true,
+                work: Found::Unknown,
                 working: self.working,
                 parked: self.parked,
                 timed: None,
             };
         }
-        self
+        Row {
+            ready: self.ready,
+            work: self.work.lapsed(),
+            working: self.working,
+            parked: self.parked,
+            timed: self.timed,
+        }
     }
 
     /// Whether the key waits for this version of the kind or an earlier one.
@@ -163,6 +242,7 @@ impl Row {
         if self.is_reached(kind, to) {
             return Row {
                 ready: true,
+                work: Found::Unknown,
                 working: self.working,
                 parked: None,
                 timed: self.timed,

@@ -4,35 +4,42 @@ ghost use Rattle.std.specs.Ordering.{is_lt};
 ghost use Rattle.std.specs.Prelude.{◌&&◌, ◌+◌, ◌<◌, ◌^◌, ◌≡◌, OnOk, OnErr, if◌then◌else◌, true};
 ghost use Rattle.cmc_meta.specs.declared.key.Key.{Key as KeyValue};
 ghost use Rattle.cmc_meta.specs.Keys.{key_cmp, key_eq};
-ghost use Rattle.cmc_queue.specs.Queues.{one_if, FindsFirst};
-ghost use Rattle.cmc_queue.specs.Rows.{has_row, is_free, moved, no_row, row_in, ticked};
+ghost use Rattle.cmc_queue.specs.Queues.{fresh_count, one_if, FindsFirst};
+ghost use Rattle.cmc_queue.specs.Rows.{has_row, is_free, is_fresh, moved, no_row, row_in, ticked};
 
 use crate::row::Row;
-use crate::searching::{first_free, free_above};
+use crate::searching::{first_free, first_fresh, free_above};
 use cmc_meta::{Key, Kind};
 use std::alloc::{AllocError, Global};
 use std::collections::BTreeMap;
 use std::marker::Model;
 
+/// How many keys can be given, and how many of them are to be looked at.
+#[derive(Clone, Copy)]
+pub struct Tally {
+    pub free: u64,
+    pub fresh: u64,
+}
+
 /// The rows of all keys; contracts see the list of the keys, in order, with their rows.
 #[derive(Drop)]
 pub struct Rows {
     map: BTreeMap<Key, Row>,
-    // how many keys can be given, so that an empty queue is not searched
-    free: u64,
+    // so that an empty queue is not searched
+    tally: Tally,
 }
 
 impl Model for Rows {
     ghost use Rattle.std.specs.Prelude.{◌≡◌, List};
     ghost use Rattle.cmc_meta.specs.declared.key.Key.{Key};
     ghost use Rattle.cmc_queue.specs.declared.row.Row.{Row};
-    ghost use Rattle.cmc_queue.specs.Queues.{free_count};
+    ghost use Rattle.cmc_queue.specs.Queues.{IsTallied};
 
     ghost Value = { List (Key × Row) };
 
     ghost view = { λ r. r.map.entries };
 
-    ghost invariant = { λ r. r.free ≡ free_count r.map.entries };
+    ghost invariant = { λ r. IsTallied r.map.entries r.tally.free r.tally.fresh };
 }
 
 /// The count after one row has changed.
@@ -48,6 +55,20 @@ fn recount(count: u64, was: bool, is: bool) -> u64
     }
 }
 
+/// The counts after one row has changed.
+fn retally(tally: Tally, was: Row, is: Row) -> Tally
+    requires free { is_free was ≡ true → 0 < tally.free }
+    requires few { tally.free < 2 ^ 63 }
+    requires fresh { is_fresh was ≡ true → 0 < tally.fresh }
+    requires fewer { tally.fresh < 2 ^ 63 }
+    ensures free { result.free + one_if (is_free was) ≡ tally.free + one_if (is_free is) }
+    ensures fresh { result.fresh + one_if (is_fresh was) ≡ tally.fresh + one_if (is_fresh is) }
+{
+    let free = recount(tally.free, was.is_free(), is.is_free());
+    let fresh = recount(tally.fresh, was.is_fresh(), is.is_fresh());
+    Tally { free, fresh }
+}
+
 impl Rows {
     /// Nothing is to be done on any key. It takes no memory.
     #[tactic(auto, unfolding(crate::specs::Rows::row_in))]
@@ -56,7 +77,7 @@ impl Rows {
     {
         Rows {
             map: BTreeMap::new(alloc),
-            free: 0,
+            tally: Tally { free: 0, fresh: 0 },
         }
     }
 
@@ -87,17 +108,27 @@ impl Rows {
     }
 
     /// Writes the key's row, and no other. It takes no memory.
-    #[tactic(auto, unfolding(crate::specs::Rows::row_in, crate::specs::Rows::has_row))]
     pub fn put(&mut self, key: &Key, row: Row)
         requires { has_row self.old key.now ≡ true }
         ensures rows { (k : KeyValue) → row_in self.new k ≡ (if key_eq key.now k then row else row_in self.old k) }
         ensures room { (k : KeyValue) → has_row self.new k ≡ has_row self.old k }
     {
+        self.put_looked(key, row);
+    }
+
+    /// Writes the key's row after a look, as `put` does, and says how many keys are then to be looked at.
+    #[tactic(auto, unfolding(crate::specs::Rows::row_in, crate::specs::Rows::has_row))]
+    pub fn put_looked(&mut self, key: &Key, row: Row)
+        requires { has_row self.old key.now ≡ true }
+        ensures rows { (k : KeyValue) → row_in self.new k ≡ (if key_eq key.now k then row else row_in self.old k) }
+        ensures room { (k : KeyValue) → has_row self.new k ≡ has_row self.old k }
+        ensures fresh { fresh_count self.new + one_if (is_fresh (row_in self.old key.now)) ≡ fresh_count self.old + one_if (is_fresh row) }
+    {
         let _kept = self.map.len();
         if let Some(place) = self.map.get_mut(key) {
-            let was = place.is_free();
+            let was = *place;
             *place = row;
-            self.free = recount(self.free, was, row.is_free());
+            self.tally = retally(self.tally, was, row);
         }
     }
 
@@ -106,8 +137,8 @@ impl Rows {
         ensures rows { (k : KeyValue) → row_in self.new k ≡ (if key_eq key.now k then ticked now (row_in self.old k) else row_in self.old k) }
         ensures room { (k : KeyValue) → has_row self.new k ≡ has_row self.old k }
     {
-        let row = self.get(key);
-        if row.is_due(now) {
+        if self.map.contains_key(key) {
+            let row = self.get(key);
             self.put(key, row.ticked(now));
         }
     }
@@ -127,17 +158,27 @@ impl Rows {
     pub fn first(&self) -> Option<&Key>
         ensures { FindsFirst (λ k. is_free (row_in self.now k)) (option_copied result) }
     {
-        if self.free == 0 {
+        if self.tally.free == 0 {
             return None;
         }
         first_free(&self.map)
+    }
+
+    /// The first key that is to be looked at; `None` exactly where there is none.
+    pub fn first_fresh(&self) -> Option<&Key>
+        ensures { FindsFirst (λ k. is_fresh (row_in self.now k)) (option_copied result) }
+    {
+        if self.tally.fresh == 0 {
+            return None;
+        }
+        first_fresh(&self.map)
     }
 
     /// The first key above the given one that can be given; `None` exactly where no such key can.
     pub fn following<'a>(&'a self, below: &Key) -> Option<&'a Key>
         ensures { FindsFirst (λ k. is_lt (key_cmp below.now k) && is_free (row_in self.now k)) (option_copied result) }
     {
-        if self.free == 0 {
+        if self.tally.free == 0 {
             return None;
         }
         free_above(&self.map, below)

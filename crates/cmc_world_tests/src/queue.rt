@@ -1,7 +1,7 @@
 //! What no clause says: that a work queue makes its room where memory is ample, and one run of each call.
 use crate::checks::{passes, passes_at, tells};
 use cmc_meta::{Key, Kind};
-use cmc_queue::Queue;
+use cmc_queue::{Found, Queue};
 use cmc_tests::values::key;
 use std::alloc::{AllocError, Global};
 use std::process::Abort;
@@ -16,6 +16,9 @@ enum Step {
     Tick(i64),
     Park(Kind, u64),
     Moved(Kind, u64),
+    FoundNothing,
+    FoundSomething,
+    Leave,
 }
 
 /// Makes the room of the call and then the call, and gives what it answers.
@@ -37,8 +40,29 @@ fn made(queue: &mut Queue, key: &Key, step: &Step) -> Result<bool, Fail> {
             queue.park(key, *kind, *version);
         }
         Step::Moved(kind, version) => queue.moved(*kind, *version),
+        Step::FoundNothing => {
+            queue.room(key)?;
+            queue.found_nothing(key);
+        }
+        Step::FoundSomething => {
+            queue.room_to_find(key)?;
+            queue.found_something(key);
+        }
+        Step::Leave => {
+            queue.room(key)?;
+            queue.leave(key);
+        }
     }
     Ok(true)
+}
+
+/// Whether both are the same finding.
+fn same(one: Found, other: Found) -> bool {
+    match one {
+        Found::Unknown => matches!(other, Found::Unknown),
+        Found::Nothing => matches!(other, Found::Nothing),
+        Found::Something => matches!(other, Found::Something),
+    }
 }
 
 /// Calls, what each answers, and then whether the key is ready, in process and parked, and its moment (0 for none).
@@ -83,6 +107,41 @@ fn keys_come_and_go(rt: HostRuntime) -> Result<(), Fail> {
         passes_at(&rt, number, "working", row.working == *working);
         passes_at(&rt, number, "parked", row.parked.is_some() == *parked);
         passes_at(&rt, number, "timed", row.timed.unwrap_or(0) == *timed);
+    }
+    Ok(())
+}
+
+/// Calls, and then what is known of the key, whether it is ready, and whether it is the first to be looked at.
+static LOOKS: [(Step, Found, bool, bool); 12] = [
+    (Step::Add, Found::Unknown, true, true),
+    (Step::FoundNothing, Found::Nothing, true, false),
+    (Step::Tick(10), Found::Nothing, true, false),
+    (Step::Add, Found::Unknown, true, true),
+    (Step::FoundSomething, Found::Something, true, false),
+    (Step::Tick(11), Found::Unknown, true, true),
+    (Step::After(50), Found::Unknown, true, true),
+    (Step::Leave, Found::Unknown, false, false),
+    (Step::Tick(50), Found::Unknown, true, true),
+    (Step::FoundSomething, Found::Something, true, false),
+    (Step::Take, Found::Unknown, false, false),
+    (Step::Tick(51), Found::Unknown, false, false),
+];
+
+#[test]
+fn looks_are_kept(rt: HostRuntime) -> Result<(), Fail> {
+    let mut queue = Queue::new(rt.alloc());
+    let web = key(rt.alloc(), Kind::Certificate, "web")?;
+    for (number, (step, work, ready, fresh)) in LOOKS.iter().enumerate() {
+        made(&mut queue, &web, step)?;
+        let row = queue.row(&web);
+        passes_at(&rt, number, "work", same(row.work, *work));
+        passes_at(&rt, number, "ready", row.ready == *ready);
+        passes_at(
+            &rt,
+            number,
+            "fresh",
+            queue.first_fresh().is_some() == *fresh,
+        );
     }
     Ok(())
 }

@@ -1,7 +1,8 @@
-use Rattle.std.proofs.Common.{ap, sym, ◌∙◌}
+use Rattle.std.proofs.Common.{refl, ap, sym, ◌∙◌}
 use Rattle.std.specs.BTreeMap.{insert_entry}
 use Rattle.cmc_meta.specs.Keys.{key_cmp}
-use Rattle.cmc_queue.specs.Queues.{free_count}
+use Rattle.cmc_queue.specs.Queues.{free_count, fresh_count}
+use Rattle.cmc_queue.specs.Rows.{is_free, is_fresh}
 use Rattle.cmc_queue.proofs.Counts.{count_insert}
 use Rattle.cmc_queue.proofs.OneRow.{none_at_copy, row_added}
 use Rattle.cmc_queue.proofs.rows.Rows.room.Goals as goal
@@ -10,7 +11,8 @@ pub invariant_of-self-2 : goal.invariant_of-self-2
 invariant_of-self-2 c =
     let es = c.self.inside.map.entries in
     let none = none_at_copy es c.args.key.now c.in_ok-key.key (sym c.contains_key.ensures ∙ c.if-contains_key.false) c.in_ok-key.ensures in
-    c.self.invariant ∙ sym (ap free_count (c.in_ok-insert.ensures.entries ∙ ap (λ r. insert_entry key_cmp es c.in_ok-key.key r) c.new.ensures) ∙ count_insert es c.in_ok-key.key none)
+    let made = c.in_ok-insert.ensures.entries ∙ ap (λ r. insert_entry key_cmp es c.in_ok-key.key r) c.new.ensures in
+    record { free = c.self.invariant.free ∙ sym (ap free_count made ∙ count_insert is_free es c.in_ok-key.key refl none); fresh = c.self.invariant.fresh ∙ sym (ap fresh_count made ∙ count_insert is_fresh es c.in_ok-key.key refl none) }
 
 pub returns-clause-same : goal.returns-clause-same
 returns-clause-same c =

@@ -2,13 +2,16 @@
 use Rattle.std.proofs.Common.{◌≡◌, ℕ, ℤ, Bool, true, false, List, Option, Some, None, refl, sym, ap, ◌∙◌, subst, int_le}
 use Rattle.std.specs.BTreeMap.{is_at}
 use Rattle.std.specs.Map.{lookup}
-use Rattle.std.specs.Prelude.{if◌then◌else◌, is_some}
+use Rattle.std.specs.Prelude.{◌==◌, if◌then◌else◌, is_some}
 use Rattle.cmc_meta.specs.declared.key.Key.{Key}
 use Rattle.cmc_meta.specs.declared.key.Kind.{Kind}
-use Rattle.cmc_meta.specs.Keys.{key_cmp, key_eq}
+use Rattle.cmc_meta.specs.declared.key.Kind.TheVariants.{Certificate, CertificateRequest, Secret}
+use Rattle.cmc_meta.specs.Keys.{key_cmp, key_eq, kind_rank}
+use Rattle.cmc_queue.specs.declared.row.Parked.{Parked}
+use Rattle.cmc_queue.specs.declared.row.Found.TheVariants.{Unknown, Something}
 use Rattle.cmc_queue.specs.declared.row.Row.{Row}
-use Rattle.cmc_queue.specs.Rows.{earlier, has_row, is_due, is_free, is_reached, moved, row_in, row_or_new, taken, ticked}
-use Rattle.cmc_queue.specs.Queues.{is_noted, IsFound, IsParked, IsTimed, Work}
+use Rattle.cmc_queue.specs.Rows.{earlier, earliest, has_row, is_due, is_free, is_reached, lapsed, moved, row_in, row_or_new, taken, ticked}
+use Rattle.cmc_queue.specs.Queues.{has_room_for, is_listed, is_noted, IsFound, IsLooked, IsParked, IsTimed, Work}
 use Rattle.cmc_queue.proofs.OneRow.{key_tie, same_key}
 use Rattle.cmc_queue.proofs.Moving.{still_parked}
 
@@ -74,20 +77,33 @@ as_it_was false f rows key k e same = refl
 pub changed_by_nothing : (f : Row → Row) (rows : List (Key × Row)) (key : Key) → f (row_in rows key) ≡ row_in rows key → (k : Key) → row_in rows k ≡ (if key_eq key k then f (row_in rows k) else row_in rows k)
 changed_by_nothing f rows key same k = as_it_was (key_eq key k) f rows key k refl same
 
-waits_same : (b : Bool) (row : Row) → ((if b then record row { ready = false; working = true } else row).timed ≡ row.timed) × ((if b then record row { ready = false; working = true } else row).parked ≡ row.parked)
-waits_same true row = (refl, refl)
-waits_same false row = (refl, refl)
+-- whatever waits for the row stays as it was: its moment, its version, and a finding
+pub record IsAsFound (old new : Row) : Type 0 where
+  pub timed : new.timed ≡ old.timed
+  pub parked : new.parked ≡ old.parked
+  pub work : new.work ≡ Something → old.work ≡ Something
+
+waits_same : (b : Bool) (row : Row) → IsAsFound row (if b then record row { ready = false; work = Unknown; working = true } else row)
+waits_same true row = record { timed = refl; parked = refl; work = λ is. absurd (cc is) }
+waits_same false row = record { timed = refl; parked = refl; work = λ is. is }
 
 -- a key that is given waits for what it waited for
-pub taken_waits : (row : Row) → ((taken row).timed ≡ row.timed) × ((taken row).parked ≡ row.parked)
+pub taken_waits : (row : Row) → IsAsFound row (taken row)
 taken_waits row = waits_same (is_free row) row
+
+-- a finding at the key, or as it was
+pub looked_here : (b : Bool) (rows new : List (Key × Row)) (due : List (ℤ × Key)) (key k : Key) (row : Row) → key_eq key k ≡ b → row_in new k ≡ (if b then row else row_in rows k)
+    → (row.work ≡ Something → is_noted due earliest key ≡ true) → IsLooked rows due → (row_in new k).work ≡ Something → is_noted due earliest k ≡ true
+looked_here true rows new due key k row e each place so is = subst (λ (q : Key). is_noted due earliest q ≡ true) (same_by_test key k e) (place (sym (ap (λ r. r.work) each) ∙ is))
+looked_here false rows new due key k row e each place so is = so k (sym (ap (λ r. r.work) each) ∙ is)
 
 -- the row that is written waits for what the old one waits for
 pub found_by_put : (q : Work) (new : List (Key × Row)) (key : Key) (row : Row) → IsFound q → row.timed ≡ (row_in q.rows key).timed → row.parked ≡ (row_in q.rows key).parked
-    → ((k : Key) → row_in new k ≡ (if key_eq key k then row else row_in q.rows k))
+    → (row.work ≡ Something → is_noted q.moments earliest key ≡ true) → ((k : Key) → row_in new k ≡ (if key_eq key k then row else row_in q.rows k))
     → IsFound (record { rows = new; moments = q.moments; certificates = q.certificates; requests = q.requests; secrets = q.secrets })
-found_by_put q new key row so timed parked each = record {
+found_by_put q new key row so timed parked looked each = record {
   timed = λ k at is. so.timed k at (sym (part_before (λ r. r.timed) (key_eq key k) q.rows new key k row refl (each k) timed) ∙ is);
+  looked = λ k is. looked_here (key_eq key k) q.rows new q.moments key k row refl (each k) looked so.looked is;
   certificates = λ k p is. so.certificates k p (sym (stays k) ∙ is);
   requests = λ k p is. so.requests k p (sym (stays k) ∙ is);
   secrets = λ k p is. so.secrets k p (sym (stays k) ∙ is);
@@ -116,10 +132,11 @@ timed_here false rows new due key k row at t e each row_is place so is = so k t 
 
 -- the key is timed where it has a place
 pub found_by_timing : (q : Work) (new : List (Key × Row)) (key : Key) (row : Row) (at : ℤ) → IsFound q → is_noted q.moments at key ≡ true → row.timed ≡ Some (earlier at (row_in q.rows key).timed)
-    → row.parked ≡ (row_in q.rows key).parked → ((k : Key) → row_in new k ≡ (if key_eq key k then row else row_in q.rows k))
+    → row.parked ≡ (row_in q.rows key).parked → row.work ≡ (row_in q.rows key).work → ((k : Key) → row_in new k ≡ (if key_eq key k then row else row_in q.rows k))
     → IsFound (record { rows = new; moments = q.moments; certificates = q.certificates; requests = q.requests; secrets = q.secrets })
-found_by_timing q new key row at so place timed parked each = record {
+found_by_timing q new key row at so place timed parked work each = record {
   timed = λ k t is. timed_here (key_eq key k) q.rows new q.moments key k row at t refl (each k) timed place so.timed is;
+  looked = λ k is. looked_here (key_eq key k) q.rows new q.moments key k row refl (each k) (λ found. so.looked key (sym work ∙ found)) so.looked is;
   certificates = λ k p is. so.certificates k p (sym (stays k) ∙ is);
   requests = λ k p is. so.requests k p (sym (stays k) ∙ is);
   secrets = λ k p is. so.secrets k p (sym (stays k) ∙ is);
@@ -127,9 +144,45 @@ found_by_timing q new key row at so place timed parked each = record {
   stays : (k : Key) → (row_in new k).parked ≡ (row_in q.rows k).parked
   stays k = part_before (λ r. r.parked) (key_eq key k) q.rows new key k row refl (each k) parked
 
+parked_is : (kind : Kind) (version : ℕ) (p : Parked) → Some (record { kind = kind; version = version }) ≡ Some p → (kind ≡ p.kind) × (version ≡ p.version)
+parked_is kind version p is = let q : Parked = record { kind = kind; version = version } in let same : q ≡ p = cc is in (ap (λ (x : Parked). x.kind) same, ap (λ (x : Parked). x.version) same)
+
+parked_here : (b : Bool) (other kind : Kind) (version : ℕ) (rows new : List (Key × Row)) (versions : List (ℕ × Key)) (key k : Key) (row : Row) (p : Parked) → key_eq key k ≡ b → row_in new k ≡ (if b then row else row_in rows k)
+    → row.parked ≡ Some (record { kind = kind; version = version }) → ((kind_rank kind == kind_rank other) ≡ true → is_listed versions version key ≡ true) → IsParked other rows versions
+    → (row_in new k).parked ≡ Some p → (kind_rank p.kind == kind_rank other) ≡ true → is_listed versions p.version k ≡ true
+parked_here true other kind version rows new versions key k row p e each row_is place so is same =
+    let found = parked_is kind version p (sym row_is ∙ sym (ap (λ r. r.parked) each) ∙ is) in
+    subst (λ (q : Key). is_listed versions p.version q ≡ true) (same_by_test key k e)
+    (subst (λ (v : ℕ). is_listed versions v key ≡ true) found.1 (place (ap (λ (x : Kind). kind_rank x == kind_rank other) found.0 ∙ same)))
+parked_here false other kind version rows new versions key k row p e each row_is place so is same = so k p (sym (ap (λ r. r.parked) each) ∙ is) same
+
+certificate_place : (kind : Kind) (version : ℕ) (q : Work) (key : Key) → has_room_for q kind version key ≡ true → (kind_rank kind == kind_rank Certificate) ≡ true → is_listed q.certificates version key ≡ true
+certificate_place Certificate version q key place is = place
+certificate_place other version q key place is = absurd (cc is)
+
+request_place : (kind : Kind) (version : ℕ) (q : Work) (key : Key) → has_room_for q kind version key ≡ true → (kind_rank kind == kind_rank CertificateRequest) ≡ true → is_listed q.requests version key ≡ true
+request_place CertificateRequest version q key place is = place
+request_place other version q key place is = absurd (cc is)
+
+secret_place : (kind : Kind) (version : ℕ) (q : Work) (key : Key) → has_room_for q kind version key ≡ true → (kind_rank kind == kind_rank Secret) ≡ true → is_listed q.secrets version key ≡ true
+secret_place Secret version q key place is = place
+secret_place other version q key place is = absurd (cc is)
+
+-- the key waits for a version where it has a place
+pub found_by_parking : (q : Work) (new : List (Key × Row)) (key : Key) (row : Row) (kind : Kind) (version : ℕ) → IsFound q → has_room_for q kind version key ≡ true → row.parked ≡ Some (record { kind = kind; version = version })
+    → row.timed ≡ (row_in q.rows key).timed → row.work ≡ (row_in q.rows key).work → ((k : Key) → row_in new k ≡ (if key_eq key k then row else row_in q.rows k))
+    → IsFound (record { rows = new; moments = q.moments; certificates = q.certificates; requests = q.requests; secrets = q.secrets })
+found_by_parking q new key row kind version so place parked timed work each = record {
+  timed = λ k at is. so.timed k at (sym (part_before (λ r. r.timed) (key_eq key k) q.rows new key k row refl (each k) timed) ∙ is);
+  looked = λ k is. looked_here (key_eq key k) q.rows new q.moments key k row refl (each k) (λ found. so.looked key (sym work ∙ found)) so.looked is;
+  certificates = λ k p is. parked_here (key_eq key k) Certificate kind version q.rows new q.certificates key k row p refl (each k) parked (certificate_place kind version q key place) so.certificates is;
+  requests = λ k p is. parked_here (key_eq key k) CertificateRequest kind version q.rows new q.requests key k row p refl (each k) parked (request_place kind version q key place) so.requests is;
+  secrets = λ k p is. parked_here (key_eq key k) Secret kind version q.rows new q.secrets key k row p refl (each k) parked (secret_place kind version q key place) so.secrets is;
+}
+
 -- ---- all rows change
 
-parked_by_moment : (b : Bool) (row : Row) → (if b then record row { ready = true; timed = None } else row).parked ≡ row.parked
+parked_by_moment : (b : Bool) (row : Row) → (if b then record row { ready = true; work = Unknown; timed = None } else record row { work = lapsed row.work }).parked ≡ row.parked
 parked_by_moment true row = refl
 parked_by_moment false row = refl
 
@@ -141,7 +194,7 @@ ticked_parked now row = parked_by_moment (is_due now row.timed) row
 pub parked_by_tick : (kind : Kind) (now : ℤ) (rows new : List (Key × Row)) (versions : List (ℕ × Key)) → ((k : Key) → row_in new k ≡ ticked now (row_in rows k)) → IsParked kind rows versions → IsParked kind new versions
 parked_by_tick kind now rows new versions each so k p is = so k p (sym (ap (λ r. r.parked) (each k) ∙ ticked_parked now (row_in rows k)) ∙ is)
 
-timed_by_version : (b : Bool) (row : Row) → (if b then record row { ready = true; parked = None } else row).timed ≡ row.timed
+timed_by_version : (b : Bool) (row : Row) → (if b then record row { ready = true; work = Unknown; parked = None } else row).timed ≡ row.timed
 timed_by_version true row = refl
 timed_by_version false row = refl
 
@@ -152,6 +205,18 @@ moved_timed kind to row = timed_by_version _ row
 -- a version changes nothing for what waits for a moment, and lets nothing more wait
 pub timed_by_move : (kind : Kind) (to : ℕ) (rows new : List (Key × Row)) (due : List (ℤ × Key)) → ((k : Key) → row_in new k ≡ moved kind to (row_in rows k)) → IsTimed rows due → IsTimed new due
 timed_by_move kind to rows new due each so k at is = so k at (sym (ap (λ r. r.timed) (each k) ∙ moved_timed kind to (row_in rows k)) ∙ is)
+
+found_by_version : (b : Bool) (row : Row) → (if b then record row { ready = true; work = Unknown; parked = None } else row).work ≡ Something → row.work ≡ Something
+found_by_version true row is = absurd (cc is)
+found_by_version false row is = is
+
+moved_work : (kind : Kind) (to : ℕ) (row : Row) → (moved kind to row).work ≡ Something → row.work ≡ Something
+unfolding moved
+moved_work kind to row = found_by_version _ row
+
+-- a version finds nothing out
+pub looked_by_move : (kind : Kind) (to : ℕ) (rows new : List (Key × Row)) (due : List (ℤ × Key)) → ((k : Key) → row_in new k ≡ moved kind to (row_in rows k)) → IsLooked rows due → IsLooked new due
+looked_by_move kind to rows new due each so k is = so k (moved_work kind to (row_in rows k) (sym (ap (λ r. r.work) (each k)) ∙ is))
 
 pub parked_by_move : (other kind : Kind) (to : ℕ) (rows new : List (Key × Row)) (versions : List (ℕ × Key)) → ((k : Key) → row_in new k ≡ moved kind to (row_in rows k)) → IsParked other rows versions → IsParked other new versions
 parked_by_move other kind to rows new versions each so k p is = so k p (still_parked kind to (row_in rows k) p (sym (ap (λ r. r.parked) (each k)) ∙ is)).0
