@@ -182,9 +182,10 @@ impl Queue {
         requires place { has_room_at self.old at key.now ≡ true }
         ensures rows { ChangesRow (timed_at at) key.now self.old self.new }
         ensures room { KeepsRoom self.old self.new }
+        ensures fresh { fresh_count self.new.rows ≡ fresh_count self.old.rows }
     {
         let row = self.rows.get(key);
-        self.rows.put(key, row.timed_at(at));
+        self.rows.put_looked(key, row.timed_at(at));
     }
 
     /// It is now this moment: each key whose moment is no later is ready, and timed no more; of each other key it is not
@@ -222,9 +223,10 @@ impl Queue {
         requires place { has_room_for self.old kind version key.now ≡ true }
         ensures rows { ChangesRow (parked_for kind version) key.now self.old self.new }
         ensures room { KeepsRoom self.old self.new }
+        ensures fresh { fresh_count self.new.rows ≡ fresh_count self.old.rows }
     {
         let row = self.rows.get(key);
-        self.rows.put(key, row.parked_for(kind, version));
+        self.rows.put_looked(key, row.parked_for(kind, version));
     }
 
     /// The controller was told of the kind up to this version: each key that waits for the kind and a version no later

@@ -116,7 +116,7 @@ impl Rows {
         self.put_looked(key, row);
     }
 
-    /// Writes the key's row after a look, as `put` does, and says how many keys are then to be looked at.
+    /// Writes the key's row, as `put` does, and says how many keys are then to be looked at.
     #[tactic(auto, unfolding(crate::specs::Rows::row_in, crate::specs::Rows::has_row))]
     pub fn put_looked(&mut self, key: &Key, row: Row)
         requires { has_row self.old key.now ≡ true }
