@@ -20,7 +20,9 @@ use Rattle.cmc_policies.specs.declared.facts.Frame.{Frame}
 use Rattle.cmc_policies.specs.declared.facts.Reason.{Reason}
 use Rattle.cmc_policies.specs.Reasons.{Known, first_of}
 use Rattle.cmc_policies.specs.Renewal.{renewal}
-use Rattle.cmc_match.specs.Marks.{is_text, has_text, is_temporary}
+use Rattle.cmc_answers.specs.Temporary.{temporary}
+use Rattle.cmc_objects.specs.Requests.{is_denied}
+use Rattle.cmc_match.specs.Marks.{asks_for_temporary, is_text, has_text, is_temporary}
 use Rattle.cmc_match.specs.Facts.{key_in, certificate_in, fits, pair_in, is_given, is_filled, names_issuer, names_owner, is_absent_or, has_requested_key, is_unchanged, known_for}
 use Rattle.cmc_match.specs.Matching.{matches, has_key}
 use Rattle.cmc_match.specs.Revisions.{next_request}
@@ -31,7 +33,7 @@ use Rattle.cmc_pass.specs.declared.pass.IssuePlan.{IssuePlan}
 use Rattle.cmc_rules.specs.NextRequests.{is_wanted, is_refused}
 use Rattle.cmc_rules.specs.Chains.{trigger_chain, trigger_reason}
 use Rattle.cmc_rules.specs.Triggering.{trigger, for_certificate, for_reason, is_issuing, frame_of}
-use Rattle.cmc_rules.specs.Issuing.{issuing, with_wanted, while_waiting, stand_in_with, temporary_plan, is_granted, is_certified, is_some_pair, is_kept_for_keys, failure, fails_now, refusal, issue_plan, secret_call, new_target, old_target, filled, with_ca, marks, signed_marks, issued_status}
+use Rattle.cmc_rules.specs.Issuing.{issuing, with_wanted, while_waiting, stand_in_with, temporary_plan, is_granted, is_certified, is_some_pair, is_kept_for_keys, lacks_certificate, failure, fails_now, refusal, issue_plan, secret_call, new_target, old_target, filled, with_ca, marks, signed_marks, issued_status}
 use Rattle.cmc_issuing.proofs.PairLists.{is_name, put_stands, put_beside, out_of, out_beside}
 use Rattle.cmc_run_laws.specs.Issuances.{IsAsWritten, IsNotDue, restated, with_certificate, with_secret, written_secret}
 use Rattle.cmc_run_laws.proofs.Going.{IsGoing, acts, going, going_is}
@@ -65,7 +67,7 @@ plan_is : (now : ℤ) (c : Certificate) (file : List ℕ) (target : Option Secre
     → (is_certified file r.status.certificate ≡ true) × (issue_plan now c file r target ≡ plan)
 plan_is now c file target r plan is =
     plan_by (is_refused r) (fails_now c r r.status.failure) (is_granted r) (is_certified file r.status.certificate) (is_kept_for_keys target) now (refusal r) c (issue_plan now c file r target) (while_waiting now c file target r) plan
-    (stand_in_is_no_plan _ c file target _ plan) is
+    (stand_in_is_no_plan (asks_for_temporary c && (not (is_denied r) && (not (is_kept_for_keys target) && lacks_certificate file target))) c file target (temporary r.spec.request file now) plan) is
 
 -- ---- what the Secret has
 

@@ -1,6 +1,7 @@
 -- At rest a Certificate that can be issued is Ready.
-use Rattle.std.proofs.Common.{◌≡◌, ◌⊎◌, ◌==◌, ◌&&◌, ◌||◌, ℕ, suc, ℤ, List, [], ◌∷◌, length, Option, Some, None, Bool, true, false, not, refl, sym, ap, subst, ◌∙◌, inl, inr, option_and_then}
+use Rattle.std.proofs.Common.{◌≡◌, ◌⊎◌, ◌==◌, ◌&&◌, ◌||◌, ℕ, suc, ℤ, List, [], ◌∷◌, length, Option, Some, None, Bool, true, false, not, refl, sym, ap, subst, ◌∙◌, inl, inr, option_and_then, arith}
 use Rattle.std.proofs.lemmas.Bool.{and_parts}
+use Rattle.std.proofs.lemmas.Bool.Decides.{Decides-eqb}
 use Rattle.std.proofs.lemmas.Slice.Eq.{bytes_eq-Decides}
 use Rattle.std.specs.Prelude.{IfSome, IsSome, codes, int_lt, is_some, if◌then◌else◌}
 use Rattle.std.specs.Str.{bytes_eq}
@@ -11,7 +12,7 @@ use Rattle.cmc_meta.specs.ConditionLists.{condition_at}
 use Rattle.cmc_x509.specs.ReadKeys.{key_file_at}
 use Rattle.cmc_objects.specs.declared.certificate.Certificate.{Certificate}
 use Rattle.cmc_objects.specs.declared.certificate.CertSpec.{CertSpec}
-use Rattle.cmc_objects.specs.declared.issuer_ref.IssuerRef.{IssuerRef}
+use Rattle.cmc_objects.specs.declared.issuer.IssuerRef.{IssuerRef}
 use Rattle.cmc_objects.specs.declared.key_spec.Rotation.{Rotation}
 use Rattle.cmc_objects.specs.declared.key_spec.Rotation.TheVariants.{Always, Never}
 use Rattle.cmc_objects.specs.declared.orders.Rules.{Rules}
@@ -71,7 +72,7 @@ key_is_had c desk Never (Some file) fit idle = kept_or_made (is_some (key_file_a
 no_key : (c : Certificate) (desk : Desk) (target : Option SecretObject) (next : List SecretObject) → keeps_unfit c (key_rotation c.spec.key) (target_key target) ≡ false
     → while_issuing c desk target next ≡ Nothing → (length next == 0) ≡ true → ⊥
 no_key c desk target [] fit idle none = key_is_had c desk (key_rotation c.spec.key) (target_key target) fit idle
-no_key c desk target (k ∷ ks) fit idle none = absurd (cc none)
+no_key c desk target (k ∷ ks) fit idle none = omega (arith, (Decides-eqb (length (k ∷ ks)) 0).0 none)
 
 -- ---- its request gets a verdict and an answer
 
@@ -104,10 +105,10 @@ has_verdict false false false r rules on idle = absurd (cc on)
 
 -- what the issuer has not answered it is asked
 unanswered_is_open : (o : Option Condition) → is_unanswered o ≡ true → (gives (codes "Issued") o ≡ false) × ((gives (codes "Failed") o ≡ false) × (gives (codes "Denied") o ≡ false))
-unanswered_is_open None is = (refl, refl, refl)
+unanswered_is_open None is = (refl, (refl, refl))
 unanswered_is_open (Some ready) is =
     let text : ready.reason ≡ codes "Pending" = (bytes_eq-Decides ready.reason (codes "Pending")).0 is in
-    (ap (λ (t : List ℕ). bytes_eq t (codes "Issued")) text, ap (λ (t : List ℕ). bytes_eq t (codes "Failed")) text, ap (λ (t : List ℕ). bytes_eq t (codes "Denied")) text)
+    (ap (λ (t : List ℕ). bytes_eq t (codes "Issued")) text, (ap (λ (t : List ℕ). bytes_eq t (codes "Failed")) text, ap (λ (t : List ℕ). bytes_eq t (codes "Denied")) text))
 
 asked_by : (denied marked approved issued failed own waiting : Bool) (now : ℤ) (desk : Desk) (r : CertificateRequest) → approved ≡ true → marked ≡ false → issued ≡ false → failed ≡ false → own ≡ true → waiting ≡ false
     → (if denied then (if marked then Nothing else Calls (status_call (denied_status r.status now) r)) else (if approved && (not issued && (not failed && own)) then (if waiting then Nothing else ask_issuer now desk r) else Nothing)) ≡ Nothing → ⊥
@@ -121,26 +122,26 @@ asked_by false marked true false true own waiting now desk r a m i f o w idle = 
 asked_by false marked true true failed own waiting now desk r a m i f o w idle = absurd (cc i)
 asked_by false marked false issued failed own waiting now desk r a m i f o w idle = absurd (cc a)
 
-no_wait_by : (verdict kept approved open : Bool) (o : Option Condition) → verdict ≡ false → kept ≡ false → (approved ≡ true → open ≡ true → ⊥)
-    → (if verdict then Some names.Unapproved else (if says_issued o && kept then Some names.Name else (if approved && open then Some names.Pending else None))) ≡ None
-no_wait_by true kept approved open o one two three = absurd (cc one)
-no_wait_by false true approved open o one two three = absurd (cc two)
-no_wait_by false false approved open o one two three = by (says_issued o) approved open three where
-  by : (b approved open : Bool) → (approved ≡ true → open ≡ true → ⊥) → (if b && false then Some names.Name else (if approved && open then Some names.Pending else None)) ≡ None
+no_wait_by : (verdict kept approved asked : Bool) (o : Option Condition) → verdict ≡ false → kept ≡ false → (approved ≡ true → asked ≡ true → ⊥)
+    → (if verdict then Some names.Unapproved else (if says_issued o && kept then Some names.Name else (if approved && asked then Some names.Pending else None))) ≡ None
+no_wait_by true kept approved asked o one two three = absurd (cc one)
+no_wait_by false true approved asked o one two three = absurd (cc two)
+no_wait_by false false approved asked o one two three = by (says_issued o) approved asked three where
+  by : (b approved asked : Bool) → (approved ≡ true → asked ≡ true → ⊥) → (if b && false then Some names.Name else (if approved && asked then Some names.Pending else None)) ≡ None
   by true true true three = absurd (three refl refl)
   by true true false three = refl
-  by true false open three = refl
+  by true false asked three = refl
   by false true true three = absurd (three refl refl)
   by false true false three = refl
-  by false false open three = refl
+  by false false asked three = refl
 
 no_wait : (s : Setting) (h : List Entry) (by : Desk) (target : Option SecretObject) (r : CertificateRequest) → judge_one s.rules r ≡ Nothing → grant_one (moment s h) by r ≡ Nothing
     → is_covered s.rules r.spec.issuer ≡ true → is_kept_for_keys target ≡ false → is_waiting (moment s h) r ≡ false → wait_of_request target r ≡ None
 no_wait s h by target r judged granted covered free answered =
     no_wait_by (not (is_approved r) && not (is_denied r)) (is_kept_for_keys target) (is_approved r) (is_unanswered (condition_at r.status.conditions Ready)) (condition_at r.status.conditions Ready)
     (has_verdict (is_approved r) (is_denied r) (is_covered s.rules r.spec.issuer) r s.rules covered judged) free
-    (λ approved open.
-      let none = unanswered_is_open (condition_at r.status.conditions Ready) open in
+    (λ approved asked.
+      let none = unanswered_is_open (condition_at r.status.conditions Ready) asked in
       asked_by (is_denied r) (gives (codes "Denied") (condition_at r.status.conditions Ready)) (is_approved r) (gives (codes "Issued") (condition_at r.status.conditions Ready)) (gives (codes "Failed") (condition_at r.status.conditions Ready)) (is_own r.spec.issuer) (is_waiting (moment s h) r)
       (moment s h) by r approved none.1.1 none.0 none.1.0 (and_parts (is_own r.spec.issuer) _ covered).0 answered granted)
 

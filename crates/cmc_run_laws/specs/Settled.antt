@@ -1,5 +1,5 @@
 -- How a Certificate is once nothing is left to do.
-use Rattle.std.specs.Prelude.{◌≡◌, ◌⊎◌, ◌&&◌, ℤ, Bool, true, false, not, List, Option, Some, None, IsSome, IfSome, is_some}
+use Rattle.std.specs.Prelude.{◌≡◌, ◌⊎◌, ◌&&◌, ℕ, ℤ, Bool, true, false, not, List, Option, Some, None, IsSome, IfSome, is_some}
 use Rattle.cmc_meta.specs.declared.conditions.ConditionKind.TheVariants.{Ready}
 use Rattle.cmc_x509.specs.ReadKeys.{key_file_at}
 use Rattle.cmc_objects.specs.declared.certificate.Certificate.{Certificate}
