@@ -437,9 +437,10 @@ def test_schema_refuses():
 
 
 def scenario_files():
+    """The examples and the library, but for the example of another command, whose input is no scenario."""
     for folder in ("examples", "scenarios"):
         for name in sorted(os.listdir(f"{TOP}/{folder}")):
-            if name.endswith(".json") and not name.endswith(".expect.json"):
+            if name.endswith(".json") and not name.endswith(".expect.json") and name != "collect.json":
                 yield f"{TOP}/{folder}/{name}"
 
 

@@ -1,10 +1,12 @@
 -- One more step was read.
 use Rattle.std.proofs.Common.{◌≡◌, ℕ, ℤ, suc, ◌+◌, ◌<◌, ◌≤◌, true, List, [], ◌∷◌, ◌++◌, length, get_or, drop, Ok, Err, refl, ap, sym, subst, ◌∙◌, append_assoc, append-nil, add-one, drop-cons}
-use Rattle.std.specs.Prelude.{int_le}
+use Rattle.std.specs.Prelude.{IfOk, Result, int_le}
 use Rattle.std.proofs.lemmas.List.{drop_all}
 use Rattle.serde_json.specs.View.{view, items_view}
 use Rattle.serde_json.specs.declared.value.Value.{Value}
-use Rattle.cmc_cursor.specs.Reading.{Read, ◌>>=◌}
+use Rattle.cmc_cursor.specs.Reading.{Gives, Read, ◌>>=◌, under}
+use Rattle.cmc_cursor.specs.declared.error.BadField.{BadField}
+use Rattle.cmc_cursor.specs.declared.error.BadField.TheVariants as bad
 use Rattle.cmc_cursor.specs.Readers.{with_front}
 use Rattle.cmc_setup.specs.Setups.{last_moment}
 use Rattle.cmc_collect_form.specs.Steps.{AreInTime, moment_after, numbered_step_at, steps_from}
@@ -50,3 +52,12 @@ all_read begin front now n vs all past before =
 
 pub all_in_time : (begin : ℤ) (front : List CollectStep) (now : ℤ) (n : ℕ) (left : List Value) (all : Read (List CollectStep)) → IsReadSoFar begin front now n left all → AreInTime begin front
 all_in_time begin front now n left all before = subst (λ (l : List CollectStep). AreInTime begin l) (append-nil front) (before.in_time [] tt)
+
+-- what holds of what was found holds of it under a name
+pub under_name : {T : Type 0} (P : T → Type 0) (name : List ℕ) (found result : Result T BadField) → ((read : Read T) → Gives (λ t. t) found read → Gives (λ t. t) result (under name read)) → IfOk found P → IfOk result P
+under_name P name (Ok x) (Ok y) under_it p = let is = under_it (Ok x) refl in let same : x ≡ y = cc is in subst P same p
+under_name P name (Ok x) (Err why) under_it p = tt
+under_name P name (Err (bad.Path path)) (Ok y) under_it p = let is = under_it (Err path) refl in absurd (cc is)
+under_name P name (Err bad.NoMemory) (Ok y) under_it p = let is = under_it (Err []) tt in absurd (cc is)
+under_name P name (Err (bad.Path path)) (Err why) under_it p = tt
+under_name P name (Err bad.NoMemory) (Err why) under_it p = tt

@@ -1,5 +1,5 @@
 -- What a move or a settle made, and whether the script goes on.
-use Rattle.std.proofs.Common.{◌≡◌, ℕ, ℤ, ◌<◌, ◌≤◌, Bool, true, false, List, length, Option, Some, None, refl, sym, subst, arith}
+use Rattle.std.proofs.Common.{◌≡◌, ℕ, ℤ, ◌<◌, ◌≤◌, Bool, true, false, length, Option, Some, None, refl, sym, subst, arith}
 use Rattle.std.proofs.lemmas.Bool.Decides.{nat_tests}
 use Rattle.std.specs.Prelude.{if◌then◌else◌, nat_lt}
 use Rattle.cmc_collector.specs.declared.moves.CollectLack.{CollectLack}
@@ -7,10 +7,10 @@ use Rattle.cmc_collector.specs.declared.moves.CollectMove.{CollectMove}
 use Rattle.cmc_collector.specs.declared.moves.Collected.{Collected}
 use Rattle.cmc_collector.specs.declared.moves.Collected.TheVariants.{Done, NotNow, Spent}
 use Rattle.cmc_collector.specs.Moving.{Leaves, answer, answer_of, lack}
-use Rattle.cmc_collector.specs.Playing.{Collecting, on, setting}
-use Rattle.cmc_collector.specs.Settling.{EndsAs, IsSettled, Settles}
+use Rattle.cmc_collector.specs.Playing.{Collecting, on}
+use Rattle.cmc_collector.specs.Settling.{EndsAs, Settles}
 use Rattle.cmc_collect_form.specs.declared.script.CollectStep.TheVariants.{Settle}
-use Rattle.cmc_collect_run.specs.Running.{IsMoved, IsStepped, MovedWith, Settling, goes_on}
+use Rattle.cmc_collect_run.specs.Running.{IsMoved, IsStepped, MovedWith, goes_on}
 
 abbrev IsMovedWith : Option CollectLack → Bool → ℤ → CollectMove → Collecting → Collecting → Type 0
 IsMovedWith lack true now move old new = MovedWith lack now move old new

@@ -14,7 +14,7 @@ use Rattle.cmc_collector.specs.declared.moves.CollectMove.TheVariants as moves
 use Rattle.cmc_collector.specs.declared.moves.Collected.{Collected}
 use Rattle.cmc_collector.specs.declared.moves.Collected.TheVariants.{Done, NotNow, Spent}
 use Rattle.cmc_collector.specs.Moving.{IsEntry, lack, with_entry}
-use Rattle.cmc_collector.specs.Playing.{Collecting, on, setting, stored}
+use Rattle.cmc_collector.specs.Playing.{Collecting, on, stored}
 use Rattle.cmc_collector.specs.Settling.{IsSettled, Settles}
 use Rattle.cmc_collect_form.specs.Steps.{moment_after}
 use Rattle.cmc_collect_form.specs.declared.script.CollectScript.{CollectScript}

@@ -10,8 +10,7 @@ use Rattle.cmc_objects.specs.declared.entry.Positions.{Positions}
 use Rattle.cmc_model.specs.declared.write.Write.{Write}
 use Rattle.cmc_model.specs.Writes.{kind_eq, last_of_kind, write_at}
 use Rattle.cmc_meta.specs.declared.key.Key.{Key}
-use Rattle.cmc_objects.specs.declared.call.Reply.{Reply}
-use Rattle.cmc_model.specs.Replies.{State, is_accepted}
+use Rattle.cmc_model.specs.Replies.{State}
 use Rattle.cmc_collector.specs.Watched.{AreTied, position_of}
 
 -- ---- the write of a version

@@ -1,19 +1,18 @@
 -- What an examination has found stays so, and what it deletes had dead owners alone.
-use Rattle.std.proofs.Common.{◌≡◌, ◌==◌, ◌⊎◌, ℕ, ◌≤◌, ◌+◌, List, [], ◌∷◌, ◌++◌, length, take, drop, ◌<◌, slice_get, Bool, true, false, Option, Some, None, refl, sym, ap, subst, ◌∙◌, inl, inr, arith}
+use Rattle.std.proofs.Common.{◌≡◌, ◌==◌, ◌⊎◌, ℕ, ◌≤◌, ◌+◌, List, [], ◌∷◌, ◌++◌, length, take, ◌<◌, slice_get, Bool, true, false, Some, None, refl, sym, ap, subst, ◌∙◌, inr, arith}
 use Rattle.std.proofs.lemmas.List.{take_more}
 use Rattle.std.proofs.lemmas.Option.{slice_get_within, get_or_from_slice_get}
 use Rattle.std.specs.Prelude.{if◌then◌else◌, ◌≢◌, zero, suc}
 use Rattle.cmc_meta.specs.declared.key.Key.{Key}
 use Rattle.cmc_meta.specs.declared.owners.OwnerRef.{OwnerRef}
 use Rattle.cmc_objects.specs.declared.object.Object.{Object}
-use Rattle.cmc_objects.specs.declared.call.Call.{Call}
 use Rattle.cmc_objects.specs.declared.call.Reply.{Reply}
 use Rattle.cmc_objects.specs.declared.entry.Entry.{Entry}
 use Rattle.cmc_objects.specs.declared.entry.Entry.TheVariants.{Call as Called}
-use Rattle.cmc_objects.specs.Objects.{meta_of, version_of}
+use Rattle.cmc_objects.specs.Objects.{version_of}
 use Rattle.cmc_model.specs.declared.write.Write.{Write}
 use Rattle.cmc_model.specs.Objects.{Objects, object_at}
-use Rattle.cmc_model.specs.Replies.{State, IsReply, is_accepted, settled}
+use Rattle.cmc_model.specs.Replies.{IsReply, is_accepted, settled}
 use Rattle.cmc_model.specs.Accepting.{IsFounded}
 use Rattle.cmc_model.specs.Histories.{Setting, moment, state, objects, accepted}
 use Rattle.cmc_model.specs.Verdicts.{IsAnswered}
@@ -24,7 +23,7 @@ use Rattle.cmc_model.proofs.Versions.{IsLawful, lawful_called, standing}
 use Rattle.cmc_model.proofs.Writes.{writes_count, writes_leave}
 use Rattle.cmc_objects.specs.declared.call.Call.TheVariants as calls
 use Rattle.cmc_collector.specs.declared.examination.Examination.{Examination}
-use Rattle.cmc_collector.specs.Examining.{IsExamined, next_owner, finds, is_unavailable}
+use Rattle.cmc_collector.specs.Examining.{IsExamined, next_owner}
 use Rattle.cmc_collector.specs.Owning.{IsGone, IsDead, AreDead, IsGoodCollect, owners_of}
 use Rattle.cmc_collector.specs.Playing.{owner_key}
 use Rattle.cmc_collector.proofs.Dead.{stays_gone, one_version}

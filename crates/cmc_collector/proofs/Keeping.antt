@@ -1,7 +1,7 @@
 -- What a collection keeps of its parts, as it makes its moves.
-use Rattle.std.proofs.Common.{◌≡◌, ℕ, ℤ, ◌≤◌, ◌<◌, ◌+◌, ◌-◌, List, [], ◌∷◌, length, Bool, true, false, cond, Option, Some, None, refl, sym, ap, subst, ◌∙◌, arith}
+use Rattle.std.proofs.Common.{◌≡◌, ℕ, ℤ, ◌≤◌, ◌<◌, ◌+◌, ◌-◌, List, [], ◌∷◌, length, Bool, true, false, Option, Some, None, refl, sym, ap, subst, ◌∙◌, arith}
 use Rattle.std.proofs.lemmas.Bool.Decides.{nat_tests}
-use Rattle.std.specs.Prelude.{MatchOption, if◌then◌else◌, ◌&&◌, ◌==◌, nat_le, nat_lt, is_some}
+use Rattle.std.specs.Prelude.{MatchOption, if◌then◌else◌, ◌&&◌, ◌==◌, nat_lt, is_some}
 use Rattle.std.specs.BTreeMap.{is_at}
 use Rattle.std.specs.List.{list_any}
 use Rattle.cmc_meta.specs.declared.key.Key.{Key}
@@ -9,7 +9,6 @@ use Rattle.cmc_meta.specs.declared.key.Kind.{Kind}
 use Rattle.cmc_meta.specs.declared.key.Kind.TheVariants.{Certificate, CertificateRequest, Secret}
 use Rattle.cmc_meta.specs.declared.owners.OwnerRef.{OwnerRef}
 use Rattle.cmc_meta.specs.Keys.{key_cmp, key_eq}
-use Rattle.cmc_objects.specs.declared.object.Object.{Object}
 use Rattle.cmc_objects.specs.declared.call.Call.{Call}
 use Rattle.cmc_objects.specs.declared.call.Call.TheVariants as calls
 use Rattle.cmc_objects.specs.declared.call.Reply.{Reply}
@@ -19,12 +18,12 @@ use Rattle.cmc_objects.specs.declared.entry.Entry.TheVariants.{Call as Called, T
 use Rattle.cmc_objects.specs.Objects.{version_of}
 use Rattle.cmc_model.specs.declared.write.Write.{Write}
 use Rattle.cmc_model.specs.Objects.{Objects, object_at}
-use Rattle.cmc_model.specs.Replies.{State, IsReply, is_accepted, settled, state_after}
+use Rattle.cmc_model.specs.Replies.{State, is_accepted, settled, state_after}
 use Rattle.cmc_model.specs.Histories.{Setting, accepted, state}
 use Rattle.cmc_model.specs.Writes.{contents, kind_eq, last_under, objects_of, of_kind, oldest, write_of, writes}
-use Rattle.cmc_model.proofs.Writes.{objects_of-older, oldest-older, writes_count}
+use Rattle.cmc_model.proofs.Writes.{objects_of-older, oldest-older}
 use Rattle.cmc_informer.specs.Indexes.{AreKeys}
-use Rattle.cmc_informer.specs.Informing.{Informed, IsTold}
+use Rattle.cmc_informer.specs.Informing.{Informed}
 use Rattle.cmc_informer.specs.Watching.{is_changed}
 use Rattle.cmc_informer.proofs.OneMark.{equal_key}
 use Rattle.cmc_collector.specs.declared.entry.CollectEntry.{CollectEntry}
@@ -37,7 +36,7 @@ use Rattle.cmc_collector.specs.Caches.{AreTold, Informers, IsToldOf, Moves, held
 use Rattle.cmc_collector.specs.Caching.{cached, is_owned, position}
 use Rattle.cmc_collector.specs.Examining.{current, examination, is_due, looked, looked_from, next_owner}
 use Rattle.cmc_collector.specs.Kept.{IsKept}
-use Rattle.cmc_collector.specs.Moving.{IsAnswer, IsCollected, IsDelete, IsEntry, IsExamineOf, IsLook, lack, lack_of_delivery, told, with_entry}
+use Rattle.cmc_collector.specs.Moving.{IsAnswer, IsCollected, IsDelete, IsEntry, IsExamineOf, IsLook, lack_of_delivery, told, with_entry}
 use Rattle.cmc_collector.specs.Playing.{Collecting, called, on, owner_key, played, setting}
 use Rattle.cmc_collector.specs.Rows.{Rowed, has_row, row_in}
 use Rattle.cmc_collector.specs.Watched.{Served, after_call}

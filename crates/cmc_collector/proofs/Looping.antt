@@ -1,8 +1,8 @@
 -- Loops over keys, over owners, and new caches.
-use Rattle.std.proofs.Common.{◌≡◌, ◌⊎◌, inl, inr, ℕ, suc, ◌<◌, ◌≤◌, ◌+◌, List, [], ◌∷◌, ◌++◌, length, take, drop, get_or, Bool, true, false, Option, Some, None, refl, sym, ap, subst, ◌∙◌, arith, add-one, drop-cons}
+use Rattle.std.proofs.Common.{◌≡◌, ◌⊎◌, inl, inr, ℕ, suc, ◌<◌, ◌≤◌, ◌+◌, List, [], ◌∷◌, ◌++◌, length, take, drop, get_or, Bool, true, false, Option, refl, sym, ap, subst, ◌∙◌, arith, add-one, drop-cons}
 use Rattle.std.proofs.lemmas.List.{take_more}
 use Rattle.std.proofs.lemmas.List.Folds.{list_any-append}
-use Rattle.std.specs.Prelude.{if◌then◌else◌, ◌&&◌, ◌||◌, is_some}
+use Rattle.std.specs.Prelude.{if◌then◌else◌, ◌&&◌, ◌||◌}
 use Rattle.std.specs.BTreeMap.{is_at}
 use Rattle.std.specs.List.{list_any}
 use Rattle.cmc_meta.specs.declared.key.Key.{Key}
@@ -11,8 +11,8 @@ use Rattle.cmc_meta.specs.declared.owners.OwnerRef.{OwnerRef}
 use Rattle.cmc_meta.specs.Keys.{key_cmp, key_eq}
 use Rattle.cmc_objects.specs.declared.object.Object.{Object}
 use Rattle.cmc_model.specs.Objects.{no_objects}
-use Rattle.cmc_model.specs.Writes.{contents, of_kind, oldest}
-use Rattle.cmc_informer.specs.Informing.{Informed, IsTold}
+use Rattle.cmc_model.specs.Writes.{contents, oldest}
+use Rattle.cmc_informer.specs.Informing.{Informed}
 use Rattle.cmc_informer.proofs.OneMark.{equal_key, same_key}
 use Rattle.cmc_collector.specs.Caches.{IsToldOf}
 use Rattle.cmc_collector.specs.Caching.{are_gone, is_gone}

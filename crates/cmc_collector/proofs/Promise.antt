@@ -12,18 +12,18 @@ use Rattle.cmc_objects.specs.declared.object.Object.{Object}
 use Rattle.cmc_objects.specs.declared.call.Call.{Call}
 use Rattle.cmc_objects.specs.declared.call.Call.TheVariants as calls
 use Rattle.cmc_objects.specs.declared.call.Reply.{Reply}
-use Rattle.cmc_objects.specs.declared.call.Reply.TheVariants.{Found, NotFound, Unavailable}
+use Rattle.cmc_objects.specs.declared.call.Reply.TheVariants.{Unavailable}
 use Rattle.cmc_objects.specs.declared.entry.Who.TheVariants.{User as ByUser}
 use Rattle.cmc_objects.specs.declared.entry.Entry.{Entry}
 use Rattle.cmc_objects.specs.declared.entry.Entry.TheVariants.{Call as Called, Tick}
 use Rattle.cmc_objects.specs.Objects.{version_of}
 use Rattle.cmc_model.specs.declared.write.Write.{Write}
-use Rattle.cmc_model.specs.Objects.{Objects, object_at}
-use Rattle.cmc_model.specs.Replies.{State, IsReply, IsServed, IsGot, is_accepted}
+use Rattle.cmc_model.specs.Objects.{object_at}
+use Rattle.cmc_model.specs.Replies.{State, IsGot}
 use Rattle.cmc_model.specs.Histories.{Setting, state, objects, accepted}
 use Rattle.cmc_model.specs.Verdicts.{IsAnswered}
-use Rattle.cmc_model.specs.Versions.{uid_of, HasVersion}
-use Rattle.cmc_model.specs.Writes.{contents, kind_eq, last_of_kind, of_kind, oldest, write_at, writes}
+use Rattle.cmc_model.specs.Versions.{uid_of}
+use Rattle.cmc_model.specs.Writes.{kind_eq, of_kind, oldest, write_at, writes}
 use Rattle.cmc_model.proofs.Versions.{standing, version_of_kind, version_of_oldest}
 use Rattle.cmc_model.proofs.Writes.{writes_count}
 use Rattle.cmc_informer.specs.Caches.{has_uid}
@@ -38,8 +38,8 @@ use Rattle.cmc_collector.specs.declared.moves.CollectLack.{CollectLack}
 use Rattle.cmc_collector.specs.declared.moves.CollectLack.TheVariants.{Current, NotAWrite}
 use Rattle.cmc_collector.specs.Caching.{are_gone, cached, has_owners, is_gone, is_orphan, is_orphan_in, position}
 use Rattle.cmc_collector.specs.Examining.{IsExamined, current, current_of, examination, finds, is_unavailable, looked, looked_from, next_owner}
-use Rattle.cmc_collector.specs.Moving.{IsAnswer, IsCollected, IsDelete, IsEntry, IsExamineOf, IsLook, is_news, is_of_kind, lack, lack_of_delivery, newest, told}
-use Rattle.cmc_collector.specs.Owning.{AreGood, CollectsWell, IsGoodCollect, IsGoodEntry, owners_of}
+use Rattle.cmc_collector.specs.Moving.{IsAnswer, IsCollected, IsDelete, IsEntry, IsExamineOf, IsLook, is_news, is_of_kind, lack, lack_of_delivery, newest}
+use Rattle.cmc_collector.specs.Owning.{AreGood, CollectsWell, owners_of}
 use Rattle.cmc_collector.specs.Playing.{called, owner_key, played}
 use Rattle.cmc_collector.proofs.Examined.{counts_on, examined_on, good_delete, looked_on}
 

@@ -1,5 +1,5 @@
 -- What the parts of a collection tell, in the words of its moments.
-use Rattle.std.proofs.Common.{◌≡◌, ℕ, List, [], length, Bool, true, false, Option, Some, None, refl, sym, ap, subst, ◌∙◌, arith}
+use Rattle.std.proofs.Common.{◌≡◌, ℕ, List, [], length, Bool, true, Option, None, refl, sym, ap, subst, ◌∙◌, arith}
 use Rattle.std.specs.Prelude.{is_some}
 use Rattle.std.specs.FinMap.{get-empty}
 use Rattle.cmc_meta.specs.declared.key.Key.{Key}
@@ -7,15 +7,14 @@ use Rattle.cmc_meta.specs.declared.key.Kind.{Kind}
 use Rattle.cmc_meta.specs.Keys.{key_cmp}
 use Rattle.cmc_objects.specs.declared.object.Object.{Object}
 use Rattle.cmc_model.specs.declared.write.Write.{Write}
-use Rattle.cmc_model.specs.Objects.{no_objects, object_at}
+use Rattle.cmc_model.specs.Objects.{object_at}
 use Rattle.cmc_model.specs.Replies.{State, empty_store}
 use Rattle.cmc_model.specs.Writes.{contents, last_of_kind, of_kind, oldest, writes}
 use Rattle.cmc_model.proofs.Writes.{writes_count}
 use Rattle.cmc_collector.specs.declared.entry.Moment.{Moment}
-use Rattle.cmc_collector.specs.declared.examination.Examination.{Examination}
 use Rattle.cmc_collector.specs.Caches.{AreTold, Informers, held, position_in}
-use Rattle.cmc_collector.specs.Caching.{cached, is_orphan_in, is_owned}
-use Rattle.cmc_collector.specs.Examining.{current, current_of, examination, is_due}
+use Rattle.cmc_collector.specs.Caching.{is_orphan_in, is_owned}
+use Rattle.cmc_collector.specs.Examining.{current, current_of, is_due}
 use Rattle.cmc_collector.specs.Kept.{IsKept}
 use Rattle.cmc_collector.specs.Moving.{newest}
 use Rattle.cmc_collector.specs.Playing.{Collecting, given, on, played, setting}

@@ -32,18 +32,17 @@ use Rattle.cmc_model.specs.Writes.{write_at, writes}
 use Rattle.cmc_informer.specs.Indexes.{AreKeys}
 use Rattle.cmc_informer.specs.Watching.{is_changed}
 use Rattle.cmc_collector.specs.Caches.{position_in, told_to}
-use Rattle.cmc_collector.specs.Moving.{is_news, is_of_kind}
+use Rattle.cmc_collector.specs.Moving.{is_of_kind}
 use Rattle.cmc_collector.proofs.Keeping.{called_kept, deleted_kept, delivered_kept, looked_kept, still_covered}
 use Rattle.cmc_collector.proofs.Promise.{is_told_news, news_within}
 use Rattle.std.specs.Prelude.{is_some}
-use Rattle.cmc_objects.specs.declared.object.Object.{Object}
 use Rattle.cmc_model.specs.declared.write.Write.{Write}
 use Rattle.cmc_informer.specs.Watching.{Watched, start_of}
 use Rattle.cmc_collector.specs.Caching.{is_orphan_in}
 use Rattle.cmc_collector.specs.Examining.{current_of, is_due}
 use Rattle.cmc_collector.specs.Settling.{FindsDue, FindsFirst}
 use Rattle.cmc_collector.proofs.Firsts.{due_has_row, due_test}
-use Rattle.cmc_collector.proofs.Reading.{count_is, current_is, due_is, given_is, held_covered}
+use Rattle.cmc_collector.proofs.Reading.{count_is, current_is, due_is, held_covered}
 
 -- what contracts see of a collection of these parts
 abbrev pub seen : Served → ℕ → List Moment → Collecting
@@ -108,10 +107,6 @@ calls_fit events server i rows ms kept = subst (λ (st : State). st.calls ≤ le
 ahead_by : (below : Bool) (p to n : ℕ) → p < to → to ≤ n → p ≤ (if below then n else to)
 ahead_by true p to n low within = omega (arith, low, within)
 ahead_by false p to n low within = omega (arith, low)
-
-within_by : (below : Bool) (to n : ℕ) → to ≤ n → (if below then n else to) ≤ n
-within_by true to n within = omega arith
-within_by false to n within = within
 
 -- what may be told lies above the position and within the writes
 pub may_tell : (c : Collecting) (kind : Kind) (to : ℕ) → on (lack_of_delivery kind to) c ≡ None → (position kind c.moments < to) × (to ≤ on given c)

@@ -1,5 +1,5 @@
 -- Where every cache is current and nothing is due, no object that stands has dead owners alone.
-use Rattle.std.proofs.Common.{◌≡◌, ℕ, ◌≤◌, List, [], ◌∷◌, length, Bool, true, false, cond, Option, Some, None, refl, sym, ap, subst, ◌∙◌, arith}
+use Rattle.std.proofs.Common.{◌≡◌, ℕ, ◌≤◌, List, [], ◌∷◌, Bool, true, false, cond, Option, Some, None, refl, sym, ap, ◌∙◌, arith}
 use Rattle.std.proofs.lemmas.Bool.{and_from}
 use Rattle.std.proofs.lemmas.Bool.Decides.{nat_tests}
 use Rattle.std.specs.Prelude.{if◌then◌else◌, ◌&&◌, ◌==◌, ◌≢◌, not, nat_le, nat_lt, is_some}
@@ -8,17 +8,16 @@ use Rattle.cmc_meta.specs.declared.key.Kind.{Kind}
 use Rattle.cmc_meta.specs.declared.key.Kind.TheVariants.{Certificate, CertificateRequest, Secret}
 use Rattle.cmc_meta.specs.declared.owners.OwnerRef.{OwnerRef}
 use Rattle.cmc_objects.specs.declared.object.Object.{Object}
-use Rattle.cmc_objects.specs.declared.entry.Entry.{Entry}
 use Rattle.cmc_model.specs.declared.write.Write.{Write}
 use Rattle.cmc_model.specs.Objects.{Objects, object_at}
 use Rattle.cmc_model.specs.Histories.{Setting, objects, accepted}
 use Rattle.cmc_model.specs.Versions.{uid_of}
-use Rattle.cmc_model.specs.Writes.{contents, kind_eq, of_kind, oldest, writes}
+use Rattle.cmc_model.specs.Writes.{contents, writes}
 use Rattle.cmc_model.proofs.Writes.{writes_leave}
 use Rattle.cmc_informer.specs.Caches.{has_uid}
 use Rattle.cmc_collector.specs.declared.entry.Moment.{Moment}
 use Rattle.cmc_collector.specs.declared.examination.Examination.{Examination}
-use Rattle.cmc_collector.specs.Caching.{are_gone, cached, has_owners, is_gone, is_orphan, is_orphan_in, position}
+use Rattle.cmc_collector.specs.Caching.{are_gone, cached, has_owners, is_orphan, is_orphan_in, position}
 use Rattle.cmc_collector.specs.Examining.{current_of, examination, is_due}
 use Rattle.cmc_collector.specs.Moving.{newest}
 use Rattle.cmc_collector.specs.Owning.{AreDead, IsGoodCollect, owners_of}

@@ -1,5 +1,5 @@
 -- Settling makes moves that are possible, and ends.
-use Rattle.std.proofs.Common.{◌≡◌, inl, inr, ℕ, ℤ, ◌≤◌, ◌<◌, ◌+◌, List, [], ◌∷◌, length, Bool, true, false, Option, Some, None, refl, sym, ap, subst, ◌∙◌, arith}
+use Rattle.std.proofs.Common.{◌≡◌, inl, ℕ, ℤ, ◌≤◌, ◌<◌, ◌+◌, List, [], ◌∷◌, length, Bool, true, false, Option, Some, None, refl, sym, ap, subst, ◌∙◌, arith}
 use Rattle.std.proofs.lemmas.Bool.{and_from}
 use Rattle.std.proofs.lemmas.Bool.Decides.{nat_tests}
 use Rattle.std.specs.Prelude.{if◌then◌else◌, ◌&&◌, ◌==◌, nat_le, nat_lt}
@@ -8,19 +8,18 @@ use Rattle.cmc_meta.specs.declared.key.Kind.TheVariants.{Certificate, Certificat
 use Rattle.cmc_model.specs.declared.write.Write.{Write}
 use Rattle.cmc_model.specs.Histories.{Setting}
 use Rattle.cmc_model.specs.Writes.{kind_eq, last_of_kind, write_at, writes}
-use Rattle.cmc_collector.specs.declared.entry.CollectEntry.{CollectEntry}
 use Rattle.cmc_collector.specs.declared.entry.Moment.{Moment}
 use Rattle.cmc_collector.specs.declared.moves.CollectMove.{CollectMove}
 use Rattle.cmc_collector.specs.declared.moves.CollectMove.TheVariants.{User, Deliver, Examine}
 use Rattle.cmc_collector.specs.declared.moves.CollectLack.{CollectLack}
 use Rattle.cmc_collector.specs.declared.moves.CollectLack.TheVariants.{NoOrphan, Current, NotAWrite}
 use Rattle.cmc_collector.specs.declared.moves.Collected.{Collected}
-use Rattle.cmc_collector.specs.declared.moves.Collected.TheVariants.{Done, NotNow, Spent}
+use Rattle.cmc_collector.specs.declared.moves.Collected.TheVariants.{Done, Spent}
 use Rattle.cmc_collector.specs.Caching.{position}
 use Rattle.cmc_collector.specs.Examining.{is_due}
-use Rattle.cmc_collector.specs.Moving.{IsEntry, answer, answer_of, is_news, is_of_kind, lack, lack_of_delivery, newest, with_entry}
-use Rattle.cmc_collector.specs.Playing.{Collecting, on, played, setting}
-use Rattle.cmc_collector.specs.Settling.{EndsAs, IsSettled, IsSettling, IsTurn, IsTurned, Settles, behind, is_behind}
+use Rattle.cmc_collector.specs.Moving.{answer, answer_of, is_news, is_of_kind, lack, lack_of_delivery, newest}
+use Rattle.cmc_collector.specs.Playing.{played}
+use Rattle.cmc_collector.specs.Settling.{EndsAs, IsSettled, IsTurn, Settles, behind, is_behind}
 
 -- ---- the newest write of a kind is one of it
 
@@ -113,11 +112,3 @@ turn_full move s ms result turn is off =
 pub settles_self : (now : ℤ) (s : Setting) (ms : List Moment) → Settles now s ms ms
 settles_self now s [] = refl
 settles_self now s (m ∷ ms) = inl refl
-
-pub settling_on : (now : ℤ) (old mid new : Collecting) (turns : ℕ) → IsSettling now old mid turns → IsTurned now mid None new → IsSettling now old new (turns + 1)
-settling_on now old mid new turns so (move, turn, (e, entry, is)) =
-    subst (λ (c : Collecting). IsSettling now old c (turns + 1)) (sym is) (record {
-      same = ap (λ (c : Collecting). record c { moments = record { now = now; entry = e } ∷ mid.moments }) so.same;
-      settles = inr (so.settles, refl, (move, subst (λ (c : Collecting). IsTurn move (setting c) mid.moments) so.same turn, subst (λ (c : Collecting). IsEntry move e (setting c) mid.moments) so.same entry));
-      count = let n = so.count in omega (arith, n);
-    })

@@ -7,7 +7,6 @@ use Rattle.cmc_objects.specs.declared.object.Object.{Object}
 use Rattle.cmc_objects.specs.declared.call.Reply.{Reply}
 use Rattle.cmc_objects.specs.declared.call.Reply.TheVariants.{Found, Unavailable}
 use Rattle.cmc_objects.specs.declared.entry.Entry.{Entry}
-use Rattle.cmc_objects.specs.Objects.{version_of}
 use Rattle.cmc_model.specs.Histories.{Setting, accepted}
 use Rattle.cmc_model.specs.Versions.{uid_of, HasVersion}
 use Rattle.cmc_collector.specs.declared.entry.CollectEntry.{CollectEntry}
@@ -16,7 +15,6 @@ use Rattle.cmc_collector.specs.declared.entry.Moment.{Moment}
 use Rattle.cmc_collector.specs.declared.examination.Examination.{Examination}
 use Rattle.cmc_collector.specs.Caching.{cached, is_orphan}
 use Rattle.cmc_collector.specs.Owning.{AreDead, owners_of}
-use Rattle.cmc_collector.specs.Playing.{played}
 
 -- the owner that is looked for next; none where each was looked for
 abbrev pub next_owner : Examination → Option OwnerRef

@@ -2,7 +2,6 @@
 use Rattle.std.specs.Prelude.{◌≡◌, ℕ, ◌≤◌, true, length}
 use Rattle.cmc_meta.specs.declared.key.Key.{Key}
 use Rattle.cmc_meta.specs.declared.key.Kind.{Kind}
-use Rattle.cmc_model.specs.Replies.{State}
 use Rattle.cmc_model.specs.Histories.{state}
 use Rattle.cmc_model.specs.Writes.{writes}
 use Rattle.cmc_collector.specs.Caches.{AreTold, Informers, position_in}

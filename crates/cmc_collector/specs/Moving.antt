@@ -1,5 +1,5 @@
 -- The moves of a collection, when each is refused, and which entry it makes.
-use Rattle.std.specs.Prelude.{◌≡◌, ℕ, ℤ, ◌-◌, ◌&&◌, Bool, true, false, List, [], ◌∷◌, length, Option, Some, None, MatchOption, if◌then◌else◌, nat_le, nat_lt}
+use Rattle.std.specs.Prelude.{◌≡◌, ℕ, ℤ, ◌-◌, ◌&&◌, Bool, false, List, [], ◌∷◌, length, Option, Some, None, MatchOption, if◌then◌else◌, nat_le, nat_lt}
 use Rattle.cmc_meta.specs.declared.key.Key.{Key}
 use Rattle.cmc_meta.specs.declared.key.Kind.{Kind}
 use Rattle.cmc_meta.specs.declared.owners.OwnerRef.{OwnerRef}
@@ -23,7 +23,7 @@ use Rattle.cmc_collector.specs.declared.moves.Collected.{Collected}
 use Rattle.cmc_collector.specs.declared.moves.Collected.TheVariants.{Done, NotNow, Spent}
 use Rattle.cmc_collector.specs.Caching.{position}
 use Rattle.cmc_collector.specs.Examining.{current, is_due, next_owner}
-use Rattle.cmc_collector.specs.Playing.{Collecting, on, owner_key, played, setting}
+use Rattle.cmc_collector.specs.Playing.{Collecting, on, owner_key, played}
 
 -- the version of the last accepted write of the kind, 0 where there is none
 abbrev pub newest : Kind → Setting → List Moment → ℕ

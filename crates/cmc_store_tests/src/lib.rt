@@ -12,6 +12,8 @@ mod checks;
 #[cfg(test)]
 mod codec;
 #[cfg(test)]
+mod collector;
+#[cfg(test)]
 mod cursor;
 #[cfg(test)]
 mod history;

@@ -70,6 +70,8 @@ mod checks;
 #[cfg(test)]
 mod tests;
 #[cfg(test)]
+mod tests_of_collect;
+#[cfg(test)]
 mod tests_of_hostile_input;
 #[cfg(test)]
 mod tests_of_rows;

@@ -125,7 +125,7 @@ pub(crate) fn run_into<R: Threads + Wait + Sync>(
 }
 
 /// The path that a run failed at, or its end in words.
-fn end_told(status: &Status) -> &str {
+pub(crate) fn end_told(status: &Status) -> &str {
     match status {
         Status::BadScenario(path) => path.as_str(),
         Status::Done => "done",
@@ -134,6 +134,7 @@ fn end_told(status: &Status) -> &str {
         Status::ReadFault => "read fault",
         Status::WriteFault => "write fault",
         Status::Usage => "usage",
+        Status::Spent => "full",
         _ => "another end",
     }
 }

@@ -500,7 +500,7 @@ fn filled(alloc: Global, text: &str) -> Result<String, AllocError> {
 
 /// The pieces, with ` .. ` between them, stand in the text in this order. Behind a `!` is what does not stand behind the
 /// pieces before it.
-fn has_pieces(text: &str, pieces: &str) -> bool {
+pub(crate) fn has_pieces(text: &str, pieces: &str) -> bool {
     let mut rest = text;
     for piece in pieces.split(" .. ") {
         if let Some(absent) = piece.strip_prefix("!") {

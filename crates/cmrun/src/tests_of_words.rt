@@ -11,7 +11,7 @@ use std::test::Fail;
 use std::thread::Threads;
 
 /// Words that are refused.
-static REFUSED: [&str; 34] = [
+static REFUSED: [&str; 38] = [
     "",
     " ",
     "help",
@@ -46,6 +46,10 @@ static REFUSED: [&str; 34] = [
     "load --workers 1",
     "load -- 1",
     "load 1 --summary --workers 65",
+    "Collect",
+    "collect ",
+    "collect x",
+    "collect --summary",
 ];
 
 fn run_by(workers: u32, summary: bool) -> Option<Command> {
@@ -123,6 +127,8 @@ fn reads_the_command_line(rt: HostRuntime) -> Result<(), Fail> {
     assert_refused(&rt, rt.alloc(), &REFUSED)?;
     assert_runs(&rt, rt.alloc(), &RUNS)?;
     assert_loads(&rt, rt.alloc(), &LOADS)?;
+    let command = read_from(rt.alloc(), "collect")?;
+    passes(&rt, "collect", command == Some(Command::Collect));
     Ok(())
 }
 

@@ -1,4 +1,4 @@
-use Rattle.std.proofs.Common.{Option, Bool, ap, sym, subst, ◌∙◌}
+use Rattle.std.proofs.Common.{Option, ap, sym, subst, ◌∙◌}
 use Rattle.std.specs.Prelude.{is_some}
 use Rattle.cmc_collector.specs.declared.examination.Examination.{Examination}
 use Rattle.cmc_collector.specs.Caches.{held}

@@ -1,19 +1,15 @@
-use Rattle.std.proofs.Common.{◌≡◌, ℕ, ℤ, Option, Some, ap, refl, rules, subst, sym, arith, ◌∙◌}
+use Rattle.std.proofs.Common.{◌≡◌, ℕ, ℤ, Some, rules, subst, sym, arith, ◌∙◌}
 use Rattle.std.proofs.lemmas.Int.{to_z-of_z}
 use Rattle.std.specs.Int.{w64}
 use Rattle.std.specs.Prelude.{if◌then◌else◌}
-use Rattle.cmc_meta.specs.Keys.{key_eq}
 use Rattle.cmc_objects.specs.Objects.{version_of}
 use Rattle.cmc_objects.specs.declared.call.Call.{Call}
 use Rattle.cmc_objects.specs.declared.call.Call.TheVariants as calls
 use Rattle.cmc_model.specs.Replies.{IsReply}
 use Rattle.cmc_collector.specs.declared.entry.CollectEntry.TheVariants as entries
-use Rattle.cmc_collector.specs.declared.examination.Examination.{Examination}
 use Rattle.cmc_collector.specs.declared.moves.CollectMove.TheVariants.{Examine}
 use Rattle.cmc_collector.specs.Moving.{IsAnswer, IsEntry, with_entry}
-use Rattle.cmc_collector.specs.Playing.{Collecting, on, owner_key, setting}
-use Rattle.cmc_collector.specs.Rows.{row_in}
-use Rattle.cmc_collector.specs.Watched.{after_call}
+use Rattle.cmc_collector.specs.Playing.{Collecting, on, setting}
 use Rattle.cmc_collector.proofs.Keeping.{delete_entry}
 use Rattle.cmc_collector.proofs.Seeing.{answered, calls_fit, current_row, deleted_at, going_in, grown, room_in, seen}
 use Rattle.cmc_collector.proofs.collection.Collection.delete.Goals as goal

@@ -1,7 +1,5 @@
-use Rattle.std.proofs.Common.{◌≡◌, ℕ, ℤ, ◌<◌, List, None, true, length, ap, refl, rules, subst, sym, arith, ◌∙◌}
-use Rattle.std.proofs.lemmas.Int.{to_z-of_z}
+use Rattle.std.proofs.Common.{◌≡◌, ℕ, ℤ, ◌<◌, List, None, true, length, ap, subst, sym, arith, ◌∙◌}
 use Rattle.std.specs.BTreeMap.{is_at}
-use Rattle.std.specs.Int.{w64}
 use Rattle.std.specs.List.{list_any}
 use Rattle.cmc_meta.specs.declared.key.Key.{Key}
 use Rattle.cmc_meta.specs.Keys.{key_cmp}
@@ -11,7 +9,7 @@ use Rattle.cmc_informer.specs.Watching.{is_changed}
 use Rattle.cmc_collector.specs.declared.entry.Moment.{Moment}
 use Rattle.cmc_collector.specs.Caches.{AreTold, Moves, position_in}
 use Rattle.cmc_collector.specs.Kept.{IsKept}
-use Rattle.cmc_collector.specs.Moving.{lack_of_delivery, told, with_entry}
+use Rattle.cmc_collector.specs.Moving.{lack_of_delivery, told}
 use Rattle.cmc_collector.specs.Playing.{Collecting, on}
 use Rattle.cmc_collector.specs.Rows.{has_row}
 use Rattle.cmc_collector.proofs.Reading.{count_is}

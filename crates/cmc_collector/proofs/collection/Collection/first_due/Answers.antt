@@ -1,7 +1,6 @@
 use Rattle.std.proofs.Common.{subst, sym, ◌≡◌, true}
 use Rattle.std.proofs.lemmas.Result.{IfOk-weaker}
 use Rattle.std.specs.Option.{option_copied}
-use Rattle.cmc_collector.specs.Caches.{held}
 use Rattle.cmc_collector.specs.Rows.{Rowed, has_row}
 use Rattle.cmc_collector.proofs.Reading.{held_covered}
 use Rattle.cmc_collector.proofs.Seeing.{found_due}

@@ -1,4 +1,4 @@
-use Rattle.std.proofs.Common.{ℕ, Bool, true, false, refl, ap, subst, ◌-◌, ◌≡◌}
+use Rattle.std.proofs.Common.{ℕ, true, false, refl, ap, subst, ◌-◌, ◌≡◌}
 use Rattle.std.specs.Prelude.{nat_lt}
 use Rattle.cmc_collector.specs.declared.entry.CollectEntry.TheVariants as entries
 use Rattle.cmc_collector.specs.Playing.{given, on}
