@@ -141,9 +141,9 @@ no_wait s h by target r judged granted covered free answered =
     no_wait_by (not (is_approved r) && not (is_denied r)) (is_kept_for_keys target) (is_approved r) (is_unanswered (condition_at r.status.conditions Ready)) (condition_at r.status.conditions Ready)
     (has_verdict (is_approved r) (is_denied r) (is_covered s.rules r.spec.issuer) r s.rules covered judged) free
     (λ approved asked.
-      let none = unanswered_is_open (condition_at r.status.conditions Ready) asked in
-      asked_by (is_denied r) (gives (codes "Denied") (condition_at r.status.conditions Ready)) (is_approved r) (gives (codes "Issued") (condition_at r.status.conditions Ready)) (gives (codes "Failed") (condition_at r.status.conditions Ready)) (is_own r.spec.issuer) (is_waiting (moment s h) r)
-      (moment s h) by r approved none.1.1 none.0 none.1.0 (and_parts (is_own r.spec.issuer) _ covered).0 answered granted)
+    let none = unanswered_is_open (condition_at r.status.conditions Ready) asked in
+    asked_by (is_denied r) (gives (codes "Denied") (condition_at r.status.conditions Ready)) (is_approved r) (gives (codes "Issued") (condition_at r.status.conditions Ready)) (gives (codes "Failed") (condition_at r.status.conditions Ready)) (is_own r.spec.issuer) (is_waiting (moment s h) r)
+    (moment s h) by r approved none.1.1 none.0 none.1.0 (and_parts (is_own r.spec.issuer) _ covered).0 answered granted)
 
 -- ---- so nothing is left to wait for
 
@@ -162,7 +162,7 @@ free_of : (s : Setting) (h : List Entry) (key : Key) (c : Certificate) → certi
 unfolding views_in views_of
 free_of s h key c is can =
     let same : CanBeIssued s h (views_of Issuing (record { certificates = objects s h; requests = objects s h; secrets = objects s h }) (Some c) None) c =
-      subst (λ (x : Option Certificate). CanBeIssued s h (views_of Issuing (record { certificates = objects s h; requests = objects s h; secrets = objects s h }) x None) c) is can in
+    subst (λ (x : Option Certificate). CanBeIssued s h (views_of Issuing (record { certificates = objects s h; requests = objects s h; secrets = objects s h }) x None) c) is can in
     record { makable = same.makable; free = same.free; covered = same.covered; answered = same.answered }
 
 with_next : (s : Setting) (h : List Entry) (c : Certificate) (k : HasNextKey c (next_of (objects s h) c)) (r : HasNextRequest c k.file (requests_of (objects s h) c)) → IsRun s h → IsStill s h → IsFree s h c → is_issuing c ≡ true
@@ -173,9 +173,9 @@ with_next s h c k r run still free on idle =
     let answered : is_waiting (moment s h) r.request ≡ false = subst (λ (x : Option CertificateRequest). IfSome x (λ r. is_waiting (moment s h) r ≡ false)) r.next free.answered in
     none_some (wait_of_request (target_at (objects s h) c) r.request)
     (no_wait s h (desk s h Issuer (present_views s h Issuer there.0)) (target_at (objects s h) c) r.request
-      (approver_rests s h there.0 r.request stands (still Approver there.0 (Request r.request) there.1))
-      (issuer_rests s h there.0 r.request stands (still Issuer there.0 (Request r.request) there.1))
-      (covers s.rules c r.request k.file r.wanted free.covered) free.free answered)
+    (approver_rests s h there.0 r.request stands (still Approver there.0 (Request r.request) there.1))
+    (issuer_rests s h there.0 r.request stands (still Issuer there.0 (Request r.request) there.1))
+    (covers s.rules c r.request k.file r.wanted free.covered) free.free answered)
     (request_waits_on s h c k r run.caused run.follows still on idle)
 
 not_waiting : (s : Setting) (h : List Entry) (key : Key) (c : Certificate) → IsRun s h → IsStill s h → IsFree s h c → certificate_at (objects s h) key ≡ Some c → is_issuing c ≡ true → ⊥
@@ -183,17 +183,17 @@ not_waiting s h key c run still free is on =
     let there : object_at (objects s h) key ≡ Some (Cert c) = stands s h key c is in
     let by : Desk = desk s h KeyManager (present_views s h KeyManager key) in
     let keys : while_issuing c by (target_at (objects s h) c) (next_of (objects s h) c) ≡ Nothing =
-      subst (λ (b : Bool). (if b then while_issuing c by (target_at (objects s h) c) (next_of (objects s h) c) else while_idle c (next_of (objects s h) c)) ≡ Nothing) on (keys_rest s h key c is (still KeyManager key (Cert c) there)) in
+    subst (λ (b : Bool). (if b then while_issuing c by (target_at (objects s h) c) (next_of (objects s h) c) else while_idle c (next_of (objects s h) c)) ≡ Nothing) on (keys_rest s h key c is (still KeyManager key (Cert c) there)) in
     let asks : managing.with_key c (requests_of (objects s h) c) (named_key c.status.next_key (next_of (objects s h) c)) ≡ Nothing =
-      subst (λ (b : Bool). (if b then managing.with_key c (requests_of (objects s h) c) (named_key c.status.next_key (next_of (objects s h) c)) else Nothing) ≡ Nothing) on (requests_rest s h key c is (still RequestManager key (Cert c) there)) in
+    subst (λ (b : Bool). (if b then managing.with_key c (requests_of (objects s h) c) (named_key c.status.next_key (next_of (objects s h) c)) else Nothing) ≡ Nothing) on (requests_rest s h key c is (still RequestManager key (Cert c) there)) in
     by_key keys asks (has_key c by (target_at (objects s h) c) (next_of (objects s h) c) (λ k j ks. next_apart s h c k j ks run.legal) keys) where
-  by_key : while_issuing c (desk s h KeyManager (present_views s h KeyManager key)) (target_at (objects s h) c) (next_of (objects s h) c) ≡ Nothing
-    → managing.with_key c (requests_of (objects s h) c) (named_key c.status.next_key (next_of (objects s h) c)) ≡ Nothing
-    → ((length (next_of (objects s h) c) == 0) ≡ true) ⊎ HasNextKey c (next_of (objects s h) c) → ⊥
-  by_key keys asks (inl none) = no_key c (desk s h KeyManager (present_views s h KeyManager key)) (target_at (objects s h) c) (next_of (objects s h) c) free.makable keys none
-  by_key keys asks (inr k) =
-      with_next s h c k (has_request c (next_of (objects s h) c) (requests_of (objects s h) c) k asks) run still free on
-      (issuing_rests s h key c is (still Issuing key (Cert c) (stands s h key c is)))
+      by_key : while_issuing c (desk s h KeyManager (present_views s h KeyManager key)) (target_at (objects s h) c) (next_of (objects s h) c) ≡ Nothing
+          → managing.with_key c (requests_of (objects s h) c) (named_key c.status.next_key (next_of (objects s h) c)) ≡ Nothing
+          → ((length (next_of (objects s h) c) == 0) ≡ true) ⊎ HasNextKey c (next_of (objects s h) c) → ⊥
+      by_key keys asks (inl none) = no_key c (desk s h KeyManager (present_views s h KeyManager key)) (target_at (objects s h) c) (next_of (objects s h) c) free.makable keys none
+      by_key keys asks (inr k) =
+          with_next s h c k (has_request c (next_of (objects s h) c) (requests_of (objects s h) c) k asks) run still free on
+          (issuing_rests s h key c is (still Issuing key (Cert c) (stands s h key c is)))
 
 ready_by : (s : Setting) (h : List Entry) (key : Key) (c : Certificate) → IsRun s h → IsAtRest s h → is_stopped s h ≡ false → certificate_at (objects s h) key ≡ Some c → CanBeIssued s h (present_views s h Issuing key) c
     → IsSettled (moment s h) (present_views s h Issuing key) c → is_stated Ready c.status.conditions ≡ true

@@ -57,8 +57,8 @@ settled_by false false s h key c ready on run rest free is =
     inr (inl (record {
       idle = on;
       waits = waits_to_try (moment s h) (target_at (objects s h) c) (requests_of (objects s h) c) c on
-        (trigger_rests s h key c is (still s h run rest free Trigger key (Cert c) there))
-        (readiness_rests s h key c is (still s h run rest free Readiness key (Cert c) there)) ready;
+          (trigger_rests s h key c is (still s h run rest free Trigger key (Cert c) there))
+          (readiness_rests s h key c is (still s h run rest free Readiness key (Cert c) there)) ready;
     }))
 
 pub settled : (s : Setting) (h : List Entry) → IsRun s h → IsAtRest s h → is_stopped s h ≡ false → (key : Key) (c : Certificate) → certificate_at (objects s h) key ≡ Some c
