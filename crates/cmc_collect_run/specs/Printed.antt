@@ -36,7 +36,7 @@ entry_lines [] = []
 entry_lines (m ∷ ms) = entry_lines ms ++ line_of (entry_tree (length ms + 1) m.entry) ∷ []
 
 -- the collector deleted an object
-abbrev pub is_deletion : CollectEntry → Bool
+unfoldable pub is_deletion : CollectEntry → Bool
 is_deletion (User call reply) = false
 is_deletion (Deliver kind to) = false
 is_deletion (Listed kind to) = false

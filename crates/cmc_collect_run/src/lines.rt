@@ -115,6 +115,7 @@ pub(crate) fn entry_line(
 }
 
 /// Whether the collector deleted an object.
+#[tactic(auto, unfolding(crate::specs::Printed::is_deletion))]
 pub(crate) fn is_deletion(entry: &CollectEntry) -> bool
     ensures { result ≡ is_deletion entry.now }
 {

@@ -1,8 +1,8 @@
 //! The text of a collection.
-ghost use Rattle.std.specs.Prelude.{◌≡◌, ◌++◌, false, reverse, IfOk, OnOk};
+ghost use Rattle.std.specs.Prelude.{◌≡◌, ◌++◌, false, reverse, count_by, IfOk, OnOk};
 ghost use Rattle.serde_json.specs.View.{view};
 ghost use Rattle.serde_json.specs.Written.{has_float};
-ghost use Rattle.cmc_collect_run.specs.Printed.{collect_lines, deleted, entry_lines};
+ghost use Rattle.cmc_collect_run.specs.Printed.{collect_lines, deleted, entry_lines, is_deletion};
 
 use crate::lines::{collect_line, entry_line, is_deletion};
 use cmc_collector::{Collection, Moment};
@@ -11,12 +11,17 @@ use cmc_writer::Printer;
 use serde_json::Value;
 use std::alloc::{AllocError, Global};
 
+fn deletions(moments: &[Moment]) -> u64
+    ensures { result ≡ count_by (λ m. is_deletion m.entry) moments.now }
+{
+    moments.iter().filter(|m| is_deletion(&m.entry)).count() as u64
+}
+
 /// How many objects the collector deleted.
-#[tactic(auto, using(crate::proofs::PrintLaws::deleted_reverse))]
 fn deleted(moments: &[Moment]) -> u64
     ensures { result ≡ deleted (reverse moments.now) }
 {
-    moments.iter().filter(|m| is_deletion(&m.entry)).count() as u64
+    deletions(moments)
 }
 
 // Adds the lines of the entries, the oldest of which is the first.
