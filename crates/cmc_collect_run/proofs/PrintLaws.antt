@@ -40,5 +40,5 @@ unfolding line_of
 line_written d = ap (λ t. t ++ 10 ∷ []) (text_written d)
 
 -- deletions are counted alike from either end
-pub deleted_reverse : (ms : List Moment) → count_by (λ m. is_deletion m.entry) ms ≡ deleted (reverse ms)
-deleted_reverse ms = sym (sum_by-IsPermutation (λ m. cond (is_deletion m.entry) 1 0) ms (reverse ms) (IsPermutation-reverse ms))
+pub deleted_reverse : (ms : List Moment) → count_by is_deletion ms ≡ deleted (reverse ms)
+deleted_reverse ms = sym (sum_by-IsPermutation (λ m. cond (is_deletion m) 1 0) ms (reverse ms) (IsPermutation-reverse ms))

@@ -36,15 +36,18 @@ entry_lines [] = []
 entry_lines (m ∷ ms) = entry_lines ms ++ line_of (entry_tree (length ms + 1) m.entry) ∷ []
 
 -- the collector deleted an object
-unfoldable pub is_deletion : CollectEntry → Bool
-is_deletion (User call reply) = false
-is_deletion (Deliver kind to) = false
-is_deletion (Listed kind to) = false
-is_deletion (Look key owner reply) = false
-is_deletion (Delete key version reply) = is_accepted reply
+abbrev pub deletes : CollectEntry → Bool
+deletes (User call reply) = false
+deletes (Deliver kind to) = false
+deletes (Listed kind to) = false
+deletes (Look key owner reply) = false
+deletes (Delete key version reply) = is_accepted reply
+
+unfoldable pub is_deletion : Moment → Bool
+is_deletion m = deletes m.entry
 
 abbrev pub deleted : List Moment → ℕ
-deleted ms = count_by (λ m. is_deletion m.entry) ms
+deleted ms = count_by is_deletion ms
 
 abbrev pub objects : Collecting → ℕ
 objects c = length (finite.entries (on stored c))

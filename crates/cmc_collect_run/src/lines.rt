@@ -4,7 +4,7 @@ ghost use Rattle.cmc_meta.specs.declared.key.Key.{Key as KeyValue};
 ghost use Rattle.cmc_objects.specs.declared.call.Call.TheVariants as calls;
 ghost use Rattle.cmc_print.specs.Trees.{line_of};
 ghost use Rattle.cmc_collector.specs.Playing as playing;
-ghost use Rattle.cmc_collect_run.specs.Printed.{collect_tree, count_rows, counts_tree, entry_tree, is_deletion, told_rows, told_tree};
+ghost use Rattle.cmc_collect_run.specs.Printed.{collect_tree, count_rows, counts_tree, entry_tree, deletes, told_rows, told_tree};
 ghost use Rattle.cmc_writer.specs.Adding.{with_row, with_rows, with_value};
 
 use cmc_collector::CollectEntry;
@@ -115,9 +115,8 @@ pub(crate) fn entry_line(
 }
 
 /// Whether the collector deleted an object.
-#[tactic(auto, unfolding(crate::specs::Printed::is_deletion))]
-pub(crate) fn is_deletion(entry: &CollectEntry) -> bool
-    ensures { result ≡ is_deletion entry.now }
+pub(crate) fn deletes(entry: &CollectEntry) -> bool
+    ensures { result ≡ deletes entry.now }
 {
     match entry {
         CollectEntry::Delete { reply, .. } => reply.is_accepted(),

@@ -4,17 +4,24 @@ ghost use Rattle.serde_json.specs.View.{view};
 ghost use Rattle.serde_json.specs.Written.{has_float};
 ghost use Rattle.cmc_collect_run.specs.Printed.{collect_lines, deleted, entry_lines, is_deletion};
 
-use crate::lines::{collect_line, entry_line, is_deletion};
+use crate::lines::{collect_line, deletes, entry_line};
 use cmc_collector::{Collection, Moment};
 use cmc_report::{Lines, scenario_line};
 use cmc_writer::Printer;
 use serde_json::Value;
 use std::alloc::{AllocError, Global};
 
-fn deletions(moments: &[Moment]) -> u64
-    ensures { result ≡ count_by (λ m. is_deletion m.entry) moments.now }
+#[tactic(auto, unfolding(crate::specs::Printed::is_deletion))]
+fn is_deletion(moment: &Moment) -> bool
+    ensures { result ≡ is_deletion moment.entry.now }
 {
-    moments.iter().filter(|m| is_deletion(&m.entry)).count() as u64
+    deletes(&moment.entry)
+}
+
+fn deletions(moments: &[Moment]) -> u64
+    ensures { result ≡ count_by is_deletion moments.now }
+{
+    moments.iter().filter(|m| is_deletion(m)).count() as u64
 }
 
 /// How many objects the collector deleted.
