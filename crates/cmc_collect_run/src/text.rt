@@ -21,7 +21,13 @@ fn is_deletion(moment: &Moment) -> bool
 fn deletions(moments: &[Moment]) -> u64
     ensures { result ≡ count_by is_deletion moments.now }
 {
-    moments.iter().filter(|m| is_deletion(m)).count() as u64
+    let mut count = 0u64;
+    for moment in moments {
+        if is_deletion(moment) {
+            count += 1;
+        }
+    }
+    count
 }
 
 /// How many objects the collector deleted.
