@@ -20,7 +20,7 @@ use Rattle.cmc_rules.specs.Sound.{IsDueMoment}
 use Rattle.cmc_rules.specs.Viewing.{views}
 use Rattle.cmc_world.proofs.AtRest.{same_key, key_eq-refl}
 use Rattle.cmc_plain.specs.DueMoments.{IsFirstAfter}
-use Rattle.cmc_plain.specs.Parking.{IsParkedUntil}
+use Rattle.cmc_waking.specs.Parking.{IsParkedUntil}
 use Rattle.cmc_plain.specs.WorkQueues.{AreEntries, HasEntry, IsEntry, IsOfWork, IsRowOf, IsWorkQueue, MayBegin}
 use Rattle.cmc_plain.proofs.Keys.{tied_is_same}
 

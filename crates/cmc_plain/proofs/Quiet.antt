@@ -40,7 +40,7 @@ use Rattle.cmc_world.proofs.RoleStates.{same_role}
 use Rattle.cmc_moves.specs.Quiet.{IsQuiet, seen_last}
 use Rattle.cmc_plain.specs.Ready.{is_ready, Keeps, KeepsIf, HasKnown, Covers, Idles, IsIdleOn, IsOfEach, WakesAll, Wakes}
 use Rattle.cmc_plain.proofs.Lasting.{Anew, Claim, HoldsOn, IsLasting, LeavesAlone, LeavesKeys, Meant, holds_step, moment_alone, views_alone}
-use Rattle.cmc_plain.proofs.Remembering.{last_called}
+use Rattle.cmc_waking.proofs.Remembered.{last_called}
 use Rattle.cmc_plain.proofs.Unknown.{unknown_quiet}
 
 -- ---- nothing to do

@@ -33,7 +33,7 @@ use Rattle.cmc_world.proofs.OneKind.{object_at-of_kind}
 use Rattle.cmc_world.proofs.AtRest.{same_key}
 use Rattle.cmc_moves.proofs.Sounds.{each_sound}
 use Rattle.cmc_moves.specs.Quiet.{IsQuiet, no_views, seen_last}
-use Rattle.cmc_plain.proofs.Remembering.{last_called}
+use Rattle.cmc_waking.proofs.Remembered.{last_called}
 
 -- ---- no object stands under it
 

@@ -1,5 +1,5 @@
 -- The work queue of a role loses no wake-up.
-use Rattle.std.proofs.Common.{◌≡◌, ◌⊎◌, ◌<◌, ℕ, ℤ, Bool, true, false, List, [], ◌∷◌, Option, Some, None, Result, Ok, Err, refl, sym, ap, subst, inl, inr, ◌∙◌, arith}
+use Rattle.std.proofs.Common.{◌≡◌, ◌⊎◌, ◌<◌, ℕ, ℤ, Bool, true, false, List, Option, Some, None, Result, Ok, Err, refl, sym, ap, subst, inl, inr, ◌∙◌, arith}
 use Rattle.std.proofs.lemmas.Bool.{ltb-true, lt-ltb}
 use Rattle.std.proofs.lemmas.Int.{ints}
 use Rattle.std.specs.Prelude.{IfOk, int_le, nat_lt, if◌then◌else◌, IfSome, IsSomeAnd}
@@ -8,7 +8,6 @@ use Rattle.cmc_meta.specs.declared.key.Key.{Key}
 use Rattle.cmc_meta.specs.declared.key.Kind.{Kind}
 use Rattle.cmc_meta.specs.declared.key.Kind.TheVariants as kinds
 use Rattle.cmc_objects.specs.declared.role.Role.{Role}
-use Rattle.cmc_objects.specs.declared.role.Role.TheVariants as roles
 use Rattle.cmc_objects.specs.declared.entry.Entry.{Entry}
 use Rattle.cmc_objects.specs.declared.entry.Positions.{Positions}
 use Rattle.cmc_objects.specs.Watching.{kind_of_work}
@@ -40,7 +39,7 @@ use Rattle.cmc_rules.specs.Sameness.{EndsAlike, IsDue, IsSame, own_above}
 use Rattle.cmc_rules.specs.Sound.{IsDueMoment}
 use Rattle.cmc_rules.specs.Viewing.{views}
 use Rattle.cmc_moves.specs.Quiet.{IsQuiet, no_views, seen_last}
-use Rattle.cmc_plain.specs.Parking.{ahead, own_ahead, obstacle_ahead, IsRefusedUntil, OrElse}
+use Rattle.cmc_waking.specs.Parking.{ahead, own_ahead, obstacle_ahead, IsRefusedUntil, OrElse}
 use Rattle.cmc_plain.specs.Ready.{IsIdleOn}
 use Rattle.cmc_plain.specs.WorkQueues.{IsOfWork, IsRowOf, IsWorkQueue, IsHeldBack, IsCovered, LosesNoWakeUp}
 use Rattle.cmc_rules.proofs.Sights.{seen_request}
@@ -49,6 +48,7 @@ use Rattle.cmc_safety.specs.Formed.{IsFormed}
 use Rattle.cmc_safety.proofs.Carried.{seen_has}
 use Rattle.cmc_safety.proofs.Dated.{IsDatedObject, dated_versions}
 use Rattle.cmc_moves.proofs.Sounds.{each_sound}
+use Rattle.cmc_waking.proofs.Tended.{nothing_due}
 use Rattle.cmc_plain.specs.DueMoments.{IsFirstAfter, sooner, IsDatedRequest, HasDatedMoments}
 use Rattle.cmc_plain.proofs.Remembering.{last_fair, IsFairEnding, IsFairPass, IsFairLast}
 use Rattle.cmc_plain.proofs.Unknown.{unknown_quiet, sees_none}
@@ -229,16 +229,6 @@ covered : (s : Setting) (h : List Entry) (role : Role) (key : Key) (row : Row) �
 covered s h role key row ended work right worth = by_ready row.ready s h role key row refl ended work right worth
 
 -- ---- a key that no write named
-
-nothing_due : (role : Role) (at : ℤ) → IsDueMoment role no_views at → ⊥
-nothing_due roles.Trigger at due = due
-nothing_due roles.KeyManager at due = due
-nothing_due roles.RequestManager at due = due
-nothing_due roles.Approver at due = due
-nothing_due roles.Issuer at due = due
-nothing_due roles.Issuing at due = due
-nothing_due roles.Readiness at due = due
-nothing_due roles.Revision at due = due
 
 timed_by : (now at : ℤ) (P : ℤ → Type 0) (o : Option ℤ) → IsFirstAfter now P o → P at → int_le at now ≡ false → IsSomeAnd o (λ timed. int_le timed at ≡ true)
 timed_by now at P None first is later = absurd (let passed = first at is in cc (passed, later))

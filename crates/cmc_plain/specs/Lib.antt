@@ -10,5 +10,4 @@ pub mod Asking
 pub mod Next
 pub mod Openings
 pub mod DueMoments
-pub mod Parking
 pub mod WorkQueues

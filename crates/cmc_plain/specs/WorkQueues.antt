@@ -18,7 +18,7 @@ use Rattle.cmc_rules.specs.Viewing.{views}
 use Rattle.cmc_moves.specs.Answers.{IsQueued}
 use Rattle.cmc_moves.specs.Quiet.{seen_last}
 use Rattle.cmc_plain.specs.Ready.{IsIdleOn}
-use Rattle.cmc_plain.specs.Parking.{IsParkedUntil}
+use Rattle.cmc_waking.specs.Parking.{IsParkedUntil}
 use Rattle.cmc_plain.specs.DueMoments.{IsFirstAfter}
 
 -- ---- the row of a key

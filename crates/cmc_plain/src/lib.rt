@@ -11,7 +11,6 @@ mod known;
 mod laws;
 mod next_move;
 mod openings;
-mod parking;
 mod passes;
 mod questions;
 mod queue_rows;

@@ -2,7 +2,7 @@
 ghost use Rattle.std.specs.Option.{option_copied};
 ghost use Rattle.std.specs.Prelude.{◌≡◌};
 ghost use Rattle.cmc_held.specs.Remembered.{past_or_new};
-ghost use Rattle.cmc_plain.specs.Parking as words;
+ghost use Rattle.cmc_waking.specs.Parking as words;
 
 use cmc_held::at_kind;
 use cmc_meta::Kind;
@@ -22,7 +22,7 @@ fn ahead(kind: Kind, version: u64, at: Positions, rest: Option<Parked>) -> Optio
 }
 
 /// The first of the role's own writes of which it is not yet told.
-fn own_ahead(own: Positions, at: Positions) -> Option<Parked>
+pub(crate) fn own_ahead(own: Positions, at: Positions) -> Option<Parked>
     ensures { result ≡ words.own_ahead own at }
 {
     let secrets = ahead(Kind::Secret, own.secrets, at, None);
@@ -31,7 +31,7 @@ fn own_ahead(own: Positions, at: Positions) -> Option<Parked>
 }
 
 /// The write that refused a pass, where the role is not yet told of it.
-fn obstacle_ahead(ending: Ending, at: Positions) -> Option<Parked>
+pub(crate) fn obstacle_ahead(ending: Ending, at: Positions) -> Option<Parked>
     ensures { result ≡ words.obstacle_ahead ending at }
 {
     match ending {
@@ -89,7 +89,7 @@ fn last_part(before: Option<&Past>, seen: &Views, at: Positions) -> Option<Parke
 }
 
 /// What the key waits for.
-pub(crate) fn parked_until(before: Option<&Past>, seen: &Views, at: Positions) -> Option<Parked>
+pub fn parked_until(before: Option<&Past>, seen: &Views, at: Positions) -> Option<Parked>
     ensures { words.IsParkedUntil (past_or_new (option_copied before.entry)) seen.now at result }
 {
     match own_part(before, at) {

@@ -7,7 +7,7 @@ use Rattle.cmc_queue.specs.declared.row.Parked.{Parked}
 use Rattle.cmc_pass.specs.declared.pass.Views.{Views}
 use Rattle.cmc_rules.specs.declared.progress.Obstacle.TheVariants.{Newer}
 use Rattle.cmc_rules.specs.declared.progress.Ending.{Ending}
-use Rattle.cmc_rules.specs.declared.progress.Ending.TheVariants.{Refused}
+use Rattle.cmc_rules.specs.declared.progress.Ending.TheVariants.{Refused, Wrote}
 use Rattle.cmc_rules.specs.declared.progress.LastPass.{LastPass}
 use Rattle.cmc_rules.specs.declared.progress.Past.{Past}
 use Rattle.cmc_rules.specs.Positions.{position_of}
@@ -24,6 +24,11 @@ own_ahead own at = ahead Certificate own.certificates at (ahead CertificateReque
 abbrev pub obstacle_ahead : Ending → Positions → Option Parked
 obstacle_ahead (Refused (Newer kind version)) at = ahead kind version at None
 obstacle_ahead other at = None
+
+-- for which version a key waits after a pass that ended so
+abbrev pub waits_for : Ending → Positions → Positions → Option Parked
+waits_for Wrote own at = own_ahead own at
+waits_for other own at = obstacle_ahead other at
 
 -- a pass that sees what the last one saw waits for what refused that one
 abbrev pub IsRefusedUntil : Option LastPass → Views → Positions → Option Parked → Type 0

@@ -1,0 +1,9 @@
+pub mod Tended
+pub mod Owners
+pub mod Remembered
+pub mod Entries
+pub mod Promise
+pub mod Rows
+pub mod Looks
+pub mod Eight
+pub mod Feeds

@@ -1,0 +1,4 @@
+pub mod Parking
+pub mod Feeding
+pub mod Waking
+pub mod Queues
