@@ -6,6 +6,8 @@ ghost use Rattle.std.specs.Str.{IsUtf8};
 ghost use Rattle.cmc_collect_run.specs.Answers as collection;
 ghost use Rattle.cmc_report.specs.Text.{joined};
 ghost use Rattle.cmc_plain.specs.Histories.{IsPlain};
+ghost use Rattle.cmc_plain.specs.Named.{IsWhole, NamesEachWait};
+ghost use Rattle.cmc_plain.specs.Waits.{summary_at};
 ghost use Rattle.cmc_rules.specs.Runs.{IsFinished};
 ghost use Rattle.cmc_scenario.specs.Loads.{load_setup};
 ghost use Rattle.cmc_scenario_print.specs.ScenarioTree.{scenario_tree};
@@ -65,6 +67,16 @@ impl From<AllocError> for Status {
     }
 }
 
+/// What each Certificate waits for in a finished world, each with its name.
+fn waits_are_named(world: &World)
+    requires { on IsFinished world.now }
+    ensures named { on NamesEachWait world.now }
+    ensures whole { on IsWhole world.now (on summary_at world.now) }
+{
+    world.is_run();
+    each_wait_is_named();
+}
+
 /// The lines of a finished world, whose scenario the value is, or the line of its summary alone.
 fn lines_of(
     alloc: Global,
@@ -79,7 +91,7 @@ fn lines_of(
     ensures { IfOk result (λ lines. RunsOn workers alone (view value.now) world.now.scenario (joined lines)) }
 {
     world.is_run();
-    each_wait_is_named();
+    waits_are_named(world);
     let counts = summary(alloc, world)?;
     if alone {
         return summary_text(alloc, &counts);
