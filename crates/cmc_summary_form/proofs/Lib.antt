@@ -1,0 +1,3 @@
+pub mod NamesAgain
+pub mod SummaryAgain
+mod OneMore

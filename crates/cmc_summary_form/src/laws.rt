@@ -1,0 +1,27 @@
+// What printing summaries and reading them make of each other.
+ghost use Rattle.cmc_summary_form.specs.Laws.{HasCounts, IsFormRead, IsSummaryAgain};
+
+use cmc_summary::Summary;
+
+fn has_counts(summary: &Summary)
+    ensures { HasCounts summary.now }
+{
+    let _certificates = summary.certificates;
+    let _ready = summary.ready;
+    let _secrets = summary.secrets;
+}
+
+/// A law: what is printed of a summary of the form is read as that summary. The call changes nothing.
+#[tactic(auto, using(crate::proofs::SummaryAgain::summary_again))]
+pub fn summary_is_read(summary: &Summary)
+    ensures { IsSummaryAgain summary.now }
+{
+    let _ready = summary.ready;
+}
+
+/// A law: a summary that is read is of the form. The call changes nothing.
+pub fn read_has_form(summary: &Summary)
+    ensures { IsFormRead summary.now }
+{
+    has_counts(summary);
+}
