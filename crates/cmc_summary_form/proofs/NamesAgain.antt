@@ -15,7 +15,7 @@ use Rattle.cmc_cursor.proofs.Always.{Always, so, next, after, where_true}
 use Rattle.cmc_print.specs.Words.{name_text}
 use Rattle.cmc_material.specs.Keys.{is_slash, split_slash, key_of_kind}
 use Rattle.cmc_material.specs.MaterialRows.{certificate_at}
-use Rattle.cmc_summary_form.specs.Laws.{IsKeyOf}
+use Rattle.cmc_summary_form.specs.SummaryForm.{IsKeyOf}
 
 -- ---- no slash stands in a name
 

@@ -1,10 +1,15 @@
 -- The form of the summary line that is read: the counts, and what Certificates wait for, in order of key, each once.
-use Rattle.std.specs.Prelude.{ℕ, List, [], ◌∷◌, ◌+◌, codes, decimal, Bool, true, if◌then◌else◌, Ok, Err, Some, None}
+use Rattle.std.specs.Prelude.{◌≡◌, ℕ, map, List, [], ◌∷◌, ◌+◌, codes, decimal, Bool, true, if◌then◌else◌, Ok, Err, Some, None}
 use Rattle.std.specs.declared.option.Option.{Option}
+use Rattle.std.specs.List.{AllByRecursion}
+use Rattle.std.specs.List.Sorted.{IsStrictlySortedBy}
 use Rattle.std.specs.Ordering.{is_lt}
 use Rattle.std.specs.Str.{bytes_eq}
 use Rattle.serde_json.specs.Data.{Data, null, boolean, number, string, array, object, Items, no_items, item}
 use Rattle.cmc_meta.specs.Keys.{key_cmp}
+use Rattle.cmc_meta.specs.Names.{is_subdomain}
+use Rattle.cmc_meta.specs.declared.key.Kind.{Kind}
+use Rattle.cmc_meta.specs.declared.key.Kind.TheVariants.{Certificate}
 use Rattle.cmc_meta.specs.declared.key.Key.{Key}
 use Rattle.cmc_summary.specs.declared.summary.Summary.{Summary}
 use Rattle.cmc_summary.specs.declared.summary.Waiting.{Waiting}
@@ -94,3 +99,20 @@ summary_in fs = do
 
 unfoldable pub summary_at : Data → Read Summary
 summary_at d = fields_at d >>= summary_in
+
+-- ---- summaries that have lines of this form
+
+abbrev pub HasNames : Key → Type 0
+HasNames key = (is_subdomain key.namespace ≡ true) × (is_subdomain key.name ≡ true)
+
+-- A key that is printed without its kind.
+abbrev pub IsKeyOf : Kind → Key → Type 0
+IsKeyOf kind key = (key.kind ≡ kind) × HasNames key
+
+abbrev pub IsOfCertificate : Waiting → Type 0
+IsOfCertificate w = IsKeyOf Certificate w.certificate
+
+-- The waits are those of Certificates, in order of key, each once.
+pub record HasSummaryForm (s : Summary) : Type 0 where
+  pub order : IsStrictlySortedBy key_cmp (map (λ w. w.certificate) s.waiting)
+  pub keys : AllByRecursion IsOfCertificate s.waiting

@@ -1,15 +1,7 @@
 // What printing summaries and reading them make of each other.
-ghost use Rattle.cmc_summary_form.specs.Laws.{HasCounts, IsFormRead, IsSummaryAgain};
+ghost use Rattle.cmc_summary_form.specs.Laws.{HasFormRead, IsSummaryAgain};
 
 use cmc_summary::Summary;
-
-fn has_counts(summary: &Summary)
-    ensures { HasCounts summary.now }
-{
-    let _certificates = summary.certificates;
-    let _ready = summary.ready;
-    let _secrets = summary.secrets;
-}
 
 /// A law: what is printed of a summary of the form is read as that summary. The call changes nothing.
 #[tactic(auto, using(crate::proofs::SummaryAgain::summary_again))]
@@ -20,8 +12,9 @@ pub fn summary_is_read(summary: &Summary)
 }
 
 /// A law: a summary that is read is of the form. The call changes nothing.
+#[tactic(auto, using(crate::proofs::SummarySo::has_form))]
 pub fn read_has_form(summary: &Summary)
-    ensures { IsFormRead summary.now }
+    ensures { HasFormRead summary.now }
 {
-    has_counts(summary);
+    let _ready = summary.ready;
 }

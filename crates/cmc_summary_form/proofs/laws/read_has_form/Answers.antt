@@ -1,5 +1,0 @@
-use Rattle.cmc_summary_form.proofs.SummaryAgain.{has_form}
-use Rattle.cmc_summary_form.proofs.laws.read_has_form.Goals as goal
-
-pub returns : goal.returns
-returns c d read = has_form d _ read c.has_counts.ensures
