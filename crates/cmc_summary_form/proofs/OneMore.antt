@@ -44,7 +44,7 @@ one_more front w n vs v all within is one before =
     let opened : with_front front (under (decimal n) (next_waiting_at (last_key front) (view v)) >>= (λ x. waits_from (n + 1) (Some x.certificate) (items_view (drop (n + 1) vs)) >>= (λ ws. Ok (x ∷ ws)))) ≡ all = rw split at before.rest in
     record {
       rest = ap (λ (k : Option Key). with_front (front ++ w ∷ []) (waits_from (n + 1) k (items_view (drop (n + 1) vs)))) (last_is front w)
-      ∙ pushed front w (waits_from (n + 1) (Some w.certificate) (items_view (drop (n + 1) vs))) ∙ (rw one at opened);
+          ∙ pushed front w (waits_from (n + 1) (Some w.certificate) (items_view (drop (n + 1) vs))) ∙ (rw one at opened);
     }
 
 pub all_read : (front : List Waiting) (n : ℕ) (vs : List Value) (all : Read (List Waiting)) → length vs ≤ n → AreReadSoFar front n (drop n vs) all → all ≡ Ok front
