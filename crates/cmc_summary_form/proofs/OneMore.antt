@@ -1,6 +1,7 @@
 -- One more Certificate that waits was read.
-use Rattle.std.proofs.Common.{◌≡◌, ℕ, suc, ◌+◌, ◌<◌, ◌≤◌, List, [], ◌∷◌, ◌++◌, length, get_or, drop, Option, Some, Ok, Err, refl, ap, sym, ◌∙◌, append_assoc, append-nil, add-one, drop-cons}
+use Rattle.std.proofs.Common.{◌≡◌, ℕ, suc, ◌+◌, ◌<◌, ◌≤◌, List, [], ◌∷◌, ◌++◌, length, get_or, drop, Option, Some, Ok, Err, refl, ap, sym, subst, ◌∙◌, append_assoc, append-nil, add-one, drop-cons, length-append, ◌-◌, arith}
 use Rattle.std.specs.Prelude.{decimal}
+use Rattle.std.specs.List.{slice_get}
 use Rattle.std.proofs.lemmas.List.{drop_all}
 use Rattle.serde_json.specs.View.{view, items_view}
 use Rattle.serde_json.specs.declared.value.Value.{Value}
@@ -14,10 +15,14 @@ use Rattle.cmc_summary_form.specs.SummaryForm.{next_waiting_at, waits_from, all_
 pub record AreReadSoFar (front : List Waiting) (n : ℕ) (left : List Value) (all : Read (List Waiting)) : Type 0 where
   pub rest : with_front front (waits_from n (last_key front) (items_view left)) ≡ all
 
+at_end : (front : List Waiting) (w : Waiting) → slice_get (front ++ w ∷ []) (length front) ≡ Some w
+at_end [] w = refl
+at_end (v ∷ front) w = at_end front w
+
 last_is : (front : List Waiting) (w : Waiting) → last_key (front ++ w ∷ []) ≡ Some w.certificate
-last_is [] w = refl
-last_is (v ∷ []) w = refl
-last_is (v ∷ u ∷ front) w = last_is (u ∷ front) w
+last_is front w =
+    let end : length (front ++ w ∷ []) - 1 ≡ length front = omega (arith, length-append front (w ∷ [])) in
+    rw (end, at_end front w) refl
 
 as_ok : List Waiting → Read (List Waiting)
 as_ok ws = Ok ws
@@ -37,9 +42,10 @@ nothing (Err path) = refl
 pub at_first : (vs : List Value) → AreReadSoFar [] 0 vs (all_waits (items_view vs))
 at_first vs = record { rest = nothing (all_waits (items_view vs)) }
 
-pub one_more : (front : List Waiting) (w : Waiting) (n : ℕ) (vs : List Value) (v : Value) (all : Read (List Waiting)) → n < length vs → v ≡ get_or vs n v
-    → under (decimal n) (next_waiting_at (last_key front) (view v)) ≡ Ok w → AreReadSoFar front n (drop n vs) all → AreReadSoFar (front ++ w ∷ []) (n + 1) (drop (n + 1) vs) all
-one_more front w n vs v all within is one before =
+pub one_more : (front seen : List Waiting) (w : Waiting) (n : ℕ) (vs : List Value) (v : Value) (all : Read (List Waiting)) → n < length vs → v ≡ get_or vs n v
+    → seen ≡ front → under (decimal n) (next_waiting_at (last_key seen) (view v)) ≡ Ok w → AreReadSoFar front n (drop n vs) all → AreReadSoFar (front ++ w ∷ []) (n + 1) (drop (n + 1) vs) all
+one_more front seen w n vs v all within is same read before =
+    let one : under (decimal n) (next_waiting_at (last_key front) (view v)) ≡ Ok w = subst (λ (ws : List Waiting). under (decimal n) (next_waiting_at (last_key ws) (view v)) ≡ Ok w) same read in
     let split : drop n vs ≡ v ∷ drop (n + 1) vs = at_place vs n v within is in
     let opened : with_front front (under (decimal n) (next_waiting_at (last_key front) (view v)) >>= (λ x. waits_from (n + 1) (Some x.certificate) (items_view (drop (n + 1) vs)) >>= (λ ws. Ok (x ∷ ws)))) ≡ all = rw split at before.rest in
     record {

@@ -1,7 +1,7 @@
 -- The form of the summary line that is read: the counts, and what Certificates wait for, in order of key, each once.
-use Rattle.std.specs.Prelude.{◌≡◌, ℕ, map, List, [], ◌∷◌, ◌+◌, codes, decimal, Bool, true, if◌then◌else◌, Ok, Err, Some, None}
+use Rattle.std.specs.Prelude.{◌≡◌, ℕ, map, List, [], ◌∷◌, ◌+◌, ◌-◌, length, option_map, codes, decimal, Bool, true, if◌then◌else◌, Ok, Err, Some, None}
 use Rattle.std.specs.declared.option.Option.{Option}
-use Rattle.std.specs.List.{AllByRecursion}
+use Rattle.std.specs.List.{AllByRecursion, slice_get}
 use Rattle.std.specs.List.Sorted.{IsStrictlySortedBy}
 use Rattle.std.specs.Ordering.{is_lt}
 use Rattle.std.specs.Str.{bytes_eq}
@@ -73,9 +73,7 @@ waits_at (object ms) = Err []
 
 -- The key of the last of those that were read.
 abbrev pub last_key : List Waiting → Option Key
-last_key [] = None
-last_key (w ∷ []) = Some w.certificate
-last_key (w ∷ v ∷ ws) = last_key (v ∷ ws)
+last_key ws = option_map (λ w. w.certificate) (slice_get ws (length ws - 1))
 
 -- ---- the summary
 

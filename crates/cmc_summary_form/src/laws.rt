@@ -12,7 +12,6 @@ pub fn summary_is_read(summary: &Summary)
 }
 
 /// A law: a summary that is read is of the form. The call changes nothing.
-#[tactic(auto, using(crate::proofs::SummarySo::has_form))]
 pub fn read_has_form(summary: &Summary)
     ensures { HasFormRead summary.now }
 {

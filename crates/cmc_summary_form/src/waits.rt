@@ -14,7 +14,6 @@ use cmc_meta::{Key, Texts};
 use cmc_summary::{WaitName, Waiting, Waits};
 use serde_json::Value;
 use std::alloc::Global;
-use std::cmp::Ordering;
 
 fn wait_named(text: &str) -> Option<WaitName>
     ensures { result ≡ forms.wait_named text.now }
@@ -82,9 +81,9 @@ fn waiting(alloc: Global, value: &Value) -> Result<Waiting, BadField>
 fn comes_after(waits: &[Waiting], key: &Key) -> bool
     ensures { result ≡ forms.comes_after (forms.last_key waits.now) key.now }
 {
-    match waits {
-        [] => true,
-        [.., last] => matches!(last.certificate.cmp(key), Ordering::Less),
+    match waits.last() {
+        None => true,
+        Some(last) => last.certificate.cmp(key).is_lt(),
     }
 }
 
