@@ -18,10 +18,11 @@ use Rattle.cmc_status_form.specs.WholeForm.{whole_object_at}
 
 -- ---- the form
 
--- Each since a moment that RFC 3339 writes.
+-- It has stood since a moment that RFC 3339 writes.
 abbrev pub HasMoment : Condition → Type 0
 HasMoment c = IsPrintable c.since
 
+-- RFC 3339 writes the moment, where there is one.
 abbrev pub HasMoments : Option ℤ → Type 0
 HasMoments given = IfSome given IsPrintable
 
@@ -41,6 +42,7 @@ pub record IsCertStatus (s : CertStatus) : Type 0 where
   pub renewal : HasMoments s.renewal
   pub revision : IfSome s.revision (λ n. n < 2 ^ 64)
 
+-- Octets that are bytes, and moments that RFC 3339 writes.
 pub record IsRequestStatus (s : RequestStatus) : Type 0 where
   pub ca : IsBytes s.ca
   pub certificate : IsBytes s.certificate
