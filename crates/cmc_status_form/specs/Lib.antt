@@ -1,0 +1,4 @@
+pub mod ConditionForm
+pub mod StatusForm
+pub mod WholeForm
+pub mod Laws
