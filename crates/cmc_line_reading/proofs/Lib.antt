@@ -1,0 +1,2 @@
+pub mod NamesAgain
+pub mod PartsAgain

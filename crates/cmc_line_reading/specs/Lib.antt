@@ -1,0 +1,2 @@
+pub mod LineForm
+pub mod Histories

@@ -1,0 +1,2 @@
+//! The reading of printed histories.
+#![tactic(auto)]
