@@ -59,6 +59,12 @@ pub record HasWholeForm (o : Object) : Type 0 where
   pub bytes : HasBytes o
   pub status : HasStatusForm o
 
+-- The octets of its status are bytes, and its revision has 64 bits.
+abbrev pub HasStatusWidths : Object → Type 0
+HasStatusWidths (Cert c) = IfSome c.status.revision (λ n. n < 2 ^ 64)
+HasStatusWidths (Request r) = IsBytes r.status.ca × IsBytes r.status.certificate
+HasStatusWidths (Secret s) = Unit {0}
+
 -- ---- the laws
 
 -- The object with its status, without what the store owns.

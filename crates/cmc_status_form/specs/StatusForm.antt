@@ -51,22 +51,26 @@ status_of issuance standing = record {
   next_key = issuance.next_key;
 }
 
-unfoldable pub cert_status_at : Data → Read CertStatus
-cert_status_at d = do
-  fs ← some_fields_at d
+unfoldable pub cert_status_in : List Field → Read CertStatus
+cert_status_in fs = do
   issuance ← issuance_in fs
   standing ← standing_in issuance.1
   end ← at_end standing.1
   Ok (status_of issuance.0 standing.0)
 
+unfoldable pub cert_status_at : Data → Read CertStatus
+cert_status_at d = some_fields_at d >>= cert_status_in
+
 -- ---- the status of a CertificateRequest
 
-unfoldable pub request_status_at : Data → Read RequestStatus
-request_status_at d = do
-  fs ← some_fields_at d
+unfoldable pub request_status_in : List Field → Read RequestStatus
+request_status_in fs = do
   ca ← member_or [] some_bytes_at (codes "ca") fs
   certificate ← member_or [] some_bytes_at (codes "certificate") ca.1
   conditions ← member_or [] conditions_at (codes "conditions") certificate.1
   failure ← member_at moment_at (codes "failureTime") conditions.1
   end ← at_end failure.1
   Ok (record { conditions = conditions.0; certificate = certificate.0; ca = ca.0; failure = failure.0 })
+
+unfoldable pub request_status_at : Data → Read RequestStatus
+request_status_at d = some_fields_at d >>= request_status_in

@@ -11,5 +11,6 @@ mod request;
 mod status;
 mod whole;
 
+pub use given::moment;
 pub use laws::{read_has_form, whole_is_read};
 pub use whole::whole_object_of;

@@ -33,7 +33,7 @@ pub struct Standing {
 }
 
 #[tactic(auto, unfolding(crate::specs::StatusForm::issuance_in))]
-fn issuance<'a, 'b>(
+fn read_issuance<'a, 'b>(
     alloc: Global,
     rest: Fields<'a, 'b>,
 ) -> Result<(Issuance, Fields<'a, 'b>), BadField>
@@ -55,7 +55,7 @@ fn issuance<'a, 'b>(
 }
 
 #[tactic(auto, unfolding(crate::specs::StatusForm::standing_in))]
-fn standing<'a, 'b>(
+fn read_standing<'a, 'b>(
     alloc: Global,
     rest: Fields<'a, 'b>,
 ) -> Result<(Standing, Fields<'a, 'b>), BadField>
@@ -76,14 +76,12 @@ fn standing<'a, 'b>(
     ))
 }
 
-/// The status of a Certificate (cert-manager.io/v1 `CertificateStatus`) that is not empty.
-#[tactic(auto, unfolding(crate::specs::StatusForm::cert_status_at))]
-pub fn cert_status(alloc: Global, value: &Value) -> Result<CertStatus, BadField>
-    ensures { Gives (λ t. t) result (forms.cert_status_at (view value.now)) }
+#[tactic(auto, unfolding(crate::specs::StatusForm::cert_status_in))]
+fn read_status(alloc: Global, rest: Fields<'_, '_>) -> Result<CertStatus, BadField>
+    ensures { Gives (λ t. t) result (forms.cert_status_in (map shown rest.now)) }
 {
-    let members = some_fields(alloc, value)?;
-    let (issuance, rest) = issuance(alloc, &members)?;
-    let (standing, rest) = standing(alloc, rest)?;
+    let (issuance, rest) = read_issuance(alloc, rest)?;
+    let (standing, rest) = read_standing(alloc, rest)?;
     check_end(alloc, rest)?;
     let Issuance {
         conditions,
@@ -101,4 +99,13 @@ pub fn cert_status(alloc: Global, value: &Value) -> Result<CertStatus, BadField>
         revision: standing.revision,
         next_key,
     })
+}
+
+/// The status of a Certificate (cert-manager.io/v1 `CertificateStatus`) that is not empty.
+#[tactic(auto, unfolding(crate::specs::StatusForm::cert_status_at))]
+pub fn cert_status(alloc: Global, value: &Value) -> Result<CertStatus, BadField>
+    ensures { Gives (λ t. t) result (forms.cert_status_at (view value.now)) }
+{
+    let members = some_fields(alloc, value)?;
+    read_status(alloc, &members)
 }
