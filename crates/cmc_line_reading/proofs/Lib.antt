@@ -1,2 +1,3 @@
-pub mod NamesAgain
-pub mod PartsAgain
+mod NamesAgain
+mod PartsAgain
+pub mod LinesAgain

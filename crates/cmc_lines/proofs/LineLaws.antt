@@ -20,7 +20,7 @@ use Rattle.cmc_report.specs.Trees.{reply_tree, conflict_tree, put_written, put_v
 use Rattle.cmc_lines.specs.Shown.{shown, shown_object, shown_reply, shown_order, shown_given, shown_version, shown_name}
 use Rattle.cmc_lines.specs.LineTree.{replied_tree, asked_tree, put_call_body, put_call_head, put_given, word_of, put_line, line_tree}
 
-object_same : (o : Object) → object_tree (shown_object o) ≡ object_tree o
+pub object_same : (o : Object) → object_tree (shown_object o) ≡ object_tree o
 unfolding object_tree head_members meta_tree meta_members
 object_same (Cert c) = refl
 object_same (Request r) = refl
