@@ -1,3 +1,4 @@
 mod NamesAgain
 mod PartsAgain
 pub mod LinesAgain
+mod LinesSo

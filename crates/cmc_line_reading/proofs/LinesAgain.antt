@@ -59,7 +59,7 @@ fits_other call (replies.Unavailable n) accepted = refl
 
 -- ---- calls
 
-shown_is : (o : Object) → as_printed o ≡ shown_object o
+pub shown_is : (o : Object) → as_printed o ≡ shown_object o
 shown_is (Cert c) = refl
 shown_is (Request r) = refl
 shown_is (Secret k) = refl

@@ -1,2 +1,3 @@
 pub mod LineForm
 pub mod Histories
+pub mod Lines
