@@ -41,8 +41,10 @@ use Rattle.cmc_lines.specs.declared.line.PrintedOrder.{PrintedOrder}
 use Rattle.cmc_lines.specs.declared.line.PrintedOrder.TheVariants as asked
 use Rattle.cmc_lines.specs.declared.line.PrintedLine.{PrintedLine}
 use Rattle.cmc_lines.specs.declared.line.PrintedLine.TheVariants as lines
-use Rattle.cmc_line_reading.specs.LineForm.{member_as, given_as, optional_as, named_at, first_in, created_in, conflict_at, numbered, refused_in, reply_in, reply_at, answers_create, answers_other, who_at, answered_in, create_in, generate_in, update_in, delete_in, get_in, call_in, call_at, key_order_in, csr_order_in, sign_order_in, judge_order_in, order_in, order_at, or_empty, issued_in, failed_in, answer_in, answer_at, positions_at, cause_at, begin_in, ask_in, made_in, signed_in, told_answer_in, judged_in, end_in, pass_in, script_in, deliver_in, list_in, stop_in, start_in, tick_in, line_in, line_at}
-use Rattle.cmc_line_reading.specs.Histories.{HasNames, IsKeyOf, HasCallForm, HasReplyForm, HasOrderForm, HasForm}
+use Rattle.cmc_line_reading.specs.LineForm.{member_as, given_as, optional_as, named_at, first_in, created_in, conflict_at, numbered, refused_in, reply_in, reply_at, answers_create, answers_other, who_at, said_in, answered_in, create_in, generate_in, update_in, delete_in, get_in, call_in, call_at, key_order_in, csr_order_in, sign_order_in, judge_order_in, order_in, order_at, or_empty, issued_in, failed_in, answer_in, answer_at, positions_at, cause_at, begin_in, ask_in, made_in, signed_in, told_answer_in, judged_in, end_in, pass_in, script_in, deliver_in, list_in, stop_in, start_in, tick_in, line_in, line_at}
+use Rattle.cmc_summary_form.specs.Laws.{HasNames, IsKeyOf}
+use Rattle.cmc_summary_form.proofs.NamesAgain.{key_so as key_text_so}
+use Rattle.cmc_line_reading.specs.Histories.{HasCallForm, HasReplyForm, HasOrderForm, HasForm}
 use Rattle.cmc_line_reading.specs.Lines.{IsFormed, IsFormedRead, HasOctets, OrderHasOctets}
 use Rattle.cmc_line_reading.proofs.LinesAgain.{shown_is}
 
@@ -70,20 +72,14 @@ choose false first second = second
 name_so : (t : List ℕ) → Always (λ n. is_subdomain n ≡ true) (name_in t)
 name_so t = tested (λ n. is_subdomain n ≡ true) (is_subdomain t) t (λ h. h)
 
-text_so : (kind : Kind) (t : List ℕ) → Always (IsKeyOf kind) (key_of_kind kind t)
-unfolding key_of_kind
-text_so kind t =
-    next (IsKeyOf kind) (split_slash t) _ (λ parts. after (λ n. is_subdomain n ≡ true) (IsKeyOf kind) (name_in parts.0) _ (name_so parts.0)
-    (λ namespace first. after (λ n. is_subdomain n ≡ true) (IsKeyOf kind) (name_in parts.1) _ (name_so parts.1) (λ name second. so (refl, (first, second)))))
-
 named_so : (kind : Kind) (d : Data) → Always (IsKeyOf kind) (named_at kind d)
-named_so kind d = next (IsKeyOf kind) (text_at d) (key_of_kind kind) (text_so kind)
+named_so kind d = next (IsKeyOf kind) (text_at d) (key_of_kind kind) (key_text_so kind)
 
 whole_so : (t : List ℕ) → Always HasNames (key_in t)
 unfolding key_in
 whole_so t =
     next HasNames (split_slash t) _ (λ parts. next HasNames (kind_in parts.0) _
-    (λ kind. further (IsKeyOf kind) HasNames (key_of_kind kind parts.1) (λ key is. is.1) (text_so kind parts.1)))
+    (λ kind. further (IsKeyOf kind) HasNames (key_of_kind kind parts.1) (λ key is. is.1) (key_text_so kind parts.1)))
 
 key_so : (d : Data) → Always HasNames (key_at d)
 key_so d = next HasNames (text_at d) key_in whole_so
@@ -166,11 +162,15 @@ other_like call (printed.Unavailable number) is fits accepted = (tt, refl)
 abbrev IsAnswer : (PrintedReply → Bool) → PrintedReply × Who → Type 0
 IsAnswer fits p = IsReplyForm p.0 × (fits p.0 ≡ true)
 
+said_so : (d : Data) → Always (λ p. IsReplyForm p.0) (said_in d)
+unfolding said_in
+said_so d =
+    after IsReplyForm (λ p. IsReplyForm p.0) (member_as reply_at (codes "reply") d) _ (member_so IsReplyForm reply_at (codes "reply") d reply_so)
+    (λ reply is. next (λ p. IsReplyForm p.0) (member_as who_at (codes "who") d) _ (λ who. so is))
+
 answered_so : (fits : PrintedReply → Bool) (d : Data) → Always (IsAnswer fits) (answered_in fits d)
 unfolding answered_in
-answered_so fits d =
-    after IsReplyForm (IsAnswer fits) (member_as reply_at (codes "reply") d) _ (member_so IsReplyForm reply_at (codes "reply") d reply_so)
-    (λ reply is. next (IsAnswer fits) (member_as who_at (codes "who") d) _ (λ who. tested (IsAnswer fits) (fits reply) (reply, who) (λ h. (is, h))))
+answered_so fits d = after (λ p. IsReplyForm p.0) (IsAnswer fits) (said_in d) _ (said_so d) (λ said is. tested (IsAnswer fits) (fits said.0) said (λ h. (is, h)))
 
 -- what is read, if its octets are bytes, is shown by an entry of its form
 abbrev Shows : PrintedLine → Type 0

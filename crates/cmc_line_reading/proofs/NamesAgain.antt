@@ -1,96 +1,22 @@
 -- A key is read again of its text.
-use Rattle.std.proofs.Common.{◌≡◌, ℕ, suc, ◌+◌, ◌<◌, List, [], ◌∷◌, ◌++◌, length, take, drop, Bool, true, false, ◌&&◌, ◌||◌, Ok, Err, refl, ap, sym, ◌∙◌, codes, arith, length-append}
-use Rattle.std.specs.Prelude.{if◌then◌else◌, ◌==◌, not, nat_lt, nat_le, slice_index, ◌-◌}
-use Rattle.std.specs.List.{position_or_len, before_first, after_first, list_all}
-use Rattle.std.proofs.lemmas.Bool.{and_parts, and_from}
-use Rattle.std.proofs.lemmas.Bool.Decides.{nat_tests}
-use Rattle.std.proofs.Math.Seq.{take-append_seam, drop-append-add}
+use Rattle.std.proofs.Common.{◌≡◌, ℕ, List, Bool, true, Ok, refl}
+use Rattle.std.specs.Prelude.{not}
+use Rattle.std.specs.List.{list_all}
 use Rattle.serde_json.specs.Data.{string}
-use Rattle.cmc_meta.specs.Names.{is_alphanumeric, is_label_byte, is_label, labels_from, has_labels, is_subdomain}
 use Rattle.cmc_meta.specs.declared.key.Key.{Key}
 use Rattle.cmc_meta.specs.declared.key.Kind.{Kind}
 use Rattle.cmc_meta.specs.declared.key.Kind.TheVariants.{Certificate, CertificateRequest, Secret}
-use Rattle.cmc_cursor.specs.Reading.{Read}
 use Rattle.cmc_print.specs.Words.{kind_name, name_text, key_text}
-use Rattle.cmc_material.specs.Keys.{is_slash, split_slash, kind_in, key_of_kind, key_in, key_at}
+use Rattle.cmc_material.specs.Keys.{is_slash, kind_in, key_in, key_at}
+use Rattle.cmc_summary_form.specs.Laws.{HasNames, IsKeyOf}
+use Rattle.cmc_summary_form.proofs.NamesAgain.{split_is, key_again as text_again}
 use Rattle.cmc_line_reading.specs.LineForm.{named_at}
-use Rattle.cmc_line_reading.specs.Histories.{HasNames, IsKeyOf}
-
--- ---- no slash stands in a name
-
-abbrev is_other : ℕ → Bool
-is_other c = not (is_slash c)
-
-all_left : (p : ℕ → Bool) (xs ys : List ℕ) → list_all p (xs ++ ys) ≡ true → list_all p xs ≡ true
-all_left p [] ys a = refl
-all_left p (x ∷ xs) ys a = let parts = and_parts (p x) (list_all p (xs ++ ys)) a in and_from (p x) (list_all p xs) parts.0 (all_left p xs ys parts.1)
-
-all_last : (p : ℕ → Bool) (xs : List ℕ) (y : ℕ) → list_all p (xs ++ y ∷ []) ≡ true → p y ≡ true
-all_last p [] y a = (and_parts (p y) true a).0
-all_last p (x ∷ xs) y a = all_last p xs y (and_parts (p x) (list_all p (xs ++ y ∷ [])) a).1
-
-label_bytes : (b : List ℕ) → is_label b ≡ true → list_all is_label_byte b ≡ true
-unfolding is_label
-label_bytes b is =
-    let one = and_parts (nat_lt 0 (length b)) (is_alphanumeric (slice_index b 0) && (is_alphanumeric (slice_index b (length b - 1)) && list_all is_label_byte b)) is in
-    let two = and_parts (is_alphanumeric (slice_index b 0)) (is_alphanumeric (slice_index b (length b - 1)) && list_all is_label_byte b) one.1 in
-    (and_parts (is_alphanumeric (slice_index b (length b - 1))) (list_all is_label_byte b) two.1).1
-
--- where the labels are right, what has begun has only bytes of labels
-begun_at : (e : Bool) (b cs : List ℕ) (c : ℕ) → (list_all is_label (labels_from (b ++ c ∷ []) cs) ≡ true → list_all is_label_byte (b ++ c ∷ []) ≡ true)
-    → list_all is_label (if e then b ∷ labels_from [] cs else labels_from (b ++ c ∷ []) cs) ≡ true → list_all is_label_byte b ≡ true
-begun_at true b cs c later is = label_bytes b (and_parts (is_label b) (list_all is_label (labels_from [] cs)) is).0
-begun_at false b cs c later is = all_left is_label_byte b (c ∷ []) (later is)
-
-begun_from : (b cs : List ℕ) → list_all is_label (labels_from b cs) ≡ true → list_all is_label_byte b ≡ true
-begun_from b [] is = label_bytes b (and_parts (is_label b) true is).0
-begun_from b (c ∷ cs) is = begun_at (c == 46) b cs c (begun_from (b ++ c ∷ []) cs) is
-
-byte_other : (c : ℕ) → is_label_byte c ≡ true → is_other c ≡ true
-byte_other c is = grind (arith, nat_tests)
-
-dot_other : (c : ℕ) → (c == 46) ≡ true → is_other c ≡ true
-dot_other c is = grind (arith, nat_tests)
-
-others_at : (e : Bool) (b cs : List ℕ) (c : ℕ) → (c == 46) ≡ e → ((d : List ℕ) → list_all is_label (labels_from d cs) ≡ true → list_all is_other cs ≡ true)
-    → list_all is_label (if e then b ∷ labels_from [] cs else labels_from (b ++ c ∷ []) cs) ≡ true → list_all is_other (c ∷ cs) ≡ true
-others_at true b cs c at later is = and_from (is_other c) (list_all is_other cs) (dot_other c at) (later [] (and_parts (is_label b) (list_all is_label (labels_from [] cs)) is).1)
-others_at false b cs c at later is = and_from (is_other c) (list_all is_other cs) (byte_other c (all_last is_label_byte b c (begun_from (b ++ c ∷ []) cs is))) (later (b ++ c ∷ []) is)
-
-others_from : (b cs : List ℕ) → list_all is_label (labels_from b cs) ≡ true → list_all is_other cs ≡ true
-others_from b [] is = refl
-others_from b (c ∷ cs) is = others_at (c == 46) b cs c refl (λ d. others_from d cs) is
-
-name_others : (name : List ℕ) → is_subdomain name ≡ true → list_all is_other name ≡ true
-name_others name is = others_from [] name (and_parts (nat_le (length name) 253) (has_labels name) is).1
-
--- ---- the text is split at its slash
-
-slash_at : (front back : List ℕ) → list_all is_other front ≡ true → position_or_len is_slash (front ++ 47 ∷ back) ≡ length front
-slash_at [] back h = refl
-slash_at (c ∷ cs) back h = let parts = and_parts (is_other c) (list_all is_other cs) h in rw (parts.0, slash_at cs back parts.1) (one_more (length cs))
-  where
-    one_more : (n : ℕ) → 1 + n ≡ suc n
-    one_more n = omega arith
-
-not_at_end : (n m k : ℕ) → k ≡ n + suc m → (n == k) ≡ false
-not_at_end n m k e = grind (arith, nat_tests)
-
-pub split_is : (front back : List ℕ) → list_all is_other front ≡ true → split_slash (front ++ (codes "/" ++ back)) ≡ Ok (front, back)
-split_is front back h =
-    rw (slash_at front back h, not_at_end (length front) (length back) (length (front ++ 47 ∷ back)) (length-append front (47 ∷ back)), take-append_seam front (47 ∷ back), drop-append-add front (47 ∷ back) 1) refl
-
--- ---- keys
-
-text_again : (kind : Kind) (key : Key) → IsKeyOf kind key → key_of_kind kind (name_text key) ≡ Ok key
-unfolding key_of_kind
-text_again kind key is = rw (split_is key.namespace key.name (name_others key.namespace is.1.0), is.1.0, is.1.1, sym is.0) refl
 
 -- a key of this kind, written without it
 pub named_again : (kind : Kind) (key : Key) → IsKeyOf kind key → named_at kind (string (name_text key)) ≡ Ok key
 named_again kind key is = text_again kind key is
 
-kind_others : (kind : Kind) → list_all is_other (kind_name kind) ≡ true
+kind_others : (kind : Kind) → list_all (λ c. not (is_slash c)) (kind_name kind) ≡ true
 kind_others Certificate = refl
 kind_others CertificateRequest = refl
 kind_others Secret = refl

@@ -103,19 +103,26 @@ answers_other other = true
 
 -- ---- calls
 
+abbrev pub who_named : List ℕ → Read Who
+who_named word = if bytes_eq word (codes "user") then Ok User else Err []
+
 abbrev pub who_in : Data → Option (List ℕ) → Read Who
 who_in d None = count_at d >>= (λ n. Ok (Pass n))
-who_in d (Some word) = if bytes_eq word (codes "user") then Ok User else Err []
+who_in d (Some word) = who_named word
 
 unfoldable pub who_at : Data → Read Who
 who_at d = who_in d (as_str d)
 
--- The reply, which has to be one to such a call, and by whom the call is.
-unfoldable pub answered_in : (PrintedReply → Bool) → Data → Read (PrintedReply × Who)
-answered_in fits d = do
+-- The reply, and by whom the call is.
+unfoldable pub said_in : Data → Read (PrintedReply × Who)
+said_in d = do
   reply ← member_as reply_at (codes "reply") d
   who ← member_as who_at (codes "who") d
-  if fits reply then Ok (reply, who) else Err []
+  Ok (reply, who)
+
+-- The same, where the reply is one to such a call.
+unfoldable pub answered_in : (PrintedReply → Bool) → Data → Read (PrintedReply × Who)
+answered_in fits d = said_in d >>= (λ said. if fits said.0 then Ok said else Err [])
 
 unfoldable pub create_in : Data → Read PrintedLine
 create_in d = do
@@ -230,10 +237,13 @@ positions_at d = do
   secrets ← member_as count_at (codes "Secret") d
   Ok (record { certificates = certificates; requests = requests; secrets = secrets })
 
+abbrev pub cause_named : List ℕ → Read Cause
+cause_named word = if bytes_eq word (codes "wrote") then Ok causes.Wrote
+    else (if bytes_eq word (codes "nothing") then Ok causes.Nothing else Err [])
+
 abbrev pub cause_in : Data → Option (List ℕ) → Read Cause
 cause_in d None = member_as count_at (codes "entry") d >>= (λ entry. Ok (causes.Stopper entry))
-cause_in d (Some word) = if bytes_eq word (codes "wrote") then Ok causes.Wrote
-    else (if bytes_eq word (codes "nothing") then Ok causes.Nothing else Err [])
+cause_in d (Some word) = cause_named word
 
 unfoldable pub cause_at : Data → Read Cause
 cause_at d = cause_in d (as_str d)

@@ -7,8 +7,10 @@
 mod line;
 mod parts;
 mod printed;
+mod summaries;
 mod trees;
 
 pub use line::{CallName, PrintedLine, PrintedOrder, PrintedReply};
 pub use printed::{Printed, Records};
+pub use summaries::tree_of_summary;
 pub use trees::tree_of_line;
