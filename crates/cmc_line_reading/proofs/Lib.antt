@@ -2,9 +2,9 @@ mod NamesAgain
 mod PartsAgain
 pub mod LinesAgain
 mod LinesSo
-mod Nesting
-mod Lines
+mod Depths
+mod Compared
 mod Bodies
 mod Texts
 mod Summaries
-mod Scenarios
+mod ScenarioLine

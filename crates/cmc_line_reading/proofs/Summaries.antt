@@ -10,7 +10,7 @@ use Rattle.cmc_summary_form.specs.SummaryForm.{summary_at}
 use Rattle.cmc_summary_form.specs.Laws.{IsFormRead}
 use Rattle.cmc_summary_form.proofs.SummaryAgain.{summary_again}
 use Rattle.cmc_line_reading.specs.Histories.{IsJson, IsTextOf, IsLine, IsSummary, IsSummaryOf, counts_of}
-use Rattle.cmc_line_reading.proofs.Lines.{one_value}
+use Rattle.cmc_line_reading.proofs.Compared.{one_value}
 use Rattle.cmc_line_reading.proofs.Bodies.{entry_has_none, summary_has_one}
 
 -- what the line of a summary says is read of its value

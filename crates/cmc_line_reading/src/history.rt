@@ -3,7 +3,7 @@ ghost use Rattle.std.specs.Prelude.{◌≡◌, MatchOption};
 ghost use Rattle.cmc_line_reading.specs.Bodies.{IsBodyReading, IsCut, IsRestReading};
 ghost use Rattle.cmc_line_reading.specs.Histories.{IsOneLine, IsReading};
 
-use crate::said::{Said, said};
+use crate::said::{Said, said_in_place};
 use crate::scenarios::scenario_line;
 use cmc_lines::{Printed, Records};
 use cmc_setup::Scenario;
@@ -45,14 +45,14 @@ fn cut(text: &[u8]) -> Option<(&[u8], &[u8])>
 }
 
 // The entries and the summary, of which the line in place `place` is the first.
-fn body(alloc: Global, text: &[u8]) -> Result<Body, BadHistory>
+fn read_body(alloc: Global, text: &[u8]) -> Result<Body, BadHistory>
     ensures { IsBodyReading text.now result }
 {
     let mut entries = Records::new(alloc);
     let mut left = text;
     while let Some((line, later)) = cut(left) {
         let number = entries.as_slice().len() as u64 + 1;
-        match said(alloc, number, line)? {
+        match said_in_place(alloc, number, line)? {
             Said::Entry(entry) => entries.push(entry)?,
             Said::Summary(counts) if later.is_empty() => return Ok(Body { entries, counts }),
             Said::Summary(_) => return Err(BadHistory::Line(number + 2)),
@@ -67,7 +67,7 @@ fn body(alloc: Global, text: &[u8]) -> Result<Body, BadHistory>
 fn with_scenario(alloc: Global, scenario: Scenario, text: &[u8]) -> Result<Printed, BadHistory>
     ensures { IsRestReading scenario text.now result }
 {
-    let Body { entries, counts } = body(alloc, text)?;
+    let Body { entries, counts } = read_body(alloc, text)?;
     Ok(Printed {
         scenario,
         entries,

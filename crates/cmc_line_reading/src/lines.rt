@@ -22,7 +22,7 @@ use std::alloc::{AllocError, Global};
 // ---- JSON
 
 /// The value of a JSON text (RFC 8259). `None` exactly where the text is none.
-#[tactic(auto, using(crate::proofs::Lines::never_read))]
+#[tactic(auto, using(crate::proofs::Compared::never_read))]
 pub fn value_of(alloc: Global, text: &[u8]) -> Result<Option<Value>, AllocError>
     ensures { IfOk result (λ o. MatchOption o ((d : Data) → IsJson text.now d → ⊥) (λ v. IsJson text.now (view v))) }
 {
@@ -34,7 +34,7 @@ pub fn value_of(alloc: Global, text: &[u8]) -> Result<Option<Value>, AllocError>
 }
 
 /// Whether the text is the compact text of the tree, and is read as it.
-#[tactic(auto, using(crate::proofs::Lines::printed_is, crate::proofs::Lines::printed_is_not, crate::proofs::Lines::too_deep))]
+#[tactic(auto, using(crate::proofs::Compared::printed_is, crate::proofs::Compared::printed_is_not, crate::proofs::Compared::too_deep))]
 pub fn is_text_of(alloc: Global, tree: Tree, text: &[u8]) -> Result<bool, AllocError>
     requires { IsUtf8 text.now }
     ensures { IfOk result (λ b. IsTrue b ↔ IsTextOf (data_of tree) text.now) }
@@ -104,7 +104,7 @@ pub fn line_is_formed(line: &PrintedLine)
 
 // ---- lines of entries
 
-#[tactic(auto, using(crate::proofs::Lines::printed_line, crate::proofs::Lines::not_printed))]
+#[tactic(auto, using(crate::proofs::Compared::printed_line, crate::proofs::Compared::not_printed))]
 fn compared(
     alloc: Global,
     number: u64,
@@ -126,7 +126,7 @@ fn compared(
 
 /// What the line of the entry of this number says, whose value is at hand. `None` exactly where the text
 /// is not the line of such an entry that is of its form.
-#[tactic(auto, using(crate::proofs::Lines::not_read))]
+#[tactic(auto, using(crate::proofs::Compared::not_read))]
 pub fn entry_line(
     alloc: Global,
     number: u64,

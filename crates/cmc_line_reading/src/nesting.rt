@@ -45,7 +45,7 @@ fn members_nest(members: &Map<String, Value>, most: usize) -> bool
 }
 
 /// Whether a text of the value can be read: lists and objects nest at most 127 deep.
-#[tactic(auto, using(crate::proofs::Nesting::depth_of_within, crate::proofs::Nesting::within_of_depth))]
+#[tactic(auto, using(crate::proofs::Depths::depth_of_within, crate::proofs::Depths::within_of_depth))]
 pub fn is_shallow(value: &Value) -> bool
     ensures { IsTrue result ↔ (depth (view value.now) ≤ max_depth) }
 {

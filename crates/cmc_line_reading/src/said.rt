@@ -82,8 +82,8 @@ fn said_by(alloc: Global, number: u64, text: &[u8], value: &Value) -> Result<Sai
 }
 
 /// What the line says where the entry of this number, or the summary, has to come.
-#[tactic(auto, using(crate::proofs::Summaries::no_json))]
-pub fn said(alloc: Global, number: u64, text: &[u8]) -> Result<Said, AllocError>
+#[tactic(auto, using(crate::proofs::Summaries::no_json_entry, crate::proofs::Summaries::no_json_summary))]
+pub fn said_in_place(alloc: Global, number: u64, text: &[u8]) -> Result<Said, AllocError>
     ensures { IfOk result (IsSaid number text.now) }
 {
     match value_of(alloc, text)? {

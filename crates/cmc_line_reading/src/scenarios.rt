@@ -25,7 +25,7 @@ fn before_bracket(text: &[u8]) -> Option<&[u8]>
 }
 
 // What stands in the line between the member's name and the last bracket.
-#[tactic(auto, using(crate::proofs::Scenarios::no_name, crate::proofs::Scenarios::no_bracket, crate::proofs::Scenarios::between))]
+#[tactic(auto, using(crate::proofs::ScenarioLine::no_name, crate::proofs::ScenarioLine::no_bracket, crate::proofs::ScenarioLine::between))]
 fn inside(line: &[u8]) -> Option<&[u8]>
     ensures { MatchOption result (IsInside line.now → ⊥) (λ text. IsInsideOf line.now text.now) }
 {
@@ -42,7 +42,7 @@ fn is_compact(alloc: Global, value: &Value, text: &[u8]) -> Result<bool, AllocEr
     Ok(printed.as_bytes() == text)
 }
 
-#[tactic(auto, using(crate::proofs::Scenarios::not_compact, crate::proofs::Scenarios::compact))]
+#[tactic(auto, using(crate::proofs::ScenarioLine::not_compact, crate::proofs::ScenarioLine::compact))]
 fn compared(
     alloc: Global,
     line: &[u8],
@@ -62,7 +62,7 @@ fn compared(
     Ok(None)
 }
 
-#[tactic(auto, using(crate::proofs::Scenarios::not_read))]
+#[tactic(auto, using(crate::proofs::ScenarioLine::not_read))]
 fn scenario_of(
     alloc: Global,
     line: &[u8],
@@ -81,7 +81,7 @@ fn scenario_of(
 }
 
 /// The scenario whose line this is. `None` exactly where it is the line of no scenario.
-#[tactic(auto, using(crate::proofs::Scenarios::not_inside, crate::proofs::Scenarios::no_json))]
+#[tactic(auto, using(crate::proofs::ScenarioLine::not_inside, crate::proofs::ScenarioLine::no_json))]
 pub fn scenario_line(alloc: Global, line: &[u8]) -> Result<Option<Scenario>, AllocError>
     ensures { IfOk result (λ o. MatchOption o (IsScenario line.now → ⊥) (IsScenarioOf line.now)) }
 {

@@ -7,7 +7,7 @@ use Rattle.cmc_setup.specs.declared.scenario.Scenario.{Scenario}
 use Rattle.cmc_scenario.specs.Scenarios.{scenario_at}
 use Rattle.cmc_line_reading.specs.Histories.{IsJson, IsTextOf, IsScenario, IsScenarioOf}
 use Rattle.cmc_line_reading.specs.Scenarios.{IsInside, IsInsideOf}
-use Rattle.cmc_line_reading.proofs.Lines.{one_value}
+use Rattle.cmc_line_reading.proofs.Compared.{one_value}
 
 pub no_name : (line : List ℕ) → ((rest : List ℕ) → line ≢ codes "{\"scenario\":" ++ rest) → IsInside line → ⊥
 no_name line none is = none (is.0 ++ codes "}") is.1

@@ -1,6 +1,6 @@
 use Rattle.std.proofs.Common.{length}
 use Rattle.cmc_line_reading.specs.Bodies.{IsReadSoFar}
-use Rattle.cmc_line_reading.proofs.history.body.Given as goal
+use Rattle.cmc_line_reading.proofs.history.read_body.Given as goal
 
 abbrev pub invariant-loop-line : goal.invariant-loop-line
 invariant-loop-line l = IsReadSoFar l.text l.left l.entries
