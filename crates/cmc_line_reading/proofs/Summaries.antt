@@ -7,7 +7,7 @@ use Rattle.cmc_cursor.specs.Reading.{Path, Read}
 use Rattle.cmc_report.specs.Trees.{entry_tree, summary_tree}
 use Rattle.cmc_summary.specs.declared.summary.Summary.{Summary}
 use Rattle.cmc_summary_form.specs.SummaryForm.{summary_at}
-use Rattle.cmc_summary_form.specs.Laws.{IsFormRead}
+use Rattle.cmc_summary_form.proofs.SummarySo.{has_form}
 use Rattle.cmc_summary_form.proofs.SummaryAgain.{summary_again}
 use Rattle.cmc_line_reading.specs.Histories.{IsJson, IsTextOf, IsLine, IsSummary, IsSummaryOf, counts_of}
 use Rattle.cmc_line_reading.proofs.Compared.{one_value}
@@ -31,9 +31,9 @@ not_printed text d summary value reads differs is =
     ok_same : as_read is.1.summary ≡ as_read summary → is.1.summary ≡ summary
     ok_same e = cc
 
-pub printed_summary : (text : List ℕ) (d : Data) (summary : Summary) → summary_at d ≡ Ok summary → IsFormRead summary → IsTextOf (summary_tree summary) text
+pub printed_summary : (text : List ℕ) (d : Data) (summary : Summary) → summary_at d ≡ Ok summary → IsTextOf (summary_tree summary) text
     → IsSummaryOf text (summary.certificates ∷ summary.ready ∷ summary.secrets ∷ [])
-printed_summary text d summary reads form is = record { summary = summary; form = form d reads; counted = refl; is = is }
+printed_summary text d summary reads is = record { summary = summary; form = has_form d summary reads; counted = refl; is = is }
 
 -- ---- a line is at most one of both
 

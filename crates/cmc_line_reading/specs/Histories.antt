@@ -26,7 +26,7 @@ use Rattle.cmc_objects.specs.Objects.{key_of}
 use Rattle.cmc_objects.specs.Watching.{kind_of_work}
 use Rattle.cmc_status_form.specs.Laws.{HasWholeForm}
 use Rattle.cmc_summary.specs.declared.summary.Summary.{Summary}
-use Rattle.cmc_summary_form.specs.Laws.{HasNames, IsKeyOf, IsSummary as HasSummaryForm}
+use Rattle.cmc_summary_form.specs.SummaryForm.{HasNames, IsKeyOf, HasSummaryForm}
 use Rattle.cmc_setup.specs.declared.scenario.Scenario.{Scenario}
 use Rattle.cmc_scenario.specs.Scenarios.{scenario_at}
 use Rattle.cmc_report.specs.Trees.{entry_tree, summary_tree}

@@ -16,7 +16,7 @@ use Rattle.cmc_meta.specs.declared.conditions.Tri.{Tri}
 use Rattle.cmc_meta.specs.declared.conditions.Tri.TheVariants.{True, False, Unknown}
 use Rattle.cmc_meta.specs.declared.conditions.Condition.{Condition}
 use Rattle.cmc_time.specs.Moment.{IsPrintable}
-use Rattle.cmc_cursor.specs.Reading.{◌>>=◌, under, fields_at, at_end}
+use Rattle.cmc_cursor.specs.Reading.{◌>>=◌, under, Field, fields_at, at_end}
 use Rattle.cmc_cursor.specs.Readers.{text_at, floats_at, floats_from}
 use Rattle.cmc_cursor.proofs.Always.{Always, so, failed, next, after, below, where_true}
 use Rattle.cmc_print.specs.Printed.{moment_tree, condition_tree, conditions_tree}
@@ -24,7 +24,7 @@ use Rattle.cmc_print.specs.Words.{condition_name, tri_name}
 use Rattle.cmc_codec.specs.Given.{needed_at}
 use Rattle.cmc_codec.proofs.Slots.{slots, bind, needed_is}
 use Rattle.cmc_codec.proofs.ValuesAgain.{needed_so}
-use Rattle.cmc_status_form.specs.ConditionForm.{filled, moment_at, tri_at, condition_kind_at, condition_at, from_rank, conditions_from, conditions_at}
+use Rattle.cmc_status_form.specs.ConditionForm.{filled, moment_at, tri_at, condition_kind_at, condition_in, condition_at, from_rank, conditions_from, conditions_at}
 use Rattle.cmc_status_form.specs.Laws.{HasMoment, AreConditions}
 use Rattle.cmc_status_form.proofs.Places.{passed}
 use Rattle.cmc_status_form.proofs.Moments.{moment_again, moment_so}
@@ -32,11 +32,13 @@ use Rattle.cmc_status_form.proofs.Moments.{moment_again, moment_so}
 -- ---- one condition
 
 tri_again : (t : Tri) → tri_at (string (tri_name t)) ≡ Ok t
+unfolding tri_at
 tri_again True = refl
 tri_again False = refl
 tri_again Unknown = refl
 
 kind_again : (k : ConditionKind) → condition_kind_at (string (condition_name k)) ≡ Ok k
+unfolding condition_kind_at
 kind_again Ready = refl
 kind_again Issuing = refl
 kind_again Approved = refl
@@ -57,7 +59,7 @@ unfolding condition_tree
 condition_printed c = refl
 
 condition_again : (c : Condition) → HasMoment c → condition_at (condition_tree c) ≡ Ok c
-unfolding condition_at
+unfolding condition_at condition_in
 condition_again c is =
     let ps = condition_places c in
     rw (condition_printed c)
@@ -67,13 +69,17 @@ condition_again c is =
     (bind _ _ _ _ (needed_is tri_at (codes "status") (string (tri_name c.status)) (drop 4 ps) c.status refl (tri_again c.status))
     (bind _ _ _ _ (needed_is condition_kind_at (codes "type") (string (condition_name c.kind)) [] c.kind refl (kind_again c.kind)) refl)))))
 
-condition_so : (d : Data) → Always HasMoment (condition_at d)
-unfolding condition_at
-condition_so d =
-    next HasMoment (fields_at d) _ (λ fs. after _ HasMoment (needed_at moment_at (codes "lastTransitionTime") fs) _ (needed_so IsPrintable moment_at (codes "lastTransitionTime") fs moment_so)
+condition_in_so : (fs : List Field) → Always HasMoment (condition_in fs)
+unfolding condition_in
+condition_in_so fs =
+    after _ HasMoment (needed_at moment_at (codes "lastTransitionTime") fs) _ (needed_so IsPrintable moment_at (codes "lastTransitionTime") fs moment_so)
     (λ since is. next HasMoment (needed_at text_at (codes "message") since.1) _ (λ message. next HasMoment (needed_at text_at (codes "reason") message.1) _
     (λ reason. next HasMoment (needed_at tri_at (codes "status") reason.1) _ (λ status. next HasMoment (needed_at condition_kind_at (codes "type") status.1) _
-    (λ kind. next HasMoment (at_end kind.1) _ (λ end. so is)))))))
+    (λ kind. next HasMoment (at_end kind.1) _ (λ end. so is))))))
+
+condition_so : (d : Data) → Always HasMoment (condition_at d)
+unfolding condition_at
+condition_so d = next HasMoment (fields_at d) condition_in condition_in_so
 
 pub condition_clear : (c : Condition) → floats_at (condition_tree c) ≡ Ok tt
 unfolding condition_tree

@@ -156,20 +156,19 @@ pub cert_status_again : (s : CertStatus) → IsCertStatus s → given_or no_cert
 cert_status_again s is = given_status (status_members s) s (status_printed s) is
 
 status_clear : (s : CertStatus) → AreClear (places_of s)
-status_clear s =
+status_clear s = (
+  clear_list conditions_tree s.conditions conditions_clear,
+  (
+    clear_option natural s.attempts (λ n. refl),
     (
-      clear_list conditions_tree s.conditions conditions_clear,
+      clear_option moment_tree s.last_failure (λ at. refl),
       (
-        clear_option natural s.attempts (λ n. refl),
-        (
-          clear_option moment_tree s.last_failure (λ at. refl),
-          (
-            clear_option string s.next_key (λ t. refl),
-            (clear_option moment_tree s.not_after (λ at. refl), (clear_option moment_tree s.not_before (λ at. refl), (clear_option moment_tree s.renewal (λ at. refl), (clear_option natural s.revision (λ n. refl), tt)))),
-          ),
-        ),
+        clear_option string s.next_key (λ t. refl),
+        (clear_option moment_tree s.not_after (λ at. refl), (clear_option moment_tree s.not_before (λ at. refl), (clear_option moment_tree s.renewal (λ at. refl), (clear_option natural s.revision (λ n. refl), tt)))),
       ),
-    )
+    ),
+  ),
+)
 
 pub cert_status_clear : (s : CertStatus) → floats_in (status_members s) ≡ Ok tt
 cert_status_clear s = ap (λ (ms : Members). floats_in ms) (status_printed s) ∙ clear_slots (places_of s) (status_clear s)

@@ -10,7 +10,7 @@ use Rattle.cmc_meta.specs.declared.conditions.ConditionKind.TheVariants.{Ready, 
 use Rattle.cmc_meta.specs.declared.conditions.Tri.{Tri}
 use Rattle.cmc_meta.specs.declared.conditions.Tri.TheVariants.{True, False, Unknown}
 use Rattle.cmc_meta.specs.declared.conditions.Condition.{Condition}
-use Rattle.cmc_cursor.specs.Reading.{Read, ◌>>=◌, under, fields_at, at_end}
+use Rattle.cmc_cursor.specs.Reading.{Read, ◌>>=◌, under, Field, fields_at, at_end}
 use Rattle.cmc_cursor.specs.Readers.{found, text_at}
 use Rattle.cmc_codec.specs.Given.{needed_at}
 
@@ -30,7 +30,7 @@ tri_named t = if bytes_eq t (codes "True") then Some True
     else (if bytes_eq t (codes "False") then Some False
     else (if bytes_eq t (codes "Unknown") then Some Unknown else None))
 
-abbrev pub tri_at : Data → Read Tri
+unfoldable pub tri_at : Data → Read Tri
 tri_at d = text_at d >>= (λ t. found (tri_named t))
 
 abbrev pub condition_named : List ℕ → Option ConditionKind
@@ -40,15 +40,14 @@ condition_named t = if bytes_eq t (codes "Ready") then Some Ready
     else (if bytes_eq t (codes "Denied") then Some Denied
     else (if bytes_eq t (codes "InvalidRequest") then Some InvalidRequest else None))))
 
-abbrev pub condition_kind_at : Data → Read ConditionKind
+unfoldable pub condition_kind_at : Data → Read ConditionKind
 condition_kind_at d = text_at d >>= (λ t. found (condition_named t))
 
 -- ---- conditions
 
--- A condition, all of whose members have to stand.
-unfoldable pub condition_at : Data → Read Condition
-condition_at d = do
-  fs ← fields_at d
+-- The condition of an object's members, all of which have to stand.
+unfoldable pub condition_in : List Field → Read Condition
+condition_in fs = do
   since ← needed_at moment_at (codes "lastTransitionTime") fs
   message ← needed_at text_at (codes "message") since.1
   reason ← needed_at text_at (codes "reason") message.1
@@ -57,18 +56,28 @@ condition_at d = do
   end ← at_end kind.1
   Ok (record { kind = kind.0; status = status.0; reason = reason.0; message = message.0; since = since.0 })
 
+unfoldable pub condition_at : Data → Read Condition
+condition_at d = fields_at d >>= condition_in
+
 -- The condition, where its kind has at least this place in the order of kinds.
 abbrev pub from_rank : ℕ → Condition → Read Condition
 from_rank least c = if nat_le least (condition_rank c.kind) then Ok c else Err []
+
+abbrev pub ranked_at : ℕ → Data → Read Condition
+ranked_at least d = condition_at d >>= from_rank least
 
 -- The conditions of a list whose first item stands at place n: in the order of their kinds from this place on, each kind at
 -- most once.
 abbrev pub conditions_from : ℕ → ℕ → Items → Read (List Condition)
 conditions_from n least no_items = Ok []
-conditions_from n least (item d ds) = under (decimal n) (condition_at d >>= from_rank least) >>= (λ c. conditions_from (n + 1) (condition_rank c.kind + 1) ds >>= (λ cs. Ok (c ∷ cs)))
+conditions_from n least (item d ds) = under (decimal n) (ranked_at least d) >>= (λ c. conditions_from (n + 1) (condition_rank c.kind + 1) ds >>= (λ cs. Ok (c ∷ cs)))
+
+-- The same of a list that may not be empty.
+abbrev pub some_conditions_in : Items → Read (List Condition)
+some_conditions_in ds = conditions_from 0 0 ds >>= filled
 
 abbrev pub conditions_at : Data → Read (List Condition)
-conditions_at (array ds) = conditions_from 0 0 ds >>= filled
+conditions_at (array ds) = some_conditions_in ds
 conditions_at null = Err []
 conditions_at (boolean b) = Err []
 conditions_at (number n) = Err []

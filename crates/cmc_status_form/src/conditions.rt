@@ -2,7 +2,7 @@
 ghost use Rattle.std.specs.Prelude.{◌≡◌, ◌<◌, codes, decimal, map};
 ghost use Rattle.serde_json.specs.View.{view, items_view};
 ghost use Rattle.cmc_meta.specs.ConditionLists as orders;
-ghost use Rattle.cmc_cursor.specs.Reading.{Gives, under, ◌>>=◌};
+ghost use Rattle.cmc_cursor.specs.Reading.{Gives, under};
 ghost use Rattle.cmc_cursor.specs.Readers.{text_at};
 ghost use Rattle.cmc_cursor.specs.Seen.{shown};
 ghost use Rattle.cmc_codec.specs.Given.{needed_at};
@@ -25,6 +25,7 @@ fn tri_named(text: &str) -> Option<Tri>
     }
 }
 
+#[tactic(auto, unfolding(crate::specs::ConditionForm::tri_at))]
 fn tri(alloc: Global, value: &Value) -> Result<Tri, BadField>
     ensures { Gives (λ t. t) result (forms.tri_at (view value.now)) }
 {
@@ -47,6 +48,7 @@ fn condition_named(text: &str) -> Option<ConditionKind>
     }
 }
 
+#[tactic(auto, unfolding(crate::specs::ConditionForm::condition_kind_at))]
 fn condition_kind(alloc: Global, value: &Value) -> Result<ConditionKind, BadField>
     ensures { Gives (λ t. t) result (forms.condition_kind_at (view value.now)) }
 {
@@ -56,15 +58,10 @@ fn condition_kind(alloc: Global, value: &Value) -> Result<ConditionKind, BadFiel
     }
 }
 
-fn needed_moment<'a, 'b>(
-    alloc: Global,
-    rest: Fields<'a, 'b>,
-    name: &str,
-) -> Result<(i64, Fields<'a, 'b>), BadField>
-    ensures { Gives (λ p. (p.0, map shown p.1.now)) result (needed_at forms.moment_at name.now (map shown rest.now)) }
+fn since(alloc: Global, value: &Value) -> Result<i64, BadField>
+    ensures { Gives (λ t. t) result (under (codes "lastTransitionTime") (forms.moment_at (view value.now))) }
 {
-    let (value, rest) = required(alloc, rest, name)?;
-    Ok((at(alloc, name, moment(alloc, value))?, rest))
+    at(alloc, "lastTransitionTime", moment(alloc, value))
 }
 
 fn needed_text<'a, 'b>(
@@ -98,12 +95,12 @@ fn needed_kind<'a, 'b>(
     Ok((at(alloc, "type", condition_kind(alloc, value))?, rest))
 }
 
-#[tactic(auto, unfolding(crate::specs::ConditionForm::condition_at))]
-fn condition(alloc: Global, value: &Value) -> Result<Condition, BadField>
-    ensures { Gives (λ t. t) result (forms.condition_at (view value.now)) }
+#[tactic(auto, unfolding(crate::specs::ConditionForm::condition_in))]
+fn read_condition(alloc: Global, rest: Fields<'_, '_>) -> Result<Condition, BadField>
+    ensures { Gives (λ t. t) result (forms.condition_in (map shown rest.now)) }
 {
-    let members = fields(alloc, value)?;
-    let (since, rest) = needed_moment(alloc, &members, "lastTransitionTime")?;
+    let (given, rest) = required(alloc, rest, "lastTransitionTime")?;
+    let since = since(alloc, given)?;
     let (message, rest) = needed_text(alloc, rest, "message")?;
     let (reason, rest) = needed_text(alloc, rest, "reason")?;
     let (status, rest) = needed_tri(alloc, rest)?;
@@ -116,6 +113,14 @@ fn condition(alloc: Global, value: &Value) -> Result<Condition, BadField>
         message,
         since,
     })
+}
+
+#[tactic(auto, unfolding(crate::specs::ConditionForm::condition_at))]
+fn condition(alloc: Global, value: &Value) -> Result<Condition, BadField>
+    ensures { Gives (λ t. t) result (forms.condition_at (view value.now)) }
+{
+    let members = fields(alloc, value)?;
+    read_condition(alloc, &members)
 }
 
 /// The place of a kind in the order of kinds.
@@ -133,7 +138,7 @@ fn rank(kind: ConditionKind) -> u8
 }
 
 fn condition_from(alloc: Global, least: u8, value: &Value) -> Result<Condition, BadField>
-    ensures { Gives (λ t. t) result (forms.condition_at (view value.now) >>= forms.from_rank least) }
+    ensures { Gives (λ t. t) result (forms.ranked_at least (view value.now)) }
 {
     let condition = condition(alloc, value)?;
     if least <= rank(condition.kind) {
@@ -148,7 +153,7 @@ fn numbered_condition(
     least: u8,
     value: &Value,
 ) -> Result<Condition, BadField>
-    ensures { Gives (λ t. t) result (under (decimal place) (forms.condition_at (view value.now) >>= forms.from_rank least)) }
+    ensures { Gives (λ t. t) result (under (decimal place) (forms.ranked_at least (view value.now))) }
 {
     at_place(alloc, place, condition_from(alloc, least, value))
 }
@@ -171,7 +176,7 @@ fn conditions_of(alloc: Global, items: &[Value]) -> Result<Conditions, BadField>
 }
 
 fn some_conditions(alloc: Global, items: &[Value]) -> Result<Conditions, BadField>
-    ensures { Gives (λ t. t) result (forms.conditions_from 0 0 (items_view items.now) >>= forms.filled) }
+    ensures { Gives (λ t. t) result (forms.some_conditions_in (items_view items.now)) }
 {
     let conditions = conditions_of(alloc, items)?;
     if conditions.as_slice().is_empty() {

@@ -65,7 +65,6 @@ pub fn whole_is_read(object: &Object)
 
 /// A law: an object that is read with its status is of the form, and has nothing that the store owns. The call changes
 /// nothing.
-#[tactic(auto, using(crate::proofs::WholeForms::has_form))]
 pub fn read_has_form(object: &Object)
     ensures { HasFormRead object.now }
 {

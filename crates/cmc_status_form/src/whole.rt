@@ -79,11 +79,7 @@ fn request(
     )?)
 }
 
-fn secret(
-    alloc: Global,
-    secret: &Shared<Secret>,
-    given: Option<&Value>,
-) -> Result<Object, BadField>
+fn secret(alloc: Global, secret: &Shared<Secret>, given: Option<&Value>) -> Result<Object, BadField>
     ensures { Gives (λ t. t) result (forms.secret_with secret.now (shown_option given.entry)) }
 {
     match given {

@@ -1,0 +1,4 @@
+pub mod NamesAgain
+pub mod SummaryAgain
+pub mod SummarySo
+mod OneMore

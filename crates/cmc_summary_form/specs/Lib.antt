@@ -1,0 +1,2 @@
+pub mod SummaryForm
+pub mod Laws
