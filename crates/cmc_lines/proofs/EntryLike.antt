@@ -1,11 +1,11 @@
 -- Entries that show as lines do; what no line shows is the same in each.
-use Rattle.std.proofs.Common.{◌≡◌, ℕ, pos, List, [], false, Bool, None, refl, ap, sym}
+use Rattle.std.proofs.Common.{◌≡◌, ℕ, pos, List, [], false, None, ap, sym}
 use Rattle.cmc_meta.specs.declared.key.Key.{Key}
 use Rattle.cmc_meta.specs.declared.key.Kind.{Kind}
 use Rattle.cmc_meta.specs.declared.key.Kind.TheVariants as kinds
 use Rattle.cmc_meta.specs.declared.object_meta.ObjectMeta.{ObjectMeta}
 use Rattle.cmc_objects.specs.declared.object.Object.{Object}
-use Rattle.cmc_objects.specs.declared.object.Object.TheVariants.{Cert, Request, Secret}
+use Rattle.cmc_objects.specs.declared.object.Object.TheVariants.{Request, Secret}
 use Rattle.cmc_objects.specs.declared.request.CertificateRequest.{CertificateRequest}
 use Rattle.cmc_objects.specs.declared.key_spec.Algorithm.TheVariants.{Rsa}
 use Rattle.cmc_objects.specs.declared.key_spec.Encoding.TheVariants.{Pkcs1}
