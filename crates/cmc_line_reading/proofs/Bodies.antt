@@ -1,9 +1,10 @@
 -- One line after another is read.
 use Rattle.std.proofs.Common.{◌≡◌, ◌⊎◌, inl, inr, ℕ, suc, ◌+◌, ◌==◌, List, [], ◌∷◌, ◌++◌, length, Bool, true, false, Some, None, Option, refl, ap, sym, subst, ◌∙◌, codes, arith, append_assoc, append-nil, length-append}
-use Rattle.std.specs.List.{All, AllByRecursion}
+use Rattle.std.specs.List.{AllByRecursion}
 use Rattle.std.proofs.lemmas.Grind.{flat_map-append}
 use Rattle.std.proofs.lemmas.List.Elements.{All-nil, All-cons}
 use Rattle.std.proofs.lemmas.Bool.{eqb-true}
+use Rattle.std.proofs.lemmas.Bool.Decides.{nat_tests}
 use Rattle.serde_json.specs.Data.{Data}
 use Rattle.serde_json.specs.Find.{get}
 use Rattle.serde_json.specs.Read.{read}
@@ -16,7 +17,7 @@ use Rattle.cmc_objects.specs.declared.entry.Entry.TheVariants as entries
 use Rattle.cmc_summary.specs.declared.summary.Summary.{Summary}
 use Rattle.cmc_report.specs.Trees.{entry_tree, summary_tree, counts_tree, put_call, put_told, put_begin}
 use Rattle.cmc_lines.specs.declared.line.PrintedLine.{PrintedLine}
-use Rattle.cmc_line_reading.specs.Histories.{IsLine, IsLineOf, IsSummary, IsSummaryOf, IsScenario, IsOneLine, IsText, IsRest, GoesOn, CanBegin, AreLines, FailsBy, FailsAt, GoesWrong, EndsEarly, ended}
+use Rattle.cmc_line_reading.specs.Histories.{IsLine, IsLineOf, IsSummary, IsSummaryOf, IsOneLine, IsRest, GoesOn, GoesWrong, EndsEarly, ended}
 use Rattle.cmc_line_reading.specs.Bodies.{IsCut, AreEntries, IsReadSoFar, IsBodyOf, AreRest, BodyFails}
 
 -- ---- no line is both that of an entry and a summary
@@ -208,7 +209,7 @@ ends_early text left es n number numbered placed is_one so_far = record {
   };
 }
 
-pub all_read : (text left line : List ℕ) (es : List PrintedLine) (counts : List ℕ) → IsCut left line [] → IsSummaryOf line counts → IsReadSoFar text left es → IsBodyOf text es counts
+all_read : (text left line : List ℕ) (es : List PrintedLine) (counts : List ℕ) → IsCut left line [] → IsSummaryOf line counts → IsReadSoFar text left es → IsBodyOf text es counts
 all_read text left line es counts cut is so_far = record {
   lines = so_far.lines ++ line ∷ [];
   is = record {
@@ -261,3 +262,18 @@ goes_past text left line later es counts n number numbered placed some cut is so
       wrong = λ stand. nothing_behind 1 so_far.lines es line first.line so_far.are (counts, is) (subst (GoesOn 1) (append_assoc so_far.lines (line ∷ []) (first.line ∷ [])) stand);
     })
     by_first (inr one) = inr (record { rest = later; parts = taken text left line later so_far.lines so_far.parts cut.whole; is_one = one; missing = λ none whole. some none })
+
+-- nothing comes behind, or something does
+pub none_behind : (later : List ℕ) → true ≡ (length later == 0) → later ≡ []
+none_behind [] h = refl
+none_behind (x ∷ xs) h = absurd (more (length xs) (sym h))
+  where
+    more : (k : ℕ) → (suc k == 0) ≡ true → ⊥
+    more k e = grind (arith, nat_tests)
+
+pub some_behind : (later : List ℕ) → false ≡ (length later == 0) → later ≡ [] → ⊥
+some_behind [] h none = cc
+some_behind (x ∷ xs) h none = cc
+
+pub closed_there : (text left line later : List ℕ) (es : List PrintedLine) (counts : List ℕ) → later ≡ [] → IsCut left line later → IsSummaryOf line counts → IsReadSoFar text left es → IsBodyOf text es counts
+closed_there text left line later es counts none cut is so_far = all_read text left line es counts (subst (λ (t : List ℕ). IsCut left line t) none cut) is so_far

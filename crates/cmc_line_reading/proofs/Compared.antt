@@ -1,20 +1,20 @@
 -- What was read of a line is what it says, and else it is no line.
-use Rattle.std.proofs.Common.{◌≡◌, ◌≤◌, ℕ, List, Bool, true, false, Ok, Err, Some, None, Option, refl, ap, sym, subst, ◌∙◌}
-use Rattle.std.specs.Prelude.{MatchOption}
+use Rattle.std.proofs.Common.{◌≡◌, ◌≤◌, ℕ, List, Ok, Err, Some, None, ap, sym, subst, ◌∙◌}
 use Rattle.std.specs.Str.{IsUtf8}
 use Rattle.serde_json.specs.Data.{Data, depth}
 use Rattle.serde_json.specs.Read.{read, max_depth}
 use Rattle.serde_json.specs.Written.{compact_text}
 use Rattle.serde_json.proofs.Nesting.{depth-read}
-use Rattle.cmc_cursor.specs.Reading.{Path, Read}
-use Rattle.cmc_objects.specs.declared.entry.Entry.{Entry}
+use Rattle.cmc_cursor.specs.Reading.{Path, Read, Gives}
+use Rattle.cmc_cursor.specs.declared.error.BadField.{BadField}
+use Rattle.cmc_cursor.specs.declared.error.BadField.TheVariants as bad
 use Rattle.cmc_report.specs.Trees.{entry_tree}
 use Rattle.cmc_lines.specs.Shown.{shown}
 use Rattle.cmc_lines.specs.LineTree.{line_tree}
 use Rattle.cmc_lines.specs.declared.line.PrintedLine.{PrintedLine}
 use Rattle.cmc_lines.proofs.LineLaws.{shows_all}
 use Rattle.cmc_line_reading.specs.LineForm.{line_at}
-use Rattle.cmc_line_reading.specs.Lines.{IsFormed, IsFormedRead}
+use Rattle.cmc_line_reading.specs.Lines.{IsFormedRead}
 use Rattle.cmc_line_reading.specs.Histories.{IsJson, IsTextOf, IsLine, IsLineOf}
 use Rattle.cmc_line_reading.proofs.LinesAgain.{line_again}
 
@@ -50,6 +50,9 @@ read_of_line n text d line value is =
 
 pub not_read : (n : ℕ) (text : List ℕ) (d : Data) (path : Path) → IsJson text d → line_at d ≡ Err path → IsLine n text → ⊥
 not_read n text d path value fails is = cc (read_of_line n text d is.0 value is.1, fails)
+
+pub not_given : (n : ℕ) (text : List ℕ) (d : Data) (e : BadField) (path : Path) → IsJson text d → e ≡ bad.Path path → Gives {X = PrintedLine} (λ t. t) (Err e) (line_at d) → IsLine n text → ⊥
+not_given n text d e path value is gives line = not_read n text d path value (subst (λ (b : BadField). Gives {X = PrintedLine} (λ t. t) (Err b) (line_at d)) is gives) line
 
 -- the tree of a line that is there is its text
 pub text_of_line : (n : ℕ) (text : List ℕ) (line : PrintedLine) → IsLineOf n text line → IsTextOf (line_tree n line) text

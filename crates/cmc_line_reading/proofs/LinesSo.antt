@@ -1,11 +1,10 @@
 -- What is read of a line is shown by an entry of its form.
-use Rattle.std.proofs.Common.{◌≡◌, ℕ, ◌<◌, ◌^◌, arith, List, [], ◌∷◌, Bool, true, false, Ok, Err, Option, Some, None, refl, ap, sym, ◌∙◌, ◌++◌, codes}
+use Rattle.std.proofs.Common.{◌≡◌, ℕ, ◌<◌, ◌^◌, arith, List, [], Bool, true, false, Ok, Err, Option, Some, None, refl, ap, sym, ◌∙◌, ◌++◌, codes}
 use Rattle.std.specs.Prelude.{if◌then◌else◌, nat_lt}
 use Rattle.std.proofs.lemmas.Bool.Decides.{nat_tests}
 use Rattle.std.specs.Str.{bytes_eq}
-use Rattle.base64.specs.GeneralPurpose.{IsBytes}
 use Rattle.serde_json.specs.Data.{Data}
-use Rattle.serde_json.specs.Find.{get, as_str}
+use Rattle.serde_json.specs.Find.{get}
 use Rattle.cmc_meta.specs.Names.{is_subdomain}
 use Rattle.cmc_meta.specs.declared.key.Key.{Key}
 use Rattle.cmc_meta.specs.declared.key.Kind.{Kind}
@@ -21,18 +20,18 @@ use Rattle.cmc_objects.specs.declared.orders.Signing.TheVariants as answers
 use Rattle.cmc_objects.specs.Objects.{key_of, name_of}
 use Rattle.cmc_objects.specs.Watching.{kind_of_work}
 use Rattle.cmc_print.specs.Words.{key_text}
-use Rattle.cmc_cursor.specs.Reading.{Read, ◌>>=◌, Field, fields_at}
+use Rattle.cmc_cursor.specs.Reading.{Read, ◌>>=◌, Field}
 use Rattle.cmc_cursor.specs.Readers.{found, text_at, name_in, name_at, count_at, small_count_at, flag_at, bytes_at}
 use Rattle.cmc_cursor.proofs.Always.{Always, so, failed, next, after, further}
 use Rattle.cmc_material.specs.Keys.{split_slash, kind_in, key_of_kind, key_in, key_at}
 use Rattle.cmc_scenario.specs.Roles.{role_at, kind_at}
 use Rattle.cmc_status_form.specs.ConditionForm.{moment_at}
 use Rattle.cmc_status_form.specs.WholeForm.{whole_object_at}
-use Rattle.cmc_status_form.specs.Laws.{HasWholeForm, HasFormRead, as_printed}
+use Rattle.cmc_status_form.specs.Laws.{HasWholeForm, HasFormRead}
 use Rattle.cmc_status_form.proofs.Moments.{moment_so}
 use Rattle.cmc_report.specs.Trees.{call_key}
 use Rattle.cmc_lines.specs.Shown.{shown_object, shown_name, shown_reply, shown_order}
-use Rattle.cmc_lines.proofs.EntryLike.{reply_like, order_like, request_like, request_named}
+use Rattle.cmc_lines.proofs.EntryLike.{reply_like, order_like, request_named}
 use Rattle.cmc_lines.specs.declared.line.CallName.{CallName}
 use Rattle.cmc_lines.specs.declared.line.CallName.TheVariants as names
 use Rattle.cmc_lines.specs.declared.line.PrintedReply.{PrintedReply}
@@ -41,10 +40,10 @@ use Rattle.cmc_lines.specs.declared.line.PrintedOrder.{PrintedOrder}
 use Rattle.cmc_lines.specs.declared.line.PrintedOrder.TheVariants as asked
 use Rattle.cmc_lines.specs.declared.line.PrintedLine.{PrintedLine}
 use Rattle.cmc_lines.specs.declared.line.PrintedLine.TheVariants as lines
-use Rattle.cmc_line_reading.specs.LineForm.{member_as, given_as, optional_as, named_at, first_in, created_in, conflict_at, numbered, refused_in, reply_in, reply_at, answers_create, answers_other, who_at, said_in, answered_in, create_in, generate_in, update_in, delete_in, get_in, call_in, call_at, key_order_in, csr_order_in, sign_order_in, judge_order_in, order_in, order_at, or_empty, issued_in, failed_in, answer_in, answer_at, positions_at, cause_at, begin_in, ask_in, made_in, signed_in, told_answer_in, judged_in, end_in, pass_in, script_in, deliver_in, list_in, stop_in, start_in, tick_in, line_in, line_at}
+use Rattle.cmc_line_reading.specs.LineForm.{member_as, optional_as, named_at, first_at, created_in, conflict_at, numbered, refused_in, reply_in, reply_at, answers_create, answers_other, who_at, said_in, answered_in, create_in, generate_in, update_in, delete_in, get_in, call_in, call_at, key_order_in, csr_order_in, sign_order_in, judge_order_in, order_in, order_at, answer_at, positions_at, cause_at, begin_in, ask_in, made_in, signed_in, told_answer_in, judged_in, end_in, pass_in, script_in, deliver_in, list_in, stop_in, start_in, tick_in, line_in, line_at}
 use Rattle.cmc_summary_form.specs.SummaryForm.{HasNames, IsKeyOf}
 use Rattle.cmc_summary_form.proofs.NamesAgain.{key_so as key_text_so}
-use Rattle.cmc_line_reading.specs.Histories.{HasCallForm, HasReplyForm, HasOrderForm, HasForm}
+use Rattle.cmc_line_reading.specs.Histories.{HasReplyForm, HasOrderForm}
 use Rattle.cmc_line_reading.specs.Lines.{IsFormed, IsFormedRead, HasOctets, OrderHasOctets}
 use Rattle.cmc_line_reading.proofs.LinesAgain.{shown_is}
 
@@ -129,7 +128,7 @@ first_so d f =
 
 reply_so : (d : Data) → Always IsReplyForm (reply_at d)
 unfolding reply_at
-reply_so d = next IsReplyForm (fields_at d >>= first_in) (reply_in d) (first_so d)
+reply_so d = next IsReplyForm (first_at d) (reply_in d) (first_so d)
 
 -- a reply like it is of its form, and shows as it
 abbrev IsLike : Call → PrintedReply → Type 0
@@ -190,12 +189,14 @@ create_shows : (o : Object) (generate : Bool) (name : CallName) (key : List ℕ)
     → shown_name (Create o generate) ≡ name → call_key (Create o generate) ≡ key → Shows (lines.Call name key (Some o) None r who)
 create_shows o generate name key r who is answer named keyed octets =
     let form = whole o is octets in
-    let like = create_like o generate r answer.0 answer.1 in
-    (entries.Call who (Create o generate) (reply_like r), (form.0, like.0),
-    ap (λ n. lines.Call n (call_key (Create o generate)) (Some (shown_object o)) None (shown_reply (Create o generate) (reply_like r)) who) named
-    ∙ ap (λ k. lines.Call name k (Some (shown_object o)) None (shown_reply (Create o generate) (reply_like r)) who) keyed
-    ∙ ap (λ (x : Object). lines.Call name key (Some x) None (shown_reply (Create o generate) (reply_like r)) who) form.1
-    ∙ ap (λ x. lines.Call name key (Some o) None x who) like.1)
+    let like = create_like o generate r answer.0 answer.1 in (
+      entries.Call who (Create o generate) (reply_like r),
+      (form.0, like.0),
+      ap (λ n. lines.Call n (call_key (Create o generate)) (Some (shown_object o)) None (shown_reply (Create o generate) (reply_like r)) who) named
+          ∙ ap (λ k. lines.Call name k (Some (shown_object o)) None (shown_reply (Create o generate) (reply_like r)) who) keyed
+          ∙ ap (λ (x : Object). lines.Call name key (Some x) None (shown_reply (Create o generate) (reply_like r)) who) form.1
+          ∙ ap (λ x. lines.Call name key (Some o) None x who) like.1,
+    )
 
 create_so : (d : Data) → Always Shows (create_in d)
 unfolding create_in
@@ -214,18 +215,22 @@ generate_so d =
 update_shows : (o : Object) (version : ℕ) (r : PrintedReply) (who : Who) → IsWhole o → IsAnswer answers_other (r, who) → Shows (lines.Call names.Update (key_text (key_of o)) (Some o) (Some version) r who)
 update_shows o version r who is answer octets =
     let form = whole o is octets in
-    let like = other_like (Update o version) r answer.0 answer.1 (λ v. (tt, refl)) in
-    (entries.Call who (Update o version) (reply_like r), (form.0, like.0),
-    ap (λ (x : Object). lines.Call names.Update (key_text (key_of o)) (Some x) (Some version) (shown_reply (Update o version) (reply_like r)) who) form.1
-    ∙ ap (λ x. lines.Call names.Update (key_text (key_of o)) (Some o) (Some version) x who) like.1)
+    let like = other_like (Update o version) r answer.0 answer.1 (λ v. (tt, refl)) in (
+      entries.Call who (Update o version) (reply_like r),
+      (form.0, like.0),
+      ap (λ (x : Object). lines.Call names.Update (key_text (key_of o)) (Some x) (Some version) (shown_reply (Update o version) (reply_like r)) who) form.1
+          ∙ ap (λ x. lines.Call names.Update (key_text (key_of o)) (Some o) (Some version) x who) like.1,
+    )
 
 status_shows : (o : Object) (version : ℕ) (r : PrintedReply) (who : Who) → IsWhole o → IsAnswer answers_other (r, who) → Shows (lines.Call names.UpdateStatus (key_text (key_of o)) (Some o) (Some version) r who)
 status_shows o version r who is answer octets =
     let form = whole o is octets in
-    let like = other_like (UpdateStatus o version) r answer.0 answer.1 (λ v. (tt, refl)) in
-    (entries.Call who (UpdateStatus o version) (reply_like r), (form.0, like.0),
-    ap (λ (x : Object). lines.Call names.UpdateStatus (key_text (key_of o)) (Some x) (Some version) (shown_reply (UpdateStatus o version) (reply_like r)) who) form.1
-    ∙ ap (λ x. lines.Call names.UpdateStatus (key_text (key_of o)) (Some o) (Some version) x who) like.1)
+    let like = other_like (UpdateStatus o version) r answer.0 answer.1 (λ v. (tt, refl)) in (
+      entries.Call who (UpdateStatus o version) (reply_like r),
+      (form.0, like.0),
+      ap (λ (x : Object). lines.Call names.UpdateStatus (key_text (key_of o)) (Some x) (Some version) (shown_reply (UpdateStatus o version) (reply_like r)) who) form.1
+          ∙ ap (λ x. lines.Call names.UpdateStatus (key_text (key_of o)) (Some o) (Some version) x who) like.1,
+    )
 
 update_so : (d : Data) → Always Shows (update_in names.Update d)
 unfolding update_in

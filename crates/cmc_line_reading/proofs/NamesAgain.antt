@@ -1,5 +1,5 @@
 -- A key is read again of its text.
-use Rattle.std.proofs.Common.{◌≡◌, ℕ, List, Bool, true, Ok, refl}
+use Rattle.std.proofs.Common.{◌≡◌, true, Ok, refl}
 use Rattle.std.specs.Prelude.{not}
 use Rattle.std.specs.List.{list_all}
 use Rattle.serde_json.specs.Data.{string}

@@ -1,11 +1,11 @@
 -- What was read of the line of a scenario is what it says, and else it is no such line.
-use Rattle.std.proofs.Common.{◌≡◌, ◌≢◌, ℕ, List, [], ◌∷◌, ◌++◌, Bool, true, false, Ok, Err, Some, None, Option, refl, ap, sym, subst, ◌∙◌, codes}
+use Rattle.std.proofs.Common.{◌≡◌, ◌≢◌, ℕ, List, ◌++◌, Ok, Err, ap, sym, subst, ◌∙◌, codes}
 use Rattle.std.proofs.lemmas.List.{append_cancel_left, append_cancel_right}
 use Rattle.serde_json.specs.Data.{Data}
 use Rattle.serde_json.specs.Written.{compact_text}
 use Rattle.cmc_setup.specs.declared.scenario.Scenario.{Scenario}
 use Rattle.cmc_scenario.specs.Scenarios.{scenario_at}
-use Rattle.cmc_line_reading.specs.Histories.{IsJson, IsTextOf, IsScenario, IsScenarioOf}
+use Rattle.cmc_line_reading.specs.Histories.{IsJson, IsScenario, IsScenarioOf}
 use Rattle.cmc_line_reading.specs.Scenarios.{IsInside, IsInsideOf}
 use Rattle.cmc_line_reading.proofs.Compared.{one_value}
 

@@ -1,15 +1,17 @@
 -- What was read of the line of a summary is what it says, and else it is no such line.
-use Rattle.std.proofs.Common.{◌≡◌, ◌∷◌, [], ℕ, List, Bool, true, false, Ok, Err, Some, None, Option, refl, ap, sym, subst, ◌∙◌, codes}
+use Rattle.std.proofs.Common.{◌≡◌, ◌∷◌, [], ℕ, List, true, false, Ok, Err, refl, ap, sym, subst, ◌∙◌, codes}
 use Rattle.std.specs.Prelude.{is_some}
 use Rattle.serde_json.specs.Data.{Data}
 use Rattle.serde_json.specs.Find.{get}
-use Rattle.cmc_cursor.specs.Reading.{Path, Read}
+use Rattle.cmc_cursor.specs.Reading.{Path, Read, Gives}
+use Rattle.cmc_cursor.specs.declared.error.BadField.{BadField}
+use Rattle.cmc_cursor.specs.declared.error.BadField.TheVariants as bad
 use Rattle.cmc_report.specs.Trees.{entry_tree, summary_tree}
 use Rattle.cmc_summary.specs.declared.summary.Summary.{Summary}
 use Rattle.cmc_summary_form.specs.SummaryForm.{summary_at}
 use Rattle.cmc_summary_form.proofs.SummarySo.{has_form}
 use Rattle.cmc_summary_form.proofs.SummaryAgain.{summary_again}
-use Rattle.cmc_line_reading.specs.Histories.{IsJson, IsTextOf, IsLine, IsSummary, IsSummaryOf, counts_of}
+use Rattle.cmc_line_reading.specs.Histories.{IsJson, IsTextOf, IsLine, IsSummary, IsSummaryOf}
 use Rattle.cmc_line_reading.proofs.Compared.{one_value}
 use Rattle.cmc_line_reading.proofs.Bodies.{entry_has_none, summary_has_one}
 
@@ -17,8 +19,11 @@ use Rattle.cmc_line_reading.proofs.Bodies.{entry_has_none, summary_has_one}
 read_of_summary : (text : List ℕ) (d : Data) (counts : List ℕ) → IsJson text d → (is : IsSummaryOf text counts) → summary_at d ≡ Ok is.summary
 read_of_summary text d counts value is = ap summary_at (one_value text d (summary_tree is.summary) value is.is.0) ∙ summary_again is.summary is.form
 
-pub not_read : (text : List ℕ) (d : Data) (path : Path) → IsJson text d → summary_at d ≡ Err path → IsSummary text → ⊥
+not_read : (text : List ℕ) (d : Data) (path : Path) → IsJson text d → summary_at d ≡ Err path → IsSummary text → ⊥
 not_read text d path value fails is = cc (read_of_summary text d is.0 value is.1, fails)
+
+pub not_given : (text : List ℕ) (d : Data) (e : BadField) (path : Path) → IsJson text d → e ≡ bad.Path path → Gives {X = Summary} (λ t. t) (Err e) (summary_at d) → IsSummary text → ⊥
+not_given text d e path value is gives line = not_read text d path value (subst (λ (b : BadField). Gives {X = Summary} (λ t. t) (Err b) (summary_at d)) is gives) line
 
 abbrev as_read : Summary → Read Summary
 as_read summary = Ok summary

@@ -1,13 +1,12 @@
 -- The line of the scenario and what stands behind it make the text of a history.
 use Rattle.std.proofs.Common.{◌≡◌, ◌⊎◌, inl, inr, ℕ, suc, ◌+◌, List, [], ◌∷◌, ◌++◌, length, Ok, Err, refl, ap, sym, subst, ◌∙◌, arith, append_assoc}
-use Rattle.std.specs.List.{AllByRecursion}
 use Rattle.std.specs.declared.result.Result.{Result}
 use Rattle.cmc_setup.specs.declared.scenario.Scenario.{Scenario}
 use Rattle.cmc_lines.specs.declared.line.PrintedLine.{PrintedLine}
 use Rattle.cmc_lines.specs.declared.printed.Printed.{Printed}
 use Rattle.cmc_line_reading.specs.declared.history.BadHistory.{BadHistory}
 use Rattle.cmc_line_reading.specs.declared.history.BadHistory.TheVariants as bad
-use Rattle.cmc_line_reading.specs.Histories.{IsScenario, IsScenarioOf, IsOneLine, IsHistoryOf, GoesOn, CanBegin, AreLines, AreLinesOf, FailsBy, FailsAt, GoesWrong, EndsEarly, IsReading, ended}
+use Rattle.cmc_line_reading.specs.Histories.{IsScenario, IsScenarioOf, IsOneLine, IsHistoryOf, GoesOn, CanBegin, AreLines, FailsAt, GoesWrong, EndsEarly, IsReading, ended}
 use Rattle.cmc_line_reading.specs.Bodies.{IsCut, IsBodyOf, IsRestReading, AreRest, BodyFails}
 
 -- the first line, and lines behind it
@@ -30,18 +29,18 @@ closed_by line lines whole = (whole.1, whole.2, whole.3.1)
 
 fails_there : (text line later : List ℕ) (lines : List (List ℕ)) → IsCut text line later → GoesWrong (GoesOn 1) later lines ⊎ EndsEarly AreRest later lines → GoesWrong CanBegin text (line ∷ lines) ⊎ EndsEarly AreLines text (line ∷ lines)
 fails_there text line later lines cut (inl here) = inl (record {
-      line = here.line;
-      later = here.later;
-      parts = cut.whole ∙ grouped line later lines (here.line ++ 10 ∷ here.later) here.parts;
-      is_one = here.is_one;
-      wrong = λ stand. here.wrong stand.1;
-    })
+  line = here.line;
+  later = here.later;
+  parts = cut.whole ∙ grouped line later lines (here.line ++ 10 ∷ here.later) here.parts;
+  is_one = here.is_one;
+  wrong = λ stand. here.wrong stand.1;
+})
 fails_there text line later lines cut (inr here) = inr (record {
-      rest = here.rest;
-      parts = cut.whole ∙ grouped line later lines here.rest here.parts;
-      is_one = here.is_one;
-      missing = λ none whole. here.missing none (closed_by line lines whole);
-    })
+  rest = here.rest;
+  parts = cut.whole ∙ grouped line later lines here.rest here.parts;
+  is_one = here.is_one;
+  missing = λ none whole. here.missing none (closed_by line lines whole);
+})
 
 pub whole_fails : (text line later : List ℕ) (number : ℕ) → IsCut text line later → IsScenario line → BodyFails later number → FailsAt text number
 whole_fails text line later number cut is body = record {

@@ -8,7 +8,6 @@ use Rattle.serde_json.specs.Find.{get, as_str}
 use Rattle.cmc_meta.specs.declared.key.Kind.{Kind}
 use Rattle.cmc_meta.specs.declared.key.Kind.TheVariants.{Certificate, CertificateRequest}
 use Rattle.cmc_meta.specs.declared.key.Key.{Key}
-use Rattle.cmc_objects.specs.declared.object.Object.{Object}
 use Rattle.cmc_objects.specs.declared.entry.Who.{Who}
 use Rattle.cmc_objects.specs.declared.entry.Who.TheVariants.{User, Pass}
 use Rattle.cmc_objects.specs.declared.entry.Cause.{Cause}
@@ -58,6 +57,10 @@ abbrev pub first_in : List Field → Read Field
 first_in [] = Err []
 first_in (f ∷ fs) = Ok f
 
+-- The first member of an object.
+abbrev pub first_at : Data → Read Field
+first_at d = fields_at d >>= first_in
+
 unfoldable pub created_in : Data → Read PrintedReply
 created_in d = do
   name ← member_as name_at (codes "name") d
@@ -90,7 +93,7 @@ reply_in d first = if bytes_eq first.0 (codes "name") then created_in d
     else refused_in first.0 first.1)))
 
 unfoldable pub reply_at : Data → Read PrintedReply
-reply_at d = fields_at d >>= first_in >>= reply_in d
+reply_at d = first_at d >>= reply_in d
 
 -- An accepted create is answered with a name, and no other call is.
 abbrev pub answers_create : PrintedReply → Bool

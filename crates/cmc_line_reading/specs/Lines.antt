@@ -1,5 +1,5 @@
 -- What is so of each line that is read.
-use Rattle.std.specs.Prelude.{◌≡◌, ◌++◌, Ok, Option, Some, None}
+use Rattle.std.specs.Prelude.{◌≡◌, Ok, Option, Some, None}
 use Rattle.base64.specs.GeneralPurpose.{IsBytes}
 use Rattle.serde_json.specs.Data.{Data}
 use Rattle.cmc_objects.specs.declared.object.Object.{Object}

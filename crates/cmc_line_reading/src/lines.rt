@@ -126,7 +126,6 @@ fn compared(
 
 /// What the line of the entry of this number says, whose value is at hand. `None` exactly where the text
 /// is not the line of such an entry that is of its form.
-#[tactic(auto, using(crate::proofs::Compared::not_read))]
 pub fn entry_line(
     alloc: Global,
     number: u64,

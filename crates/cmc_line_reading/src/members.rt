@@ -65,11 +65,7 @@ pub fn bytes_of(alloc: Global, value: &Value, name: &str) -> Result<Bytes, BadFi
 }
 
 /// Bytes that may be left out.
-pub fn bytes_option(
-    alloc: Global,
-    value: &Value,
-    name: &str,
-) -> Result<Option<Bytes>, BadField>
+pub fn bytes_option(alloc: Global, value: &Value, name: &str) -> Result<Option<Bytes>, BadField>
     ensures { Gives (λ t. t) result (optional_as bytes_at name.now (view value.now)) }
 {
     match value.get(name) {

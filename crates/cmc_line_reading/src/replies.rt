@@ -1,7 +1,7 @@
 // Replies, and by whom calls are.
 ghost use Rattle.std.specs.Prelude.{◌≡◌, codes};
 ghost use Rattle.serde_json.specs.View.{view};
-ghost use Rattle.cmc_cursor.specs.Reading.{Gives, ◌>>=◌, fields_at};
+ghost use Rattle.cmc_cursor.specs.Reading.{Gives};
 ghost use Rattle.cmc_cursor.specs.Readers.{name_at};
 ghost use Rattle.cmc_line_reading.specs.LineForm as spec;
 ghost use Rattle.cmc_line_reading.specs.LineForm.{answered_in, conflict_at, created_in, member_as, refused_in, reply_at, said_in, who_at};
@@ -17,7 +17,7 @@ use std::alloc::Global;
 // ---- replies
 
 fn first_member(alloc: Global, value: &Value) -> Result<(&str, &Value), BadField>
-    ensures { Gives (λ p. (p.0.now, view p.1.now)) result (fields_at (view value.now) >>= spec.first_in) }
+    ensures { Gives (λ p. (p.0.now, view p.1.now)) result (spec.first_at (view value.now)) }
 {
     let members = fields(alloc, value)?;
     match members.as_slice() {

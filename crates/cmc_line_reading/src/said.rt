@@ -1,8 +1,10 @@
 // What a line behind that of the scenario says.
-ghost use Rattle.std.specs.Prelude.{◌≡◌, ◌∷◌, [], MatchOption, IfOk};
+ghost use Rattle.std.specs.Prelude.{◌≡◌, codes, is_some, MatchOption, IfOk, Ok};
+ghost use Rattle.serde_json.specs.Find.{get};
 ghost use Rattle.serde_json.specs.View.{view};
 ghost use Rattle.cmc_line_reading.specs.Bodies.{IsSaid};
-ghost use Rattle.cmc_line_reading.specs.Histories.{IsJson, IsSummary, IsSummaryOf, counts_of};
+ghost use Rattle.cmc_line_reading.specs.Histories.{IsJson, IsSummary, IsSummaryOf};
+ghost use Rattle.cmc_summary_form.specs.SummaryForm.{summary_at};
 
 use crate::lines::{entry_line, is_text_of, value_of};
 use cmc_cursor::BadField;
@@ -36,17 +38,12 @@ fn compared(
 {
     let tree = tree_of_summary(alloc, summary)?;
     if is_text_of(alloc, tree, text)? {
-        return Ok(Some([
-            summary.certificates,
-            summary.ready,
-            summary.secrets,
-        ]));
+        return Ok(Some([summary.certificates, summary.ready, summary.secrets]));
     }
     Ok(None)
 }
 
 /// The counts of a summary's line, whose value is at hand. `None` exactly where the text is no such line.
-#[tactic(auto, using(crate::proofs::Summaries::not_read))]
 fn summary_line(alloc: Global, text: &[u8], value: &Value) -> Result<Option<[u64; 3]>, AllocError>
     requires { IsJson text.now (view value.now) }
     ensures { IfOk result (λ o. MatchOption o (IsSummary text.now → ⊥) (IsSummaryOf text.now)) }

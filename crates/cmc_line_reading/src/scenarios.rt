@@ -12,25 +12,31 @@ use cmc_setup::Scenario;
 use serde_json::Value;
 use std::alloc::{AllocError, Global};
 
+const NAME: &[u8] = b"{\"scenario\":";
+
+const BRACKET: &[u8] = b"}";
+
 fn behind_name(line: &[u8]) -> Option<&[u8]>
     ensures { MatchOption result ((rest : List ℕ) → line.now ≢ codes "{\"scenario\":" ++ rest) (λ rest. line.now ≡ codes "{\"scenario\":" ++ rest.now) }
 {
-    line.strip_prefix(b"{\"scenario\":".as_slice())
+    line.strip_prefix(NAME)
 }
 
 fn before_bracket(text: &[u8]) -> Option<&[u8]>
     ensures { MatchOption result ((front : List ℕ) → text.now ≢ front ++ codes "}") (λ front. text.now ≡ front.now ++ codes "}") }
 {
-    text.strip_suffix(b"}".as_slice())
+    text.strip_suffix(BRACKET)
 }
 
 // What stands in the line between the member's name and the last bracket.
-#[tactic(auto, using(crate::proofs::ScenarioLine::no_name, crate::proofs::ScenarioLine::no_bracket, crate::proofs::ScenarioLine::between))]
+#[tactic(auto, using(crate::proofs::ScenarioLine::no_bracket, crate::proofs::ScenarioLine::between))]
 fn inside(line: &[u8]) -> Option<&[u8]>
     ensures { MatchOption result (IsInside line.now → ⊥) (λ text. IsInsideOf line.now text.now) }
 {
-    let rest = behind_name(line)?;
-    before_bracket(rest)
+    match behind_name(line) {
+        Some(rest) => before_bracket(rest),
+        None => None,
+    }
 }
 
 // Whether the text is the compact text of the value, in which no number is a float.
