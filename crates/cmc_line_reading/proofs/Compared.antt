@@ -13,10 +13,10 @@ use Rattle.cmc_lines.specs.Shown.{shown}
 use Rattle.cmc_lines.specs.LineTree.{line_tree}
 use Rattle.cmc_lines.specs.declared.line.PrintedLine.{PrintedLine}
 use Rattle.cmc_lines.proofs.LineLaws.{shows_all}
-use Rattle.cmc_line_reading.specs.LineForm.{line_at}
-use Rattle.cmc_line_reading.specs.Lines.{IsFormedRead}
+use Rattle.cmc_entry_form.specs.LineForm.{line_at}
+use Rattle.cmc_entry_form.specs.Lines.{IsFormedRead}
 use Rattle.cmc_line_reading.specs.Histories.{IsJson, IsTextOf, IsLine, IsLineOf}
-use Rattle.cmc_line_reading.proofs.LinesAgain.{line_again}
+use Rattle.cmc_entry_form.proofs.LinesAgain.{line_again}
 
 -- ---- JSON
 

@@ -1,7 +1,3 @@
-mod NamesAgain
-mod PartsAgain
-pub mod LinesAgain
-mod LinesSo
 mod Depths
 mod Compared
 mod Bodies

@@ -1,15 +1,11 @@
 //! The reading of printed histories: from the text that a run writes to what its lines say.
+//!
+//! What is read of a line is printed again and compared with it, so that nothing else stands in it.
 #![tactic(auto)]
 
-mod calls;
-mod entries;
 mod history;
 mod lines;
-mod members;
 mod nesting;
-mod orders;
-mod passes;
-mod replies;
 mod said;
 mod scenarios;
 

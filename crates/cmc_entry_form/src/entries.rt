@@ -2,7 +2,7 @@
 ghost use Rattle.std.specs.Prelude.{◌≡◌};
 ghost use Rattle.serde_json.specs.View.{view};
 ghost use Rattle.cmc_cursor.specs.Reading.{Gives};
-ghost use Rattle.cmc_line_reading.specs.LineForm.{deliver_in, line_at, line_in, list_in, script_in, start_in, stop_in, tick_in};
+ghost use Rattle.cmc_entry_form.specs.LineForm.{deliver_in, line_at, line_in, list_in, script_in, start_in, stop_in, tick_in};
 
 use crate::calls::call;
 use crate::members::{count_of, kind_of, moment_of, role_of, text_of};
@@ -85,7 +85,7 @@ fn entry_named(alloc: Global, value: &Value, word: &str) -> Result<PrintedLine, 
 ///
 /// Fails where a part is missing or is not of its form.
 #[tactic(auto, unfolding(crate::specs::LineForm::line_at))]
-pub fn entry(alloc: Global, value: &Value) -> Result<PrintedLine, BadField>
+pub fn entry_of(alloc: Global, value: &Value) -> Result<PrintedLine, BadField>
     ensures { Gives (λ t. t) result (line_at (view value.now)) }
 {
     let word = text_of(alloc, value, "is")?;

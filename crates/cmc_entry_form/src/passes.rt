@@ -3,7 +3,7 @@ ghost use Rattle.std.specs.Prelude.{◌≡◌, codes};
 ghost use Rattle.serde_json.specs.View.{view};
 ghost use Rattle.cmc_cursor.specs.Reading.{Gives};
 ghost use Rattle.cmc_cursor.specs.Readers.{flag_at};
-ghost use Rattle.cmc_line_reading.specs.LineForm.{answer_at, ask_in, begin_in, cause_at, cause_named as named_cause, end_in, judged_in, made_in, member_as, order_at, pass_in, positions_at, signed_in, told_answer_in};
+ghost use Rattle.cmc_entry_form.specs.LineForm.{answer_at, ask_in, begin_in, cause_at, cause_named as named_cause, end_in, judged_in, made_in, member_as, order_at, pass_in, positions_at, signed_in, told_answer_in};
 
 use crate::members::{bytes_of, count_of, member_of, moment_of, named_key, role_of};
 use crate::orders::{answer, order};

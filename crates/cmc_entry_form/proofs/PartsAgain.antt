@@ -27,9 +27,9 @@ use Rattle.cmc_codec.proofs.ObjectsAgain.{bytes_again}
 use Rattle.cmc_scenario.specs.Roles.{role_at, kind_at}
 use Rattle.cmc_lines.specs.Shown.{shown_reply, shown_order}
 use Rattle.cmc_lines.specs.LineTree.{replied_tree, asked_tree}
-use Rattle.cmc_line_reading.specs.LineForm.{reply_at, created_in, conflict_at, who_at, order_at, key_order_in, csr_order_in, sign_order_in, judge_order_in, answer_at, issued_in, failed_in, positions_at, cause_at}
-use Rattle.cmc_line_reading.specs.Histories.{HasReplyForm, HasOrderForm, HasAnswerForm}
-use Rattle.cmc_line_reading.proofs.NamesAgain.{named_again}
+use Rattle.cmc_entry_form.specs.LineForm.{reply_at, created_in, conflict_at, who_at, order_at, key_order_in, csr_order_in, sign_order_in, judge_order_in, answer_at, issued_in, failed_in, positions_at, cause_at}
+use Rattle.cmc_entry_form.specs.Entries.{HasReplyForm, HasOrderForm, HasAnswerForm}
+use Rattle.cmc_entry_form.proofs.NamesAgain.{named_again}
 
 -- ---- words
 

@@ -3,8 +3,8 @@ ghost use Rattle.std.specs.Prelude.{◌≡◌, codes};
 ghost use Rattle.serde_json.specs.View.{view};
 ghost use Rattle.cmc_cursor.specs.Reading.{Gives};
 ghost use Rattle.cmc_cursor.specs.Readers.{name_at};
-ghost use Rattle.cmc_line_reading.specs.LineForm as spec;
-ghost use Rattle.cmc_line_reading.specs.LineForm.{answered_in, conflict_at, created_in, member_as, refused_in, reply_at, said_in, who_at};
+ghost use Rattle.cmc_entry_form.specs.LineForm as spec;
+ghost use Rattle.cmc_entry_form.specs.LineForm.{answered_in, conflict_at, created_in, member_as, refused_in, reply_at, said_in, who_at};
 
 use crate::members::{count_of, member_of};
 use cmc_cursor::{BadField, count, fields, name, small_count};

@@ -7,7 +7,7 @@ ghost use Rattle.cmc_cursor.specs.Readers.{found, text_at, count_at, bytes_at};
 ghost use Rattle.cmc_material.specs.Keys.{key_of_kind, split_slash};
 ghost use Rattle.cmc_scenario.specs.Roles.{role_at, role_in, kind_at};
 ghost use Rattle.cmc_status_form.specs.ConditionForm.{moment_at};
-ghost use Rattle.cmc_line_reading.specs.LineForm.{member_as, named_at, optional_as};
+ghost use Rattle.cmc_entry_form.specs.LineForm.{member_as, named_at, optional_as};
 
 use cmc_cursor::{BadField, bytes, count, name_of};
 use cmc_meta::{Bytes, Key, Kind, Texts};

@@ -40,12 +40,12 @@ use Rattle.cmc_lines.specs.declared.line.PrintedOrder.{PrintedOrder}
 use Rattle.cmc_lines.specs.declared.line.PrintedOrder.TheVariants as asked
 use Rattle.cmc_lines.specs.declared.line.PrintedLine.{PrintedLine}
 use Rattle.cmc_lines.specs.declared.line.PrintedLine.TheVariants as lines
-use Rattle.cmc_line_reading.specs.LineForm.{member_as, optional_as, named_at, first_at, created_in, conflict_at, numbered, refused_in, reply_in, reply_at, answers_create, answers_other, who_at, said_in, answered_in, create_in, generate_in, update_in, delete_in, get_in, call_in, call_at, key_order_in, csr_order_in, sign_order_in, judge_order_in, order_in, order_at, answer_at, positions_at, cause_at, begin_in, ask_in, made_in, signed_in, told_answer_in, judged_in, end_in, pass_in, script_in, deliver_in, list_in, stop_in, start_in, tick_in, line_in, line_at}
+use Rattle.cmc_entry_form.specs.LineForm.{member_as, optional_as, named_at, first_at, created_in, conflict_at, numbered, refused_in, reply_in, reply_at, answers_create, answers_other, who_at, said_in, answered_in, create_in, generate_in, update_in, delete_in, get_in, call_in, call_at, key_order_in, csr_order_in, sign_order_in, judge_order_in, order_in, order_at, answer_at, positions_at, cause_at, begin_in, ask_in, made_in, signed_in, told_answer_in, judged_in, end_in, pass_in, script_in, deliver_in, list_in, stop_in, start_in, tick_in, line_in, line_at}
 use Rattle.cmc_summary_form.specs.SummaryForm.{HasNames, IsKeyOf}
 use Rattle.cmc_summary_form.proofs.NamesAgain.{key_so as key_text_so}
-use Rattle.cmc_line_reading.specs.Histories.{HasReplyForm, HasOrderForm}
-use Rattle.cmc_line_reading.specs.Lines.{IsFormed, IsFormedRead, HasOctets, OrderHasOctets}
-use Rattle.cmc_line_reading.proofs.LinesAgain.{shown_is}
+use Rattle.cmc_entry_form.specs.Entries.{HasReplyForm, HasOrderForm}
+use Rattle.cmc_entry_form.specs.Lines.{IsFormed, IsFormedRead, HasOctets, OrderHasOctets}
+use Rattle.cmc_entry_form.proofs.LinesAgain.{shown_is}
 
 -- ---- members
 

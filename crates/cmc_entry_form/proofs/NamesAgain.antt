@@ -10,7 +10,7 @@ use Rattle.cmc_print.specs.Words.{kind_name, name_text, key_text}
 use Rattle.cmc_material.specs.Keys.{is_slash, kind_in, key_in, key_at}
 use Rattle.cmc_summary_form.specs.SummaryForm.{HasNames, IsKeyOf}
 use Rattle.cmc_summary_form.proofs.NamesAgain.{split_is, key_again as text_again}
-use Rattle.cmc_line_reading.specs.LineForm.{named_at}
+use Rattle.cmc_entry_form.specs.LineForm.{named_at}
 
 -- a key of this kind, written without it
 pub named_again : (kind : Kind) (key : Key) → IsKeyOf kind key → named_at kind (string (name_text key)) ≡ Ok key

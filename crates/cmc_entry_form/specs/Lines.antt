@@ -12,8 +12,8 @@ use Rattle.cmc_lines.specs.declared.line.PrintedOrder.{PrintedOrder}
 use Rattle.cmc_lines.specs.declared.line.PrintedOrder.TheVariants as asked
 use Rattle.cmc_lines.specs.declared.line.PrintedLine.{PrintedLine}
 use Rattle.cmc_lines.specs.declared.line.PrintedLine.TheVariants as lines
-use Rattle.cmc_line_reading.specs.Histories.{HasForm}
-use Rattle.cmc_line_reading.specs.LineForm.{line_at}
+use Rattle.cmc_entry_form.specs.Entries.{HasForm}
+use Rattle.cmc_entry_form.specs.LineForm.{line_at}
 
 -- Some entry of its form shows this.
 abbrev pub IsFormed : PrintedLine → Type 0

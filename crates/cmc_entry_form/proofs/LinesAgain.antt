@@ -28,10 +28,10 @@ use Rattle.cmc_lines.specs.declared.line.PrintedLine.{PrintedLine}
 use Rattle.cmc_lines.specs.declared.line.PrintedLine.TheVariants as lines
 use Rattle.cmc_cursor.specs.Reading.{Read}
 use Rattle.cmc_print.specs.Words.{key_text}
-use Rattle.cmc_line_reading.specs.LineForm.{line_at, script_in, deliver_in, list_in, stop_in, start_in, tick_in, begin_in, ask_in, made_in, signed_in, told_answer_in, judged_in, end_in, call_at, create_in, generate_in, update_in, delete_in, get_in, said_in, answered_in, answers_create, answers_other}
-use Rattle.cmc_line_reading.specs.Histories.{HasForm, HasReplyForm, HasCallForm}
-use Rattle.cmc_line_reading.proofs.NamesAgain.{named_again, key_again}
-use Rattle.cmc_line_reading.proofs.PartsAgain.{role_again, kind_again, reply_again, who_again, order_again, answer_again, positions_again, cause_again}
+use Rattle.cmc_entry_form.specs.LineForm.{line_at, script_in, deliver_in, list_in, stop_in, start_in, tick_in, begin_in, ask_in, made_in, signed_in, told_answer_in, judged_in, end_in, call_at, create_in, generate_in, update_in, delete_in, get_in, said_in, answered_in, answers_create, answers_other}
+use Rattle.cmc_entry_form.specs.Entries.{HasForm, HasReplyForm, HasCallForm}
+use Rattle.cmc_entry_form.proofs.NamesAgain.{named_again, key_again}
+use Rattle.cmc_entry_form.proofs.PartsAgain.{role_again, kind_again, reply_again, who_again, order_again, answer_again, positions_again, cause_again}
 
 -- ---- each reply is one to its call
 
