@@ -143,7 +143,7 @@ same_length n (l ∷ ls) (e ∷ es) are = ap suc (same_length (n + 1) ls es are.
 
 -- ---- the text
 
-all_more : (lines : List (List ℕ)) (line : List ℕ) → AllByRecursion IsOneLine lines → IsOneLine line → AllByRecursion IsOneLine (lines ++ line ∷ [])
+pub all_more : (lines : List (List ℕ)) (line : List ℕ) → AllByRecursion IsOneLine lines → IsOneLine line → AllByRecursion IsOneLine (lines ++ line ∷ [])
 all_more [] line all is = (is, tt)
 all_more (l ∷ ls) line all is = (all.0, all_more ls line all.1 is)
 
@@ -151,7 +151,7 @@ ended_more : (lines : List (List ℕ)) (line : List ℕ) → ended (lines ++ lin
 ended_more lines line = flat_map-append (λ l. l ++ 10 ∷ []) lines (line ∷ []) ∙ ap (λ t. ended lines ++ t) (append-nil (line ++ 10 ∷ []))
 
 -- a line that was cut off goes to the lines before it
-taken : (text left line later : List ℕ) (lines : List (List ℕ)) → text ≡ ended lines ++ left → left ≡ line ++ 10 ∷ later → text ≡ ended (lines ++ line ∷ []) ++ later
+pub taken : (text left line later : List ℕ) (lines : List (List ℕ)) → text ≡ ended lines ++ left → left ≡ line ++ 10 ∷ later → text ≡ ended (lines ++ line ∷ []) ++ later
 taken text left line later lines parts cut =
     parts ∙ ap (λ t. ended lines ++ t) cut ∙ ap (λ t. ended lines ++ t) (sym (append_assoc line (10 ∷ []) later))
     ∙ sym (append_assoc (ended lines) (line ++ 10 ∷ []) later) ∙ ap (λ t. t ++ later) (sym (ended_more lines line))

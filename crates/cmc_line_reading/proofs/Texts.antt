@@ -6,8 +6,9 @@ use Rattle.cmc_lines.specs.declared.line.PrintedLine.{PrintedLine}
 use Rattle.cmc_lines.specs.declared.printed.Printed.{Printed}
 use Rattle.cmc_line_reading.specs.declared.history.BadHistory.{BadHistory}
 use Rattle.cmc_line_reading.specs.declared.history.BadHistory.TheVariants as bad
-use Rattle.cmc_line_reading.specs.Histories.{IsScenario, IsScenarioOf, IsOneLine, IsHistoryOf, GoesOn, CanBegin, AreLines, FailsAt, GoesWrong, EndsEarly, IsReading, ended}
+use Rattle.cmc_line_reading.specs.Histories.{IsScenario, IsScenarioOf, IsOneLine, IsHistory, IsHistoryOf, GoesOn, CanBegin, AreLines, FailsAt, GoesWrong, EndsEarly, IsReading, ended}
 use Rattle.cmc_line_reading.specs.Bodies.{IsCut, IsBodyOf, IsRestReading, AreRest, BodyFails}
+use Rattle.cmc_line_reading.proofs.Cuts.{never_history}
 
 -- the first line, and lines behind it
 grouped : (line later : List ℕ) (lines : List (List ℕ)) (rest : List ℕ) → later ≡ ended lines ++ rest → line ++ 10 ∷ later ≡ ended (line ∷ lines) ++ rest
@@ -54,26 +55,30 @@ whole_fails text line later number cut is body = record {
     one_on : (k : ℕ) → (k + 1) + 1 ≡ suc k + 1
     one_on k = omega arith
 
-pub first_fails : (text line later : List ℕ) → IsCut text line later → (IsScenario line → ⊥) → FailsAt text 1
-first_fails text line later cut fails = record {
+-- a text that fails is no history beside
+fails_at : (text : List ℕ) (number : ℕ) → FailsAt text number → (IsHistory text → ⊥) × FailsAt text number
+fails_at text number at = (never_history text number at, at)
+
+pub first_fails : (text line later : List ℕ) → IsCut text line later → (IsScenario line → ⊥) → (IsHistory text → ⊥) × FailsAt text 1
+first_fails text line later cut fails = fails_at text 1 (record {
   before = [];
   numbered = refl;
   one_each = tt;
   stand = tt;
   here = inl (record { line = line; later = later; parts = cut.whole; is_one = cut.is_one; wrong = λ stand. fails stand.0 });
-}
+})
 
-pub none_fails : (text : List ℕ) → IsOneLine text → FailsAt text 1
-none_fails text one = record {
+pub none_fails : (text : List ℕ) → IsOneLine text → (IsHistory text → ⊥) × FailsAt text 1
+none_fails text one = fails_at text 1 (record {
   before = [];
   numbered = refl;
   one_each = tt;
   stand = tt;
   here = inr (record { rest = text; parts = refl; is_one = one; missing = λ none whole. whole.3 });
-}
+})
 
 pub whole_reading : (text line later : List ℕ) (scenario : Scenario) (r : Result Printed BadHistory) → IsCut text line later → IsScenarioOf line scenario → IsRestReading scenario later r → IsReading text r
 whole_reading text line later scenario (Ok printed) cut is body =
     subst (λ (s : Scenario). IsHistoryOf text s printed.entries printed.counts) (sym body.0) (whole_read text line later scenario printed.entries printed.counts cut is body.1)
-whole_reading text line later scenario (Err (bad.Line number)) cut is body = whole_fails text line later number cut (scenario, is) body
+whole_reading text line later scenario (Err (bad.Line number)) cut is body = fails_at text number (whole_fails text line later number cut (scenario, is) body)
 whole_reading text line later scenario (Err bad.NoMemory) cut is body = tt

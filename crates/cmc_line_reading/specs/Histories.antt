@@ -1,35 +1,19 @@
 -- What the text of a history is: the scenario, the entries numbered from 1, and the summary, a line each.
-use Rattle.std.specs.Prelude.{◌≡◌, ◌⊎◌, ℕ, ◌+◌, ◌==◌, ◌<◌, ◌^◌, List, [], ◌∷◌, ◌++◌, codes, length, true, false, Ok, Err, Some}
+use Rattle.std.specs.Prelude.{◌≡◌, ◌⊎◌, ℕ, ◌+◌, ◌==◌, List, [], ◌∷◌, ◌++◌, codes, length, false, Ok, Err, Some}
 use Rattle.std.specs.declared.result.Result.{Result}
 use Rattle.std.specs.List.{flat_map, All, AllByRecursion}
 use Rattle.std.specs.Str.{IsUtf8}
-use Rattle.base64.specs.GeneralPurpose.{IsBytes}
 use Rattle.serde_json.specs.Data.{Data}
 use Rattle.serde_json.specs.Read.{read}
 use Rattle.serde_json.specs.Written.{compact_text}
-use Rattle.cmc_meta.specs.Names.{is_subdomain}
-use Rattle.cmc_meta.specs.declared.key.Kind.TheVariants.{Certificate}
-use Rattle.cmc_time.specs.Moment.{IsPrintable}
-use Rattle.cmc_objects.specs.declared.object.Object.TheVariants.{Request}
-use Rattle.cmc_objects.specs.declared.call.Call.{Call}
-use Rattle.cmc_objects.specs.declared.call.Call.TheVariants.{Create, Update, UpdateStatus, Delete, Get}
-use Rattle.cmc_objects.specs.declared.call.Reply.{Reply}
-use Rattle.cmc_objects.specs.declared.call.Reply.TheVariants as replies
-use Rattle.cmc_objects.specs.declared.orders.Order.{Order}
-use Rattle.cmc_objects.specs.declared.orders.Order.TheVariants as orders
-use Rattle.cmc_objects.specs.declared.orders.Signing.{Signing}
-use Rattle.cmc_objects.specs.declared.orders.Signing.TheVariants as answers
 use Rattle.cmc_objects.specs.declared.entry.Entry.{Entry}
-use Rattle.cmc_objects.specs.declared.entry.Entry.TheVariants as entries
-use Rattle.cmc_objects.specs.Objects.{key_of}
-use Rattle.cmc_objects.specs.Watching.{kind_of_work}
-use Rattle.cmc_status_form.specs.Laws.{HasWholeForm}
 use Rattle.cmc_summary.specs.declared.summary.Summary.{Summary}
-use Rattle.cmc_summary_form.specs.SummaryForm.{HasNames, IsKeyOf, HasSummaryForm}
+use Rattle.cmc_summary_form.specs.SummaryForm.{HasSummaryForm}
 use Rattle.cmc_setup.specs.declared.scenario.Scenario.{Scenario}
 use Rattle.cmc_scenario.specs.Scenarios.{scenario_at}
 use Rattle.cmc_report.specs.Trees.{entry_tree, summary_tree}
 use Rattle.cmc_lines.specs.Shown.{shown}
+use Rattle.cmc_entry_form.specs.Entries.{HasForm}
 use Rattle.cmc_lines.specs.declared.line.PrintedLine.{PrintedLine}
 use Rattle.cmc_lines.specs.declared.printed.Printed.{Printed}
 use Rattle.cmc_line_reading.specs.declared.history.BadHistory.{BadHistory}
@@ -126,6 +110,9 @@ pub record IsHistoryOf (text : List ℕ) (scenario : Scenario) (entries : List P
   pub is : IsText text lines
   pub are : AreLinesOf lines scenario entries counts
 
+abbrev pub IsHistory : List ℕ → Type 0
+IsHistory text = (scenario : Scenario) × (entries : List PrintedLine) × (counts : List ℕ) × IsHistoryOf text scenario entries counts
+
 -- ---- the first line that fails
 
 -- Behind these lines comes one that cannot stand there.
@@ -155,8 +142,8 @@ pub record FailsBy (CanStand IsWhole : List (List ℕ) → Type 0) (text : List 
 abbrev pub FailsAt : List ℕ → ℕ → Type 0
 FailsAt = FailsBy CanBegin AreLines
 
--- What was read of the text, or why it was not: the first line that fails, or memory ran out.
+-- What was read of the text, or that it is not that of a history, and the first line that fails; or memory ran out.
 abbrev pub IsReading : List ℕ → Result Printed BadHistory → Type 0
 IsReading text (Ok printed) = IsHistoryOf text printed.scenario printed.entries printed.counts
-IsReading text (Err (bad.Line number)) = FailsAt text number
+IsReading text (Err (bad.Line number)) = (IsHistory text → ⊥) × FailsAt text number
 IsReading text (Err bad.NoMemory) = Unit {0}

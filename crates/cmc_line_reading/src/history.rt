@@ -84,7 +84,7 @@ fn with_scenario(alloc: Global, scenario: Scenario, text: &[u8]) -> Result<Print
 /// # Errors
 ///
 /// `Line` exactly where the text is not of this form, with the number of the first line that is wrong or missing.
-#[tactic(auto, using(crate::proofs::Texts::none_fails, crate::proofs::Texts::first_fails, crate::proofs::Texts::whole_reading))]
+#[tactic(auto, using(crate::proofs::Texts::none_fails, crate::proofs::Texts::whole_reading))]
 pub fn read_history(alloc: Global, text: &[u8]) -> Result<Printed, BadHistory>
     ensures { IsReading text.now result }
 {
