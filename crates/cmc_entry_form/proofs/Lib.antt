@@ -1,0 +1,4 @@
+mod NamesAgain
+mod PartsAgain
+pub mod LinesAgain
+mod LinesSo

@@ -1,0 +1,3 @@
+pub mod LineForm
+pub mod Entries
+pub mod Lines

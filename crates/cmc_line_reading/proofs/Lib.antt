@@ -1,0 +1,7 @@
+mod Depths
+mod Compared
+mod Bodies
+mod Cuts
+mod Texts
+mod Summaries
+mod ScenarioLine

@@ -1,0 +1,4 @@
+pub mod Histories
+pub mod Bodies
+pub mod Nesting
+pub mod Scenarios
