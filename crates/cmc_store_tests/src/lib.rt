@@ -18,6 +18,8 @@ mod cursor;
 #[cfg(test)]
 mod history;
 #[cfg(test)]
+mod history_read;
+#[cfg(test)]
 mod json_texts;
 #[cfg(test)]
 mod objects_read;
