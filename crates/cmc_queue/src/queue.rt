@@ -4,8 +4,8 @@ ghost use Rattle.std.specs.Ordering.{is_lt};
 ghost use Rattle.std.specs.Prelude.{◌≡◌, ◌+◌, OnOk, ◌&&◌, true};
 ghost use Rattle.cmc_meta.specs.declared.key.Key.{Key as KeyValue};
 ghost use Rattle.cmc_meta.specs.Keys.{key_cmp};
-ghost use Rattle.cmc_queue.specs.Queues.{fresh_count, has_room, has_room_at, has_room_for, has_room_to_find, is_offered, row_of, versions_of, AreAbove, AreAfter, ChangesRow, ChangesRows, FindsFirst, KeepsMoments, KeepsRoom, KeepsRows, KeepsVersions, KeepsVersionsOfOthers, StayAbove, StayAfter};
-ghost use Rattle.cmc_queue.specs.Rows.{added, ended, is_fresh, is_free, left, looked, moved, no_row, parked_for, taken, ticked, timed_at};
+ghost use Rattle.cmc_queue.specs.Queues.{fresh_count, has_room, has_room_at, has_room_for, has_room_to_find, is_above, is_offered, row_of, versions_of, AreAbove, AreAfter, ChangesRow, ChangesRows, FindsFirst, KeepsMoments, KeepsRoom, KeepsRows, KeepsVersions, KeepsVersionsOfOthers, StayAbove, StayAfter};
+ghost use Rattle.cmc_queue.specs.Rows.{added, ended, is_fresh, is_free, is_pending, left, looked, moved, no_row, parked_for, taken, ticked, timed_at};
 
 use crate::moments::Moments;
 use crate::row::{Found, Row};
@@ -276,5 +276,13 @@ impl Queue {
         ensures { FindsFirst (λ k. is_lt (key_cmp key.now k) && is_offered self.now k) (option_copied result) }
     {
         self.rows.following(key)
+    }
+
+    /// The first key above this one, if there is one, that can be given and on which there may be something to do; `None`
+    /// exactly where there is none.
+    pub fn next_pending<'a>(&'a self, below: Option<&Key>) -> Option<&'a Key>
+        ensures { FindsFirst (λ k. is_above (option_copied below.entry) k && is_pending (row_of self.now k)) (option_copied result) }
+    {
+        self.rows.next_pending(below)
     }
 }
