@@ -1,11 +1,13 @@
 -- What a world keeps of its work queues, and what is known before a move of what the move does to them.
-use Rattle.std.specs.Prelude.{◌≡◌, ◌≤◌, ℕ, ℤ, ◌+◌, true, false, List, ◌∷◌, Option, Some, None, int_le, nat_le}
+use Rattle.std.specs.Prelude.{◌≡◌, ◌↔◌, ◌≤◌, ℕ, ℤ, ◌+◌, IsTrue, true, false, List, ◌∷◌, Option, Some, None, int_le, nat_le}
 use Rattle.cmc_meta.specs.declared.key.Key.{Key}
 use Rattle.cmc_meta.specs.declared.key.Kind.{Kind}
 use Rattle.cmc_objects.specs.declared.entry.Entry.{Entry}
 use Rattle.cmc_objects.specs.declared.role.Role.{Role}
 use Rattle.cmc_objects.specs.Watching.{has_informer, kind_of_work}
 use Rattle.cmc_queue.specs.Queues.{has_room, row_of, ChangesRow, ChangesRows, Work}
+use Rattle.cmc_queue.specs.declared.row.Found.TheVariants as found
+use Rattle.cmc_queue.specs.declared.row.Row.{Row}
 use Rattle.cmc_queue.specs.Rows.{no_row, ticked}
 use Rattle.cmc_model.specs.declared.write.Write.{Write}
 use Rattle.cmc_model.specs.Histories.{Setting, accepted, moment}
@@ -14,7 +16,7 @@ use Rattle.cmc_rules.specs.declared.effect.Effect.{Effect}
 use Rattle.cmc_rules.specs.declared.effect.Effect.TheVariants as effects
 use Rattle.cmc_rules.specs.Legality.{IsOpen}
 use Rattle.cmc_rules.specs.Memory.{ending_of, past}
-use Rattle.cmc_rules.specs.Passes.{is_pass_of, open_pass}
+use Rattle.cmc_rules.specs.Passes.{is_pass_of, open_pass, IsWorking}
 use Rattle.cmc_rules.specs.Positions.{position, positions}
 use Rattle.cmc_rules.specs.Viewing.{views}
 use Rattle.cmc_caches.specs.Affected.{is_among}
@@ -125,3 +127,20 @@ IsToTurn s h Same queues = IsFed s h queues
 IsToTurn s h Tick queues = (new : List Work) → ((role : Role) → ChangesRows (ticked (moment s h)) (queue_in queues role) (queue_in new role)) → IsFed s h new
 IsToTurn s h (Stop role) queues = (new : List Work) → ((key : Key) → row_at new role key ≡ no_row) → KeepsOthers role queues new → IsFed s h new
 IsToTurn s h (Start role queue) queues = (new : List Work) → queue_in new role ≡ queue → KeepsOthers role queues new → IsFed s h new
+
+-- ---- the queues of a world that is taken over
+
+-- the key is to be looked at, and in process where a pass of the role on it is open
+pub record IsRowAnew (s : Setting) (h : List Entry) (role : Role) (key : Key) (row : Row) : Type 0 where
+  pub ready : row.ready ≡ true
+  pub unknown : row.work ≡ found.Unknown
+  pub working : IsTrue row.working ↔ IsWorking s h role key
+
+-- of these keys it is so, and no other has a row
+pub record AreRowsAnew (s : Setting) (h : List Entry) (role : Role) (keys : List Key) (queue : Work) : Type 0 where
+  pub listed : (key : Key) → is_among keys key ≡ true → IsRowAnew s h role key (row_of queue key)
+  pub others : (key : Key) → is_among keys key ≡ false → row_of queue key ≡ no_row
+
+-- the role's queue is one of all keys of its work that a write named
+abbrev pub IsStarted : Setting → List Entry → Role → List Work → Type 0
+IsStarted s h role queues = (keys : List Key) × AreKnownKeys s h role keys × AreRowsAnew s h role keys (queue_in queues role)

@@ -44,7 +44,7 @@ fn known_of(alloc: Global, role: Role, writes: &[Write]) -> Result<Vec<Key>, All
 }
 
 /// The keys of the role's work that an accepted write named.
-fn known_keys(alloc: Global, world: &World, role: Role) -> Result<Vec<Key>, AllocError>
+pub(crate) fn known_keys(alloc: Global, world: &World, role: Role) -> Result<Vec<Key>, AllocError>
     ensures { IfOk result (λ keys. on AreKnownKeys world.now role keys.items) }
 {
     known_of(alloc, role, world.log().as_slice())
