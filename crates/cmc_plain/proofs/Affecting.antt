@@ -1,7 +1,8 @@
 -- Of which keys a role that is told may see something new.
 use Rattle.std.proofs.Common.{◌≡◌, ◌⊎◌, inl, inr, ℕ, ◌≤◌, ◌<◌, ◌+◌, ◌-◌, List, ◌∷◌, length, Bool, true, false, refl, sym, ap, subst, ◌∙◌, arith}
 use Rattle.std.proofs.lemmas.Bool.Decides.{nat_tests}
-use Rattle.std.specs.Prelude.{nat_le, if◌then◌else◌, reverse}
+use Rattle.std.proofs.lemmas.List.{length-reverse}
+use Rattle.std.specs.Prelude.{nat_le, if◌then◌else◌, reverse, IfOk, Result, Ok, Err}
 use Rattle.cmc_meta.specs.declared.key.Key.{Key}
 use Rattle.cmc_meta.specs.declared.key.Kind.{Kind}
 use Rattle.cmc_meta.specs.declared.key.Kind.TheVariants as kinds
@@ -97,14 +98,15 @@ pub not_informed : (s : Setting) (h : List Entry) (role : Role) (kind : Kind) (t
 not_informed s h role kind to off a = let on = (may_deliver s h role kind to a).informed in cc (on, off)
 
 -- nor of a version that it was told of, or that was not accepted
-pub not_news : (s : Setting) (h : List Entry) (role : Role) (kind : Kind) (to from all : ℕ) → has_informer role kind ≡ true → from ≡ position_of kind (positions h role) → all ≡ length (writes s h) → (to ≤ from) ⊎ (all < to) → AnswersDelivery s h role kind to Done → ⊥
+pub not_news : (s : Setting) (h : List Entry) (role : Role) (kind : Kind) (to from all : ℕ) → has_informer role kind ≡ true → from ≡ position_of kind (positions h role) → all ≡ length (writes s h) → (to ≤ from) ⊎ ((from < to) × (all < to)) → AnswersDelivery s h role kind to Done → ⊥
 not_news s h role kind to from all on is count (inl low) a =
     let news = (may_deliver s h role kind to a).news.0 in
     let here = is ∙ shown s h role kind on in
     omega (arith, low, news, here)
 not_news s h role kind to from all on is count (inr high) a =
     let low = write_at-low kind to (writes s h) (may_deliver s h role kind to a).news.1 in
-    omega (arith, high, low, count)
+    let above = high.1 in
+    omega (arith, above, low, count)
 
 -- the watch reaches back to its position
 pub reaches_back : (s : Setting) (h : List Entry) (role : Role) (kind : Kind) (to from all : ℕ) → has_informer role kind ≡ true → from ≡ position_of kind (positions h role) → all ≡ length (writes s h) → from < to → to ≤ all → all - from ≤ s.window → IsToldUpTo s h role kind to to
@@ -140,9 +142,15 @@ lists_all s h role kind to from all on is count low high far =
 pub from_low : (s : Setting) (h : List Entry) (role : Role) (kind : Kind) (to from upto : ℕ) → from ≡ position_of kind (positions h role) → IsToldUpTo s h role kind to upto → from ≤ upto
 from_low s h role kind to from upto is told = let here = is ∙ shown s h role kind told.informed in let above = told.above in omega (arith, here, above)
 
-pub upto_within : (s : Setting) (h : List Entry) (role : Role) (kind : Kind) (to upto : ℕ) (items ws : List Write) → reverse items ≡ ws → ws ≡ writes s h → length items ≡ length (reverse items) → IsToldUpTo s h role kind to upto → upto ≤ length items
-upto_within s h role kind to upto items ws turned is same told =
+pub upto_within : (s : Setting) (h : List Entry) (role : Role) (kind : Kind) (to upto : ℕ) (items ws : List Write) → reverse items ≡ ws → ws ≡ writes s h → IsToldUpTo s h role kind to upto → upto ≤ length items
+upto_within s h role kind to upto items ws turned is told =
     let within = told.within in
     let count = writes_count s h in
     let all : length (reverse items) ≡ length (writes s h) = ap length (turned ∙ is) in
+    let same = length-reverse items in
     omega (arith, within, count, all, same)
+
+-- two facts of what a call answers
+pub both_ok : {A E : Type 0} (r : Result A E) (P Q R : A → Type 0) → ((a : A) → P a → Q a → R a) → IfOk r P → IfOk r Q → IfOk r R
+both_ok (Ok a) P Q R f p q = f a p q
+both_ok (Err e) P Q R f p q = tt

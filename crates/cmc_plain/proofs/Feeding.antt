@@ -62,7 +62,7 @@ use Rattle.cmc_plain.specs.Fed.{AreAffected, AreKnownKeys, HasRoomsToEnd, IsAhea
 use Rattle.cmc_plain.specs.declared.fed_passes.Closing.{Closing}
 use Rattle.cmc_plain.specs.declared.fed_scripts.Ahead.{Ahead}
 use Rattle.cmc_plain.specs.declared.fed_scripts.Ahead.TheVariants as ahead
-use Rattle.cmc_plain.proofs.Moves.{IsSilent, fed_begun, fed_delivered, fed_ended, fed_listed, fed_rows, fed_silent, fed_started, fed_stopped, fed_ticked}
+use Rattle.cmc_plain.proofs.Moves.{IsSilent, fed_begun, fed_delivered, fed_ended, fed_first, fed_listed, fed_rows, fed_silent, fed_started, fed_stopped, fed_ticked}
 use Rattle.cmc_plain.proofs.Starting.{StartsStopped}
 use Rattle.cmc_plain.proofs.Switches.{starts_stopped}
 use Rattle.cmc_plain.proofs.Unknown.{sees_none}
@@ -361,3 +361,9 @@ to_turn old new a queues orderly run after same grown is fed =
     let s : Setting = setting_of old.scenario in
     on_new (λ s h. IsToTurn s h a queues) old new same
     (turn_by a s old.history new.history (scripted old.history + 1) queues run.legal (starts_stopped old.scenario new.history orderly (subst (λ (u : Setup). Follows (setting_of u) new.history) same after.follows)) is grown fed)
+
+-- ---- at the beginning
+
+-- nothing was done, and nothing is to be done
+pub fed_new : (u : Setup) (world : Seen) (queues : List Work) → world ≡ record { scenario = u; history = [] } → ((role : Role) (key : Key) → row_at queues role key ≡ no_row) → on IsFed world queues
+fed_new u world queues is none = subst (λ (w : Seen). on IsFed w queues) (sym is) (fed_first (setting_of u) queues (λ role key. sees_none (setting_of u) [] role key refl) none)

@@ -7,6 +7,7 @@ use Rattle.std.specs.Prelude.{◌||◌, nat_lt, reverse}
 use Rattle.std.specs.BTreeMap.{is_at}
 use Rattle.std.specs.Ordering.{is_eq}
 use Rattle.cmc_meta.specs.declared.key.Key.{Key}
+use Rattle.cmc_meta.specs.declared.key.Kind.{Kind}
 use Rattle.cmc_meta.specs.Keys.{key_cmp, key_eq}
 use Rattle.cmc_objects.specs.declared.call.Call.{Call}
 use Rattle.cmc_objects.specs.declared.entry.Entry.{Entry}
@@ -20,7 +21,7 @@ use Rattle.cmc_queue.specs.Rows.{no_row}
 use Rattle.cmc_held.proofs.Numbered.{list_any-reverse}
 use Rattle.cmc_model.specs.declared.write.Write.{Write}
 use Rattle.cmc_model.specs.Histories.{Setting, accepted, moment, objects, role_eq}
-use Rattle.cmc_model.specs.Writes.{is_known, writes}
+use Rattle.cmc_model.specs.Writes.{is_known, kind_eq, writes}
 use Rattle.cmc_rules.specs.declared.effect.Effect.{Effect}
 use Rattle.cmc_rules.specs.declared.effect.Effect.TheVariants as effects
 use Rattle.cmc_rules.specs.Following.{call_of, call_or, effect_besides, effect_of}
@@ -28,12 +29,13 @@ use Rattle.cmc_rules.specs.Scripting.{scripted, step_at}
 use Rattle.cmc_caches.specs.Affected.{is_among}
 use Rattle.cmc_moves.specs.Answers.{next_effect}
 use Rattle.cmc_waking.specs.Queues.{queue_in, KeepsOthers}
-use Rattle.cmc_world.proofs.AtRest.{same_key}
+use Rattle.cmc_world.proofs.AtRest.{same_key, same_kind}
 use Rattle.cmc_plain.specs.Fed.{AreKnownKeys, AreKnownOf, AreRowsAnew, IsAhead, IsOfStore, IsRowAnew, IsStarted, IsStarting}
 use Rattle.cmc_plain.specs.Searches.{EachBefore}
 use Rattle.cmc_plain.specs.declared.fed_scripts.Ahead.TheVariants as ahead
 use Rattle.cmc_plain.proofs.Keys.{turned_test}
-use Rattle.cmc_objects.proofs.Ranks.{role_of_rank}
+use Rattle.cmc_plain.proofs.Looking.{kind_itself}
+use Rattle.cmc_objects.proofs.Ranks.{rank_low, role_of_rank}
 
 -- ---- keys of writes
 
@@ -78,11 +80,8 @@ known_pushed role ws more w keys new is work pushed known = record {
     all_of k kind (inl same) = inr same
     all_of k kind (inr named) = inl (known.all k kind named)
 
-pub known_more : (role : Role) (ws more : List Write) (w : Write) (keys new : List Key) (key : Key) → more ≡ ws ++ w ∷ [] → w.key.kind ≡ kind_of_work role → key ≡ w.key → new ≡ keys ++ key ∷ [] → AreKnownOf role ws keys → AreKnownOf role more new
-known_more role ws more w keys new key is work same pushed known = known_pushed role ws more w keys new is work (pushed ∙ ap (λ (k : Key). keys ++ k ∷ []) same) known
-
 -- a write of another kind
-pub known_passed : (role : Role) (ws more : List Write) (w : Write) (keys : List Key) → more ≡ ws ++ w ∷ [] → (w.key.kind ≡ kind_of_work role → ⊥) → AreKnownOf role ws keys → AreKnownOf role more keys
+known_passed : (role : Role) (ws more : List Write) (w : Write) (keys : List Key) → more ≡ ws ++ w ∷ [] → (w.key.kind ≡ kind_of_work role → ⊥) → AreKnownOf role ws keys → AreKnownOf role more keys
 known_passed role ws more w keys is other known = record {
   work = known.work;
   all = λ k kind named. all_of k kind (or_either (key_eq w.key k) (is_known k ws) (sym (ap (is_known k) is ∙ known_push k ws w) ∙ named));
@@ -92,8 +91,16 @@ known_passed role ws more w keys is other known = record {
     all_of k kind (inl same) = absurd (other (ap (λ (q : Key). q.kind) (same_key w.key k same) ∙ kind))
     all_of k kind (inr named) = known.all k kind named
 
-pub known_first : (role : Role) (keys : List Key) → keys ≡ [] → AreKnownOf role [] keys
-known_first role keys none = record { work = λ k some. absurd (let off = ap (λ (ks : List Key). is_among ks k) none in cc (off, some)); all = λ k kind named. absurd (cc named) }
+step_by : (b : Bool) (role : Role) (ws more : List Write) (w : Write) (keys new : List Key) → kind_eq w.key.kind (kind_of_work role) ≡ b → more ≡ ws ++ w ∷ [] → (w.key.kind ≡ kind_of_work role → new ≡ keys ++ w.key ∷ []) → ((w.key.kind ≡ kind_of_work role → ⊥) → new ≡ keys)
+    → AreKnownOf role ws keys → AreKnownOf role more new
+step_by true role ws more w keys new test is here other known = let work = same_kind w.key.kind (kind_of_work role) test in known_pushed role ws more w keys new is work (here work) known
+step_by false role ws more w keys new test is here other known =
+    let apart : w.key.kind ≡ kind_of_work role → ⊥ = λ same. let on = kind_itself (kind_of_work role) in let off = subst (λ (k : Kind). kind_eq k (kind_of_work role) ≡ false) same test in cc (on, off) in
+    subst (AreKnownOf role more) (sym (other apart)) (known_passed role ws more w keys is apart known)
+
+-- one write more
+pub known_step : (role : Role) (ws more : List Write) (w : Write) (keys new : List Key) → more ≡ ws ++ w ∷ [] → (w.key.kind ≡ kind_of_work role → new ≡ keys ++ w.key ∷ []) → ((w.key.kind ≡ kind_of_work role → ⊥) → new ≡ keys) → AreKnownOf role ws keys → AreKnownOf role more new
+known_step role ws more w keys new is here other known = step_by (kind_eq w.key.kind (kind_of_work role)) role ws more w keys new refl is here other known
 
 -- the log's writes are those of the history, the other way round
 pub known_of_log : (s : Setting) (h : List Entry) (role : Role) (items ws : List Write) (keys : List Key) → reverse items ≡ ws → ws ≡ writes s h → AreKnownOf role items keys → AreKnownKeys s h role keys
@@ -203,3 +210,6 @@ pub started_more : (s : Setting) (h : List Entry) (n : ℕ) (role : Role) (old n
 started_more s h n role old new is here others before r low =
     one_more (λ q. IsStarted s h q new) n role r (nat_lt (role_rank r) n) is here
     (λ q below. let done = before q below in (done.0, done.1, subst (AreRowsAnew s h q done.0) (sym (others q (apart role q n is below))) done.2)) low refl
+
+pub started_all : (s : Setting) (h : List Entry) (queues : List Work) → EachBefore (λ r. IsStarted s h r queues) 8 → (role : Role) → IsStarted s h role queues
+started_all s h queues each role = each role (rank_low role)

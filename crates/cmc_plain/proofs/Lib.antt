@@ -44,3 +44,5 @@ pub mod Finding
 pub mod TakenOver
 pub mod Undue
 pub mod KnownKeys
+pub mod BeginsFed
+pub mod Telling

@@ -49,7 +49,7 @@ fresh_is row on = let free = and_parts row.ready (not row.working) (and_parts (i
   unset true off = absurd (cc off)
   unset false off = refl
 
-kind_itself : (kind : Kind) → kind_eq kind kind ≡ true
+pub kind_itself : (kind : Kind) → kind_eq kind kind ≡ true
 kind_itself kind = (Decides-eqb (kind_rank kind) (kind_rank kind)).1 refl
 
 work_by : (same : Bool) (s : Setting) (h : List Entry) (role : Role) (key : Key) (row : Key → Row) → kind_eq key.kind (kind_of_work role) ≡ same → AreTended s h role row → (row key).ready ≡ true → key.kind ≡ kind_of_work role

@@ -2,7 +2,7 @@
 use Rattle.std.proofs.Common.{◌≡◌, ◌⊎◌, ◌<◌, ℕ, ℤ, Bool, true, false, List, Option, Some, None, Result, Ok, Err, refl, sym, ap, subst, inl, inr, ◌∙◌, arith}
 use Rattle.std.proofs.lemmas.Bool.{ltb-true, lt-ltb}
 use Rattle.std.proofs.lemmas.Int.{ints}
-use Rattle.std.specs.Prelude.{IfOk, int_le, nat_lt, if◌then◌else◌, IfSome, IsSomeAnd}
+use Rattle.std.specs.Prelude.{◌↔◌, IsTrue, IfOk, int_le, nat_lt, if◌then◌else◌, IfSome, IsSomeAnd}
 use Rattle.std.specs.declared.alloc.AllocError.{AllocError}
 use Rattle.cmc_meta.specs.declared.key.Key.{Key}
 use Rattle.cmc_meta.specs.declared.key.Kind.{Kind}
@@ -27,6 +27,7 @@ use Rattle.cmc_rules.specs.declared.progress.Obstacle.TheVariants.{Failure, Newe
 use Rattle.cmc_rules.specs.declared.progress.Ending.{Ending}
 use Rattle.cmc_rules.specs.declared.progress.Ending.TheVariants as endings
 use Rattle.cmc_rules.specs.declared.progress.LastPass.{LastPass}
+use Rattle.cmc_rules.specs.declared.progress.Past.{Past}
 use Rattle.cmc_rules.specs.Dates.{HasDatedFailure, IsDated}
 use Rattle.cmc_rules.specs.Acts.{act}
 use Rattle.cmc_rules.specs.Causes.{IsCaused}
@@ -39,7 +40,7 @@ use Rattle.cmc_rules.specs.Sameness.{EndsAlike, IsDue, IsSame, own_above}
 use Rattle.cmc_rules.specs.Sound.{IsDueMoment}
 use Rattle.cmc_rules.specs.Viewing.{views}
 use Rattle.cmc_moves.specs.Quiet.{IsQuiet, no_views, seen_last}
-use Rattle.cmc_waking.specs.Parking.{own_ahead, obstacle_ahead, IsParkedUntil, IsRefusedUntil, OrElse}
+use Rattle.cmc_waking.specs.Parking.{own_ahead, obstacle_ahead, waits_for, IsParkedUntil, IsRefusedUntil, OrElse}
 use Rattle.cmc_rules.specs.Resting.{IsIdle}
 use Rattle.cmc_rules.proofs.Sights.{seen_request}
 use Rattle.cmc_rules.proofs.Sighted.{views_known}
@@ -176,13 +177,28 @@ pub undue_quiet : (s : Setting) (h : List Entry) (role : Role) (key : Key) → I
 undue_quiet s h role key legal caused told until undue worth =
     not_due s h role key (past s h role key).last (ended_idle s h role key legal caused) worth undue told refl (until_last s h role key (own_ahead (past s h role key).own (positions h role)) until)
 
+-- where no own write is ahead the role was told of all
+pub told_by : (s : Setting) (h : List Entry) (role : Role) (key : Key) (p : Past) (own at : Positions) (o : Option Parked) → p ≡ past s h role key → own ≡ p.own → at ≡ positions h role → o ≡ waits_for endings.Wrote own at → o ≡ None → own_above (past s h role key).own (positions h role) ≡ None
+told_by s h role key p own at o one two three is none =
+    let mine : own ≡ (past s h role key).own = two ∙ ap (λ (x : Past). x.own) one in
+    own_none (past s h role key).own (positions h role) (subst (λ (x : Positions). own_ahead x (positions h role) ≡ None) mine (subst (λ (a : Positions). own_ahead own a ≡ None) three (sym is ∙ none)))
+
+-- by what was read of it
+pub undue_by : (s : Setting) (h : List Entry) (role : Role) (key : Key) (p : Past) (seen : Views) (at : Positions) (o : Option Parked) (quiet : Bool) → IsLegal s h → IsCaused s h → p ≡ past s h role key → seen ≡ views s h role key → at ≡ positions h role → o ≡ None
+    → own_above (past s h role key).own (positions h role) ≡ None → IsParkedUntil p seen at o → (IsDue (past s h role key) seen (moment s h) (positions h role) → ⊥) → (IsTrue quiet ↔ IsQuiet s h role key) → quiet ≡ false → ⊥
+undue_by s h role key p seen at o quiet legal caused one two three none told until undue test off =
+    undue_quiet s h role key legal caused told
+    (subst (λ (x : Past). IsParkedUntil x (views s h role key) (positions h role) None) one
+    (subst (λ (v : Views). IsParkedUntil p v (positions h role) None) two (subst (λ (a : Positions). IsParkedUntil p seen a None) three (subst (IsParkedUntil p seen at) none until))))
+    (λ due. undue (subst (λ (v : Views). IsDue (past s h role key) v (moment s h) (positions h role)) (sym two) due)) (λ is. let on = test.1 is in cc (on, off))
+
 -- ---- what is seen of a request is dated
 
 request_dated : (o : Option CertificateRequest) → ((r : CertificateRequest) → o ≡ Some r → IsDated (Some (Request r))) → IsDatedRequest o
 request_dated None each = tt
 request_dated (Some r) each = each r refl
 
-dated_moments : (s : Setting) (h : List Entry) (role : Role) (key : Key) → IsFormed s → IsRun s h → HasDatedFailure (views s h role key) → HasDatedMoments (views s h role key)
+pub dated_moments : (s : Setting) (h : List Entry) (role : Role) (key : Key) → IsFormed s → IsRun s h → HasDatedFailure (views s h role key) → HasDatedMoments (views s h role key)
 dated_moments s h role key formed run failure = record {
   failure = failure;
   answer = request_dated (views s h role key).request

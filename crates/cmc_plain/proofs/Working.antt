@@ -69,3 +69,11 @@ work_where_due s h role key seen does due o legal is running free does_is due_is
   by : (b : Bool) → due ≡ b → IsWorkOn s h role key (if b then Some (record { role = role; key = key; seen = seen; does = does }) else None)
   by true on = record { work = work (due_is.0 on); known = record { role = refl; key = refl; seen = is; does = here } }
   by false off = λ w. let on = due_is.1 (subst IsDueWith (sym is) w.may.due) in absurd (cc (on, off))
+
+-- a pass that is due and has something to do is one to begin
+pub work_found : (s : Setting) (h : List Entry) (role : Role) (key : Key) (seen : Views) (does : Option Act) (o : Opening) → IsLegal s h → seen ≡ views s h role key → runs s h role ≡ true → IsFree s h role key
+    → IsProspect role (act role seen (moment s h) (desk s h role seen)) (prospect does) → IsDue (past s h role key) seen (moment s h) (positions h role) → o ≡ record { role = role; key = key; seen = seen; does = does } → IsWorkOn s h role key (Some o)
+work_found s h role key seen does o legal is running free does_is due same =
+    work_where_due s h role key seen does true (Some o) legal is running free does_is (λ on. due, λ d. refl) (ap (λ (x : Opening). some_opening x) same) where
+  some_opening : Opening → Option Opening
+  some_opening x = Some x

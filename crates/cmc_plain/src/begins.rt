@@ -8,7 +8,7 @@ ghost use Rattle.cmc_world.specs.Kept.{on};
 ghost use Rattle.cmc_plain.specs.Fed.{IsFed};
 ghost use Rattle.cmc_plain.specs.Searches.{FindsBegin, FindsKey};
 
-use crate::looks::look;
+use crate::looks::look_at;
 use crate::roles::role_in;
 use cmc_meta::Key;
 use cmc_objects::Role;
@@ -50,7 +50,7 @@ fn first_fit(
         if !queues.queue(role).row(&key).work.is_unknown() {
             return Ok(Some(key));
         }
-        look(alloc, world, queues, role, &key)?;
+        look_at(alloc, world, queues, role, &key)?;
     }
     Ok(None)
 }

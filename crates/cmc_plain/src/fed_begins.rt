@@ -3,7 +3,7 @@ ghost use Rattle.std.specs.Prelude.{◌≡◌, ℕ, IfOk, OnErr, OnOk, true};
 ghost use Rattle.cmc_meta.specs.declared.key.Key.{Key as KeyValue};
 ghost use Rattle.cmc_objects.specs.declared.role.Role.{Role as RoleValue};
 ghost use Rattle.cmc_model.specs.Histories.{moment, runs};
-ghost use Rattle.cmc_queue.specs.Queues.{has_room};
+ghost use Rattle.cmc_queue.specs.Queues.{fresh_count, has_room};
 ghost use Rattle.cmc_rules.specs.Memory.{past};
 ghost use Rattle.cmc_rules.specs.Passes.{IsWorking};
 ghost use Rattle.cmc_rules.specs.Positions.{positions};
@@ -60,6 +60,7 @@ pub(crate) fn room_at(
     ensures made { OnOk result (has_room (queue_in queues.new role) key.now ≡ true) }
     ensures place { OnOk result (HasPlaceAt next key.now (queue_in queues.new role)) }
     ensures rows { (r : RoleValue) → (k : KeyValue) → row_at queues.new r k ≡ row_at queues.old r k }
+    ensures fresh { fresh_count (queue_in queues.new role).rows ≡ fresh_count (queue_in queues.old role).rows }
 {
     match next {
         Some(at) => queues.room_at(role, key, at),
@@ -86,12 +87,13 @@ pub(crate) fn begin(
     world.is_run();
     let seen = dated_views(alloc, world, role, &key)?;
     let next = next_due(world, role, &seen);
-    room_at(queues, role, &key, next)?;
-    let named = key.copy()?;
-    let answer = world.step(alloc, Move::Begin { role, key: named })?;
-    if answer.is_done() {
-        queues.begun(role, &key, next);
+    let own = key.copy()?;
+    room_at(queues, role, &own, next)?;
+    let answer = world.step(alloc, Move::Begin { role, key })?;
+    if !answer.is_done() {
+        return Ok(answer);
     }
+    queues.begun(role, &own, next);
     Ok(answer)
 }
 
@@ -119,11 +121,12 @@ pub(crate) fn begin_due(
 {
     world.is_run();
     let next = next_due(world, role, &seen);
-    room_at(queues, role, &key, next)?;
-    let named = key.copy()?;
-    let answer = world.begin_due(role, named, seen)?;
-    if answer.is_done() {
-        queues.begun(role, &key, next);
+    let own = key.copy()?;
+    room_at(queues, role, &own, next)?;
+    let answer = world.begin_due(role, key, seen)?;
+    if !answer.is_done() {
+        return Ok(answer);
     }
+    queues.begun(role, &own, next);
     Ok(answer)
 }

@@ -77,8 +77,9 @@ pub(crate) fn deliver(
     let keys = affected(alloc, world, role, kind, to, upto)?;
     queues.room(role, &keys)?;
     let answer = world.step(alloc, Move::Deliver { role, kind, to })?;
-    if answer.is_done() {
-        queues.told(role, kind, upto, &keys);
+    if !answer.is_done() {
+        return Ok(answer);
     }
+    queues.told(role, kind, upto, &keys);
     Ok(answer)
 }

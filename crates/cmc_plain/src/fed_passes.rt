@@ -35,7 +35,7 @@ pub(crate) struct Closing {
 }
 
 /// The role's own writes on the key.
-fn own_of(past: Option<&Past>) -> Positions
+pub(crate) fn own_of(past: Option<&Past>) -> Positions
     ensures { result ≡ (past_or_new (option_copied past.entry)).own }
 {
     match past {
@@ -49,7 +49,7 @@ fn own_of(past: Option<&Past>) -> Positions
 }
 
 /// How the pass would end; `None` exactly where it is not open.
-fn closing(world: &World, pass: u64) -> Result<Option<Closing>, AllocError>
+fn closing_of(world: &World, pass: u64) -> Result<Option<Closing>, AllocError>
     ensures { IfOk result (λ c. on IsClosing world.now pass c) }
 {
     let Some(open) = world.passes().get(pass) else {
@@ -89,16 +89,17 @@ fn close(world: &World, queues: &mut Queues, pass: u64, closing: Option<Closing>
     let Some(closing) = closing else {
         return;
     };
-    if world.passes().get(pass).is_none() {
-        let Closing {
-            role,
-            key,
-            ending,
-            own,
-            at,
-        } = closing;
-        queues.ended(role, &key, ending, own, at);
+    if world.passes().get(pass).is_some() {
+        return;
     }
+    let Closing {
+        role,
+        key,
+        ending,
+        own,
+        at,
+    } = closing;
+    queues.ended(role, &key, ending, own, at);
 }
 
 /// Makes the move, by which the pass goes on, as `World::step` does.
@@ -119,7 +120,7 @@ pub(crate) fn go_on(
     ensures fed { on IsFed world.new queues.new }
 {
     world.is_run();
-    let closing = match closing(world, pass) {
+    let closing = match closing_of(world, pass) {
         Ok(closing) => closing,
         Err(lack) => {
             let_go(step);
@@ -153,7 +154,7 @@ pub(crate) fn act_first(
     ensures fed { on IsFed world.new queues.new }
 {
     world.is_run();
-    let closing = match closing(world, pass) {
+    let closing = match closing_of(world, pass) {
         Ok(closing) => closing,
         Err(lack) => {
             let_go(does);

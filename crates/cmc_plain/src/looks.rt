@@ -8,6 +8,7 @@ ghost use Rattle.cmc_queue.specs.Queues.{fresh_count};
 ghost use Rattle.cmc_queue.specs.Rows.{is_fresh};
 ghost use Rattle.cmc_rules.specs.Memory.{past};
 ghost use Rattle.cmc_rules.specs.Positions.{positions};
+ghost use Rattle.cmc_rules.specs.Resting.{IsIdle};
 ghost use Rattle.cmc_rules.specs.Sameness.{IsDue, own_above};
 ghost use Rattle.cmc_rules.specs.Viewing.{views};
 ghost use Rattle.cmc_waking.specs.Queues.{queue_in, row_at};
@@ -90,6 +91,28 @@ fn undue(
     Ok(Look::Quiet(next_due(world, role, seen)))
 }
 
+/// What is found where a pass is due and has nothing to do.
+fn nothing_to_do(
+    alloc: Global,
+    world: &World,
+    role: Role,
+    key: &Key,
+    seen: &Views,
+) -> Look
+    requires sees { seen.now ≡ on views world.now role key.now }
+    requires dated { HasDatedMoments seen.now }
+    requires due { IsDue (on past world.now role key.now) seen.now (on moment world.now) (positions world.now.history role) }
+    requires idle { on IsIdle world.now role (on views world.now role key.now) }
+    ensures { on IsLook world.now role key.now result }
+{
+    let next = next_due(world, role, seen);
+    if world.saw_last(alloc, role, key, seen) {
+        Look::Quiet(next)
+    } else {
+        Look::Idle(next)
+    }
+}
+
 /// What is found where a pass is due.
 fn due(
     alloc: Global,
@@ -106,19 +129,11 @@ fn due(
     ensures { IfOk result (λ look. on IsLook world.now role key.now look) }
 {
     world.is_run();
-    let does = match world.prospect(alloc, role, key, &seen)? {
-        Prospect::Nothing => {
-            let next = next_due(world, role, &seen);
-            return Ok(if world.saw_last(alloc, role, key, &seen) {
-                Look::Quiet(next)
-            } else {
-                Look::Idle(next)
-            });
-        }
-        Prospect::Does(does) => Some(does),
-        Prospect::Something => None,
-    };
-    Ok(Look::Busy(opening(role, key, seen, does)?))
+    match world.prospect(alloc, role, key, &seen)? {
+        Prospect::Nothing => Ok(nothing_to_do(alloc, world, role, key, &seen)),
+        Prospect::Does(does) => Ok(Look::Busy(opening(role, key, seen, Some(does))?)),
+        Prospect::Something => Ok(Look::Busy(opening(role, key, seen, None)?)),
+    }
 }
 
 /// Looks at the key, on which the role, which runs, works in no pass.
@@ -179,7 +194,7 @@ fn note(
 
 /// Looks at the key, which is to be looked at, and keeps what it found; a pass on it, where one may begin and the role, which
 /// runs, has something to do there.
-pub(crate) fn look(
+pub(crate) fn look_at(
     alloc: Global,
     world: &World,
     queues: &mut Queues,

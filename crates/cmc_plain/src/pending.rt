@@ -9,7 +9,7 @@ ghost use Rattle.cmc_world.specs.Kept.{on};
 ghost use Rattle.cmc_plain.specs.Fed.{IsFed};
 ghost use Rattle.cmc_plain.specs.Searches.{FindsPending};
 
-use crate::looks::look;
+use crate::looks::look_at;
 use crate::openings::Opening;
 use cmc_meta::Key;
 use cmc_objects::Role;
@@ -61,7 +61,7 @@ pub(crate) fn next_pending(
         if !queues.queue(role).row(&key).work.is_unknown() {
             return Ok(Pending::Key(key));
         }
-        if let Some(opening) = look(alloc, world, queues, role, &key)? {
+        if let Some(opening) = look_at(alloc, world, queues, role, &key)? {
             return Ok(Pending::Pass(opening));
         }
     }

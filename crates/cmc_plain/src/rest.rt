@@ -35,8 +35,11 @@ fn rests_in(
         return Ok(true);
     }
     world.is_run();
-    let found = next_pending(alloc, world, queues, role, None)?;
-    Ok(matches!(found, Pending::None))
+    match next_pending(alloc, world, queues, role, None)? {
+        Pending::None => Ok(true),
+        Pending::Key(_key) => Ok(false),
+        Pending::Pass(_opening) => Ok(false),
+    }
 }
 
 /// Whether each role has nothing to do on any key, if it runs. No pass is open, and no role is behind.

@@ -81,6 +81,7 @@ impl Queue {
         ensures made { OnOk result (has_room self.new key.now ≡ true) }
         ensures rows { (k : KeyValue) → row_of self.new k ≡ row_of self.old k }
         ensures room { KeepsRoom self.old self.new }
+        ensures fresh { fresh_count self.new.rows ≡ fresh_count self.old.rows }
     {
         self.rows.room(key)
     }
@@ -126,6 +127,7 @@ impl Queue {
         ensures place { OnOk result (has_room_to_find self.new key.now ≡ true) }
         ensures rows { (k : KeyValue) → row_of self.new k ≡ row_of self.old k }
         ensures room { KeepsRoom self.old self.new }
+        ensures fresh { fresh_count self.new.rows ≡ fresh_count self.old.rows }
     {
         self.room_at(key, i64::MIN)
     }
@@ -170,6 +172,7 @@ impl Queue {
         ensures place { OnOk result (has_room_at self.new at key.now ≡ true) }
         ensures rows { (k : KeyValue) → row_of self.new k ≡ row_of self.old k }
         ensures room { KeepsRoom self.old self.new }
+        ensures fresh { fresh_count self.new.rows ≡ fresh_count self.old.rows }
     {
         self.rows.room(key)?;
         self.moments.room(key, at)?;
@@ -207,6 +210,7 @@ impl Queue {
         ensures place { OnOk result (has_room_for self.new kind version key.now ≡ true) }
         ensures rows { (k : KeyValue) → row_of self.new k ≡ row_of self.old k }
         ensures room { KeepsRoom self.old self.new }
+        ensures fresh { fresh_count self.new.rows ≡ fresh_count self.old.rows }
     {
         self.rows.room(key)?;
         match kind {

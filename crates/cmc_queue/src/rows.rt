@@ -111,6 +111,7 @@ impl Rows {
         ensures room { OnOk result (has_row self.new key.now ≡ true) }
         ensures same { (k : KeyValue) → row_in self.new k ≡ row_in self.old k }
         ensures keeps { (k : KeyValue) → has_row self.old k ≡ true → has_row self.new k ≡ true }
+        ensures fresh { fresh_count self.new ≡ fresh_count self.old }
     {
         if self.map.contains_key(key) {
             return Ok(());

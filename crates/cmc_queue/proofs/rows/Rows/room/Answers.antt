@@ -21,3 +21,10 @@ invariant_of-self-2 c =
 pub returns-clause-same : goal.returns-clause-same
 returns-clause-same c =
     rw (← c.self.view_is) (row_added c.self.inside.map.entries c.insert.new.self.entries c.args.key.now c.in_ok-key.key c.new.result (sym c.contains_key.ensures ∙ c.if-contains_key.false) c.in_ok-key.ensures c.new.ensures c.in_ok-insert.ensures.updates.0)
+
+pub returns-clause-fresh : goal.returns-clause-fresh
+returns-clause-fresh c =
+    let es = c.self.inside.map.entries in
+    let none = none_at_copy es c.args.key.now c.in_ok-key.key (sym c.contains_key.ensures ∙ c.if-contains_key.false) c.in_ok-key.ensures in
+    let made = c.in_ok-insert.ensures.entries ∙ ap (λ r. insert_entry key_cmp es c.in_ok-key.key r) c.new.ensures in
+    rw (← c.self.view_is) (ap fresh_count made ∙ count_insert is_fresh es c.in_ok-key.key refl none)
