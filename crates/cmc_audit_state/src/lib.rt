@@ -13,7 +13,9 @@ mod standings;
 mod versions;
 mod yeses;
 
-pub use journal::Journal;
+pub use indexes::{is_approved, is_denied, is_stated};
+pub use journal::{Journal, is_owned};
 pub use passes::Passes;
 pub use row::{Row, Version};
 pub use standings::{Standing, Standings, at_kind, put_at_kind};
+pub use yeses::Yeses;
