@@ -1,0 +1,3 @@
+pub mod Heeding
+pub mod Reading
+pub mod GoodIssues
