@@ -1,7 +1,7 @@
 -- A good issue by what is kept of a history is one by the history.
 use Rattle.std.proofs.Common.{◌≡◌, ◌==◌, ◌⊎◌, ◌&&◌, ℕ, ◌+◌, List, [], ◌∷◌, Bool, true, false, MatchBool, Option, Some, None, refl, sym, ap, subst, ◌∙◌, inl, inr, arith, Ordering, Equal}
 use Rattle.std.proofs.lemmas.Bool.Decides.{nat_tests}
-use Rattle.std.specs.Prelude.{◌↔◌, ◌||◌, if◌then◌else◌, filter_map, option_and_then, codes}
+use Rattle.std.specs.Prelude.{◌↔◌, ◌||◌, if◌then◌else◌, filter, filter_map, find as find_first, length, option_and_then}
 use Rattle.std.specs.FinMap as maps
 use Rattle.std.specs.FinMap.{get-entries, find}
 use Rattle.std.specs.List.{cons_option}
@@ -31,6 +31,7 @@ use Rattle.cmc_objects.specs.Objects.{key_of, version_of}
 use Rattle.cmc_match.specs.Marks.{is_temporary}
 use Rattle.cmc_answers.specs.Temporary.{temporary}
 use Rattle.cmc_match.specs.Facts.{key_in, certificate_in}
+use Rattle.cmc_match.specs.Revisions.{is_of, only_of}
 use Rattle.cmc_pass.specs.declared.pass.Views.{Views}
 use Rattle.cmc_model.specs.declared.write.Write.{Write}
 use Rattle.cmc_model.specs.Objects.{Objects, object_at}
@@ -44,11 +45,13 @@ use Rattle.cmc_model.proofs.Writes.{writes_count, writes_leave}
 use Rattle.cmc_rules.specs.declared.progress.OpenPass.{OpenPass}
 use Rattle.cmc_rules.specs.Sighting.{IsAmong}
 use Rattle.cmc_rules.specs.Safety.{IsGoodIssue, IsLiveRead, IsOfIssuer, IsStandIn, Stands}
-use Rattle.cmc_rules.specs.Viewing.{Caches, certificate_at, has_next_label, is_owned, next_in, next_of, of_certificate, requests_of, views_in, views_of}
+use Rattle.cmc_rules.specs.Viewing.{Caches, certificate_at, certificate_in as certificate_part, has_next_label, is_owned, next_in, next_of, of_certificate, owned_in, requests_of, views_in, views_of}
 use Rattle.cmc_rules.proofs.Sighted.{picked, stands_among}
+use Rattle.cmc_rules.proofs.Sights.{found_among}
+use Rattle.cmc_rules.specs.Raising.{revision_of_uid}
 use Rattle.cmc_audit_state.specs.declared.row.Row.{Row}
 use Rattle.cmc_audit_state.specs.declared.row.Version.{Version}
-use Rattle.cmc_audit_state.specs.Heard.{found, finds, is_by, is_certificate_at}
+use Rattle.cmc_audit_state.specs.Heard.{approved, asked, found, finds, is_by, saved}
 use Rattle.cmc_audit_state.specs.Journaled.{cached, is_denied_uid}
 use Rattle.cmc_audit_ledger.specs.Following.{IsRow, reached}
 use Rattle.cmc_audit_clauses.specs.Issuing.{Exists, IsIssueBy, IsIssueFor, IsIssueOf, IsIssueWith, IsIssuers, IsKeptIssue, IsKeyed, IsSigned, IsStandingIn, IsTarget, next_key_at, next_named, request_in_progress}
@@ -307,3 +310,116 @@ next_found ws row c k law is =
     let spaces : k.meta.namespace ≡ c.meta.namespace = (bytes_eq-Decides k.meta.namespace c.meta.namespace).0 (and_parts _ _ is.owned).0 in
     let key : named_key c k.meta.name ≡ e.0 = ap (λ n. record { kind = kinds.Secret; namespace = n; name = k.meta.name }) (sym spaces) ∙ own in
     ap (option_and_then (next_named m c)) is.named ∙ ap (λ (q : Key). option_and_then (next_in c) (object_at m q)) key ∙ ap (option_and_then (next_in c)) stood ∙ ap (next_in c) (sym fits.0) ∙ from.2
+
+-- ---- the request
+
+only_by : (b : Bool) (f : CertificateRequest → Bool) (rs : List CertificateRequest) (r : CertificateRequest) → (if b then find_first f rs else None) ≡ Some r → IsAmong r rs
+only_by true f rs r is = found_among f rs r is
+only_by false f rs r is = absurd (cc is)
+
+only_among : (n : ℕ) (rs : List CertificateRequest) (r : CertificateRequest) → only_of n rs ≡ Some r → IsAmong r rs
+unfolding only_of
+only_among n rs r is = only_by (length (filter (λ q. is_of n q) rs) == 1) (λ q. is_of n q) rs r is
+
+request_owned : (c : Certificate) (o : Object) (r : CertificateRequest) → owned_in c o ≡ Some r → is_owned c r.meta ≡ true
+request_owned c (Cert d) r is = absurd (cc is)
+request_owned c (Secret k) r is = absurd (cc is)
+request_owned c (Request q) r is = by (is_owned c q.meta) refl is where
+  by : (b : Bool) → is_owned c q.meta ≡ b → (if b then Some q else None) ≡ Some r → is_owned c r.meta ≡ true
+  by true e is = let one : q ≡ r = cc is in subst (λ (i : CertificateRequest). is_owned c i.meta ≡ true) one e
+  by false e is = absurd (cc is)
+
+progress_owned : (ws : List Write) (row : Row) (c : Certificate) (r : CertificateRequest) → request_in_progress ws row c ≡ Some r → is_owned c r.meta ≡ true
+progress_owned ws row c r is =
+    let m = cached kinds.CertificateRequest ws row.reach.requests in
+    let from = picked (λ (e : Key × Object). owned_in c e.1) (maps.entries m) r (only_among (revision_of_uid c.meta.uid ws + 1) (requests_of m c) r is) in
+    request_owned c from.0.1 r from.2
+
+certificate_there : (x : Option Object) (c : Certificate) → option_and_then certificate_part x ≡ Some c → x ≡ Some (Cert c)
+certificate_there None c is = absurd (cc is)
+certificate_there (Some (Cert d)) c is = let one : d ≡ c = cc is in ap (λ (e : Certificate). Some (Cert e)) one
+certificate_there (Some (Request r)) c is = absurd (cc is)
+certificate_there (Some (Secret k)) c is = absurd (cc is)
+
+-- ---- both ways
+
+signed_so : (b : Bool) (A B C D : Type 0) → (A → C) → (B → D) → MatchBool b A B → MatchBool b C D
+signed_so true A B C D f g is = f is
+signed_so false A B C D f g is = g is
+
+-- no more is denied by the end of the whole
+abbrev pub DeniesNoMore : Setting → List Entry → List Entry → Type 0
+DeniesNoMore s whole h = (uid : ℕ) → is_denied_uid uid (writes s whole) ≡ is_denied_uid uid (writes s h)
+
+-- what is kept of the pass
+abbrev pub KeptRow : Setting → List Entry → ℕ → Row → OpenPass → Type 0
+KeptRow s h pass row p = IsRow (writes s h) (λ v. found pass v h) (saved pass h) (asked pass h) (λ v. approved pass v h) row p
+
+pub kept_good : (s : Setting) (whole h : List Entry) (pass : ℕ) (row : Row) (p : OpenPass) (written : SecretObject) → IsAnswered s h → DeniesNoMore s whole h → KeptRow s h pass row p → p.role ≡ roles.Issuing
+    → IsKeptIssue (writes s h) row written → IsGoodIssue s whole h pass p written
+kept_good s whole h pass row p written right denied is issuing kept =
+    let ws : List Write = writes s h in
+    let law = lawful s h right in
+    let sees = saw ws (λ v. found pass v h) (saved pass h) (asked pass h) (λ v. approved pass v h) row p is issuing in
+    let c = there (certificate_at (cached kinds.Certificate ws row.reach.certificates) row.key) (IsIssueOf ws row written) kept.issue in
+    let r = there (request_in_progress ws row c.0) (IsIssueFor ws row c.0 written) c.2 in
+    let k = there (next_key_at (cached kinds.Secret ws row.reach.secrets) c.0) (IsIssueBy ws c.0 r.0 row.since written) r.2.key in
+    let f = there (key_in k.0) (λ file. IsIssueWith ws c.0 r.0 file row.since written) k.2 in
+    let key = next_key ws row c.0 k.0 law k.1 in
+    let stood = cached_version kinds.Certificate ws row.reach.certificates row.key (Cert c.0) (certificate_there (object_at (cached kinds.Certificate ws row.reach.certificates) row.key) c.0 c.1) in
+    record {
+      certificate = c.0;
+      sees = sees.certificate ∙ c.1;
+      read = read_stands s pass row.key c.0 h right stood (sym (is.read c.0 c.1) ∙ kept.read);
+      request = r.0;
+      next = ap (only_of (revision_of_uid c.0.meta.uid ws + 1)) (sees.requests ∙ ap (of_certificate (requests_of (cached kinds.CertificateRequest ws row.reach.requests))) c.1) ∙ r.1;
+      owned = progress_owned ws row c.0 r.0 r.1;
+      matches = r.2.matches;
+      key = k.0;
+      named = key.named;
+      among = subst (λ (l : List SecretObject). IsAmong k.0 l) (sym (sees.next ∙ ap (of_certificate (next_of (cached kinds.Secret ws row.reach.secrets))) c.1)) key.among;
+      labelled = key.labelled;
+      key_owned = key.owned;
+      file = f.0;
+      is_key = f.1;
+      namespace = r.2.target.namespace;
+      name = r.2.target.name;
+      unlabelled = r.2.target.unlabelled;
+      has_key = f.2.keyed.has_key;
+      fields = f.2.keyed.pair.0;
+      pair = f.2.keyed.pair.1;
+      requested = f.2.keyed.requested;
+      signed = signed_so (is_temporary written) (IsStandingIn c.0 r.0 f.0 row.since written) (IsIssuers ws r.0 written) (IsStandIn c.0 r.0 f.0 p.since written) (IsOfIssuer s whole r.0 written)
+          (λ x. let made = there (temporary r.0.spec.request f.0 row.since) (λ m. certificate_in written ≡ Some m) x.stand_in in
+          record { asked_for = x.asked_for; not_denied = x.not_denied; stand_in = made.0; is_stand_in = ap (temporary r.0.spec.request f.0) (sym is.since) ∙ made.1; certificate = made.2; no_ca = x.no_ca })
+          (λ x. record { approved = x.approved; never_denied = never_denied s whole r.0 (denied r.0.meta.uid ∙ x.never_denied); issued = x.issued; certificate = x.certificate }) f.2.signed;
+    }
+
+pub good_kept : (s : Setting) (whole h : List Entry) (pass : ℕ) (row : Row) (p : OpenPass) (written : SecretObject) → IsAnswered s h → DeniesNoMore s whole h → KeptRow s h pass row p → p.role ≡ roles.Issuing
+    → IsGoodIssue s whole h pass p written → IsKeptIssue (writes s h) row written
+good_kept s whole h pass row p written right denied is issuing g =
+    let ws : List Write = writes s h in
+    let law = lawful s h right in
+    let sees = saw ws (λ v. found pass v h) (saved pass h) (asked pass h) (λ v. approved pass v h) row p is issuing in
+    let at : certificate_at (cached kinds.Certificate ws row.reach.certificates) row.key ≡ Some g.certificate = sym sees.certificate ∙ g.sees in
+    let requests : p.seen.requests ≡ requests_of (cached kinds.CertificateRequest ws row.reach.requests) g.certificate = sees.requests ∙ ap (of_certificate (requests_of (cached kinds.CertificateRequest ws row.reach.requests))) at in
+    let keys : p.seen.next ≡ next_of (cached kinds.Secret ws row.reach.secrets) g.certificate = sees.next ∙ ap (of_certificate (next_of (cached kinds.Secret ws row.reach.secrets))) at in
+    let next : request_in_progress ws row g.certificate ≡ Some g.request = ap (only_of (revision_of_uid g.certificate.meta.uid ws + 1)) (sym requests) ∙ g.next in
+    let key : IsNextKey ws row g.certificate g.key = record { named = g.named; among = subst (λ (l : List SecretObject). IsAmong g.key l) keys g.among; labelled = g.labelled; owned = g.key_owned } in
+    let signed : IsSigned ws g.certificate g.request g.file row.since written =
+    signed_so (is_temporary written) (IsStandIn g.certificate g.request g.file p.since written) (IsOfIssuer s whole g.request written) (IsStandingIn g.certificate g.request g.file row.since written) (IsIssuers ws g.request written)
+    (λ x. record { asked_for = x.asked_for; not_denied = x.not_denied; stand_in = here (temporary g.request.spec.request g.file row.since) (λ m. certificate_in written ≡ Some m) x.stand_in (ap (temporary g.request.spec.request g.file) is.since ∙ x.is_stand_in) x.certificate; no_ca = x.no_ca })
+    (λ x. record { approved = x.approved; never_denied = sym (denied g.request.meta.uid) ∙ none_denied s whole g.request x.never_denied; issued = x.issued; certificate = x.certificate }) g.signed in
+    let with_file : IsIssueWith ws g.certificate g.request g.file row.since written = record { keyed = record { has_key = g.has_key; pair = (g.fields, g.pair); requested = g.requested }; signed = signed } in
+    let for_request : IsIssueFor ws row g.certificate written g.request =
+    record {
+      matches = g.matches;
+      target = record { namespace = g.namespace; name = g.name; unlabelled = g.unlabelled };
+      key = here (next_key_at (cached kinds.Secret ws row.reach.secrets) g.certificate) (IsIssueBy ws g.certificate g.request row.since written) g.key (next_found ws row g.certificate g.key law key)
+          (here (key_in g.key) (λ file. IsIssueWith ws g.certificate g.request file row.since written) g.file g.is_key with_file);
+    } in
+    record {
+      read = is.read g.certificate at ∙ stands_read pass g.certificate h g.read;
+      issue = here (certificate_at (cached kinds.Certificate ws row.reach.certificates) row.key) (IsIssueOf ws row written) g.certificate at
+          (here (request_in_progress ws row g.certificate) (IsIssueFor ws row g.certificate written) g.request next for_request);
+    }
