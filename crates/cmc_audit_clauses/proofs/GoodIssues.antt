@@ -1,11 +1,11 @@
 -- A good issue by what is kept of a history is one by the history.
-use Rattle.std.proofs.Common.{◌≡◌, ◌==◌, ◌⊎◌, ◌&&◌, ℕ, ◌+◌, List, [], ◌∷◌, Bool, true, false, MatchBool, Option, Some, None, refl, sym, ap, subst, ◌∙◌, inl, inr, arith, Ordering, Equal}
+use Rattle.std.proofs.Common.{◌≡◌, ◌==◌, ◌⊎◌, ◌&&◌, ℕ, ◌+◌, List, [], ◌∷◌, Bool, true, false, MatchBool, Option, Some, None, refl, sym, ap, subst, ◌∙◌, inl, inr, arith}
 use Rattle.std.proofs.lemmas.Bool.Decides.{nat_tests}
-use Rattle.std.specs.Prelude.{◌↔◌, ◌||◌, if◌then◌else◌, filter, filter_map, find as find_first, length, option_and_then}
+use Rattle.std.specs.Prelude.{◌||◌, if◌then◌else◌, filter, filter_map, find as find_first, length, option_and_then}
 use Rattle.std.specs.FinMap as maps
 use Rattle.std.specs.FinMap.{get-entries, find}
 use Rattle.std.specs.List.{cons_option}
-use Rattle.std.specs.Ordering.{is_eq, eq_by_cmp}
+use Rattle.std.specs.Ordering.{eq_by_cmp}
 use Rattle.std.proofs.lemmas.Bool.{and_parts, and_from}
 use Rattle.std.proofs.lemmas.Slice.Eq.{bytes_eq-Decides}
 use Rattle.cmc_meta.specs.declared.key.Key.{Key}
@@ -17,7 +17,6 @@ use Rattle.cmc_objects.specs.declared.request.CertificateRequest.{CertificateReq
 use Rattle.cmc_objects.specs.declared.secret.Secret.{Secret as SecretObject}
 use Rattle.cmc_objects.specs.declared.object.Object.{Object}
 use Rattle.cmc_objects.specs.declared.object.Object.TheVariants.{Cert, Request, Secret}
-use Rattle.cmc_objects.specs.declared.role.Role.{Role}
 use Rattle.cmc_objects.specs.declared.role.Role.TheVariants as roles
 use Rattle.cmc_objects.specs.declared.call.Call.{Call}
 use Rattle.cmc_objects.specs.declared.call.Call.TheVariants.{Create, Update, UpdateStatus, Delete, Get}
@@ -39,7 +38,7 @@ use Rattle.cmc_model.specs.Replies.{IsReply, IsServed, IsGot}
 use Rattle.cmc_model.specs.Histories.{Setting, state, objects}
 use Rattle.cmc_model.specs.Versions.{HasVersion, IsVersion}
 use Rattle.cmc_model.specs.Verdicts.{IsAnswered}
-use Rattle.cmc_model.specs.Writes.{writes, oldest, of_kind, contents}
+use Rattle.cmc_model.specs.Writes.{writes, oldest, of_kind}
 use Rattle.cmc_model.proofs.Versions.{IsLawful, lawful_called, lawful_object, versions_low, standing, keyed, version_of_kind, version_of_oldest}
 use Rattle.cmc_model.proofs.Writes.{writes_count, writes_leave}
 use Rattle.cmc_rules.specs.declared.progress.OpenPass.{OpenPass}
@@ -54,7 +53,7 @@ use Rattle.cmc_audit_state.specs.declared.row.Version.{Version}
 use Rattle.cmc_audit_state.specs.Heard.{approved, asked, found, finds, is_by, saved}
 use Rattle.cmc_audit_state.specs.Journaled.{cached, is_denied_uid}
 use Rattle.cmc_audit_ledger.specs.Following.{IsRow, reached}
-use Rattle.cmc_audit_clauses.specs.Issuing.{Exists, IsIssueBy, IsIssueFor, IsIssueOf, IsIssueWith, IsIssuers, IsKeptIssue, IsKeyed, IsSigned, IsStandingIn, IsTarget, next_key_at, next_named, request_in_progress}
+use Rattle.cmc_audit_clauses.specs.Issuing.{Exists, IsIssueBy, IsIssueFor, IsIssueOf, IsIssueWith, IsIssuers, IsKeptIssue, IsSigned, IsStandingIn, next_key_at, next_named, request_in_progress}
 use Rattle.cmc_audit_clauses.proofs.Heeding.{never_denied, none_denied, same_number}
 
 -- ---- where there is one

@@ -1,15 +1,14 @@
 -- What is kept of a pass's entries is what the rules ask of them.
-use Rattle.std.proofs.Common.{◌≡◌, ◌==◌, ◌⊎◌, ℕ, ◌+◌, ◌≤◌, List, [], ◌∷◌, length, Bool, true, false, Option, Some, None, refl, sym, ap, subst, ◌∙◌, inl, inr, arith, Ordering, Equal}
+use Rattle.std.proofs.Common.{◌≡◌, ◌==◌, ◌⊎◌, ℕ, List, [], ◌∷◌, Bool, true, false, Option, Some, None, refl, sym, ap, subst, ◌∙◌, inl, inr, arith}
 use Rattle.std.proofs.lemmas.Bool.Decides.{nat_tests}
 use Rattle.std.proofs.lemmas.Bool.{and_parts, and_from}
 use Rattle.std.specs.Prelude.{if◌then◌else◌, ◌||◌, ◌&&◌, ◌≢◌, not}
 use Rattle.std.specs.Cmp.{Equal-is, nat_cmp_total, tied_itself}
 use Rattle.std.specs.FinMap.{nat_cmp-IsAntisymmetric}
-use Rattle.std.specs.Ordering.{is_eq, nat_cmp, ordering_then}
+use Rattle.std.specs.Ordering.{nat_cmp, ordering_then}
 use Rattle.cmc_meta.specs.declared.key.Key.{Key}
 use Rattle.cmc_meta.specs.Keys.{key_cmp}
 use Rattle.cmc_meta.proofs.KeyOrder.{both_tie, key_cmp-total, key_cmp-IsAntisymmetric}
-use Rattle.cmc_objects.specs.declared.certificate.Certificate.{Certificate}
 use Rattle.cmc_objects.specs.declared.request.CertificateRequest.{CertificateRequest}
 use Rattle.cmc_objects.specs.declared.object.Object.{Object}
 use Rattle.cmc_objects.specs.declared.object.Object.TheVariants.{Cert, Request, Secret}
@@ -22,17 +21,17 @@ use Rattle.cmc_objects.specs.declared.call.Reply.TheVariants.{Ok, Unchanged, Fou
 use Rattle.cmc_objects.specs.declared.entry.Who.{Who}
 use Rattle.cmc_objects.specs.declared.entry.Who.TheVariants.{User, Pass}
 use Rattle.cmc_objects.specs.declared.entry.Entry.{Entry}
-use Rattle.cmc_objects.specs.declared.entry.Entry.TheVariants.{Script, Call as Called, Deliver, List as Listed, Begin, Ask, Made, Signed, Answered, Judged, End, Stop, Start, Tick}
-use Rattle.cmc_objects.specs.Objects.{key_of, version_of}
+use Rattle.cmc_objects.specs.declared.entry.Entry.TheVariants.{Call as Called, Ask, Judged}
+use Rattle.cmc_objects.specs.Objects.{key_of}
 use Rattle.cmc_objects.specs.Requests.{is_denied}
 use Rattle.cmc_match.specs.Marks.{is_temporary}
 use Rattle.cmc_model.specs.declared.write.Write.{Write}
-use Rattle.cmc_model.specs.Versions.{HasVersion, IsVersion}
+use Rattle.cmc_model.specs.Versions.{IsVersion}
 use Rattle.cmc_model.specs.Histories.{Setting}
 use Rattle.cmc_model.specs.Writes.{writes}
 use Rattle.cmc_rules.specs.Safety.{Stands, LastAsks, IsNeverDenied, IsSecretWrite, IsServed, IsSecretSaved}
 use Rattle.cmc_audit_state.specs.declared.row.Version.{Version}
-use Rattle.cmc_audit_state.specs.Heard.{asked, asked_with, approved, approved_with, found, found_with, finds, is_about, is_by, is_certificate_at, is_lasting, is_same_version, is_served, judged_version, saved, saved_with, writes_lasting}
+use Rattle.cmc_audit_state.specs.Heard.{asked, approved, is_about, is_by, is_lasting, is_same_version, is_served, judged_version, saved, writes_lasting}
 use Rattle.cmc_audit_state.specs.Journaled.{denies, is_denied_uid}
 use Rattle.cmc_audit_clauses.specs.Clauses.{AsksAbout, IsJudgedOn}
 

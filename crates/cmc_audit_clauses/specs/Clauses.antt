@@ -8,7 +8,6 @@ use Rattle.cmc_objects.specs.declared.request.CertificateRequest.{CertificateReq
 use Rattle.cmc_objects.specs.declared.secret.Secret.{Secret as SecretObject}
 use Rattle.cmc_objects.specs.declared.role.Role.TheVariants as roles
 use Rattle.cmc_objects.specs.declared.call.Call.{Call}
-use Rattle.cmc_objects.specs.declared.call.Reply.{Reply}
 use Rattle.cmc_objects.specs.declared.orders.Order.{Order}
 use Rattle.cmc_objects.specs.declared.orders.Order.TheVariants as orders
 use Rattle.cmc_objects.specs.declared.entry.Who.{Who}

@@ -1,5 +1,5 @@
 -- A good issue, by what is kept of a history.
-use Rattle.std.specs.Prelude.{◌≡◌, ℕ, ℤ, ◌+◌, true, false, ◌&&◌, MatchBool, MatchOption, List, codes, Option, Some, None, option_and_then, if◌then◌else◌}
+use Rattle.std.specs.Prelude.{◌≡◌, ℕ, ℤ, ◌+◌, true, false, MatchBool, List, codes, Option, Some, None, option_and_then}
 use Rattle.cmc_meta.specs.declared.key.Kind.TheVariants as kinds
 use Rattle.cmc_meta.specs.declared.conditions.Condition.{Condition}
 use Rattle.cmc_meta.specs.declared.conditions.ConditionKind.TheVariants as conditions
@@ -8,8 +8,6 @@ use Rattle.cmc_meta.specs.PairLists.{text_at}
 use Rattle.cmc_objects.specs.declared.certificate.Certificate.{Certificate}
 use Rattle.cmc_objects.specs.declared.request.CertificateRequest.{CertificateRequest}
 use Rattle.cmc_objects.specs.declared.secret.Secret.{Secret as SecretObject}
-use Rattle.cmc_objects.specs.declared.object.Object.{Object}
-use Rattle.cmc_objects.specs.declared.object.Object.TheVariants.{Cert, Request, Secret}
 use Rattle.cmc_objects.specs.Requests.{is_approved, is_denied}
 use Rattle.cmc_der.specs.Keys.{CertificateFields}
 use Rattle.cmc_match.specs.Marks.{is_temporary, asks_for_temporary}
@@ -21,7 +19,7 @@ use Rattle.cmc_model.specs.declared.write.Write.{Write}
 use Rattle.cmc_model.specs.Objects.{Objects, object_at}
 use Rattle.cmc_rules.specs.Raising.{revision_of_uid}
 use Rattle.cmc_rules.specs.Safety.{IsIssued}
-use Rattle.cmc_rules.specs.Viewing.{certificate_at, has_next_label, next_in, is_owned, requests_of}
+use Rattle.cmc_rules.specs.Viewing.{certificate_at, has_next_label, next_in, requests_of}
 use Rattle.cmc_audit_state.specs.declared.row.Row.{Row}
 use Rattle.cmc_audit_state.specs.Journaled.{cached, is_denied_uid}
 

@@ -317,7 +317,7 @@ fn is_issue_of(
 
 /// Whether the Secret, which the pass wrote, is a good issue by what is kept: by the accepted writes before it, and by the
 /// pass. An error is one of memory.
-pub fn is_issue(
+pub(crate) fn is_issue(
     alloc: Global,
     journal: &Journal,
     row: &Row,

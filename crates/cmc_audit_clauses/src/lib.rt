@@ -3,9 +3,10 @@
 
 mod clause;
 mod issues;
+mod kept;
 mod kept_parts;
 mod rights;
 
 pub use clause::{Clause, Verdict};
-pub use issues::is_issue;
+pub use kept::{approves_well, is_write, leaves_revision, may_ask, raises_well};
 pub use rights::may_change;
