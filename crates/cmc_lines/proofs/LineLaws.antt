@@ -3,6 +3,7 @@ use Rattle.std.proofs.Common.{◌≡◌, ℕ, Some, None, true, false, refl, ap,
 use Rattle.std.specs.Prelude.{codes}
 use Rattle.serde_json.specs.Data.{Members, string, object, put, no_members}
 use Rattle.cmc_print.specs.Trees.{natural}
+use Rattle.cmc_print.specs.Puts.{put_option}
 use Rattle.cmc_objects.specs.declared.object.Object.{Object}
 use Rattle.cmc_objects.specs.declared.object.Object.TheVariants.{Cert, Request, Secret}
 use Rattle.cmc_objects.specs.declared.call.Call.{Call}
@@ -17,9 +18,9 @@ use Rattle.cmc_objects.specs.declared.entry.Entry.TheVariants.{Script, Call as C
 use Rattle.cmc_print.specs.Printed.{object_tree, head_members, meta_tree, meta_members}
 use Rattle.cmc_report.specs.Trees.{reply_tree, conflict_tree, put_written, put_version, call_key, order_tree, key_order_tree, csr_order_tree, sign_order_tree, judge_order_tree, put_call, put_named, put_entry, entry_tree, who_tree, call_name}
 use Rattle.cmc_lines.specs.Shown.{shown, shown_object, shown_reply, shown_order, shown_given, shown_version, shown_name}
-use Rattle.cmc_lines.specs.LineTree.{replied_tree, asked_tree, put_given, put_number, word_of, put_line, line_tree}
+use Rattle.cmc_lines.specs.LineTree.{replied_tree, asked_tree, put_call_body, put_call_head, put_given, word_of, put_line, line_tree}
 
-object_same : (o : Object) → object_tree (shown_object o) ≡ object_tree o
+pub object_same : (o : Object) → object_tree (shown_object o) ≡ object_tree o
 unfolding object_tree head_members meta_tree meta_members
 object_same (Cert c) = refl
 object_same (Request r) = refl
@@ -56,7 +57,7 @@ given_same (UpdateStatus o v) ms = ap (λ d. put (codes "object") d ms) (object_
 given_same (Delete k v) ms = refl
 given_same (Get k) ms = refl
 
-version_same : (call : Call) (ms : Members) → put_number (codes "version") (shown_version call) ms ≡ put_version call ms
+version_same : (call : Call) (ms : Members) → put_option natural (codes "version") (shown_version call) ms ≡ put_version call ms
 version_same (Create o generate) ms = refl
 version_same (Update o v) ms = refl
 version_same (UpdateStatus o v) ms = refl
@@ -72,18 +73,15 @@ word_same (UpdateStatus o v) = refl
 word_same (Delete k v) = refl
 word_same (Get k) = refl
 
--- The rows of a call up to its key.
-start : Call → Members → Members
-start call ms = put (codes "key") (string (call_key call)) (put (codes "call") (string (call_name call)) (put (codes "is") (string (codes "call")) ms))
-
 call_same : (who : Who) (call : Call) (reply : Reply) (ms : Members) → put_line (shown (Called who call reply)) ms ≡ put_call (who_tree who) call reply ms
-unfolding put_call start
+unfolding put_call
 call_same who call reply ms =
-    ap (λ w. put (codes "who") (who_tree who) (put_number (codes "version") (shown_version call) (put (codes "reply") (replied_tree (shown_reply call reply)) (put_given (shown_given call)
-    (put (codes "key") (string (call_key call)) (put (codes "call") (string w) (put (codes "is") (string (codes "call")) ms))))))) (word_same call)
-    ∙ ap (λ x. put (codes "who") (who_tree who) (put_number (codes "version") (shown_version call) (put (codes "reply") (replied_tree (shown_reply call reply)) x))) (given_same call (start call ms))
-    ∙ ap (λ d. put (codes "who") (who_tree who) (put_number (codes "version") (shown_version call) (put (codes "reply") d (put_written call (start call ms))))) (reply_same call reply)
-    ∙ ap (λ x. put (codes "who") (who_tree who) x) (version_same call (put (codes "reply") (reply_tree call reply) (put_written call (start call ms))))
+    let start : Members = put (codes "key") (string (call_key call)) (put (codes "call") (string (call_name call)) (put (codes "is") (string (codes "call")) ms)) in
+    let first : put_call_head (shown_name call) (call_key call) ms ≡ start = ap (λ w. put (codes "key") (string (call_key call)) (put (codes "call") (string w) (put (codes "is") (string (codes "call")) ms))) (word_same call) in
+    ap (put_call_body (shown_given call) (shown_version call) (shown_reply call reply) who) first
+    ∙ ap (λ x. put (codes "who") (who_tree who) (put_option natural (codes "version") (shown_version call) (put (codes "reply") (replied_tree (shown_reply call reply)) x))) (given_same call start)
+    ∙ ap (λ d. put (codes "who") (who_tree who) (put_option natural (codes "version") (shown_version call) (put (codes "reply") d (put_written call start)))) (reply_same call reply)
+    ∙ ap (λ x. put (codes "who") (who_tree who) x) (version_same call (put (codes "reply") (reply_tree call reply) (put_written call start)))
 
 line_same : (e : Entry) (ms : Members) → put_line (shown e) ms ≡ put_entry e ms
 line_same (Script step) ms = refl

@@ -5,7 +5,10 @@
 #![tactic(auto)]
 
 mod line;
+mod parts;
 mod printed;
+mod trees;
 
 pub use line::{CallName, PrintedLine, PrintedOrder, PrintedReply};
 pub use printed::{Printed, Records};
+pub use trees::tree_of_line;
