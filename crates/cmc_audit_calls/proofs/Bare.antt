@@ -128,7 +128,7 @@ replied faults st call r is =
 
 -- ---- what then stands
 
-settled_same : (call : Call) (r : Reply) → settled (bare_call call) r ≡ bare_call (settled call r)
+pub settled_same : (call : Call) (r : Reply) → settled (bare_call call) r ≡ bare_call (settled call r)
 unfolding settled
 settled_same (Create o true) (Ok version name) = ap (λ x. Create x false) (named_same name o)
 settled_same (Create o true) (Unchanged version) = refl
@@ -159,14 +159,14 @@ over_same v now (Some old) (UpdateStatus o named) = ap Some (restated_same v old
 over_same v now old (Delete key named) = refl
 over_same v now old (Get key) = refl
 
-call_key_same : (call : Call) → key_of_call (bare_call call) ≡ key_of_call call
+pub call_key_same : (call : Call) → key_of_call (bare_call call) ≡ key_of_call call
 call_key_same (Create o generate) = key_same o
 call_key_same (Update o named) = key_same o
 call_key_same (UpdateStatus o named) = key_same o
 call_key_same (Delete key named) = refl
 call_key_same (Get key) = refl
 
-stored_same : (v : ℕ) (now : ℤ) (m : Objects) (call : Call) → stored v now m (bare_call call) ≡ stored v now m call
+pub stored_same : (v : ℕ) (now : ℤ) (m : Objects) (call : Call) → stored v now m (bare_call call) ≡ stored v now m call
 stored_same v now m call = over_same v now (object_at m (key_of_call (bare_call call))) call ∙ ap (λ k. stored_over v now (object_at m k) call) (call_key_same call)
 
 put_same : (v : ℕ) (now : ℤ) (m : Objects) (call : Call) (r : Reply)
