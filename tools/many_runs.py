@@ -5,7 +5,7 @@ usage: tools/many_runs.py [--runs N] [--workers 2,4,8] -- PROGRAM
 
 PROGRAM is the built program, as crates/cmrun/out/cmrun (`rt run` builds it). Each run has to end within 30 seconds with the
 exit status 0 and with the summary that the scenario has to have, whatever the order in which the threads came, and
-`scan_history.py` has to find nothing in its history that should not be there. A last line says how many runs there were and
+neither `scan_history.py` nor the program's own `audit` may find anything in its history that should not be there. A last line says how many runs there were and
 how many went wrong, and the exit status is 1 where one did. It is no part of the gate.
 """
 import argparse
@@ -94,7 +94,16 @@ def ends_well(program, words, scenario, count, workers):
     took = time.monotonic() - began
     if run.returncode:
         return f"status {run.returncode}: {run.stderr.strip()}", took
-    return why_wrong(run.stdout, count), took
+    return why_wrong(run.stdout, count) or why_refused(program, run.stdout), took
+
+
+def why_refused(program, history):
+    """What the program's audit says of a printed history; None where it says yes, with a line for each entry."""
+    verdict = {"audit": {"entries": len(history.splitlines()) - 2, "yes": True}}
+    run = subprocess.run([program, "audit"], input=history, capture_output=True, text=True, timeout=30, check=False)
+    if run.returncode:
+        return f"audit, status {run.returncode}: {run.stderr.strip()}"
+    return None if json.loads(run.stdout) == verdict else f"audit: {run.stdout.strip()}"
 
 
 def why_wrong(history, count):

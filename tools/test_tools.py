@@ -573,6 +573,18 @@ def test_readme_excerpt(program):
         assert line in printed, line
 
 
+def test_audited_example(program):
+    """The page on the audit shows the verdicts that the program gives on the example, as it is and with its one word put right."""
+    changed = cli.read_bytes(f"{TOP}/examples/unapproved.jsonl")
+    right = changed.replace(b'"is":"judged","n":61,"pass":10,"yes":false', b'"is":"judged","n":61,"pass":10,"yes":true')
+    assert right != changed
+    with open(f"{TOP}/docs/AUDIT.md", encoding="utf-8") as file:
+        page = file.read()
+    for history, word in ((right, '"yes":true'), (changed, '"yes":false')):
+        run = cli.run_scenario(program, history, words=["audit"])
+        assert run.status == 0 and word in run.output.decode() and f"    {run.output.decode()}" in page, f"{run.status} {run.output} {run.error}"
+
+
 def test_cookbook(program):
     """Each command of the cookbook prints what the page shows; a line `[..]` stands for any lines."""
     with open(f"{TOP}/docs/COOKBOOK.md", encoding="utf-8") as file:

@@ -8,7 +8,7 @@ use Rattle.cmc_report.specs.Text.{joined}
 use Rattle.cmc_scenario.specs.Loads.{load_setup}
 use Rattle.cmc_scenario_print.specs.ScenarioTree.{scenario_tree}
 use Rattle.cmrun.specs.Headline.{IsLoadOf, RunsOn}
-use Rattle.cmrun.specs.declared.top.Status.{Status}
+use Rattle.cmrun.specs.declared.status.Status.{Status}
 
 -- the line of a summary does not say the scenario
 printed_alike : (workers : ℕ) (alone : Bool) (value other : Data) (scenario : Scenario) (text : List ℕ) → (alone ≡ false → value ≡ other)

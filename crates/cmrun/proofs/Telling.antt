@@ -2,31 +2,48 @@
 use Rattle.std.proofs.Common.{◌≡◌, ℕ, Bool, List, ◌++◌, Option, Some, None, refl, sym, ap, subst, ◌∙◌, append-nil}
 use Rattle.std.specs.Prelude.{IfSome}
 use Rattle.std.specs.Io.KnownBytes.{Consumes, IsAtEnd, Keeps}
-use Rattle.cmrun.specs.Statuses.{ExplainsRun, IsShort, Refuses}
-use Rattle.cmrun.specs.declared.top.Status.{Status}
-use Rattle.cmrun.specs.declared.top.Status.TheVariants.{Done, TooLong, NotJson, BadScenario, Usage, ReadFault, WriteFault, NoMemory, Spent}
+use Rattle.cmrun.specs.Statuses.{IsWithin, Refuses, RefusesHistory, RefusesScriptIn, Tells}
+use Rattle.cmrun.specs.declared.status.Status.{Status}
+use Rattle.cmrun.specs.declared.status.Status.TheVariants.{Done, TooLong, NotJson, BadScenario, BadHistory, Usage, ReadFault, WriteFault, NoMemory, Spent}
 
-pub all_kept : (held : Option (List ℕ)) → Keeps held held
+all_kept : (held : Option (List ℕ)) → Keeps held held
 all_kept None = tt
 all_kept (Some xs) = refl
 
-by_cause : (workers : ℕ) (alone : Bool) (status : Status) (bytes : List ℕ) (held : Option (List ℕ))
-    → Refuses bytes status → IsShort bytes → ExplainsRun workers alone status bytes held held
-by_cause workers alone Done bytes held cause short = absurd cause
-by_cause workers alone WriteFault bytes held cause short = absurd cause
-by_cause workers alone TooLong bytes held cause short = absurd cause
-by_cause workers alone NotJson bytes held cause short = (short, (cause, all_kept held))
-by_cause workers alone (BadScenario path) bytes held cause short = (short, (cause, all_kept held))
-by_cause workers alone Spent bytes held cause short = (short, (cause, all_kept held))
-by_cause workers alone ReadFault bytes held cause short = all_kept held
-by_cause workers alone NoMemory bytes held cause short = all_kept held
-by_cause workers alone Usage bytes held cause short = absurd cause
+-- why bytes are refused is none of the causes that reading, writing and the command line have
+record IsCause (IsRefused : List ℕ → Status → Type 0) : Type 0 where
+  done : (bytes : List ℕ) → IsRefused bytes Done → ⊥
+  write : (bytes : List ℕ) → IsRefused bytes WriteFault → ⊥
+  long : (bytes : List ℕ) → IsRefused bytes TooLong → ⊥
+  usage : (bytes : List ℕ) → IsRefused bytes Usage → ⊥
+
+pub of_runs : IsCause Refuses
+of_runs = record { done = λ bytes cause. cause; write = λ bytes cause. cause; long = λ bytes cause. cause; usage = λ bytes cause. cause }
+
+pub of_scripts : IsCause RefusesScriptIn
+of_scripts = record { done = λ bytes cause. cause; write = λ bytes cause. cause; long = λ bytes cause. cause; usage = λ bytes cause. cause }
+
+pub of_histories : IsCause RefusesHistory
+of_histories = record { done = λ bytes cause. cause; write = λ bytes cause. cause; long = λ bytes cause. cause; usage = λ bytes cause. cause }
+
+by_cause : (limit : ℕ) (IsAnswered : List ℕ → List ℕ → Type 0) (IsRefused : List ℕ → Status → Type 0) (status : Status) (bytes : List ℕ) (held : Option (List ℕ))
+    → IsCause IsRefused → IsRefused bytes status → IsWithin limit bytes → Tells limit IsAnswered IsRefused status bytes held held
+by_cause limit IsAnswered IsRefused Done bytes held is cause within = absurd (is.done bytes cause)
+by_cause limit IsAnswered IsRefused WriteFault bytes held is cause within = absurd (is.write bytes cause)
+by_cause limit IsAnswered IsRefused TooLong bytes held is cause within = absurd (is.long bytes cause)
+by_cause limit IsAnswered IsRefused NotJson bytes held is cause within = (within, (cause, all_kept held))
+by_cause limit IsAnswered IsRefused (BadScenario path) bytes held is cause within = (within, (cause, all_kept held))
+by_cause limit IsAnswered IsRefused (BadHistory line) bytes held is cause within = (within, (cause, all_kept held))
+by_cause limit IsAnswered IsRefused Spent bytes held is cause within = (within, (cause, all_kept held))
+by_cause limit IsAnswered IsRefused ReadFault bytes held is cause within = all_kept held
+by_cause limit IsAnswered IsRefused NoMemory bytes held is cause within = all_kept held
+by_cause limit IsAnswered IsRefused Usage bytes held is cause within = absurd (is.usage bytes cause)
 
 -- all bytes that there were are those that were read
-pub told_cause : (workers : ℕ) (alone : Bool) (status : Status) (bytes : List ℕ) (old now held : Option (List ℕ))
-    → Consumes old now bytes → IsAtEnd now → Refuses bytes status → IfSome old IsShort → IfSome old (λ all. ExplainsRun workers alone status all held held)
-told_cause workers alone status bytes None now held content end cause short = tt
-told_cause workers alone status bytes (Some xs) None held content end cause short = absurd content
-told_cause workers alone status bytes (Some xs) (Some ys) held content end cause short =
+pub told_cause : (limit : ℕ) (IsAnswered : List ℕ → List ℕ → Type 0) (IsRefused : List ℕ → Status → Type 0) (status : Status) (bytes : List ℕ) (old now held : Option (List ℕ)) → IsCause IsRefused
+    → Consumes old now bytes → IsAtEnd now → IsRefused bytes status → IfSome old (IsWithin limit) → IfSome old (λ all. Tells limit IsAnswered IsRefused status all held held)
+told_cause limit IsAnswered IsRefused status bytes None now held is content end cause within = tt
+told_cause limit IsAnswered IsRefused status bytes (Some xs) None held is content end cause within = absurd content
+told_cause limit IsAnswered IsRefused status bytes (Some xs) (Some ys) held is content end cause within =
     let whole : xs ≡ bytes = content ∙ ap (λ (l : List ℕ). bytes ++ l) end ∙ append-nil bytes in
-    by_cause workers alone status xs held (subst (λ (all : List ℕ). Refuses all status) (sym whole) cause) short
+    by_cause limit IsAnswered IsRefused status xs held is (subst (λ (all : List ℕ). IsRefused all status) (sym whole) cause) within

@@ -1,5 +1,5 @@
 -- What each status says of what was read and written.
-use Rattle.std.specs.Prelude.{◌≡◌, ◌⊎◌, ℕ, ◌<◌, ◌≤◌, Err, List, [], Bool, true, false, Option, Some, None, IfSome, length, codes}
+use Rattle.std.specs.Prelude.{◌≡◌, ℕ, ◌+◌, ◌<◌, ◌≤◌, Err, List, [], Bool, true, false, Option, Some, None, IfSome, length, codes}
 use Rattle.std.specs.Io.KnownBytes.{Appends, Keeps, IsAtEnd}
 use Rattle.serde_json.specs.Data.{Data}
 use Rattle.cmc_setup.specs.declared.scenario.Scenario.{Scenario}
@@ -7,36 +7,28 @@ use Rattle.cmc_scenario.specs.Scenarios.{scenario_at}
 use Rattle.cmc_scenario.specs.Loads.{load_setup}
 use Rattle.cmrun.specs.Ends.{AppendsPrefix, ConsumesExactly, ConsumesAtMost, risen}
 use Rattle.cmrun.specs.Headline.{IsCollectOf, IsRunOf, IsLoadOf, HasNoReading, FailsAt, RefusesCollect, Spends, SpendsValue, SpendsAll}
+use Rattle.cmc_audit.specs.Answers as auditing
 use Rattle.cmc_collect_run.specs.Answers as collection
 use Rattle.cmc_collect_run.specs.declared.answering.NotCollected.TheVariants as refusals
 use Rattle.cmrun.specs.declared.words.Command.{Command}
-use Rattle.cmrun.specs.declared.words.Command.TheVariants.{Run, Load, Collect}
-use Rattle.cmrun.specs.declared.top.Status.{Status}
-use Rattle.cmrun.specs.declared.top.Status.TheVariants.{Done, TooLong, NotJson, BadScenario, Usage, ReadFault, WriteFault, NoMemory, Spent}
+use Rattle.cmrun.specs.declared.words.Command.TheVariants.{Run, Load, Audit, Collect}
+use Rattle.cmrun.specs.declared.status.Status.{Status}
+use Rattle.cmrun.specs.declared.status.Status.TheVariants.{Done, TooLong, NotJson, BadScenario, BadHistory, Usage, ReadFault, WriteFault, NoMemory, Spent}
+
+-- ---- why nothing was written
 
 -- why a scenario was not run to its end
 abbrev pub SpendsOn : Scenario → Status → Type 0
 SpendsOn scenario Spent = Spends scenario
 SpendsOn scenario NoMemory = Unit {0}
-SpendsOn scenario (BadScenario path) = ⊥
-SpendsOn scenario NotJson = ⊥
-SpendsOn scenario Done = ⊥
-SpendsOn scenario TooLong = ⊥
-SpendsOn scenario Usage = ⊥
-SpendsOn scenario ReadFault = ⊥
-SpendsOn scenario WriteFault = ⊥
+SpendsOn scenario other = ⊥
 
 -- why a value was not run
 abbrev pub RefusesValue : Data → Status → Type 0
 RefusesValue value (BadScenario path) = scenario_at value ≡ Err path
 RefusesValue value Spent = SpendsValue value
 RefusesValue value NoMemory = Unit {0}
-RefusesValue value NotJson = ⊥
-RefusesValue value Done = ⊥
-RefusesValue value TooLong = ⊥
-RefusesValue value Usage = ⊥
-RefusesValue value ReadFault = ⊥
-RefusesValue value WriteFault = ⊥
+RefusesValue value other = ⊥
 
 -- why some bytes were not run
 abbrev pub Refuses : List ℕ → Status → Type 0
@@ -44,31 +36,65 @@ Refuses bytes NotJson = HasNoReading bytes
 Refuses bytes (BadScenario path) = FailsAt bytes path
 Refuses bytes Spent = SpendsAll bytes
 Refuses bytes NoMemory = Unit {0}
-Refuses bytes Done = ⊥
-Refuses bytes TooLong = ⊥
-Refuses bytes Usage = ⊥
-Refuses bytes ReadFault = ⊥
-Refuses bytes WriteFault = ⊥
+Refuses bytes other = ⊥
 
--- the input has at most 16,777,216 bytes, or more
-abbrev pub IsShort : List ℕ → Type 0
-IsShort bytes = length bytes ≤ 16777216
+-- why a value was not run as a script of owner collection
+abbrev pub RefusesScript : Data → Status → Type 0
+RefusesScript value (BadScenario path) = collection.Refuses value (refusals.Path path)
+RefusesScript value Spent = collection.Refuses value refusals.Spent
+RefusesScript value NoMemory = Unit {0}
+RefusesScript value other = ⊥
 
-abbrev pub IsLong : List ℕ → Type 0
-IsLong bytes = 16777216 < length bytes
+-- why some bytes were not run as one
+abbrev pub RefusesScriptIn : List ℕ → Status → Type 0
+RefusesScriptIn bytes NotJson = HasNoReading bytes
+RefusesScriptIn bytes (BadScenario path) = RefusesCollect bytes (refusals.Path path)
+RefusesScriptIn bytes Spent = RefusesCollect bytes refusals.Spent
+RefusesScriptIn bytes NoMemory = Unit {0}
+RefusesScriptIn bytes other = ⊥
 
--- What a status says, at `run`, of the bytes that could be read, and of what the sink held and holds. An input that is too
--- long is answered by TooLong, unless a fault or want of memory comes before.
+-- why some bytes were not audited: at the line of this number they are first not the text of a history
+abbrev pub RefusesHistory : List ℕ → Status → Type 0
+RefusesHistory bytes (BadHistory line) = auditing.FailsAtLine bytes line
+RefusesHistory bytes NoMemory = Unit {0}
+RefusesHistory bytes other = ⊥
+
+-- ---- what was read and written
+
+-- the most bytes that a scenario, or a script of owner collection, and a printed history may have
+abbrev pub scenario_limit : ℕ
+scenario_limit = 16777216
+
+abbrev pub history_limit : ℕ
+history_limit = 268435456
+
+-- the input has at most so many bytes, or more
+abbrev pub IsWithin : ℕ → List ℕ → Type 0
+IsWithin limit bytes = length bytes ≤ limit
+
+abbrev pub IsAbove : ℕ → List ℕ → Type 0
+IsAbove limit bytes = limit < length bytes
+
+-- What a status says of the bytes that could be read, by a command that answers some bytes with a text and refuses all others,
+-- and of what the sink held and holds. An input that is too long is answered by TooLong, unless a fault or want of memory comes
+-- before.
+abbrev pub Tells : ℕ → (List ℕ → List ℕ → Type 0) → (List ℕ → Status → Type 0) → Status → List ℕ → Option (List ℕ) → Option (List ℕ) → Type 0
+Tells limit IsAnswered IsRefused Done bytes old new = IsWithin limit bytes × ((text : List ℕ) × IsAnswered bytes text × Appends old new text)
+Tells limit IsAnswered IsRefused WriteFault bytes old new = IsWithin limit bytes × ((text : List ℕ) × IsAnswered bytes text × AppendsPrefix old new text)
+Tells limit IsAnswered IsRefused TooLong bytes old new = IsAbove limit bytes × Keeps old new
+Tells limit IsAnswered IsRefused ReadFault bytes old new = Keeps old new
+Tells limit IsAnswered IsRefused NoMemory bytes old new = Keeps old new
+Tells limit IsAnswered IsRefused Usage bytes old new = ⊥
+Tells limit IsAnswered IsRefused other bytes old new = IsWithin limit bytes × (IsRefused bytes other × Keeps old new)
+
 abbrev pub ExplainsRun : ℕ → Bool → Status → List ℕ → Option (List ℕ) → Option (List ℕ) → Type 0
-ExplainsRun workers alone Done bytes old new = IsShort bytes × ((text : List ℕ) × IsRunOf workers alone bytes text × Appends old new text)
-ExplainsRun workers alone WriteFault bytes old new = IsShort bytes × ((text : List ℕ) × IsRunOf workers alone bytes text × AppendsPrefix old new text)
-ExplainsRun workers alone TooLong bytes old new = IsLong bytes × Keeps old new
-ExplainsRun workers alone NotJson bytes old new = IsShort bytes × (HasNoReading bytes × Keeps old new)
-ExplainsRun workers alone (BadScenario path) bytes old new = IsShort bytes × (FailsAt bytes path × Keeps old new)
-ExplainsRun workers alone Spent bytes old new = IsShort bytes × (SpendsAll bytes × Keeps old new)
-ExplainsRun workers alone ReadFault bytes old new = Keeps old new
-ExplainsRun workers alone NoMemory bytes old new = Keeps old new
-ExplainsRun workers alone Usage bytes old new = ⊥
+ExplainsRun workers alone = Tells scenario_limit (IsRunOf workers alone) Refuses
+
+abbrev pub ExplainsCollect : Status → List ℕ → Option (List ℕ) → Option (List ℕ) → Type 0
+ExplainsCollect = Tells scenario_limit IsCollectOf RefusesScriptIn
+
+abbrev pub ExplainsAudit : Status → List ℕ → Option (List ℕ) → Option (List ℕ) → Type 0
+ExplainsAudit = Tells history_limit auditing.Answers RefusesHistory
 
 -- What a status says, at `load`, of what the sink held and holds. No other status comes: what is not read can't be too
 -- long, no JSON or no scenario, and can't fail to be read.
@@ -77,69 +103,31 @@ ExplainsLoad workers alone count Done old new = (text : List ℕ) × IsLoadOf wo
 ExplainsLoad workers alone count WriteFault old new = (text : List ℕ) × IsLoadOf workers alone count text × AppendsPrefix old new text
 ExplainsLoad workers alone count Spent old new = Spends (load_setup count) × Keeps old new
 ExplainsLoad workers alone count NoMemory old new = Keeps old new
-ExplainsLoad workers alone count TooLong old new = ⊥
-ExplainsLoad workers alone count NotJson old new = ⊥
-ExplainsLoad workers alone count (BadScenario path) old new = ⊥
-ExplainsLoad workers alone count ReadFault old new = ⊥
-ExplainsLoad workers alone count Usage old new = ⊥
-
--- why the value was not run as a script of owner collection
-abbrev pub RefusesScript : Data → Status → Type 0
-RefusesScript value (BadScenario path) = collection.Refuses value (refusals.Path path)
-RefusesScript value Spent = collection.Refuses value refusals.Spent
-RefusesScript value NoMemory = Unit {0}
-RefusesScript value NotJson = ⊥
-RefusesScript value Done = ⊥
-RefusesScript value TooLong = ⊥
-RefusesScript value Usage = ⊥
-RefusesScript value ReadFault = ⊥
-RefusesScript value WriteFault = ⊥
-
--- why the bytes were not run as one
-abbrev pub RefusesScriptIn : List ℕ → Status → Type 0
-RefusesScriptIn bytes NotJson = HasNoReading bytes
-RefusesScriptIn bytes (BadScenario path) = RefusesCollect bytes (refusals.Path path)
-RefusesScriptIn bytes Spent = RefusesCollect bytes refusals.Spent
-RefusesScriptIn bytes NoMemory = Unit {0}
-RefusesScriptIn bytes Done = ⊥
-RefusesScriptIn bytes TooLong = ⊥
-RefusesScriptIn bytes Usage = ⊥
-RefusesScriptIn bytes ReadFault = ⊥
-RefusesScriptIn bytes WriteFault = ⊥
-
--- What a status says, at `collect`, of the bytes that could be read, and of what the sink held and holds.
-abbrev pub ExplainsCollect : Status → List ℕ → Option (List ℕ) → Option (List ℕ) → Type 0
-ExplainsCollect Done bytes old new = IsShort bytes × ((text : List ℕ) × IsCollectOf bytes text × Appends old new text)
-ExplainsCollect WriteFault bytes old new = IsShort bytes × ((text : List ℕ) × IsCollectOf bytes text × AppendsPrefix old new text)
-ExplainsCollect TooLong bytes old new = IsLong bytes × Keeps old new
-ExplainsCollect NotJson bytes old new = IsShort bytes × (HasNoReading bytes × Keeps old new)
-ExplainsCollect (BadScenario path) bytes old new = IsShort bytes × (RefusesCollect bytes (refusals.Path path) × Keeps old new)
-ExplainsCollect Spent bytes old new = IsShort bytes × (RefusesCollect bytes refusals.Spent × Keeps old new)
-ExplainsCollect ReadFault bytes old new = Keeps old new
-ExplainsCollect NoMemory bytes old new = Keeps old new
-ExplainsCollect Usage bytes old new = ⊥
+ExplainsLoad workers alone count other old new = ⊥
 
 -- What a status says of what was left to read, where that is told, and of what the sink held and holds.
 abbrev pub Explains : Option Command → Status → Option (List ℕ) → Option (List ℕ) → Option (List ℕ) → Type 0
 Explains None status left old new = Keeps old new
 Explains (Some (Run workers alone)) status left old new = IfSome left (λ bytes. ExplainsRun workers alone status bytes old new)
 Explains (Some (Load count workers alone)) status left old new = ExplainsLoad workers alone count status old new
+Explains (Some Audit) status left old new = IfSome left (λ bytes. ExplainsAudit status bytes old new)
 Explains (Some Collect) status left old new = IfSome left (λ bytes. ExplainsCollect status bytes old new)
 
--- What a status says, at `run` and `collect`, of what was left of the source and of what is left: at a fault or want of memory what stands
+-- What a status says, at a command that reads, of what was left of the source and of what is left: at a fault or want of memory what stands
 -- behind at most one byte above the limit, and at TooLong what stands behind exactly that byte. Else it was read to its end.
-abbrev pub LeavesRun : Status → Option (List ℕ) → Option (List ℕ) → Type 0
-LeavesRun TooLong old new = ConsumesExactly old new 16777217
-LeavesRun ReadFault old new = ConsumesAtMost old new 16777217
-LeavesRun NoMemory old new = ConsumesAtMost old new 16777217
-LeavesRun other old new = IsAtEnd new
+abbrev pub LeavesRead : ℕ → Status → Option (List ℕ) → Option (List ℕ) → Type 0
+LeavesRead limit TooLong old new = ConsumesExactly old new (limit + 1)
+LeavesRead limit ReadFault old new = ConsumesAtMost old new (limit + 1)
+LeavesRead limit NoMemory old new = ConsumesAtMost old new (limit + 1)
+LeavesRead limit other old new = IsAtEnd new
 
 -- The same for every command: at `load` all of it is left.
 abbrev pub Leaves : Option Command → Status → Option (List ℕ) → Option (List ℕ) → Type 0
 Leaves None status old new = Keeps old new
-Leaves (Some (Run workers alone)) status old new = LeavesRun status old new
+Leaves (Some (Run workers alone)) status old new = LeavesRead scenario_limit status old new
 Leaves (Some (Load count workers alone)) status old new = Keeps old new
-Leaves (Some Collect) status old new = LeavesRun status old new
+Leaves (Some Audit) status old new = LeavesRead history_limit status old new
+Leaves (Some Collect) status old new = LeavesRead scenario_limit status old new
 
 -- the count of reads that failed: one more at ReadFault, and none else
 abbrev pub reads_failed : Status → ℕ → ℕ
@@ -151,11 +139,12 @@ abbrev pub writes_failed : Status → ℕ → ℕ
 writes_failed WriteFault before = risen before
 writes_failed other before = before
 
--- only `run` and `collect` read
+-- all read but `load`
 abbrev pub reads_nothing : Option Command → Bool
 reads_nothing None = true
 reads_nothing (Some (Run workers alone)) = false
 reads_nothing (Some (Load count workers alone)) = true
+reads_nothing (Some Audit) = false
 reads_nothing (Some Collect) = false
 
 -- the status comes before anything is written
@@ -170,6 +159,7 @@ exit_code Done = 0
 exit_code TooLong = 1
 exit_code NotJson = 1
 exit_code (BadScenario path) = 1
+exit_code (BadHistory line) = 1
 exit_code Usage = 2
 exit_code ReadFault = 3
 exit_code WriteFault = 4
@@ -182,7 +172,8 @@ message_of Done = []
 message_of TooLong = codes "input too long"
 message_of NotJson = codes "not JSON"
 message_of (BadScenario path) = codes "bad scenario at "
-message_of Usage = codes "usage: cmrun run|load COUNT [--workers N] [--summary] or cmrun collect"
+message_of (BadHistory line) = codes "bad history at line "
+message_of Usage = codes "usage: cmrun run|load COUNT [--workers N] [--summary] or cmrun audit|collect"
 message_of ReadFault = codes "read failed"
 message_of WriteFault = codes "write failed"
 message_of NoMemory = codes "out of memory"
@@ -192,3 +183,8 @@ message_of Spent = codes "history is full"
 abbrev pub path_of : Status → List ℕ
 path_of (BadScenario path) = path
 path_of other = []
+
+-- the number of the line that ends it
+abbrev pub failing_line_of : Status → Option ℕ
+failing_line_of (BadHistory line) = Some line
+failing_line_of other = None

@@ -6,7 +6,7 @@ use Rattle.std.specs.List.{list_all, starts_with}
 use Rattle.std.specs.Str.{bytes_eq}
 use Rattle.std.specs.Str.Parse.{digits_value, without_leading_plus}
 use Rattle.cmrun.specs.declared.words.Command.{Command}
-use Rattle.cmrun.specs.declared.words.Command.TheVariants.{Run, Load, Collect}
+use Rattle.cmrun.specs.declared.words.Command.TheVariants.{Run, Load, Audit, Collect}
 
 infixl 20 ◌>>=◌
 abbrev ◌>>=◌ : {T U : Type 0} → Option T → (T → Option U) → Option U
@@ -86,20 +86,22 @@ command_said first given =
       Some (Load count workers summary))
     else None
 
--- owner collection, behind whose word no other stands
-abbrev pub collect_in : List (List ℕ) → Option Command
-collect_in [] = Some Collect
-collect_in (word ∷ words) = None
+-- a command behind whose word no other stands
+abbrev pub alone_in : Command → List (List ℕ) → Option Command
+alone_in command [] = Some command
+alone_in command (word ∷ words) = None
 
 -- what the words of the command line ask for, where they ask for anything
 abbrev pub command_of : List (String Global) → Option Command
 command_of [] = None
 command_of (first ∷ words) =
-    if bytes_eq (string_bytes first) (codes "collect") then collect_in (map string_bytes words)
+    if bytes_eq (string_bytes first) (codes "audit") then alone_in Audit (map string_bytes words)
+    else if bytes_eq (string_bytes first) (codes "collect") then alone_in Collect (map string_bytes words)
     else command_said (string_bytes first) (given_by (map string_bytes words))
 
 -- at most 64 workers, and 1 to 200 Certificates
 abbrev pub IsBounded : Command → Type 0
 IsBounded (Run workers summary) = workers ≤ 64
 IsBounded (Load count workers summary) = (workers ≤ 64) × (1 ≤ count) × (count ≤ 200)
+IsBounded Audit = Unit {0}
 IsBounded Collect = Unit {0}

@@ -2,16 +2,21 @@
 //
 // `cmrun run` reads a scenario from standard input, runs its script and its controllers on an empty store,
 // and prints the history of the run and a summary to standard output. `cmrun load COUNT` does the same with a
-// scenario that it makes, of COUNT Certificates that are issued and renewed, and reads nothing. `cmrun collect` reads a
-// script of owner collection, and prints what its steps make. With `--summary`
+// scenario that it makes, of COUNT Certificates that are issued and renewed, and reads nothing. `cmrun audit` reads such a
+// history, and says whether it is legal and safe, or where it fails first. `cmrun collect` reads a script of owner collection,
+// and prints what its steps make. With `--summary`
 // the summary alone is printed. `--workers N` says how many threads take passes of controllers, 4 where it is not given;
 // with 0 there is no thread but the first, and the run is that of the plain order.
 #![tactic(auto)]
 
+mod auditing;
+mod collecting;
 mod laws;
+mod leaving;
 mod memory;
 mod sink;
 mod source;
+mod status;
 mod top;
 mod words;
 
@@ -20,11 +25,12 @@ use cmc_keys::ScriptedKeys;
 use cmc_workers::NoGate;
 use sink::StdSink;
 use source::StdSource;
+use status::{Status, code, failing_line, failing_path, message};
 use std::alloc::AllocError;
 use std::env;
 use std::io::ErrorKind;
 use std::process::ExitCode;
-use top::{Status, code, failing_path, message, run};
+use top::run;
 
 fn command_line(rt: &HostRuntime) -> Result<Vec<String>, AllocError> {
     let mut words = Vec::new(rt.alloc());
@@ -60,7 +66,10 @@ fn main(rt: HostRuntime) -> ExitCode {
         Err(_) => Status::NoMemory,
     };
     if !matches!(status, Status::Done) {
-        let _ = eprintln!(rt; "cmrun: {}{}", message(&status), failing_path(&status));
+        let _ = match failing_line(&status) {
+            Some(line) => eprintln!(rt; "cmrun: {}{line}", message(&status)),
+            None => eprintln!(rt; "cmrun: {}{}", message(&status), failing_path(&status)),
+        };
     }
     ExitCode::from(code(&status))
 }
@@ -69,6 +78,8 @@ fn main(rt: HostRuntime) -> ExitCode {
 mod checks;
 #[cfg(test)]
 mod tests;
+#[cfg(test)]
+mod tests_of_audit;
 #[cfg(test)]
 mod tests_of_collect;
 #[cfg(test)]

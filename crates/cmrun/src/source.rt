@@ -65,8 +65,11 @@ impl<R: Read> Source for StdSource<R> {
     }
 }
 
-/// The most bytes that an input may have.
-pub const MAX_INPUT: usize = 16_777_216;
+/// The most bytes that a scenario, or a script of owner collection, may have.
+pub const SCENARIO_LIMIT: usize = 16_777_216;
+
+/// The most bytes that a printed history may have.
+pub const HISTORY_LIMIT: usize = 268_435_456;
 
 /// The most bytes that one read asks for.
 const PIECE: usize = 4096;
@@ -76,7 +79,7 @@ const PIECE: usize = 4096;
 pub enum ReadError {
     /// A read failed.
     Fault,
-    /// There are more than `MAX_INPUT` bytes.
+    /// There are more bytes than the limit allows.
     TooLong,
     /// Memory ran out.
     NoMemory,
@@ -90,24 +93,30 @@ impl From<AllocError> for ReadError {
     }
 }
 
-/// Reads an input of at most `MAX_INPUT` bytes to its end.
+/// Reads an input of at most `limit` bytes to its end.
 ///
 /// `TooLong` comes at the first byte above the limit, and nothing behind that byte is read.
 /// `Fault` comes where a read fails, and then no further read is made. Pieces have at most 4,096 bytes.
-pub fn read_all<S: Source>(alloc: Global, source: &mut S) -> Result<Vec<u8>, ReadError>
+pub fn read_all<S: Source>(
+    alloc: Global,
+    source: &mut S,
+    limit: usize,
+) -> Result<Vec<u8>, ReadError>
     ensures content { IfOk result (λ bytes. Consumes (S.left source.old) (S.left source.new) bytes.items) }
     ensures end { OnOk result (IsAtEnd (S.left source.new)) }
-    ensures within { IfOk result (λ bytes. vec_len bytes ≤ MAX_INPUT) }
-    ensures short { OnOk result (IfSome (S.left source.old) (λ input. length input ≤ MAX_INPUT)) }
-    ensures too_long { IsErrOf result ReadError.TooLong → IfSome (S.left source.old) (λ input. MAX_INPUT < length input) }
-    ensures first_above { IsErrOf result ReadError.TooLong → ConsumesExactly (S.left source.old) (S.left source.new) (MAX_INPUT + 1) }
-    ensures part { IfErr result (λ _. ConsumesAtMost (S.left source.old) (S.left source.new) (MAX_INPUT + 1)) }
+    ensures within { IfOk result (λ bytes. vec_len bytes ≤ limit) }
+    ensures short { OnOk result (IfSome (S.left source.old) (λ input. length input ≤ limit)) }
+    ensures too_long { IsErrOf result ReadError.TooLong → IfSome (S.left source.old) (λ input. limit < length input) }
+    ensures first_above { IsErrOf result ReadError.TooLong → ConsumesExactly (S.left source.old) (S.left source.new) (limit + 1) }
+    ensures part { IfErr result (λ _. ConsumesAtMost (S.left source.old) (S.left source.new) (limit + 1)) }
     ensures faults { S.faults source.new ≡ faults_after result (S.faults source.old) }
 {
     let mut bytes = Vec::new(alloc);
     let mut piece = [0u8; PIECE];
     loop {
-        let room = PIECE.min(MAX_INPUT + 1 - bytes.len());
+        // (one byte above the limit is asked for, so that an input that is too long is told from one that just fits)
+        let left = limit - bytes.len();
+        let room = PIECE.min(left.saturating_add(1));
         let count = match source.read(&mut piece[..room]) {
             Ok(count) => count,
             Err(_) => return Err(ReadError::Fault),
@@ -115,7 +124,7 @@ pub fn read_all<S: Source>(alloc: Global, source: &mut S) -> Result<Vec<u8>, Rea
         if count == 0 {
             return Ok(bytes);
         }
-        if count > MAX_INPUT - bytes.len() {
+        if count > left {
             return Err(ReadError::TooLong);
         }
         bytes.extend_from_slice(&piece[..count])?;

@@ -4,7 +4,8 @@ use crate::checks::{passes, passes_at, tells};
 use crate::memory::{MemSink, MemSource};
 use crate::sink::{Sink, StdSink};
 use crate::source::Source;
-use crate::top::{Status, code, failing_path, message, run};
+use crate::status::{Status, code, failing_line, failing_path, message};
+use crate::top::run;
 use cmc_answers::ScriptedSigner;
 use cmc_keys::ScriptedKeys;
 use cmc_meta::{Bytes, Numbers, Text};
@@ -583,7 +584,10 @@ fn ends_at_a_fault(rt: HostRuntime) -> Result<(), Fail> {
 
 /// The line on standard error behind a run that ended so.
 fn line_of(alloc: Global, status: &Status) -> Result<String, AllocError> {
-    format!(in alloc; "cmrun: {}{}", message(status), failing_path(status))
+    match failing_line(status) {
+        Some(line) => format!(in alloc; "cmrun: {}{line}", message(status)),
+        None => format!(in alloc; "cmrun: {}{}", message(status), failing_path(status)),
+    }
 }
 
 /// The line of the status, if its exit status is this.
@@ -603,8 +607,10 @@ fn bad_at(alloc: Global, path: &str) -> Result<Status, AllocError> {
     Ok(Status::BadScenario(Text::from_str(alloc, path)?))
 }
 
+static BAD_LINE: &str = "cmrun: bad history at line 7";
+
 static USAGE: &str =
-    "cmrun: usage: cmrun run|load COUNT [--workers N] [--summary] or cmrun collect";
+    "cmrun: usage: cmrun run|load COUNT [--workers N] [--summary] or cmrun audit|collect";
 
 #[test]
 fn tells_each_status(rt: HostRuntime) -> Result<(), Fail> {
@@ -613,6 +619,7 @@ fn tells_each_status(rt: HostRuntime) -> Result<(), Fail> {
     tells(&rt, "done", message(&Status::Done), "");
     is_told(&rt, alloc, Status::TooLong, 1, "cmrun: input too long")?;
     is_told(&rt, alloc, Status::NotJson, 1, "cmrun: not JSON")?;
+    is_told(&rt, alloc, Status::BadHistory(7), 1, BAD_LINE)?;
     is_told(&rt, alloc, Status::Usage, 2, USAGE)?;
     is_told(&rt, alloc, Status::ReadFault, 3, "cmrun: read failed")?;
     is_told(&rt, alloc, Status::WriteFault, 4, "cmrun: write failed")?;

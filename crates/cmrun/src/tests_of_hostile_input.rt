@@ -1,9 +1,9 @@
 // Hostile use of the whole program: cut and malicious input, reads, writes and calls that fail, sinks that are full, and
 // material that is no key and no certificate. What is expected comes from the table of replies and the form of scenarios.
 use crate::checks::passes_at;
+use crate::status::{Status, failing_path, message};
 use crate::tests::{is_first_lines, line_count, run_into, run_on, run_with, web};
 use crate::tests_of_rows::{BACKOFF, READY};
-use crate::top::{Status, failing_path, message};
 use std::alloc::{AllocError, Global};
 use std::process::Abort;
 use std::sync::Wait;

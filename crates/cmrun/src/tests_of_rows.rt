@@ -1,8 +1,9 @@
 // Whole runs of all controllers: who writes what, in which order, and how each run ends. The rows come from the tables of
 // the controllers, of temporary certificates and of approval policies.
 use crate::checks::{passes, tells};
+use crate::status::Status;
 use crate::tests::{WEB, run_on};
-use crate::top::Status;
+use crate::tests_of_audit::is_audited_yes;
 use std::alloc::{AllocError, Global};
 use std::process::Abort;
 use std::sync::Wait;
@@ -490,7 +491,7 @@ user REQUEST .. "reason":"Issued","status":"True","type":"Ready"} .. "reply":{"o
 ];
 
 /// The text with what its stand-ins stand for.
-fn filled(alloc: Global, text: &str) -> Result<String, AllocError> {
+pub(crate) fn filled(alloc: Global, text: &str) -> Result<String, AllocError> {
     let mut text = String::from_str(alloc, text)?;
     for (name, meaning) in &STAND_INS {
         text = text.as_str().replace(alloc, name, meaning)?;
@@ -623,6 +624,8 @@ fn meets<R: Abort + Threads + Wait + Sync>(
     let written = str::from_utf8(ended.written.as_slice()).unwrap_or("");
     has_writes(rt, alloc, row, written)?;
     passes(rt, input.as_str(), is_as_told(row, written));
+    let is_audited = is_audited_yes(rt, alloc, ended.written.as_slice())?;
+    passes(rt, "audit", is_audited);
     Ok(())
 }
 

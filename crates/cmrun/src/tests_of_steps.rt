@@ -1,8 +1,8 @@
 // What users' steps are answered: the admission rules at their bounds, verdicts, answers and renewals. The replies come
 // from the tables of rules and of replies.
 use crate::checks::passes;
+use crate::status::Status;
 use crate::tests::{Ended, run_on, web};
-use crate::top::Status;
 use std::alloc::{AllocError, Global};
 use std::process::Abort;
 use std::sync::Wait;

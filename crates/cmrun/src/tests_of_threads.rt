@@ -1,7 +1,7 @@
 // Runs in threads: they end as runs by one hand end, and two workers are at an issuer at once.
 use crate::checks::passes;
+use crate::status::Status;
 use crate::tests::{run_with, web};
-use crate::top::Status;
 use cmc_answers::ScriptedSigner;
 use cmc_keys::ScriptedKeys;
 use cmc_objects::{Entry, Order, SignOrder, Who};

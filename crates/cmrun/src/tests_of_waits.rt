@@ -1,7 +1,7 @@
 // What Certificates that are not Ready wait for. The rows come from the tables of the controllers and of waits.
 use crate::checks::passes;
+use crate::status::Status;
 use crate::tests::{Ended, run_on, web};
-use crate::top::Status;
 use std::alloc::{AllocError, Global};
 use std::sync::Wait;
 use std::test::Fail;

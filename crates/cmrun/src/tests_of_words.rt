@@ -1,8 +1,8 @@
 // The command line: which words are taken, and what `load` and `--summary` print. The rows come from the rules of the
 // command line and of the generated scenario.
 use crate::checks::passes;
+use crate::status::Status;
 use crate::tests::{run_with, web, words_of};
-use crate::top::Status;
 use crate::words::{Command, read_words};
 use std::alloc::{AllocError, Global};
 use std::process::Abort;
@@ -11,7 +11,7 @@ use std::test::Fail;
 use std::thread::Threads;
 
 /// Words that are refused.
-static REFUSED: [&str; 38] = [
+static REFUSED: [&str; 42] = [
     "",
     " ",
     "help",
@@ -46,6 +46,10 @@ static REFUSED: [&str; 38] = [
     "load --workers 1",
     "load -- 1",
     "load 1 --summary --workers 65",
+    "Audit",
+    "audit ",
+    "audit x",
+    "audit --workers 1",
     "Collect",
     "collect ",
     "collect x",
@@ -127,6 +131,8 @@ fn reads_the_command_line(rt: HostRuntime) -> Result<(), Fail> {
     assert_refused(&rt, rt.alloc(), &REFUSED)?;
     assert_runs(&rt, rt.alloc(), &RUNS)?;
     assert_loads(&rt, rt.alloc(), &LOADS)?;
+    let command = read_from(rt.alloc(), "audit")?;
+    passes(&rt, "audit", command == Some(Command::Audit));
     let command = read_from(rt.alloc(), "collect")?;
     passes(&rt, "collect", command == Some(Command::Collect));
     Ok(())

@@ -3,7 +3,6 @@ ghost use Rattle.serde_json.specs.View.{view};
 ghost use Rattle.serde_json.specs.Written.{has_float};
 ghost use Rattle.std.specs.Prelude.{◌≡◌, ◌≢◌, ◌≤◌, ◌↔◌, true, false, None, IfOk, IfErr, IfSome};
 ghost use Rattle.std.specs.Str.{IsUtf8};
-ghost use Rattle.cmc_collect_run.specs.Answers as collection;
 ghost use Rattle.cmc_report.specs.Text.{joined};
 ghost use Rattle.cmc_plain.specs.Histories.{IsPlain};
 ghost use Rattle.cmc_plain.specs.Named.{IsWhole, NamesEachWait};
@@ -12,17 +11,19 @@ ghost use Rattle.cmc_rules.specs.Runs.{IsFinished};
 ghost use Rattle.cmc_scenario.specs.Loads.{load_setup};
 ghost use Rattle.cmc_scenario_print.specs.ScenarioTree.{scenario_tree};
 ghost use Rattle.cmc_world.specs.Kept.{on};
-ghost use Rattle.cmrun.specs.Headline.{Answers, IsCollectOf, IsLoadOf, IsRunOf, RunsOn};
-ghost use Rattle.cmrun.specs.Statuses.{Explains, ExplainsCollect, ExplainsLoad, ExplainsRun, Leaves, LeavesRun, Refuses, RefusesScript, RefusesScriptIn, RefusesValue, SpendsOn, exit_code, message_of, path_of, reads_failed, reads_nothing, writes_failed, writes_nothing};
+ghost use Rattle.cmrun.specs.Headline.{Answers, IsLoadOf, IsRunOf, RunsOn};
+ghost use Rattle.cmrun.specs.Statuses.{Explains, ExplainsLoad, ExplainsRun, Leaves, LeavesRead, Refuses, RefusesValue, SpendsOn, reads_failed, reads_nothing, scenario_limit, writes_failed, writes_nothing};
 ghost use Rattle.cmrun.specs.Words.{command_of};
 
+use crate::auditing::run_audit;
+use crate::collecting::run_collect;
+use crate::leaving::leave;
 use crate::sink::{Sink, write_lines};
-use crate::source::{ReadError, Source, read_all};
+use crate::source::{ReadError, SCENARIO_LIMIT, Source, read_all};
+use crate::status::Status;
 use crate::words::{Command, read_words};
 use cmc_answers::Signer;
-use cmc_collect_run::{NotCollected, collect};
 use cmc_keys::KeyMaker;
-use cmc_meta::Text;
 use cmc_plain::{each_wait_is_named, summary};
 use cmc_report::{Lines, history_text, summary_text};
 use cmc_scenario::{BadScenario, Scenario, generate, read, value_of_scenario};
@@ -30,42 +31,9 @@ use cmc_workers::{Driven, Gate, drive};
 use cmc_world::World;
 use serde_json::{Category, Value};
 use std::alloc::{AllocError, Global};
+use std::str;
 use std::sync::Wait;
 use std::thread::Threads;
-use std::{mem, str};
-
-/// How a run ended.
-#[derive(Drop)]
-pub enum Status {
-    /// The run is finished and its text is written.
-    Done,
-    /// The input has more than 16,777,216 bytes.
-    TooLong,
-    /// The input is no JSON.
-    NotJson,
-    /// The input is JSON, but no scenario, or no script of owner collection: it fails at this path first.
-    BadScenario(Text),
-    /// The words are not of the command line's form.
-    Usage,
-    /// A read failed.
-    ReadFault,
-    /// A write failed.
-    WriteFault,
-    /// Memory ran out.
-    NoMemory,
-    /// The run needs more entries than the scenario or the script allows.
-    Spent,
-}
-
-impl From<AllocError> for Status {
-    ghost use Rattle.cmrun.specs.declared.top.Status.TheVariants.{NoMemory};
-
-    ghost from_gives = { λ _ s. s ≡ NoMemory };
-
-    fn from(_: AllocError) -> Self {
-        Status::NoMemory
-    }
-}
 
 /// What each Certificate waits for in a finished world, each with its name.
 fn waits_are_named(world: &World)
@@ -97,12 +65,6 @@ fn lines_of(
         return summary_text(alloc, &counts);
     }
     history_text(alloc, value, world.history(), &counts)
-}
-
-/// Leaves the value to the system, which takes all memory back at once when the program ends, soon after this. To let go of
-/// a world and of a tree of JSON piece by piece would be up to a seventh of the work of a run.
-fn leave<T: Drop>(value: T) {
-    mem::forget(value);
 }
 
 /// The lines of the run of a scenario, which the value is.
@@ -238,48 +200,6 @@ fn load_lines<R: Threads + Wait + Sync, M: KeyMaker, N: Signer, G: Gate>(
     lines
 }
 
-/// The exit status of the program.
-pub fn code(status: &Status) -> u8
-    ensures { result ≡ exit_code status.now }
-{
-    match status {
-        Status::Done => 0,
-        Status::TooLong | Status::NotJson | Status::BadScenario(_) => 1,
-        Status::Usage => 2,
-        Status::ReadFault => 3,
-        Status::WriteFault => 4,
-        Status::NoMemory => 5,
-        Status::Spent => 6,
-    }
-}
-
-/// What the line on standard error says behind the program's name; empty at Done, where there is no line.
-pub fn message(status: &Status) -> &'static str
-    ensures { result.now ≡ message_of status.now }
-{
-    match status {
-        Status::Done => "",
-        Status::TooLong => "input too long",
-        Status::NotJson => "not JSON",
-        Status::BadScenario(_) => "bad scenario at ",
-        Status::Usage => "usage: cmrun run|load COUNT [--workers N] [--summary] or cmrun collect",
-        Status::ReadFault => "read failed",
-        Status::WriteFault => "write failed",
-        Status::NoMemory => "out of memory",
-        Status::Spent => "history is full",
-    }
-}
-
-/// The path that ends that line; empty but at BadScenario.
-pub fn failing_path(status: &Status) -> &str
-    ensures { result.now ≡ path_of status.now }
-{
-    match status {
-        Status::BadScenario(path) => path.as_str(),
-        _ => "",
-    }
-}
-
 /// Runs the scenario that the source gives.
 fn run_source<R: Threads + Wait + Sync, S: Source, K: Sink, M: KeyMaker, N: Signer, G: Gate>(
     rt: &R,
@@ -293,13 +213,13 @@ fn run_source<R: Threads + Wait + Sync, S: Source, K: Sink, M: KeyMaker, N: Sign
     gate: &G,
 ) -> Status
     ensures told { IfSome (S.left source.old) (λ bytes. ExplainsRun workers alone result bytes (K.holds sink.old) (K.holds sink.new)) }
-    ensures left { LeavesRun result (S.left source.old) (S.left source.new) }
+    ensures left { LeavesRead scenario_limit result (S.left source.old) (S.left source.new) }
     ensures unwritten { writes_nothing result ≡ true → sink.new ≡ sink.old }
     ensures words { result ≢ Status.Usage }
     ensures read { S.faults source.new ≡ reads_failed result (S.faults source.old) }
     ensures write { K.faults sink.new ≡ writes_failed result (K.faults sink.old) }
 {
-    let bytes = match read_all(alloc, source) {
+    let bytes = match read_all(alloc, source, SCENARIO_LIMIT) {
         Ok(bytes) => bytes,
         Err(ReadError::NoMemory) => return Status::NoMemory,
         Err(ReadError::Fault) => return Status::ReadFault,
@@ -352,87 +272,20 @@ fn run_load<R: Threads + Wait + Sync, K: Sink, M: KeyMaker, N: Signer, G: Gate>(
     }
 }
 
-/// The lines that the value is answered with as a script of owner collection.
-fn collect_value(alloc: Global, value: &Value) -> Result<Lines, Status>
-    ensures ok { IfOk result (λ lines. collection.Answers (view value.now) (joined lines)) }
-    ensures err { IfErr result (λ status. RefusesScript (view value.now) status) }
-{
-    match collect(alloc, value) {
-        Ok(lines) => Ok(lines),
-        Err(NotCollected::Path(path)) => Err(Status::BadScenario(path)),
-        Err(NotCollected::Spent) => Err(Status::Spent),
-        Err(NotCollected::NoMemory) => Err(Status::NoMemory),
-    }
-}
-
-/// The same of a text.
-fn collect_text(alloc: Global, text: &str) -> Result<Lines, Status>
-    requires { IsUtf8 text.now }
-    ensures ok { IfOk result (λ lines. IsCollectOf text.now (joined lines)) }
-    ensures err { IfErr result (λ status. RefusesScriptIn text.now status) }
-{
-    match Value::from_str(alloc, text) {
-        Ok(value) => {
-            let lines = collect_value(alloc, &value);
-            leave(value);
-            lines
-        }
-        Err(error) => match error.classify() {
-            Category::Memory => Err(Status::NoMemory),
-            _ => Err(Status::NotJson),
-        },
-    }
-}
-
-/// The same of some bytes.
-fn collect_bytes(alloc: Global, bytes: &[u8]) -> Result<Lines, Status>
-    ensures ok { IfOk result (λ lines. IsCollectOf bytes.now (joined lines)) }
-    ensures err { IfErr result (λ status. RefusesScriptIn bytes.now status) }
-{
-    match str::from_utf8(bytes) {
-        Ok(text) => collect_text(alloc, text),
-        Err(_) => Err(Status::NotJson),
-    }
-}
-
-/// Runs the script of owner collection that the source gives.
-fn run_collect<S: Source, K: Sink>(alloc: Global, source: &mut S, sink: &mut K) -> Status
-    ensures told { IfSome (S.left source.old) (λ bytes. ExplainsCollect result bytes (K.holds sink.old) (K.holds sink.new)) }
-    ensures left { LeavesRun result (S.left source.old) (S.left source.new) }
-    ensures unwritten { writes_nothing result ≡ true → sink.new ≡ sink.old }
-    ensures words { result ≢ Status.Usage }
-    ensures read { S.faults source.new ≡ reads_failed result (S.faults source.old) }
-    ensures write { K.faults sink.new ≡ writes_failed result (K.faults sink.old) }
-{
-    let bytes = match read_all(alloc, source) {
-        Ok(bytes) => bytes,
-        Err(ReadError::NoMemory) => return Status::NoMemory,
-        Err(ReadError::Fault) => return Status::ReadFault,
-        Err(ReadError::TooLong) => return Status::TooLong,
-    };
-    let lines = match collect_bytes(alloc, bytes.as_slice()) {
-        Ok(lines) => lines,
-        Err(status) => return status,
-    };
-    match write_lines(sink, lines.as_slice()) {
-        Ok(()) => Status::Done,
-        Err(_) => Status::WriteFault,
-    }
-}
-
 /// Does all that the program does. With `run` it reads a scenario from the source, and with `load` it makes one of
 /// so many Certificates, and reads nothing. It runs the scenario on an empty store and writes the history and its
 /// summary to the sink, with `--summary` the line of the summary alone. `keys` makes keys and signs requests, and
 /// `signer` answers for the issuers, whatever they answer; the gate is called before each such piece of work. With 0
 /// workers the run is that of the plain order, and no thread is started. With more of them, so many threads of the
 /// runtime `rt` take passes, and which history is printed depends on how they come; all that is promised of it is
-/// promised of each. With `collect` it reads a script of owner collection from the source, and writes what its steps make.
+/// promised of each. With `audit` it reads a printed history, and writes whether it is legal and safe, or which clause fails
+/// first and at which entry. With `collect` it reads a script of owner collection, and writes what its steps make.
 ///
 /// The lines are made before the first of them is written, each as one piece. Each status has its cause,
 /// as its variant says; at `WriteFault` some first part of the text was written, and at every status but
 /// `Done` and `WriteFault` nothing was. `Usage` comes exactly where the words are not of the command line's form. At
-/// `run` and `collect` reading stopped at the first byte above the limit, at the end, or at the read that failed; else nothing was
-/// read.
+/// `run`, `audit` and `collect` reading stopped at the first byte above the limit, at the end, or at the read that failed; else
+/// nothing was read.
 pub fn run<R: Threads + Wait + Sync, S: Source, K: Sink, M: KeyMaker, N: Signer, G: Gate>(
     rt: &R,
     alloc: Global,
@@ -465,6 +318,7 @@ pub fn run<R: Threads + Wait + Sync, S: Source, K: Sink, M: KeyMaker, N: Signer,
                 summary,
             },
         ) => run_load(rt, alloc, workers, summary, count, sink, keys, signer, gate),
+        Some(Command::Audit) => run_audit(alloc, source, sink),
         Some(Command::Collect) => run_collect(alloc, source, sink),
     }
 }

@@ -1,6 +1,6 @@
 // What the words of the command line ask for.
 ghost use Rattle.std.specs.Prelude.{◌≡◌, ◌≤◌, IfSome, length, map, string_bytes};
-ghost use Rattle.cmrun.specs.Words.{IsBounded, collect_in, command_of, number_in, with_other, with_summary, with_value, with_word};
+ghost use Rattle.cmrun.specs.Words.{IsBounded, alone_in, command_of, number_in, with_other, with_summary, with_value, with_word};
 ghost use Rattle.cmrun.specs.Said.{IsSaidBy, Takes, TakesNext};
 
 /// What the program is asked to do.
@@ -22,6 +22,8 @@ pub enum Command {
         /// Only the summary is written.
         summary: bool,
     },
+    /// The printed history that is read is audited.
+    Audit,
     /// The script of owner collection that is read is run.
     Collect,
 }
@@ -139,26 +141,29 @@ fn said_by(words: &[String]) -> Option<Said<'_>>
     Some(said)
 }
 
-/// Owner collection, behind whose word no other stands.
-fn collect_in(words: &[String]) -> Option<Command>
-    ensures { result ≡ collect_in (map string_bytes words.now) }
+/// A command behind whose word no other stands.
+fn alone_in(command: Command, words: &[String]) -> Option<Command>
+    ensures { result ≡ alone_in command (map string_bytes words.now) }
 {
     if words.is_empty() {
-        return Some(Command::Collect);
+        return Some(command);
     }
     None
 }
 
 /// What the words of the command line ask for; None exactly where they are not of its form. The first is
-/// `run`, `load` or `collect`. Behind `run` and `load` stand in any order `--workers N`, or `--workers=N`, at most once,
-/// `--summary` at most once, and for `load` one other word, the count; behind `collect` stands nothing. It takes no memory.
+/// `run`, `load`, `audit` or `collect`. Behind `run` and `load` stand in any order `--workers N`, or `--workers=N`, at most once,
+/// `--summary` at most once, and for `load` one other word, the count; behind `audit` and `collect` stands nothing. It takes no memory.
 pub fn read_words(words: &[String]) -> Option<Command>
     ensures value { result ≡ command_of words.now }
     ensures bounds { IfSome result IsBounded }
 {
     let (first, rest) = words.split_first()?;
+    if first.as_str() == "audit" {
+        return alone_in(Command::Audit, rest);
+    }
     if first.as_str() == "collect" {
-        return collect_in(rest);
+        return alone_in(Command::Collect, rest);
     }
     let said = said_by(rest)?;
     let workers = match said.workers {
