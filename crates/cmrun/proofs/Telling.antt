@@ -11,11 +11,11 @@ all_kept None = tt
 all_kept (Some xs) = refl
 
 -- why bytes are refused is none of the causes that reading, writing and the command line have
-record IsCause (IsRefused : List ℕ → Status → Type 0) : Type 0 where
-  done : (bytes : List ℕ) → IsRefused bytes Done → ⊥
-  write : (bytes : List ℕ) → IsRefused bytes WriteFault → ⊥
-  long : (bytes : List ℕ) → IsRefused bytes TooLong → ⊥
-  usage : (bytes : List ℕ) → IsRefused bytes Usage → ⊥
+pub record IsCause (IsRefused : List ℕ → Status → Type 0) : Type 0 where
+  pub done : (bytes : List ℕ) → IsRefused bytes Done → ⊥
+  pub write : (bytes : List ℕ) → IsRefused bytes WriteFault → ⊥
+  pub long : (bytes : List ℕ) → IsRefused bytes TooLong → ⊥
+  pub usage : (bytes : List ℕ) → IsRefused bytes Usage → ⊥
 
 pub of_runs : IsCause Refuses
 of_runs = record { done = λ bytes cause. cause; write = λ bytes cause. cause; long = λ bytes cause. cause; usage = λ bytes cause. cause }
