@@ -1,0 +1,4 @@
+pub mod Heeding
+pub mod Reading
+pub mod GoodIssues
+pub mod GoodWrites

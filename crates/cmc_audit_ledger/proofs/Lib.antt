@@ -1,0 +1,5 @@
+pub mod Rows
+pub mod Events
+pub mod Permits
+pub mod Taking
+pub mod Beginning

@@ -1,0 +1,9 @@
+pub mod EachRole
+pub mod Searching
+pub mod Latest
+pub mod Picking
+pub mod Listing
+pub mod Indexing
+pub mod Filing
+pub mod Placing
+pub mod Adding

@@ -1,0 +1,4 @@
+pub mod Standing
+pub mod Heard
+pub mod Journaled
+pub mod OpenRows

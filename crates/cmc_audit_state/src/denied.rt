@@ -1,0 +1,56 @@
+//! The uids of requests that were denied.
+ghost use Rattle.std.specs.Prelude.{◌≡◌, ◌==◌, ◌||◌, ℕ, OnErr, OnOk, false};
+ghost use Rattle.cmc_audit_state.specs.Journaled.{is_noted};
+
+use std::alloc::{AllocError, Global};
+use std::collections::HashSet;
+use std::marker::Model;
+
+/// Uids; contracts see the list of them, in no order.
+pub struct Denied {
+    set: HashSet<u64>,
+}
+
+impl Drop for Denied {
+    fn drop(self) {
+        let Denied { set: _set } = self;
+    }
+}
+
+impl Model for Denied {
+    ghost use Rattle.std.specs.Prelude.{ℕ, List};
+
+    ghost Value = { List ℕ };
+
+    ghost view = { λ d. d.set.keys };
+}
+
+impl Denied {
+    /// No uid. It takes no memory.
+    #[tactic(auto, unfolding(crate::specs::Journaled::is_noted))]
+    pub fn new(alloc: Global) -> Denied
+        ensures { (uid : ℕ) → is_noted result uid ≡ false }
+    {
+        Denied {
+            set: HashSet::new(alloc),
+        }
+    }
+
+    /// Whether the uid is one of these.
+    #[tactic(auto, unfolding(crate::specs::Journaled::is_noted))]
+    pub fn has(&self, uid: u64) -> bool
+        ensures { result ≡ is_noted self.now uid }
+    {
+        self.set.contains(&uid)
+    }
+
+    /// Adds the uid. An error is one of memory, and leaves all as it was.
+    #[tactic(auto, unfolding(crate::specs::Journaled::is_noted))]
+    pub fn add(&mut self, uid: u64) -> Result<(), AllocError>
+        ensures ok { OnOk result ((u : ℕ) → is_noted self.new u ≡ ((uid == u) || is_noted self.old u)) }
+        ensures err { OnErr result (self.new ≡ self.old) }
+    {
+        self.set.insert(uid)?;
+        Ok(())
+    }
+}
