@@ -1,0 +1,6 @@
+pub mod Issues
+pub mod Placed
+pub mod Clean
+pub mod Named
+pub mod Verdict
+pub mod Passing
