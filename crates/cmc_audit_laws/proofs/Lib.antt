@@ -4,3 +4,5 @@ pub mod Clean
 pub mod Named
 pub mod Verdict
 pub mod Passing
+pub mod Reversed
+pub mod Brought

@@ -1,5 +1,8 @@
-//! Laws of audits.
+//! Laws of audits: what a run prints is audited yes. Nothing here runs: each function is a law.
 #![tactic(auto)]
 
-pub fn law()
-{}
+mod naming;
+mod passing;
+
+pub use naming::entries_name_their_keys;
+pub use passing::{each_run_is_audited_yes, each_world_is_audited_yes};
