@@ -41,6 +41,7 @@ use Rattle.cmc_rules.specs.Chains.{readiness_reason}
 use Rattle.cmc_rules.specs.NextKeys.{is_named, has_fitting_key, named_key}
 use Rattle.cmc_rules.specs.NextRequests.{is_wanted, is_refused, next_requests}
 use Rattle.cmc_rules.proofs.Lines.{by_test}
+use Rattle.cmc_audit_laws.specs.Given.{IsForCertificate}
 use Rattle.cmc_rules.specs.Triggering as triggering
 use Rattle.cmc_rules.specs.KeyManaging as key_managing
 use Rattle.cmc_rules.specs.RequestManaging as request_managing
@@ -84,11 +85,6 @@ IsBrought seen (UpdateStatus (Request r) named) = IsAnswered seen r
 IsBrought seen (UpdateStatus (Secret k) named) = ⊥
 IsBrought seen (Delete key named) = Unit {0}
 IsBrought seen (Get key) = Unit {0}
-
--- a key is asked for a Certificate
-abbrev pub IsForCertificate : Order → Type 0
-IsForCertificate (orders.Key order) = order.certificate.kind ≡ kinds.Certificate
-IsForCertificate other = Unit {0}
 
 abbrev pub ActBrings : Views → Act → Type 0
 ActBrings seen Nothing = Unit {0}

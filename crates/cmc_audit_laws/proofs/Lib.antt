@@ -6,3 +6,4 @@ pub mod Verdict
 pub mod Passing
 pub mod Reversed
 pub mod Brought
+pub mod Given
