@@ -8,7 +8,7 @@ use cmc_meta::Key;
 use cmc_objects::{Call, Entry};
 
 // A key has a namespace and a name.
-fn key_has_names(key: &Key)
+pub(crate) fn key_has_names(key: &Key)
     ensures { IsOfNames key.now }
 {
     let _namespace = key.namespace.as_str();
