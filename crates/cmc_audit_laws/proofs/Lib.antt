@@ -7,3 +7,5 @@ pub mod Passing
 pub mod Reversed
 pub mod Brought
 pub mod Given
+pub mod Readable
+pub mod EntriesFormed

@@ -65,14 +65,14 @@ fn are_in_order(conditions: &Conditions)
     let _conditions = conditions.as_slice();
 }
 
-#[tactic(auto, using(Rattle::cmc_codec::proofs::Entries::in_order))]
+#[tactic(auto, using(cmc_codec::proofs::Entries::in_order))]
 fn pairs_in_order(pairs: &Pairs)
     ensures { IsOrdered pairs.now }
 {
     let _len = pairs.as_map().len();
 }
 
-#[tactic(auto, using(Rattle::cmc_codec::proofs::Entries::in_order))]
+#[tactic(auto, using(cmc_codec::proofs::Entries::in_order))]
 fn parts_in_order(parts: &Parts)
     ensures { IsOrdered parts.now }
 {
