@@ -9,3 +9,6 @@ pub mod Brought
 pub mod Given
 pub mod Readable
 pub mod EntriesFormed
+pub mod TextsRead
+pub mod OneLines
+pub mod TreesFit

@@ -1,3 +1,4 @@
 pub mod Passing
 pub mod Given
 pub mod Typed
+pub mod Counted
