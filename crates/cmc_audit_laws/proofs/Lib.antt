@@ -12,3 +12,5 @@ pub mod EntriesFormed
 pub mod TextsRead
 pub mod OneLines
 pub mod TreesFit
+pub mod ScriptsBare
+pub mod RunText

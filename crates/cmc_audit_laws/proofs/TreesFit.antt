@@ -42,7 +42,9 @@ use Rattle.cmc_print.specs.Trees.{natural}
 use Rattle.cmc_print.specs.Puts.{put_option, put_list, put_true, put_object, strings, base64_text, put_all, map_tree}
 use Rattle.cmc_print.specs.Words.{algorithm_name, encoding_name, rotation_name, kind_name, role_name}
 use Rattle.cmc_print.specs.Printed.{moment_tree, duration_tree, owner_tree, owners_tree, meta_members, meta_tree, condition_tree, conditions_tree, issuer_tree, key_members, put_references, put_names, put_terms, spec_tree, request_tree, put_moments, status_members, request_status_members, head_members, put_body, object_tree}
-use Rattle.cmc_report.specs.Trees.{lone, ok_members, conflict_tree, reply_tree, who_tree, put_written, put_version, put_call, put_request, key_order_tree, csr_order_tree, sign_order_tree, judge_order_tree, order_tree, issued_tree, answer_tree, put_told, positions_tree, put_begin, cause_tree, put_named, put_pass, put_entry, entry_tree}
+use Rattle.cmc_summary.specs.declared.summary.Summary.{Summary}
+use Rattle.cmc_summary.specs.declared.summary.Waiting.{Waiting}
+use Rattle.cmc_report.specs.Trees.{waiting_tree, counts_tree, summary_tree, lone, ok_members, conflict_tree, reply_tree, who_tree, put_written, put_version, put_call, put_request, key_order_tree, csr_order_tree, sign_order_tree, judge_order_tree, order_tree, issued_tree, answer_tree, put_told, positions_tree, put_begin, cause_tree, put_named, put_pass, put_entry, entry_tree}
 use Rattle.cmc_audit_laws.specs.Typed.{IsSmall, IsWide, IsTypedSpec, IsTypedStatus, IsTypedObject, IsTypedCall}
 use Rattle.cmc_audit_laws.specs.Counted.{IsCount, IsCountedWho, IsCountedCall, IsCountedReply, IsCountedOrder, IsCountedCause, AreCounted, IsCountedEntry}
 use Rattle.cmc_audit_laws.specs.Typed.{IsTypedEntry}
@@ -399,3 +401,21 @@ entry (End pass c) typed low all = with_one (codes "cause") (cause c low.1) (nam
 pub entry_fits : (n : ℕ) (e : Entry) → IsCount n → IsTypedEntry e → IsCountedEntry e → Fits 5 (entry_tree n e)
 unfolding entry_tree
 entry_fits n e numbered typed low = (whole (entry {n = 0} e typed low (with_one (codes "n") (count n numbered) none))).is
+
+-- ---- the summary
+
+waiting : {n : ℕ} (w : Waiting) → Fit (suc n) (waiting_tree w)
+unfolding waiting_tree
+waiting w = whole (with_one (codes "wait") (text _) (with_one (codes "certificate") (text _) none))
+
+counts : {n : ℕ} (s : Summary) → IsCount s.certificates → IsCount s.ready → IsCount s.secrets → Fit (suc (suc (suc n))) (counts_tree s)
+unfolding counts_tree
+counts s a b c = whole
+    (with_one (codes "waiting") (listed waiting_tree s.waiting waiting)
+    (with_one (codes "secrets") (count s.secrets c)
+    (with_one (codes "ready") (count s.ready b)
+    (with_one (codes "certificates") (count s.certificates a) none))))
+
+pub summary_fits : (s : Summary) → IsCount s.certificates → IsCount s.ready → IsCount s.secrets → Fits 4 (summary_tree s)
+unfolding summary_tree
+summary_fits s a b c = (whole (with_one (codes "summary") (counts {n = 0} s a b c) none)).is

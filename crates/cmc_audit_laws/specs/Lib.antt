@@ -2,3 +2,4 @@ pub mod Passing
 pub mod Given
 pub mod Typed
 pub mod Counted
+pub mod Printed

@@ -1,0 +1,4 @@
+pub mod Passing
+pub mod Typed
+pub mod Counted
+pub mod Trees

@@ -1,0 +1,5 @@
+//! Laws of audits.
+#![tactic(auto)]
+
+pub fn law()
+{}
