@@ -14,3 +14,4 @@ pub mod OneLines
 pub mod TreesFit
 pub mod ScriptsBare
 pub mod RunText
+pub mod Utf8Lines

@@ -30,17 +30,17 @@ use Rattle.cmc_audit_laws.proofs.TreesFit.{entry_fits, summary_fits}
 
 -- ---- the lines without their line feeds
 
-abbrev entry_text : ℕ → Entry → List ℕ
+abbrev pub entry_text : ℕ → Entry → List ℕ
 entry_text n e = compact_text (entry_tree n e)
 
-abbrev entry_texts : List Entry → List (List ℕ)
+abbrev pub entry_texts : List Entry → List (List ℕ)
 entry_texts [] = []
 entry_texts (e ∷ h) = entry_texts h ++ entry_text (length h + 1) e ∷ []
 
-abbrev scenario_line : Data → List ℕ
+abbrev pub scenario_line : Data → List ℕ
 scenario_line d = codes "{\"scenario\":" ++ (compact_text d ++ codes "}")
 
-abbrev rest_texts : List Entry → Summary → List (List ℕ)
+abbrev pub rest_texts : List Entry → Summary → List (List ℕ)
 rest_texts h summary = entry_texts h ++ compact_text (summary_tree summary) ∷ []
 
 abbrev all_texts : Data → List Entry → Summary → List (List ℕ)
@@ -48,7 +48,7 @@ all_texts d h summary = scenario_line d ∷ rest_texts h summary
 
 -- ---- with them they are what is printed
 
-scenario_ended : (d : Data) → line_of (scenario_tree d) ≡ scenario_line d ++ 10 ∷ []
+pub scenario_ended : (d : Data) → line_of (scenario_tree d) ≡ scenario_line d ++ 10 ∷ []
 unfolding line_of scenario_tree escape_byte
 scenario_ended d =
     ap (λ t. codes "{\"scenario\":" ++ t) (append_assoc (compact_text d) (125 ∷ []) (10 ∷ [])) ∙ sym (ap (λ t. codes "{\"scenario\":" ++ t) (append_assoc (compact_text d) (codes "}") (10 ∷ [])))
@@ -91,7 +91,7 @@ shown_length : (h : List Entry) → 1 + length (reverse (map shown h)) ≡ lengt
 shown_length h = omega (arith, length-reverse (map shown h), length-map shown h)
 
 -- each of the texts is UTF-8
-abbrev AreUtf8 : List (List ℕ) → Type 0
+abbrev pub AreUtf8 : List (List ℕ) → Type 0
 AreUtf8 texts = AllByRecursion IsUtf8 texts
 
 utf8_front : (xs : List (List ℕ)) (y : List ℕ) → AreUtf8 (xs ++ y ∷ []) → AreUtf8 xs
