@@ -3,7 +3,7 @@ pub mod Placed
 pub mod Clean
 pub mod Named
 pub mod Verdict
-pub mod Passing
+pub mod RunPasses
 pub mod Reversed
 pub mod Brought
 pub mod Given

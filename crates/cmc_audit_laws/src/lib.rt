@@ -1,8 +1,12 @@
 //! Laws of audits: what a run prints is audited yes. Nothing here runs: each function is a law.
 #![tactic(auto)]
 
+mod counted;
 mod naming;
 mod passing;
+mod typed;
 
+pub use counted::entries_are_counted;
 pub use naming::entries_name_their_keys;
 pub use passing::{each_run_is_audited_yes, each_world_is_audited_yes};
+pub use typed::entries_are_typed;
