@@ -1,5 +1,0 @@
-//! Laws of audits.
-#![tactic(auto)]
-
-pub fn law()
-{}

@@ -1,4 +1,0 @@
-pub mod Passing
-pub mod Typed
-pub mod Counted
-pub mod Trees

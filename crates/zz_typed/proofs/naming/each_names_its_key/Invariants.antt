@@ -1,7 +1,0 @@
-use Rattle.std.proofs.Common.{take}
-use Rattle.std.specs.List.{All}
-use Rattle.zz_typed.specs.Passing.{NamesItsKey}
-use Rattle.zz_typed.proofs.naming.each_names_its_key.Given as goal
-
-abbrev pub invariant-loop-entry : goal.invariant-loop-entry
-invariant-loop-entry l = All NamesItsKey (take l.entry-index l.entries)

@@ -1,7 +1,0 @@
-use Rattle.std.proofs.Common.{take}
-use Rattle.std.specs.List.{All}
-use Rattle.zz_typed.specs.Typed.{IsTypedEntry}
-use Rattle.zz_typed.proofs.typed.each_is_typed.Given as goal
-
-abbrev pub invariant-loop-entry : goal.invariant-loop-entry
-invariant-loop-entry l = All IsTypedEntry (take l.entry-index l.entries)

@@ -1,3 +1,0 @@
-pub mod Passing
-pub mod Laws
-pub mod Typed
