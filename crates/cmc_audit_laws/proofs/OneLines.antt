@@ -14,13 +14,13 @@ use Rattle.serde_json.specs.Written.{number_text, comma_if, compact_text, items_
 use Rattle.cmc_time.proofs.Digits.{own}
 use Rattle.cmc_audit_laws.proofs.TextsRead.{IsCount, Fits, ItemsFit, MembersFit}
 
-abbrev IsNoFeed : ℕ → Type 0
+abbrev pub IsNoFeed : ℕ → Type 0
 IsNoFeed c = (c == 10) ≡ false
 
-abbrev HasNoFeed : List ℕ → Type 0
+abbrev pub HasNoFeed : List ℕ → Type 0
 HasNoFeed text = AllByRecursion IsNoFeed text
 
-both : (xs ys : List ℕ) → HasNoFeed xs → HasNoFeed ys → HasNoFeed (xs ++ ys)
+pub both : (xs ys : List ℕ) → HasNoFeed xs → HasNoFeed ys → HasNoFeed (xs ++ ys)
 both [] ys a b = b
 both (x ∷ xs) ys a b = (a.0, both xs ys a.1 b)
 

@@ -1,6 +1,6 @@
 -- The lines that are printed of a history are the text of a history.
 use Rattle.std.proofs.Common.{◌≡◌, ◌<◌, ◌≤◌, ◌+◌, ◌^◌, ◌==◌, ℕ, false, List, [], ◌∷◌, ◌++◌, length, map, reverse, Ok, Some, refl, ap, sym, subst, ◌∙◌, codes, arith, append_assoc, append-nil}
-use Rattle.std.proofs.lemmas.List.{reverse-cons, length-reverse, length-map}
+use Rattle.std.proofs.lemmas.List.{reverse-append, length-reverse, length-map}
 use Rattle.std.proofs.lemmas.List.Elements.{All-from_recursion, recursion_from_All}
 use Rattle.std.proofs.lemmas.Grind.{flat_map-append}
 use Rattle.std.specs.List.{flat_map, All, AllByRecursion}
@@ -25,7 +25,7 @@ use Rattle.cmc_audit_laws.specs.Counted.{IsCount, IsCountedEntry}
 use Rattle.cmc_audit_laws.specs.Typed.{IsTypedEntry}
 use Rattle.cmc_audit_laws.specs.Printed.{IsValueOf, IsSummary, AreEntries, IsPrintedOf}
 use Rattle.cmc_audit_laws.proofs.TextsRead.{Fits, text_read}
-use Rattle.cmc_audit_laws.proofs.OneLines.{one_line}
+use Rattle.cmc_audit_laws.proofs.OneLines.{IsNoFeed, HasNoFeed, both, one_line}
 use Rattle.cmc_audit_laws.proofs.TreesFit.{entry_fits, summary_fits}
 
 -- ---- the lines without their line feeds
@@ -85,10 +85,10 @@ line_is n e numbered form typed counted utf8 =
     record { entry = e; form = form; shows = refl; is = text_of 5 (entry_tree n e) five_levels (entry_fits n e numbered typed counted) utf8 }
 
 shown_more : (e : Entry) (h : List Entry) → reverse (map shown h) ++ shown e ∷ [] ≡ reverse (map shown (e ∷ h))
-shown_more e h = sym (reverse-cons (shown e) (map shown h))
+shown_more e h = sym (reverse-append (shown e ∷ []) (map shown h))
 
 shown_length : (h : List Entry) → 1 + length (reverse (map shown h)) ≡ length h + 1
-shown_length h = omega (arith, length-reverse (map shown h), length-map shown h)
+shown_length h = omega (arith, length-reverse (map shown h), length-map h shown)
 
 -- each of the texts is UTF-8
 abbrev pub AreUtf8 : List (List ℕ) → Type 0
@@ -124,16 +124,19 @@ summary_is summary is utf8 = record { summary = summary; form = is.form; counted
 
 -- the scenario's line is one line
 no_feed_more : (xs ys : List ℕ) → IsOneLine xs → IsOneLine ys → IsOneLine (xs ++ ys)
-no_feed_more xs ys one two = All-from_recursion _ (xs ++ ys) (both xs ys (recursion_from_All _ xs one) (recursion_from_All _ ys two)) where
-  both : (xs ys : List ℕ) → AllByRecursion (λ c. (c == 10) ≡ false) xs → AllByRecursion (λ c. (c == 10) ≡ false) ys → AllByRecursion (λ c. (c == 10) ≡ false) (xs ++ ys)
-  both [] ys a b = b
-  both (x ∷ xs) ys a b = (a.0, both xs ys a.1 b)
+no_feed_more xs ys one two = All-from_recursion IsNoFeed (xs ++ ys) (both xs ys (recursion_from_All IsNoFeed xs one) (recursion_from_All IsNoFeed ys two))
+
+name_has_none : HasNoFeed (codes "{\"scenario\":")
+name_has_none = (refl, (refl, (refl, (refl, (refl, (refl, (refl, (refl, (refl, (refl, (refl, (refl, tt))))))))))))
 
 name_no_feed : IsOneLine (codes "{\"scenario\":")
-name_no_feed = All-from_recursion _ (codes "{\"scenario\":") (refl, (refl, (refl, (refl, (refl, (refl, (refl, (refl, (refl, (refl, (refl, (refl, tt))))))))))))
+name_no_feed = All-from_recursion IsNoFeed (codes "{\"scenario\":") name_has_none
+
+bracket_has_none : HasNoFeed (codes "}")
+bracket_has_none = (refl, tt)
 
 bracket_no_feed : IsOneLine (codes "}")
-bracket_no_feed = All-from_recursion _ (codes "}") (refl, tt)
+bracket_no_feed = All-from_recursion IsNoFeed (codes "}") bracket_has_none
 
 scenario_one_line : (d : Data) → IsOneLine (compact_text d) → IsOneLine (scenario_line d)
 scenario_one_line d one = no_feed_more (codes "{\"scenario\":") (compact_text d ++ codes "}") name_no_feed (no_feed_more (compact_text d) (codes "}") one bracket_no_feed)

@@ -1,6 +1,7 @@
 -- What is printed of a run is UTF-8, line by line and without the line feeds.
 use Rattle.std.proofs.Common.{◌≡◌, ◌<◌, ◌≤◌, ◌+◌, ℕ, zero, suc, List, [], ◌∷◌, ◌++◌, length, take, drop, map, refl, ap, sym, subst, ◌∙◌, codes, arith, length-append}
-use Rattle.std.proofs.lemmas.Str.{IsUtf8-string_bytes, IsUtf8-take, IsUtf8-drop, IsUtf8-from_ascii, IsCharBoundary-at_seam, IsCharBoundary-from_take}
+use Rattle.json.proofs.Printed.Utf8.{IsUtf8-are_ascii}
+use Rattle.std.proofs.lemmas.Str.{IsUtf8-string_bytes, IsUtf8-take, IsUtf8-drop, IsCharBoundary-at_seam, IsCharBoundary-from_take}
 use Rattle.std.proofs.Math.Seq.{take-append_seam, drop-append_seam}
 use Rattle.std.specs.List.{AllByRecursion}
 use Rattle.std.specs.Prelude.{string_bytes}
@@ -27,13 +28,13 @@ back_utf8 xs ys front utf8 =
     subst IsUtf8 (drop-append_seam xs ys) (IsUtf8-drop (xs ++ ys) (length xs) utf8 at)
 
 feed_utf8 : IsUtf8 (10 ∷ [])
-feed_utf8 = (10 ∷ [], (refl, refl))
+feed_utf8 = IsUtf8-are_ascii (10 ∷ []) refl
 
 bracket_utf8 : IsUtf8 (codes "}")
-bracket_utf8 = (codes "}", (refl, refl))
+bracket_utf8 = IsUtf8-are_ascii (codes "}") refl
 
 name_utf8 : IsUtf8 (codes "{\"scenario\":")
-name_utf8 = (codes "{\"scenario\":", (refl, refl))
+name_utf8 = IsUtf8-are_ascii (codes "{\"scenario\":") refl
 
 -- ---- the lines
 

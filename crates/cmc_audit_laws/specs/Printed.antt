@@ -1,5 +1,5 @@
 -- What has to hold of lines that a run prints, beside what the run gives.
-use Rattle.std.specs.Prelude.{◌≡◌, ℕ, ◌<◌, ◌^◌, List, [], ◌∷◌, ◌++◌, length, map, reverse, Ok, Some, All}
+use Rattle.std.specs.Prelude.{◌≡◌, ℕ, ◌<◌, ◌^◌, ◌+◌, List, [], ◌∷◌, ◌++◌, length, map, reverse, Ok, Some, All}
 use Rattle.std.specs.List.{AllByRecursion}
 use Rattle.std.specs.Str.{IsUtf8}
 use Rattle.serde_json.specs.Data.{Data}
@@ -36,7 +36,7 @@ pub record AreEntries (h : List Entry) : Type 0 where
   pub formed : AllByRecursion HasForm h
   pub typed : AreTyped h
   pub counted : EachCounted h
-  pub few : length h < 2 ^ 64 - 1
+  pub few : length h + 1 < 2 ^ 64
 
 -- The text is that of a history with this scenario, whose entries show those of the history, and with the counts of the summary.
 abbrev pub IsPrintedOf : List ℕ → Setup → List Entry → Summary → Type 0

@@ -7,5 +7,5 @@ use Rattle.cmc_audit_laws.proofs.passing.each_run_is_audited_yes.Goals as goal
 pub returns : goal.returns
 returns c = λ run.
     let u = c.args.scenario.now in
-    let setup = c.events.ensures.setup in
+    let setup = c.events-events.ensures.setup in
     run_passes each_sound (setting_of u) c.args.history.now.entries (formed u setup) (have_seconds u.script setup.ticks) run c.entries_name_their_keys.ensures
