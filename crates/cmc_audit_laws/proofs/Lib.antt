@@ -15,3 +15,4 @@ pub mod TreesFit
 pub mod ScriptsBare
 pub mod RunText
 pub mod Utf8Lines
+pub mod SummaryFormed

@@ -7,7 +7,7 @@ use Rattle.serde_json.specs.Read.{read}
 use Rattle.serde_json.specs.Written.{compact_text}
 use Rattle.cmc_objects.specs.declared.entry.Entry.{Entry}
 use Rattle.cmc_summary.specs.declared.summary.Summary.{Summary}
-use Rattle.cmc_summary_form.specs.SummaryForm.{HasSummaryForm}
+use Rattle.cmc_summary_form.specs.SummaryForm.{HasNames, HasSummaryForm}
 use Rattle.cmc_setup.specs.Setups.{Setup}
 use Rattle.cmc_scenario.specs.Scenarios.{scenario_at}
 use Rattle.cmc_print.specs.Trees.{line_of}
@@ -41,3 +41,10 @@ pub record AreEntries (h : List Entry) : Type 0 where
 -- The text is that of a history with this scenario, whose entries show those of the history, and with the counts of the summary.
 abbrev pub IsPrintedOf : List ℕ → Setup → List Entry → Summary → Type 0
 IsPrintedOf text scenario h summary = IsHistoryOf text scenario (reverse (map shown h)) (counts_of summary)
+
+-- What the type of a summary says of it: names are names, and counts fit 64 bits.
+pub record IsTypedSummary (summary : Summary) : Type 0 where
+  pub names : AllByRecursion (λ w. HasNames w.certificate) summary.waiting
+  pub certificates : IsCount summary.certificates
+  pub ready : IsCount summary.ready
+  pub secrets : IsCount summary.secrets

@@ -4,9 +4,11 @@
 mod counted;
 mod naming;
 mod passing;
+mod summing;
 mod typed;
 
 pub use counted::entries_are_counted;
 pub use naming::entries_name_their_keys;
 pub use passing::{each_run_is_audited_yes, each_world_is_audited_yes};
+pub use summing::summary_is_typed;
 pub use typed::entries_are_typed;
