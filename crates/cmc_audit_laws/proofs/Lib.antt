@@ -16,3 +16,5 @@ pub mod ScriptsBare
 pub mod RunText
 pub mod Utf8Lines
 pub mod SummaryFormed
+pub mod ValuesRead
+pub mod TextPasses

@@ -1,5 +1,5 @@
 -- No line feed stands in the compact text of a tree whose numbers are whole numbers of 64 bits.
-use Rattle.std.proofs.Common.{◌≡◌, ◌==◌, ◌||◌, ◌/◌, ◌%◌, ◌≤◌, ◌<◌, ◌^◌, ◌-◌, ◌+◌, ℕ, List, [], ◌∷◌, ◌++◌, Bool, true, false, cond, nat_lt, refl, subst, arith}
+use Rattle.std.proofs.Common.{◌≡◌, ◌==◌, ◌||◌, ◌/◌, ◌%◌, ◌≤◌, ◌<◌, ◌^◌, ◌-◌, ◌+◌, ℕ, List, [], ◌∷◌, ◌++◌, Bool, true, false, cond, nat_lt, refl, sym, subst, arith, suc, ℤ}
 use Rattle.std.proofs.lemmas.Bool.Decides.{nat_tests}
 use Rattle.std.proofs.lemmas.Fmt.{digits_decimal}
 use Rattle.std.proofs.lemmas.List.Elements.{All-from_recursion}
@@ -79,7 +79,8 @@ digits_no_feed (d ∷ ds) all = let parts = and_parts (is_ascii_digit d) (all_as
 
 number_no_feed : (x : Num) → IsCount x → HasNoFeed (number_text x)
 number_no_feed (unsigned n) low = digits_no_feed (decimal n) (digits_decimal own n low)
-number_no_feed (negative z) low = absurd low
+number_no_feed (negative z) low =
+    subst (λ (x : ℤ). HasNoFeed (number_text (negative x))) (sym low.1.0) (refl, digits_no_feed (decimal (suc low.0)) (digits_decimal own (suc low.0) (omega (arith, low.1.1))))
 number_no_feed (float x) low = absurd low
 
 -- ---- trees

@@ -1,5 +1,5 @@
 -- The compact text of a tree is read as the tree, where its members stand in order and its numbers are whole numbers of 64 bits.
-use Rattle.std.proofs.Common.{◌≡◌, ◌==◌, ℕ, ◌+◌, ◌-◌, ◌<◌, ◌≤◌, ◌^◌, zero, suc, max, List, [], ◌∷◌, ◌++◌, Bool, true, false, Option, Some, None, refl, ap, sym, ◌∙◌, arith, option_and_then, append-nil}
+use Rattle.std.proofs.Common.{◌≡◌, ◌==◌, ℕ, ◌+◌, ◌-◌, ◌<◌, ◌≤◌, ◌^◌, zero, suc, max, List, [], ◌∷◌, ◌++◌, Bool, true, false, Option, Some, None, refl, ap, sym, subst, ◌∙◌, arith, option_and_then, append-nil, ℤ, negsuc}
 use Rattle.std.specs.Prelude.{option_map, decimal}
 use Rattle.std.specs.declared.cmp.Ordering.{Ordering}
 use Rattle.std.specs.declared.cmp.Ordering.TheVariants.{Less, Equal, Greater}
@@ -11,13 +11,13 @@ use Rattle.json.specs.Lex.{tokens}
 use Rattle.json.specs.Json as json
 use Rattle.json.specs.Tree as tree
 use Rattle.json.specs.Print.{print}
-use Rattle.json.proofs.Printed.Decimals.{IsNumber-decimal}
+use Rattle.json.proofs.Printed.Decimals.{IsNumber-decimal, IsNumber-signed_decimal}
 use Rattle.json.proofs.Printed.Tokens.{tokens-print}
 use Rattle.json.proofs.Printed.Trees.{ArePrintable-json_tokens, value-json_tokens}
 use Rattle.serde_json.specs.Data.{Num, unsigned, negative, float, Data, null, boolean, number, string, array, object, Items, no_items, item, Members, no_members, member, put}
 use Rattle.serde_json.specs.Read.{of_json, of_items, of_members, max_depth, read}
 use Rattle.serde_json.specs.Written.{outline, items_outline, members_outline, compact_text}
-use Rattle.serde_json.proofs.Numbers.{number_of-decimal}
+use Rattle.serde_json.proofs.Numbers.{number_of-decimal, number_of-negative}
 use Rattle.serde_json.proofs.Texts.{print-outline}
 
 -- ---- trees that are read again
@@ -27,12 +27,16 @@ abbrev pub IsBefore : List ℕ → Members → Type 0
 IsBefore k no_members = Unit {0}
 IsBefore k (member l d ms) = (slice_cmp nat_cmp k l ≡ Less) × IsBefore k ms
 
+-- a number of 64 bits below zero
+abbrev pub IsNegative : ℤ → Type 0
+IsNegative z = (n : ℕ) × ((z ≡ negsuc n) × (n < 2 ^ 63))
+
 abbrev pub IsCount : Num → Type 0
 IsCount (unsigned n) = n < 2 ^ 64
-IsCount (negative z) = ⊥
+IsCount (negative z) = IsNegative z
 IsCount (float x) = ⊥
 
--- numbers are counts, members stand in order, each once, and no more than so many levels lie within each other
+-- numbers are whole numbers of 64 bits, members stand in order, each once, and no more than so many levels lie within each other
 abbrev mutual
   pub Fits : ℕ → Data → Type 0
   Fits n null = Unit {0}
@@ -97,7 +101,8 @@ none_in_front (member k d ms) = (tt, none_in_front ms)
 
 number_again : (x : Num) → IsCount x → of_json (outline (number x)) ≡ Some (number x)
 number_again (unsigned n) low = rw (number_of-decimal n low) refl
-number_again (negative z) low = absurd low
+number_again (negative z) low =
+    subst (λ (x : ℤ). of_json (outline (number (negative x))) ≡ Some (number (negative x))) (sym low.1.0) (rw (number_of-negative low.0 low.1.1) refl)
 number_again (float x) low = absurd low
 
 mutual
@@ -123,7 +128,7 @@ mutual
 
 has_number : (x : Num) → IsCount x → tree.HasNumbers (outline (number x))
 has_number (unsigned n) low = IsNumber-decimal n low
-has_number (negative z) low = absurd low
+has_number (negative z) low = subst (λ (x : ℤ). tree.HasNumbers (outline (number (negative x)))) (sym low.1.0) (IsNumber-signed_decimal (negsuc low.0) (omega (arith, low.1.1)))
 has_number (float x) low = absurd low
 
 mutual

@@ -52,7 +52,7 @@ use Rattle.cmc_audit_laws.proofs.TextsRead.{IsBefore, Fits, ItemsFit, MembersFit
 
 -- ---- members that are put
 
-before_next : (k j : List ℕ) (ms : Members) → slice_cmp nat_cmp k j ≡ Less → IsBefore j ms → IsBefore k ms
+pub before_next : (k j : List ℕ) (ms : Members) → slice_cmp nat_cmp k j ≡ Less → IsBefore j ms → IsBefore k ms
 before_next k j no_members h before = tt
 before_next k j (member l d ms) h before = (nat_list_cmp_total.trans k j l h before.0, before_next k j ms h before.1)
 
@@ -62,11 +62,11 @@ before_placed Less k j l d e ms rest h before later = (h, before)
 before_placed Equal k j l d e ms rest h before later = before
 before_placed Greater k j l d e ms rest h before later = (before.0, later)
 
-before_put : (k j : List ℕ) (d : Data) (ms : Members) → slice_cmp nat_cmp k j ≡ Less → IsBefore k ms → IsBefore k (put j d ms)
+pub before_put : (k j : List ℕ) (d : Data) (ms : Members) → slice_cmp nat_cmp k j ≡ Less → IsBefore k ms → IsBefore k (put j d ms)
 before_put k j d no_members h before = (h, tt)
 before_put k j d (member l e ms) h before = before_placed (slice_cmp nat_cmp j l) k j l d e ms (put j d ms) h before (before_put k j d ms h before.1)
 
-reversed : (j k : List ℕ) (o : Ordering) → slice_cmp nat_cmp k j ≡ o → slice_cmp nat_cmp j k ≡ ordering_reverse o
+pub reversed : (j k : List ℕ) (o : Ordering) → slice_cmp nat_cmp k j ≡ o → slice_cmp nat_cmp j k ≡ ordering_reverse o
 reversed j k o h = nat_list_cmp_total.antisymm j k ∙ ap ordering_reverse h
 
 fit_placed : (n : ℕ) (o : Ordering) (k l : List ℕ) (d e : Data) (ms rest : Members) → slice_cmp nat_cmp k l ≡ o → Fits n d → MembersFit n (member l e ms) → (slice_cmp nat_cmp l k ≡ Less → IsBefore l rest) → MembersFit n rest

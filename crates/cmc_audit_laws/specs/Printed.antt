@@ -1,5 +1,6 @@
 -- What has to hold of lines that a run prints, beside what the run gives.
-use Rattle.std.specs.Prelude.{◌≡◌, ℕ, ◌<◌, ◌^◌, ◌+◌, List, [], ◌∷◌, ◌++◌, length, map, reverse, Ok, Some, All}
+use Rattle.std.specs.Prelude.{◌≡◌, ℕ, ◌<◌, ◌^◌, ◌+◌, List, [], ◌∷◌, ◌++◌, length, map, reverse, Ok, Err, Some}
+use Rattle.std.specs.declared.result.Result.{Result}
 use Rattle.std.specs.List.{AllByRecursion}
 use Rattle.std.specs.Str.{IsUtf8}
 use Rattle.serde_json.specs.Data.{Data}
@@ -14,7 +15,16 @@ use Rattle.cmc_print.specs.Trees.{line_of}
 use Rattle.cmc_report.specs.Text.{joined, history_lines}
 use Rattle.cmc_lines.specs.Shown.{shown}
 use Rattle.cmc_entry_form.specs.Entries.{HasForm}
-use Rattle.cmc_line_reading.specs.Histories.{IsHistoryOf, IsOneLine, counts_of}
+use Rattle.cmc_line_reading.specs.Histories.{IsHistoryOf, IsOneLine, IsReading, counts_of}
+use Rattle.cmc_line_reading.specs.declared.history.BadHistory.{BadHistory}
+use Rattle.cmc_line_reading.specs.declared.history.BadHistory.TheVariants as bad
+use Rattle.cmc_lines.specs.declared.printed.Printed.{Printed}
+use Rattle.cmc_rules.specs.Runs.{IsRun}
+use Rattle.cmc_plain.specs.Waits.{summary_at}
+use Rattle.cmc_audit_ledger.specs.Following.{setting_of}
+use Rattle.cmc_audit_clauses.specs.declared.clause.Verdict.{Verdict}
+use Rattle.cmc_audit_clauses.specs.declared.clause.Verdict.TheVariants.{Yes}
+use Rattle.cmc_audit.specs.Verdicts.{IsVerdict}
 use Rattle.cmc_audit_laws.specs.Counted.{IsCount, EachCounted}
 use Rattle.cmc_audit_laws.specs.Typed.{AreTyped}
 
@@ -48,3 +58,20 @@ pub record IsTypedSummary (summary : Summary) : Type 0 where
   pub certificates : IsCount summary.certificates
   pub ready : IsCount summary.ready
   pub secrets : IsCount summary.secrets
+
+-- A run, its summary and the lines that are printed of both, behind the value of the scenario.
+pub record IsRunPrinted (value : Data) (scenario : Setup) (h : List Entry) (summary : Summary) (lines : List (List ℕ)) : Type 0 where
+  pub value_is : IsValueOf value scenario
+  pub run : IsRun (setting_of scenario) h
+  pub summary_is : summary ≡ summary_at (setting_of scenario) h
+  pub lines_are : lines ≡ history_lines value h summary
+
+-- What was read is a history on whose lines every verdict is yes, with so many entries; or memory ran out.
+abbrev pub ReadsYes : ℕ → Result Printed BadHistory → Type 0
+ReadsYes n (Ok printed) = (verdict : Verdict) → IsVerdict (setting_of printed.scenario) (reverse printed.entries) printed.counts verdict → verdict ≡ Yes n
+ReadsYes n (Err (bad.Line number)) = ⊥
+ReadsYes n (Err bad.NoMemory) = Unit {0}
+
+-- Whatever is read of the text is that.
+abbrev pub IsTextAuditedYes : List ℕ → ℕ → Type 0
+IsTextAuditedYes text n = (r : Result Printed BadHistory) → IsReading text r → ReadsYes n r
