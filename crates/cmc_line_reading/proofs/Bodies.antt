@@ -99,7 +99,7 @@ stands_by n (l ∷ ls) [] line are stand = absurd are
 stands_by n (l ∷ ls) (e ∷ es) line are (inl (is, later)) = subst (λ (k : ℕ). IsNext k line) (one_on n (length es)) (stands_by (n + 1) ls es line are.1 later)
 stands_by n (l ∷ ls) (e ∷ es) line are (inr (is, none)) = absurd (filled ls line none)
 
-more_entries : (n : ℕ) (lines : List (List ℕ)) (es : List PrintedLine) (line : List ℕ) (e : PrintedLine) → AreEntries n lines es → IsLineOf (n + length es) line e → AreEntries n (lines ++ line ∷ []) (es ++ e ∷ [])
+pub more_entries : (n : ℕ) (lines : List (List ℕ)) (es : List PrintedLine) (line : List ℕ) (e : PrintedLine) → AreEntries n lines es → IsLineOf (n + length es) line e → AreEntries n (lines ++ line ∷ []) (es ++ e ∷ [])
 more_entries n [] [] line e are is = (subst (λ (k : ℕ). IsLineOf k line e) (none_on n) is, tt)
 more_entries n [] (x ∷ es) line e are is = absurd are
 more_entries n (l ∷ ls) [] line e are is = absurd are
@@ -121,7 +121,7 @@ summary_stands n [] (e ∷ es) line are is = absurd are
 summary_stands n (l ∷ ls) [] line are is = absurd are
 summary_stands n (l ∷ ls) (e ∷ es) line are is = inl ((e, are.0), summary_stands (n + 1) ls es line are.1 is)
 
-closed : (n : ℕ) (lines : List (List ℕ)) (es : List PrintedLine) (line counts : List ℕ) → AreEntries n lines es → IsSummaryOf line counts → IsRest n (lines ++ line ∷ []) es counts
+pub closed : (n : ℕ) (lines : List (List ℕ)) (es : List PrintedLine) (line counts : List ℕ) → AreEntries n lines es → IsSummaryOf line counts → IsRest n (lines ++ line ∷ []) es counts
 closed n [] [] line counts are is = (is, refl)
 closed n [] (e ∷ es) line counts are is = absurd are
 closed n (l ∷ ls) [] line counts are is = absurd are
@@ -147,7 +147,7 @@ pub all_more : (lines : List (List ℕ)) (line : List ℕ) → AllByRecursion Is
 all_more [] line all is = (is, tt)
 all_more (l ∷ ls) line all is = (all.0, all_more ls line all.1 is)
 
-ended_more : (lines : List (List ℕ)) (line : List ℕ) → ended (lines ++ line ∷ []) ≡ ended lines ++ (line ++ 10 ∷ [])
+pub ended_more : (lines : List (List ℕ)) (line : List ℕ) → ended (lines ++ line ∷ []) ≡ ended lines ++ (line ++ 10 ∷ [])
 ended_more lines line = flat_map-append (λ l. l ++ 10 ∷ []) lines (line ∷ []) ∙ ap (λ t. ended lines ++ t) (append-nil (line ++ 10 ∷ []))
 
 -- a line that was cut off goes to the lines before it

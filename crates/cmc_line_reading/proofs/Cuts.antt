@@ -15,9 +15,9 @@ later_one c cs one = λ k d within. one (suc k) d (omega arith)
 feed_is_feed : (c : ℕ) → (c == 10) ≡ false → 10 ≡ c → ⊥
 feed_is_feed c other e = cc (subst (λ (x : ℕ). (x == 10) ≡ false) (sym e) other)
 
-record IsSame (a b x y : List ℕ) : Type 0 where
-  fronts : a ≡ b
-  backs : x ≡ y
+pub record IsSame (a b x y : List ℕ) : Type 0 where
+  pub fronts : a ≡ b
+  pub backs : x ≡ y
 
 same_cut : (a b x y : List ℕ) → IsOneLine a → IsOneLine b → a ++ 10 ∷ x ≡ b ++ 10 ∷ y → IsSame a b x y
 same_cut [] [] x y one two e = record { fronts = refl; backs = cc }
@@ -33,20 +33,20 @@ has_feed [] later one = feed_is_feed 10 (first_other 10 later one) refl
 has_feed (c ∷ cs) later one = has_feed cs later (later_one c (cs ++ 10 ∷ later) one)
 
 -- the first line, and all that comes behind it
-apart : (line : List ℕ) (lines : List (List ℕ)) (rest : List ℕ) → ended (line ∷ lines) ++ rest ≡ line ++ 10 ∷ (ended lines ++ rest)
+pub apart : (line : List ℕ) (lines : List (List ℕ)) (rest : List ℕ) → ended (line ∷ lines) ++ rest ≡ line ++ 10 ∷ (ended lines ++ rest)
 apart line lines rest = append_assoc (line ++ 10 ∷ []) (ended lines) rest ∙ append_assoc line (10 ∷ []) (ended lines ++ rest)
 
-some_text : (line later : List ℕ) → line ++ 10 ∷ later ≡ [] → ⊥
+pub some_text : (line later : List ℕ) → line ++ 10 ∷ later ≡ [] → ⊥
 some_text [] later e = cc
 some_text (c ∷ cs) later e = cc
 
 -- the lines go on behind the first of them
-record GoOn (lines others : List (List ℕ)) (rest : List ℕ) : Type 0 where
-  more : List (List ℕ)
-  same : others ≡ lines ++ more
-  left : rest ≡ ended more
+pub record GoOn (lines others : List (List ℕ)) (rest : List ℕ) : Type 0 where
+  pub more : List (List ℕ)
+  pub same : others ≡ lines ++ more
+  pub left : rest ≡ ended more
 
-go_on : (lines others : List (List ℕ)) (rest : List ℕ) → AllByRecursion IsOneLine lines → AllByRecursion IsOneLine others → ended lines ++ rest ≡ ended others → GoOn lines others rest
+pub go_on : (lines others : List (List ℕ)) (rest : List ℕ) → AllByRecursion IsOneLine lines → AllByRecursion IsOneLine others → ended lines ++ rest ≡ ended others → GoOn lines others rest
 go_on [] others rest one two e = record { more = others; same = refl; left = e }
 go_on (l ∷ ls) [] rest one two e = absurd (some_text l (ended ls ++ rest) (sym (apart l ls rest) ∙ e))
 go_on (l ∷ ls) (m ∷ ms) rest one two e =

@@ -1,7 +1,8 @@
 mod Depths
 mod Compared
-mod Bodies
+pub mod Bodies
 mod Cuts
 mod Texts
 mod Summaries
 mod ScenarioLine
+pub mod OneHistory

@@ -16,7 +16,7 @@ use Rattle.cmc_line_reading.proofs.Compared.{one_value}
 use Rattle.cmc_line_reading.proofs.Bodies.{entry_has_none, summary_has_one}
 
 -- what the line of a summary says is read of its value
-read_of_summary : (text : List ℕ) (d : Data) (counts : List ℕ) → IsJson text d → (is : IsSummaryOf text counts) → summary_at d ≡ Ok is.summary
+pub read_of_summary : (text : List ℕ) (d : Data) (counts : List ℕ) → IsJson text d → (is : IsSummaryOf text counts) → summary_at d ≡ Ok is.summary
 read_of_summary text d counts value is = ap summary_at (one_value text d (summary_tree is.summary) value is.is.0) ∙ summary_again is.summary is.form
 
 not_read : (text : List ℕ) (d : Data) (path : Path) → IsJson text d → summary_at d ≡ Err path → IsSummary text → ⊥

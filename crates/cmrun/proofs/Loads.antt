@@ -14,7 +14,7 @@ use Rattle.cmrun.specs.declared.status.Status.{Status}
 printed_alike : (workers : ℕ) (alone : Bool) (value other : Data) (scenario : Scenario) (text : List ℕ) → (alone ≡ false → value ≡ other)
     → RunsOn workers alone value scenario text → RunsOn workers alone other scenario text
 printed_alike workers true value other scenario text same runs =
-    record { history = runs.history; run = runs.run; safe = runs.safe; complete = runs.complete; order = runs.order; plain = runs.plain; finished = runs.finished; named = runs.named; whole = runs.whole; is = runs.is }
+    record { history = runs.history; run = runs.run; safe = runs.safe; complete = runs.complete; order = runs.order; plain = runs.plain; finished = runs.finished; named = runs.named; whole = runs.whole; audited = runs.audited; is = runs.is }
 printed_alike workers false value other scenario text same runs = subst (λ (v : Data). RunsOn workers false v scenario text) (same refl) runs
 
 pub load_printed : (workers : ℕ) (alone : Bool) (count : ℕ) (value : Data) (scenario : Scenario) (r : Result Lines Status) → scenario ≡ load_setup count

@@ -18,6 +18,7 @@ use Rattle.cmc_world.specs.Kept.{setting_of}
 use Rattle.cmc_plain.specs.Histories.{IsPlain, IsFull}
 use Rattle.cmc_plain.specs.Named.{NamesEachWait, IsWhole}
 use Rattle.cmc_plain.specs.Waits.{summary_at}
+use Rattle.cmc_audit_laws.specs.Passing.{IsAuditedYes}
 use Rattle.cmc_collect_run.specs.Answers as collection
 use Rattle.cmc_collect_run.specs.declared.answering.NotCollected.{NotCollected}
 
@@ -44,6 +45,8 @@ pub record RunsOn (workers : ℕ) (alone : Bool) (value : Data) (scenario : Scen
   -- each Certificate that is not Ready waits for something that the summary names
   pub named : NamesEachWait (setting_of scenario) history
   pub whole : IsWhole (setting_of scenario) history (summary_at (setting_of scenario) history)
+  -- an audit of its lines says yes
+  pub audited : IsAuditedYes (setting_of scenario) history
   pub is : text ≡ joined (printed_lines alone value history (summary_at (setting_of scenario) history))
 
 -- the value is that of a scenario, and the text that of a finished history of it

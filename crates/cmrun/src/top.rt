@@ -23,6 +23,7 @@ use crate::source::{ReadError, SCENARIO_LIMIT, Source, read_all};
 use crate::status::Status;
 use crate::words::{Command, read_words};
 use cmc_answers::Signer;
+use cmc_audit_laws::each_world_is_audited_yes;
 use cmc_keys::KeyMaker;
 use cmc_plain::{each_wait_is_named, summary};
 use cmc_report::{Lines, history_text, summary_text};
@@ -59,6 +60,7 @@ fn lines_of(
     ensures { IfOk result (λ lines. RunsOn workers alone (view value.now) world.now.scenario (joined lines)) }
 {
     world.is_run();
+    each_world_is_audited_yes(world);
     waits_are_named(world);
     let counts = summary(alloc, world)?;
     if alone {

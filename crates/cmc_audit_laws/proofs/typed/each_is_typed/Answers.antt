@@ -1,0 +1,13 @@
+use Rattle.std.proofs.Common.{subst}
+use Rattle.std.proofs.lemmas.List.{take_all}
+use Rattle.std.proofs.lemmas.List.Elements.{All-more}
+use Rattle.std.specs.List.{All}
+use Rattle.cmc_audit_laws.specs.Typed.{IsTypedEntry}
+use Rattle.cmc_audit_laws.proofs.typed.each_is_typed.Goals as goal
+
+pub loop-entry-preserved : goal.loop-entry-preserved
+loop-entry-preserved c =
+    All-more IsTypedEntry c.args.entries.now c.loop-entry.entry-index c.entry-item.result c.loop-entry-test.true c.loop-entry.invariant (subst IsTypedEntry c.entry-item.is c.entry_is_typed.ensures)
+
+pub returns : goal.returns
+returns c = subst (All IsTypedEntry) (take_all c.loop-entry.entry-index c.args.entries.now c.loop-entry-test.false) c.loop-entry.invariant

@@ -1,0 +1,5 @@
+pub mod Passing
+pub mod Given
+pub mod Typed
+pub mod Counted
+pub mod Printed
