@@ -5,7 +5,9 @@ ghost use Rattle.serde_json.specs.Read.{read};
 ghost use Rattle.serde_json.specs.Written.{has_float};
 ghost use Rattle.cmc_setup.specs.Setups.{Setup};
 ghost use Rattle.cmc_scenario.specs.Scenarios.{scenario_at};
-ghost use Rattle.cmc_report.specs.Text.{joined};
+ghost use Rattle.cmc_report.specs.Text.{history_lines, joined};
+ghost use Rattle.cmc_plain.specs.Waits.{summary_at};
+ghost use Rattle.cmc_world.specs.Kept.{on};
 ghost use Rattle.cmc_audit_laws.specs.Printed.{IsPrintedOf, IsRunPrinted, IsTextAuditedYes, IsValueOf};
 
 use crate::counted::entries_are_counted;
@@ -16,6 +18,7 @@ use cmc_history::History;
 use cmc_report::Lines;
 use cmc_setup::Scenario;
 use cmc_summary::Summary;
+use cmc_world::World;
 
 /// A law: the value that a scenario was read of, with no float in it, is printed as a text that is read as it.
 #[tactic(auto, using(crate::proofs::ValuesRead::value_of))]
@@ -57,4 +60,13 @@ pub fn what_is_printed_is_audited_yes(
     entries_are_counted(history);
     summary_is_typed(summary);
     let _strings = lines.as_slice();
+}
+
+/// A law: what is printed of a world is audited yes, whichever moves led to it, in one thread or in several. The call changes
+/// nothing.
+pub fn what_is_printed_of_a_world_is_audited_yes(world: &World, summary: &Summary, lines: &Lines)
+    ensures { (value : Data) → IsValueOf value world.now.scenario → summary.now ≡ on summary_at world.now → lines.now ≡ history_lines value world.now.history summary.now → IsTextAuditedYes (joined lines.now) (length world.now.history) }
+{
+    world.is_run();
+    what_is_printed_is_audited_yes(world.scenario(), world.history(), summary, lines);
 }
