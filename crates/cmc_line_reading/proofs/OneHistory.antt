@@ -2,19 +2,16 @@
 use Rattle.std.proofs.Common.{◌≡◌, ℕ, ◌+◌, List, [], ◌∷◌, ◌++◌, Ok, refl, ap, sym, subst, ◌∙◌, append-nil}
 use Rattle.std.specs.List.{AllByRecursion}
 use Rattle.std.specs.declared.result.Result.{Result}
-use Rattle.serde_json.specs.Data.{Data}
 use Rattle.cmc_setup.specs.declared.scenario.Scenario.{Scenario}
 use Rattle.cmc_scenario.specs.Scenarios.{scenario_at}
 use Rattle.cmc_cursor.specs.Reading.{Read}
 use Rattle.cmc_summary.specs.declared.summary.Summary.{Summary}
-use Rattle.cmc_summary_form.specs.SummaryForm.{summary_at}
 use Rattle.cmc_report.specs.Trees.{entry_tree, summary_tree}
 use Rattle.cmc_lines.specs.declared.line.PrintedLine.{PrintedLine}
-use Rattle.cmc_entry_form.specs.LineForm.{line_at}
 use Rattle.cmc_line_reading.specs.Histories.{IsJson, IsLineOf, IsSummaryOf, IsScenarioOf, IsOneLine, IsRest, AreLinesOf, IsHistoryOf, counts_of, ended}
 use Rattle.cmc_line_reading.proofs.Bodies.{no_both}
 use Rattle.cmc_line_reading.proofs.Compared.{one_value, read_of_line}
-use Rattle.cmc_line_reading.proofs.Cuts.{GoOn, some_text, apart, go_on}
+use Rattle.cmc_line_reading.proofs.Cuts.{some_text, apart, go_on}
 use Rattle.cmc_line_reading.proofs.ScenarioLine.{one_text}
 use Rattle.cmc_line_reading.proofs.Summaries.{read_of_summary}
 
