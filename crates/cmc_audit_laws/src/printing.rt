@@ -1,9 +1,11 @@
 // What is printed of a run, read again.
-ghost use Rattle.std.specs.Prelude.{◌≡◌, ℕ, List, Ok, Some, false, length};
+ghost use Rattle.std.specs.Prelude.{◌≡◌, ◌≤◌, ℕ, List, Ok, Some, false, length};
 ghost use Rattle.serde_json.specs.Data.{Data};
 ghost use Rattle.serde_json.specs.Read.{read};
 ghost use Rattle.serde_json.specs.Written.{has_float};
 ghost use Rattle.cmc_setup.specs.Setups.{Setup};
+ghost use Rattle.cmc_scenario_print.specs.ScenarioTree.{scenario_tree};
+ghost use Rattle.cmc_scenario.specs.Loads.{load_setup};
 ghost use Rattle.cmc_scenario.specs.Scenarios.{scenario_at};
 ghost use Rattle.cmc_report.specs.Text.{history_lines, joined};
 ghost use Rattle.cmc_plain.specs.Waits.{summary_at};
@@ -24,6 +26,11 @@ use cmc_world::World;
 #[tactic(auto, using(crate::proofs::ValuesRead::value_of))]
 pub fn each_value_that_is_read_is_read_again()
     ensures { (text : List ℕ) (value : Data) (scenario : Setup) → read text ≡ Some value → has_float value ≡ false → scenario_at value ≡ Ok scenario → IsValueOf value scenario }
+{}
+
+/// A law: the value that a load prints is that of its scenario.
+pub fn each_load_is_read_again()
+    ensures { (n : ℕ) → 1 ≤ n → n ≤ 200 → IsValueOf (scenario_tree (load_setup n)) (load_setup n) }
 {}
 
 /// A law: what is printed of a run is the text of a history, whose lines show the entries of the run, and which has the counts
