@@ -18,3 +18,4 @@ pub mod Utf8Lines
 pub mod SummaryFormed
 pub mod ValuesRead
 pub mod TextPasses
+pub mod LoadsRead

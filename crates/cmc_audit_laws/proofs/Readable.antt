@@ -103,7 +103,7 @@ issuer_given i is =
 clean_read : (t : List ℕ) → is_clean t ≡ true → clean_text_at (string t) ≡ Ok t
 clean_read t is = rw is refl
 
-spec_given : (s : CertSpec) → IsTypedSpec s → (are_certificate_terms s && are_subject_names s) ≡ true → IsSpec s
+pub spec_given : (s : CertSpec) → IsTypedSpec s → (are_certificate_terms s && are_subject_names s) ≡ true → IsSpec s
 spec_given s typed form =
     let both = and_parts (are_certificate_terms s) (are_subject_names s) form in
     let issuer = and_parts (is_issuer_form s.issuer) (is_duration_form s.duration && is_duration_form s.renew_before) both.0 in
@@ -139,7 +139,7 @@ owners_read : (os : List OwnerRef) (n : ℕ) → AllByRecursion IsTypedOwner os 
 owners_read [] n all = refl
 owners_read (o ∷ os) n all = rw (owner_printed o.kind o.name o.uid o.controller (name_read o.name all.0.1) (uid_written o.uid all.0.0), owners_read os (n + 1) all.1) refl
 
-meta_given : (m : ObjectMeta) → IsTypedMeta m → IsMeta (bare_meta m)
+pub meta_given : (m : ObjectMeta) → IsTypedMeta m → IsMeta (bare_meta m)
 meta_given m typed = record {
   name = name_read m.name typed.name;
   namespace = name_read m.namespace typed.namespace;

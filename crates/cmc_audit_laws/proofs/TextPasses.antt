@@ -13,6 +13,7 @@ use Rattle.cmc_safety.specs.Formed.{IsFormed}
 use Rattle.cmc_safety.proofs.Course.{AreSound}
 use Rattle.cmc_world.proofs.Starting.{formed}
 use Rattle.cmc_summary.specs.declared.summary.Summary.{Summary}
+use Rattle.cmc_plain.specs.Waits.{summary_at}
 use Rattle.cmc_report.specs.Text.{joined, history_lines}
 use Rattle.cmc_lines.specs.declared.line.PrintedLine.{PrintedLine}
 use Rattle.cmc_lines.specs.declared.printed.Printed.{Printed}
@@ -27,7 +28,7 @@ use Rattle.cmc_audit_clauses.specs.declared.clause.Verdict.TheVariants.{Yes}
 use Rattle.cmc_audit.specs.Verdicts.{IsVerdict, counted}
 use Rattle.cmc_audit_laws.specs.Counted.{EachCounted}
 use Rattle.cmc_audit_laws.specs.Passing.{NameTheirKeys, IsAuditedYes}
-use Rattle.cmc_audit_laws.specs.Printed.{AreEntries, IsPrintedOf, IsTypedSummary, IsRunPrinted, ReadsYes, IsTextAuditedYes}
+use Rattle.cmc_audit_laws.specs.Printed.{IsValueOf, AreEntries, IsPrintedOf, IsTypedSummary, IsRunPrinted, ReadsYes, IsTextAuditedYes}
 use Rattle.cmc_audit_laws.specs.Typed.{AreTyped}
 use Rattle.cmc_audit_laws.proofs.EntriesFormed.{are_formed}
 use Rattle.cmc_audit_laws.proofs.Given.{are_given}
@@ -86,3 +87,14 @@ text_passes sound value u h summary lines setup types utf8 printed r reading = b
       read_yes u h summary given passes (summary_counts (setting_of u) h summary printed.summary_is) (one_history text u given.scenario (reverse (map shown h)) given.entries (counts_of summary) given.counts history is)
   by (Err (bad.Line number)) is = is.0 (u, reverse (map shown h), counts_of summary, history)
   by (Err bad.NoMemory) is = tt
+
+-- ---- of a world, whose scenario and history are these
+
+abbrev Passes : Setup → List Entry → Summary → List (List ℕ) → Type 0
+Passes u h summary lines = (value : Data) → IsRunPrinted value u h summary lines → IsTextAuditedYes (joined lines) (length h)
+
+pub of_world : (u v : Setup) (h k : List Entry) (summary : Summary) (lines : List (List ℕ)) (value : Data) → v ≡ u → k ≡ h → Passes v k summary lines → IsValueOf value u → IsRun (setting_of u) h
+    → summary ≡ summary_at (setting_of u) h → lines ≡ history_lines value h summary → IsTextAuditedYes (joined lines) (length h)
+of_world u v h k summary lines value same_scenario same_history passes value_is run summary_is lines_are =
+    let here : Passes u h summary lines = subst (λ (w : Setup). Passes w h summary lines) same_scenario (subst (λ (e : List Entry). Passes v e summary lines) same_history passes) in
+    here value (record { value_is = value_is; run = run; summary_is = summary_is; lines_are = lines_are })

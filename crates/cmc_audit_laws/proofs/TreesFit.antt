@@ -85,27 +85,27 @@ put_fits n k d (member l e ms) fits all =
 pub record Fit (n : ℕ) (d : Data) : Type 0 where
   pub is : Fits n d
 
-record AllFit (n : ℕ) (ms : Members) : Type 0 where
+pub record AllFit (n : ℕ) (ms : Members) : Type 0 where
   is : MembersFit n ms
 
-none : {n : ℕ} → AllFit n no_members
+pub none : {n : ℕ} → AllFit n no_members
 none = record { is = tt }
 
-with_one : {n : ℕ} {d : Data} {ms : Members} (k : List ℕ) → Fit n d → AllFit n ms → AllFit n (put k d ms)
+pub with_one : {n : ℕ} {d : Data} {ms : Members} (k : List ℕ) → Fit n d → AllFit n ms → AllFit n (put k d ms)
 with_one {n} {d} {ms} k one all = record { is = put_fits n k d ms one.is all.is }
 
 with_option : {n : ℕ} {A : Type 0} {ms : Members} (tree : A → Data) (k : List ℕ) (o : Option A) → IfSome o (λ x. Fit n (tree x)) → AllFit n ms → AllFit n (put_option tree k o ms)
 with_option tree k None one all = all
 with_option tree k (Some x) one all = with_one k one all
 
-with_list : {n : ℕ} {A : Type 0} {ms : Members} (tree : List A → Data) (k : List ℕ) (xs : List A) → Fit n (tree xs) → AllFit n ms → AllFit n (put_list tree k xs ms)
+pub with_list : {n : ℕ} {A : Type 0} {ms : Members} (tree : List A → Data) (k : List ℕ) (xs : List A) → Fit n (tree xs) → AllFit n ms → AllFit n (put_list tree k xs ms)
 with_list tree k [] one all = all
 with_list tree k (x ∷ xs) one all = with_one k one all
 
-text : {n : ℕ} (s : List ℕ) → Fit n (string s)
+pub text : {n : ℕ} (s : List ℕ) → Fit n (string s)
 text s = record { is = tt }
 
-count : {n : ℕ} (x : ℕ) → x < 2 ^ 64 → Fit n (natural x)
+pub count : {n : ℕ} (x : ℕ) → x < 2 ^ 64 → Fit n (natural x)
 count x low = record { is = low }
 
 flag : {n : ℕ} (b : Bool) → Fit n (boolean b)
@@ -118,10 +118,10 @@ with_true k true all = with_one k (flag true) all
 below_one : (n : ℕ) → n ≡ suc n - 1
 below_one n = omega arith
 
-whole : {n : ℕ} {ms : Members} → AllFit n ms → Fit (suc n) (object ms)
+pub whole : {n : ℕ} {ms : Members} → AllFit n ms → Fit (suc n) (object ms)
 whole {n} {ms} all = record { is = (omega arith, subst (λ m. MembersFit m ms) (below_one n) all.is) }
 
-with_object : {n : ℕ} {ms : Members} (k : List ℕ) (inner : Members) → Fit n (object inner) → AllFit n ms → AllFit n (put_object k inner ms)
+pub with_object : {n : ℕ} {ms : Members} (k : List ℕ) (inner : Members) → Fit n (object inner) → AllFit n ms → AllFit n (put_object k inner ms)
 with_object k no_members one all = all
 with_object k (member l d rest) one all = with_one k one all
 
@@ -129,7 +129,7 @@ all_items : {A : Type 0} (n : ℕ) (tree : A → Data) (xs : List A) → ((x : A
 all_items n tree [] each = tt
 all_items n tree (x ∷ xs) each = ((each x).is, all_items n tree xs each)
 
-listed : {n : ℕ} {A : Type 0} (tree : A → Data) (xs : List A) → ((x : A) → Fit n (tree x)) → Fit (suc n) (array (items_of (map tree xs)))
+pub listed : {n : ℕ} {A : Type 0} (tree : A → Data) (xs : List A) → ((x : A) → Fit n (tree x)) → Fit (suc n) (array (items_of (map tree xs)))
 listed {n} tree xs each = record { is = (omega arith, subst (λ m. ItemsFit m (items_of (map tree xs))) (below_one n) (all_items n tree xs each)) }
 
 with_all : {n : ℕ} (tree : List ℕ → Data) (ps : List (List ℕ × List ℕ)) (ms : Members) → ((v : List ℕ) → Fit n (tree v)) → AllFit n ms → AllFit n (put_all tree ps ms)
@@ -151,7 +151,7 @@ owner : {n : ℕ} (o : OwnerRef) → Fit (suc n) (owner_tree o)
 unfolding owner_tree
 owner o = whole (with_true (codes "controller") o.controller (with_one (codes "uid") (text _) (with_one (codes "name") (text o.name) (with_one (codes "kind") (text _) none))))
 
-meta : {n : ℕ} (m : ObjectMeta) → Fit (suc (suc (suc n))) (meta_tree m)
+pub meta : {n : ℕ} (m : ObjectMeta) → Fit (suc (suc (suc n))) (meta_tree m)
 unfolding meta_tree meta_members
 meta m = whole
     (with_list owners_tree (codes "ownerReferences") m.owners (listed owner_tree m.owners owner)
@@ -230,7 +230,7 @@ terms s typed all =
     (with_option duration_tree (codes "renewBefore") s.renew_before (given_duration _ s.renew_before)
     (with_option duration_tree (codes "duration") s.duration (given_duration _ s.duration) all)))
 
-spec : {n : ℕ} (s : CertSpec) → IsTypedSpec s → Fit (suc (suc n)) (spec_tree s)
+pub spec : {n : ℕ} (s : CertSpec) → IsTypedSpec s → Fit (suc (suc n)) (spec_tree s)
 unfolding spec_tree
 spec s typed = whole
     (with_list strings (codes "usages") s.usages (texts s.usages)

@@ -157,10 +157,10 @@ whole_head_so d = with_both (λ (h : Head). IsMeta h.meta) IsHeadVersion (head_a
 
 -- ---- Certificates
 
-abbrev named : Object → Option ℕ → Applied
+abbrev pub named : Object → Option ℕ → Applied
 named o v = record { object = o; version = v }
 
-abbrev new_certificate : ObjectMeta → CertSpec → Object
+abbrev pub new_certificate : ObjectMeta → CertSpec → Object
 new_certificate m s = Cert (record { meta = m; spec = s; status = no_cert_status })
 
 abbrev certificate_places : ObjectMeta → Option ℕ → CertSpec → Places
@@ -179,7 +179,7 @@ certificate_again m v s is_meta is_version is_spec =
     (bind _ _ _ _ (needed_is head_at (codes "metadata") (named_meta_tree m v) (drop 3 ps) (head_is v m) refl (head_again m v is_meta is_version))
     (bind _ _ _ _ (needed_is (spec_at V1) (codes "spec") (spec_tree s) [] s refl (spec_again s is_spec)) refl))))
 
-certificate_whole : (m : ObjectMeta) (v : Option ℕ) (s : CertSpec) → IsMeta m → IfSome v IsVersion → IsSpec s → applied_at (applied_tree (new_certificate m s) v) ≡ Ok (named (new_certificate m s) v)
+pub certificate_whole : (m : ObjectMeta) (v : Option ℕ) (s : CertSpec) → IsMeta m → IfSome v IsVersion → IsSpec s → applied_at (applied_tree (new_certificate m s) v) ≡ Ok (named (new_certificate m s) v)
 unfolding applied_at
 certificate_whole m v s is_meta is_version is_spec = rw (certificate_printed m v s) (certificate_again m v s is_meta is_version is_spec)
 

@@ -11,13 +11,13 @@ mod MaterialLaws
 mod Addresses
 mod PoliciesAgain
 mod ApproversAgain
-mod AppliedAgain
-mod StepsAgain
-mod ScriptsAgain
+pub mod AppliedAgain
+pub mod StepsAgain
+pub mod ScriptsAgain
 mod RolesAgain
-mod ScenariosAgain
+pub mod ScenariosAgain
 mod Floats
 mod ObjectFloats
 mod ScenarioFloats
-mod ScenarioLaws
+pub mod ScenarioLaws
 pub mod BoundRows

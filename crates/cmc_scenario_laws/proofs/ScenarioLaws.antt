@@ -26,7 +26,7 @@ said_so : {A : Type 0} (r : Read A) (x : A) → in_words r ≡ Ok x → r ≡ Ok
 said_so (Ok y) x said = cc
 said_so (Err path) x said = cc
 
-checked : (s : Setup) → members_at (scenario_tree s) ≡ Ok s → scenario_at (scenario_tree s) ≡ Ok s
+pub checked : (s : Setup) → members_at (scenario_tree s) ≡ Ok s → scenario_at (scenario_tree s) ≡ Ok s
 unfolding whole_at scenario_at
 checked s again = rw (again, no_floats s) refl
 

@@ -50,10 +50,10 @@ Places = List (List ℕ × Option Data)
 abbrev IsSize : ℕ → Type 0
 IsSize n = size_at (natural n) ≡ Ok n
 
-abbrev IsSizeGiven : ℕ → List ℕ → ℕ → Type 0
+abbrev pub IsSizeGiven : ℕ → List ℕ → ℕ → Type 0
 IsSizeGiven usual name n = member_or usual name size_at (some_unless (n == usual) natural n) ≡ Ok n
 
-size_given : (usual : ℕ) (name : List ℕ) (n : ℕ) → IsSize n → IsSizeGiven usual name n
+pub size_given : (usual : ℕ) (name : List ℕ) (n : ℕ) → IsSize n → IsSizeGiven usual name n
 size_given usual name n again = unless_given usual size_at natural name (n == usual) n (eqb-true n usual) again
 
 events_so : (given : Option Data) → Always (IsSizeGiven 100000 (codes "events")) (member_or 100000 (codes "events") size_at given)
@@ -92,7 +92,7 @@ listed_so (number n) = failed []
 listed_so (string s) = failed []
 listed_so (object ms) = failed []
 
-abbrev AreFaultsGiven : List ℕ → Type 0
+abbrev pub AreFaultsGiven : List ℕ → Type 0
 AreFaultsGiven ks = member_or [] (codes "faults") faults_at (some_list numbers_tree ks) ≡ Ok ks
 
 faults_so : (given : Option Data) → Always AreFaultsGiven (member_or [] (codes "faults") faults_at given)
@@ -127,7 +127,7 @@ moment_so d = next IsMoment (text_at d) moment_in (λ t. found_so t (rfc3339_sec
 usual_is : (at : ℤ) → is_usual_moment at ≡ true → at ≡ usual_moment
 usual_is at h = grind (arith, ints)
 
-abbrev IsMomentGiven : ℤ → Type 0
+abbrev pub IsMomentGiven : ℤ → Type 0
 IsMomentGiven at = member_or usual_moment (codes "now") moment_at (some_unless (is_usual_moment at) moment_tree at) ≡ Ok at
 
 now_so : (given : Option Data) → Always IsMomentGiven (member_or usual_moment (codes "now") moment_at given)
@@ -193,15 +193,15 @@ scenario_printed s =
 
 -- ---- what is read of the print
 
-record IsGiven (s : Setup) : Type 0 where
-  approver : member_or default_approver (codes "approver") approver_at (some_object (approver_members s.approver)) ≡ Ok s.approver
-  events : IsSizeGiven 100000 (codes "events") s.events
-  faults : AreFaultsGiven s.faults
-  material : member_or [] (codes "material") material_at (some_list material_tree s.material) ≡ Ok s.material
-  now : IsMomentGiven s.moment
-  roles : roles_at (some_unless (is_every_role s.roles) roles_tree s.roles) ≡ Ok s.roles
-  script : script_at (first_stage s.roles s.moment) (some_list script_tree s.script) ≡ Ok s.script
-  window : IsSizeGiven 1000 (codes "window") s.window
+pub record IsGiven (s : Setup) : Type 0 where
+  pub approver : member_or default_approver (codes "approver") approver_at (some_object (approver_members s.approver)) ≡ Ok s.approver
+  pub events : IsSizeGiven 100000 (codes "events") s.events
+  pub faults : AreFaultsGiven s.faults
+  pub material : member_or [] (codes "material") material_at (some_list material_tree s.material) ≡ Ok s.material
+  pub now : IsMomentGiven s.moment
+  pub roles : roles_at (some_unless (is_every_role s.roles) roles_tree s.roles) ≡ Ok s.roles
+  pub script : script_at (first_stage s.roles s.moment) (some_list script_tree s.script) ≡ Ok s.script
+  pub window : IsSizeGiven 1000 (codes "window") s.window
 
 abbrev world_of : Setup → World
 world_of s = record { approver = s.approver; events = s.events; faults = s.faults; material = s.material }
@@ -231,7 +231,7 @@ beginning_again s given =
     (bind _ _ _ _ (next_is (codes "roles") (some_unless (is_every_role s.roles) roles_tree s.roles) (drop 6 ps) refl)
     (bind _ _ _ _ given.roles refl))))
 
-setup_again : (s : Setup) → IsGiven s → members_at (scenario_tree s) ≡ Ok s
+pub setup_again : (s : Setup) → IsGiven s → members_at (scenario_tree s) ≡ Ok s
 unfolding members_at setup_in
 setup_again s given =
     let ps = scenario_places s in

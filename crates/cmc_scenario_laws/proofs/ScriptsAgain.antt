@@ -16,7 +16,7 @@ use Rattle.cmc_scenario_laws.proofs.StepsAgain.{IsStepAgain, step_so}
 abbrev IsNumbered : ℕ → Stage → Step → Type 0
 IsNumbered n stage step = HasStepBytes step → numbered_step_at n stage (step_tree step) ≡ Ok step
 
-numbered_again : (n : ℕ) (stage : Stage) (step : Step) → nat_lt n 10000 ≡ true → step_at (step_tree step) ≡ Ok step → is_in_turn stage step ≡ true → numbered_step_at n stage (step_tree step) ≡ Ok step
+pub numbered_again : (n : ℕ) (stage : Stage) (step : Step) → nat_lt n 10000 ≡ true → step_at (step_tree step) ≡ Ok step → is_in_turn stage step ≡ true → numbered_step_at n stage (step_tree step) ≡ Ok step
 unfolding numbered_step_at
 numbered_again n stage step early again turn = rw (early, again, turn) refl
 
@@ -45,7 +45,7 @@ listed_so stage (number n) = failed []
 listed_so stage (string s) = failed []
 listed_so stage (object ms) = failed []
 
-given_again : (stage : Stage) (steps : List Step) → steps_at stage (script_tree steps) ≡ Ok steps → script_at stage (some_list script_tree steps) ≡ Ok steps
+pub given_again : (stage : Stage) (steps : List Step) → steps_at stage (script_tree steps) ≡ Ok steps → script_at stage (some_list script_tree steps) ≡ Ok steps
 given_again stage [] again = refl
 given_again stage (step ∷ steps) again = rw again refl
 

@@ -69,7 +69,7 @@ kind_again Secret = refl
 
 -- ---- each step is read again
 
-apply_again : (o : Object) (version : Option ℕ) → objects.applied_at (printed.applied_tree o version) ≡ Ok (record { object = o; version = version }) → step_at (step_tree (Apply o version)) ≡ Ok (Apply o version)
+pub apply_again : (o : Object) (version : Option ℕ) → objects.applied_at (printed.applied_tree o version) ≡ Ok (record { object = o; version = version }) → step_at (step_tree (Apply o version)) ≡ Ok (Apply o version)
 unfolding step_at step_members apply_in required_at
 apply_again o version is = rw is refl
 
@@ -94,7 +94,7 @@ renew_again : (certificate : Key) → IsCertificate certificate → step_at (ste
 unfolding step_at step_members renew_in certificate_in required_at
 renew_again certificate is = rw is refl
 
-tick_again : (seconds : ℕ) → IsTick seconds → step_at (step_tree (Tick seconds)) ≡ Ok (Tick seconds)
+pub tick_again : (seconds : ℕ) → IsTick seconds → step_at (step_tree (Tick seconds)) ≡ Ok (Tick seconds)
 unfolding step_at step_members tick_in required_at
 tick_again seconds is = rw is refl
 
@@ -118,7 +118,7 @@ until_again : (role : Role) (kind : Kind) (writes : ℕ) → step_at (step_tree 
 unfolding step_at step_members until_in informer_in required_at
 until_again role kind writes = rw (kind_again kind, role_again role) refl
 
-settle_again : step_at (step_tree Settle) ≡ Ok Settle
+pub settle_again : step_at (step_tree Settle) ≡ Ok Settle
 unfolding step_at step_members settle_in required_at
 settle_again = refl
 
