@@ -2,7 +2,6 @@
 use Rattle.std.proofs.Common.{◌≡◌, ℕ, ℤ, ◌+◌, List, ◌∷◌, Option, Some, None, Bool, true, refl, sym, ap, subst, ◌∙◌, arith}
 use Rattle.std.proofs.lemmas.Bool.Decides.{Decides-eqb}
 use Rattle.std.specs.Prelude.{◌==◌, IfSome, if◌then◌else◌}
-use Rattle.std.specs.BTreeSet.{BTreeSet}
 use Rattle.cmc_meta.specs.declared.key.Key.{Key}
 use Rattle.cmc_objects.specs.declared.role.Role.{Role}
 use Rattle.cmc_objects.specs.declared.role.Role.TheVariants.{Trigger, KeyManager, RequestManager, Approver, Issuer, Issuing, Readiness, Revision}
@@ -23,33 +22,8 @@ use Rattle.cmc_moves.specs.declared.moves.Move.TheVariants as moves
 use Rattle.cmc_moves.specs.declared.moves.Stepped.{Stepped}
 use Rattle.cmc_moves.proofs.Tables.{the_done}
 use Rattle.cmc_world.specs.Kept.{Seen, setting_of}
-use Rattle.cmc_plain.specs.declared.known.Known.{Known}
 use Rattle.cmc_plain.specs.Openings.{LeavesBoth, LeavesNext}
-use Rattle.cmc_plain.specs.Ready.{Forgets, KeepsIf, KnowsLess, Wakes}
 use Rattle.cmc_plain.specs.Searches.{prospect}
-
--- ---- neither a begin nor what a pass does wakes a key
-
-pub keeps_same : (rows : Option (List (BTreeSet Key))) → KeepsIf rows rows
-keeps_same None = tt
-keeps_same (Some rows) = λ role key on. on
-
-pub begin_wakes : (s : Setting) (h : List Entry) (role : Role) (key : Key) (rows : Option (List (BTreeSet Key))) → IfSome rows (Wakes s h (moves.Begin role key))
-begin_wakes s h role key None = tt
-begin_wakes s h role key (Some rows) = tt
-
-pub next_wakes : (s : Setting) (h : List Entry) (pass named : ℕ) (rows : Option (List (BTreeSet Key))) → IfSome rows (Wakes s h (moves.Next pass named))
-next_wakes s h pass named None = tt
-next_wakes s h pass named (Some rows) = tt
-
-pub knows_same : (known : Known) → KnowsLess known known
-knows_same known = record { awake = λ role key on. on; busy = λ role key on. on }
-
-pub begin_forgets : (s : Setting) (h : List Entry) (role : Role) (key : Key) (known : Known) → Forgets s h (moves.Begin role key) known
-begin_forgets s h role key known = record { awake = tt; busy = tt }
-
-pub next_forgets : (s : Setting) (h : List Entry) (pass named : ℕ) (known : Known) → Forgets s h (moves.Next pass named) known
-next_forgets s h pass named known = record { awake = tt; busy = tt }
 
 -- ---- the act that was found is that of the new pass
 

@@ -1,7 +1,7 @@
 -- What contracts see of a work queue.
 use Rattle.std.specs.Prelude.{◌≡◌, ℕ, ℤ, ◌==◌, Bool, true, false, List, [], ◌∷◌, ◌+◌, Option, Some, None, if◌then◌else◌, int_le, nat_le}
 use Rattle.std.specs.List.{list_any}
-use Rattle.std.specs.Ordering.{int_cmp, nat_cmp, is_eq, ordering_then}
+use Rattle.std.specs.Ordering.{int_cmp, nat_cmp, is_eq, is_lt, ordering_then}
 use Rattle.std.specs.declared.cmp.Ordering.{Ordering}
 use Rattle.std.specs.declared.cmp.Ordering.TheVariants.{Less}
 use Rattle.cmc_meta.specs.declared.key.Key.{Key}
@@ -11,7 +11,7 @@ use Rattle.cmc_meta.specs.Keys.{key_cmp, key_eq, kind_rank}
 use Rattle.cmc_queue.specs.declared.row.Found.TheVariants.{Something}
 use Rattle.cmc_queue.specs.declared.row.Parked.{Parked}
 use Rattle.cmc_queue.specs.declared.row.Row.{Row}
-use Rattle.cmc_queue.specs.Rows.{earliest, is_free, is_fresh, row_in, has_row}
+use Rattle.cmc_queue.specs.Rows.{earliest, is_free, is_fresh, is_pending, row_in, has_row}
 
 -- a work queue: the rows of the keys, and the places where keys can wait for moments and for versions of each kind
 pub record Work : Type 0 where
@@ -41,6 +41,11 @@ FindsFirst test (Some key) = (test key ≡ true) × ((k : Key) → key_cmp k key
 -- the key can be given
 abbrev pub is_offered : Work → Key → Bool
 is_offered q key = is_free (row_of q key)
+
+-- the key comes after this one, if there is one
+abbrev pub is_above : Option Key → Key → Bool
+is_above None key = true
+is_above (Some below) key = is_lt (key_cmp below key)
 
 -- ---- room
 
@@ -135,10 +140,15 @@ free_count = count_of is_free
 abbrev pub fresh_count : List (Key × Row) → ℕ
 fresh_count = count_of is_fresh
 
+-- on how many of them there may be something to do
+abbrev pub pending_count : List (Key × Row) → ℕ
+pending_count = count_of is_pending
+
 -- the counts are right
-pub record IsTallied (rows : List (Key × Row)) (given unknown : ℕ) : Type 0 where
+pub record IsTallied (rows : List (Key × Row)) (given unknown waiting : ℕ) : Type 0 where
   pub free : given ≡ free_count rows
   pub fresh : unknown ≡ fresh_count rows
+  pub pending : waiting ≡ pending_count rows
 
 -- each key that is timed stands among the moments
 abbrev pub IsTimed : List (Key × Row) → List (ℤ × Key) → Type 0

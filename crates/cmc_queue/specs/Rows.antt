@@ -32,6 +32,16 @@ is_unknown Something = false
 abbrev pub is_fresh : Row → Bool
 is_fresh row = is_free row && is_unknown row.work
 
+-- there may be something to do
+abbrev pub may_work : Found → Bool
+may_work Unknown = true
+may_work Nothing = false
+may_work Something = true
+
+-- the key can be given, and there may be something to do
+abbrev pub is_pending : Row → Bool
+is_pending row = is_free row && may_work row.work
+
 -- a key that can be given is in process, and ready no more
 abbrev pub taken : Row → Row
 taken row = if is_free row then record row { ready = false; work = Unknown; working = true } else row

@@ -4,8 +4,8 @@ ghost use Rattle.std.specs.Ordering.{is_lt};
 ghost use Rattle.std.specs.Prelude.{◌≡◌, ◌+◌, OnOk, ◌&&◌, true};
 ghost use Rattle.cmc_meta.specs.declared.key.Key.{Key as KeyValue};
 ghost use Rattle.cmc_meta.specs.Keys.{key_cmp};
-ghost use Rattle.cmc_queue.specs.Queues.{fresh_count, has_room, has_room_at, has_room_for, has_room_to_find, is_offered, row_of, versions_of, AreAbove, AreAfter, ChangesRow, ChangesRows, FindsFirst, KeepsMoments, KeepsRoom, KeepsRows, KeepsVersions, KeepsVersionsOfOthers, StayAbove, StayAfter};
-ghost use Rattle.cmc_queue.specs.Rows.{added, ended, is_fresh, is_free, left, looked, moved, no_row, parked_for, taken, ticked, timed_at};
+ghost use Rattle.cmc_queue.specs.Queues.{fresh_count, has_room, has_room_at, has_room_for, has_room_to_find, is_above, is_offered, row_of, versions_of, AreAbove, AreAfter, ChangesRow, ChangesRows, FindsFirst, KeepsMoments, KeepsRoom, KeepsRows, KeepsVersions, KeepsVersionsOfOthers, StayAbove, StayAfter};
+ghost use Rattle.cmc_queue.specs.Rows.{added, ended, is_fresh, is_free, is_pending, left, looked, moved, no_row, parked_for, taken, ticked, timed_at};
 
 use crate::moments::Moments;
 use crate::row::{Found, Row};
@@ -81,6 +81,7 @@ impl Queue {
         ensures made { OnOk result (has_room self.new key.now ≡ true) }
         ensures rows { (k : KeyValue) → row_of self.new k ≡ row_of self.old k }
         ensures room { KeepsRoom self.old self.new }
+        ensures fresh { fresh_count self.new.rows ≡ fresh_count self.old.rows }
     {
         self.rows.room(key)
     }
@@ -126,6 +127,7 @@ impl Queue {
         ensures place { OnOk result (has_room_to_find self.new key.now ≡ true) }
         ensures rows { (k : KeyValue) → row_of self.new k ≡ row_of self.old k }
         ensures room { KeepsRoom self.old self.new }
+        ensures fresh { fresh_count self.new.rows ≡ fresh_count self.old.rows }
     {
         self.room_at(key, i64::MIN)
     }
@@ -170,6 +172,7 @@ impl Queue {
         ensures place { OnOk result (has_room_at self.new at key.now ≡ true) }
         ensures rows { (k : KeyValue) → row_of self.new k ≡ row_of self.old k }
         ensures room { KeepsRoom self.old self.new }
+        ensures fresh { fresh_count self.new.rows ≡ fresh_count self.old.rows }
     {
         self.rows.room(key)?;
         self.moments.room(key, at)?;
@@ -207,6 +210,7 @@ impl Queue {
         ensures place { OnOk result (has_room_for self.new kind version key.now ≡ true) }
         ensures rows { (k : KeyValue) → row_of self.new k ≡ row_of self.old k }
         ensures room { KeepsRoom self.old self.new }
+        ensures fresh { fresh_count self.new.rows ≡ fresh_count self.old.rows }
     {
         self.rows.room(key)?;
         match kind {
@@ -276,5 +280,13 @@ impl Queue {
         ensures { FindsFirst (λ k. is_lt (key_cmp key.now k) && is_offered self.now k) (option_copied result) }
     {
         self.rows.following(key)
+    }
+
+    /// The first key above this one, if there is one, that can be given and on which there may be something to do; `None`
+    /// exactly where there is none.
+    pub fn next_pending<'a>(&'a self, below: Option<&Key>) -> Option<&'a Key>
+        ensures { FindsFirst (λ k. is_above (option_copied below.entry) k && is_pending (row_of self.now k)) (option_copied result) }
+    {
+        self.rows.next_pending(below)
     }
 }

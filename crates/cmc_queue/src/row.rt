@@ -1,6 +1,6 @@
 //! What is kept of one key.
 ghost use Rattle.std.specs.Prelude.{◌≡◌, if◌then◌else◌};
-ghost use Rattle.cmc_queue.specs.Rows.{added, earlier, ended, is_due, is_free, is_fresh, is_reached, is_unknown, lapsed, left, looked, moved, no_row, parked_for, taken, ticked, timed_at};
+ghost use Rattle.cmc_queue.specs.Rows.{added, earlier, ended, is_due, is_free, is_fresh, is_pending, is_reached, is_unknown, lapsed, left, looked, may_work, moved, no_row, parked_for, taken, ticked, timed_at};
 
 use cmc_meta::Kind;
 
@@ -21,6 +21,13 @@ impl Found {
         ensures { result ≡ is_unknown self }
     {
         matches!(self, Found::Unknown)
+    }
+
+    /// Whether there may be something to do.
+    pub fn may_work(self) -> bool
+        ensures { result ≡ may_work self }
+    {
+        !matches!(self, Found::Nothing)
     }
 
     /// What is still known at the next moment.
@@ -98,6 +105,13 @@ impl Row {
         ensures { result ≡ is_fresh self }
     {
         self.is_free() && self.work.is_unknown()
+    }
+
+    /// Whether the key can be given, and there may be something to do.
+    pub fn is_pending(self) -> bool
+        ensures { result ≡ is_pending self }
+    {
+        self.is_free() && self.work.may_work()
     }
 
     /// The row of the key once it is given, where it can be given.

@@ -4,21 +4,22 @@ ghost use Rattle.std.specs.Ordering.{is_lt};
 ghost use Rattle.std.specs.Prelude.{◌&&◌, ◌+◌, ◌<◌, ◌^◌, ◌≡◌, OnOk, OnErr, if◌then◌else◌, true};
 ghost use Rattle.cmc_meta.specs.declared.key.Key.{Key as KeyValue};
 ghost use Rattle.cmc_meta.specs.Keys.{key_cmp, key_eq};
-ghost use Rattle.cmc_queue.specs.Queues.{fresh_count, one_if, FindsFirst};
-ghost use Rattle.cmc_queue.specs.Rows.{has_row, is_free, is_fresh, moved, no_row, row_in, ticked};
+ghost use Rattle.cmc_queue.specs.Queues.{fresh_count, is_above, one_if, FindsFirst};
+ghost use Rattle.cmc_queue.specs.Rows.{has_row, is_free, is_fresh, is_pending, moved, no_row, row_in, ticked};
 
 use crate::row::Row;
-use crate::searching::{first_free, first_fresh, free_above};
+use crate::searching::{first_free, first_fresh, first_pending, free_above, pending_above};
 use cmc_meta::{Key, Kind};
 use std::alloc::{AllocError, Global};
 use std::collections::BTreeMap;
 use std::marker::Model;
 
-/// How many keys can be given, and how many of them are to be looked at.
+/// How many keys can be given, how many of them are to be looked at, and on how many there may be something to do.
 #[derive(Clone, Copy)]
 pub struct Tally {
     pub free: u64,
     pub fresh: u64,
+    pub pending: u64,
 }
 
 /// The rows of all keys; contracts see the list of the keys, in order, with their rows.
@@ -39,7 +40,7 @@ impl Model for Rows {
 
     ghost view = { λ r. r.map.entries };
 
-    ghost invariant = { λ r. IsTallied r.map.entries r.tally.free r.tally.fresh };
+    ghost invariant = { λ r. IsTallied r.map.entries r.tally.free r.tally.fresh r.tally.pending };
 }
 
 /// The count after one row has changed.
@@ -61,12 +62,20 @@ fn retally(tally: Tally, was: Row, is: Row) -> Tally
     requires few { tally.free < 2 ^ 63 }
     requires fresh { is_fresh was ≡ true → 0 < tally.fresh }
     requires fewer { tally.fresh < 2 ^ 63 }
+    requires pending { is_pending was ≡ true → 0 < tally.pending }
+    requires least { tally.pending < 2 ^ 63 }
     ensures free { result.free + one_if (is_free was) ≡ tally.free + one_if (is_free is) }
     ensures fresh { result.fresh + one_if (is_fresh was) ≡ tally.fresh + one_if (is_fresh is) }
+    ensures pending { result.pending + one_if (is_pending was) ≡ tally.pending + one_if (is_pending is) }
 {
     let free = recount(tally.free, was.is_free(), is.is_free());
     let fresh = recount(tally.fresh, was.is_fresh(), is.is_fresh());
-    Tally { free, fresh }
+    let pending = recount(tally.pending, was.is_pending(), is.is_pending());
+    Tally {
+        free,
+        fresh,
+        pending,
+    }
 }
 
 impl Rows {
@@ -77,7 +86,11 @@ impl Rows {
     {
         Rows {
             map: BTreeMap::new(alloc),
-            tally: Tally { free: 0, fresh: 0 },
+            tally: Tally {
+                free: 0,
+                fresh: 0,
+                pending: 0,
+            },
         }
     }
 
@@ -98,6 +111,7 @@ impl Rows {
         ensures room { OnOk result (has_row self.new key.now ≡ true) }
         ensures same { (k : KeyValue) → row_in self.new k ≡ row_in self.old k }
         ensures keeps { (k : KeyValue) → has_row self.old k ≡ true → has_row self.new k ≡ true }
+        ensures fresh { fresh_count self.new ≡ fresh_count self.old }
     {
         if self.map.contains_key(key) {
             return Ok(());
@@ -182,5 +196,19 @@ impl Rows {
             return None;
         }
         free_above(&self.map, below)
+    }
+
+    /// The first key above this one, if there is one, that can be given and on which there may be something to do; `None`
+    /// exactly where there is none.
+    pub fn next_pending<'a>(&'a self, below: Option<&Key>) -> Option<&'a Key>
+        ensures { FindsFirst (λ k. is_above (option_copied below.entry) k && is_pending (row_in self.now k)) (option_copied result) }
+    {
+        if self.tally.pending == 0 {
+            return None;
+        }
+        match below {
+            Some(below) => pending_above(&self.map, below),
+            None => first_pending(&self.map),
+        }
     }
 }

@@ -5,7 +5,7 @@ ghost use Rattle.std.specs.Prelude.{◌≡◌, ◌&&◌};
 ghost use Rattle.cmc_meta.specs.declared.key.Key.{Key as KeyValue};
 ghost use Rattle.cmc_meta.specs.Keys.{key_cmp};
 ghost use Rattle.cmc_queue.specs.Queues.{AreAbove, AreAfter, FindsFirst, IsLooked, IsParked, IsTimed, StayAbove, StayAfter};
-ghost use Rattle.cmc_queue.specs.Rows.{has_row, is_free, is_fresh, moved, row_in, ticked};
+ghost use Rattle.cmc_queue.specs.Rows.{has_row, is_free, is_fresh, is_pending, moved, row_in, ticked};
 
 use crate::moments::Moments;
 use crate::row::Row;
@@ -75,6 +75,30 @@ pub fn free_above<'a>(rows: &'a BTreeMap<Key, Row>, below: &Key) -> Option<&'a K
 {
     for (key, row) in rows.range((Bound::Excluded(below), Bound::Unbounded)) {
         if row.is_free() {
+            return Some(key);
+        }
+    }
+    None
+}
+
+/// The first key that can be given and on which there may be something to do.
+pub fn first_pending(rows: &BTreeMap<Key, Row>) -> Option<&Key>
+    ensures { FindsFirst (λ k. is_pending (row_in rows.now.entries k)) (option_copied result) }
+{
+    for (key, row) in rows.iter() {
+        if row.is_pending() {
+            return Some(key);
+        }
+    }
+    None
+}
+
+/// The first such key above the given one.
+pub fn pending_above<'a>(rows: &'a BTreeMap<Key, Row>, below: &Key) -> Option<&'a Key>
+    ensures { FindsFirst (λ k. is_lt (key_cmp below.now k) && is_pending (row_in rows.now.entries k)) (option_copied result) }
+{
+    for (key, row) in rows.range((Bound::Excluded(below), Bound::Unbounded)) {
+        if row.is_pending() {
             return Some(key);
         }
     }

@@ -85,6 +85,7 @@ impl Queues {
         ensures place { OnOk result (has_room_at (queue_in self.new role) at key.now ≡ true) }
         ensures rows { KeepsRows self.old self.new }
         ensures room { KeepsRooms self.old self.new }
+        ensures fresh { fresh_count (queue_in self.new role).rows ≡ fresh_count (queue_in self.old role).rows }
     {
         self.rows[role.rank() as usize].room_at(key, at)
     }
@@ -95,6 +96,7 @@ impl Queues {
         ensures place { OnOk result (has_room_for (queue_in self.new role) parked.kind parked.version key.now ≡ true) }
         ensures rows { KeepsRows self.old self.new }
         ensures room { KeepsRooms self.old self.new }
+        ensures fresh { fresh_count (queue_in self.new role).rows ≡ fresh_count (queue_in self.old role).rows }
     {
         self.rows[role.rank() as usize].room_for(key, parked.kind, parked.version)
     }
@@ -105,6 +107,7 @@ impl Queues {
         ensures place { OnOk result (has_room_to_find (queue_in self.new role) key.now ≡ true) }
         ensures rows { KeepsRows self.old self.new }
         ensures room { KeepsRooms self.old self.new }
+        ensures fresh { fresh_count (queue_in self.new role).rows ≡ fresh_count (queue_in self.old role).rows }
     {
         self.rows[role.rank() as usize].room_to_find(key)
     }

@@ -1,0 +1,132 @@
+//! A pass begins, and its key is in process.
+ghost use Rattle.std.specs.Prelude.{◌≡◌, ℕ, IfOk, OnErr, OnOk, true};
+ghost use Rattle.cmc_meta.specs.declared.key.Key.{Key as KeyValue};
+ghost use Rattle.cmc_objects.specs.declared.role.Role.{Role as RoleValue};
+ghost use Rattle.cmc_model.specs.Histories.{moment, runs};
+ghost use Rattle.cmc_queue.specs.Queues.{fresh_count, has_room};
+ghost use Rattle.cmc_rules.specs.Memory.{past};
+ghost use Rattle.cmc_rules.specs.Passes.{IsWorking};
+ghost use Rattle.cmc_rules.specs.Positions.{positions};
+ghost use Rattle.cmc_rules.specs.Runs.{IsRun};
+ghost use Rattle.cmc_rules.specs.Sameness.{IsDue};
+ghost use Rattle.cmc_rules.specs.Sound.{IsDueMoment};
+ghost use Rattle.cmc_rules.specs.Viewing.{views};
+ghost use Rattle.cmc_moves.specs.Answers.{Answers, AnswersBegin, IsQueued, Leaves};
+ghost use Rattle.cmc_moves.specs.declared.moves.Move.TheVariants as moves;
+ghost use Rattle.cmc_waking.specs.Queues.{queue_in, row_at, HasPlaceAt};
+ghost use Rattle.cmc_world.specs.Kept.{on};
+ghost use Rattle.cmc_plain.specs.DueMoments.{HasDatedMoments, IsFirstAfter};
+ghost use Rattle.cmc_plain.specs.Fed.{IsFed};
+
+use crate::due::due_after;
+use cmc_meta::Key;
+use cmc_objects::Role;
+use cmc_pass::Views;
+use cmc_waking::Queues;
+use cmc_world::{Move, Stepped, World};
+use std::alloc::{AllocError, Global};
+
+/// What the role sees of the key.
+pub(crate) fn dated_views(
+    alloc: Global,
+    world: &World,
+    role: Role,
+    key: &Key,
+) -> Result<Views, AllocError>
+    ensures sees { IfOk result (λ seen. seen ≡ on views world.now role key.now) }
+    ensures dated { IfOk result HasDatedMoments }
+{
+    world.is_run();
+    world.is_formed();
+    world.can_act();
+    world.views(alloc, role, key)
+}
+
+/// The next moment at which the role, which sees this, may come to have something to do without seeing anything new.
+pub(crate) fn next_due(world: &World, role: Role, seen: &Views) -> Option<i64>
+    requires { HasDatedMoments seen.now }
+    ensures { IsFirstAfter (on moment world.now) (IsDueMoment role seen.now) result }
+{
+    due_after(world.moment(), role, seen)
+}
+
+/// Makes room for the key, and for its next due moment, if there is one. No row changes.
+pub(crate) fn room_at(
+    queues: &mut Queues,
+    role: Role,
+    key: &Key,
+    next: Option<i64>,
+) -> Result<(), AllocError>
+    ensures made { OnOk result (has_room (queue_in queues.new role) key.now ≡ true) }
+    ensures place { OnOk result (HasPlaceAt next key.now (queue_in queues.new role)) }
+    ensures rows { (r : RoleValue) → (k : KeyValue) → row_at queues.new r k ≡ row_at queues.old r k }
+    ensures fresh { fresh_count (queue_in queues.new role).rows ≡ fresh_count (queue_in queues.old role).rows }
+{
+    match next {
+        Some(at) => queues.room_at(role, key, at),
+        None => queues.room_to_find(role, key),
+    }
+}
+
+/// Begins a pass of the role on the key, as `World::step` does.
+pub(crate) fn begin(
+    alloc: Global,
+    world: &mut World,
+    queues: &mut Queues,
+    role: Role,
+    key: Key,
+) -> Result<Stepped, AllocError>
+    requires { on IsFed world.old queues.old }
+    ensures answer { IfOk result (λ r. on Answers world.old (moves.Begin role key) r) }
+    ensures leaves { IfOk result (λ r. on Leaves world.old (moves.Begin role key) r world.new.history) }
+    ensures scenario { world.new.scenario ≡ world.old.scenario }
+    ensures run { on IsRun world.new }
+    ensures err { OnErr result (world.new ≡ world.old) }
+    ensures fed { on IsFed world.new queues.new }
+{
+    world.is_run();
+    let seen = dated_views(alloc, world, role, &key)?;
+    let next = next_due(world, role, &seen);
+    let own = key.copy()?;
+    room_at(queues, role, &own, next)?;
+    let answer = world.step(alloc, Move::Begin { role, key })?;
+    if !answer.is_done() {
+        return Ok(answer);
+    }
+    queues.begun(role, &own, next);
+    Ok(answer)
+}
+
+/// Begins a pass of the role on the key, of which all that the begin needs is known, as `World::begin_due` does.
+pub(crate) fn begin_due(
+    world: &mut World,
+    queues: &mut Queues,
+    role: Role,
+    key: Key,
+    seen: Views,
+) -> Result<Stepped, AllocError>
+    requires fed { on IsFed world.old queues.old }
+    requires running { on runs world.old role ≡ true }
+    requires free { on IsWorking world.old role key → ⊥ }
+    requires due { IsDue (on past world.old role key) seen (on moment world.old) (positions world.old.history role) }
+    requires queued { on IsQueued world.old role key }
+    requires sees { seen ≡ on views world.old role key }
+    requires dated { HasDatedMoments seen }
+    ensures answer { IfOk result (λ r. on AnswersBegin world.old role key r) }
+    ensures leaves { IfOk result (λ r. on Leaves world.old (moves.Begin role key) r world.new.history) }
+    ensures scenario { world.new.scenario ≡ world.old.scenario }
+    ensures run { on IsRun world.new }
+    ensures err { OnErr result (world.new ≡ world.old) }
+    ensures fed { on IsFed world.new queues.new }
+{
+    world.is_run();
+    let next = next_due(world, role, &seen);
+    let own = key.copy()?;
+    room_at(queues, role, &own, next)?;
+    let answer = world.begin_due(role, key, seen)?;
+    if !answer.is_done() {
+        return Ok(answer);
+    }
+    queues.begun(role, &own, next);
+    Ok(answer)
+}
