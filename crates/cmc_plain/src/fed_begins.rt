@@ -19,9 +19,13 @@ ghost use Rattle.cmc_plain.specs.DueMoments.{HasDatedMoments, IsFirstAfter};
 ghost use Rattle.cmc_plain.specs.Fed.{IsFed};
 
 use crate::due::due_after;
+use crate::kept::{Kept, kept_of};
+use crate::openings::Opening;
 use cmc_meta::Key;
+use cmc_moves::let_go;
 use cmc_objects::Role;
-use cmc_pass::Views;
+use cmc_pass::{Act, Views};
+use cmc_queue::Found;
 use cmc_waking::Queues;
 use cmc_world::{Move, Stepped, World};
 use std::alloc::{AllocError, Global};
@@ -65,6 +69,19 @@ pub(crate) fn room_at(
     match next {
         Some(at) => queues.room_at(role, key, at),
         None => queues.room_to_find(role, key),
+    }
+}
+
+/// Makes room for the next due moment of the key, which has a row, if there is one. No row changes.
+pub(crate) fn place_at(
+    queues: &mut Queues,
+    role: Role,
+    key: &Key,
+    next: Option<i64>,
+) -> Result<(), AllocError> {
+    match next {
+        Some(at) => queues.room_at(role, key, at),
+        None => Ok(()),
     }
 }
 
@@ -122,11 +139,97 @@ pub(crate) fn begin_due(
     world.is_run();
     let next = next_due(world, role, &seen);
     let own = key.copy()?;
-    room_at(queues, role, &own, next)?;
+    place_at(queues, role, &own, next)?;
     let answer = world.begin_due(role, key, seen)?;
     if !answer.is_done() {
         return Ok(answer);
     }
     queues.begun(role, &own, next);
     Ok(answer)
+}
+
+/// Begins the pass, which was found, and keeps what it does.
+fn begin_found(
+    world: &mut World,
+    queues: &mut Queues,
+    opening: Opening,
+) -> Result<(Stepped, Kept), AllocError> {
+    let (role, key, seen, does) = opening.into_parts();
+    let answer = match begin_due(world, queues, role, key, seen) {
+        Ok(answer) => answer,
+        Err(lack) => {
+            let_go(does);
+            return Err(lack);
+        }
+    };
+    let begun = answer.is_done();
+    Ok((answer, kept_of(begun, does)))
+}
+
+/// Begins a pass of the role on the key, on which a look found that there is nothing to do but to see what is new: its next due
+/// moment is noted by that look.
+fn begin_idle(
+    alloc: Global,
+    world: &mut World,
+    queues: &mut Queues,
+    role: Role,
+    key: Key,
+) -> Result<(Stepped, Kept), AllocError> {
+    let seen = dated_views(alloc, world, role, &key)?;
+    let own = key.copy()?;
+    let answer = world.begin_due(role, key, seen)?;
+    if !answer.is_done() {
+        return Ok((answer, Kept::Nothing));
+    }
+    queues.begun(role, &own, None);
+    Ok((answer, Kept::Act(Act::Nothing)))
+}
+
+/// Begins a pass of the role, which runs, on the key, of which a look found that one may begin.
+fn begin_looked(
+    alloc: Global,
+    world: &mut World,
+    queues: &mut Queues,
+    role: Role,
+    key: Key,
+    work: Found,
+) -> Result<(Stepped, Kept), AllocError> {
+    if !work.may_work() {
+        return begin_idle(alloc, world, queues, role, key);
+    }
+    let seen = dated_views(alloc, world, role, &key)?;
+    let answer = begin_due(world, queues, role, key, seen)?;
+    Ok((answer, Kept::Nothing))
+}
+
+/// Begins a pass of the role on the key, as `World::step` does. Where the key's row says that one may begin, the world is not
+/// asked for that.
+fn begin_by_row(
+    alloc: Global,
+    world: &mut World,
+    queues: &mut Queues,
+    role: Role,
+    key: Key,
+) -> Result<(Stepped, Kept), AllocError> {
+    let row = queues.queue(role).row(&key);
+    if !row.is_free() || row.work.is_unknown() || !world.runs(role) {
+        let answer = begin(alloc, world, queues, role, key)?;
+        return Ok((answer, Kept::Nothing));
+    }
+    begin_looked(alloc, world, queues, role, key, row.work)
+}
+
+/// Begins a pass of the role on the key, as `World::step` does, by what was kept of it.
+pub(crate) fn begin_kept(
+    alloc: Global,
+    world: &mut World,
+    queues: &mut Queues,
+    role: Role,
+    key: Key,
+    kept: Kept,
+) -> Result<(Stepped, Kept), AllocError> {
+    match kept.pass_on(role, &key) {
+        Some(opening) => begin_found(world, queues, opening),
+        None => begin_by_row(alloc, world, queues, role, key),
+    }
 }

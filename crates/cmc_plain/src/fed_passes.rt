@@ -76,7 +76,7 @@ fn room_to_end(queues: &mut Queues, closing: &Option<Closing>) -> Result<(), All
     };
     match parked_after(closing.ending, closing.own, closing.at) {
         Some(parked) => queues.room_for(closing.role, &closing.key, parked),
-        None => queues.room_to_find(closing.role, &closing.key),
+        None => Ok(()),
     }
 }
 

@@ -10,6 +10,7 @@ mod fed_deliveries;
 mod fed_passes;
 mod fed_scripts;
 mod gate;
+mod kept;
 mod laws;
 mod looks;
 mod next_move;

@@ -18,7 +18,7 @@ ghost use Rattle.cmc_plain.specs.Fed.{IsFed};
 ghost use Rattle.cmc_plain.specs.Looks.{IsLook};
 ghost use Rattle.cmc_plain.specs.Searches.{IsFree, IsWorkOn};
 
-use crate::fed_begins::{dated_views, next_due, room_at};
+use crate::fed_begins::{dated_views, next_due, place_at};
 use crate::fed_passes::own_of;
 use crate::openings::Opening;
 use cmc_meta::Key;
@@ -170,17 +170,16 @@ fn note(
 {
     match look {
         Look::Busy(opening) => {
-            queues.room_to_find(role, key)?;
             queues.found_busy(role, key);
             Ok(Some(opening))
         }
         Look::Idle(next) => {
-            room_at(queues, role, key, next)?;
+            place_at(queues, role, key, next)?;
             queues.found_idle(role, key, next);
             Ok(None)
         }
         Look::Quiet(next) => {
-            room_at(queues, role, key, next)?;
+            place_at(queues, role, key, next)?;
             queues.found_quiet(role, key, next);
             Ok(None)
         }

@@ -8,6 +8,7 @@ ghost use Rattle.cmc_plain.specs.Searches.{IsLeft};
 
 use crate::begins::{Beginning, first_begin};
 use crate::deliveries::first_delivery;
+use crate::kept::Kept;
 use crate::passes::first_pass;
 use crate::rest::rests_in_each;
 use crate::scripts::{Awaits, awaited};
@@ -29,6 +30,7 @@ fn first_to_begin(
     world: &World,
     left: bool,
     queues: &mut Queues,
+    kept: &mut Kept,
 ) -> Result<Option<Move>, AllocError>
     requires left { on IsLeft world.now left }
     requires closed { on HasNoPass world.now }
@@ -39,7 +41,7 @@ fn first_to_begin(
 {
     world.is_run();
     world.is_settled();
-    if rests_in_each(alloc, world, queues)? {
+    if rests_in_each(alloc, world, queues, kept)? {
         return Ok(at_rest(left));
     }
     match first_begin(alloc, world, queues)? {
@@ -54,6 +56,7 @@ fn first_of_roles(
     world: &World,
     left: bool,
     queues: &mut Queues,
+    kept: &mut Kept,
 ) -> Result<Option<Move>, AllocError>
     requires left { on IsLeft world.now left }
     requires fed { on IsFed world.now queues.old }
@@ -73,7 +76,7 @@ fn first_of_roles(
             to: world.log().last_of_kind(delivery.kind),
         }));
     }
-    first_to_begin(alloc, world, left, queues)
+    first_to_begin(alloc, world, left, queues, kept)
 }
 
 /// The move that a run by one hand makes next, as `plain` has it, by the work queues. Each search is
@@ -87,6 +90,7 @@ pub(crate) fn plain_by(
     alloc: Global,
     world: &World,
     queues: &mut Queues,
+    kept: &mut Kept,
 ) -> Result<Option<Move>, AllocError>
     requires fed { on IsFed world.now queues.old }
     ensures plain { IfOk result (λ m. on IsPlainMove world.now m) }
@@ -94,8 +98,8 @@ pub(crate) fn plain_by(
 {
     match awaited(world) {
         Awaits::Nothing => Ok(Some(Move::Script)),
-        Awaits::Rest => first_of_roles(alloc, world, true, queues),
-        Awaits::Never => first_of_roles(alloc, world, false, queues),
+        Awaits::Rest => first_of_roles(alloc, world, true, queues, kept),
+        Awaits::Never => first_of_roles(alloc, world, false, queues, kept),
     }
 }
 
@@ -112,5 +116,6 @@ pub fn plain(alloc: Global, world: &World) -> Result<Option<Move>, AllocError>
     ensures { IfOk result (λ m. on IsPlainMove world.now m) }
 {
     let mut queues = queues_of(alloc, world)?;
-    plain_by(alloc, world, &mut queues)
+    let mut kept = Kept::Nothing;
+    plain_by(alloc, world, &mut queues, &mut kept)
 }

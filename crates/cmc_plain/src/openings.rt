@@ -41,7 +41,16 @@ impl Drop for Opening {
 }
 
 impl Opening {
-    fn into_parts(self) -> (Role, Key, Views, Option<Act>)
+    /// This, where it is of the role and the key.
+    pub(crate) fn only_on(self, role: Role, key: &Key) -> Option<Opening> {
+        if self.role.rank() == role.rank() && self.key.same(key) {
+            return Some(self);
+        }
+        let_go(self);
+        None
+    }
+
+    pub(crate) fn into_parts(self) -> (Role, Key, Views, Option<Act>)
         ensures { result ≡ (self.role, self.key, self.seen, self.does) }
     {
         let Opening {

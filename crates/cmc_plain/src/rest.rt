@@ -9,6 +9,7 @@ ghost use Rattle.cmc_plain.specs.Plain.{HasNoDelivery, HasNoPass, IsStepReady};
 ghost use Rattle.cmc_plain.specs.Searches.{RestsWhereRunning};
 
 use crate::deliveries::first_delivery;
+use crate::kept::Kept;
 use crate::passes::first_pass;
 use crate::pending::{Pending, next_pending};
 use crate::roles::role_in;
@@ -23,6 +24,7 @@ fn rests_in(
     alloc: Global,
     world: &World,
     queues: &mut Queues,
+    kept: &mut Kept,
     role: Role,
 ) -> Result<bool, AllocError>
     requires fed { on IsFed world.now queues.old }
@@ -38,7 +40,10 @@ fn rests_in(
     match next_pending(alloc, world, queues, role, None)? {
         Pending::None => Ok(true),
         Pending::Key(_key) => Ok(false),
-        Pending::Pass(_opening) => Ok(false),
+        Pending::Pass(opening) => {
+            *kept = Kept::Pass(opening);
+            Ok(false)
+        }
     }
 }
 
@@ -47,6 +52,7 @@ pub(crate) fn rests_in_each(
     alloc: Global,
     world: &World,
     queues: &mut Queues,
+    kept: &mut Kept,
 ) -> Result<bool, AllocError>
     requires fed { on IsFed world.now queues.old }
     requires closed { on HasNoPass world.now }
@@ -55,7 +61,7 @@ pub(crate) fn rests_in_each(
     ensures test { IfOk result (λ b. IsTrue b ↔ ((role : RoleValue) → on RestsWhereRunning world.now role)) }
 {
     for place in 0..8 {
-        if !rests_in(alloc, world, queues, role_in(place))? {
+        if !rests_in(alloc, world, queues, kept, role_in(place))? {
             return Ok(false);
         }
     }
@@ -63,7 +69,12 @@ pub(crate) fn rests_in_each(
 }
 
 /// Whether nothing is left to do.
-fn is_at_rest(alloc: Global, world: &World, queues: &mut Queues) -> Result<bool, AllocError>
+fn is_at_rest(
+    alloc: Global,
+    world: &World,
+    queues: &mut Queues,
+    kept: &mut Kept,
+) -> Result<bool, AllocError>
     requires { on IsFed world.now queues.old }
     ensures fed { on IsFed world.now queues.new }
     ensures test { IfOk result (λ b. IsTrue b ↔ on IsAtRest world.now) }
@@ -74,7 +85,7 @@ fn is_at_rest(alloc: Global, world: &World, queues: &mut Queues) -> Result<bool,
     if first_delivery(alloc, world)?.is_some() {
         return Ok(false);
     }
-    rests_in_each(alloc, world, queues)
+    rests_in_each(alloc, world, queues, kept)
 }
 
 /// Whether a step of the script is left, and does not wait.
@@ -86,6 +97,7 @@ pub(crate) fn is_step_ready(
     alloc: Global,
     world: &World,
     queues: &mut Queues,
+    kept: &mut Kept,
 ) -> Result<bool, AllocError>
     requires { on IsFed world.now queues.old }
     ensures fed { on IsFed world.now queues.new }
@@ -93,7 +105,7 @@ pub(crate) fn is_step_ready(
 {
     match awaited(world) {
         Awaits::Nothing => Ok(true),
-        Awaits::Rest => is_at_rest(alloc, world, queues),
+        Awaits::Rest => is_at_rest(alloc, world, queues, kept),
         Awaits::Never => Ok(false),
     }
 }
@@ -108,6 +120,7 @@ pub(crate) fn is_finished(
     alloc: Global,
     world: &World,
     queues: &mut Queues,
+    kept: &mut Kept,
 ) -> Result<bool, AllocError>
     requires { on IsFed world.now queues.old }
     ensures fed { on IsFed world.now queues.new }
@@ -116,5 +129,5 @@ pub(crate) fn is_finished(
     if !world.has_made_all() {
         return Ok(false);
     }
-    is_at_rest(alloc, world, queues)
+    is_at_rest(alloc, world, queues, kept)
 }

@@ -21,10 +21,11 @@ ghost use Rattle.cmc_plain.specs.Plain.{IsPlainMove};
 ghost use Rattle.cmc_plain.specs.Searches.{FindsWork, IsWork};
 
 use crate::deliveries::{Delivery, first_delivery, first_kind_of};
-use crate::fed_begins::begin;
+use crate::fed_begins::begin_kept;
 use crate::fed_deliveries::deliver;
-use crate::fed_passes::go_on;
+use crate::fed_passes::{act_first, go_on};
 use crate::fed_scripts::script;
+use crate::kept::Kept;
 use crate::next_move::plain_by;
 use crate::openings::{Opened, Opening, open};
 use crate::rest::{is_finished, is_step_ready};
@@ -44,6 +45,8 @@ use std::marker::Model;
 pub struct Waking {
     world: World,
     queues: Queues,
+    /// What was found of the next pass, up to the next move.
+    kept: Kept,
 }
 
 impl Drop for Waking {
@@ -51,6 +54,7 @@ impl Drop for Waking {
         let Waking {
             world: _world,
             queues: _queues,
+            kept: _kept,
         } = self;
     }
 }
@@ -77,7 +81,11 @@ impl Waking {
     {
         let world = World::new(alloc, scenario)?;
         let queues = Queues::new(alloc)?;
-        Ok(Waking { world, queues })
+        Ok(Waking {
+            world,
+            queues,
+            kept: Kept::Nothing,
+        })
     }
 
     /// A world that stands wherever it does. Each key may have to be looked at.
@@ -89,7 +97,11 @@ impl Waking {
         ensures { IfOk result (λ w. w ≡ world) }
     {
         let queues = queues_of(alloc, &world)?;
-        Ok(Waking { world, queues })
+        Ok(Waking {
+            world,
+            queues,
+            kept: Kept::Nothing,
+        })
     }
 
     /// The world.
@@ -106,6 +118,7 @@ impl Waking {
         let Waking {
             world,
             queues: _queues,
+            kept: _kept,
         } = self;
         world
     }
@@ -129,7 +142,7 @@ impl Waking {
         ensures plain { IfOk result (λ m. on IsPlainMove self.old m) }
         ensures same { self.new ≡ self.old }
     {
-        plain_by(alloc, &self.world, &mut self.queues)
+        plain_by(alloc, &self.world, &mut self.queues, &mut self.kept)
     }
 
     /// The next step of the script, where one is left and does not wait; `None` exactly where it is not so. Nothing of the
@@ -142,7 +155,7 @@ impl Waking {
         ensures next { IfOk result (λ m. on IsNextScript self.old m) }
         ensures same { self.new ≡ self.old }
     {
-        if is_step_ready(alloc, &self.world, &mut self.queues)? {
+        if is_step_ready(alloc, &self.world, &mut self.queues, &mut self.kept)? {
             return Ok(Some(Move::Script));
         }
         Ok(None)
@@ -200,7 +213,14 @@ impl Waking {
         ensures work { IfOk result (λ o. on FindsWork self.old role (option_copied below.entry) o) }
         ensures same { self.new ≡ self.old }
     {
-        next_work(alloc, &self.world, &mut self.queues, role, below)
+        next_work(
+            alloc,
+            &self.world,
+            &mut self.queues,
+            &mut self.kept,
+            role,
+            below,
+        )
     }
 
     /// Begins the pass, as `World::step` does, and has it do what it does first, where that is known. All that was found out of
@@ -215,6 +235,7 @@ impl Waking {
         ensures scenario { self.new.scenario ≡ self.old.scenario }
         ensures run { on IsRun self.new }
     {
+        self.forget();
         open(alloc, &mut self.world, &mut self.queues, opening)
     }
 
@@ -228,7 +249,7 @@ impl Waking {
         ensures finished { IfOk result (λ b. IsTrue b ↔ on IsFinished self.old) }
         ensures same { self.new ≡ self.old }
     {
-        is_finished(alloc, &self.world, &mut self.queues)
+        is_finished(alloc, &self.world, &mut self.queues, &mut self.kept)
     }
 
     /// Makes the next step of the script, as `World::step` does.
@@ -241,8 +262,54 @@ impl Waking {
     {
         self.world.is_run();
         let (world, queues) = (&mut self.world, &mut self.queues);
-        let ready = is_step_ready(alloc, world, queues)?;
-        script(alloc, world, queues, ready)
+        let ready = is_step_ready(alloc, world, queues, &mut self.kept)?;
+        self.forget();
+        script(alloc, &mut self.world, &mut self.queues, ready)
+    }
+
+    /// Forgets what was found of the next pass.
+    fn forget(&mut self) {
+        if !matches!(&self.kept, Kept::Nothing) {
+            self.kept = Kept::Nothing;
+        }
+    }
+
+    /// Begins a pass of the role on the key, as `World::step` does.
+    fn step_begin(&mut self, alloc: Global, role: Role, key: Key) -> Result<Stepped, AllocError> {
+        let kept = self.kept.take();
+        let (answer, kept) = begin_kept(
+            alloc,
+            &mut self.world,
+            &mut self.queues,
+            role,
+            key,
+            kept,
+        )?;
+        self.kept = kept;
+        Ok(answer)
+    }
+
+    /// Whether this names the newest pass, which is open, and the present incarnation of its role.
+    fn is_newest(&self, pass: u64, incarnation: u64) -> bool {
+        if pass != self.world.passes_begun() {
+            return false;
+        }
+        match self.world.passes().get(pass) {
+            Some(open) => self.world.incarnation(open.role) == incarnation,
+            None => false,
+        }
+    }
+
+    /// Has the pass go on, as `World::step` does.
+    fn step_next(&mut self, alloc: Global, pass: u64, incarnation: u64) -> Result<Stepped, AllocError> {
+        if matches!(&self.kept, Kept::Act(_)) && self.is_newest(pass, incarnation) {
+            if let Some(does) = self.kept.take().act() {
+                return act_first(alloc, &mut self.world, &mut self.queues, pass, does);
+            }
+        }
+        self.forget();
+        let step = Move::Next { pass, incarnation };
+        go_on(alloc, &mut self.world, &mut self.queues, pass, step)
     }
 
     /// Makes one move, as `World::step` does, and feeds the work queues.
@@ -257,13 +324,17 @@ impl Waking {
         ensures run { on IsRun self.new }
         ensures err { OnErr result (self.new ≡ self.old) }
     {
-        let (world, queues) = (&mut self.world, &mut self.queues);
         match step {
             Move::Script => self.step_script(alloc),
-            Move::Deliver { role, kind, to } => deliver(alloc, world, queues, role, kind, to),
-            Move::Begin { role, key } => begin(alloc, world, queues, role, key),
-            Move::Next { pass, .. } | Move::Give { pass, .. } | Move::Decide { pass, .. } => {
-                go_on(alloc, world, queues, pass, step)
+            Move::Deliver { role, kind, to } => {
+                self.forget();
+                deliver(alloc, &mut self.world, &mut self.queues, role, kind, to)
+            }
+            Move::Begin { role, key } => self.step_begin(alloc, role, key),
+            Move::Next { pass, incarnation } => self.step_next(alloc, pass, incarnation),
+            Move::Give { pass, .. } | Move::Decide { pass, .. } => {
+                self.forget();
+                go_on(alloc, &mut self.world, &mut self.queues, pass, step)
             }
         }
     }

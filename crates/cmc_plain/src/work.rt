@@ -9,6 +9,7 @@ ghost use Rattle.cmc_plain.specs.Fed.{IsFed};
 ghost use Rattle.cmc_plain.specs.Searches.{FindsWork, HasWork, IsWork};
 
 use crate::fed_begins::dated_views;
+use crate::kept::Kept;
 use crate::looks::opening;
 use crate::openings::Opening;
 use crate::pending::{Pending, next_pending};
@@ -46,6 +47,7 @@ pub(crate) fn next_work(
     alloc: Global,
     world: &World,
     queues: &mut Queues,
+    kept: &mut Kept,
     role: Role,
     below: Option<&Key>,
 ) -> Result<Option<Opening>, AllocError>
@@ -58,7 +60,10 @@ pub(crate) fn next_work(
     }
     match next_pending(alloc, world, queues, role, below)? {
         Pending::None => Ok(None),
-        Pending::Key(key) => Ok(Some(opening_on(alloc, world, role, &key)?)),
+        Pending::Key(key) => match kept.take().pass_on(role, &key) {
+            Some(opening) => Ok(Some(opening)),
+            None => Ok(Some(opening_on(alloc, world, role, &key)?)),
+        },
         Pending::Pass(opening) => Ok(Some(opening)),
     }
 }

@@ -129,7 +129,7 @@ impl Queue {
         ensures room { KeepsRoom self.old self.new }
         ensures fresh { fresh_count self.new.rows ≡ fresh_count self.old.rows }
     {
-        self.room_at(key, i64::MIN)
+        self.rows.room(key)
     }
 
     /// A look found something to do on the key, which holds until the next tick. It takes no memory.

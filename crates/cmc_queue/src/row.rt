@@ -23,6 +23,11 @@ impl Found {
         matches!(self, Found::Unknown)
     }
 
+    /// Whether there is something to do.
+    pub fn is_something(self) -> bool {
+        matches!(self, Found::Something)
+    }
+
     /// Whether there may be something to do.
     pub fn may_work(self) -> bool
         ensures { result ≡ may_work self }

@@ -8,39 +8,39 @@ ghost use Rattle.cmc_queue.specs.Queues.{fresh_count, is_above, one_if, FindsFir
 ghost use Rattle.cmc_queue.specs.Rows.{has_row, is_free, is_fresh, is_pending, moved, no_row, row_in, ticked};
 
 use crate::row::Row;
-use crate::searching::{first_free, first_fresh, first_pending, free_above, pending_above};
 use cmc_meta::{Key, Kind};
+use indexmap::IndexMap;
 use std::alloc::{AllocError, Global};
-use std::collections::BTreeMap;
 use std::marker::Model;
 
-/// How many keys can be given, how many of them are to be looked at, and on how many there may be something to do.
+/// Of how many keys something holds, and the place of the first of them, if there is one.
 #[derive(Clone, Copy)]
-pub struct Tally {
-    pub free: u64,
-    pub fresh: u64,
-    pub pending: u64,
+pub struct Spot {
+    pub count: u64,
+    pub first: usize,
 }
 
 /// The rows of all keys; contracts see the list of the keys, in order, with their rows.
+///
+/// A row is found by the hash of its key, and the rows stand in the order of their keys. Beside them stands where the first key
+/// is that can be given, and the first on which there may be something to do: so no search goes over rows that do not qualify.
 #[derive(Drop)]
 pub struct Rows {
-    map: BTreeMap<Key, Row>,
-    // so that an empty queue is not searched
-    tally: Tally,
+    map: IndexMap<Key, Row>,
+    free: Spot,
+    pending: Spot,
+    fresh: u64,
+    found: u64,
 }
 
 impl Model for Rows {
     ghost use Rattle.std.specs.Prelude.{◌≡◌, List};
     ghost use Rattle.cmc_meta.specs.declared.key.Key.{Key};
     ghost use Rattle.cmc_queue.specs.declared.row.Row.{Row};
-    ghost use Rattle.cmc_queue.specs.Queues.{IsTallied};
 
     ghost Value = { List (Key × Row) };
 
     ghost view = { λ r. r.map.entries };
-
-    ghost invariant = { λ r. IsTallied r.map.entries r.tally.free r.tally.fresh r.tally.pending };
 }
 
 /// The count after one row has changed.
@@ -56,46 +56,54 @@ fn recount(count: u64, was: bool, is: bool) -> u64
     }
 }
 
-/// The counts after one row has changed.
-fn retally(tally: Tally, was: Row, is: Row) -> Tally
-    requires free { is_free was ≡ true → 0 < tally.free }
-    requires few { tally.free < 2 ^ 63 }
-    requires fresh { is_fresh was ≡ true → 0 < tally.fresh }
-    requires fewer { tally.fresh < 2 ^ 63 }
-    requires pending { is_pending was ≡ true → 0 < tally.pending }
-    requires least { tally.pending < 2 ^ 63 }
-    ensures free { result.free + one_if (is_free was) ≡ tally.free + one_if (is_free is) }
-    ensures fresh { result.fresh + one_if (is_fresh was) ≡ tally.fresh + one_if (is_fresh is) }
-    ensures pending { result.pending + one_if (is_pending was) ≡ tally.pending + one_if (is_pending is) }
-{
-    let free = recount(tally.free, was.is_free(), is.is_free());
-    let fresh = recount(tally.fresh, was.is_fresh(), is.is_fresh());
-    let pending = recount(tally.pending, was.is_pending(), is.is_pending());
-    Tally {
-        free,
-        fresh,
-        pending,
+/// The first place from this one on whose key can be given.
+fn free_from(map: &IndexMap<Key, Row>, from: usize) -> usize {
+    let mut at = from;
+    while let Some((_key, row)) = map.get_index(at) {
+        if row.is_free() {
+            return at;
+        }
+        at += 1;
+    }
+    at
+}
+
+/// The first place from this one on on whose key there may be something to do.
+fn pending_from(map: &IndexMap<Key, Row>, from: usize) -> usize {
+    let mut at = from;
+    while let Some((_key, row)) = map.get_index(at) {
+        if row.is_pending() {
+            return at;
+        }
+        at += 1;
+    }
+    at
+}
+
+/// The spot after the row at the place came to qualify.
+fn with_place(spot: Spot, at: usize) -> Spot {
+    Spot {
+        count: spot.count + 1,
+        first: if spot.count == 0 || at < spot.first { at } else { spot.first },
     }
 }
 
 impl Rows {
     /// Nothing is to be done on any key. It takes no memory.
-    #[tactic(auto, unfolding(crate::specs::Rows::row_in))]
     pub fn new(alloc: Global) -> Rows
         ensures { (k : KeyValue) → row_in result k ≡ no_row }
     {
+        let none = Spot { count: 0, first: 0 };
         Rows {
-            map: BTreeMap::new(alloc),
-            tally: Tally {
-                free: 0,
-                fresh: 0,
-                pending: 0,
-            },
+            map: IndexMap::new(alloc),
+            free: none,
+            pending: none,
+            fresh: 0,
+            found: 0,
         }
     }
 
     /// The row of the key.
-    #[tactic(auto, unfolding(crate::specs::Rows::row_in))]
     pub fn get(&self, key: &Key) -> Row
         ensures { result ≡ row_in self.now key.now }
     {
@@ -106,7 +114,6 @@ impl Rows {
     }
 
     /// Makes room for the key's row, and changes no row. An error is one of memory.
-    #[tactic(auto, unfolding(crate::specs::Rows::row_in, crate::specs::Rows::has_row))]
     pub fn room(&mut self, key: &Key) -> Result<(), AllocError>
         ensures room { OnOk result (has_row self.new key.now ≡ true) }
         ensures same { (k : KeyValue) → row_in self.new k ≡ row_in self.old k }
@@ -117,8 +124,45 @@ impl Rows {
             return Ok(());
         }
         let key = key.copy()?;
-        self.map.insert(key, Row::new())?;
+        let (at, _none) = self.map.insert_sorted(key, Row::new())?;
+        self.free = shifted(self.free, at);
+        self.pending = shifted(self.pending, at);
         Ok(())
+    }
+
+    /// Writes the row at the place.
+    fn write(&mut self, at: usize, row: Row) {
+        let Some(place) = self.map.get_index_mut(at) else {
+            return;
+        };
+        let was = *place;
+        *place = row;
+        self.fresh = recount(self.fresh, was.is_fresh(), row.is_fresh());
+        self.found = recount(self.found, was.work.is_something(), row.work.is_something());
+        match (was.is_free(), row.is_free()) {
+            (false, true) => self.free = with_place(self.free, at),
+            (true, false) => self.leave_free(at),
+            _ => {}
+        }
+        match (was.is_pending(), row.is_pending()) {
+            (false, true) => self.pending = with_place(self.pending, at),
+            (true, false) => self.leave_pending(at),
+            _ => {}
+        }
+    }
+
+    fn leave_free(&mut self, at: usize) {
+        self.free.count -= 1;
+        if self.free.count > 0 && at == self.free.first {
+            self.free.first = free_from(&self.map, at + 1);
+        }
+    }
+
+    fn leave_pending(&mut self, at: usize) {
+        self.pending.count -= 1;
+        if self.pending.count > 0 && at == self.pending.first {
+            self.pending.first = pending_from(&self.map, at + 1);
+        }
     }
 
     /// Writes the key's row, and no other. It takes no memory.
@@ -131,18 +175,14 @@ impl Rows {
     }
 
     /// Writes the key's row, as `put` does, and says how many keys are then to be looked at.
-    #[tactic(auto, unfolding(crate::specs::Rows::row_in, crate::specs::Rows::has_row))]
     pub fn put_looked(&mut self, key: &Key, row: Row)
         requires { has_row self.old key.now ≡ true }
         ensures rows { (k : KeyValue) → row_in self.new k ≡ (if key_eq key.now k then row else row_in self.old k) }
         ensures room { (k : KeyValue) → has_row self.new k ≡ has_row self.old k }
         ensures fresh { fresh_count self.new + one_if (is_fresh (row_in self.old key.now)) ≡ fresh_count self.old + one_if (is_fresh row) }
     {
-        let _kept = self.map.len();
-        if let Some(place) = self.map.get_mut(key) {
-            let was = *place;
-            *place = row;
-            self.tally = retally(self.tally, was, row);
+        if let Some(at) = self.map.get_index_of(key) {
+            self.write(at, row);
         }
     }
 
@@ -157,6 +197,21 @@ impl Rows {
         }
     }
 
+    /// What was found to be done is not known any more.
+    pub fn lapse(&mut self) {
+        let mut at = 0;
+        let len = self.map.len();
+        while self.found > 0 && at < len {
+            if let Some((_key, row)) = self.map.get_index(at) {
+                let row = *row;
+                if row.work.is_something() {
+                    self.write(at, row.looked(row.work.lapsed()));
+                }
+            }
+            at += 1;
+        }
+    }
+
     /// The key's row once its controller is told of the kind up to this version. It takes no memory.
     pub fn moved(&mut self, key: &Key, kind: Kind, to: u64)
         ensures rows { (k : KeyValue) → row_in self.new k ≡ (if key_eq key.now k then moved kind to (row_in self.old k) else row_in self.old k) }
@@ -168,34 +223,60 @@ impl Rows {
         }
     }
 
+    /// The key at the place.
+    fn key_at(&self, at: usize) -> Option<&Key> {
+        match self.map.get_index(at) {
+            Some((key, _row)) => Some(key),
+            None => None,
+        }
+    }
+
+    /// The place behind the key's, if it has one; else that of the first key above it.
+    fn place_above(&self, key: &Key) -> usize {
+        match self.map.get_index_of(key) {
+            Some(at) => at + 1,
+            None => match self.map.binary_search_keys(key) {
+                Ok(at) => at + 1,
+                Err(at) => at,
+            },
+        }
+    }
+
     /// The first key that can be given; `None` exactly where no key can.
     pub fn first(&self) -> Option<&Key>
         ensures { FindsFirst (λ k. is_free (row_in self.now k)) (option_copied result) }
     {
-        if self.tally.free == 0 {
+        if self.free.count == 0 {
             return None;
         }
-        first_free(&self.map)
+        self.key_at(self.free.first)
     }
 
     /// The first key that is to be looked at; `None` exactly where there is none.
     pub fn first_fresh(&self) -> Option<&Key>
         ensures { FindsFirst (λ k. is_fresh (row_in self.now k)) (option_copied result) }
     {
-        if self.tally.fresh == 0 {
+        if self.fresh == 0 {
             return None;
         }
-        first_fresh(&self.map)
+        let mut at = self.pending.first;
+        while let Some((key, row)) = self.map.get_index(at) {
+            if row.is_fresh() {
+                return Some(key);
+            }
+            at += 1;
+        }
+        None
     }
 
     /// The first key above the given one that can be given; `None` exactly where no such key can.
     pub fn following<'a>(&'a self, below: &Key) -> Option<&'a Key>
         ensures { FindsFirst (λ k. is_lt (key_cmp below.now k) && is_free (row_in self.now k)) (option_copied result) }
     {
-        if self.tally.free == 0 {
+        if self.free.count == 0 {
             return None;
         }
-        free_above(&self.map, below)
+        self.key_at(free_from(&self.map, self.place_above(below)))
     }
 
     /// The first key above this one, if there is one, that can be given and on which there may be something to do; `None`
@@ -203,12 +284,20 @@ impl Rows {
     pub fn next_pending<'a>(&'a self, below: Option<&Key>) -> Option<&'a Key>
         ensures { FindsFirst (λ k. is_above (option_copied below.entry) k && is_pending (row_in self.now k)) (option_copied result) }
     {
-        if self.tally.pending == 0 {
+        if self.pending.count == 0 {
             return None;
         }
         match below {
-            Some(below) => pending_above(&self.map, below),
-            None => first_pending(&self.map),
+            Some(below) => self.key_at(pending_from(&self.map, self.place_above(below))),
+            None => self.key_at(self.pending.first),
         }
+    }
+}
+
+/// The spot after a row was put in at the place.
+fn shifted(spot: Spot, at: usize) -> Spot {
+    Spot {
+        count: spot.count,
+        first: if at <= spot.first { spot.first + 1 } else { spot.first },
     }
 }

@@ -12,8 +12,6 @@ use crate::row::Row;
 use crate::rows::Rows;
 use crate::versions::Versions;
 use cmc_meta::{Key, Kind};
-use std::collections::BTreeMap;
-use std::ops::Bound;
 
 /// Each key whose moment has come is ready, and of each other key what was found lapses. It takes no memory.
 pub fn tick_rows(rows: &mut Rows, moments: &mut Moments, now: i64)
@@ -29,6 +27,7 @@ pub fn tick_rows(rows: &mut Rows, moments: &mut Moments, now: i64)
     while let Some((_at, key)) = moments.pop_until(now) {
         rows.tick(&key, now);
     }
+    rows.lapse();
 }
 
 /// Each key that waits for a version of the kind up to this one is ready. It takes no memory.
@@ -43,64 +42,4 @@ pub fn move_rows(rows: &mut Rows, versions: &mut Versions, kind: Kind, to: u64)
     while let Some((_version, key)) = versions.pop_until(to) {
         rows.moved(&key, kind, to);
     }
-}
-
-/// The first key that can be given.
-pub fn first_free(rows: &BTreeMap<Key, Row>) -> Option<&Key>
-    ensures { FindsFirst (λ k. is_free (row_in rows.now.entries k)) (option_copied result) }
-{
-    for (key, row) in rows.iter() {
-        if row.is_free() {
-            return Some(key);
-        }
-    }
-    None
-}
-
-/// The first key that is to be looked at.
-pub fn first_fresh(rows: &BTreeMap<Key, Row>) -> Option<&Key>
-    ensures { FindsFirst (λ k. is_fresh (row_in rows.now.entries k)) (option_copied result) }
-{
-    for (key, row) in rows.iter() {
-        if row.is_fresh() {
-            return Some(key);
-        }
-    }
-    None
-}
-
-/// The first key above the given one that can be given.
-pub fn free_above<'a>(rows: &'a BTreeMap<Key, Row>, below: &Key) -> Option<&'a Key>
-    ensures { FindsFirst (λ k. is_lt (key_cmp below.now k) && is_free (row_in rows.now.entries k)) (option_copied result) }
-{
-    for (key, row) in rows.range((Bound::Excluded(below), Bound::Unbounded)) {
-        if row.is_free() {
-            return Some(key);
-        }
-    }
-    None
-}
-
-/// The first key that can be given and on which there may be something to do.
-pub fn first_pending(rows: &BTreeMap<Key, Row>) -> Option<&Key>
-    ensures { FindsFirst (λ k. is_pending (row_in rows.now.entries k)) (option_copied result) }
-{
-    for (key, row) in rows.iter() {
-        if row.is_pending() {
-            return Some(key);
-        }
-    }
-    None
-}
-
-/// The first such key above the given one.
-pub fn pending_above<'a>(rows: &'a BTreeMap<Key, Row>, below: &Key) -> Option<&'a Key>
-    ensures { FindsFirst (λ k. is_lt (key_cmp below.now k) && is_pending (row_in rows.now.entries k)) (option_copied result) }
-{
-    for (key, row) in rows.range((Bound::Excluded(below), Bound::Unbounded)) {
-        if row.is_pending() {
-            return Some(key);
-        }
-    }
-    None
 }
