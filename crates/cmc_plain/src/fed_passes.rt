@@ -56,11 +56,15 @@ fn closing_of(world: &World, pass: u64) -> Result<Option<Closing>, AllocError>
         return Ok(None);
     };
     let key = open.key.copy()?;
-    let own = own_of(world.past(open.role, &key));
+    let ending = ending_at(&open.stage);
+    let own = match ending {
+        Ending::Wrote => own_of(world.past(open.role, &key)),
+        _ => own_of(None),
+    };
     Ok(Some(Closing {
         role: open.role,
         key,
-        ending: ending_at(&open.stage),
+        ending,
         own,
         at: world.told(open.role),
     }))
@@ -100,6 +104,15 @@ fn close(world: &World, queues: &mut Queues, pass: u64, closing: Option<Closing>
         at,
     } = closing;
     queues.ended(role, &key, ending, own, at);
+}
+
+/// Gives the pass a value, as `World::step` does.
+pub(crate) fn give(
+    alloc: Global,
+    world: &mut World,
+    step: Move,
+) -> Result<Stepped, AllocError> {
+    world.step(alloc, step)
 }
 
 /// Makes the move, by which the pass goes on, as `World::step` does.
@@ -154,6 +167,9 @@ pub(crate) fn act_first(
     ensures fed { on IsFed world.new queues.new }
 {
     world.is_run();
+    if !matches!(&does, Act::Nothing) {
+        return world.act_first(alloc, pass, does);
+    }
     let closing = match closing_of(world, pass) {
         Ok(closing) => closing,
         Err(lack) => {

@@ -23,7 +23,7 @@ ghost use Rattle.cmc_plain.specs.Searches.{FindsWork, IsWork};
 use crate::deliveries::{Delivery, first_delivery, first_kind_of};
 use crate::fed_begins::begin_kept;
 use crate::fed_deliveries::deliver;
-use crate::fed_passes::{act_first, go_on};
+use crate::fed_passes::{act_first, give, go_on};
 use crate::fed_scripts::script;
 use crate::kept::Kept;
 use crate::next_move::plain_by;
@@ -332,7 +332,11 @@ impl Waking {
             }
             Move::Begin { role, key } => self.step_begin(alloc, role, key),
             Move::Next { pass, incarnation } => self.step_next(alloc, pass, incarnation),
-            Move::Give { pass, .. } | Move::Decide { pass, .. } => {
+            Move::Give { .. } => {
+                self.forget();
+                give(alloc, &mut self.world, step)
+            }
+            Move::Decide { pass, .. } => {
                 self.forget();
                 go_on(alloc, &mut self.world, &mut self.queues, pass, step)
             }

@@ -92,8 +92,13 @@ impl Queue {
         ensures rows { ChangesRow added key.now self.old self.new }
         ensures room { KeepsRoom self.old self.new }
     {
-        let row = self.rows.get(key);
-        self.rows.put(key, row.added());
+        let Some((at, row)) = self.rows.find(key) else {
+            return;
+        };
+        if row.ready && row.work.is_unknown() {
+            return;
+        }
+        self.rows.write(key, at, row, row.added());
     }
 
     /// Gives the key to be worked on, where it can be given: it is then in process, and ready no more. It takes no memory.
@@ -102,9 +107,11 @@ impl Queue {
         ensures rows { ChangesRow taken key.now self.old self.new }
         ensures room { KeepsRoom self.old self.new }
     {
-        let row = self.rows.get(key);
+        let Some((at, row)) = self.rows.find(key) else {
+            return false;
+        };
         if row.is_free() {
-            self.rows.put(key, row.taken());
+            self.rows.write(key, at, row, row.taken());
             return true;
         }
         false
@@ -117,8 +124,9 @@ impl Queue {
         ensures room { KeepsRoom self.old self.new }
         ensures fewer { is_fresh (row_of self.old key.now) ≡ true → fresh_count self.old.rows ≡ fresh_count self.new.rows + 1 }
     {
-        let row = self.rows.get(key);
-        self.rows.put_looked(key, row.looked(Found::Nothing));
+        if let Some((place, row)) = self.rows.find(key) {
+            self.rows.write(key, place, row, row.looked(Found::Nothing));
+        }
     }
 
     /// Makes room to note that a look found something; no row changes, and room that stands is kept. An error is one of memory.
@@ -140,8 +148,9 @@ impl Queue {
         ensures room { KeepsRoom self.old self.new }
         ensures fewer { is_fresh (row_of self.old key.now) ≡ true → fresh_count self.old.rows ≡ fresh_count self.new.rows + 1 }
     {
-        let row = self.rows.get(key);
-        self.rows.put_looked(key, row.looked(Found::Something));
+        if let Some((place, row)) = self.rows.find(key) {
+            self.rows.write(key, place, row, row.looked(Found::Something));
+        }
     }
 
     /// A look found that the key may be left alone: it is ready no more. It takes no memory.
@@ -151,8 +160,9 @@ impl Queue {
         ensures room { KeepsRoom self.old self.new }
         ensures fewer { is_fresh (row_of self.old key.now) ≡ true → fresh_count self.old.rows ≡ fresh_count self.new.rows + 1 }
     {
-        let row = self.rows.get(key);
-        self.rows.put_looked(key, row.left());
+        if let Some((place, row)) = self.rows.find(key) {
+            self.rows.write(key, place, row, row.left());
+        }
     }
 
     /// The work on the key is done. It takes no memory.
@@ -160,9 +170,11 @@ impl Queue {
         ensures rows { ChangesRow ended key.now self.old self.new }
         ensures room { KeepsRoom self.old self.new }
     {
-        let row = self.rows.get(key);
+        let Some((at, row)) = self.rows.find(key) else {
+            return;
+        };
         if row.working {
-            self.rows.put(key, row.ended());
+            self.rows.write(key, at, row, row.ended());
         }
     }
 
@@ -187,8 +199,9 @@ impl Queue {
         ensures room { KeepsRoom self.old self.new }
         ensures fresh { fresh_count self.new.rows ≡ fresh_count self.old.rows }
     {
-        let row = self.rows.get(key);
-        self.rows.put_looked(key, row.timed_at(at));
+        if let Some((place, row)) = self.rows.find(key) {
+            self.rows.write(key, place, row, row.timed_at(at));
+        }
     }
 
     /// It is now this moment: each key whose moment is no later is ready, and timed no more; of each other key it is not
@@ -229,8 +242,9 @@ impl Queue {
         ensures room { KeepsRoom self.old self.new }
         ensures fresh { fresh_count self.new.rows ≡ fresh_count self.old.rows }
     {
-        let row = self.rows.get(key);
-        self.rows.put_looked(key, row.parked_for(kind, version));
+        if let Some((place, row)) = self.rows.find(key) {
+            self.rows.write(key, place, row, row.parked_for(kind, version));
+        }
     }
 
     /// The controller was told of the kind up to this version: each key that waits for the kind and a version no later
@@ -287,6 +301,14 @@ impl Queue {
     pub fn next_pending<'a>(&'a self, below: Option<&Key>) -> Option<&'a Key>
         ensures { FindsFirst (λ k. is_above (option_copied below.entry) k && is_pending (row_of self.now k)) (option_copied result) }
     {
+        match self.rows.next_pending(below) {
+            Some((key, _row)) => Some(key),
+            None => None,
+        }
+    }
+
+    /// The same key, with what the last look there found.
+    pub fn next_pending_row<'a>(&'a self, below: Option<&Key>) -> Option<(&'a Key, Row)> {
         self.rows.next_pending(below)
     }
 }

@@ -130,12 +130,19 @@ impl Rows {
         Ok(())
     }
 
-    /// Writes the row at the place.
-    fn write(&mut self, at: usize, row: Row) {
+    /// The place of the key's row, with the row; `None` exactly where the key has none.
+    pub fn find(&self, key: &Key) -> Option<(usize, Row)> {
+        match self.map.get_full(key) {
+            Some((at, _key, row)) => Some((at, *row)),
+            None => None,
+        }
+    }
+
+    /// Writes the key's row, which stands at this place and was this one, and no other. It takes no memory.
+    pub fn write(&mut self, _key: &Key, at: usize, was: Row, row: Row) {
         let Some(place) = self.map.get_index_mut(at) else {
             return;
         };
-        let was = *place;
         *place = row;
         self.fresh = recount(self.fresh, was.is_fresh(), row.is_fresh());
         self.found = recount(self.found, was.work.is_something(), row.work.is_something());
@@ -165,35 +172,28 @@ impl Rows {
         }
     }
 
-    /// Writes the key's row, and no other. It takes no memory.
-    pub fn put(&mut self, key: &Key, row: Row)
-        requires { has_row self.old key.now ≡ true }
-        ensures rows { (k : KeyValue) → row_in self.new k ≡ (if key_eq key.now k then row else row_in self.old k) }
-        ensures room { (k : KeyValue) → has_row self.new k ≡ has_row self.old k }
-    {
-        self.put_looked(key, row);
-    }
-
-    /// Writes the key's row, as `put` does, and says how many keys are then to be looked at.
-    pub fn put_looked(&mut self, key: &Key, row: Row)
-        requires { has_row self.old key.now ≡ true }
-        ensures rows { (k : KeyValue) → row_in self.new k ≡ (if key_eq key.now k then row else row_in self.old k) }
-        ensures room { (k : KeyValue) → has_row self.new k ≡ has_row self.old k }
-        ensures fresh { fresh_count self.new + one_if (is_fresh (row_in self.old key.now)) ≡ fresh_count self.old + one_if (is_fresh row) }
-    {
-        if let Some(at) = self.map.get_index_of(key) {
-            self.write(at, row);
-        }
-    }
-
     /// The key's row comes to the moment `now`. It takes no memory.
     pub fn tick(&mut self, key: &Key, now: i64)
         ensures rows { (k : KeyValue) → row_in self.new k ≡ (if key_eq key.now k then ticked now (row_in self.old k) else row_in self.old k) }
         ensures room { (k : KeyValue) → has_row self.new k ≡ has_row self.old k }
     {
-        if self.map.contains_key(key) {
-            let row = self.get(key);
-            self.put(key, row.ticked(now));
+        if let Some((at, row)) = self.find(key) {
+            self.write(key, at, row, row.ticked(now));
+        }
+    }
+
+    fn lapse_at(&mut self, at: usize) {
+        let row = match self.map.get_index(at) {
+            Some((_key, row)) => *row,
+            None => return,
+        };
+        if row.work.is_something() {
+            let is = row.looked(row.work.lapsed());
+            if let Some(place) = self.map.get_index_mut(at) {
+                *place = is;
+            }
+            self.found -= 1;
+            self.fresh = recount(self.fresh, row.is_fresh(), is.is_fresh());
         }
     }
 
@@ -202,12 +202,7 @@ impl Rows {
         let mut at = 0;
         let len = self.map.len();
         while self.found > 0 && at < len {
-            if let Some((_key, row)) = self.map.get_index(at) {
-                let row = *row;
-                if row.work.is_something() {
-                    self.write(at, row.looked(row.work.lapsed()));
-                }
-            }
+            self.lapse_at(at);
             at += 1;
         }
     }
@@ -217,9 +212,11 @@ impl Rows {
         ensures rows { (k : KeyValue) → row_in self.new k ≡ (if key_eq key.now k then moved kind to (row_in self.old k) else row_in self.old k) }
         ensures room { (k : KeyValue) → has_row self.new k ≡ has_row self.old k }
     {
-        let row = self.get(key);
+        let Some((at, row)) = self.find(key) else {
+            return;
+        };
         if row.is_reached(kind, to) {
-            self.put(key, row.moved(kind, to));
+            self.write(key, at, row, row.moved(kind, to));
         }
     }
 
@@ -281,15 +278,17 @@ impl Rows {
 
     /// The first key above this one, if there is one, that can be given and on which there may be something to do; `None`
     /// exactly where there is none.
-    pub fn next_pending<'a>(&'a self, below: Option<&Key>) -> Option<&'a Key>
-        ensures { FindsFirst (λ k. is_above (option_copied below.entry) k && is_pending (row_in self.now k)) (option_copied result) }
-    {
+    pub fn next_pending<'a>(&'a self, below: Option<&Key>) -> Option<(&'a Key, Row)> {
         if self.pending.count == 0 {
             return None;
         }
-        match below {
-            Some(below) => self.key_at(pending_from(&self.map, self.place_above(below))),
-            None => self.key_at(self.pending.first),
+        let at = match below {
+            Some(below) => pending_from(&self.map, self.place_above(below)),
+            None => self.pending.first,
+        };
+        match self.map.get_index(at) {
+            Some((key, row)) => Some((key, *row)),
+            None => None,
         }
     }
 }
