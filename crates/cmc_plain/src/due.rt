@@ -9,12 +9,10 @@ ghost use Rattle.cmc_rules.specs.Dates.{IsDatedAnswer, IsDatedOption};
 ghost use Rattle.cmc_rules.specs.Sound as rules;
 ghost use Rattle.cmc_plain.specs.DueMoments.{HasDatedMoments, IsFirstAfter, sooner};
 
-use cmc_match::pair_in;
 use cmc_meta::{Condition, ConditionKind};
 use cmc_objects::{CertStatus, Certificate, CertificateRequest, Role, Secret, Shared};
 use cmc_pass::Views;
 use cmc_policies::{Renew, backoff_until, renewal_time};
-use cmc_x509::CertFields;
 
 /// The moment, where it is yet to come.
 fn coming(now: i64, at: i64) -> Option<i64>
@@ -45,29 +43,28 @@ fn end_of_backoff(now: i64, status: &CertStatus) -> Option<i64>
     }
 }
 
-/// The renewal of the certificate.
-fn renewal_of(now: i64, renew: Renew, fields: &CertFields<'_>) -> Option<i64>
-    requires ordered { fields.now.not_before ≤ℤ fields.now.not_after }
-    requires begins_in_range { IsCertificateTime fields.now.not_before }
-    requires ends_in_range { IsCertificateTime fields.now.not_after }
-    ensures { IsFirstAfter now (λ moment. moment ≡ spec.renewal fields.now.not_before fields.now.not_after renew) result }
-{
-    coming(
-        now,
-        renewal_time(fields.not_before, fields.not_after, renew),
-    )
+/// From when to when the certificate is valid that the Secret's key and certificate are a pair with.
+#[derive(Clone, Copy)]
+struct Validity {
+    not_before: i64,
+    not_after: i64,
 }
 
-/// The certificate that the Secret's key and certificate are a pair with.
-fn pair_of<'a>(secret: &'a Option<Shared<Secret>>) -> Option<CertFields<'a>>
-    ensures value { option_map cert_shown result ≡ pair_at secret.now }
-    ensures ordered { IfSome result (λ fields. fields.not_before ≤ℤ fields.not_after) }
-    ensures begins_in_range { IfSome result (λ fields. IsCertificateTime fields.not_before) }
-    ensures ends_in_range { IfSome result (λ fields. IsCertificateTime fields.not_after) }
-{
+/// The validity of the certificate that the Secret's key and certificate are a pair with.
+fn validity_of(secret: &Option<Shared<Secret>>) -> Option<Validity> {
     match secret {
         None => None,
-        Some(secret) => pair_in(secret),
+        Some(secret) => {
+            let known = secret.parts.pairing();
+            if known.pair {
+                Some(Validity {
+                    not_before: known.not_before,
+                    not_after: known.not_after,
+                })
+            } else {
+                None
+            }
+        }
     }
 }
 
@@ -75,9 +72,9 @@ fn pair_of<'a>(secret: &'a Option<Shared<Secret>>) -> Option<CertFields<'a>>
 fn renewal(now: i64, renew: Renew, secret: &Option<Shared<Secret>>) -> Option<i64>
     ensures { IsFirstAfter now (rules.IsRenewal renew (pair_at secret.now)) result }
 {
-    match pair_of(secret) {
+    match validity_of(secret) {
         None => None,
-        Some(fields) => renewal_of(now, renew, &fields),
+        Some(valid) => coming(now, renewal_time(valid.not_before, valid.not_after, renew)),
     }
 }
 
@@ -85,9 +82,9 @@ fn renewal(now: i64, renew: Renew, secret: &Option<Shared<Secret>>) -> Option<i6
 fn expiry(now: i64, secret: &Option<Shared<Secret>>) -> Option<i64>
     ensures { IsFirstAfter now (rules.IsExpiry (pair_at secret.now)) result }
 {
-    match pair_of(secret) {
+    match validity_of(secret) {
         None => None,
-        Some(fields) => coming(now, fields.not_after),
+        Some(valid) => coming(now, valid.not_after),
     }
 }
 

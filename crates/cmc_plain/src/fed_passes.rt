@@ -17,7 +17,7 @@ use cmc_meta::Key;
 use cmc_moves::{ending_at, let_go};
 use cmc_objects::{Positions, Role};
 use cmc_pass::Act;
-use cmc_rules::{Ending, Past};
+use cmc_rules::{Ending, Past, Stage};
 use cmc_waking::{Queues, parked_after};
 use cmc_world::{Move, Stepped, World};
 use std::alloc::{AllocError, Global};
@@ -48,6 +48,11 @@ pub(crate) fn own_of(past: Option<&Past>) -> Positions
     }
 }
 
+/// Whether a pass that has come to the stage may end by its next move. One that waits for a value, or has got one, does not.
+fn may_end(stage: &Stage) -> bool {
+    !matches!(stage, Stage::Asked { .. } | Stage::Given { .. })
+}
+
 /// How the pass would end; `None` exactly where it is not open.
 fn closing_of(world: &World, pass: u64) -> Result<Option<Closing>, AllocError>
     ensures { IfOk result (λ c. on IsClosing world.now pass c) }
@@ -55,6 +60,9 @@ fn closing_of(world: &World, pass: u64) -> Result<Option<Closing>, AllocError>
     let Some(open) = world.passes().get(pass) else {
         return Ok(None);
     };
+    if !may_end(&open.stage) {
+        return Ok(None);
+    }
     let key = open.key.copy()?;
     let ending = ending_at(&open.stage);
     let own = match ending {
@@ -113,6 +121,32 @@ pub(crate) fn give(
     step: Move,
 ) -> Result<Stepped, AllocError> {
     world.step(alloc, step)
+}
+
+/// How the pass may end by its next move, with room for that; `None` where it does not.
+fn ready_to_end(
+    world: &World,
+    queues: &mut Queues,
+    pass: u64,
+) -> Result<Option<Closing>, AllocError> {
+    let closing = closing_of(world, pass)?;
+    room_to_end(queues, &closing)?;
+    Ok(closing)
+}
+
+/// Has the pass go on, as `World::step` does.
+pub(crate) fn go_next(
+    alloc: Global,
+    world: &mut World,
+    queues: &mut Queues,
+    pass: u64,
+    incarnation: u64,
+) -> Result<Stepped, AllocError> {
+    world.is_run();
+    let closing = ready_to_end(world, queues, pass)?;
+    let answer = world.step(alloc, Move::Next { pass, incarnation })?;
+    close(world, queues, pass, closing);
+    Ok(answer)
 }
 
 /// Makes the move, by which the pass goes on, as `World::step` does.

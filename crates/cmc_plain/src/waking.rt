@@ -23,7 +23,7 @@ ghost use Rattle.cmc_plain.specs.Searches.{FindsWork, IsWork};
 use crate::deliveries::{Delivery, first_delivery, first_kind_of};
 use crate::fed_begins::begin_kept;
 use crate::fed_deliveries::deliver;
-use crate::fed_passes::{act_first, give, go_on};
+use crate::fed_passes::{act_first, give, go_next, go_on};
 use crate::fed_scripts::script;
 use crate::kept::Kept;
 use crate::next_move::plain_by;
@@ -308,8 +308,7 @@ impl Waking {
             }
         }
         self.forget();
-        let step = Move::Next { pass, incarnation };
-        go_on(alloc, &mut self.world, &mut self.queues, pass, step)
+        go_next(alloc, &mut self.world, &mut self.queues, pass, incarnation)
     }
 
     /// Makes one move, as `World::step` does, and feeds the work queues.

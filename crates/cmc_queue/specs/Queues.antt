@@ -8,10 +8,9 @@ use Rattle.cmc_meta.specs.declared.key.Key.{Key}
 use Rattle.cmc_meta.specs.declared.key.Kind.{Kind}
 use Rattle.cmc_meta.specs.declared.key.Kind.TheVariants.{Certificate, CertificateRequest, Secret}
 use Rattle.cmc_meta.specs.Keys.{key_cmp, key_eq, kind_rank}
-use Rattle.cmc_queue.specs.declared.row.Found.TheVariants.{Something}
 use Rattle.cmc_queue.specs.declared.row.Parked.{Parked}
 use Rattle.cmc_queue.specs.declared.row.Row.{Row}
-use Rattle.cmc_queue.specs.Rows.{earliest, is_free, is_fresh, is_pending, row_in, has_row}
+use Rattle.cmc_queue.specs.Rows.{is_free, is_fresh, is_pending, row_in, has_row}
 
 -- a work queue: the rows of the keys, and the places where keys can wait for moments and for versions of each kind
 pub record Work : Type 0 where
@@ -75,9 +74,9 @@ has_room q key = has_row q.rows key
 abbrev pub has_room_at : Work → ℤ → Key → Bool
 has_room_at q at key = is_noted q.moments at key
 
--- the key has a place for what a look finds: with a row something may be found there
+-- the key has a row, in which it stands what a look found there
 abbrev pub has_room_to_find : Work → Key → Bool
-has_room_to_find q key = is_noted q.moments earliest key
+has_room_to_find q key = has_row q.rows key
 
 -- the key has a place at the version: with a row it can wait for that version of the kind
 abbrev pub has_room_for : Work → Kind → ℕ → Key → Bool
@@ -144,12 +143,6 @@ fresh_count = count_of is_fresh
 abbrev pub pending_count : List (Key × Row) → ℕ
 pending_count = count_of is_pending
 
--- the counts are right
-pub record IsTallied (rows : List (Key × Row)) (given unknown waiting : ℕ) : Type 0 where
-  pub free : given ≡ free_count rows
-  pub fresh : unknown ≡ fresh_count rows
-  pub pending : waiting ≡ pending_count rows
-
 -- each key that is timed stands among the moments
 abbrev pub IsTimed : List (Key × Row) → List (ℤ × Key) → Type 0
 IsTimed rows due = (key : Key) (at : ℤ) → (row_in rows key).timed ≡ Some at → is_noted due at key ≡ true
@@ -158,14 +151,9 @@ IsTimed rows due = (key : Key) (at : ℤ) → (row_in rows key).timed ≡ Some a
 abbrev pub IsParked : Kind → List (Key × Row) → List (ℕ × Key) → Type 0
 IsParked kind rows versions = (key : Key) (p : Parked) → (row_in rows key).parked ≡ Some p → (kind_rank p.kind == kind_rank kind) ≡ true → is_listed versions p.version key ≡ true
 
--- each key on which something was found stands at the earliest moment
-abbrev pub IsLooked : List (Key × Row) → List (ℤ × Key) → Type 0
-IsLooked rows due = (key : Key) → (row_in rows key).work ≡ Something → is_noted due earliest key ≡ true
-
 -- whatever waits has its place
 pub record IsFound (q : Work) : Type 0 where
   pub timed : IsTimed q.rows q.moments
-  pub looked : IsLooked q.rows q.moments
   pub certificates : IsParked Certificate q.rows q.certificates
   pub requests : IsParked CertificateRequest q.rows q.requests
   pub secrets : IsParked Secret q.rows q.secrets

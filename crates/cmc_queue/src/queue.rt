@@ -98,7 +98,7 @@ impl Queue {
         if row.ready && row.work.is_unknown() {
             return;
         }
-        self.rows.write(key, at, row, row.added());
+        self.rows.write(at, row, row.added());
     }
 
     /// Gives the key to be worked on, where it can be given: it is then in process, and ready no more. It takes no memory.
@@ -111,7 +111,7 @@ impl Queue {
             return false;
         };
         if row.is_free() {
-            self.rows.write(key, at, row, row.taken());
+            self.rows.write(at, row, row.taken());
             return true;
         }
         false
@@ -125,7 +125,7 @@ impl Queue {
         ensures fewer { is_fresh (row_of self.old key.now) ≡ true → fresh_count self.old.rows ≡ fresh_count self.new.rows + 1 }
     {
         if let Some((place, row)) = self.rows.find(key) {
-            self.rows.write(key, place, row, row.looked(Found::Nothing));
+            self.rows.write(place, row, row.looked(Found::Nothing));
         }
     }
 
@@ -149,7 +149,7 @@ impl Queue {
         ensures fewer { is_fresh (row_of self.old key.now) ≡ true → fresh_count self.old.rows ≡ fresh_count self.new.rows + 1 }
     {
         if let Some((place, row)) = self.rows.find(key) {
-            self.rows.write(key, place, row, row.looked(Found::Something));
+            self.rows.write(place, row, row.looked(Found::Something));
         }
     }
 
@@ -161,7 +161,7 @@ impl Queue {
         ensures fewer { is_fresh (row_of self.old key.now) ≡ true → fresh_count self.old.rows ≡ fresh_count self.new.rows + 1 }
     {
         if let Some((place, row)) = self.rows.find(key) {
-            self.rows.write(key, place, row, row.left());
+            self.rows.write(place, row, row.left());
         }
     }
 
@@ -174,7 +174,7 @@ impl Queue {
             return;
         };
         if row.working {
-            self.rows.write(key, at, row, row.ended());
+            self.rows.write(at, row, row.ended());
         }
     }
 
@@ -200,7 +200,7 @@ impl Queue {
         ensures fresh { fresh_count self.new.rows ≡ fresh_count self.old.rows }
     {
         if let Some((place, row)) = self.rows.find(key) {
-            self.rows.write(key, place, row, row.timed_at(at));
+            self.rows.write(place, row, row.timed_at(at));
         }
     }
 
@@ -243,7 +243,7 @@ impl Queue {
         ensures fresh { fresh_count self.new.rows ≡ fresh_count self.old.rows }
     {
         if let Some((place, row)) = self.rows.find(key) {
-            self.rows.write(key, place, row, row.parked_for(kind, version));
+            self.rows.write(place, row, row.parked_for(kind, version));
         }
     }
 
