@@ -80,7 +80,7 @@ pub(crate) fn place_at(
     next: Option<i64>,
 ) -> Result<(), AllocError> {
     match next {
-        Some(at) => queues.room_at(role, key, at),
+        Some(at) => queues.place_at(role, key, at),
         None => Ok(()),
     }
 }

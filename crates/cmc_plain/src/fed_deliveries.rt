@@ -75,11 +75,11 @@ pub(crate) fn deliver(
         return world.step(alloc, Move::Deliver { role, kind, to });
     };
     let keys = affected(alloc, world, role, kind, to, upto)?;
-    queues.room(role, &keys)?;
+    queues.wake(role, &keys)?;
     let answer = world.step(alloc, Move::Deliver { role, kind, to })?;
     if !answer.is_done() {
         return Ok(answer);
     }
-    queues.told(role, kind, upto, &keys);
+    queues.told(role, kind, upto, &[]);
     Ok(answer)
 }

@@ -87,7 +87,7 @@ fn room_to_end(queues: &mut Queues, closing: &Option<Closing>) -> Result<(), All
         return Ok(());
     };
     match parked_after(closing.ending, closing.own, closing.at) {
-        Some(parked) => queues.room_for(closing.role, &closing.key, parked),
+        Some(parked) => queues.place_for(closing.role, &closing.key, parked),
         None => Ok(()),
     }
 }

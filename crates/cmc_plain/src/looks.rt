@@ -184,7 +184,7 @@ fn note(
             Ok(None)
         }
         Look::Held(parked) => {
-            queues.room_for(role, key, parked)?;
+            queues.place_for(role, key, parked)?;
             queues.found_held(role, key, parked);
             Ok(None)
         }

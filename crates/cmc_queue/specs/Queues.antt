@@ -10,7 +10,7 @@ use Rattle.cmc_meta.specs.declared.key.Kind.TheVariants.{Certificate, Certificat
 use Rattle.cmc_meta.specs.Keys.{key_cmp, key_eq, kind_rank}
 use Rattle.cmc_queue.specs.declared.row.Parked.{Parked}
 use Rattle.cmc_queue.specs.declared.row.Row.{Row}
-use Rattle.cmc_queue.specs.Rows.{is_free, is_fresh, is_pending, row_in, has_row}
+use Rattle.cmc_queue.specs.Rows.{is_found, is_free, is_fresh, is_pending, row_in, has_row}
 
 -- a work queue: the rows of the keys, and the places where keys can wait for moments and for versions of each kind
 pub record Work : Type 0 where
@@ -138,6 +138,10 @@ free_count = count_of is_free
 -- how many of them are to be looked at
 abbrev pub fresh_count : List (Key × Row) → ℕ
 fresh_count = count_of is_fresh
+
+-- of how many keys a look found that there is something to do
+abbrev pub found_count : List (Key × Row) → ℕ
+found_count = count_of is_found
 
 -- on how many of them there may be something to do
 abbrev pub pending_count : List (Key × Row) → ℕ

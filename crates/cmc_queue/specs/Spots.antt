@@ -1,5 +1,5 @@
 -- Where the rows stand for which searches ask.
-use Rattle.std.specs.Prelude.{◌≡◌, ℕ, ◌+◌, ◌<◌, ◌≤◌, Bool, true, false, List, Some, None}
+use Rattle.std.specs.Prelude.{◌≡◌, ℕ, ◌+◌, ◌<◌, ◌≤◌, Bool, true, false, List, length, Some, None}
 use Rattle.std.specs.List.{slice_get}
 use Rattle.std.specs.List.Sorted.{IsSorted}
 use Rattle.std.specs.Map.{keys_of, lookup}
@@ -20,6 +20,8 @@ HoldsOfNoneBefore test rows place = (i : ℕ) (e : Key × Row) → i < place →
 pub record IsPlaceFrom (test : Row → Bool) (rows : List (Key × Row)) (from place : ℕ) : Type 0 where
   pub before : (i : ℕ) (e : Key × Row) → from ≤ i → i < place → slice_get rows i ≡ Some e → test e.1 ≡ false
   pub here : (e : Key × Row) → slice_get rows place ≡ Some e → test e.1 ≡ true
+  pub within : place ≤ length rows
+  pub up : from ≤ length rows → from ≤ place
 
 -- the place is that of the first row of which the test holds
 pub record IsFirstAt (test : Row → Bool) (rows : List (Key × Row)) (place : ℕ) : Type 0 where
@@ -32,14 +34,15 @@ pub record IsFirstAt (test : Row → Bool) (rows : List (Key × Row)) (place : �
 pub record IsSpot (test : Row → Bool) (rows : List (Key × Row)) (spot : Spot) : Type 0 where
   pub count : spot.count ≡ count_of test rows
   pub first : 0 < spot.count → IsFirstAt test rows spot.first
+  pub within : spot.first ≤ length rows
 
 -- the rows stand in the order of keys, and it is known where a search begins
-pub record ArePlaced (rows : List (Key × Row)) (free pending : Spot) (fresh found : ℕ) : Type 0 where
+pub record ArePlaced (rows : List (Key × Row)) (given waiting : Spot) (unknown something : ℕ) : Type 0 where
   pub sorted : IsSorted key_cmp (keys_of rows)
-  pub free : IsSpot is_free rows free
-  pub pending : IsSpot is_pending rows pending
-  pub fresh : fresh ≡ count_of is_fresh rows
-  pub found : found ≡ count_of is_found rows
+  pub free : IsSpot is_free rows given
+  pub pending : IsSpot is_pending rows waiting
+  pub fresh : unknown ≡ count_of is_fresh rows
+  pub found : something ≡ count_of is_found rows
 
 -- the row at the place was this one, and becomes that one; no other row changes
 pub record IsRewritten (old new : List (Key × Row)) (at : ℕ) (was row : Row) : Type 0 where
@@ -47,6 +50,7 @@ pub record IsRewritten (old new : List (Key × Row)) (at : ℕ) (was row : Row) 
   pub before : slice_get old at ≡ Some (key, was)
   pub after : slice_get new at ≡ Some (key, row)
   pub others : (i : ℕ) → (i ≡ at → ⊥) → slice_get new i ≡ slice_get old i
+  pub long : length new ≡ length old
   pub counts : (test : Row → Bool) → count_of test new + one_if (test was) ≡ count_of test old + one_if (test row)
 
 -- before the row at the place became that one the spot was right
@@ -58,9 +62,15 @@ pub record IsPutIn (old new : List (Key × Row)) (key : Key) (at : ℕ) : Type 0
   pub here : slice_get new at ≡ Some (key, no_row)
   pub below : (i : ℕ) → i < at → slice_get new i ≡ slice_get old i
   pub above : (i : ℕ) → at ≤ i → slice_get new (i + 1) ≡ slice_get old i
+  pub long : length new ≡ length old + 1
   pub counts : (test : Row → Bool) → test no_row ≡ false → count_of test new ≡ count_of test old
+
+-- before the row was put in the spot was right
+abbrev pub HadSpot : (Row → Bool) → List (Key × Row) → ℕ → Spot → Type 0
+HadSpot test rows at spot = (old : List (Key × Row)) × (key : Key) × IsPutIn old rows key at × IsSpot test old spot
 
 -- the place lies behind all keys that are not above this one, and before all that are
 pub record IsPlaceAbove (key : Key) (rows : List (Key × Row)) (place : ℕ) : Type 0 where
   pub below : (i : ℕ) (e : Key × Row) → i < place → slice_get rows i ≡ Some e → is_lt (key_cmp key e.0) ≡ false
   pub above : (i : ℕ) (e : Key × Row) → place ≤ i → slice_get rows i ≡ Some e → key_cmp key e.0 ≡ Less
+  pub within : place ≤ length rows

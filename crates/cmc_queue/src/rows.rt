@@ -1,13 +1,13 @@
 //! The rows of all keys.
 ghost use Rattle.std.specs.Option.{option_copied};
 ghost use Rattle.std.specs.Ordering.{is_lt};
-ghost use Rattle.std.specs.Prelude.{◌&&◌, ◌+◌, ◌≡◌, ℕ, Some, IfNone, IfOk, IfSome, OnErr, OnOk, if◌then◌else◌, is_some, option_map, false, true};
+ghost use Rattle.std.specs.Prelude.{◌&&◌, ◌+◌, ◌≡◌, Some, IfNone, IfOk, IfSome, OnErr, OnOk, if◌then◌else◌, is_some, option_map, false, true};
 ghost use Rattle.std.specs.List.{slice_get};
 ghost use Rattle.std.specs.Map.{keys_of, lookup};
 ghost use Rattle.cmc_meta.specs.declared.key.Key.{Key as KeyValue};
 ghost use Rattle.cmc_meta.specs.Keys.{key_cmp, key_eq};
-ghost use Rattle.cmc_queue.specs.Queues.{fresh_count, is_above, one_if, FindsFirst};
-ghost use Rattle.cmc_queue.specs.Rows.{has_row, is_free, is_fresh, is_pending, lapsed, looked, moved, no_row, row_in, ticked};
+ghost use Rattle.cmc_queue.specs.Queues.{found_count, fresh_count, is_above, one_if, FindsFirst};
+ghost use Rattle.cmc_queue.specs.Rows.{added, has_row, is_found, is_free, is_fresh, is_pending, lapsed, looked, moved, no_row, row_in, ticked};
 ghost use Rattle.cmc_queue.specs.Spots.{IsPlaceAbove, IsPutIn, IsRewritten};
 ghost use Rattle.std.specs.List.Sorted.{IsSorted};
 
@@ -49,11 +49,12 @@ fn put_row(map: &mut IndexMap<Key, Row>, at: usize, was: Row, row: Row)
     requires { (key : KeyValue) × (slice_get map.old.entries at ≡ Some (key, was)) }
     ensures rewritten { IsRewritten map.old.entries map.new.entries at was row }
     ensures keys { keys_of map.new.entries ≡ keys_of map.old.entries }
-    ensures rows { (key : KeyValue) → slice_get map.old.entries at ≡ Some (key, was) → (k : KeyValue) → lookup (key_eq k) map.new.entries ≡ (if key_eq k key then Some row else lookup (key_eq k) map.old.entries) }
+    ensures rows { (key : KeyValue) → slice_get map.old.entries at ≡ Some (key, was) → (k : KeyValue) → lookup (key_eq k) map.new.entries ≡ (if key_eq key k then Some row else lookup (key_eq k) map.old.entries) }
 {
-    if let Some(place) = map.get_index_mut(at) {
-        *place = row;
-    }
+    let Some(place) = map.get_index_mut(at) else {
+        unreachable!()
+    };
+    *place = row;
 }
 
 /// Puts in a row for the key, which has none, among the others in the order of keys; the place of it. An error is one of memory.
@@ -61,7 +62,7 @@ fn put_in(map: &mut IndexMap<Key, Row>, key: &Key) -> Result<usize, AllocError>
     requires { is_some (lookup (key_eq key.now) map.old.entries) ≡ false }
     ensures put { IfOk result (IsPutIn map.old.entries map.new.entries key.now) }
     ensures sorted { OnOk result (IsSorted key_cmp (keys_of map.old.entries) → IsSorted key_cmp (keys_of map.new.entries)) }
-    ensures rows { OnOk result ((k : KeyValue) → lookup (key_eq k) map.new.entries ≡ (if key_eq k key.now then Some no_row else lookup (key_eq k) map.old.entries)) }
+    ensures rows { OnOk result ((k : KeyValue) → lookup (key_eq k) map.new.entries ≡ (if key_eq key.now k then Some no_row else lookup (key_eq k) map.old.entries)) }
     ensures same { OnErr result (map.new.entries ≡ map.old.entries) }
 {
     let key = key.copy()?;
@@ -98,6 +99,7 @@ impl Rows {
     }
 
     /// The place of the key's row, with the row; `None` exactly where the key has none.
+    #[tactic(auto, unfolding(crate::specs::Rows::row_in, crate::specs::Rows::has_row))]
     pub fn find(&self, key: &Key) -> Option<(usize, Row)>
         ensures at { IfSome result (λ p. slice_get self.now p.0 ≡ Some (key.now, p.1)) }
         ensures row { IfSome result (λ p. p.1 ≡ row_in self.now key.now) }
@@ -110,6 +112,7 @@ impl Rows {
     }
 
     /// Makes room for the key's row, and changes no row. An error is one of memory.
+    #[tactic(auto, unfolding(crate::specs::Rows::has_row))]
     pub fn room(&mut self, key: &Key) -> Result<(), AllocError>
         ensures room { OnOk result (has_row self.new key.now ≡ true) }
         ensures same { (k : KeyValue) → row_in self.new k ≡ row_in self.old k }
@@ -123,7 +126,7 @@ impl Rows {
     }
 
     /// Makes a row for the key, which has none. A function clears room for all of its locals as it begins: so this stands alone.
-    fn make(&mut self, key: &Key) -> Result<(), AllocError>
+    pub fn make(&mut self, key: &Key) -> Result<(), AllocError>
         requires { has_row self.old key.now ≡ false }
         ensures room { OnOk result (has_row self.new key.now ≡ true) }
         ensures same { (k : KeyValue) → row_in self.new k ≡ row_in self.old k }
@@ -131,8 +134,8 @@ impl Rows {
         ensures fresh { fresh_count self.new ≡ fresh_count self.old }
     {
         let at = put_in(&mut self.map, key)?;
-        self.free = shifted(self.free, at);
-        self.pending = shifted(self.pending, at);
+        self.free = shifted(self.free, &self.map, Sort::Free, at);
+        self.pending = shifted(self.pending, &self.map, Sort::Pending, at);
         Ok(())
     }
 
@@ -142,6 +145,7 @@ impl Rows {
         ensures rows { (key : KeyValue) → slice_get self.old at ≡ Some (key, was) → (k : KeyValue) → row_in self.new k ≡ (if key_eq key k then row else row_in self.old k) }
         ensures room { (k : KeyValue) → has_row self.new k ≡ has_row self.old k }
         ensures fresh { fresh_count self.new + one_if (is_fresh was) ≡ fresh_count self.old + one_if (is_fresh row) }
+        ensures found { found_count self.new + one_if (is_found was) ≡ found_count self.old + one_if (is_found row) }
     {
         let _len = self.map.len();
         put_row(&mut self.map, at, was, row);
@@ -149,6 +153,18 @@ impl Rows {
         self.pending = spot_after(self.pending, &self.map, Sort::Pending, at, was, row);
         self.fresh = recount(self.fresh, was.is_fresh(), row.is_fresh());
         self.found = recount(self.found, was.work.is_something(), row.work.is_something());
+    }
+
+    /// The key whose row, which is this one, stands at the place is ready. It takes no memory.
+    pub fn add_at(&mut self, at: usize, row: Row)
+        requires { (key : KeyValue) × (slice_get self.old at ≡ Some (key, row)) }
+        ensures rows { (key : KeyValue) → slice_get self.old at ≡ Some (key, row) → (k : KeyValue) → row_in self.new k ≡ (if key_eq key k then added (row_in self.old k) else row_in self.old k) }
+        ensures room { (k : KeyValue) → has_row self.new k ≡ has_row self.old k }
+    {
+        if row.ready && row.work.is_unknown() {
+            return;
+        }
+        self.write(at, row, row.added());
     }
 
     /// The key's row comes to the moment `now`. It takes no memory.
@@ -161,9 +177,14 @@ impl Rows {
         }
     }
 
-    /// The place of the first row from this one on in which it stands that there is something to do, with that row.
-    fn found_from(&self, from: usize) -> Option<(usize, Row)> {
-        let at = place_from(&self.map, Sort::Found, from);
+    /// The first place with a row in which it stands that there is something to do, with that row; `None` exactly where there is
+    /// none.
+    fn first_found(&self) -> Option<(usize, Row)>
+        ensures at { IfSome result (λ p. (key : KeyValue) × (slice_get self.now p.0 ≡ Some (key, p.1))) }
+        ensures found { IfSome result (λ p. is_found p.1 ≡ true) }
+        ensures none { IfNone result ((k : KeyValue) → is_found (row_in self.now k) ≡ false) }
+    {
+        let at = place_from(&self.map, Sort::Found, 0);
         match self.map.get_index(at) {
             Some((_key, row)) => Some((at, *row)),
             None => None,
@@ -175,10 +196,10 @@ impl Rows {
         ensures rows { (k : KeyValue) → row_in self.new k ≡ looked (lapsed (row_in self.old k).work) (row_in self.old k) }
         ensures room { (k : KeyValue) → has_row self.new k ≡ has_row self.old k }
     {
-        while self.found > 0 {
-            let Some((at, row)) = self.found_from(0) else {
-                return;
-            };
+        if self.found == 0 {
+            return;
+        }
+        while let Some((at, row)) = self.first_found() {
             self.write(at, row, row.looked(row.work.lapsed()));
         }
     }
@@ -203,10 +224,22 @@ impl Rows {
         }
     }
 
+    /// The key at the place, with its row.
+    fn entry_at(&self, at: usize) -> Option<(&Key, Row)>
+        ensures key { option_map (λ p. p.0.now) result ≡ option_map (λ e. e.0) (slice_get self.now at) }
+        ensures entry { IfSome result (λ p. slice_get self.now at ≡ Some (p.0.now, p.1)) }
+    {
+        match self.map.get_index(at) {
+            Some((key, row)) => Some((key, *row)),
+            None => None,
+        }
+    }
+
     /// The place behind all keys that are not above this one.
     fn place_above(&self, key: &Key) -> usize
         ensures { IsPlaceAbove key.now self.now result }
     {
+        let _len = self.map.len();
         match self.map.binary_search_keys(key) {
             Ok(at) => at + 1,
             Err(at) => at,
@@ -217,6 +250,7 @@ impl Rows {
     pub fn first(&self) -> Option<&Key>
         ensures { FindsFirst (λ k. is_free (row_in self.now k)) (option_copied result) }
     {
+        let _len = self.map.len();
         if self.free.count == 0 {
             return None;
         }
@@ -227,6 +261,7 @@ impl Rows {
     pub fn first_fresh(&self) -> Option<&Key>
         ensures { FindsFirst (λ k. is_fresh (row_in self.now k)) (option_copied result) }
     {
+        let _len = self.map.len();
         self.key_at(place_from(&self.map, Sort::Fresh, 0))
     }
 
@@ -234,6 +269,7 @@ impl Rows {
     pub fn following<'a>(&'a self, below: &Key) -> Option<&'a Key>
         ensures { FindsFirst (λ k. is_lt (key_cmp below.now k) && is_free (row_in self.now k)) (option_copied result) }
     {
+        let _len = self.map.len();
         self.key_at(place_from(&self.map, Sort::Free, self.place_above(below)))
     }
 
@@ -243,16 +279,16 @@ impl Rows {
         ensures finds { FindsFirst (λ k. is_above (option_copied below.entry) k && is_pending (row_in self.now k)) (option_map (λ p. p.0.now) result) }
         ensures row { IfSome result (λ p. p.1 ≡ row_in self.now p.0.now) }
     {
+        let _len = self.map.len();
         if self.pending.count == 0 {
             return None;
         }
-        let at = match below {
-            Some(below) => place_from(&self.map, Sort::Pending, self.place_above(below)),
-            None => self.pending.first,
-        };
-        match self.map.get_index(at) {
-            Some((key, row)) => Some((key, *row)),
-            None => None,
+        match below {
+            Some(below) => {
+                let from = self.place_above(below);
+                self.entry_at(place_from(&self.map, Sort::Pending, from))
+            }
+            None => self.entry_at(self.pending.first),
         }
     }
 }

@@ -1,8 +1,8 @@
 //! Where the rows stand for which searches ask.
-ghost use Rattle.std.specs.Prelude.{◌≡◌, ◌+◌, ◌<◌, ◌^◌, true};
+ghost use Rattle.std.specs.Prelude.{◌≡◌, ◌+◌, ◌<◌, ◌^◌, false, true};
 ghost use Rattle.cmc_queue.specs.Queues.{one_if};
-ghost use Rattle.cmc_queue.specs.Rows.{qualifies};
-ghost use Rattle.cmc_queue.specs.Spots.{IsPlaceFrom, IsSpot, WasSpot};
+ghost use Rattle.cmc_queue.specs.Rows.{no_row, qualifies};
+ghost use Rattle.cmc_queue.specs.Spots.{HadSpot, IsPlaceFrom, IsSpot, WasSpot};
 
 use crate::row::{Row, Sort};
 use cmc_meta::Key;
@@ -38,9 +38,13 @@ fn entered(spot: Spot, map: &IndexMap<Key, Row>, sort: Sort, at: usize, was: Row
     ensures { IsSpot (qualifies sort) map.now.entries result }
 {
     let _len = map.len();
+    let count = spot.count + 1;
+    if spot.count == 0 || at < spot.first {
+        return Spot { count, first: at };
+    }
     Spot {
-        count: spot.count + 1,
-        first: if spot.count == 0 || at < spot.first { at } else { spot.first },
+        count,
+        first: spot.first,
     }
 }
 
@@ -97,9 +101,17 @@ pub(crate) fn recount(count: u64, was: bool, is: bool) -> u64
 }
 
 /// The spot after a row with nothing to do was put in at the place.
-pub(crate) fn shifted(spot: Spot, at: usize) -> Spot {
-    Spot {
-        count: spot.count,
-        first: if at <= spot.first { spot.first + 1 } else { spot.first },
+pub(crate) fn shifted(spot: Spot, map: &IndexMap<Key, Row>, sort: Sort, at: usize) -> Spot
+    requires had { HadSpot (qualifies sort) map.now.entries at spot }
+    requires nothing { qualifies sort no_row ≡ false }
+    ensures { IsSpot (qualifies sort) map.now.entries result }
+{
+    let _len = map.len();
+    if at <= spot.first {
+        return Spot {
+            count: spot.count,
+            first: spot.first + 1,
+        };
     }
+    spot
 }

@@ -26,6 +26,14 @@ fn add_each(queue: &mut Queue, keys: &[Key])
     }
 }
 
+/// Makes each of the keys ready, with room for it. An error is one of memory: some of the keys are ready then.
+pub(crate) fn wake_each(queue: &mut Queue, keys: &[Key]) -> Result<(), AllocError> {
+    for key in keys {
+        queue.wake(key)?;
+    }
+    Ok(())
+}
+
 /// The role is told of the kind up to this version; of each of the keys it may see something new.
 pub(crate) fn tell(queue: &mut Queue, kind: Kind, to: u64, keys: &[Key])
     requires { HasRooms keys.now queue.old }

@@ -112,7 +112,22 @@ impl Queues {
         self.rows[role.rank() as usize].room_to_find(key)
     }
 
+    /// Makes a place for the key at the moment, in the queue of the role. An error is one of memory.
+    pub fn place_at(&mut self, role: Role, key: &Key, at: i64) -> Result<(), AllocError> {
+        self.rows[role.rank() as usize].place_at(key, at)
+    }
+
+    /// Makes a place for the key at the version, in the queue of the role. An error is one of memory.
+    pub fn place_for(&mut self, role: Role, key: &Key, parked: Parked) -> Result<(), AllocError> {
+        self.rows[role.rank() as usize].place_for(key, parked.kind, parked.version)
+    }
+
     // ---- what happens
+
+    /// Makes each of the keys ready in the queue of the role, with room for it. An error is one of memory.
+    pub fn wake(&mut self, role: Role, keys: &[Key]) -> Result<(), AllocError> {
+        feeding::wake_each(&mut self.rows[role.rank() as usize], keys)
+    }
 
     /// The role is told of the kind up to this version; of each of the keys it may see something new.
     pub fn told(&mut self, role: Role, kind: Kind, to: u64, keys: &[Key])
