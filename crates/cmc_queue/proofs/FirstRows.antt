@@ -1,5 +1,5 @@
 -- Where the first row stands of which a test holds, once a row has changed or was put in.
-use Rattle.std.proofs.Common.{◌≡◌, ℕ, suc, ◌+◌, ◌-◌, ◌<◌, ◌≤◌, List, length, Option, Some, None, Bool, true, false, refl, sym, ap, subst, ◌∙◌, arith, ⊎_elim, get_or, inl, inr}
+use Rattle.std.proofs.Common.{◌≡◌, ℕ, ◌+◌, ◌-◌, ◌<◌, ◌≤◌, List, length, Option, Some, None, Bool, true, false, sym, ap, subst, ◌∙◌, arith, ⊎_elim, get_or, inl, inr}
 use Rattle.std.proofs.lemmas.Bool.{cases_lt}
 use Rattle.std.proofs.lemmas.Option.{slice_get_cases, slice_get_within}
 use Rattle.std.specs.Prelude.{slice_get, ◌⊎◌}
@@ -7,9 +7,9 @@ use Rattle.cmc_meta.specs.declared.key.Key.{Key}
 use Rattle.cmc_queue.specs.declared.row.Row.{Row}
 use Rattle.cmc_queue.specs.declared.spots.Spot.{Spot}
 use Rattle.cmc_queue.specs.Queues.{one_if, count_of}
-use Rattle.cmc_queue.specs.Spots.{HadSpot, HoldsOfNoneBefore, IsFirstAt, IsPlaceFrom, IsPutIn, IsRewritten, IsSpot, WasSpot}
+use Rattle.cmc_queue.specs.Spots.{HoldsOfNoneBefore, IsFirstAt, IsPlaceFrom, IsPutIn, IsRewritten, IsSpot}
 use Rattle.cmc_queue.specs.Rows.{no_row}
-use Rattle.cmc_queue.proofs.Counts.{Counted, counted, none_counted, some_counted}
+use Rattle.cmc_queue.proofs.Counts.{Counted, counted, none_counted}
 
 off_on : (b : Bool) → b ≡ true → b ≡ false → ⊥
 off_on b on off = cc (on, off)
@@ -31,8 +31,10 @@ module _ (test : Row → Bool) where
     where
       before : HoldsOfNoneBefore test rows place
       before i e lt is = ⊎_elim (λ low. none i e low is) (λ high. p.before i e high lt is) (cases_lt i from)
+
       c : Counted test rows
       c = counted test rows some
+
       by : ((x : Key × Row) × (place < length rows) × (slice_get rows place ≡ Some x) × (get_or rows place x ≡ x)) ⊎ ((length rows ≤ place) × (slice_get rows place ≡ None)) → IsFirstAt test rows place
       by (inl q) = record { row = q.0; stands = q.2; holds = p.here q.0 q.2; first = before }
       by (inr q) = let within = slice_get_within rows c.place c.row c.stands in let end = q.0 in absurd (off_on (test c.row.1) c.holds (before c.place c.row (omega (arith, within, end)) c.stands))
@@ -133,6 +135,7 @@ module _ (test : Row → Bool) where
       none_at some e lt is =
           let mine : e.1 ≡ row = same_row (slice_get new at) e (w.key, row) is w.after in
           ap test mine ∙ sym same ∙ (s.first some).first at (w.key, was) lt w.before
+
       by : (some : 0 < spot.count) → Compared spot.first at → IsFirstAt test new spot.first
       by some (inl low) = still_first spot.first (λ is. omega (arith, low, is)) (s.first some) (none_at some)
       by some (inr (inl is)) =

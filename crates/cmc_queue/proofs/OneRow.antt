@@ -1,5 +1,5 @@
 -- The row of one key changes, and of no other.
-use Rattle.std.proofs.Common.{◌≡◌, ℕ, List, Option, Some, None, Bool, true, false, refl, sym, ap, subst, ◌∙◌, is_some, rules, inl, inr, Ordering, Less, Equal, Greater}
+use Rattle.std.proofs.Common.{◌≡◌, ℕ, List, Option, Some, None, Bool, true, false, refl, sym, ap, ◌∙◌, is_some, rules, inl, inr, Ordering, Less, Equal, Greater}
 use Rattle.std.proofs.lemmas.Map.Entries.{lookup_from_place}
 use Rattle.std.specs.Prelude.{◌⊎◌, if◌then◌else◌, slice_get}
 use Rattle.std.specs.Cmp.{IsEquivalence}
@@ -73,6 +73,11 @@ none_from_test (Some row) h = absurd (cc)
 pub no_row_found : (es : List (Key × Row)) (key : Key) → is_some (lookup (key_eq key) es) ≡ false → row_in es key ≡ no_row
 unfolding row_in
 no_row_found es key absent = ap row_or_new (none_from_test (lookup (key_eq key) es) absent)
+
+-- nor has one that has no room
+pub no_row_without : (es : List (Key × Row)) (key : Key) → has_row es key ≡ false → row_in es key ≡ no_row
+unfolding row_in has_row
+no_row_without es key absent = ap row_or_new (none_from_test (lookup (key_eq key) es) absent)
 
 -- the row that is found
 pub row_found : (es : List (Key × Row)) (key : Key) (row : Row) → lookup (key_eq key) es ≡ Some row → row_in es key ≡ row

@@ -1,5 +1,5 @@
 -- The rows stand in the order of keys: what a search by places finds.
-use Rattle.std.proofs.Common.{◌≡◌, ℕ, zero, suc, ◌+◌, ◌-◌, ◌<◌, ◌≤◌, List, [], ◌∷◌, ◌++◌, length, Option, Some, None, Bool, true, false, refl, sym, ap, subst, ◌∙◌, arith, ⊎_elim, get_or, inl, inr, Ordering, Less, Equal, Greater, is_some}
+use Rattle.std.proofs.Common.{◌≡◌, ℕ, zero, suc, ◌+◌, ◌<◌, ◌≤◌, List, [], ◌∷◌, ◌++◌, length, Option, Some, None, Bool, true, false, refl, sym, ap, subst, ◌∙◌, arith, ⊎_elim, get_or, inl, inr, Ordering, Less, Equal, Greater}
 use Rattle.std.proofs.lemmas.Bool.{cases_lt, le-ltb}
 use Rattle.std.proofs.lemmas.List.{length-map}
 use Rattle.std.proofs.lemmas.List.Edits.{length-insert}
@@ -8,7 +8,6 @@ use Rattle.std.proofs.lemmas.Map.Entries.{place_from_lookup}
 use Rattle.std.proofs.lemmas.Cmp.{tied_itself}
 use Rattle.std.proofs.lemmas.Option.{slice_get_cases, slice_get_within, get_or_from_slice_get, slice_get-map}
 use Rattle.std.specs.Prelude.{◌&&◌, ◌⊎◌, insert, slice_get, option_map}
-use Rattle.std.specs.Cmp.{IsTotalOrder}
 use Rattle.std.specs.List.{HoldsAt, IsDistinct, position_or_len}
 use Rattle.std.specs.List.Sorted.{IsNonDecreasingBy, IsPartitionPoint, IsSorted}
 use Rattle.std.specs.Map.{keys_of, lookup}
@@ -22,10 +21,10 @@ use Rattle.indexmap.proofs.MoveLemmas.{push_moved}
 use Rattle.indexmap.proofs.RemoveLemmas.{own_first}
 use Rattle.cmc_queue.specs.declared.row.Row.{Row}
 use Rattle.cmc_queue.specs.Queues.{count_of, one_if, FindsFirst}
-use Rattle.cmc_queue.specs.Rows.{has_row, no_row, row_in, row_or_new}
+use Rattle.cmc_queue.specs.Rows.{no_row, row_in, row_or_new}
 use Rattle.cmc_queue.specs.Spots.{IsFirstAt, IsPlaceAbove, IsPlaceFrom, IsPutIn, IsRewritten}
 use Rattle.cmc_queue.proofs.Counts.{count_insert, count_set}
-use Rattle.cmc_queue.proofs.OneRow.{found_at, key_eq-laws, key_tie, same_by_test, tied}
+use Rattle.cmc_queue.proofs.OneRow.{found_at, key_eq-laws, key_tie, same_by_test}
 
 -- ---- the row at a place is written
 
@@ -98,8 +97,8 @@ put_in_by_search es new key i at none within place is =
     let there : at ≡ i = place ∙ ap (λ (n : ℕ). index_before n i) end ∙ rw (le-ltb (length es) i low) refl in
     let fits : at ≤ length es = omega (arith, there, low) in
     let whole : new ≡ insert es at (key, no_row) =
-        is ∙ ap (λ (l : List (Key × Row)). move_index l (position_or_len (key_eq key) (keys_of es)) at) (insert_entry-absent key_eq key no_row es absent)
-        ∙ ap (λ (n : ℕ). move_index (es ++ (key, no_row) ∷ []) n at) end ∙ push_moved es (key, no_row) at fits in
+    is ∙ ap (λ (l : List (Key × Row)). move_index l (position_or_len (key_eq key) (keys_of es)) at) (insert_entry-absent key_eq key no_row es absent)
+    ∙ ap (λ (n : ℕ). move_index (es ++ (key, no_row) ∷ []) n at) end ∙ push_moved es (key, no_row) at fits in
     subst (λ (l : List (Key × Row)). IsPutIn es l key at) (sym whole) (put_in_by_insert es key at fits)
 
 -- ---- what a search finds
@@ -135,17 +134,21 @@ finds_at above test es place sorted distinct off here before = by (slice_get es 
   where
     own : (i : ℕ) (e : Key × Row) → slice_get es i ≡ Some e → row_in es e.0 ≡ e.1
     own i e is = ap row_or_new (found_at es i e.0 e.1 distinct is)
+
     absent : (k : Key) → lookup (key_eq k) es ≡ None → (above k && test (row_in es k)) ≡ false
     absent k none = ap (λ (r : Row). above k && test r) (ap row_or_new none) ∙ ap (λ b. above k && b) off ∙ and_off (above k)
+
     at_place : (k : Key) (row : Row) → lookup (key_eq k) es ≡ Some row → ((i : ℕ) → slice_get es i ≡ Some (k, row) → i < place) → (above k && test (row_in es k)) ≡ false
     at_place k row found low =
         let p = place_from_lookup (key_eq k) es row found in
         let same = same_by_test k p.1 p.3 in
         let at : slice_get es p.0 ≡ Some (k, row) = p.2 ∙ ap (λ (q : Key). Some (q, row)) (sym same) in
         ap (λ (o : Option Row). above k && test (row_or_new o)) found ∙ before p.0 (k, row) (low p.0 at) at
+
     none_at : (k : Key) (o : Option Row) → lookup (key_eq k) es ≡ o → ((i : ℕ) (row : Row) → slice_get es i ≡ Some (k, row) → i < place) → (above k && test (row_in es k)) ≡ false
     none_at k None is low = absent k is
     none_at k (Some row) is low = at_place k row is (λ i. low i row)
+
     by : (o : Option (Key × Row)) → slice_get es place ≡ o → FindsFirst (λ k. above k && test (row_in es k)) (option_map (λ e. e.0) o)
     by None is = λ k. none_at k (lookup (key_eq k) es) refl (λ i row at. ⊎_elim (λ low. low) (λ high. absurd (beyond i (k, row) is at high)) (cases_lt i place))
       where
@@ -203,19 +206,23 @@ place_behind es key place sorted distinct within hit = by (slice_get_cases es pl
   where
     long : length (keys_of es) ≡ length es
     long = length-map es (λ (p : Key × Row). p.0)
+
     by : ((x : Key × Row) × (place < length es) × (slice_get es place ≡ Some x) × (get_or es place x ≡ x)) ⊎ ((length es ≤ place) × (slice_get es place ≡ None)) → IsPlaceAbove key es (place + 1)
     by (inr q) = let end = q.0 in absurd (omega (arith, within, end, long))
     by (inl q) = record { below = below; above = above; within = omega (arith, within, long) }
       where
         mine : key_cmp q.0.0 key ≡ Equal
         mine = subst (λ (k : Key). key_cmp k key ≡ Equal) (key_at es place q.0 key q.2) (hit key)
+
         same : q.0.0 ≡ key
         same = same_by_test q.0.0 key (sym (key_tie q.0.0 key) ∙ ap is_eq mine)
+
         below : (i : ℕ) (e : Key × Row) → i < place + 1 → slice_get es i ≡ Some e → is_lt (key_cmp key e.0) ≡ false
         below i e low is =
             let up = risen es sorted i place e q.0 key (omega (arith, low)) is q.2 in
             let one : ordering_index (key_cmp q.0.0 key) ≡ 1 = ap ordering_index mine in
             not_less _ (λ less. up_to_equal _ (omega (arith, up, one)) (flipped _ _ (key_cmp-total.antisymm e.0 key) less))
+
         above : (i : ℕ) (e : Key × Row) → place + 1 ≤ i → slice_get es i ≡ Some e → key_cmp key e.0 ≡ Less
         above i e high is =
             let up = risen es sorted place i q.0 e key (omega (arith, high)) q.2 is in
@@ -262,3 +269,10 @@ finds_none test es off none k = by (lookup (key_eq k) es) refl
     by : (o : Option Row) → lookup (key_eq k) es ≡ o → test (row_or_new o) ≡ false
     by None is = off
     by (Some row) is = let p = place_from_lookup (key_eq k) es row is in none p.0 (p.1, row) p.2
+
+-- where a search from the beginning comes to the end the test holds of no row
+pub none_past : (test : Row → Bool) (es : List (Key × Row)) (place : ℕ) → IsPlaceFrom test es 0 place → slice_get es place ≡ None → (i : ℕ) (e : Key × Row) → slice_get es i ≡ Some e → test e.1 ≡ false
+none_past test es place p none i e at = ⊎_elim
+    (λ q. let some = q.2 in absurd (cc (none, some)))
+    (λ q. let within = slice_get_within es i e at in let end = q.0 in p.before i e (omega arith) (omega (arith, within, end)) at)
+    (slice_get_cases es place).1

@@ -1,5 +1,5 @@
 -- What the rows are while keys are made ready whose moments have come.
-use Rattle.std.proofs.Common.{◌≡◌, ◌⊎◌, ℤ, Bool, true, false, List, Option, Some, None, refl, sym, ap, subst, ◌∙◌, int_le}
+use Rattle.std.proofs.Common.{◌≡◌, ◌⊎◌, ℤ, Bool, true, false, List, Option, Some, None, refl, sym, ap, subst, ◌∙◌, int_le, inl, inr}
 use Rattle.std.specs.Ordering.{int_cmp}
 use Rattle.std.specs.Prelude.{if◌then◌else◌}
 use Rattle.cmc_meta.specs.declared.key.Key.{Key}

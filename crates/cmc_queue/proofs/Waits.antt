@@ -7,9 +7,10 @@ use Rattle.cmc_meta.specs.declared.key.Kind.{Kind}
 use Rattle.cmc_meta.specs.declared.key.Kind.TheVariants.{Certificate, CertificateRequest, Secret}
 use Rattle.cmc_meta.specs.Keys.{key_eq, kind_rank}
 use Rattle.cmc_queue.specs.declared.row.Parked.{Parked}
-use Rattle.cmc_queue.specs.declared.row.Found.TheVariants.{Unknown}
+use Rattle.cmc_queue.specs.declared.row.Found.TheVariants.{Unknown, Nothing, Something}
+use Rattle.cmc_queue.specs.declared.row.Found.{Found}
 use Rattle.cmc_queue.specs.declared.row.Row.{Row}
-use Rattle.cmc_queue.specs.Rows.{earlier, has_row, is_due, is_free, is_reached, lapsed, moved, row_in, row_or_new, taken, ticked}
+use Rattle.cmc_queue.specs.Rows.{added, earlier, has_row, is_due, is_free, is_reached, is_unknown, lapsed, moved, row_in, row_or_new, taken, ticked}
 use Rattle.cmc_queue.specs.Queues.{has_room_for, is_listed, is_noted, IsFound, IsParked, IsTimed, Work}
 use Rattle.cmc_queue.proofs.OneRow.{same_by_test}
 use Rattle.cmc_queue.proofs.Moving.{still_parked}
@@ -98,6 +99,22 @@ found_by_put q new key row so timed parked each = record {
 } where
   stays : (k : Key) → (row_in new k).parked ≡ (row_in q.rows k).parked
   stays k = part_before (λ r. r.parked) (key_eq key k) q.rows new key k row refl (each k) parked
+
+same_part : {X : Type 0} (part : Row → X) (f : Row → Row) → ((r : Row) → part (f r) ≡ part r) → (b : Bool) (row : Row) → part (if b then f row else row) ≡ part row
+same_part part f same true row = same row
+same_part part f same false row = refl
+
+-- what is added waits for what it waited for
+pub found_by_adding : (q : Work) (new : List (Key × Row)) (key : Key) → IsFound q → ((k : Key) → row_in new k ≡ (if key_eq key k then added (row_in q.rows k) else row_in q.rows k))
+    → IsFound (record { rows = new; moments = q.moments; certificates = q.certificates; requests = q.requests; secrets = q.secrets })
+found_by_adding q new key so each = record {
+  timed = λ k at is. so.timed k at (sym (ap (λ (r : Row). r.timed) (each k) ∙ same_part (λ r. r.timed) added (λ r. refl) (key_eq key k) (row_in q.rows k)) ∙ is);
+  certificates = λ k p is. so.certificates k p (sym (stays k) ∙ is);
+  requests = λ k p is. so.requests k p (sym (stays k) ∙ is);
+  secrets = λ k p is. so.secrets k p (sym (stays k) ∙ is);
+} where
+  stays : (k : Key) → (row_in new k).parked ≡ (row_in q.rows k).parked
+  stays k = ap (λ (r : Row). r.parked) (each k) ∙ same_part (λ r. r.parked) added (λ r. refl) (key_eq key k) (row_in q.rows k)
 
 chosen : (b : Bool) (old at : ℤ) (due : List (ℤ × Key)) (key : Key) → is_noted due at key ≡ true → is_noted due old key ≡ true → is_noted due (if b then old else at) key ≡ true
 chosen true old at due key new before = before
@@ -194,3 +211,14 @@ timed_by_move kind to rows new due each so k at is = so k at (sym (ap (λ r. r.t
 
 pub parked_by_move : (other kind : Kind) (to : ℕ) (rows new : List (Key × Row)) (versions : List (ℕ × Key)) → ((k : Key) → row_in new k ≡ moved kind to (row_in rows k)) → IsParked other rows versions → IsParked other new versions
 parked_by_move other kind to rows new versions each so k p is = so k p (still_parked kind to (row_in rows k) p (sym (ap (λ r. r.parked) (each k)) ∙ is)).0
+
+-- ---- a key that is ready and to be looked at
+
+unknown_is : (work : Found) → is_unknown work ≡ true → work ≡ Unknown
+unknown_is Unknown on = refl
+unknown_is Nothing on = absurd (cc on)
+unknown_is Something on = absurd (cc on)
+
+-- stays as it is where it is added
+pub added_stays : (row : Row) → row.ready ≡ true → is_unknown row.work ≡ true → added row ≡ row
+added_stays row ready on = let work = unknown_is row.work on in λ i. record row { ready = sym ready i; work = sym work i }

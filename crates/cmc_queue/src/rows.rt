@@ -11,8 +11,8 @@ ghost use Rattle.cmc_queue.specs.Rows.{added, has_row, is_found, is_free, is_fre
 ghost use Rattle.cmc_queue.specs.Spots.{IsPlaceAbove, IsPutIn, IsRewritten};
 ghost use Rattle.std.specs.List.Sorted.{IsSorted};
 
-use crate::spots::{Spot, place_from, recount, shifted, spot_after};
 use crate::row::{Row, Sort};
+use crate::spots::{Spot, place_from, recount, shifted, spot_after};
 use cmc_meta::{Key, Kind};
 use indexmap::IndexMap;
 use std::alloc::{AllocError, Global};
@@ -161,6 +161,7 @@ impl Rows {
         ensures rows { (key : KeyValue) → slice_get self.old at ≡ Some (key, row) → (k : KeyValue) → row_in self.new k ≡ (if key_eq key k then added (row_in self.old k) else row_in self.old k) }
         ensures room { (k : KeyValue) → has_row self.new k ≡ has_row self.old k }
     {
+        let _len = self.map.len();
         if row.ready && row.work.is_unknown() {
             return;
         }
@@ -182,8 +183,10 @@ impl Rows {
     fn first_found(&self) -> Option<(usize, Row)>
         ensures at { IfSome result (λ p. (key : KeyValue) × (slice_get self.now p.0 ≡ Some (key, p.1))) }
         ensures found { IfSome result (λ p. is_found p.1 ≡ true) }
+        ensures row { IfSome result (λ p. (key : KeyValue) → slice_get self.now p.0 ≡ Some (key, p.1) → p.1 ≡ row_in self.now key) }
         ensures none { IfNone result ((k : KeyValue) → is_found (row_in self.now k) ≡ false) }
     {
+        let _len = self.map.len();
         let at = place_from(&self.map, Sort::Found, 0);
         match self.map.get_index(at) {
             Some((_key, row)) => Some((at, *row)),

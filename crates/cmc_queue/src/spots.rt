@@ -55,6 +55,7 @@ fn left(spot: Spot, map: &IndexMap<Key, Row>, sort: Sort, at: usize, was: Row, r
     requires off { qualifies sort row ≡ false }
     ensures { IsSpot (qualifies sort) map.now.entries result }
 {
+    let _len = map.len();
     let count = spot.count - 1;
     if count > 0 && at == spot.first {
         return Spot {
@@ -80,11 +81,17 @@ pub(crate) fn spot_after(
     requires { WasSpot (qualifies sort) map.now.entries at was row spot }
     ensures { IsSpot (qualifies sort) map.now.entries result }
 {
-    match (was.qualifies(sort), row.qualifies(sort)) {
-        (false, true) => entered(spot, map, sort, at, was, row),
-        (true, false) => left(spot, map, sort, at, was, row),
-        _ => spot,
+    let now = row.qualifies(sort);
+    if was.qualifies(sort) {
+        if now {
+            return spot;
+        }
+        return left(spot, map, sort, at, was, row);
     }
+    if now {
+        return entered(spot, map, sort, at, was, row);
+    }
+    spot
 }
 
 /// The count after one row has changed.

@@ -1,7 +1,7 @@
 use Rattle.std.proofs.Common.{arith, inl, inr}
 use Rattle.cmc_queue.specs.Rows.{qualifies}
 use Rattle.cmc_queue.proofs.Counts.{count_within}
-use Rattle.cmc_queue.proofs.FirstRows.{spot_entered, spot_same}
+use Rattle.cmc_queue.proofs.FirstRows.{spot_entered}
 use Rattle.cmc_queue.proofs.spots.entered.Goals as goal
 use Rattle.cmc_queue.proofs.spots.entered.Goals.{then-spot-eq0-via-then-spot-eq0, then-spot-eq0-via-else-spot-eq0+then-at-spot}
 
@@ -19,6 +19,6 @@ pub returns-then-spot-eq0 : goal.returns-then-spot-eq0
 returns-then-spot-eq0 c =
     let b = c.requires.before in
     elim c.then-spot-eq0.branch [
-      then-spot-eq0-via-then-spot-eq0 w ↦ spot_entered _ b.0 _ c.args.at c.args.was c.args.row b.1 c.args.spot b.2 c.requires.off c.requires.on (inl w.if-spot-eq0.true)
-    | then-spot-eq0-via-else-spot-eq0+then-at-spot w ↦ spot_entered _ b.0 _ c.args.at c.args.was c.args.row b.1 c.args.spot b.2 c.requires.off c.requires.on (inr w.if-at-spot.true)
+      | then-spot-eq0-via-then-spot-eq0 w ↦ spot_entered _ b.0 _ c.args.at c.args.was c.args.row b.1 c.args.spot b.2 c.requires.off c.requires.on (inl w.if-spot-eq0.true)
+      | then-spot-eq0-via-else-spot-eq0+then-at-spot w ↦ spot_entered _ b.0 _ c.args.at c.args.was c.args.row b.1 c.args.spot b.2 c.requires.off c.requires.on (inr w.if-at-spot.true)
     ]

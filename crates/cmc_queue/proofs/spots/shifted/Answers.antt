@@ -1,4 +1,4 @@
-use Rattle.cmc_queue.proofs.FirstRows.{spot_above, spot_below}
+use Rattle.cmc_queue.proofs.FirstRows.{spot_above}
 use Rattle.cmc_queue.proofs.spots.shifted.Goals as goal
 
 pub returns-then-at-spot : goal.returns-then-at-spot

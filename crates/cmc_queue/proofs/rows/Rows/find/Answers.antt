@@ -1,4 +1,4 @@
-use Rattle.std.proofs.Common.{◌≡◌, ap, sym, ◌∙◌, Some}
+use Rattle.std.proofs.Common.{ap, sym, ◌∙◌, Some}
 use Rattle.std.proofs.lemmas.Map.Made.{lookup_key_passes}
 use Rattle.cmc_meta.specs.declared.key.Key.{Key}
 use Rattle.cmc_meta.specs.Keys.{key_eq}

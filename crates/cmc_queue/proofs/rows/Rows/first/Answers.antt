@@ -1,4 +1,4 @@
-use Rattle.std.proofs.Common.{◌≡◌, ◌<◌, ap, arith, refl, sym, subst, ◌∙◌, Option}
+use Rattle.std.proofs.Common.{◌<◌, arith, refl, sym, subst, ◌∙◌, Option}
 use Rattle.cmc_meta.specs.declared.key.Key.{Key}
 use Rattle.cmc_queue.specs.Queues.{FindsFirst}
 use Rattle.cmc_queue.specs.Rows.{is_free, row_in}
