@@ -23,7 +23,7 @@ use Rattle.cmc_pass.specs.Giving.{value_of}
 use Rattle.cmc_queue.specs.Queues.{row_of, ChangesRow, ChangesRows, Work}
 use Rattle.cmc_queue.specs.declared.row.Row.{Row}
 use Rattle.cmc_queue.specs.Rows.{is_free, no_row, ticked}
-use Rattle.cmc_queue.proofs.Waits.{same_by_test}
+use Rattle.cmc_queue.proofs.OneRow.{same_by_test}
 use Rattle.cmc_model.specs.declared.write.Write.{Write}
 use Rattle.cmc_model.specs.Histories.{Setting, accepted, moment, role_eq, runs}
 use Rattle.cmc_model.specs.Writes.{is_known, writes}

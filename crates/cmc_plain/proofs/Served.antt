@@ -14,7 +14,7 @@ use Rattle.cmc_objects.specs.Watching.{kind_of_work}
 use Rattle.cmc_queue.specs.declared.row.Parked.{Parked}
 use Rattle.cmc_queue.specs.declared.row.Row.{Row}
 use Rattle.cmc_queue.specs.Rows.{is_free, moved, no_row, ticked}
-use Rattle.cmc_queue.proofs.Waits.{same_by_test}
+use Rattle.cmc_queue.proofs.OneRow.{same_by_test}
 use Rattle.cmc_model.specs.Histories.{Setting, moment, role_eq, runs}
 use Rattle.cmc_rules.specs.declared.progress.OpenPass.{OpenPass}
 use Rattle.cmc_rules.specs.Causes.{MayEnd}

@@ -30,7 +30,7 @@ use Rattle.cmc_rules.proofs.Carrying.{over_ask, over_begin, over_call, over_end,
 use Rattle.cmc_caches.specs.Affected.{is_among}
 use Rattle.cmc_moves.proofs.Sounds.{each_sound}
 use Rattle.cmc_moves.specs.Quiet.{no_views, IsQuiet}
-use Rattle.cmc_queue.proofs.Waits.{same_by_test}
+use Rattle.cmc_queue.proofs.OneRow.{same_by_test}
 use Rattle.cmc_waking.specs.Queues.{queue_in, row_at}
 use Rattle.cmc_waking.specs.Waking.{AreTended, IsKept, IsLooked, IsStanding, IsTended}
 use Rattle.cmc_waking.proofs.Promise.{idle_anywhere}

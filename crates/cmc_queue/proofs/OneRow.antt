@@ -23,8 +23,11 @@ tied Less h = absurd (cc)
 tied Equal h = refl
 tied Greater h = absurd (cc)
 
+pub same_key : (a b : Key) → is_eq (key_cmp a b) ≡ true → a ≡ b
+same_key a b h = key_cmp-IsAntisymmetric a b (tied (key_cmp a b) h)
+
 pub same_by_test : (a b : Key) → key_eq a b ≡ true → a ≡ b
-same_by_test a b e = key_cmp-IsAntisymmetric a b (tied (key_cmp a b) (key_tie a b ∙ e))
+same_by_test a b e = same_key a b (key_tie a b ∙ e)
 
 pub equal_keys : (k : Key) → key_eq k k ≡ true
 equal_keys k = sym (key_tie k k) ∙ ap is_eq (tied_itself key_cmp-total k)
