@@ -7,6 +7,7 @@ use Rattle.cmc_objects.specs.declared.role.Role.{Role}
 use Rattle.cmc_objects.specs.declared.role.Role.TheVariants.{Trigger, KeyManager, RequestManager, Approver, Issuer, Issuing, Readiness, Revision}
 use Rattle.cmc_objects.specs.declared.entry.Entry.{Entry}
 use Rattle.cmc_pass.specs.declared.pass.Act.{Act}
+use Rattle.cmc_pass.specs.declared.pass.Act.TheVariants as acts
 use Rattle.cmc_pass.specs.declared.pass.Desk.{Desk}
 use Rattle.cmc_pass.specs.declared.pass.Views.{Views}
 use Rattle.cmc_rules.specs.declared.progress.OpenPass.{OpenPass}
@@ -15,6 +16,7 @@ use Rattle.cmc_rules.specs.Desks.{desk}
 use Rattle.cmc_model.specs.Histories.{Setting, moment}
 use Rattle.cmc_rules.specs.Origins.{begun}
 use Rattle.cmc_rules.specs.Passes.{new_pass, open_pass}
+use Rattle.cmc_rules.specs.Resting.{IsIdle}
 use Rattle.cmc_rules.specs.Viewing.{views}
 use Rattle.cmc_moves.specs.Answers.{Leaves, beginning, is_done}
 use Rattle.cmc_moves.specs.Prospects.{IsFirstAct, IsProspect}
@@ -88,4 +90,22 @@ opened_both old mid new role key does begin done (Some first) same leaves tells 
       the_done begin on,
       subst (λ (w : Seen). (named : ℕ) → Leaves (setting_of w.scenario) w.history (moves.Next (begun (setting_of w.scenario) w.history) named) first new.history)
           (λ i. record { scenario = same i; history = grown i }) next.1,
+    )
+
+-- an idle pass has nothing to do
+pub idle_act : (old mid : Seen) (role : Role) (key : Key) (begin : Stepped) (done : Bool) → mid.scenario ≡ old.scenario → IsIdle (setting_of old.scenario) old.history role (views (setting_of old.scenario) old.history role key)
+    → Leaves (setting_of old.scenario) old.history (moves.Begin role key) begin mid.history → done ≡ is_done begin → done ≡ true → IsFirstAct (setting_of mid.scenario) mid.history (begun (setting_of mid.scenario) mid.history) acts.Nothing
+idle_act old mid role key begin done same idle leaves tells on =
+    let s = setting_of old.scenario in
+    let h = old.history in
+    let grown : mid.history ≡ beginning s h role key ∷ h = begun_is s h mid.history role key begin (sym tells ∙ on) leaves in
+    subst (λ (w : Seen). IsFirstAct (setting_of w.scenario) w.history (begun (setting_of w.scenario) w.history) acts.Nothing)
+    (λ i. record { scenario = (sym same) i; history = (sym grown) i })
+    (
+      new_pass role key (views s h role key) (moment s h),
+      record {
+        opened = opened_new s h role key;
+        fresh = refl;
+        acts = sym idle ∙ ap (λ (d : Desk). act role (views s h role key) (moment s h) d) (sym (desk_begun s h role role key (views s h role key)));
+      },
     )

@@ -1,25 +1,46 @@
 -- A begin keeps the queues right.
-use Rattle.std.proofs.Common.{◌≡◌, ℤ, List, Option, true, sym, ap, subst, ◌∙◌}
+use Rattle.std.proofs.Common.{◌≡◌, ℤ, List, Option, Some, None, Bool, true, false, refl, sym, ap, subst, ◌∙◌, int_le}
+use Rattle.std.specs.Prelude.{IfSome, if◌then◌else◌}
 use Rattle.cmc_meta.specs.declared.key.Key.{Key}
+use Rattle.cmc_meta.specs.Keys.{key_eq}
+use Rattle.cmc_objects.specs.declared.entry.Entry.{Entry}
+use Rattle.cmc_objects.specs.declared.entry.Positions.{Positions}
+use Rattle.cmc_objects.specs.declared.orders.Rules.{Rules}
 use Rattle.cmc_objects.specs.declared.role.Role.{Role}
+use Rattle.cmc_pass.specs.declared.pass.Act.{Act}
 use Rattle.cmc_pass.specs.declared.pass.Views.{Views}
+use Rattle.cmc_queue.specs.declared.row.Found.{Found}
+use Rattle.cmc_queue.specs.declared.row.Found.TheVariants as found
+use Rattle.cmc_queue.specs.declared.row.Parked.{Parked}
 use Rattle.cmc_queue.specs.declared.row.Row.{Row}
-use Rattle.cmc_queue.specs.Queues.{ChangesRow, Work}
-use Rattle.cmc_queue.specs.Rows.{is_free}
-use Rattle.cmc_model.specs.Histories.{moment}
+use Rattle.cmc_queue.specs.Queues.{has_room, row_of, ChangesRow, Work}
+use Rattle.cmc_queue.specs.Rows.{earlier, is_free}
+use Rattle.cmc_queue.proofs.OneRow.{same_by_test}
+use Rattle.cmc_queue.proofs.Waits.{free_has_row}
+use Rattle.cmc_model.specs.Histories.{Setting, moment, runs}
+use Rattle.cmc_rules.specs.declared.progress.Past.{Past}
+use Rattle.cmc_rules.specs.Memory.{past}
+use Rattle.cmc_rules.specs.Origins as origins
+use Rattle.cmc_rules.specs.Passes.{IsWorking}
+use Rattle.cmc_rules.specs.Positions.{positions}
 use Rattle.cmc_rules.specs.Runs.{IsRun}
+use Rattle.cmc_rules.specs.Sameness.{IsDue}
 use Rattle.cmc_rules.specs.Sound.{IsDueMoment}
 use Rattle.cmc_rules.specs.Viewing.{views}
-use Rattle.cmc_moves.specs.Answers.{is_done, AnswersBegin, Leaves}
+use Rattle.cmc_moves.specs.Answers.{is_done, AnswersBegin, IsQueued, Leaves}
+use Rattle.cmc_moves.specs.Prospects.{IsFirstAct}
 use Rattle.cmc_moves.specs.declared.moves.Move.TheVariants as moves
 use Rattle.cmc_moves.specs.declared.moves.Stepped.{Stepped}
 use Rattle.cmc_moves.specs.declared.moves.Stepped.TheVariants as answers
 use Rattle.cmc_moves.proofs.Tables.{may_begin, the_done}
-use Rattle.cmc_waking.specs.Feeding.{begun}
+use Rattle.cmc_waking.specs.Feeding.{begun, timed_too}
 use Rattle.cmc_waking.specs.Queues.{queue_in, row_at, KeepsOthers}
+use Rattle.cmc_waking.specs.Waking.{IsKept, IsTended, IsTimed}
 use Rattle.cmc_world.specs.Kept.{Seen, setting_of, on}
 use Rattle.cmc_plain.specs.DueMoments.{IsFirstAfter}
 use Rattle.cmc_plain.specs.Fed.{IsFed}
+use Rattle.cmc_plain.specs.Keeping.{act_if_any, IsKeptRight}
+use Rattle.cmc_plain.specs.declared.kept.Kept.TheVariants as kept
 use Rattle.cmc_plain.specs.Plain.{Fits}
 use Rattle.cmc_plain.proofs.Feeding.{fed_begins}
 use Rattle.cmc_plain.proofs.Finding.{fit_free}
@@ -47,3 +68,71 @@ begun_done old new role key own seen next before mid after answer same run scena
     (fit_free (setting_of old.scenario) old.history role key mid fed_mid fits)
     (timed_first role (on views old role key) (on moment old) next (subst (λ (v : Views). IsFirstAfter (on moment old) (IsDueMoment role v) next) sees first))
     (subst (λ (k : Key). ChangesRow (begun next) k (queue_in mid role) (queue_in after role)) same changed) others fed_mid
+
+-- ---- a begin by what the row says
+
+-- a key that fits has a row
+pub fit_room : (w : Seen) (role : Role) (key own : Key) (queues : List Work) → own ≡ key → on IsFed w queues → on Fits w role key → has_room (queue_in queues role) own ≡ true
+fit_room w role key own queues same fed fits =
+    subst (λ (k : Key). has_room (queue_in queues role) k ≡ true) (sym same)
+    (free_has_row (queue_in queues role).rows key (fit_free (setting_of w.scenario) w.history role key queues fed fits))
+
+-- a pass that is due on a key of the queue fits
+pub due_fits : (w : Seen) (role : Role) (key : Key) (seen : Views) → on runs w role ≡ true → (on IsWorking w role key → ⊥) → IsDue (on past w role key) seen (on moment w) (positions w.history role) → on IsQueued w role key → seen ≡ on views w role key → on Fits w role key
+due_fits w role key seen up free due queued sees =
+    record {
+      may = record { running = up; idle = free; due = subst (λ (v : Views). IsDue (on past w role key) v (on moment w) (positions w.history role)) sees due; work = queued.work; known = queued.known };
+      worth = queued.worth;
+    }
+
+-- a key that fits is in the queue
+pub fit_queued : (w : Seen) (role : Role) (key : Key) → on Fits w role key → on IsQueued w role key
+fit_queued w role key f = record { work = f.may.work; known = f.may.known; worth = f.worth }
+
+pub fit_due : (w : Seen) (role : Role) (key : Key) (seen : Views) → seen ≡ on views w role key → on Fits w role key → IsDue (on past w role key) seen (on moment w) (positions w.history role)
+fit_due w role key seen sees f = subst (λ (v : Views). IsDue (on past w role key) v (on moment w) (positions w.history role)) (sym sees) f.may.due
+
+-- a row on which a look found nothing to do is timed
+news_by : (working ready : Bool) (work : Found) (role : Role) (rules : Rules) (past : Past) (seen : Views) (now : ℤ) (at : Positions) (timed : Option ℤ) (parked : Option Parked) → working ≡ false → ready ≡ true → work ≡ found.Nothing
+    → IsKept working role rules past seen now at (record { ready = ready; work = work; working = working; parked = parked; timed = timed }) → IsTimed role seen now timed
+news_by false true found.Nothing role rules past seen now at timed parked off on is kept = kept.timed
+news_by false true found.Unknown role rules past seen now at timed parked off on is kept = absurd (cc is)
+news_by false true found.Something role rules past seen now at timed parked off on is kept = absurd (cc is)
+news_by false false work role rules past seen now at timed parked off on is kept = absurd (cc on)
+news_by true ready work role rules past seen now at timed parked off on is kept = absurd (cc off)
+
+pub news_timed : (s : Setting) (h : List Entry) (role : Role) (key : Key) (row : Row) → runs s h role ≡ true → row.working ≡ false → row.ready ≡ true → row.work ≡ found.Nothing → IsTended s h role key row → IsTimed role (views s h role key) (moment s h) row.timed
+unfolding IsTended
+news_timed s h role key row up off on is tended =
+    news_by row.working row.ready row.work role s.rules (past s h role key) (views s h role key) (moment s h) (positions h role) row.timed row.parked off on is (tended.kept up)
+
+-- a key that is timed stays so as it is taken
+earlier_same : (b : Bool) (t : ℤ) → (if b then t else t) ≡ t
+earlier_same true t = refl
+earlier_same false t = refl
+
+earliest_twice : (t : ℤ) (o : Option ℤ) → o ≡ Some t → earlier t o ≡ t
+earliest_twice t None is = absurd (cc is)
+earliest_twice t (Some u) is = let same : u ≡ t = cc is in subst (λ (x : ℤ). (if int_le x t then x else t) ≡ t) (sym same) (earlier_same (int_le t t) t)
+
+timed_again : (o : Option ℤ) (b : Bool) (row : Row) → row.timed ≡ o → timed_too None (if b then record row { ready = false; work = found.Unknown; working = true } else row) ≡ timed_too o (if b then record row { ready = false; work = found.Unknown; working = true } else row)
+timed_again None b row is = refl
+timed_again (Some t) true row is = λ i. record row { ready = false; work = found.Unknown; working = true; timed = (is ∙ ap Some (sym (earliest_twice t row.timed is))) i }
+timed_again (Some t) false row is = λ i. record row { timed = (is ∙ ap Some (sym (earliest_twice t row.timed is))) i }
+
+pub begun_timed : (row : Row) → begun None row ≡ begun row.timed row
+begun_timed row = timed_again row.timed (is_free row) row refl
+
+begun_here : (b : Bool) (old : Work) (key k : Key) (row : Row) → key_eq key k ≡ b → row ≡ (if b then begun None (row_of old k) else row_of old k) → row ≡ (if b then begun (row_of old key).timed (row_of old k) else row_of old k)
+begun_here true old key k row is at = at ∙ begun_timed (row_of old k) ∙ ap (λ (q : Key). begun (row_of old q).timed (row_of old k)) (sym (same_by_test key k is))
+begun_here false old key k row is at = at
+
+-- so its next due moment need not be noted again
+pub begun_none : (key : Key) (old new : Work) → ChangesRow (begun None) key old new → ChangesRow (begun (row_of old key).timed) key old new
+begun_none key old new rows k = begun_here (key_eq key k) old key k (row_of new k) refl (rows k)
+
+-- what is kept of a pass that was begun, or not
+pub kept_begun : (s : Setting) (h : List Entry) (b : Bool) (does : Option Act) → (b ≡ true → IfSome does (IsFirstAct s h (origins.begun s h))) → IsKeptRight s h (if b then act_if_any does else kept.Nothing)
+kept_begun s h true None first = tt
+kept_begun s h true (Some does) first = first refl
+kept_begun s h false does first = tt

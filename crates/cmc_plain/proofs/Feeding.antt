@@ -30,6 +30,7 @@ use Rattle.cmc_model.specs.Writes.{is_known, writes}
 use Rattle.cmc_rules.specs.declared.effect.Effect.{Effect}
 use Rattle.cmc_rules.specs.declared.effect.Effect.TheVariants as effects
 use Rattle.cmc_rules.specs.declared.progress.Ending.{Ending}
+use Rattle.cmc_rules.specs.declared.progress.Ending.TheVariants as endings
 use Rattle.cmc_rules.specs.declared.progress.OpenPass.{OpenPass}
 use Rattle.cmc_rules.specs.declared.progress.Stage.{Stage}
 use Rattle.cmc_rules.specs.declared.progress.Stage.TheVariants as stages
@@ -58,7 +59,7 @@ use Rattle.cmc_waking.specs.Queues.{queue_in, row_at, KeepsOthers}
 use Rattle.cmc_waking.specs.Waking.{IsTimed}
 use Rattle.cmc_waking.proofs.Owners.{same_role}
 use Rattle.cmc_world.specs.Kept.{Seen, setting_of, on}
-use Rattle.cmc_plain.specs.Fed.{AreAffected, AreKnownKeys, HasRoomsToEnd, IsAhead, IsClosing, IsClosingOf, IsFed, IsGoing, IsOfStore, IsStarting, IsToClose, IsToTurn, IsToldUpTo}
+use Rattle.cmc_plain.specs.Fed.{AreAffected, AreKnownKeys, HasRoomsToEnd, IsAhead, IsClosing, IsClosingOf, IsFed, IsGoing, IsOfStore, IsWrote, IsStarting, IsToClose, IsToTurn, IsToldUpTo}
 use Rattle.cmc_plain.specs.declared.fed_passes.Closing.{Closing}
 use Rattle.cmc_plain.specs.declared.fed_scripts.Ahead.{Ahead}
 use Rattle.cmc_plain.specs.declared.fed_scripts.Ahead.TheVariants as ahead
@@ -270,6 +271,13 @@ stays_fed s h k pass queues legal (inr (inl (e, silent, is))) fed still after = 
 stays_fed s h k pass queues legal (inr (inr (cause, may, is))) fed (inl stands) after = absurd (ended_closed s h pass cause (subst (λ (g : List Entry). IsOpen (open_pass s g pass)) is stands))
 stays_fed s h k pass queues legal (inr (inr (cause, may, is))) fed (inr none) after = absurd (not_open (open_pass s h pass) none (ends_open s h pass cause (subst (IsLegal s) is after)))
 
+-- the role's own writes count after a write alone
+closed_same : (ending : Ending) (own other at : Positions) (row : Row) → (IsWrote ending → own ≡ other) → closed ending own at row ≡ closed ending other at row
+closed_same endings.Open own other at row same = refl
+closed_same endings.Nothing own other at row same = refl
+closed_same endings.Wrote own other at row same = ap (λ (p : Positions). closed endings.Wrote p at row) (same tt)
+closed_same (endings.Refused obstacle) own other at row same = refl
+
 ends_fed : (s : Setting) (h k : List Entry) (pass : ℕ) (c : Closing) (queues new : List Work) → IsLegal s h → IsGrown s h pass k → IsClosingOf s h pass c → IsFed s h queues → open_pass s k pass ≡ None
     → ChangesRow (closed c.ending c.own c.at) c.key (queue_in queues c.role) (queue_in new c.role) → KeepsOthers c.role queues new → IsFed s k new
 ends_fed s h k pass c queues new legal (inl is) closing fed none rows others =
@@ -278,11 +286,11 @@ ends_fed s h k pass c queues new legal (inr (inl (e, silent, is))) closing fed n
     absurd (not_open (open_pass s (e ∷ h) pass) (subst (λ (g : List Entry). open_pass s g pass ≡ None) is none) (stays_open s h e pass silent (open_by c.role c.key (open_pass s h pass) closing.mine)))
 ends_fed s h k pass c queues new legal (inr (inr (cause, may, is))) closing fed none rows others =
     let ending : c.ending ≡ ending_of (open_pass s h pass) = closing.ending in
-    let own : c.own ≡ (past s h c.role c.key).own = closing.own in
+    let own : (row : Row) → closed c.ending c.own c.at row ≡ closed c.ending (past s h c.role c.key).own c.at row = λ row. closed_same c.ending c.own (past s h c.role c.key).own c.at row closing.own in
     let at : c.at ≡ positions h c.role = closing.at in
     subst (λ (g : List Entry). IsFed s g new) (sym is)
     (fed_ended s h pass cause c.role c.key queues new legal may closing.mine (work_by c.role c.key (open_pass s h pass) closing.mine (on_work s h pass legal))
-    (subst (λ (f : Row → Row). ChangesRow f c.key (queue_in queues c.role) (queue_in new c.role)) (λ i row. closed (ending i) (own i) (at i) row) rows) others fed)
+    (subst (λ (f : Row → Row). ChangesRow f c.key (queue_in queues c.role) (queue_in new c.role)) (λ i row. closed (ending i) (past s h c.role c.key).own (at i) row) (λ k. rows k ∙ ap (λ (r : Row). if key_eq c.key k then r else row_at queues c.role k) (own (row_at queues c.role k)))) others fed)
 
 close_by : (closing : Option Closing) (s : Setting) (h k : List Entry) (pass : ℕ) (queues : List Work) → IsLegal s h → IsLegal s k → IsGrown s h pass k → IsClosing s h pass closing → IsFed s h queues → IsToClose s k pass closing queues
 close_by None s h k pass queues legal after grown none fed = stays_fed s h k pass queues legal grown fed (inr none) after

@@ -46,3 +46,5 @@ pub mod Undue
 pub mod KnownKeys
 pub mod BeginsFed
 pub mod Telling
+pub mod Pairs
+pub mod KeptActs

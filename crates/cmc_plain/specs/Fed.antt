@@ -15,6 +15,8 @@ use Rattle.cmc_model.specs.Writes.{is_known, writes}
 use Rattle.cmc_rules.specs.declared.effect.Effect.{Effect}
 use Rattle.cmc_rules.specs.declared.effect.Effect.TheVariants as effects
 use Rattle.cmc_rules.specs.Legality.{IsOpen}
+use Rattle.cmc_rules.specs.declared.progress.Ending.{Ending}
+use Rattle.cmc_rules.specs.declared.progress.Ending.TheVariants as endings
 use Rattle.cmc_rules.specs.Memory.{ending_of, past}
 use Rattle.cmc_rules.specs.Passes.{is_pass_of, open_pass, IsWorking}
 use Rattle.cmc_rules.specs.Positions.{position, positions}
@@ -63,11 +65,16 @@ IsGoing pass (moves.Give n named given) = n ≡ pass
 IsGoing pass (moves.Decide n named d) = n ≡ pass
 IsGoing pass other = ⊥
 
+-- the role's own write is what the pass ended with
+abbrev pub IsWrote : Ending → Type 0
+IsWrote endings.Wrote = Unit {0}
+IsWrote other = ⊥
+
 -- how the open pass would end
 pub record IsClosingOf (s : Setting) (h : List Entry) (pass : ℕ) (c : Closing) : Type 0 where
   pub mine : is_pass_of c.role c.key (open_pass s h pass) ≡ true
   pub ending : c.ending ≡ ending_of (open_pass s h pass)
-  pub own : c.own ≡ (past s h c.role c.key).own
+  pub own : IsWrote c.ending → c.own ≡ (past s h c.role c.key).own
   pub at : c.at ≡ positions h c.role
 
 abbrev pub IsClosing : Setting → List Entry → ℕ → Option Closing → Type 0
@@ -78,6 +85,11 @@ IsClosing s h pass (Some c) = IsClosingOf s h pass c
 pub record HasRoomsFor (c : Closing) (queues : List Work) : Type 0 where
   pub row : has_room (queue_in queues c.role) c.key ≡ true
   pub place : HasPlaceFor (waits_for c.ending c.own c.at) c.key (queue_in queues c.role)
+
+-- its key has a row
+abbrev pub HasRow : Option Closing → List Work → Type 0
+HasRow None queues = Unit {0}
+HasRow (Some c) queues = has_room (queue_in queues c.role) c.key ≡ true
 
 abbrev pub HasRoomsToEnd : Option Closing → List Work → Type 0
 HasRoomsToEnd None queues = Unit {0}

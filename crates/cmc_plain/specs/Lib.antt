@@ -10,3 +10,4 @@ pub mod Openings
 pub mod DueMoments
 pub mod Fed
 pub mod Looks
+pub mod Keeping

@@ -1,5 +1,5 @@
 //! A pass begins, and its key is in process.
-ghost use Rattle.std.specs.Prelude.{◌≡◌, ℕ, IfOk, OnErr, OnOk, true};
+ghost use Rattle.std.specs.Prelude.{◌≡◌, ℕ, IfOk, OnErr, OnOk, false, true};
 ghost use Rattle.cmc_meta.specs.declared.key.Key.{Key as KeyValue};
 ghost use Rattle.cmc_objects.specs.declared.role.Role.{Role as RoleValue};
 ghost use Rattle.cmc_model.specs.Histories.{moment, runs};
@@ -17,6 +17,10 @@ ghost use Rattle.cmc_waking.specs.Queues.{queue_in, row_at, HasPlaceAt};
 ghost use Rattle.cmc_world.specs.Kept.{on};
 ghost use Rattle.cmc_plain.specs.DueMoments.{HasDatedMoments, IsFirstAfter};
 ghost use Rattle.cmc_plain.specs.Fed.{IsFed};
+ghost use Rattle.cmc_plain.specs.Keeping.{IsKeptRight};
+ghost use Rattle.cmc_plain.specs.Searches.{IsWork};
+ghost use Rattle.cmc_queue.specs.Rows.{is_free, is_unknown};
+ghost use Rattle.cmc_queue.specs.declared.row.Found.TheVariants as found;
 
 use crate::due::due_after;
 use crate::kept::{Kept, kept_of};
@@ -78,7 +82,13 @@ pub(crate) fn place_at(
     role: Role,
     key: &Key,
     next: Option<i64>,
-) -> Result<(), AllocError> {
+) -> Result<(), AllocError>
+    requires { has_room (queue_in queues.old role) key.now ≡ true }
+    ensures made { has_room (queue_in queues.new role) key.now ≡ true }
+    ensures place { OnOk result (HasPlaceAt next key.now (queue_in queues.new role)) }
+    ensures rows { (r : RoleValue) → (k : KeyValue) → row_at queues.new r k ≡ row_at queues.old r k }
+    ensures fresh { fresh_count (queue_in queues.new role).rows ≡ fresh_count (queue_in queues.old role).rows }
+{
     match next {
         Some(at) => queues.place_at(role, key, at),
         None => Ok(()),
@@ -153,7 +163,20 @@ fn begin_found(
     world: &mut World,
     queues: &mut Queues,
     opening: Opening,
-) -> Result<(Stepped, Kept), AllocError> {
+) -> Result<(Stepped, Kept), AllocError>
+    requires fed { on IsFed world.old queues.old }
+    requires work { on IsWork world.old opening.role opening.key opening }
+    ensures answer { IfOk result (λ r. on Answers world.old (moves.Begin opening.role opening.key) r.0) }
+    ensures leaves { IfOk result (λ r. on Leaves world.old (moves.Begin opening.role opening.key) r.0 world.new.history) }
+    ensures scenario { world.new.scenario ≡ world.old.scenario }
+    ensures run { on IsRun world.new }
+    ensures err { OnErr result (world.new ≡ world.old) }
+    ensures fed { on IsFed world.new queues.new }
+    ensures kept { IfOk result (λ r. on IsKeptRight world.new r.1) }
+{
+    world.is_run();
+    world.is_formed();
+    world.can_act();
     let (role, key, seen, does) = opening.into_parts();
     let answer = match begin_due(world, queues, role, key, seen) {
         Ok(answer) => answer,
@@ -174,7 +197,20 @@ fn begin_idle(
     queues: &mut Queues,
     role: Role,
     key: Key,
-) -> Result<(Stepped, Kept), AllocError> {
+) -> Result<(Stepped, Kept), AllocError>
+    requires fed { on IsFed world.old queues.old }
+    requires running { on runs world.old role ≡ true }
+    requires free { is_free (row_at queues.old role key) ≡ true }
+    requires nothing { (row_at queues.old role key).work ≡ found.Nothing }
+    ensures answer { IfOk result (λ r. on Answers world.old (moves.Begin role key) r.0) }
+    ensures leaves { IfOk result (λ r. on Leaves world.old (moves.Begin role key) r.0 world.new.history) }
+    ensures scenario { world.new.scenario ≡ world.old.scenario }
+    ensures run { on IsRun world.new }
+    ensures err { OnErr result (world.new ≡ world.old) }
+    ensures fed { on IsFed world.new queues.new }
+    ensures kept { IfOk result (λ r. on IsKeptRight world.new r.1) }
+{
+    world.is_run();
     let seen = dated_views(alloc, world, role, &key)?;
     let own = key.copy()?;
     let answer = world.begin_due(role, key, seen)?;
@@ -193,7 +229,21 @@ fn begin_looked(
     role: Role,
     key: Key,
     work: Found,
-) -> Result<(Stepped, Kept), AllocError> {
+) -> Result<(Stepped, Kept), AllocError>
+    requires fed { on IsFed world.old queues.old }
+    requires running { on runs world.old role ≡ true }
+    requires free { is_free (row_at queues.old role key) ≡ true }
+    requires looked { is_unknown work ≡ false }
+    requires work { work ≡ (row_at queues.old role key).work }
+    ensures answer { IfOk result (λ r. on Answers world.old (moves.Begin role key) r.0) }
+    ensures leaves { IfOk result (λ r. on Leaves world.old (moves.Begin role key) r.0 world.new.history) }
+    ensures scenario { world.new.scenario ≡ world.old.scenario }
+    ensures run { on IsRun world.new }
+    ensures err { OnErr result (world.new ≡ world.old) }
+    ensures fed { on IsFed world.new queues.new }
+    ensures kept { IfOk result (λ r. on IsKeptRight world.new r.1) }
+{
+    world.is_run();
     if !work.may_work() {
         return begin_idle(alloc, world, queues, role, key);
     }
@@ -210,13 +260,22 @@ fn begin_by_row(
     queues: &mut Queues,
     role: Role,
     key: Key,
-) -> Result<(Stepped, Kept), AllocError> {
+) -> Result<(Stepped, Kept), AllocError>
+    requires fed { on IsFed world.old queues.old }
+    ensures answer { IfOk result (λ r. on Answers world.old (moves.Begin role key) r.0) }
+    ensures leaves { IfOk result (λ r. on Leaves world.old (moves.Begin role key) r.0 world.new.history) }
+    ensures scenario { world.new.scenario ≡ world.old.scenario }
+    ensures run { on IsRun world.new }
+    ensures err { OnErr result (world.new ≡ world.old) }
+    ensures fed { on IsFed world.new queues.new }
+    ensures kept { IfOk result (λ r. on IsKeptRight world.new r.1) }
+{
     let row = queues.queue(role).row(&key);
-    if !row.is_free() || row.work.is_unknown() || !world.runs(role) {
-        let answer = begin(alloc, world, queues, role, key)?;
-        return Ok((answer, Kept::Nothing));
+    if row.is_free() && !row.work.is_unknown() && world.runs(role) {
+        return begin_looked(alloc, world, queues, role, key, row.work);
     }
-    begin_looked(alloc, world, queues, role, key, row.work)
+    let answer = begin(alloc, world, queues, role, key)?;
+    Ok((answer, Kept::Nothing))
 }
 
 /// Begins a pass of the role on the key, as `World::step` does, by what was kept of it.
@@ -227,7 +286,17 @@ pub(crate) fn begin_kept(
     role: Role,
     key: Key,
     kept: Kept,
-) -> Result<(Stepped, Kept), AllocError> {
+) -> Result<(Stepped, Kept), AllocError>
+    requires fed { on IsFed world.old queues.old }
+    requires kept { on IsKeptRight world.old kept }
+    ensures answer { IfOk result (λ r. on Answers world.old (moves.Begin role key) r.0) }
+    ensures leaves { IfOk result (λ r. on Leaves world.old (moves.Begin role key) r.0 world.new.history) }
+    ensures scenario { world.new.scenario ≡ world.old.scenario }
+    ensures run { on IsRun world.new }
+    ensures err { OnErr result (world.new ≡ world.old) }
+    ensures fed { on IsFed world.new queues.new }
+    ensures kept { IfOk result (λ r. on IsKeptRight world.new r.1) }
+{
     match kept.pass_on(role, &key) {
         Some(opening) => begin_found(world, queues, opening),
         None => begin_by_row(alloc, world, queues, role, key),

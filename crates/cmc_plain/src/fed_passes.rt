@@ -11,13 +11,14 @@ ghost use Rattle.cmc_moves.specs.declared.moves.Move.TheVariants as moves;
 ghost use Rattle.cmc_waking.specs.Parking.{waits_for};
 ghost use Rattle.cmc_waking.specs.Queues.{row_at};
 ghost use Rattle.cmc_world.specs.Kept.{on};
-ghost use Rattle.cmc_plain.specs.Fed.{HasRoomsToEnd, IsClosing, IsFed, IsGoing, IsToClose};
+ghost use Rattle.cmc_plain.specs.Fed.{HasRoomsToEnd, HasRow, IsClosing, IsFed, IsGoing, IsToClose, IsWrote};
+ghost use Rattle.cmc_rules.specs.Memory.{past};
 
 use cmc_meta::Key;
 use cmc_moves::{ending_at, let_go};
 use cmc_objects::{Positions, Role};
 use cmc_pass::Act;
-use cmc_rules::{Ending, Past, Stage};
+use cmc_rules::{Ending, Past};
 use cmc_waking::{Queues, parked_after};
 use cmc_world::{Move, Stepped, World};
 use std::alloc::{AllocError, Global};
@@ -48,9 +49,14 @@ pub(crate) fn own_of(past: Option<&Past>) -> Positions
     }
 }
 
-/// Whether a pass that has come to the stage may end by its next move. One that waits for a value, or has got one, does not.
-fn may_end(stage: &Stage) -> bool {
-    !matches!(stage, Stage::Asked { .. } | Stage::Given { .. })
+/// The role's own writes on the key, where they count for what the key waits for after a pass that ended so.
+fn own_after(world: &World, ending: Ending, role: Role, key: &Key) -> Positions
+    ensures { IsWrote ending → result ≡ (on past world.now role key.now).own }
+{
+    match ending {
+        Ending::Wrote => own_of(world.past(role, key)),
+        _ => own_of(None),
+    }
 }
 
 /// How the pass would end; `None` exactly where it is not open.
@@ -60,15 +66,9 @@ fn closing_of(world: &World, pass: u64) -> Result<Option<Closing>, AllocError>
     let Some(open) = world.passes().get(pass) else {
         return Ok(None);
     };
-    if !may_end(&open.stage) {
-        return Ok(None);
-    }
     let key = open.key.copy()?;
     let ending = ending_at(&open.stage);
-    let own = match ending {
-        Ending::Wrote => own_of(world.past(open.role, &key)),
-        _ => own_of(None),
-    };
+    let own = own_after(world, ending, open.role, &key);
     Ok(Some(Closing {
         role: open.role,
         key,
@@ -80,6 +80,7 @@ fn closing_of(world: &World, pass: u64) -> Result<Option<Closing>, AllocError>
 
 /// Makes room for the key of a pass that may end, and for the version that it waits for then, if there is one. No row changes.
 fn room_to_end(queues: &mut Queues, closing: &Option<Closing>) -> Result<(), AllocError>
+    requires { HasRow closing.now queues.old }
     ensures made { OnOk result (HasRoomsToEnd closing.now queues.new) }
     ensures rows { (r : RoleValue) → (k : KeyValue) → row_at queues.new r k ≡ row_at queues.old r k }
 {
@@ -114,21 +115,18 @@ fn close(world: &World, queues: &mut Queues, pass: u64, closing: Option<Closing>
     queues.ended(role, &key, ending, own, at);
 }
 
-/// Gives the pass a value, as `World::step` does.
-pub(crate) fn give(
-    alloc: Global,
-    world: &mut World,
-    step: Move,
-) -> Result<Stepped, AllocError> {
-    world.step(alloc, step)
-}
 
 /// How the pass may end by its next move, with room for that; `None` where it does not.
 fn ready_to_end(
     world: &World,
     queues: &mut Queues,
     pass: u64,
-) -> Result<Option<Closing>, AllocError> {
+) -> Result<Option<Closing>, AllocError>
+    requires { on IsFed world.now queues.old }
+    ensures closing { IfOk result (λ c. on IsClosing world.now pass c) }
+    ensures made { IfOk result (λ c. HasRoomsToEnd c queues.new) }
+    ensures rows { (r : RoleValue) → (k : KeyValue) → row_at queues.new r k ≡ row_at queues.old r k }
+{
     let closing = closing_of(world, pass)?;
     room_to_end(queues, &closing)?;
     Ok(closing)
@@ -141,7 +139,15 @@ pub(crate) fn go_next(
     queues: &mut Queues,
     pass: u64,
     incarnation: u64,
-) -> Result<Stepped, AllocError> {
+) -> Result<Stepped, AllocError>
+    requires { on IsFed world.old queues.old }
+    ensures answer { IfOk result (λ r. on Answers world.old (moves.Next pass incarnation) r) }
+    ensures leaves { IfOk result (λ r. on Leaves world.old (moves.Next pass incarnation) r world.new.history) }
+    ensures scenario { world.new.scenario ≡ world.old.scenario }
+    ensures run { on IsRun world.new }
+    ensures err { OnErr result (world.new ≡ world.old) }
+    ensures fed { on IsFed world.new queues.new }
+{
     world.is_run();
     let closing = ready_to_end(world, queues, pass)?;
     let answer = world.step(alloc, Move::Next { pass, incarnation })?;
@@ -167,17 +173,13 @@ pub(crate) fn go_on(
     ensures fed { on IsFed world.new queues.new }
 {
     world.is_run();
-    let closing = match closing_of(world, pass) {
+    let closing = match ready_to_end(world, queues, pass) {
         Ok(closing) => closing,
         Err(lack) => {
             let_go(step);
             return Err(lack);
         }
     };
-    if let Err(lack) = room_to_end(queues, &closing) {
-        let_go(step);
-        return Err(lack);
-    }
     let answer = world.step(alloc, step)?;
     close(world, queues, pass, closing);
     Ok(answer)
@@ -201,20 +203,13 @@ pub(crate) fn act_first(
     ensures fed { on IsFed world.new queues.new }
 {
     world.is_run();
-    if !matches!(&does, Act::Nothing) {
-        return world.act_first(alloc, pass, does);
-    }
-    let closing = match closing_of(world, pass) {
+    let closing = match ready_to_end(world, queues, pass) {
         Ok(closing) => closing,
         Err(lack) => {
             let_go(does);
             return Err(lack);
         }
     };
-    if let Err(lack) = room_to_end(queues, &closing) {
-        let_go(does);
-        return Err(lack);
-    }
     let answer = world.act_first(alloc, pass, does)?;
     close(world, queues, pass, closing);
     Ok(answer)

@@ -4,6 +4,7 @@ ghost use Rattle.cmc_moves.specs.declared.moves.Move.TheVariants.{Script};
 ghost use Rattle.cmc_world.specs.Kept.{on};
 ghost use Rattle.cmc_plain.specs.Plain.{HasNoDelivery, HasNoPass, IsPlainMove};
 ghost use Rattle.cmc_plain.specs.Fed.{IsFed};
+ghost use Rattle.cmc_plain.specs.Keeping.{IsKeptRight};
 ghost use Rattle.cmc_plain.specs.Searches.{IsLeft};
 
 use crate::begins::{Beginning, first_begin};
@@ -36,8 +37,10 @@ fn first_to_begin(
     requires closed { on HasNoPass world.now }
     requires told { on HasNoDelivery world.now }
     requires fed { on IsFed world.now queues.old }
+    requires kept { on IsKeptRight world.now kept.old }
     ensures plain { IfOk result (λ m. on IsPlainMove world.now m) }
     ensures fed { on IsFed world.now queues.new }
+    ensures kept { on IsKeptRight world.now kept.new }
 {
     world.is_run();
     world.is_settled();
@@ -60,8 +63,10 @@ fn first_of_roles(
 ) -> Result<Option<Move>, AllocError>
     requires left { on IsLeft world.now left }
     requires fed { on IsFed world.now queues.old }
+    requires kept { on IsKeptRight world.now kept.old }
     ensures plain { IfOk result (λ m. on IsPlainMove world.now m) }
     ensures fed { on IsFed world.now queues.new }
+    ensures kept { on IsKeptRight world.now kept.new }
 {
     if let Some(going) = first_pass(world) {
         return Ok(Some(Move::Next {
@@ -93,8 +98,10 @@ pub(crate) fn plain_by(
     kept: &mut Kept,
 ) -> Result<Option<Move>, AllocError>
     requires fed { on IsFed world.now queues.old }
+    requires kept { on IsKeptRight world.now kept.old }
     ensures plain { IfOk result (λ m. on IsPlainMove world.now m) }
     ensures fed { on IsFed world.now queues.new }
+    ensures kept { on IsKeptRight world.now kept.new }
 {
     match awaited(world) {
         Awaits::Nothing => Ok(Some(Move::Script)),

@@ -5,6 +5,7 @@ ghost use Rattle.cmc_rules.specs.Runs.{IsRun};
 ghost use Rattle.cmc_moves.specs.Prospects.{IsFirstAct};
 ghost use Rattle.cmc_world.specs.Kept.{on};
 ghost use Rattle.cmc_plain.specs.Fed.{IsFed};
+ghost use Rattle.cmc_plain.specs.Keeping.{IsMine};
 ghost use Rattle.cmc_plain.specs.Openings.{LeavesNext, LeavesOpened};
 ghost use Rattle.cmc_plain.specs.Searches.{IsWork};
 
@@ -42,7 +43,9 @@ impl Drop for Opening {
 
 impl Opening {
     /// This, where it is of the role and the key.
-    pub(crate) fn only_on(self, role: Role, key: &Key) -> Option<Opening> {
+    pub(crate) fn only_on(self, role: Role, key: &Key) -> Option<Opening>
+        ensures { IfSome result (λ o. (o ≡ self) × IsMine role key.now o) }
+    {
         if self.role.rank() == role.rank() && self.key.same(key) {
             return Some(self);
         }

@@ -28,15 +28,16 @@ pub(crate) enum Pending {
     Pass(Opening),
 }
 
-/// The first key above this one, if there is one, that can be given and on which there may be something to do, and whether it is
-/// to be looked at.
+/// The first key above this one, if there is one, that can be given and on which there may be something to do.
 fn pending_key(
     queues: &Queues,
     role: Role,
     below: Option<&Key>,
-) -> Result<Option<(Key, bool)>, AllocError> {
-    match queues.queue(role).next_pending_row(below) {
-        Some((key, row)) => Ok(Some((key.copy()?, row.work.is_unknown()))),
+) -> Result<Option<Key>, AllocError>
+    ensures { IfOk result (FindsFirst (λ k. is_above (option_copied below.entry) k && is_pending (row_at queues.now role k))) }
+{
+    match queues.queue(role).next_pending(below) {
+        Some(key) => Ok(Some(key.copy()?)),
         None => Ok(None),
     }
 }
@@ -56,8 +57,8 @@ pub(crate) fn next_pending(
     ensures finds { IfOk result (λ p. on FindsPending world.now role (option_copied below.entry) p) }
 {
     world.is_run();
-    while let Some((key, fresh)) = pending_key(queues, role, below)? {
-        if !fresh {
+    while let Some(key) = pending_key(queues, role, below)? {
+        if !queues.queue(role).row(&key).work.is_unknown() {
             return Ok(Pending::Key(key));
         }
         if let Some(opening) = look_at(alloc, world, queues, role, &key)? {

@@ -5,6 +5,7 @@ ghost use Rattle.cmc_rules.specs.Resting.{IsAtRest};
 ghost use Rattle.cmc_rules.specs.Runs.{IsFinished};
 ghost use Rattle.cmc_world.specs.Kept.{on};
 ghost use Rattle.cmc_plain.specs.Fed.{IsFed};
+ghost use Rattle.cmc_plain.specs.Keeping.{IsKeptRight};
 ghost use Rattle.cmc_plain.specs.Plain.{HasNoDelivery, HasNoPass, IsStepReady};
 ghost use Rattle.cmc_plain.specs.Searches.{RestsWhereRunning};
 
@@ -28,9 +29,11 @@ fn rests_in(
     role: Role,
 ) -> Result<bool, AllocError>
     requires fed { on IsFed world.now queues.old }
+    requires kept { on IsKeptRight world.now kept.old }
     requires closed { on HasNoPass world.now }
     requires told { on HasNoDelivery world.now }
     ensures fed { on IsFed world.now queues.new }
+    ensures kept { on IsKeptRight world.now kept.new }
     ensures test { IfOk result (λ b. IsTrue b ↔ on RestsWhereRunning world.now role) }
 {
     if !world.runs(role) {
@@ -55,9 +58,11 @@ pub(crate) fn rests_in_each(
     kept: &mut Kept,
 ) -> Result<bool, AllocError>
     requires fed { on IsFed world.now queues.old }
+    requires kept { on IsKeptRight world.now kept.old }
     requires closed { on HasNoPass world.now }
     requires told { on HasNoDelivery world.now }
     ensures fed { on IsFed world.now queues.new }
+    ensures kept { on IsKeptRight world.now kept.new }
     ensures test { IfOk result (λ b. IsTrue b ↔ ((role : RoleValue) → on RestsWhereRunning world.now role)) }
 {
     for place in 0..8 {
@@ -75,8 +80,10 @@ fn is_at_rest(
     queues: &mut Queues,
     kept: &mut Kept,
 ) -> Result<bool, AllocError>
-    requires { on IsFed world.now queues.old }
+    requires fed { on IsFed world.now queues.old }
+    requires kept { on IsKeptRight world.now kept.old }
     ensures fed { on IsFed world.now queues.new }
+    ensures kept { on IsKeptRight world.now kept.new }
     ensures test { IfOk result (λ b. IsTrue b ↔ on IsAtRest world.now) }
 {
     if first_pass(world).is_some() {
@@ -99,8 +106,10 @@ pub(crate) fn is_step_ready(
     queues: &mut Queues,
     kept: &mut Kept,
 ) -> Result<bool, AllocError>
-    requires { on IsFed world.now queues.old }
+    requires fed { on IsFed world.now queues.old }
+    requires kept { on IsKeptRight world.now kept.old }
     ensures fed { on IsFed world.now queues.new }
+    ensures kept { on IsKeptRight world.now kept.new }
     ensures test { IfOk result (λ b. IsTrue b ↔ on IsStepReady world.now) }
 {
     match awaited(world) {
@@ -122,8 +131,10 @@ pub(crate) fn is_finished(
     queues: &mut Queues,
     kept: &mut Kept,
 ) -> Result<bool, AllocError>
-    requires { on IsFed world.now queues.old }
+    requires fed { on IsFed world.now queues.old }
+    requires kept { on IsKeptRight world.now kept.old }
     ensures fed { on IsFed world.now queues.new }
+    ensures kept { on IsKeptRight world.now kept.new }
     ensures test { IfOk result (λ b. IsTrue b ↔ on IsFinished world.now) }
 {
     if !world.has_made_all() {

@@ -15,7 +15,7 @@ ghost use Rattle.cmc_moves.specs.Answers.{Answers, Leaves};
 ghost use Rattle.cmc_moves.specs.declared.moves.Move.TheVariants as moves;
 ghost use Rattle.cmc_waking.specs.Waking.{IsSearched, LosesNoWakeUp};
 ghost use Rattle.cmc_world.specs.Kept.{on};
-ghost use Rattle.cmc_plain.specs.Next.{IsNextDelivery, IsNextDeliveryTo, IsNextScript};
+ghost use Rattle.cmc_plain.specs.Next.{IsNewestPass, IsNextDelivery, IsNextDeliveryTo, IsNextScript};
 ghost use Rattle.cmc_plain.specs.Openings.{LeavesOpened};
 ghost use Rattle.cmc_plain.specs.Plain.{IsPlainMove};
 ghost use Rattle.cmc_plain.specs.Searches.{FindsWork, IsWork};
@@ -23,7 +23,7 @@ ghost use Rattle.cmc_plain.specs.Searches.{FindsWork, IsWork};
 use crate::deliveries::{Delivery, first_delivery, first_kind_of};
 use crate::fed_begins::begin_kept;
 use crate::fed_deliveries::deliver;
-use crate::fed_passes::{act_first, give, go_next, go_on};
+use crate::fed_passes::{act_first, go_next, go_on};
 use crate::fed_scripts::script;
 use crate::kept::Kept;
 use crate::next_move::plain_by;
@@ -32,6 +32,7 @@ use crate::rest::{is_finished, is_step_ready};
 use crate::taken_over::queues_of;
 use crate::work::next_work;
 use cmc_meta::Key;
+use cmc_moves::let_go;
 use cmc_objects::Role;
 use cmc_queue::Queue;
 use cmc_setup::Scenario;
@@ -62,12 +63,13 @@ impl Drop for Waking {
 impl Model for Waking {
     ghost use Rattle.cmc_world.specs.Kept.{Seen, on};
     ghost use Rattle.cmc_plain.specs.Fed.{IsFed};
+    ghost use Rattle.cmc_plain.specs.Keeping.{IsKeptRight};
 
     ghost Value = { Seen };
 
     ghost view = { λ w. w.world };
 
-    ghost invariant = { λ w. on IsFed w.world w.queues };
+    ghost invariant = { λ w. on IsFed w.world w.queues × on IsKeptRight w.world w.kept };
 }
 
 impl Waking {
@@ -268,14 +270,22 @@ impl Waking {
     }
 
     /// Forgets what was found of the next pass.
-    fn forget(&mut self) {
+    fn forget(&mut self)
+        ensures { self.new ≡ self.old }
+    {
         if !matches!(&self.kept, Kept::Nothing) {
             self.kept = Kept::Nothing;
         }
     }
 
     /// Begins a pass of the role on the key, as `World::step` does.
-    fn step_begin(&mut self, alloc: Global, role: Role, key: Key) -> Result<Stepped, AllocError> {
+    fn step_begin(&mut self, alloc: Global, role: Role, key: Key) -> Result<Stepped, AllocError>
+        ensures answer { IfOk result (λ r. on Answers self.old (moves.Begin role key) r) }
+        ensures leaves { IfOk result (λ r. on Leaves self.old (moves.Begin role key) r self.new.history) }
+        ensures scenario { self.new.scenario ≡ self.old.scenario }
+        ensures run { on IsRun self.new }
+        ensures err { OnErr result (self.new ≡ self.old) }
+    {
         let kept = self.kept.take();
         let (answer, kept) = begin_kept(
             alloc,
@@ -290,7 +300,9 @@ impl Waking {
     }
 
     /// Whether this names the newest pass, which is open, and the present incarnation of its role.
-    fn is_newest(&self, pass: u64, incarnation: u64) -> bool {
+    fn is_newest(&self, pass: u64, incarnation: u64) -> bool
+        ensures { result ≡ true → on IsNewestPass self.now pass incarnation }
+    {
         if pass != self.world.passes_begun() {
             return false;
         }
@@ -301,13 +313,25 @@ impl Waking {
     }
 
     /// Has the pass go on, as `World::step` does.
-    fn step_next(&mut self, alloc: Global, pass: u64, incarnation: u64) -> Result<Stepped, AllocError> {
-        if matches!(&self.kept, Kept::Act(_)) && self.is_newest(pass, incarnation) {
-            if let Some(does) = self.kept.take().act() {
+    fn step_next(
+        &mut self,
+        alloc: Global,
+        pass: u64,
+        incarnation: u64,
+    ) -> Result<Stepped, AllocError>
+        ensures answer { IfOk result (λ r. on Answers self.old (moves.Next pass incarnation) r) }
+        ensures leaves { IfOk result (λ r. on Leaves self.old (moves.Next pass incarnation) r self.new.history) }
+        ensures scenario { self.new.scenario ≡ self.old.scenario }
+        ensures run { on IsRun self.new }
+        ensures err { OnErr result (self.new ≡ self.old) }
+    {
+        let newest = self.is_newest(pass, incarnation);
+        if let Some(does) = self.kept.take().act() {
+            if newest {
                 return act_first(alloc, &mut self.world, &mut self.queues, pass, does);
             }
+            let_go(does);
         }
-        self.forget();
         go_next(alloc, &mut self.world, &mut self.queues, pass, incarnation)
     }
 
@@ -331,11 +355,7 @@ impl Waking {
             }
             Move::Begin { role, key } => self.step_begin(alloc, role, key),
             Move::Next { pass, incarnation } => self.step_next(alloc, pass, incarnation),
-            Move::Give { .. } => {
-                self.forget();
-                give(alloc, &mut self.world, step)
-            }
-            Move::Decide { pass, .. } => {
+            Move::Give { pass, .. } | Move::Decide { pass, .. } => {
                 self.forget();
                 go_on(alloc, &mut self.world, &mut self.queues, pass, step)
             }

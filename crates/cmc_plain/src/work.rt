@@ -6,6 +6,7 @@ ghost use Rattle.std.specs.Option.{option_copied};
 ghost use Rattle.std.specs.Prelude.{◌≡◌, IfOk};
 ghost use Rattle.cmc_world.specs.Kept.{on};
 ghost use Rattle.cmc_plain.specs.Fed.{IsFed};
+ghost use Rattle.cmc_plain.specs.Keeping.{IsKeptRight};
 ghost use Rattle.cmc_plain.specs.Searches.{FindsWork, HasWork, IsWork};
 
 use crate::fed_begins::dated_views;
@@ -51,8 +52,10 @@ pub(crate) fn next_work(
     role: Role,
     below: Option<&Key>,
 ) -> Result<Option<Opening>, AllocError>
-    requires { on IsFed world.now queues.old }
+    requires fed { on IsFed world.now queues.old }
+    requires kept { on IsKeptRight world.now kept.old }
     ensures fed { on IsFed world.now queues.new }
+    ensures kept { on IsKeptRight world.now kept.new }
     ensures work { IfOk result (λ o. on FindsWork world.now role (option_copied below.entry) o) }
 {
     if !world.runs(role) {
