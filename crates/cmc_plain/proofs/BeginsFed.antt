@@ -7,6 +7,7 @@ use Rattle.cmc_objects.specs.declared.entry.Entry.{Entry}
 use Rattle.cmc_objects.specs.declared.entry.Positions.{Positions}
 use Rattle.cmc_objects.specs.declared.orders.Rules.{Rules}
 use Rattle.cmc_objects.specs.declared.role.Role.{Role}
+use Rattle.cmc_objects.specs.Watching.{kind_of_work}
 use Rattle.cmc_pass.specs.declared.pass.Act.{Act}
 use Rattle.cmc_pass.specs.declared.pass.Views.{Views}
 use Rattle.cmc_queue.specs.declared.row.Found.{Found}
@@ -14,7 +15,7 @@ use Rattle.cmc_queue.specs.declared.row.Found.TheVariants as found
 use Rattle.cmc_queue.specs.declared.row.Parked.{Parked}
 use Rattle.cmc_queue.specs.declared.row.Row.{Row}
 use Rattle.cmc_queue.specs.Queues.{has_room, row_of, ChangesRow, Work}
-use Rattle.cmc_queue.specs.Rows.{earlier, is_free}
+use Rattle.cmc_queue.specs.Rows.{earlier, is_free, is_unknown, may_work}
 use Rattle.cmc_queue.proofs.OneRow.{same_by_test}
 use Rattle.cmc_queue.proofs.Waits.{free_has_row}
 use Rattle.cmc_model.specs.Histories.{Setting, moment, runs}
@@ -23,6 +24,7 @@ use Rattle.cmc_rules.specs.Memory.{past}
 use Rattle.cmc_rules.specs.Origins as origins
 use Rattle.cmc_rules.specs.Passes.{IsWorking}
 use Rattle.cmc_rules.specs.Positions.{positions}
+use Rattle.cmc_rules.specs.Resting.{IsIdle}
 use Rattle.cmc_rules.specs.Runs.{IsRun}
 use Rattle.cmc_rules.specs.Sameness.{IsDue}
 use Rattle.cmc_rules.specs.Sound.{IsDueMoment}
@@ -43,9 +45,9 @@ use Rattle.cmc_plain.specs.Keeping.{act_if_any, IsKeptRight}
 use Rattle.cmc_plain.specs.declared.kept.Kept.TheVariants as kept
 use Rattle.cmc_plain.specs.Plain.{Fits}
 use Rattle.cmc_plain.proofs.Feeding.{fed_begins}
-use Rattle.cmc_plain.proofs.Finding.{fit_free}
+use Rattle.cmc_plain.proofs.Finding.{fit_free, free_fits, free_is, says}
 use Rattle.cmc_plain.proofs.Looking.{timed_first}
-use Rattle.cmc_plain.proofs.Moves.{fed_rows}
+use Rattle.cmc_plain.proofs.Moves.{fed_of, fed_rows}
 
 -- a key on which a pass begins fits
 begun_fits : (w : Seen) (role : Role) (key : Key) → on AnswersBegin w role key answers.Done → on Fits w role key
@@ -136,3 +138,35 @@ pub kept_begun : (s : Setting) (h : List Entry) (b : Bool) (does : Option Act) �
 kept_begun s h true None first = tt
 kept_begun s h true (Some does) first = first refl
 kept_begun s h false does first = tt
+
+-- ---- a key of which a look found something
+
+pub nothing_found : (work : Found) → is_unknown work ≡ false → may_work work ≡ false → work ≡ found.Nothing
+nothing_found found.Unknown known off = absurd (cc known)
+nothing_found found.Nothing known off = refl
+nothing_found found.Something known off = absurd (cc off)
+
+-- a pass may begin there
+pub looked_fits : (w : Seen) (role : Role) (key : Key) (queues : List Work) (work : Found) → on IsRun w → on IsFed w queues → on runs w role ≡ true → is_free (row_at queues role key) ≡ true → is_unknown work ≡ false → work ≡ (row_at queues role key).work → on Fits w role key
+looked_fits w role key queues work run fed up free known is = free_fits (setting_of w.scenario) w.history role key queues run.legal fed up free (ap is_unknown (sym is) ∙ known)
+
+pub idle_fits : (w : Seen) (role : Role) (key : Key) (queues : List Work) → on IsRun w → on IsFed w queues → on runs w role ≡ true → is_free (row_at queues role key) ≡ true → (row_at queues role key).work ≡ found.Nothing → on Fits w role key
+idle_fits w role key queues run fed up free nothing = free_fits (setting_of w.scenario) w.history role key queues run.legal fed up free (ap is_unknown nothing)
+
+-- it has nothing to do
+pub idle_now : (w : Seen) (role : Role) (key : Key) (queues : List Work) → on IsFed w queues → on runs w role ≡ true → is_free (row_at queues role key) ≡ true → (row_at queues role key).work ≡ found.Nothing → key.kind ≡ kind_of_work role → on IsIdle w role (on views w role key)
+idle_now w role key queues fed up free nothing work =
+    let parts = free_is (row_at queues role key) free in ((says (setting_of w.scenario) w.history role key queues fed up work).nothing parts.1 parts.0 nothing).1
+
+-- its next due moment was noted as it was looked at
+pub idle_fed : (old new : Seen) (role : Role) (key own : Key) (before after : List Work) (answer : Stepped) → own ≡ key → on IsRun old → on IsRun new → new.scenario ≡ old.scenario → on Leaves old (moves.Begin role key) answer new.history → is_done answer ≡ true
+    → on runs old role ≡ true → is_free (row_at before role key) ≡ true → (row_at before role key).work ≡ found.Nothing → ChangesRow (begun None) own (queue_in before role) (queue_in after role) → KeepsOthers role before after → on IsFed old before → on IsFed new after
+idle_fed old new role key own before after answer same ran run scenario leaves made up free nothing rows others fed =
+    let s = setting_of old.scenario in
+    let h = old.history in
+    let done : answer ≡ answers.Done = the_done answer made in
+    let fits : on Fits old role key = idle_fits old role key before ran fed up free nothing in
+    let parts = free_is (row_at before role key) free in
+    fed_begins old new role key (row_at before role key).timed before after run scenario (subst (λ (a : Stepped). on Leaves old (moves.Begin role key) a new.history) done leaves) fits.may.work free
+    (news_timed s h role key (row_at before role key) up parts.1 parts.0 nothing ((fed_of s h role before fed).tended key fits.may.work))
+    (begun_none key (queue_in before role) (queue_in after role) (subst (λ (k : Key). ChangesRow (begun None) k (queue_in before role) (queue_in after role)) same rows)) others fed

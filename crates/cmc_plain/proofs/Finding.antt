@@ -66,7 +66,7 @@ work_pending s h role key queues fed work =
 
 -- ---- a free key that was looked at
 
-free_is : (row : Row) → is_free row ≡ true → (row.ready ≡ true) × (row.working ≡ false)
+pub free_is : (row : Row) → is_free row ≡ true → (row.ready ≡ true) × (row.working ≡ false)
 free_is row on = let parts = and_parts row.ready (not row.working) on in (parts.0, off_by row.working (λ is. let off : not row.working ≡ false = ap not is in let on = parts.1 in cc (on, off)))
 
 pending_is : (row : Row) → is_pending row ≡ true → (is_free row ≡ true) × (may_work row.work ≡ true)

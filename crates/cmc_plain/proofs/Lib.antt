@@ -48,3 +48,4 @@ pub mod BeginsFed
 pub mod Telling
 pub mod Pairs
 pub mod KeptActs
+pub mod Wakings
