@@ -232,7 +232,7 @@ impl Queue {
 
     /// It is now this moment: each key whose moment is no later is ready, and timed no more; of each other key it is not
     /// known any more that there is something to do. The places at moments no later are given up, and no other. Only
-    /// keys with such a place are gone through. It takes no memory.
+    /// keys with such a place are gone through, and those on which a look found something. It takes no memory.
     pub fn tick(&mut self, now: i64)
         ensures rows { ChangesRows (ticked now) self.old self.new }
         ensures room { KeepsRows self.old self.new }
