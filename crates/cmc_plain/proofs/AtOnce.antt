@@ -2,12 +2,12 @@
 use Rattle.std.proofs.Common.{◌≡◌, ℕ, ℤ, ◌+◌, List, ◌∷◌, Option, Some, None, Bool, true, refl, sym, ap, subst, ◌∙◌, arith}
 use Rattle.std.proofs.lemmas.Bool.Decides.{Decides-eqb}
 use Rattle.std.specs.Prelude.{◌==◌, IfSome, if◌then◌else◌}
-use Rattle.std.specs.BTreeSet.{BTreeSet}
 use Rattle.cmc_meta.specs.declared.key.Key.{Key}
 use Rattle.cmc_objects.specs.declared.role.Role.{Role}
 use Rattle.cmc_objects.specs.declared.role.Role.TheVariants.{Trigger, KeyManager, RequestManager, Approver, Issuer, Issuing, Readiness, Revision}
 use Rattle.cmc_objects.specs.declared.entry.Entry.{Entry}
 use Rattle.cmc_pass.specs.declared.pass.Act.{Act}
+use Rattle.cmc_pass.specs.declared.pass.Act.TheVariants as acts
 use Rattle.cmc_pass.specs.declared.pass.Desk.{Desk}
 use Rattle.cmc_pass.specs.declared.pass.Views.{Views}
 use Rattle.cmc_rules.specs.declared.progress.OpenPass.{OpenPass}
@@ -16,6 +16,7 @@ use Rattle.cmc_rules.specs.Desks.{desk}
 use Rattle.cmc_model.specs.Histories.{Setting, moment}
 use Rattle.cmc_rules.specs.Origins.{begun}
 use Rattle.cmc_rules.specs.Passes.{new_pass, open_pass}
+use Rattle.cmc_rules.specs.Resting.{IsIdle}
 use Rattle.cmc_rules.specs.Viewing.{views}
 use Rattle.cmc_moves.specs.Answers.{Leaves, beginning, is_done}
 use Rattle.cmc_moves.specs.Prospects.{IsFirstAct, IsProspect}
@@ -23,33 +24,8 @@ use Rattle.cmc_moves.specs.declared.moves.Move.TheVariants as moves
 use Rattle.cmc_moves.specs.declared.moves.Stepped.{Stepped}
 use Rattle.cmc_moves.proofs.Tables.{the_done}
 use Rattle.cmc_world.specs.Kept.{Seen, setting_of}
-use Rattle.cmc_plain.specs.declared.known.Known.{Known}
 use Rattle.cmc_plain.specs.Openings.{LeavesBoth, LeavesNext}
-use Rattle.cmc_plain.specs.Ready.{Forgets, KeepsIf, KnowsLess, Wakes}
 use Rattle.cmc_plain.specs.Searches.{prospect}
-
--- ---- neither a begin nor what a pass does wakes a key
-
-pub keeps_same : (rows : Option (List (BTreeSet Key))) → KeepsIf rows rows
-keeps_same None = tt
-keeps_same (Some rows) = λ role key on. on
-
-pub begin_wakes : (s : Setting) (h : List Entry) (role : Role) (key : Key) (rows : Option (List (BTreeSet Key))) → IfSome rows (Wakes s h (moves.Begin role key))
-begin_wakes s h role key None = tt
-begin_wakes s h role key (Some rows) = tt
-
-pub next_wakes : (s : Setting) (h : List Entry) (pass named : ℕ) (rows : Option (List (BTreeSet Key))) → IfSome rows (Wakes s h (moves.Next pass named))
-next_wakes s h pass named None = tt
-next_wakes s h pass named (Some rows) = tt
-
-pub knows_same : (known : Known) → KnowsLess known known
-knows_same known = record { awake = λ role key on. on; busy = λ role key on. on }
-
-pub begin_forgets : (s : Setting) (h : List Entry) (role : Role) (key : Key) (known : Known) → Forgets s h (moves.Begin role key) known
-begin_forgets s h role key known = record { awake = tt; busy = tt }
-
-pub next_forgets : (s : Setting) (h : List Entry) (pass named : ℕ) (known : Known) → Forgets s h (moves.Next pass named) known
-next_forgets s h pass named known = record { awake = tt; busy = tt }
 
 -- ---- the act that was found is that of the new pass
 
@@ -114,4 +90,22 @@ opened_both old mid new role key does begin done (Some first) same leaves tells 
       the_done begin on,
       subst (λ (w : Seen). (named : ℕ) → Leaves (setting_of w.scenario) w.history (moves.Next (begun (setting_of w.scenario) w.history) named) first new.history)
           (λ i. record { scenario = same i; history = grown i }) next.1,
+    )
+
+-- an idle pass has nothing to do
+pub idle_act : (old mid : Seen) (role : Role) (key : Key) (begin : Stepped) (done : Bool) → mid.scenario ≡ old.scenario → IsIdle (setting_of old.scenario) old.history role (views (setting_of old.scenario) old.history role key)
+    → Leaves (setting_of old.scenario) old.history (moves.Begin role key) begin mid.history → done ≡ is_done begin → done ≡ true → IsFirstAct (setting_of mid.scenario) mid.history (begun (setting_of mid.scenario) mid.history) acts.Nothing
+idle_act old mid role key begin done same idle leaves tells on =
+    let s = setting_of old.scenario in
+    let h = old.history in
+    let grown : mid.history ≡ beginning s h role key ∷ h = begun_is s h mid.history role key begin (sym tells ∙ on) leaves in
+    subst (λ (w : Seen). IsFirstAct (setting_of w.scenario) w.history (begun (setting_of w.scenario) w.history) acts.Nothing)
+    (λ i. record { scenario = (sym same) i; history = (sym grown) i })
+    (
+      new_pass role key (views s h role key) (moment s h),
+      record {
+        opened = opened_new s h role key;
+        fresh = refl;
+        acts = sym idle ∙ ap (λ (d : Desk). act role (views s h role key) (moment s h) d) (sym (desk_begun s h role role key (views s h role key)));
+      },
     )

@@ -181,13 +181,26 @@ by_held : (b : Bool) (P Q : Type 0) → (b ≡ true → P) → (b ≡ false → 
 by_held true P Q back free = back refl
 by_held false P Q back free = free refl
 
-rests : (s : Setting) (h : List Entry) (role : Role) (key : Key) → IsRun s h → ((n : ℕ) → open_pass s h n ≡ None) → HasNoDelivery s h → ((r : Role) (k : Key) → Fits s h r k → ⊥)
-    → runs s h role ≡ true → is_known key (writes s h) ≡ true → RestsOn s h role key
-rests s h role key run shut no_delivery no_begin running known =
-    let never = λ (busy : IsBusy s h role key) (due : IsDueNow s h role key). no_begin role key (fits s h role key running known shut busy due) in
+-- the role was told of all where nothing is held from it
+all_told : (s : Setting) (h : List Entry) (role : Role) → HasNoDelivery s h → runs s h role ≡ true → has_held s h role ≡ false → IsToldOfAll s h role
+all_told s h role no_delivery running none = λ kind informed. told s h no_delivery role kind running informed (none_held s h role none kind)
+
+-- it sees then what there is to see
+pub views_told : (s : Setting) (h : List Entry) (role : Role) (key : Key) → IsRun s h → HasNoDelivery s h → runs s h role ≡ true → has_held s h role ≡ false → views s h role key ≡ present_views s h role key
+views_told s h role key run no_delivery running none = views_newest s h role key run.legal (all_told s h role no_delivery running none)
+
+-- it rests where nothing that it has to do fits it
+pub rests_unless : (s : Setting) (h : List Entry) (role : Role) (key : Key) → IsRun s h → ((n : ℕ) → open_pass s h n ≡ None) → HasNoDelivery s h → runs s h role ≡ true → is_known key (writes s h) ≡ true
+    → (Fits s h role key → IsBusy s h role key → ⊥) → RestsOn s h role key
+rests_unless s h role key run shut no_delivery running known unfit =
+    let never = λ (busy : IsBusy s h role key) (due : IsDueNow s h role key). unfit (fits s h role key running known shut busy due) busy in
     by_held (has_held s h role) (IsPaused s h role key) (IsIdle s h role (present_views s h role key))
     (λ some. paused s h role key never (is_idle s h role key))
-    (λ none. served s h role key run (λ kind informed. told s h no_delivery role kind running informed (none_held s h role none kind)) never (is_idle s h role key))
+    (λ none. served s h role key run (all_told s h role no_delivery running none) never (is_idle s h role key))
+
+rests : (s : Setting) (h : List Entry) (role : Role) (key : Key) → IsRun s h → ((n : ℕ) → open_pass s h n ≡ None) → HasNoDelivery s h → ((r : Role) (k : Key) → Fits s h r k → ⊥)
+    → runs s h role ≡ true → is_known key (writes s h) ≡ true → RestsOn s h role key
+rests s h role key run shut no_delivery no_begin running known = rests_unless s h role key run shut no_delivery running known (λ f busy. no_begin role key f)
 
 at_rest : (s : Setting) (h : List Entry) → IsRun s h → ((n : ℕ) → open_pass s h n ≡ None) → HasNoDelivery s h → ((r : Role) (k : Key) → Fits s h r k → ⊥) → IsAtRest s h
 at_rest s h run shut no_delivery no_begin = record {

@@ -1,4 +1,3 @@
-pub mod Knowing
 pub mod OneReply
 pub mod OneValue
 pub mod OneGrowth
@@ -12,7 +11,6 @@ pub mod Making
 pub mod Starting
 pub mod Switches
 pub mod Going
-pub mod Beginning
 pub mod Courses
 pub mod Ordering
 pub mod Passing
@@ -23,11 +21,6 @@ pub mod NothingHeld
 pub mod Asking
 pub mod Asked
 pub mod Unknown
-pub mod Lasting
-pub mod Quiet
-pub mod KeyRows
-pub mod ReadyRows
-pub mod Woken
 pub mod Resting
 pub mod Awaiting
 pub mod Affecting
@@ -41,7 +34,18 @@ pub mod EachNamed
 pub mod SummaryItems
 pub mod Working
 pub mod AtOnce
-pub mod WakeUps
-pub mod QueueRows
 pub mod FreeRows
 pub mod AllReady
+pub mod Served
+pub mod Moves
+pub mod Feeding
+pub mod Looking
+pub mod Finding
+pub mod TakenOver
+pub mod Undue
+pub mod KnownKeys
+pub mod BeginsFed
+pub mod Telling
+pub mod Pairs
+pub mod KeptActs
+pub mod Wakings

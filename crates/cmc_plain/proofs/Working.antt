@@ -20,44 +20,14 @@ use Rattle.cmc_rules.specs.Viewing.{views}
 use Rattle.cmc_rules.specs.Memory.{past}
 use Rattle.cmc_rules.specs.Sameness.{IsDue, own_above}
 use Rattle.cmc_rules.specs.Legality.{IsLegal}
-use Rattle.cmc_plain.specs.Ready.{IsIdleOn}
 use Rattle.cmc_rules.specs.Acts.{act}
 use Rattle.cmc_rules.specs.Desks.{desk}
 use Rattle.cmc_pass.specs.declared.pass.Act.{Act}
 use Rattle.cmc_pass.specs.declared.pass.Act.TheVariants.{Nothing}
 use Rattle.cmc_moves.specs.Prospects.{IsProspect}
 use Rattle.cmc_plain.specs.declared.openings.Opening.{Opening}
-use Rattle.cmc_plain.specs.Searches.{FindsFirst, FindsWork, HasWork, HasWorkAbove, IsFree, IsWork, IsWorkOn, IsWorkOnAbove, is_above, prospect, start_above}
-use Rattle.cmc_plain.proofs.Keys.{KeysLeft, all_keys_left, key_found, keys_left_within}
+use Rattle.cmc_plain.specs.Searches.{HasWork, IsFree, IsWorkOn, prospect}
 use Rattle.cmc_plain.proofs.Unknown.{known_unless_quiet}
-
--- of a key on which there is nothing to do it is not so
-idle_lacks : (s : Setting) (h : List Entry) (role : Role) (below : Option Key) (keys : BTreeSet Key) → ((k : Key) → k.kind ≡ kind_of_work role → contains key_cmp keys k ≡ false → IsIdleOn s h role k)
-    → (k : Key) → contains key_cmp keys k ≡ false → HasWorkAbove s h role below k → ⊥
-idle_lacks s h role below keys others k off w = w.work.busy (others k w.work.may.work off)
-
--- those above the key lie where they are looked for
-above_is : (below : Option Key) (k : Key) → is_above below k ≡ true → range_contains key_cmp (start_above below) Unbounded k ≡ true
-above_is None k is = refl
-above_is (Some b) k is = ap (λ (on : Bool). on && true) is
-
--- of no key beside these that lie above it
-pub work_left : (s : Setting) (h : List Entry) (role : Role) (below : Option Key) (keys : BTreeSet Key) (start : Bound Key) (left : List Key) → start ≡ start_above below
-    → left ≡ keys_between key_cmp start Unbounded keys → IsStrictlySortedBy key_cmp keys.keys → ((k : Key) → k.kind ≡ kind_of_work role → contains key_cmp keys k ≡ false → IsIdleOn s h role k)
-    → KeysLeft (HasWorkAbove s h role below) left
-work_left s h role below keys start left from is ordered others =
-    subst (KeysLeft (HasWorkAbove s h role below)) (sym (is ∙ ap (λ (b : Bound Key). keys_between key_cmp b Unbounded keys) from))
-    (keys_left_within (HasWorkAbove s h role below) (range_contains key_cmp (start_above below) Unbounded) keys.keys
-    (all_keys_left (HasWorkAbove s h role below) keys ordered (idle_lacks s h role below keys others)) (λ k w. above_is below k w.above))
-
--- on a key that is none of its work, or is worked on, a role has nothing to begin
-pub not_free : (s : Setting) (h : List Entry) (role : Role) (key : Key) (b : Bool) → (IsTrue b ↔ IsFree s h role key) → b ≡ false → HasWork s h role key → ⊥
-not_free s h role key b free off w = let on = free.1 (record { kind = w.may.work; idle = w.may.idle }) in absurd (cc (on, off))
-
--- nor where the role was not told of its own write
-pub untold : (s : Setting) (h : List Entry) (role : Role) (key : Key) (b : Bool) → (b ≡ false → own_above (past s h role key).own (positions h role) ≡ None → ⊥) → b ≡ false
-    → HasWork s h role key → ⊥
-untold s h role key b told off w = told off w.may.due.told
 
 -- ---- what is found of a pass
 
@@ -67,7 +37,7 @@ busy_by role a None is none = is.1 none
 busy_by role a (Some act) is none = is.1 none
 
 -- where there is nothing to do by what the role sees, there is no pass to begin
-pub none_where_idle : (s : Setting) (h : List Entry) (role : Role) (key : Key) (seen : Views) → seen ≡ views s h role key → act role seen (moment s h) (desk s h role seen) ≡ Nothing → IsIdleOn s h role key
+pub none_where_idle : (s : Setting) (h : List Entry) (role : Role) (key : Key) (seen : Views) → seen ≡ views s h role key → act role seen (moment s h) (desk s h role seen) ≡ Nothing → IsIdle s h role (views s h role key)
 none_where_idle s h role key seen sees idle = subst (λ (v : Views). act role v (moment s h) (desk s h role v) ≡ Nothing) sees idle
 
 -- and else there is one exactly where the role is due
@@ -100,13 +70,10 @@ work_where_due s h role key seen does due o legal is running free does_is due_is
   by true on = record { work = work (due_is.0 on); known = record { role = refl; key = refl; seen = is; does = here } }
   by false off = λ w. let on = due_is.1 (subst IsDueWith (sym is) w.may.due) in absurd (cc (on, off))
 
--- a key that is not above the given one
-pub none_below : (s : Setting) (h : List Entry) (role : Role) (below : Option Key) (key : Key) → is_above below key ≡ false → HasWorkAbove s h role below key → ⊥
-none_below s h role below key off w = let on = w.above in absurd (cc (on, off))
-
--- the first key on which there is a pass to begin
-pub work_first : (s : Setting) (h : List Entry) (role : Role) (below : Option Key) (key : Key) (left : List Key) (o : Opening) → IsWorkOnAbove s h role below key (Some o) → KeysLeft (HasWorkAbove s h role below) (key ∷ left)
-    → FindsWork s h role below (Some o)
-work_first s h role below key left o found rest =
-    subst (λ (k : Key). FindsFirst (HasWorkAbove s h role below) (Some k) × IsWork s h role k o) (sym found.1.known.key)
-    (key_found (HasWorkAbove s h role below) key left (record { above = found.0; work = found.1.work }) rest, found.1)
+-- a pass that is due and has something to do is one to begin
+pub work_found : (s : Setting) (h : List Entry) (role : Role) (key : Key) (seen : Views) (does : Option Act) (o : Opening) → IsLegal s h → seen ≡ views s h role key → runs s h role ≡ true → IsFree s h role key
+    → IsProspect role (act role seen (moment s h) (desk s h role seen)) (prospect does) → IsDue (past s h role key) seen (moment s h) (positions h role) → o ≡ record { role = role; key = key; seen = seen; does = does } → IsWorkOn s h role key (Some o)
+work_found s h role key seen does o legal is running free does_is due same =
+    work_where_due s h role key seen does true (Some o) legal is running free does_is (λ on. due, λ d. refl) (ap (λ (x : Opening). some_opening x) same) where
+  some_opening : Opening → Option Opening
+  some_opening x = Some x

@@ -4,10 +4,10 @@ pub mod Histories
 pub mod Driving
 pub mod Waits
 pub mod Named
-pub mod KeyRows
-pub mod Ready
 pub mod Asking
 pub mod Next
 pub mod Openings
 pub mod DueMoments
-pub mod WorkQueues
+pub mod Fed
+pub mod Looks
+pub mod Keeping

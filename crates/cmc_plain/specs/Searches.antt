@@ -1,8 +1,5 @@
 -- What the searches for the plain move find.
 use Rattle.std.specs.Prelude.{◌≡◌, ℕ, ◌<◌, Bool, true, false, List, Option, Some, None, MatchBool}
-use Rattle.std.specs.Ordering.{is_lt}
-use Rattle.std.specs.declared.ops.Bound.{Bound}
-use Rattle.std.specs.declared.ops.Bound.TheVariants.{Excluded, Unbounded}
 use Rattle.std.specs.declared.cmp.Ordering.TheVariants.{Less}
 use Rattle.cmc_meta.specs.declared.key.Key.{Key}
 use Rattle.cmc_meta.specs.declared.key.Kind.{Kind}
@@ -32,7 +29,10 @@ use Rattle.cmc_pass.specs.declared.pass.Act.{Act}
 use Rattle.cmc_moves.specs.Prospects.{IsProspect}
 use Rattle.cmc_moves.specs.declared.acts.Prospect.{Prospect}
 use Rattle.cmc_moves.specs.declared.acts.Prospect.TheVariants.{Does, Something}
+use Rattle.cmc_queue.specs.Queues.{is_above}
 use Rattle.cmc_plain.specs.declared.openings.Opening.{Opening}
+use Rattle.cmc_plain.specs.declared.pending.Pending.{Pending}
+use Rattle.cmc_plain.specs.declared.pending.Pending.TheVariants as pending
 use Rattle.cmc_plain.specs.declared.scripts.Awaits.{Awaits}
 use Rattle.cmc_plain.specs.declared.scripts.Awaits.TheVariants.{Nothing, Rest, Never}
 use Rattle.cmc_plain.specs.Plain.{IsBehind, IsStepReady, Fits, MayBegin, HasNoScript, HasNoPass, HasNoDelivery, IsFirstPass, IsOfPresent, IsFirstDelivery, IsFirstBegin}
@@ -96,15 +96,6 @@ pub record HasWork (s : Setting) (h : List Entry) (role : Role) (key : Key) : Ty
   pub may : MayBegin s h role key
   pub busy : IsIdle s h role (views s h role key) → ⊥
 
-abbrev pub is_above : Option Key → Key → Bool
-is_above None key = true
-is_above (Some below) key = is_lt (key_cmp below key)
-
--- where the keys above this one begin
-abbrev pub start_above : Option Key → Bound Key
-start_above None = Unbounded
-start_above (Some below) = Excluded below
-
 -- and the key stands above this one, if there is one
 pub record HasWorkAbove (s : Setting) (h : List Entry) (role : Role) (below : Option Key) (key : Key) : Type 0 where
   pub above : is_above below key ≡ true
@@ -131,14 +122,16 @@ abbrev pub IsWorkOn : Setting → List Entry → Role → Key → Option Opening
 IsWorkOn s h role key None = HasWork s h role key → ⊥
 IsWorkOn s h role key (Some o) = IsWork s h role key o
 
-abbrev pub IsWorkOnAbove : Setting → List Entry → Role → Option Key → Key → Option Opening → Type 0
-IsWorkOnAbove s h role below key None = HasWorkAbove s h role below key → ⊥
-IsWorkOnAbove s h role below key (Some o) = (is_above below key ≡ true) × IsWork s h role key o
-
 -- a pass of the role on the first key above this one on which there is work
 abbrev pub FindsWork : Setting → List Entry → Role → Option Key → Option Opening → Type 0
 FindsWork s h role below None = FindsFirst (HasWorkAbove s h role below) None
 FindsWork s h role below (Some o) = FindsFirst (HasWorkAbove s h role below) (Some o.key) × IsWork s h role o.key o
+
+-- the same, of which the pass is known where the key was just looked at
+abbrev pub FindsPending : Setting → List Entry → Role → Option Key → Pending → Type 0
+FindsPending s h role below pending.None = FindsFirst (HasWorkAbove s h role below) None
+FindsPending s h role below (pending.Key key) = FindsFirst (HasWorkAbove s h role below) (Some key)
+FindsPending s h role below (pending.Pass o) = FindsFirst (HasWorkAbove s h role below) (Some o.key) × IsWork s h role o.key o
 
 -- the first key that fits the role
 abbrev pub FindsKey : Setting → List Entry → Role → Option Key → Type 0

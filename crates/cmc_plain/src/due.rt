@@ -2,19 +2,18 @@
 ghost use Rattle.std.specs.Option.{option_copied, option_map};
 ghost use Rattle.std.specs.Prelude.{◌≡◌, ◌≤ℤ◌, IfSome, Some};
 ghost use Rattle.cmc_der.specs.Keys.{cert_shown};
-ghost use Rattle.cmc_match.specs.Facts.{pair_at};
+ghost use Rattle.cmc_match.specs.Facts.{pair_at, pair_in};
+ghost use Rattle.cmc_objects.specs.KeyPairs.{begins, ends, is_paired};
 ghost use Rattle.cmc_policies.specs.Renewal as spec;
 ghost use Rattle.cmc_policies.specs.Renewal.{IsCertificateTime};
 ghost use Rattle.cmc_rules.specs.Dates.{IsDatedAnswer, IsDatedOption};
 ghost use Rattle.cmc_rules.specs.Sound as rules;
 ghost use Rattle.cmc_plain.specs.DueMoments.{HasDatedMoments, IsFirstAfter, sooner};
 
-use cmc_match::pair_in;
 use cmc_meta::{Condition, ConditionKind};
-use cmc_objects::{CertStatus, Certificate, CertificateRequest, Role, Secret, Shared};
+use cmc_objects::{CertStatus, Certificate, CertificateRequest, Pairing, Role, Secret, Shared};
 use cmc_pass::Views;
 use cmc_policies::{Renew, backoff_until, renewal_time};
-use cmc_x509::CertFields;
 
 /// The moment, where it is yet to come.
 fn coming(now: i64, at: i64) -> Option<i64>
@@ -45,49 +44,70 @@ fn end_of_backoff(now: i64, status: &CertStatus) -> Option<i64>
     }
 }
 
-/// The renewal of the certificate.
-fn renewal_of(now: i64, renew: Renew, fields: &CertFields<'_>) -> Option<i64>
-    requires ordered { fields.now.not_before ≤ℤ fields.now.not_after }
-    requires begins_in_range { IsCertificateTime fields.now.not_before }
-    requires ends_in_range { IsCertificateTime fields.now.not_after }
-    ensures { IsFirstAfter now (λ moment. moment ≡ spec.renewal fields.now.not_before fields.now.not_after renew) result }
+/// What is known of the pair of a Secret's key and certificate, as it is kept beside its data, or else as it is read now.
+#[tactic(auto, unfolding(cmc_match::specs::Facts::pair_in))]
+fn pairing_in(secret: &Secret) -> Pairing
+    ensures pair { result.pair ≡ is_paired (pair_in secret.now) }
+    ensures begins { result.not_before ≡ begins (pair_in secret.now) }
+    ensures ends { result.not_after ≡ ends (pair_in secret.now) }
 {
-    coming(
-        now,
-        renewal_time(fields.not_before, fields.not_after, renew),
-    )
+    secret.parts.pairing()
 }
 
-/// The certificate that the Secret's key and certificate are a pair with.
-fn pair_of<'a>(secret: &'a Option<Shared<Secret>>) -> Option<CertFields<'a>>
-    ensures value { option_map cert_shown result ≡ pair_at secret.now }
-    ensures ordered { IfSome result (λ fields. fields.not_before ≤ℤ fields.not_after) }
-    ensures begins_in_range { IfSome result (λ fields. IsCertificateTime fields.not_before) }
-    ensures ends_in_range { IfSome result (λ fields. IsCertificateTime fields.not_after) }
+/// The same, with what is known of the validity of each pair.
+fn known_pairing(secret: &Secret) -> Pairing
+    ensures pair { result.pair ≡ is_paired (pair_in secret.now) }
+    ensures begins { result.not_before ≡ begins (pair_in secret.now) }
+    ensures ends { result.not_after ≡ ends (pair_in secret.now) }
+    ensures ordered { result.not_before ≤ℤ result.not_after }
+    ensures begins_in_range { IsCertificateTime result.not_before }
+    ensures ends_in_range { IsCertificateTime result.not_after }
 {
-    match secret {
-        None => None,
-        Some(secret) => pair_in(secret),
+    pairing_in(secret)
+}
+
+/// The renewal of the certificate that the Secret's key and certificate are a pair with.
+fn renewal_in(now: i64, renew: Renew, secret: &Secret) -> Option<i64>
+    ensures { IsFirstAfter now (rules.IsRenewal renew (pair_in secret.now)) result }
+{
+    let known = known_pairing(secret);
+    if known.pair {
+        return coming(
+            now,
+            renewal_time(known.not_before, known.not_after, renew),
+        );
     }
+    None
 }
 
-/// The renewal of that certificate.
+/// The same, if there is a Secret.
 fn renewal(now: i64, renew: Renew, secret: &Option<Shared<Secret>>) -> Option<i64>
     ensures { IsFirstAfter now (rules.IsRenewal renew (pair_at secret.now)) result }
 {
-    match pair_of(secret) {
+    match secret {
         None => None,
-        Some(fields) => renewal_of(now, renew, &fields),
+        Some(secret) => renewal_in(now, renew, secret),
     }
 }
 
-/// Its expiry.
+/// The expiry of that certificate.
+fn expiry_in(now: i64, secret: &Secret) -> Option<i64>
+    ensures { IsFirstAfter now (rules.IsExpiry (pair_in secret.now)) result }
+{
+    let known = known_pairing(secret);
+    if known.pair {
+        return coming(now, known.not_after);
+    }
+    None
+}
+
+/// The same, if there is a Secret.
 fn expiry(now: i64, secret: &Option<Shared<Secret>>) -> Option<i64>
     ensures { IsFirstAfter now (rules.IsExpiry (pair_at secret.now)) result }
 {
-    match pair_of(secret) {
+    match secret {
         None => None,
-        Some(fields) => coming(now, fields.not_after),
+        Some(secret) => expiry_in(now, secret),
     }
 }
 

@@ -1,19 +1,20 @@
 //! The move that a run by one hand makes next.
-ghost use Rattle.std.specs.Prelude.{◌≡◌, IfOk, IfSome, Some, None, if◌then◌else◌};
+ghost use Rattle.std.specs.Prelude.{◌≡◌, IfOk, Some, None, if◌then◌else◌};
 ghost use Rattle.cmc_moves.specs.declared.moves.Move.TheVariants.{Script};
 ghost use Rattle.cmc_world.specs.Kept.{on};
 ghost use Rattle.cmc_plain.specs.Plain.{HasNoDelivery, HasNoPass, IsPlainMove};
-ghost use Rattle.cmc_plain.specs.Ready.{Covers, Knows};
-ghost use Rattle.cmc_plain.specs.Searches.{FindsBegin, IsLeft};
+ghost use Rattle.cmc_plain.specs.Fed.{IsFed};
+ghost use Rattle.cmc_plain.specs.Keeping.{IsKeptRight};
+ghost use Rattle.cmc_plain.specs.Searches.{IsLeft};
 
 use crate::begins::{Beginning, first_begin};
 use crate::deliveries::first_delivery;
-use crate::known::Known;
+use crate::kept::Kept;
 use crate::passes::first_pass;
-use crate::ready::Ready;
 use crate::rest::rests_in_each;
 use crate::scripts::{Awaits, awaited};
-use crate::waking::all_ready;
+use crate::taken_over::queues_of;
+use cmc_waking::Queues;
 use cmc_world::{Move, World};
 use std::alloc::{AllocError, Global};
 
@@ -24,60 +25,29 @@ fn at_rest(left: bool) -> Option<Move>
     if left { Some(Move::Script) } else { None }
 }
 
-/// The keys that are ready, where they are kept, and else all that accepted writes named. An error is one of memory.
-fn taken(alloc: Global, world: &World, ready: &mut Option<Ready>) -> Result<Ready, AllocError>
-    requires { IfSome ready.old (on Covers world.now) }
-    ensures covers { IfOk result (λ rows. on Covers world.now rows) }
-    ensures none { ready.new ≡ None }
-{
-    match ready.take() {
-        Some(ready) => Ok(ready),
-        None => all_ready(alloc, world),
-    }
-}
-
-/// The first begin that is worth it, by the keys that are ready, which are kept from then on.
-fn begin_by(
-    alloc: Global,
-    world: &World,
-    ready: &mut Option<Ready>,
-    known: &mut Known,
-) -> Result<Option<Beginning>, AllocError>
-    requires covers { IfSome ready.old (on Covers world.now) }
-    requires before { on Knows world.now known.old }
-    ensures finds { IfOk result (λ b. on FindsBegin world.now b) }
-    ensures covers { IfSome ready.new (on Covers world.now) }
-    ensures after { on Knows world.now known.new }
-{
-    let mut rows = taken(alloc, world, ready)?;
-    let found = first_begin(alloc, world, &mut rows, known);
-    *ready = Some(rows);
-    found
-}
-
 /// The next move where no pass is open, no role is behind and a step that is left waits for rest.
 fn first_to_begin(
     alloc: Global,
     world: &World,
     left: bool,
-    ready: &mut Option<Ready>,
-    known: &mut Known,
+    queues: &mut Queues,
+    kept: &mut Kept,
 ) -> Result<Option<Move>, AllocError>
     requires left { on IsLeft world.now left }
     requires closed { on HasNoPass world.now }
     requires told { on HasNoDelivery world.now }
-    requires covers { IfSome ready.old (on Covers world.now) }
-    requires before { on Knows world.now known.old }
+    requires fed { on IsFed world.now queues.old }
+    requires kept { on IsKeptRight world.now kept.old }
     ensures plain { IfOk result (λ m. on IsPlainMove world.now m) }
-    ensures covers { IfSome ready.new (on Covers world.now) }
-    ensures after { on Knows world.now known.new }
+    ensures fed { on IsFed world.now queues.new }
+    ensures kept { on IsKeptRight world.now kept.new }
 {
     world.is_run();
     world.is_settled();
-    if rests_in_each(alloc, world, known)? {
+    if rests_in_each(alloc, world, queues, kept)? {
         return Ok(at_rest(left));
     }
-    match begin_by(alloc, world, ready, known)? {
+    match first_begin(alloc, world, queues)? {
         Some(Beginning { role, key }) => Ok(Some(Move::Begin { role, key })),
         None => unreachable!(),
     }
@@ -88,15 +58,15 @@ fn first_of_roles(
     alloc: Global,
     world: &World,
     left: bool,
-    ready: &mut Option<Ready>,
-    known: &mut Known,
+    queues: &mut Queues,
+    kept: &mut Kept,
 ) -> Result<Option<Move>, AllocError>
     requires left { on IsLeft world.now left }
-    requires covers { IfSome ready.old (on Covers world.now) }
-    requires before { on Knows world.now known.old }
+    requires fed { on IsFed world.now queues.old }
+    requires kept { on IsKeptRight world.now kept.old }
     ensures plain { IfOk result (λ m. on IsPlainMove world.now m) }
-    ensures covers { IfSome ready.new (on Covers world.now) }
-    ensures after { on Knows world.now known.new }
+    ensures fed { on IsFed world.now queues.new }
+    ensures kept { on IsKeptRight world.now kept.new }
 {
     if let Some(going) = first_pass(world) {
         return Ok(Some(Move::Next {
@@ -111,10 +81,10 @@ fn first_of_roles(
             to: world.log().last_of_kind(delivery.kind),
         }));
     }
-    first_to_begin(alloc, world, left, ready, known)
+    first_to_begin(alloc, world, left, queues, kept)
 }
 
-/// The move that a run by one hand makes next, as `plain` has it, where every key that is not ready is quiet. Each search is
+/// The move that a run by one hand makes next, as `plain` has it, by the work queues. Each search is
 /// made once: what the step of the script waits for tells where rest is asked at all, and it is asked only where nothing else
 /// is found that says that it is not so.
 ///
@@ -124,19 +94,19 @@ fn first_of_roles(
 pub(crate) fn plain_by(
     alloc: Global,
     world: &World,
-    ready: &mut Option<Ready>,
-    known: &mut Known,
+    queues: &mut Queues,
+    kept: &mut Kept,
 ) -> Result<Option<Move>, AllocError>
-    requires covers { IfSome ready.old (on Covers world.now) }
-    requires before { on Knows world.now known.old }
+    requires fed { on IsFed world.now queues.old }
+    requires kept { on IsKeptRight world.now kept.old }
     ensures plain { IfOk result (λ m. on IsPlainMove world.now m) }
-    ensures covers { IfSome ready.new (on Covers world.now) }
-    ensures after { on Knows world.now known.new }
+    ensures fed { on IsFed world.now queues.new }
+    ensures kept { on IsKeptRight world.now kept.new }
 {
     match awaited(world) {
         Awaits::Nothing => Ok(Some(Move::Script)),
-        Awaits::Rest => first_of_roles(alloc, world, true, ready, known),
-        Awaits::Never => first_of_roles(alloc, world, false, ready, known),
+        Awaits::Rest => first_of_roles(alloc, world, true, queues, kept),
+        Awaits::Never => first_of_roles(alloc, world, false, queues, kept),
     }
 }
 
@@ -152,7 +122,7 @@ pub(crate) fn plain_by(
 pub fn plain(alloc: Global, world: &World) -> Result<Option<Move>, AllocError>
     ensures { IfOk result (λ m. on IsPlainMove world.now m) }
 {
-    let mut ready = None;
-    let mut known = Known::new(alloc, world)?;
-    plain_by(alloc, world, &mut ready, &mut known)
+    let mut queues = queues_of(alloc, world)?;
+    let mut kept = Kept::Nothing;
+    plain_by(alloc, world, &mut queues, &mut kept)
 }

@@ -1,27 +1,21 @@
 //! Passes that begin with what was found of them as they were looked for.
-ghost use Rattle.std.specs.Prelude.{◌≡◌, ℕ, IfOk, IfSome, true};
-ghost use Rattle.cmc_rules.specs.Memory.{past};
+ghost use Rattle.std.specs.Prelude.{◌≡◌, IfOk, IfSome, true};
 ghost use Rattle.cmc_rules.specs.Origins as spec;
-ghost use Rattle.cmc_rules.specs.Passes.{IsWorking};
-ghost use Rattle.cmc_rules.specs.Positions.{positions};
 ghost use Rattle.cmc_rules.specs.Runs.{IsRun};
-ghost use Rattle.cmc_rules.specs.Sameness.{IsDue};
-ghost use Rattle.cmc_rules.specs.Viewing.{views};
-ghost use Rattle.cmc_model.specs.Histories.{moment, runs};
-ghost use Rattle.cmc_moves.specs.Answers.{AnswersBegin, AnswersGoing, IsQueued, Leaves, asked_by};
 ghost use Rattle.cmc_moves.specs.Prospects.{IsFirstAct};
-ghost use Rattle.cmc_moves.specs.declared.moves.Move.TheVariants as moves;
 ghost use Rattle.cmc_world.specs.Kept.{on};
+ghost use Rattle.cmc_plain.specs.Fed.{IsFed};
+ghost use Rattle.cmc_plain.specs.Keeping.{IsMine};
 ghost use Rattle.cmc_plain.specs.Openings.{LeavesNext, LeavesOpened};
-ghost use Rattle.cmc_plain.specs.Ready.{Covers, Knows};
 ghost use Rattle.cmc_plain.specs.Searches.{IsWork};
 
-use crate::known::Known;
-use crate::ready::Ready;
+use crate::fed_begins::begin_due;
+use crate::fed_passes::act_first;
 use cmc_meta::Key;
 use cmc_moves::let_go;
 use cmc_objects::Role;
 use cmc_pass::{Act, Views};
+use cmc_waking::Queues;
 use cmc_world::{Stepped, World};
 use std::alloc::{AllocError, Global};
 
@@ -48,7 +42,18 @@ impl Drop for Opening {
 }
 
 impl Opening {
-    fn into_parts(self) -> (Role, Key, Views, Option<Act>)
+    /// This, where it is of the role and the key.
+    pub(crate) fn only_on(self, role: Role, key: &Key) -> Option<Opening>
+        ensures { IfSome result (λ o. (o ≡ self) × IsMine role key.now o) }
+    {
+        if self.role.rank() == role.rank() && self.key.same(key) {
+            return Some(self);
+        }
+        let_go(self);
+        None
+    }
+
+    pub(crate) fn into_parts(self) -> (Role, Key, Views, Option<Act>)
         ensures { result ≡ (self.role, self.key, self.seen, self.does) }
     {
         let Opening {
@@ -88,73 +93,21 @@ impl Opened {
     }
 }
 
-/// Begins the pass, which may begin. What is known of keys stays so.
-fn begin_known(
-    world: &mut World,
-    ready: &Option<Ready>,
-    known: &Known,
-    role: Role,
-    key: Key,
-    seen: Views,
-) -> Result<Stepped, AllocError>
-    requires running { on runs world.old role ≡ true }
-    requires free { on IsWorking world.old role key → ⊥ }
-    requires due { IsDue (on past world.old role key) seen (on moment world.old) (positions world.old.history role) }
-    requires queued { on IsQueued world.old role key }
-    requires sees { seen ≡ on views world.old role key }
-    requires covers { IfSome ready.now (on Covers world.old) }
-    requires knows { on Knows world.old known.now }
-    ensures answer { IfOk result (λ r. on AnswersBegin world.old role key r) }
-    ensures scenario { world.new.scenario ≡ world.old.scenario }
-    ensures leaves { IfOk result (λ r. on Leaves world.old (moves.Begin role key) r world.new.history) }
-    ensures run { on IsRun world.new }
-    ensures covers { IfSome ready.now (on Covers world.new) }
-    ensures knows { on Knows world.new known.now }
-{
-    world.is_run();
-    world.begin_due(role, key, seen)
-}
-
-/// Has the pass, which has only begun, go on by its act. What is known of keys stays so.
-fn act_known(
-    alloc: Global,
-    world: &mut World,
-    ready: &Option<Ready>,
-    known: &Known,
-    pass: u64,
-    does: Act,
-) -> Result<Stepped, AllocError>
-    requires first { on IsFirstAct world.old pass does }
-    requires covers { IfSome ready.now (on Covers world.old) }
-    requires knows { on Knows world.old known.now }
-    ensures scenario { world.new.scenario ≡ world.old.scenario }
-    ensures leaves { IfOk result (λ r. (named : ℕ) → on Leaves world.old (moves.Next pass named) r world.new.history) }
-    ensures run { on IsRun world.new }
-    ensures covers { IfSome ready.now (on Covers world.new) }
-    ensures knows { on Knows world.new known.now }
-{
-    world.is_run();
-    world.act_first(alloc, pass, does)
-}
-
 /// Has the pass, which was begun so, go on by its act, where that is known and the begin was made.
 fn act_if(
     alloc: Global,
     world: &mut World,
-    ready: &Option<Ready>,
-    known: &Known,
+    queues: &mut Queues,
     begun: bool,
     does: Option<Act>,
 ) -> Result<Option<Stepped>, AllocError>
+    requires fed { on IsFed world.old queues.old }
     requires first { begun ≡ true → IfSome does (on IsFirstAct world.old (on spec.begun world.old)) }
     requires run { on IsRun world.old }
-    requires covers { IfSome ready.now (on Covers world.old) }
-    requires knows { on Knows world.old known.now }
+    ensures fed { on IsFed world.new queues.new }
     ensures scenario { world.new.scenario ≡ world.old.scenario }
     ensures leaves { IfOk result (λ first. on LeavesNext world.old begun does first world.new.history) }
     ensures run { on IsRun world.new }
-    ensures covers { IfSome ready.now (on Covers world.new) }
-    ensures knows { on Knows world.new known.now }
 {
     let Some(does) = does else {
         return Ok(None);
@@ -164,35 +117,35 @@ fn act_if(
         return Ok(None);
     }
     let pass = world.passes_begun();
-    Ok(Some(act_known(alloc, world, ready, known, pass, does)?))
+    Ok(Some(act_first(alloc, world, queues, pass, does)?))
 }
 
-/// Begins the pass, and has it go on by its act, where that is known. What is known of keys stays so.
+/// Begins the pass, and has it go on by its act, where that is known.
 pub(crate) fn open(
     alloc: Global,
     world: &mut World,
-    ready: &Option<Ready>,
-    known: &Known,
+    queues: &mut Queues,
     opening: Opening,
 ) -> Result<Opened, AllocError>
+    requires fed { on IsFed world.old queues.old }
     requires work { on IsWork world.old opening.role opening.key opening }
-    requires covers { IfSome ready.now (on Covers world.old) }
-    requires knows { on Knows world.old known.now }
+    ensures fed { on IsFed world.new queues.new }
     ensures leaves { IfOk result (λ o. on LeavesOpened world.old opening o world.new.history) }
     ensures scenario { world.new.scenario ≡ world.old.scenario }
     ensures run { on IsRun world.new }
-    ensures covers { IfSome ready.now (on Covers world.new) }
-    ensures knows { on Knows world.new known.now }
 {
+    world.is_run();
+    world.is_formed();
+    world.can_act();
     let (role, key, seen, does) = opening.into_parts();
-    let begin = match begin_known(world, ready, known, role, key, seen) {
+    let begin = match begin_due(world, queues, role, key, seen) {
         Ok(begin) => begin,
         Err(lack) => {
             let_go(does);
             return Err(lack);
         }
     };
-    match act_if(alloc, world, ready, known, begin.is_done(), does) {
+    match act_if(alloc, world, queues, begin.is_done(), does) {
         Ok(first) => Ok(Opened { begin, first }),
         Err(lack) => Err(lack),
     }

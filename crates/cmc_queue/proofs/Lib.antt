@@ -3,5 +3,6 @@ pub mod Places
 pub mod Ticking
 pub mod Moving
 pub mod Waits
-pub mod Firsts
 pub mod Counts
+pub mod FirstRows
+pub mod RowOrder

@@ -1,16 +1,18 @@
 -- The row of one key changes, and of no other.
-use Rattle.std.proofs.Common.{◌≡◌, ◌⊎◌, inl, inr, Option, Some, None, Bool, true, false, cond, refl, sym, ap, ◌∙◌, subst, rules, Ordering, Less, Equal, Greater}
-use Rattle.std.specs.BTreeMap.{BTreeMap, WritesThrough, get_by, is_at}
-use Rattle.std.specs.Cmp.{tied_itself}
+use Rattle.std.proofs.Common.{◌≡◌, ℕ, List, Option, Some, None, Bool, true, false, refl, sym, ap, ◌∙◌, is_some, rules, inl, inr, Ordering, Less, Equal, Greater}
+use Rattle.std.proofs.lemmas.Map.Entries.{lookup_from_place}
+use Rattle.std.specs.Prelude.{◌⊎◌, if◌then◌else◌, slice_get}
+use Rattle.std.specs.Cmp.{IsEquivalence}
 use Rattle.std.specs.Cmp.Rules.{comparing}
-use Rattle.std.specs.Map.{lookup}
+use Rattle.std.specs.List.{IsDistinct}
+use Rattle.std.specs.Map.{keys_of, lookup}
 use Rattle.std.specs.Ordering.{is_eq}
-use Rattle.std.specs.Prelude.{IsSome, if◌then◌else◌, is_some, List}
+use Rattle.std.proofs.lemmas.Cmp.{tied_itself}
 use Rattle.cmc_meta.specs.declared.key.Key.{Key}
 use Rattle.cmc_meta.specs.Keys.{key_cmp, key_eq}
-use Rattle.cmc_queue.specs.declared.row.Row.{Row}
-use Rattle.cmc_queue.specs.Rows.{no_row, row_in, row_or_new, has_row}
 use Rattle.cmc_meta.proofs.KeyOrder.{key_cmp-IsAntisymmetric, key_cmp-total}
+use Rattle.cmc_queue.specs.declared.row.Row.{Row}
+use Rattle.cmc_queue.specs.Rows.{has_row, no_row, row_in, row_or_new}
 
 -- keys that tie in the order are those that the test finds equal
 pub key_tie : (a b : Key) → is_eq (key_cmp a b) ≡ key_eq a b
@@ -24,8 +26,14 @@ tied Greater h = absurd (cc)
 pub same_key : (a b : Key) → is_eq (key_cmp a b) ≡ true → a ≡ b
 same_key a b h = key_cmp-IsAntisymmetric a b (tied (key_cmp a b) h)
 
+pub same_by_test : (a b : Key) → key_eq a b ≡ true → a ≡ b
+same_by_test a b e = same_key a b (key_tie a b ∙ e)
+
 pub equal_keys : (k : Key) → key_eq k k ≡ true
 equal_keys k = sym (key_tie k k) ∙ ap is_eq (tied_itself key_cmp-total k)
+
+pub key_eq-laws : IsEquivalence key_eq
+key_eq-laws = search (comparing, rules)
 
 -- a row that is as before or f of that stays so where it becomes f of itself
 pub one_row : (b : Bool) (f : Row → Row) → ((r : Row) → f (f r) ≡ f r) → (before was is : Row) → is ≡ (if b then f was else was) → (was ≡ before) ⊎ (was ≡ f before) → (is ≡ before) ⊎ (is ≡ f before)
@@ -39,79 +47,71 @@ pub come : (f : Row → Row) (before is : Row) → f is ≡ is → (is ≡ befor
 come f before is none (inl same) = sym none ∙ ap f same
 come f before is none (inr done) = done
 
-chosen : (b : Bool) (f : Row → Row) (es new : List (Key × Row)) (key k : Key) → is_eq (key_cmp key k) ≡ b
-    → lookup (is_at (key_cmp k)) new ≡ cond b (Some (f (row_in es key))) (lookup (is_at (key_cmp k)) es) → row_in new k ≡ (if b then f (row_in es k) else row_in es k)
+written : (b : Bool) (old new : List (Key × Row)) (k : Key) (row : Row) → lookup (key_eq k) new ≡ (if b then Some row else lookup (key_eq k) old) → row_in new k ≡ (if b then row else row_in old k)
 unfolding row_in
-chosen true f es new key k e at = ap row_or_new at ∙ ap (λ q. f (row_in es q)) (same_key key k e)
-chosen false f es new key k e at = ap row_or_new at
+written true old new k row at = ap row_or_new at
+written false old new k row at = ap row_or_new at
 
--- a map that is written through at the key
-pub row_changed : (f : Row → Row) (m n : BTreeMap Key Row) (key : Key) (old row : Row) → get_by (key_cmp key) m ≡ Some old → row ≡ f old → WritesThrough key_cmp (key_cmp key) m row n
-    → (k : Key) → row_in n.entries k ≡ (if key_eq key k then f (row_in m.entries k) else row_in m.entries k)
-unfolding row_in
-row_changed f m n key old row found is through k =
-    let some : IsSome (get_by (key_cmp key) m) = rw found refl in
-    let value : row ≡ f (row_in m.entries key) = is ∙ ap (λ o. f (row_or_new o)) (sym found) in
-    subst (λ b. row_in n.entries k ≡ (if b then f (row_in m.entries k) else row_in m.entries k)) (key_tie key k)
-    (chosen (is_eq (key_cmp key k)) f m.entries n.entries key k refl ((through.3 some).0 k ∙ ap (λ v. cond (is_eq (key_cmp key k)) (Some v) (lookup (is_at (key_cmp k)) m.entries)) value))
+-- the row that is written at a key
+pub row_written : (old new : List (Key × Row)) (key : Key) (row : Row) → ((k : Key) → lookup (key_eq k) new ≡ (if key_eq key k then Some row else lookup (key_eq k) old))
+    → (k : Key) → row_in new k ≡ (if key_eq key k then row else row_in old k)
+row_written old new key row each k = written (key_eq key k) old new k row (each k)
 
-unchanged : (b : Bool) (f : Row → Row) (es : List (Key × Row)) (key k : Key) → is_eq (key_cmp key k) ≡ b → f no_row ≡ no_row → lookup (is_at (key_cmp key)) es ≡ None
-    → row_in es k ≡ (if b then f (row_in es k) else row_in es k)
-unfolding row_in
-unchanged true f es key k e is none =
-    let at : lookup (is_at (key_cmp k)) es ≡ None = ap (λ q. lookup (is_at (key_cmp q)) es) (sym (same_key key k e)) ∙ none in
-    let old : row_or_new (lookup (is_at (key_cmp k)) es) ≡ no_row = ap row_or_new at in
-    old ∙ sym is ∙ ap f (sym old)
-unchanged false f es key k e is none = refl
+kept : (b : Bool) (old new : List (Key × Row)) (key k : Key) (row was : Row) → key_eq key k ≡ b → lookup (key_eq key) old ≡ Some was → lookup (key_eq k) new ≡ (if b then Some row else lookup (key_eq k) old)
+    → has_row new k ≡ has_row old k
+unfolding has_row
+kept true old new key k row was e found at = ap is_some at ∙ sym (ap is_some (ap (λ q. lookup (key_eq q) old) (sym (same_by_test key k e)) ∙ found))
+kept false old new key k row was e found at = ap is_some at
 
-added : (b : Bool) (es new : List (Key × Row)) (key k : Key) → is_eq (key_cmp key k) ≡ b → lookup (is_at (key_cmp key)) es ≡ None
-    → lookup (is_at (key_cmp k)) new ≡ cond b (Some no_row) (lookup (is_at (key_cmp k)) es) → row_in new k ≡ row_in es k
-unfolding row_in
-added true es new key k e none at = ap row_or_new at ∙ sym (ap row_or_new (ap (λ q. lookup (is_at (key_cmp q)) es) (sym (same_key key k e)) ∙ none))
-added false es new key k e none at = ap row_or_new at
+-- of a key that had one
+pub rooms_kept : (old new : List (Key × Row)) (key : Key) (row was : Row) → lookup (key_eq key) old ≡ Some was → ((k : Key) → lookup (key_eq k) new ≡ (if key_eq key k then Some row else lookup (key_eq k) old))
+    → (k : Key) → has_row new k ≡ has_row old k
+rooms_kept old new key row was found each k = kept (key_eq key k) old new key k row was refl found (each k)
 
-none_from_test : (o : Option Row) → is_some o ≡ false → o ≡ None
+pub none_from_test : (o : Option Row) → is_some o ≡ false → o ≡ None
 none_from_test None h = refl
 none_from_test (Some row) h = absurd (cc)
 
--- a key that is not found has no row, and its copy neither
-pub none_at_copy : (es : List (Key × Row)) (key copy : Key) → is_some (lookup (is_at (key_cmp key)) es) ≡ false → copy ≡ key → lookup (is_at (key_cmp copy)) es ≡ None
-none_at_copy es key copy absent same = ap (λ q. lookup (is_at (key_cmp q)) es) same ∙ none_from_test _ absent
+-- a key that is not found has no row
+pub no_row_found : (es : List (Key × Row)) (key : Key) → is_some (lookup (key_eq key) es) ≡ false → row_in es key ≡ no_row
+unfolding row_in
+no_row_found es key absent = ap row_or_new (none_from_test (lookup (key_eq key) es) absent)
 
--- a map to which the key is added with nothing to do
-pub row_added : (es new : List (Key × Row)) (key copy : Key) (row : Row) → is_some (lookup (is_at (key_cmp key)) es) ≡ false → copy ≡ key → row ≡ no_row
-    → ((q : Key) → lookup (is_at (key_cmp q)) new ≡ cond (is_at (key_cmp copy) q) (Some row) (lookup (is_at (key_cmp q)) es)) → (k : Key) → row_in new k ≡ row_in es k
-row_added es new key copy row absent same is each k =
-    let none : lookup (is_at (key_cmp copy)) es ≡ None = ap (λ q. lookup (is_at (key_cmp q)) es) same ∙ none_from_test _ absent in
-    added (is_eq (key_cmp copy k)) es new copy k refl none (each k ∙ ap (λ v. cond (is_eq (key_cmp copy k)) (Some v) (lookup (is_at (key_cmp k)) es)) is)
-
-none_kept : (o : Option Row) → is_some o ≡ true → o ≡ None → ⊥
-none_kept None h none = absurd (cc)
-none_kept (Some row) h none = absurd (cc)
-
-some_of : (o : Option Row) (row : Row) → o ≡ Some row → is_some o ≡ true
-some_of o row is = ap is_some is
-
-stays : (b : Bool) (es new : List (Key × Row)) (key k : Key) (old row : Row) → is_eq (key_cmp key k) ≡ b → lookup (is_at (key_cmp key)) es ≡ Some old
-    → lookup (is_at (key_cmp k)) new ≡ cond b (Some row) (lookup (is_at (key_cmp k)) es) → has_row new k ≡ has_row es k
-unfolding has_row
-stays true es new key k old row e found at =
-    ap is_some at ∙ sym (ap is_some (ap (λ q. lookup (is_at (key_cmp q)) es) (sym (same_key key k e)) ∙ found))
-stays false es new key k old row e found at = ap is_some at
-
--- a map that is written through at a key keeps its room
-pub rooms_stay : (m n : BTreeMap Key Row) (key : Key) (old row : Row) → get_by (key_cmp key) m ≡ Some old → WritesThrough key_cmp (key_cmp key) m row n
-    → (k : Key) → has_row n.entries k ≡ has_row m.entries k
-rooms_stay m n key old row found through k =
-    let some : IsSome (get_by (key_cmp key) m) = rw found refl in
-    stays (is_eq (key_cmp key k)) m.entries n.entries key k old row refl found ((through.3 some).0 k)
+-- nor has one that has no room
+pub no_row_without : (es : List (Key × Row)) (key : Key) → has_row es key ≡ false → row_in es key ≡ no_row
+unfolding row_in has_row
+no_row_without es key absent = ap row_or_new (none_from_test (lookup (key_eq key) es) absent)
 
 -- the row that is found
-pub row_found : (es : List (Key × Row)) (key : Key) (row : Row) → lookup (is_at (key_cmp key)) es ≡ Some row → row_in es key ≡ row
+pub row_found : (es : List (Key × Row)) (key : Key) (row : Row) → lookup (key_eq key) es ≡ Some row → row_in es key ≡ row
 unfolding row_in
 row_found es key row found = ap row_or_new found
 
--- a key that is not found has no row
-pub no_row_found : (es : List (Key × Row)) (key : Key) → is_some (lookup (is_at (key_cmp key)) es) ≡ false → row_in es key ≡ no_row
-unfolding row_in
-no_row_found es key absent = ap row_or_new (none_from_test (lookup (is_at (key_cmp key)) es) absent)
+added : (b : Bool) (old new : List (Key × Row)) (key k : Key) → key_eq key k ≡ b → has_row old key ≡ false → lookup (key_eq k) new ≡ (if b then Some no_row else lookup (key_eq k) old) → row_in new k ≡ row_in old k
+unfolding row_in has_row
+added true old new key k e none at = ap row_or_new at ∙ sym (ap row_or_new (ap (λ q. lookup (key_eq q) old) (sym (same_by_test key k e)) ∙ none_from_test (lookup (key_eq key) old) none))
+added false old new key k e none at = ap row_or_new at
+
+-- a row is put in for a key that had none
+pub row_put_in : (old new : List (Key × Row)) (key : Key) → has_row old key ≡ false → ((k : Key) → lookup (key_eq k) new ≡ (if key_eq key k then Some no_row else lookup (key_eq k) old)) → (k : Key) → row_in new k ≡ row_in old k
+row_put_in old new key none each k = added (key_eq key k) old new key k refl none (each k)
+
+more : (b : Bool) (old new : List (Key × Row)) (k : Key) → lookup (key_eq k) new ≡ (if b then Some no_row else lookup (key_eq k) old) → has_row old k ≡ true → has_row new k ≡ true
+unfolding has_row
+more true old new k at has = ap is_some at
+more false old new k at has = ap is_some at ∙ has
+
+pub rooms_put_in : (old new : List (Key × Row)) (key : Key) → ((k : Key) → lookup (key_eq k) new ≡ (if key_eq key k then Some no_row else lookup (key_eq k) old)) → (k : Key) → has_row old k ≡ true → has_row new k ≡ true
+rooms_put_in old new key each k has = more (key_eq key k) old new k (each k) has
+
+own_room : (b : Bool) (old new : List (Key × Row)) (key : Key) → b ≡ true → lookup (key_eq key) new ≡ (if b then Some no_row else lookup (key_eq key) old) → has_row new key ≡ true
+unfolding has_row
+own_room true old new key e at = ap is_some at
+own_room false old new key e at = absurd (cc)
+
+pub room_put_in : (old new : List (Key × Row)) (key : Key) → ((k : Key) → lookup (key_eq k) new ≡ (if key_eq key k then Some no_row else lookup (key_eq k) old)) → has_row new key ≡ true
+room_put_in old new key each = own_room (key_eq key key) old new key (equal_keys key) (each key)
+
+-- the row at a place is the key's
+pub found_at : (es : List (Key × Row)) (i : ℕ) (key : Key) (row : Row) → IsDistinct key_eq (keys_of es) → slice_get es i ≡ Some (key, row) → lookup (key_eq key) es ≡ Some row
+found_at es i key row distinct at = lookup_from_place key_eq-laws es i key row distinct at

@@ -1,18 +1,18 @@
 -- What waits is found where it is looked for, after each change of the rows.
 use Rattle.std.proofs.Common.{◌≡◌, ℕ, ℤ, Bool, true, false, List, Option, Some, None, refl, sym, ap, ◌∙◌, subst, int_le}
-use Rattle.std.specs.BTreeMap.{is_at}
 use Rattle.std.specs.Map.{lookup}
 use Rattle.std.specs.Prelude.{◌==◌, if◌then◌else◌, is_some}
 use Rattle.cmc_meta.specs.declared.key.Key.{Key}
 use Rattle.cmc_meta.specs.declared.key.Kind.{Kind}
 use Rattle.cmc_meta.specs.declared.key.Kind.TheVariants.{Certificate, CertificateRequest, Secret}
-use Rattle.cmc_meta.specs.Keys.{key_cmp, key_eq, kind_rank}
+use Rattle.cmc_meta.specs.Keys.{key_eq, kind_rank}
 use Rattle.cmc_queue.specs.declared.row.Parked.{Parked}
-use Rattle.cmc_queue.specs.declared.row.Found.TheVariants.{Unknown, Something}
+use Rattle.cmc_queue.specs.declared.row.Found.TheVariants.{Unknown, Nothing, Something}
+use Rattle.cmc_queue.specs.declared.row.Found.{Found}
 use Rattle.cmc_queue.specs.declared.row.Row.{Row}
-use Rattle.cmc_queue.specs.Rows.{earlier, earliest, has_row, is_due, is_free, is_reached, lapsed, moved, row_in, row_or_new, taken, ticked}
-use Rattle.cmc_queue.specs.Queues.{has_room_for, is_listed, is_noted, IsFound, IsLooked, IsParked, IsTimed, Work}
-use Rattle.cmc_queue.proofs.OneRow.{key_tie, same_key}
+use Rattle.cmc_queue.specs.Rows.{added, earlier, has_row, is_due, is_free, is_reached, is_unknown, lapsed, moved, row_in, row_or_new, taken, ticked}
+use Rattle.cmc_queue.specs.Queues.{has_room_for, is_listed, is_noted, IsFound, IsParked, IsTimed, Work}
+use Rattle.cmc_queue.proofs.OneRow.{same_by_test}
 use Rattle.cmc_queue.proofs.Moving.{still_parked}
 
 -- ---- a key with something to do has a row
@@ -27,11 +27,11 @@ working_kept (Some row) e = refl
 
 pub free_has_row : (rows : List (Key × Row)) (key : Key) → is_free (row_in rows key) ≡ true → has_row rows key ≡ true
 unfolding row_in has_row
-free_has_row rows key e = free_kept (lookup (is_at (key_cmp key)) rows) e
+free_has_row rows key e = free_kept (lookup (key_eq key) rows) e
 
 pub working_has_row : (rows : List (Key × Row)) (key : Key) → (row_in rows key).working ≡ true → has_row rows key ≡ true
 unfolding row_in has_row
-working_has_row rows key e = working_kept (lookup (is_at (key_cmp key)) rows) e
+working_has_row rows key e = working_kept (lookup (key_eq key) rows) e
 
 reached_kept : (kind : Kind) (to : ℕ) (o : Option Row) → is_reached kind to (row_or_new o).parked ≡ true → is_some o ≡ true
 reached_kept kind to None e = absurd (cc)
@@ -43,16 +43,13 @@ due_kept now (Some row) e = refl
 
 pub reached_has_row : (kind : Kind) (to : ℕ) (rows : List (Key × Row)) (key : Key) → is_reached kind to (row_in rows key).parked ≡ true → has_row rows key ≡ true
 unfolding row_in has_row
-reached_has_row kind to rows key e = reached_kept kind to (lookup (is_at (key_cmp key)) rows) e
+reached_has_row kind to rows key e = reached_kept kind to (lookup (key_eq key) rows) e
 
 pub due_has_row : (now : ℤ) (rows : List (Key × Row)) (key : Key) → is_due now (row_in rows key).timed ≡ true → has_row rows key ≡ true
 unfolding row_in has_row
-due_has_row now rows key e = due_kept now (lookup (is_at (key_cmp key)) rows) e
+due_has_row now rows key e = due_kept now (lookup (key_eq key) rows) e
 
 -- ---- one row changes
-
-pub same_by_test : (a b : Key) → key_eq a b ≡ true → a ≡ b
-same_by_test a b e = same_key a b (key_tie a b ∙ e)
 
 pub part_before : {X : Type 0} (part : Row → X) (b : Bool) (rows new : List (Key × Row)) (key k : Key) (row : Row) → key_eq key k ≡ b → row_in new k ≡ (if b then row else row_in rows k)
     → part row ≡ part (row_in rows key) → part (row_in new k) ≡ part (row_in rows k)
@@ -77,39 +74,47 @@ as_it_was false f rows key k e same = refl
 pub changed_by_nothing : (f : Row → Row) (rows : List (Key × Row)) (key : Key) → f (row_in rows key) ≡ row_in rows key → (k : Key) → row_in rows k ≡ (if key_eq key k then f (row_in rows k) else row_in rows k)
 changed_by_nothing f rows key same k = as_it_was (key_eq key k) f rows key k refl same
 
--- whatever waits for the row stays as it was: its moment, its version, and a finding
+-- whatever waits for the row stays as it was: its moment and its version
 pub record IsAsFound (old new : Row) : Type 0 where
   pub timed : new.timed ≡ old.timed
   pub parked : new.parked ≡ old.parked
-  pub work : new.work ≡ Something → old.work ≡ Something
 
 waits_same : (b : Bool) (row : Row) → IsAsFound row (if b then record row { ready = false; work = Unknown; working = true } else row)
-waits_same true row = record { timed = refl; parked = refl; work = λ is. absurd (cc is) }
-waits_same false row = record { timed = refl; parked = refl; work = λ is. is }
+waits_same true row = record { timed = refl; parked = refl }
+waits_same false row = record { timed = refl; parked = refl }
 
 -- a key that is given waits for what it waited for
 pub taken_waits : (row : Row) → IsAsFound row (taken row)
 taken_waits row = waits_same (is_free row) row
 
--- a finding at the key, or as it was
-pub looked_here : (b : Bool) (rows new : List (Key × Row)) (due : List (ℤ × Key)) (key k : Key) (row : Row) → key_eq key k ≡ b → row_in new k ≡ (if b then row else row_in rows k)
-    → (row.work ≡ Something → is_noted due earliest key ≡ true) → IsLooked rows due → (row_in new k).work ≡ Something → is_noted due earliest k ≡ true
-looked_here true rows new due key k row e each place so is = subst (λ (q : Key). is_noted due earliest q ≡ true) (same_by_test key k e) (place (sym (ap (λ r. r.work) each) ∙ is))
-looked_here false rows new due key k row e each place so is = so k (sym (ap (λ r. r.work) each) ∙ is)
-
 -- the row that is written waits for what the old one waits for
 pub found_by_put : (q : Work) (new : List (Key × Row)) (key : Key) (row : Row) → IsFound q → row.timed ≡ (row_in q.rows key).timed → row.parked ≡ (row_in q.rows key).parked
-    → (row.work ≡ Something → is_noted q.moments earliest key ≡ true) → ((k : Key) → row_in new k ≡ (if key_eq key k then row else row_in q.rows k))
+    → ((k : Key) → row_in new k ≡ (if key_eq key k then row else row_in q.rows k))
     → IsFound (record { rows = new; moments = q.moments; certificates = q.certificates; requests = q.requests; secrets = q.secrets })
-found_by_put q new key row so timed parked looked each = record {
+found_by_put q new key row so timed parked each = record {
   timed = λ k at is. so.timed k at (sym (part_before (λ r. r.timed) (key_eq key k) q.rows new key k row refl (each k) timed) ∙ is);
-  looked = λ k is. looked_here (key_eq key k) q.rows new q.moments key k row refl (each k) looked so.looked is;
   certificates = λ k p is. so.certificates k p (sym (stays k) ∙ is);
   requests = λ k p is. so.requests k p (sym (stays k) ∙ is);
   secrets = λ k p is. so.secrets k p (sym (stays k) ∙ is);
 } where
   stays : (k : Key) → (row_in new k).parked ≡ (row_in q.rows k).parked
   stays k = part_before (λ r. r.parked) (key_eq key k) q.rows new key k row refl (each k) parked
+
+same_part : {X : Type 0} (part : Row → X) (f : Row → Row) → ((r : Row) → part (f r) ≡ part r) → (b : Bool) (row : Row) → part (if b then f row else row) ≡ part row
+same_part part f same true row = same row
+same_part part f same false row = refl
+
+-- what is added waits for what it waited for
+pub found_by_adding : (q : Work) (new : List (Key × Row)) (key : Key) → IsFound q → ((k : Key) → row_in new k ≡ (if key_eq key k then added (row_in q.rows k) else row_in q.rows k))
+    → IsFound (record { rows = new; moments = q.moments; certificates = q.certificates; requests = q.requests; secrets = q.secrets })
+found_by_adding q new key so each = record {
+  timed = λ k at is. so.timed k at (sym (ap (λ (r : Row). r.timed) (each k) ∙ same_part (λ r. r.timed) added (λ r. refl) (key_eq key k) (row_in q.rows k)) ∙ is);
+  certificates = λ k p is. so.certificates k p (sym (stays k) ∙ is);
+  requests = λ k p is. so.requests k p (sym (stays k) ∙ is);
+  secrets = λ k p is. so.secrets k p (sym (stays k) ∙ is);
+} where
+  stays : (k : Key) → (row_in new k).parked ≡ (row_in q.rows k).parked
+  stays k = ap (λ (r : Row). r.parked) (each k) ∙ same_part (λ r. r.parked) added (λ r. refl) (key_eq key k) (row_in q.rows k)
 
 chosen : (b : Bool) (old at : ℤ) (due : List (ℤ × Key)) (key : Key) → is_noted due at key ≡ true → is_noted due old key ≡ true → is_noted due (if b then old else at) key ≡ true
 chosen true old at due key new before = before
@@ -132,11 +137,10 @@ timed_here false rows new due key k row at t e each row_is place so is = so k t 
 
 -- the key is timed where it has a place
 pub found_by_timing : (q : Work) (new : List (Key × Row)) (key : Key) (row : Row) (at : ℤ) → IsFound q → is_noted q.moments at key ≡ true → row.timed ≡ Some (earlier at (row_in q.rows key).timed)
-    → row.parked ≡ (row_in q.rows key).parked → row.work ≡ (row_in q.rows key).work → ((k : Key) → row_in new k ≡ (if key_eq key k then row else row_in q.rows k))
+    → row.parked ≡ (row_in q.rows key).parked → ((k : Key) → row_in new k ≡ (if key_eq key k then row else row_in q.rows k))
     → IsFound (record { rows = new; moments = q.moments; certificates = q.certificates; requests = q.requests; secrets = q.secrets })
-found_by_timing q new key row at so place timed parked work each = record {
+found_by_timing q new key row at so place timed parked each = record {
   timed = λ k t is. timed_here (key_eq key k) q.rows new q.moments key k row at t refl (each k) timed place so.timed is;
-  looked = λ k is. looked_here (key_eq key k) q.rows new q.moments key k row refl (each k) (λ found. so.looked key (sym work ∙ found)) so.looked is;
   certificates = λ k p is. so.certificates k p (sym (stays k) ∙ is);
   requests = λ k p is. so.requests k p (sym (stays k) ∙ is);
   secrets = λ k p is. so.secrets k p (sym (stays k) ∙ is);
@@ -170,11 +174,10 @@ secret_place other version q key place is = absurd (cc is)
 
 -- the key waits for a version where it has a place
 pub found_by_parking : (q : Work) (new : List (Key × Row)) (key : Key) (row : Row) (kind : Kind) (version : ℕ) → IsFound q → has_room_for q kind version key ≡ true → row.parked ≡ Some (record { kind = kind; version = version })
-    → row.timed ≡ (row_in q.rows key).timed → row.work ≡ (row_in q.rows key).work → ((k : Key) → row_in new k ≡ (if key_eq key k then row else row_in q.rows k))
+    → row.timed ≡ (row_in q.rows key).timed → ((k : Key) → row_in new k ≡ (if key_eq key k then row else row_in q.rows k))
     → IsFound (record { rows = new; moments = q.moments; certificates = q.certificates; requests = q.requests; secrets = q.secrets })
-found_by_parking q new key row kind version so place parked timed work each = record {
+found_by_parking q new key row kind version so place parked timed each = record {
   timed = λ k at is. so.timed k at (sym (part_before (λ r. r.timed) (key_eq key k) q.rows new key k row refl (each k) timed) ∙ is);
-  looked = λ k is. looked_here (key_eq key k) q.rows new q.moments key k row refl (each k) (λ found. so.looked key (sym work ∙ found)) so.looked is;
   certificates = λ k p is. parked_here (key_eq key k) Certificate kind version q.rows new q.certificates key k row p refl (each k) parked (certificate_place kind version q key place) so.certificates is;
   requests = λ k p is. parked_here (key_eq key k) CertificateRequest kind version q.rows new q.requests key k row p refl (each k) parked (request_place kind version q key place) so.requests is;
   secrets = λ k p is. parked_here (key_eq key k) Secret kind version q.rows new q.secrets key k row p refl (each k) parked (secret_place kind version q key place) so.secrets is;
@@ -202,21 +205,20 @@ moved_timed : (kind : Kind) (to : ℕ) (row : Row) → (moved kind to row).timed
 unfolding moved
 moved_timed kind to row = timed_by_version _ row
 
--- a version changes nothing for what waits for a moment, and lets nothing more wait
+-- a version changes nothing for what waits for a moment
 pub timed_by_move : (kind : Kind) (to : ℕ) (rows new : List (Key × Row)) (due : List (ℤ × Key)) → ((k : Key) → row_in new k ≡ moved kind to (row_in rows k)) → IsTimed rows due → IsTimed new due
 timed_by_move kind to rows new due each so k at is = so k at (sym (ap (λ r. r.timed) (each k) ∙ moved_timed kind to (row_in rows k)) ∙ is)
 
-found_by_version : (b : Bool) (row : Row) → (if b then record row { ready = true; work = Unknown; parked = None } else row).work ≡ Something → row.work ≡ Something
-found_by_version true row is = absurd (cc is)
-found_by_version false row is = is
-
-moved_work : (kind : Kind) (to : ℕ) (row : Row) → (moved kind to row).work ≡ Something → row.work ≡ Something
-unfolding moved
-moved_work kind to row = found_by_version _ row
-
--- a version finds nothing out
-pub looked_by_move : (kind : Kind) (to : ℕ) (rows new : List (Key × Row)) (due : List (ℤ × Key)) → ((k : Key) → row_in new k ≡ moved kind to (row_in rows k)) → IsLooked rows due → IsLooked new due
-looked_by_move kind to rows new due each so k is = so k (moved_work kind to (row_in rows k) (sym (ap (λ r. r.work) (each k)) ∙ is))
-
 pub parked_by_move : (other kind : Kind) (to : ℕ) (rows new : List (Key × Row)) (versions : List (ℕ × Key)) → ((k : Key) → row_in new k ≡ moved kind to (row_in rows k)) → IsParked other rows versions → IsParked other new versions
 parked_by_move other kind to rows new versions each so k p is = so k p (still_parked kind to (row_in rows k) p (sym (ap (λ r. r.parked) (each k)) ∙ is)).0
+
+-- ---- a key that is ready and to be looked at
+
+unknown_is : (work : Found) → is_unknown work ≡ true → work ≡ Unknown
+unknown_is Unknown on = refl
+unknown_is Nothing on = absurd (cc on)
+unknown_is Something on = absurd (cc on)
+
+-- stays as it is where it is added
+pub added_stays : (row : Row) → row.ready ≡ true → is_unknown row.work ≡ true → added row ≡ row
+added_stays row ready on = let work = unknown_is row.work on in λ i. record row { ready = sym ready i; work = sym work i }

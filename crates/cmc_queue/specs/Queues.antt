@@ -1,17 +1,16 @@
 -- What contracts see of a work queue.
 use Rattle.std.specs.Prelude.{◌≡◌, ℕ, ℤ, ◌==◌, Bool, true, false, List, [], ◌∷◌, ◌+◌, Option, Some, None, if◌then◌else◌, int_le, nat_le}
 use Rattle.std.specs.List.{list_any}
-use Rattle.std.specs.Ordering.{int_cmp, nat_cmp, is_eq, ordering_then}
+use Rattle.std.specs.Ordering.{int_cmp, nat_cmp, is_eq, is_lt, ordering_then}
 use Rattle.std.specs.declared.cmp.Ordering.{Ordering}
 use Rattle.std.specs.declared.cmp.Ordering.TheVariants.{Less}
 use Rattle.cmc_meta.specs.declared.key.Key.{Key}
 use Rattle.cmc_meta.specs.declared.key.Kind.{Kind}
 use Rattle.cmc_meta.specs.declared.key.Kind.TheVariants.{Certificate, CertificateRequest, Secret}
 use Rattle.cmc_meta.specs.Keys.{key_cmp, key_eq, kind_rank}
-use Rattle.cmc_queue.specs.declared.row.Found.TheVariants.{Something}
 use Rattle.cmc_queue.specs.declared.row.Parked.{Parked}
 use Rattle.cmc_queue.specs.declared.row.Row.{Row}
-use Rattle.cmc_queue.specs.Rows.{earliest, is_free, is_fresh, row_in, has_row}
+use Rattle.cmc_queue.specs.Rows.{is_found, is_free, is_fresh, is_pending, row_in, has_row}
 
 -- a work queue: the rows of the keys, and the places where keys can wait for moments and for versions of each kind
 pub record Work : Type 0 where
@@ -42,6 +41,11 @@ FindsFirst test (Some key) = (test key ≡ true) × ((k : Key) → key_cmp k key
 abbrev pub is_offered : Work → Key → Bool
 is_offered q key = is_free (row_of q key)
 
+-- the key comes after this one, if there is one
+abbrev pub is_above : Option Key → Key → Bool
+is_above None key = true
+is_above (Some below) key = is_lt (key_cmp below key)
+
 -- ---- room
 
 -- whether the key stands with what it waits for, in the order of that
@@ -70,9 +74,9 @@ has_room q key = has_row q.rows key
 abbrev pub has_room_at : Work → ℤ → Key → Bool
 has_room_at q at key = is_noted q.moments at key
 
--- the key has a place for what a look finds: with a row something may be found there
+-- the key has a row, in which it stands what a look found there
 abbrev pub has_room_to_find : Work → Key → Bool
-has_room_to_find q key = is_noted q.moments earliest key
+has_room_to_find q key = has_row q.rows key
 
 -- the key has a place at the version: with a row it can wait for that version of the kind
 abbrev pub has_room_for : Work → Kind → ℕ → Key → Bool
@@ -135,10 +139,13 @@ free_count = count_of is_free
 abbrev pub fresh_count : List (Key × Row) → ℕ
 fresh_count = count_of is_fresh
 
--- the counts are right
-pub record IsTallied (rows : List (Key × Row)) (given unknown : ℕ) : Type 0 where
-  pub free : given ≡ free_count rows
-  pub fresh : unknown ≡ fresh_count rows
+-- of how many keys a look found that there is something to do
+abbrev pub found_count : List (Key × Row) → ℕ
+found_count = count_of is_found
+
+-- on how many of them there may be something to do
+abbrev pub pending_count : List (Key × Row) → ℕ
+pending_count = count_of is_pending
 
 -- each key that is timed stands among the moments
 abbrev pub IsTimed : List (Key × Row) → List (ℤ × Key) → Type 0
@@ -148,14 +155,9 @@ IsTimed rows due = (key : Key) (at : ℤ) → (row_in rows key).timed ≡ Some a
 abbrev pub IsParked : Kind → List (Key × Row) → List (ℕ × Key) → Type 0
 IsParked kind rows versions = (key : Key) (p : Parked) → (row_in rows key).parked ≡ Some p → (kind_rank p.kind == kind_rank kind) ≡ true → is_listed versions p.version key ≡ true
 
--- each key on which something was found stands at the earliest moment
-abbrev pub IsLooked : List (Key × Row) → List (ℤ × Key) → Type 0
-IsLooked rows due = (key : Key) → (row_in rows key).work ≡ Something → is_noted due earliest key ≡ true
-
 -- whatever waits has its place
 pub record IsFound (q : Work) : Type 0 where
   pub timed : IsTimed q.rows q.moments
-  pub looked : IsLooked q.rows q.moments
   pub certificates : IsParked Certificate q.rows q.certificates
   pub requests : IsParked CertificateRequest q.rows q.requests
   pub secrets : IsParked Secret q.rows q.secrets

@@ -1,14 +1,15 @@
 -- What a work queue keeps of one key, and what each call makes of it.
-use Rattle.std.specs.Prelude.{ℕ, ℤ, negsuc, ◌==◌, ◌&&◌, not, Bool, true, false, List, Option, Some, None, if◌then◌else◌, int_le, nat_le, is_some}
-use Rattle.std.specs.BTreeMap.{is_at}
+use Rattle.std.specs.Prelude.{ℕ, ℤ, ◌==◌, ◌&&◌, not, Bool, true, false, List, Option, Some, None, if◌then◌else◌, int_le, nat_le, is_some}
 use Rattle.std.specs.Map.{lookup}
 use Rattle.cmc_meta.specs.declared.key.Key.{Key}
 use Rattle.cmc_meta.specs.declared.key.Kind.{Kind}
-use Rattle.cmc_meta.specs.Keys.{key_cmp, kind_rank}
+use Rattle.cmc_meta.specs.Keys.{key_eq, kind_rank}
 use Rattle.cmc_queue.specs.declared.row.Found.{Found}
 use Rattle.cmc_queue.specs.declared.row.Found.TheVariants.{Unknown, Nothing, Something}
 use Rattle.cmc_queue.specs.declared.row.Parked.{Parked}
 use Rattle.cmc_queue.specs.declared.row.Row.{Row}
+use Rattle.cmc_queue.specs.declared.row.Sort.{Sort}
+use Rattle.cmc_queue.specs.declared.row.Sort.TheVariants.{Free, Fresh, Pending, Found as Finding}
 
 -- nothing is to be done
 abbrev pub no_row : Row
@@ -31,6 +32,33 @@ is_unknown Something = false
 -- the key can be given, and is to be looked at
 abbrev pub is_fresh : Row → Bool
 is_fresh row = is_free row && is_unknown row.work
+
+-- there may be something to do
+abbrev pub may_work : Found → Bool
+may_work Unknown = true
+may_work Nothing = false
+may_work Something = true
+
+-- the key can be given, and there may be something to do
+abbrev pub is_pending : Row → Bool
+is_pending row = is_free row && may_work row.work
+
+-- a look found that there is something to do
+abbrev pub is_something : Found → Bool
+is_something Unknown = false
+is_something Nothing = false
+is_something Something = true
+
+-- and nothing has changed since
+abbrev pub is_found : Row → Bool
+is_found row = is_something row.work
+
+-- whether the row is one that a search of the sort asks for
+abbrev pub qualifies : Sort → Row → Bool
+qualifies Free = is_free
+qualifies Fresh = is_fresh
+qualifies Pending = is_pending
+qualifies Finding = is_found
 
 -- a key that can be given is in process, and ready no more
 abbrev pub taken : Row → Row
@@ -89,10 +117,6 @@ lapsed Something = Unknown
 unfoldable pub ticked : ℤ → Row → Row
 ticked now row = if is_due now row.timed then record row { ready = true; work = Unknown; timed = None } else record row { work = lapsed row.work }
 
--- the moment at which a key is noted where something was found: each tick passes it
-abbrev pub earliest : ℤ
-earliest = negsuc 9223372036854775807
-
 -- ---- the rows of all keys
 
 abbrev pub row_or_new : Option Row → Row
@@ -101,8 +125,8 @@ row_or_new (Some row) = row
 
 -- the row of the key
 unfoldable pub row_in : List (Key × Row) → Key → Row
-row_in rows key = row_or_new (lookup (is_at (key_cmp key)) rows)
+row_in rows key = row_or_new (lookup (key_eq key) rows)
 
 -- whether a change of the key's row takes no memory
 unfoldable pub has_row : List (Key × Row) → Key → Bool
-has_row rows key = is_some (lookup (is_at (key_cmp key)) rows)
+has_row rows key = is_some (lookup (key_eq key) rows)

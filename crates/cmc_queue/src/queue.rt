@@ -1,11 +1,11 @@
 //! A work queue.
 ghost use Rattle.std.specs.Option.{option_copied};
 ghost use Rattle.std.specs.Ordering.{is_lt};
-ghost use Rattle.std.specs.Prelude.{◌≡◌, ◌+◌, OnOk, ◌&&◌, true};
+ghost use Rattle.std.specs.Prelude.{◌≡◌, ◌+◌, IfSome, OnErr, OnOk, ◌&&◌, option_map, true};
 ghost use Rattle.cmc_meta.specs.declared.key.Key.{Key as KeyValue};
 ghost use Rattle.cmc_meta.specs.Keys.{key_cmp};
-ghost use Rattle.cmc_queue.specs.Queues.{fresh_count, has_room, has_room_at, has_room_for, has_room_to_find, is_offered, row_of, versions_of, AreAbove, AreAfter, ChangesRow, ChangesRows, FindsFirst, KeepsMoments, KeepsRoom, KeepsRows, KeepsVersions, KeepsVersionsOfOthers, StayAbove, StayAfter};
-ghost use Rattle.cmc_queue.specs.Rows.{added, ended, is_fresh, is_free, left, looked, moved, no_row, parked_for, taken, ticked, timed_at};
+ghost use Rattle.cmc_queue.specs.Queues.{fresh_count, has_room, has_room_at, has_room_for, has_room_to_find, is_above, is_offered, row_of, versions_of, AreAbove, AreAfter, ChangesRow, ChangesRows, FindsFirst, KeepsMoments, KeepsRoom, KeepsRows, KeepsVersions, KeepsVersionsOfOthers, StayAbove, StayAfter};
+ghost use Rattle.cmc_queue.specs.Rows.{added, ended, is_fresh, is_free, is_pending, left, looked, moved, no_row, parked_for, taken, ticked, timed_at};
 
 use crate::moments::Moments;
 use crate::row::{Found, Row};
@@ -81,6 +81,7 @@ impl Queue {
         ensures made { OnOk result (has_room self.new key.now ≡ true) }
         ensures rows { (k : KeyValue) → row_of self.new k ≡ row_of self.old k }
         ensures room { KeepsRoom self.old self.new }
+        ensures fresh { fresh_count self.new.rows ≡ fresh_count self.old.rows }
     {
         self.rows.room(key)
     }
@@ -91,8 +92,26 @@ impl Queue {
         ensures rows { ChangesRow added key.now self.old self.new }
         ensures room { KeepsRoom self.old self.new }
     {
-        let row = self.rows.get(key);
-        self.rows.put(key, row.added());
+        let Some((place, row)) = self.rows.find(key) else {
+            unreachable!()
+        };
+        self.rows.add_at(place, row);
+    }
+
+    /// Makes room to add the key, and adds it. An error is one of memory, and leaves all rows as they were.
+    pub fn wake(&mut self, key: &Key) -> Result<(), AllocError>
+        ensures rows { OnOk result (ChangesRow added key.now self.old self.new) }
+        ensures same { OnErr result ((k : KeyValue) → row_of self.new k ≡ row_of self.old k) }
+        ensures room { KeepsRoom self.old self.new }
+    {
+        match self.rows.find(key) {
+            Some((at, row)) => self.rows.add_at(at, row),
+            None => {
+                self.rows.make(key)?;
+                self.add(key);
+            }
+        }
+        Ok(())
     }
 
     /// Gives the key to be worked on, where it can be given: it is then in process, and ready no more. It takes no memory.
@@ -101,9 +120,11 @@ impl Queue {
         ensures rows { ChangesRow taken key.now self.old self.new }
         ensures room { KeepsRoom self.old self.new }
     {
-        let row = self.rows.get(key);
+        let Some((at, row)) = self.rows.find(key) else {
+            return false;
+        };
         if row.is_free() {
-            self.rows.put(key, row.taken());
+            self.rows.write(at, row, row.taken());
             return true;
         }
         false
@@ -116,8 +137,10 @@ impl Queue {
         ensures room { KeepsRoom self.old self.new }
         ensures fewer { is_fresh (row_of self.old key.now) ≡ true → fresh_count self.old.rows ≡ fresh_count self.new.rows + 1 }
     {
-        let row = self.rows.get(key);
-        self.rows.put_looked(key, row.looked(Found::Nothing));
+        let Some((place, row)) = self.rows.find(key) else {
+            unreachable!()
+        };
+        self.rows.write(place, row, row.looked(Found::Nothing));
     }
 
     /// Makes room to note that a look found something; no row changes, and room that stands is kept. An error is one of memory.
@@ -126,8 +149,9 @@ impl Queue {
         ensures place { OnOk result (has_room_to_find self.new key.now ≡ true) }
         ensures rows { (k : KeyValue) → row_of self.new k ≡ row_of self.old k }
         ensures room { KeepsRoom self.old self.new }
+        ensures fresh { fresh_count self.new.rows ≡ fresh_count self.old.rows }
     {
-        self.room_at(key, i64::MIN)
+        self.rows.room(key)
     }
 
     /// A look found something to do on the key, which holds until the next tick. It takes no memory.
@@ -138,8 +162,10 @@ impl Queue {
         ensures room { KeepsRoom self.old self.new }
         ensures fewer { is_fresh (row_of self.old key.now) ≡ true → fresh_count self.old.rows ≡ fresh_count self.new.rows + 1 }
     {
-        let row = self.rows.get(key);
-        self.rows.put_looked(key, row.looked(Found::Something));
+        let Some((place, row)) = self.rows.find(key) else {
+            unreachable!()
+        };
+        self.rows.write(place, row, row.looked(Found::Something));
     }
 
     /// A look found that the key may be left alone: it is ready no more. It takes no memory.
@@ -149,8 +175,10 @@ impl Queue {
         ensures room { KeepsRoom self.old self.new }
         ensures fewer { is_fresh (row_of self.old key.now) ≡ true → fresh_count self.old.rows ≡ fresh_count self.new.rows + 1 }
     {
-        let row = self.rows.get(key);
-        self.rows.put_looked(key, row.left());
+        let Some((place, row)) = self.rows.find(key) else {
+            unreachable!()
+        };
+        self.rows.write(place, row, row.left());
     }
 
     /// The work on the key is done. It takes no memory.
@@ -158,9 +186,11 @@ impl Queue {
         ensures rows { ChangesRow ended key.now self.old self.new }
         ensures room { KeepsRoom self.old self.new }
     {
-        let row = self.rows.get(key);
+        let Some((at, row)) = self.rows.find(key) else {
+            return;
+        };
         if row.working {
-            self.rows.put(key, row.ended());
+            self.rows.write(at, row, row.ended());
         }
     }
 
@@ -170,10 +200,20 @@ impl Queue {
         ensures place { OnOk result (has_room_at self.new at key.now ≡ true) }
         ensures rows { (k : KeyValue) → row_of self.new k ≡ row_of self.old k }
         ensures room { KeepsRoom self.old self.new }
+        ensures fresh { fresh_count self.new.rows ≡ fresh_count self.old.rows }
     {
         self.rows.room(key)?;
         self.moments.room(key, at)?;
         Ok(())
+    }
+
+    /// Makes a place for the key at the moment; no row changes, and room that stands is kept. An error is one of memory.
+    pub fn place_at(&mut self, key: &Key, at: i64) -> Result<(), AllocError>
+        ensures place { OnOk result (has_room_at self.new at key.now ≡ true) }
+        ensures rows { self.new.rows ≡ self.old.rows }
+        ensures room { KeepsRoom self.old self.new }
+    {
+        self.moments.room(key, at)
     }
 
     /// The key will be ready at the moment, in seconds since 1970, or at the earlier one at which it is timed. It takes no memory.
@@ -184,13 +224,15 @@ impl Queue {
         ensures room { KeepsRoom self.old self.new }
         ensures fresh { fresh_count self.new.rows ≡ fresh_count self.old.rows }
     {
-        let row = self.rows.get(key);
-        self.rows.put_looked(key, row.timed_at(at));
+        let Some((place, row)) = self.rows.find(key) else {
+            unreachable!()
+        };
+        self.rows.write(place, row, row.timed_at(at));
     }
 
     /// It is now this moment: each key whose moment is no later is ready, and timed no more; of each other key it is not
     /// known any more that there is something to do. The places at moments no later are given up, and no other. Only
-    /// keys with such a place are gone through. It takes no memory.
+    /// keys with such a place are gone through, and those on which a look found something. It takes no memory.
     pub fn tick(&mut self, now: i64)
         ensures rows { ChangesRows (ticked now) self.old self.new }
         ensures room { KeepsRows self.old self.new }
@@ -207,14 +249,23 @@ impl Queue {
         ensures place { OnOk result (has_room_for self.new kind version key.now ≡ true) }
         ensures rows { (k : KeyValue) → row_of self.new k ≡ row_of self.old k }
         ensures room { KeepsRoom self.old self.new }
+        ensures fresh { fresh_count self.new.rows ≡ fresh_count self.old.rows }
     {
         self.rows.room(key)?;
+        self.place_for(key, kind, version)
+    }
+
+    /// Makes a place for the key at the version of the kind; no row changes, and room that stands is kept. An error is one of memory.
+    pub fn place_for(&mut self, key: &Key, kind: Kind, version: u64) -> Result<(), AllocError>
+        ensures place { OnOk result (has_room_for self.new kind version key.now ≡ true) }
+        ensures rows { self.new.rows ≡ self.old.rows }
+        ensures room { KeepsRoom self.old self.new }
+    {
         match kind {
-            Kind::Certificate => self.certificates.room(key, version)?,
-            Kind::CertificateRequest => self.requests.room(key, version)?,
-            Kind::Secret => self.secrets.room(key, version)?,
+            Kind::Certificate => self.certificates.room(key, version),
+            Kind::CertificateRequest => self.requests.room(key, version),
+            Kind::Secret => self.secrets.room(key, version),
         }
-        Ok(())
     }
 
     /// The key waits until its controller is told of this version of the kind, in place of what it waited for. It takes no memory.
@@ -225,8 +276,10 @@ impl Queue {
         ensures room { KeepsRoom self.old self.new }
         ensures fresh { fresh_count self.new.rows ≡ fresh_count self.old.rows }
     {
-        let row = self.rows.get(key);
-        self.rows.put_looked(key, row.parked_for(kind, version));
+        let Some((place, row)) = self.rows.find(key) else {
+            unreachable!()
+        };
+        self.rows.write(place, row, row.parked_for(kind, version));
     }
 
     /// The controller was told of the kind up to this version: each key that waits for the kind and a version no later
@@ -276,5 +329,24 @@ impl Queue {
         ensures { FindsFirst (λ k. is_lt (key_cmp key.now k) && is_offered self.now k) (option_copied result) }
     {
         self.rows.following(key)
+    }
+
+    /// The first key above this one, if there is one, that can be given and on which there may be something to do; `None`
+    /// exactly where there is none.
+    pub fn next_pending<'a>(&'a self, below: Option<&Key>) -> Option<&'a Key>
+        ensures { FindsFirst (λ k. is_above (option_copied below.entry) k && is_pending (row_of self.now k)) (option_copied result) }
+    {
+        match self.rows.next_pending(below) {
+            Some((key, _row)) => Some(key),
+            None => None,
+        }
+    }
+
+    /// The same key, with what is kept of it.
+    pub fn next_pending_row<'a>(&'a self, below: Option<&Key>) -> Option<(&'a Key, Row)>
+        ensures finds { FindsFirst (λ k. is_above (option_copied below.entry) k && is_pending (row_of self.now k)) (option_map (λ p. p.0.now) result) }
+        ensures row { IfSome result (λ p. p.1 ≡ row_of self.now p.0.now) }
+    {
+        self.rows.next_pending(below)
     }
 }

@@ -1,6 +1,6 @@
 //! What is kept of one key.
 ghost use Rattle.std.specs.Prelude.{◌≡◌, if◌then◌else◌};
-ghost use Rattle.cmc_queue.specs.Rows.{added, earlier, ended, is_due, is_free, is_fresh, is_reached, is_unknown, lapsed, left, looked, moved, no_row, parked_for, taken, ticked, timed_at};
+ghost use Rattle.cmc_queue.specs.Rows.{added, earlier, ended, is_due, is_free, is_fresh, is_pending, is_reached, is_something, is_unknown, lapsed, left, looked, may_work, moved, no_row, parked_for, qualifies, taken, ticked, timed_at};
 
 use cmc_meta::Kind;
 
@@ -23,6 +23,20 @@ impl Found {
         matches!(self, Found::Unknown)
     }
 
+    /// Whether there is something to do.
+    pub fn is_something(self) -> bool
+        ensures { result ≡ is_something self }
+    {
+        matches!(self, Found::Something)
+    }
+
+    /// Whether there may be something to do.
+    pub fn may_work(self) -> bool
+        ensures { result ≡ may_work self }
+    {
+        !matches!(self, Found::Nothing)
+    }
+
     /// What is still known at the next moment.
     pub fn lapsed(self) -> Found
         ensures { result ≡ lapsed self }
@@ -33,6 +47,19 @@ impl Found {
             Found::Something => Found::Unknown,
         }
     }
+}
+
+/// What a search asks for.
+#[derive(Clone, Copy)]
+pub(crate) enum Sort {
+    /// Keys that can be given.
+    Free,
+    /// Those of them that are to be looked at.
+    Fresh,
+    /// Those of them on which there may be something to do.
+    Pending,
+    /// Keys on which a look found something to do.
+    Found,
 }
 
 /// What a key waits for: that its controller is told of this version of the kind.
@@ -98,6 +125,25 @@ impl Row {
         ensures { result ≡ is_fresh self }
     {
         self.is_free() && self.work.is_unknown()
+    }
+
+    /// Whether the key can be given, and there may be something to do.
+    pub fn is_pending(self) -> bool
+        ensures { result ≡ is_pending self }
+    {
+        self.is_free() && self.work.may_work()
+    }
+
+    /// Whether the row is one that a search of the sort asks for.
+    pub(crate) fn qualifies(self, sort: Sort) -> bool
+        ensures { result ≡ qualifies sort self }
+    {
+        match sort {
+            Sort::Free => self.is_free(),
+            Sort::Fresh => self.is_fresh(),
+            Sort::Pending => self.is_pending(),
+            Sort::Found => self.work.is_something(),
+        }
     }
 
     /// The row of the key once it is given, where it can be given.

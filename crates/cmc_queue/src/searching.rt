@@ -4,31 +4,28 @@ ghost use Rattle.std.specs.Ordering.{is_lt};
 ghost use Rattle.std.specs.Prelude.{◌≡◌, ◌&&◌};
 ghost use Rattle.cmc_meta.specs.declared.key.Key.{Key as KeyValue};
 ghost use Rattle.cmc_meta.specs.Keys.{key_cmp};
-ghost use Rattle.cmc_queue.specs.Queues.{AreAbove, AreAfter, FindsFirst, IsLooked, IsParked, IsTimed, StayAbove, StayAfter};
-ghost use Rattle.cmc_queue.specs.Rows.{has_row, is_free, is_fresh, moved, row_in, ticked};
+ghost use Rattle.cmc_queue.specs.Queues.{AreAbove, AreAfter, FindsFirst, IsParked, IsTimed, StayAbove, StayAfter};
+ghost use Rattle.cmc_queue.specs.Rows.{has_row, is_free, is_fresh, is_pending, moved, row_in, ticked};
 
 use crate::moments::Moments;
 use crate::row::Row;
 use crate::rows::Rows;
 use crate::versions::Versions;
 use cmc_meta::{Key, Kind};
-use std::collections::BTreeMap;
-use std::ops::Bound;
 
 /// Each key whose moment has come is ready, and of each other key what was found lapses. It takes no memory.
 pub fn tick_rows(rows: &mut Rows, moments: &mut Moments, now: i64)
     requires timed { IsTimed rows.old moments.old }
-    requires looked { IsLooked rows.old moments.old }
     ensures rows { (k : KeyValue) → row_in rows.new k ≡ ticked now (row_in rows.old k) }
     ensures room { (k : KeyValue) → has_row rows.new k ≡ has_row rows.old k }
     ensures timed { IsTimed rows.new moments.new }
-    ensures looked { IsLooked rows.new moments.new }
     ensures later { StayAfter now moments.old moments.new }
     ensures passed { AreAfter now moments.new }
 {
     while let Some((_at, key)) = moments.pop_until(now) {
         rows.tick(&key, now);
     }
+    rows.lapse();
 }
 
 /// Each key that waits for a version of the kind up to this one is ready. It takes no memory.
@@ -43,40 +40,4 @@ pub fn move_rows(rows: &mut Rows, versions: &mut Versions, kind: Kind, to: u64)
     while let Some((_version, key)) = versions.pop_until(to) {
         rows.moved(&key, kind, to);
     }
-}
-
-/// The first key that can be given.
-pub fn first_free(rows: &BTreeMap<Key, Row>) -> Option<&Key>
-    ensures { FindsFirst (λ k. is_free (row_in rows.now.entries k)) (option_copied result) }
-{
-    for (key, row) in rows.iter() {
-        if row.is_free() {
-            return Some(key);
-        }
-    }
-    None
-}
-
-/// The first key that is to be looked at.
-pub fn first_fresh(rows: &BTreeMap<Key, Row>) -> Option<&Key>
-    ensures { FindsFirst (λ k. is_fresh (row_in rows.now.entries k)) (option_copied result) }
-{
-    for (key, row) in rows.iter() {
-        if row.is_fresh() {
-            return Some(key);
-        }
-    }
-    None
-}
-
-/// The first key above the given one that can be given.
-pub fn free_above<'a>(rows: &'a BTreeMap<Key, Row>, below: &Key) -> Option<&'a Key>
-    ensures { FindsFirst (λ k. is_lt (key_cmp below.now k) && is_free (row_in rows.now.entries k)) (option_copied result) }
-{
-    for (key, row) in rows.range((Bound::Excluded(below), Bound::Unbounded)) {
-        if row.is_free() {
-            return Some(key);
-        }
-    }
-    None
 }

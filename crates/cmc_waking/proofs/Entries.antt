@@ -50,7 +50,7 @@ use Rattle.cmc_rules.specs.Sound as sound
 use Rattle.cmc_rules.specs.Viewing.{Caches, caches, views, views_in}
 use Rattle.cmc_rules.proofs.Positions.{positions_low, views_called}
 use Rattle.cmc_queue.proofs.OneRow.{equal_keys}
-use Rattle.cmc_queue.proofs.Waits.{same_by_test}
+use Rattle.cmc_queue.proofs.OneRow.{same_by_test}
 use Rattle.cmc_moves.specs.Quiet.{no_views}
 use Rattle.cmc_waking.specs.Parking.{ahead, own_ahead}
 use Rattle.cmc_waking.specs.Feeding.{begun, closed, started, told, waiting}

@@ -1,25 +1,25 @@
 -- Several calls of one queue, one after another.
-use Rattle.std.proofs.Common.{◌≡◌, ◌<◌, ℕ, ℤ, List, [], ◌∷◌, ◌++◌, length, get_or, take, zero, suc, Option, Some, None, Bool, true, false, refl, sym, ap, subst, ◌∙◌, arith}
+use Rattle.std.proofs.Common.{◌≡◌, ◌<◌, ℕ, ℤ, List, [], ◌∷◌, ◌++◌, length, get_or, take, zero, suc, Option, Some, None, Bool, true, false, inl, inr, refl, sym, ap, subst, ◌∙◌, arith}
 use Rattle.std.proofs.lemmas.List.Folds.{list_any-append}
 use Rattle.std.specs.BTreeMap.{is_at}
 use Rattle.std.specs.Cmp.{tied_itself}
 use Rattle.std.specs.Ordering.{is_eq}
-use Rattle.std.specs.Prelude.{◌||◌, if◌then◌else◌}
+use Rattle.std.specs.Prelude.{◌||◌, ◌⊎◌, if◌then◌else◌}
 use Rattle.cmc_meta.specs.declared.key.Key.{Key}
 use Rattle.cmc_meta.specs.Keys.{key_cmp, key_eq}
 use Rattle.cmc_meta.proofs.KeyOrder.{key_cmp-total}
 use Rattle.cmc_objects.specs.declared.entry.Positions.{Positions}
 use Rattle.cmc_queue.specs.declared.row.Parked.{Parked}
 use Rattle.cmc_queue.specs.declared.row.Row.{Row}
-use Rattle.cmc_queue.specs.Rows.{added}
+use Rattle.cmc_queue.specs.Rows.{added, row_in}
 use Rattle.cmc_queue.specs.Queues.{has_room, row_of, ChangesRow, KeepsRoom, Work}
-use Rattle.cmc_queue.proofs.OneRow.{key_tie, same_key}
+use Rattle.cmc_queue.proofs.OneRow.{key_tie, same_by_test, same_key}
 use Rattle.cmc_caches.specs.Affected.{is_among}
 use Rattle.cmc_rules.specs.declared.progress.Ending.{Ending}
 use Rattle.cmc_rules.specs.declared.progress.Ending.TheVariants as endings
 use Rattle.cmc_waking.specs.Feeding.{added_if}
 use Rattle.cmc_waking.specs.Parking.{obstacle_ahead, waits_for}
-use Rattle.cmc_waking.specs.Queues.{HasPlaceAt, HasPlaceFor, HasRooms}
+use Rattle.cmc_waking.specs.Queues.{HasPlaceAt, HasPlaceFor, HasRooms, WakesSome}
 
 -- ---- one row, twice
 
@@ -95,6 +95,29 @@ added_more keys more key base old new is each one k =
     ∙ ap (λ (b : Bool). if b then added (added_if (is_among keys k) (row_of base k)) else added_if (is_among keys k) (row_of base k)) (turned key k)
     ∙ added_by (is_among keys k) (is_eq (key_cmp k key)) k key (row_of base k) refl
     ∙ ap (λ (b : Bool). added_if b (row_of base k)) (sym (ap (λ (l : List Key). is_among l k) is ∙ list_any-append (is_at (key_cmp k)) keys (key ∷ [])))
+
+one_woken : (b : Bool) (keys : List Key) (key k : Key) (base old new : Row) → key_eq key k ≡ b → is_among keys key ≡ true → (old ≡ base) ⊎ ((is_among keys k ≡ true) × (old ≡ added base)) → new ≡ (if b then added old else old)
+    → (new ≡ base) ⊎ ((is_among keys k ≡ true) × (new ≡ added base))
+one_woken true keys key k base old new same among (inl is) at = inr (subst (λ (q : Key). is_among keys q ≡ true) (same_by_test key k same) among, at ∙ ap added is)
+one_woken true keys key k base old new same among (inr is) at = inr (is.0, at ∙ ap added is.1)
+one_woken false keys key k base old new same among (inl is) at = inl (at ∙ is)
+one_woken false keys key k base old new same among (inr is) at = inr (is.0, at ∙ is.1)
+
+-- one key more is woken
+pub wakes_more : (keys : List Key) (key : Key) (base old new : Work) → is_among keys key ≡ true → WakesSome keys base old → ChangesRow added key old new → WakesSome keys base new
+wakes_more keys key base old new among some one k = one_woken (key_eq key k) keys key k (row_of base k) (row_of old k) (row_of new k) refl among (some k) (one k)
+
+same_woken : (keys : List Key) (k : Key) (base old new : Row) → (old ≡ base) ⊎ ((is_among keys k ≡ true) × (old ≡ added base)) → new ≡ old → (new ≡ base) ⊎ ((is_among keys k ≡ true) × (new ≡ added base))
+same_woken keys k base old new (inl is) same = inl (same ∙ is)
+same_woken keys k base old new (inr is) same = inr (is.0, same ∙ is.1)
+
+-- none more is
+pub wakes_same : (keys : List Key) (base old new : Work) → WakesSome keys base old → ((k : Key) → row_of new k ≡ row_of old k) → WakesSome keys base new
+wakes_same keys base old new some same k = same_woken keys k (row_of base k) (row_of old k) (row_of new k) (some k) (same k)
+
+-- the rows are the same where the list of them is
+pub same_rows : (old new : Work) → new.rows ≡ old.rows → (k : Key) → row_of new k ≡ row_of old k
+same_rows old new same k = ap (λ (rows : List (Key × Row)). row_in rows k) same
 
 -- ---- for what a key waits
 

@@ -7,3 +7,4 @@ pub mod Rows
 pub mod Looks
 pub mod Eight
 pub mod Feeds
+pub mod Barring

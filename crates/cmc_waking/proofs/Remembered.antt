@@ -29,7 +29,7 @@ use Rattle.cmc_rules.specs.Memory.{past, past_called, no_past, with_begin, with_
 use Rattle.cmc_rules.specs.Legality.{IsLegal}
 use Rattle.cmc_rules.proofs.Carrying.{over_call, over_ask, over_given, over_begin, over_end, over_stop}
 use Rattle.cmc_queue.proofs.OneRow.{equal_keys}
-use Rattle.cmc_queue.proofs.Waits.{same_by_test}
+use Rattle.cmc_queue.proofs.OneRow.{same_by_test}
 use Rattle.cmc_waking.proofs.Owners.{same_role}
 
 -- the last pass, if one is remembered, saw this at this moment

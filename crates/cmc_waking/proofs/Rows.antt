@@ -8,7 +8,7 @@ use Rattle.cmc_objects.specs.declared.role.Role.{Role}
 use Rattle.cmc_objects.specs.Watching.{kind_of_work}
 use Rattle.cmc_queue.specs.declared.row.Row.{Row}
 use Rattle.cmc_queue.specs.Rows.{no_row}
-use Rattle.cmc_queue.proofs.Waits.{same_by_test}
+use Rattle.cmc_queue.proofs.OneRow.{same_by_test}
 use Rattle.cmc_model.specs.Histories.{Setting}
 use Rattle.cmc_waking.specs.Waking.{AreTended, IsTended}
 

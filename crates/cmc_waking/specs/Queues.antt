@@ -1,10 +1,11 @@
 -- What contracts see of the work queues of all roles.
-use Rattle.std.specs.Prelude.{◌≡◌, ℤ, false, true, List, [], slice_index_or, Option, IfSome}
+use Rattle.std.specs.Prelude.{◌≡◌, ◌⊎◌, ℤ, false, true, List, [], slice_index_or, Option, IfSome}
 use Rattle.cmc_meta.specs.declared.key.Key.{Key}
 use Rattle.cmc_objects.specs.declared.role.Role.{Role}
 use Rattle.cmc_objects.specs.Roles.{role_rank}
 use Rattle.cmc_queue.specs.declared.row.Parked.{Parked}
 use Rattle.cmc_queue.specs.declared.row.Row.{Row}
+use Rattle.cmc_queue.specs.Rows.{added}
 use Rattle.cmc_queue.specs.Queues.{has_room, has_room_at, has_room_for, row_of, KeepsRoom, Work}
 use Rattle.cmc_caches.specs.Affected.{is_among}
 use Rattle.cmc_model.specs.Histories.{role_eq}
@@ -43,3 +44,7 @@ HasPlaceAt next key queue = IfSome next (λ at. has_room_at queue at key ≡ tru
 -- the key has a place at the version, if there is one
 abbrev pub HasPlaceFor : Option Parked → Key → Work → Type 0
 HasPlaceFor parked key queue = IfSome parked (λ p. has_room_for queue p.kind p.version key ≡ true)
+
+-- each row is as it was, or that of one of the keys and ready
+abbrev pub WakesSome : List Key → Work → Work → Type 0
+WakesSome keys old new = (key : Key) → (row_of new key ≡ row_of old key) ⊎ ((is_among keys key ≡ true) × (row_of new key ≡ added (row_of old key)))

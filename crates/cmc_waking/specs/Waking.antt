@@ -57,6 +57,11 @@ abbrev pub IsStoppedFor : Option LastPass → Views → Parked → Type 0
 IsStoppedFor None seen parked = ⊥
 IsStoppedFor (Some last) seen parked = (last.seen ≡ seen) × IsStoppedAt last.ending parked
 
+-- this version bars a pass: it is one of the role's own writes, or refused its last pass, which saw the same; the role is not yet told of it
+pub record IsBarredBy (past : Past) (seen : Views) (at : Positions) (parked : Parked) : Type 0 where
+  pub behind : position_of parked.kind at < parked.version
+  pub cause : (parked.version ≤ position_of parked.kind past.own) ⊎ IsStoppedFor past.last seen parked
+
 -- what the key waits for is one of the role's own writes, or refused its last pass, which saw the same; the role is not yet told of it
 pub record IsWaiting (past : Past) (seen : Views) (at : Positions) (row : Row) : Type 0 where
   pub parked : Parked

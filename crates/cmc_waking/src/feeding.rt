@@ -6,7 +6,7 @@ ghost use Rattle.cmc_queue.specs.Rows.{is_fresh};
 ghost use Rattle.cmc_caches.specs.Affected.{is_among};
 ghost use Rattle.cmc_waking.specs.Feeding as words;
 ghost use Rattle.cmc_waking.specs.Parking.{waits_for};
-ghost use Rattle.cmc_waking.specs.Queues.{HasPlaceAt, HasPlaceFor, HasRooms};
+ghost use Rattle.cmc_waking.specs.Queues.{HasPlaceAt, HasPlaceFor, HasRooms, WakesSome};
 
 use crate::parking::{obstacle_ahead, own_ahead};
 use cmc_meta::{Key, Kind};
@@ -24,6 +24,17 @@ fn add_each(queue: &mut Queue, keys: &[Key])
     for key in keys {
         queue.add(key);
     }
+}
+
+/// Makes each of the keys ready, with room for it. An error is one of memory: some of the keys are ready then.
+pub(crate) fn wake_each(queue: &mut Queue, keys: &[Key]) -> Result<(), AllocError>
+    ensures rows { OnOk result ((k : KeyValue) → row_of queue.new k ≡ words.added_if (is_among keys.now k) (row_of queue.old k)) }
+    ensures some { WakesSome keys.now queue.old queue.new }
+{
+    for key in keys {
+        queue.wake(key)?;
+    }
+    Ok(())
 }
 
 /// The role is told of the kind up to this version; of each of the keys it may see something new.

@@ -1,8 +1,10 @@
 //! The version for which a key waits: its role may not begin on it before it is told of that.
 ghost use Rattle.std.specs.Option.{option_copied};
-ghost use Rattle.std.specs.Prelude.{◌≡◌};
+ghost use Rattle.std.specs.Prelude.{◌≡◌, ◌<◌, ◌≤◌, IfSome};
 ghost use Rattle.cmc_held.specs.Remembered.{past_or_new};
+ghost use Rattle.cmc_rules.specs.Positions.{position_of};
 ghost use Rattle.cmc_waking.specs.Parking as words;
+ghost use Rattle.cmc_waking.specs.Waking.{IsBarredBy, IsStoppedFor};
 
 use cmc_held::at_kind;
 use cmc_meta::Kind;
@@ -23,7 +25,9 @@ fn ahead(kind: Kind, version: u64, at: Positions, rest: Option<Parked>) -> Optio
 
 /// The first of the role's own writes of which it is not yet told.
 pub(crate) fn own_ahead(own: Positions, at: Positions) -> Option<Parked>
-    ensures { result ≡ words.own_ahead own at }
+    ensures ahead { result ≡ words.own_ahead own at }
+    ensures behind { IfSome result (λ p. position_of p.kind at < p.version) }
+    ensures own { IfSome result (λ p. p.version ≤ position_of p.kind own) }
 {
     let secrets = ahead(Kind::Secret, own.secrets, at, None);
     let requests = ahead(Kind::CertificateRequest, own.requests, at, secrets);
@@ -49,7 +53,9 @@ pub(crate) fn obstacle_ahead(ending: Ending, at: Positions) -> Option<Parked>
 
 /// What refused the last pass, where this one sees the same.
 fn refused_until(last: &Option<LastPass>, seen: &Views, at: Positions) -> Option<Parked>
-    ensures { words.IsRefusedUntil last.now seen.now at result }
+    ensures until { words.IsRefusedUntil last.now seen.now at result }
+    ensures behind { IfSome result (λ p. position_of p.kind at < p.version) }
+    ensures stopped { IfSome result (IsStoppedFor last.now seen.now) }
 {
     match last {
         None => None,
@@ -65,7 +71,9 @@ fn refused_until(last: &Option<LastPass>, seen: &Views, at: Positions) -> Option
 
 /// What the role remembers of its own writes on the key.
 fn own_part(before: Option<&Past>, at: Positions) -> Option<Parked>
-    ensures { result ≡ words.own_ahead (past_or_new (option_copied before.entry)).own at }
+    ensures ahead { result ≡ words.own_ahead (past_or_new (option_copied before.entry)).own at }
+    ensures behind { IfSome result (λ p. position_of p.kind at < p.version) }
+    ensures own { IfSome result (λ p. p.version ≤ position_of p.kind (past_or_new (option_copied before.entry)).own) }
 {
     let none = Positions {
         certificates: 0,
@@ -80,7 +88,9 @@ fn own_part(before: Option<&Past>, at: Positions) -> Option<Parked>
 
 /// What the role remembers of its last pass on the key.
 fn last_part(before: Option<&Past>, seen: &Views, at: Positions) -> Option<Parked>
-    ensures { words.IsRefusedUntil (past_or_new (option_copied before.entry)).last seen.now at result }
+    ensures until { words.IsRefusedUntil (past_or_new (option_copied before.entry)).last seen.now at result }
+    ensures behind { IfSome result (λ p. position_of p.kind at < p.version) }
+    ensures stopped { IfSome result (IsStoppedFor (past_or_new (option_copied before.entry)).last seen.now) }
 {
     match before {
         Some(past) => refused_until(&past.last, seen, at),
@@ -90,7 +100,8 @@ fn last_part(before: Option<&Past>, seen: &Views, at: Positions) -> Option<Parke
 
 /// What the key waits for.
 pub fn parked_until(before: Option<&Past>, seen: &Views, at: Positions) -> Option<Parked>
-    ensures { words.IsParkedUntil (past_or_new (option_copied before.entry)) seen.now at result }
+    ensures until { words.IsParkedUntil (past_or_new (option_copied before.entry)) seen.now at result }
+    ensures barred { IfSome result (IsBarredBy (past_or_new (option_copied before.entry)) seen.now at) }
 {
     match own_part(before, at) {
         Some(first) => Some(first),

@@ -7,7 +7,7 @@ ghost use Rattle.cmc_queue.specs.Rows.{is_fresh, no_row, ticked};
 ghost use Rattle.cmc_caches.specs.Affected.{is_among};
 ghost use Rattle.cmc_waking.specs.Feeding as words;
 ghost use Rattle.cmc_waking.specs.Parking.{waits_for};
-ghost use Rattle.cmc_waking.specs.Queues.{queue_in, row_at, HasPlaceAt, HasPlaceFor, HasRooms, KeepsOthers, KeepsRooms, KeepsRows};
+ghost use Rattle.cmc_waking.specs.Queues.{queue_in, row_at, HasPlaceAt, HasPlaceFor, HasRooms, KeepsOthers, KeepsRooms, KeepsRows, WakesSome};
 
 use crate::feeding;
 use cmc_meta::{Key, Kind};
@@ -85,6 +85,7 @@ impl Queues {
         ensures place { OnOk result (has_room_at (queue_in self.new role) at key.now ≡ true) }
         ensures rows { KeepsRows self.old self.new }
         ensures room { KeepsRooms self.old self.new }
+        ensures fresh { fresh_count (queue_in self.new role).rows ≡ fresh_count (queue_in self.old role).rows }
     {
         self.rows[role.rank() as usize].room_at(key, at)
     }
@@ -95,6 +96,7 @@ impl Queues {
         ensures place { OnOk result (has_room_for (queue_in self.new role) parked.kind parked.version key.now ≡ true) }
         ensures rows { KeepsRows self.old self.new }
         ensures room { KeepsRooms self.old self.new }
+        ensures fresh { fresh_count (queue_in self.new role).rows ≡ fresh_count (queue_in self.old role).rows }
     {
         self.rows[role.rank() as usize].room_for(key, parked.kind, parked.version)
     }
@@ -105,11 +107,42 @@ impl Queues {
         ensures place { OnOk result (has_room_to_find (queue_in self.new role) key.now ≡ true) }
         ensures rows { KeepsRows self.old self.new }
         ensures room { KeepsRooms self.old self.new }
+        ensures fresh { fresh_count (queue_in self.new role).rows ≡ fresh_count (queue_in self.old role).rows }
     {
         self.rows[role.rank() as usize].room_to_find(key)
     }
 
+    /// Makes a place for the key at the moment, in the queue of the role. An error is one of memory.
+    pub fn place_at(&mut self, role: Role, key: &Key, at: i64) -> Result<(), AllocError>
+        ensures place { OnOk result (has_room_at (queue_in self.new role) at key.now ≡ true) }
+        ensures rows { KeepsRows self.old self.new }
+        ensures room { KeepsRooms self.old self.new }
+        ensures fresh { fresh_count (queue_in self.new role).rows ≡ fresh_count (queue_in self.old role).rows }
+    {
+        self.rows[role.rank() as usize].place_at(key, at)
+    }
+
+    /// Makes a place for the key at the version, in the queue of the role. An error is one of memory.
+    pub fn place_for(&mut self, role: Role, key: &Key, parked: Parked) -> Result<(), AllocError>
+        ensures place { OnOk result (has_room_for (queue_in self.new role) parked.kind parked.version key.now ≡ true) }
+        ensures rows { KeepsRows self.old self.new }
+        ensures room { KeepsRooms self.old self.new }
+        ensures fresh { fresh_count (queue_in self.new role).rows ≡ fresh_count (queue_in self.old role).rows }
+    {
+        self.rows[role.rank() as usize].place_for(key, parked.kind, parked.version)
+    }
+
     // ---- what happens
+
+    /// Makes each of the keys ready in the queue of the role, with room for it. An error is one of memory: some of the keys are
+    /// ready then.
+    pub fn wake(&mut self, role: Role, keys: &[Key]) -> Result<(), AllocError>
+        ensures rows { OnOk result ((k : KeyValue) → row_at self.new role k ≡ words.added_if (is_among keys.now k) (row_at self.old role k)) }
+        ensures some { WakesSome keys.now (queue_in self.old role) (queue_in self.new role) }
+        ensures others { KeepsOthers role self.old self.new }
+    {
+        feeding::wake_each(&mut self.rows[role.rank() as usize], keys)
+    }
 
     /// The role is told of the kind up to this version; of each of the keys it may see something new.
     pub fn told(&mut self, role: Role, kind: Kind, to: u64, keys: &[Key])

@@ -13,7 +13,6 @@ ghost use Rattle.std.specs.Option.{option_copied};
 ghost use Rattle.std.specs.Prelude.{◌≡◌, ◌≤◌, ◌+◌, IfOk, IfSome, length, false};
 ghost use Rattle.cmc_rules.specs.Scripting.{scripted, step_at};
 ghost use Rattle.cmc_plain.specs.Plain.{HasNoDelivery};
-ghost use Rattle.cmc_plain.specs.Ready.{IsToNewest};
 ghost use Rattle.cmc_world.specs.Kept.{on};
 ghost use Rattle.cmc_workers.specs.Driving as spec;
 ghost use Rattle.cmc_workers.specs.Driving.{IsErrand};
@@ -67,7 +66,7 @@ const ASKING_NOBODY: [Role; 3] = [Role::Issuing, Role::Readiness, Role::Revision
 /// What lies under the lock.
 #[derive(Drop)]
 pub(crate) struct Shared {
-    /// A world with its ready keys.
+    /// The world and its work queues.
     pub waking: Waking,
     /// Whose turn it is.
     round: Round,
@@ -272,7 +271,6 @@ impl Shared {
 
     /// Makes a move.
     fn make(&mut self, alloc: Global, step: Move) -> Result<Went, AllocError>
-        requires { on IsToNewest self.old.waking step }
         ensures { self.new.waking.scenario ≡ self.old.waking.scenario }
     {
         let answer = self.waking.step(alloc, step)?;

@@ -56,7 +56,7 @@ fn word_of(answer: &Stepped) -> &'static str {
 }
 
 /// The answer in a word; it is let go behind that.
-fn word_then(answer: Stepped) -> &'static str {
+pub(crate) fn word_then(answer: Stepped) -> &'static str {
     word_of(&answer)
 }
 

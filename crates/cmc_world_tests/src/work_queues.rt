@@ -1,14 +1,15 @@
 // What no clause says: that a key leaves the work queue of a role as the role has looked at it and has nothing to do there,
-// so that a begin on it is refused, at a later moment too; and for which version and which moment keys wait in some runs.
+// so that a begin on it is refused, at a later moment too; for which version and which moment keys wait in some runs; and
+// that a tick wakes just the keys whose moment has come.
 use crate::checks::{passes, tells};
-use crate::deciding::make;
+use crate::deciding::word_then;
 use crate::fixtures::{ROLES, applied, denied_scenario, put, whole_scenario};
 use cmc_answers::ScriptedSigner;
 use cmc_keys::ScriptedKeys;
 use cmc_meta::{Kind, Numbers};
 use cmc_objects::{Material, Role, Step};
-use cmc_plain::{plain, question, value_for, work_queue};
-use cmc_queue::Row;
+use cmc_plain::{Waking, question, value_for};
+use cmc_queue::{Found, Row};
 use cmc_setup::{Scenario, Steps};
 use cmc_tests::values::{key, let_go};
 use cmc_world::{Move, World};
@@ -49,12 +50,17 @@ fn with_value(alloc: Global, world: &World, step: Move) -> Result<Move, Fail> {
     }
 }
 
+/// Makes the move, and tells the answer in a word.
+fn make(alloc: Global, waking: &mut Waking, step: Move) -> Result<&'static str, Fail> {
+    Ok(word_then(waking.step(alloc, step)?))
+}
+
 /// Makes the plain move; false where there is none.
-fn go_on(alloc: Global, world: &mut World) -> Result<bool, Fail> {
-    match plain(alloc, world)? {
+fn go_on(alloc: Global, waking: &mut Waking) -> Result<bool, Fail> {
+    match waking.plain(alloc)? {
         Some(step) => {
-            let step = with_value(alloc, world, step)?;
-            let _ = make(alloc, world, step)?;
+            let step = with_value(alloc, waking.world(), step)?;
+            let _ = make(alloc, waking, step)?;
             Ok(true)
         }
         None => Ok(false),
@@ -65,93 +71,78 @@ fn is_at_the_tick(world: &World) -> bool {
     matches!(world.next_step(), Some(Step::Tick { .. }))
 }
 
-/// Makes the plain moves up to the tick.
-fn come_to_the_tick(alloc: Global, world: &mut World) -> Result<(), Fail> {
+/// Makes the plain moves up to the tick, or to the end.
+fn come_to_the_tick(alloc: Global, waking: &mut Waking) -> Result<(), Fail> {
     for _move in 0..400 {
-        if is_at_the_tick(world) || !go_on(alloc, world)? {
+        if is_at_the_tick(waking.world()) || !go_on(alloc, waking)? {
             return Ok(());
         }
     }
     Ok(())
 }
 
-/// What a begin of the role on the Certificate is answered, in a word.
-fn begin(alloc: Global, world: &mut World, role: Role, word: &str) -> Result<&'static str, Fail> {
-    let key = key(alloc, Kind::Certificate, word)?;
-    make(alloc, world, Move::Begin { role, key })
-}
-
-/// Has the role look at the Certificate, if that is in its queue, and find nothing to do.
-fn look(alloc: Global, world: &mut World, role: Role) -> Result<(), Fail> {
-    if begin(alloc, world, role, "web")? == "done" {
-        let pass = world.passes_begun();
-        let incarnation = world.incarnation(role);
-        let _ = make(alloc, world, Move::Next { pass, incarnation })?;
-    }
-    Ok(())
+/// A world up to the tick: each role has looked at the Certificate.
+fn looked(alloc: Global) -> Result<Waking, Fail> {
+    let mut waking = Waking::new(alloc, scenario(alloc)?)?;
+    come_to_the_tick(alloc, &mut waking)?;
+    Ok(waking)
 }
 
 /// A begin of the role on the Certificate is refused, since the key is not in the role's queue.
 fn refuses(
     rt: &impl Abort,
     alloc: Global,
-    world: &mut World,
+    waking: &mut Waking,
     role: Role,
     word: &str,
 ) -> Result<(), Fail> {
-    let told = begin(alloc, world, role, word)?;
+    let key = key(alloc, Kind::Certificate, word)?;
+    let told = make(alloc, waking, Move::Begin { role, key })?;
     tells(rt, word, told, "not queued");
     Ok(())
-}
-
-/// A world up to the tick, with each role having looked at the Certificate.
-fn looked(alloc: Global) -> Result<World, Fail> {
-    let mut world = World::new(alloc, scenario(alloc)?)?;
-    come_to_the_tick(alloc, &mut world)?;
-    for role in &ROLES {
-        look(alloc, &mut world, *role)?;
-    }
-    Ok(world)
 }
 
 #[test]
 fn a_key_with_nothing_to_do_is_in_no_queue(rt: HostRuntime) -> Result<(), Fail> {
     let alloc = rt.alloc();
-    let mut world = looked(alloc)?;
+    let mut waking = looked(alloc)?;
     tells(
         &rt,
         "the tick",
-        make(alloc, &mut world, Move::Script)?,
+        make(alloc, &mut waking, Move::Script)?,
         "done",
     );
-    let entries = world.history().len();
+    let entries = waking.world().history().len();
     passes(&rt, "issued", entries > 100);
     for role in &ROLES {
-        refuses(&rt, alloc, &mut world, *role, "web")?;
-        refuses(&rt, alloc, &mut world, *role, "of-nobody")?;
+        refuses(&rt, alloc, &mut waking, *role, "web")?;
+        refuses(&rt, alloc, &mut waking, *role, "of-nobody")?;
     }
-    passes(&rt, "as it was", world.history().len() == entries);
+    passes(
+        &rt,
+        "as it was",
+        waking.world().history().len() == entries,
+    );
     Ok(())
 }
 
 // ---- what keys wait for
 
 /// Makes the plain moves up to the write of this number.
-fn come_to_write(alloc: Global, world: &mut World, number: u64) -> Result<(), Fail> {
+fn come_to_write(alloc: Global, waking: &mut Waking, number: u64) -> Result<(), Fail> {
     for _move in 0..400 {
-        if world.log().accepted() >= number {
+        if waking.world().log().accepted() >= number {
             return Ok(());
         }
-        let _ = go_on(alloc, world)?;
+        let _ = go_on(alloc, waking)?;
     }
     Err(Fail::from("the write is not made"))
 }
 
 /// The row of the Certificate in the role's work queue.
-fn row_of(alloc: Global, world: &World, role: Role, word: &str) -> Result<Row, Fail> {
-    let key = key(alloc, Kind::Certificate, word)?;
-    let queue = work_queue(alloc, world, role)?;
-    Ok(queue.row(&key))
+fn row_of(alloc: Global, waking: &Waking, role: Role) -> Result<Row, Fail> {
+    let key = key(alloc, Kind::Certificate, "web")?;
+    Ok(waking.queue(role).row(&key))
 }
 
 fn is_parked(row: Row, kind: Kind, version: u64) -> bool {
@@ -168,15 +159,18 @@ fn is_free(row: Row) -> bool {
 #[test]
 fn a_key_waits_for_the_own_write(rt: HostRuntime) -> Result<(), Fail> {
     let alloc = rt.alloc();
-    let mut world = World::new(alloc, scenario(alloc)?)?;
-    let none = row_of(alloc, &world, Role::Trigger, "web")?;
+    let mut waking = Waking::new(alloc, scenario(alloc)?)?;
+    let none = row_of(alloc, &waking, Role::Trigger)?;
     passes(&rt, "not named", !none.ready && none.parked.is_none());
-    come_to_write(alloc, &mut world, 2)?;
-    let own = row_of(alloc, &world, Role::Trigger, "web")?;
+    come_to_write(alloc, &mut waking, 2)?;
+    let writes = row_of(alloc, &waking, Role::Trigger)?;
+    passes(&rt, "in process", writes.working && !writes.ready);
+    let _ = go_on(alloc, &mut waking)?;
+    let own = row_of(alloc, &waking, Role::Trigger)?;
     passes(&rt, "parked", is_parked(own, Kind::Certificate, 2));
-    passes(&rt, "in process", own.working && !own.ready);
-    come_to_the_tick(alloc, &mut world)?;
-    let told = row_of(alloc, &world, Role::Trigger, "web")?;
+    passes(&rt, "done", !own.working && !own.ready);
+    come_to_the_tick(alloc, &mut waking)?;
+    let told = row_of(alloc, &waking, Role::Trigger)?;
     passes(&rt, "told", told.parked.is_none() && !told.working);
     Ok(())
 }
@@ -184,16 +178,25 @@ fn a_key_waits_for_the_own_write(rt: HostRuntime) -> Result<(), Fail> {
 #[test]
 fn a_key_is_ready_where_there_is_something_to_do(rt: HostRuntime) -> Result<(), Fail> {
     let alloc = rt.alloc();
-    let mut world = World::new(alloc, scenario(alloc)?)?;
-    come_to_write(alloc, &mut world, 1)?;
-    let untold = row_of(alloc, &world, Role::Trigger, "web")?;
+    let mut waking = Waking::new(alloc, scenario(alloc)?)?;
+    come_to_write(alloc, &mut waking, 1)?;
+    let untold = row_of(alloc, &waking, Role::Trigger)?;
     passes(&rt, "not told", !untold.ready);
-    let step = plain(alloc, &world)?;
+    let step = waking.plain(alloc)?;
     passes(&rt, "told next", matches!(step, Some(Move::Deliver { .. })));
     let_go(step);
-    let _ = go_on(alloc, &mut world)?;
-    let told = row_of(alloc, &world, Role::Trigger, "web")?;
-    passes(&rt, "ready", is_free(told) && told.parked.is_none());
+    let _ = go_on(alloc, &mut waking)?;
+    let told = row_of(alloc, &waking, Role::Trigger)?;
+    passes(&rt, "ready", is_free(told) && told.work.is_unknown());
+    let step = waking.plain(alloc)?;
+    passes(&rt, "begun next", matches!(step, Some(Move::Begin { .. })));
+    let_go(step);
+    let found = row_of(alloc, &waking, Role::Trigger)?;
+    passes(
+        &rt,
+        "looked at",
+        is_free(found) && matches!(found.work, Found::Something),
+    );
     Ok(())
 }
 
@@ -201,18 +204,22 @@ fn a_key_is_ready_where_there_is_something_to_do(rt: HostRuntime) -> Result<(), 
 #[test]
 fn a_failure_times_the_key(rt: HostRuntime) -> Result<(), Fail> {
     let alloc = rt.alloc();
-    let mut world = World::new(alloc, denied_scenario(alloc)?)?;
-    come_to_write(alloc, &mut world, 10)?;
-    let row = row_of(alloc, &world, Role::Trigger, "web")?;
+    let mut waking = Waking::new(alloc, denied_scenario(alloc)?)?;
+    come_to_the_tick(alloc, &mut waking)?;
+    let row = row_of(alloc, &waking, Role::Trigger)?;
     passes(&rt, "timed", row.timed == Some(1_893_459_600));
     passes(&rt, "not ready", !is_free(row));
     Ok(())
 }
 
 /// When the certificate that was issued ends and is renewed, as readiness wrote it.
-fn times(alloc: Global, world: &World) -> Result<(Option<i64>, Option<i64>), Fail> {
+fn times(alloc: Global, waking: &Waking) -> Result<(Option<i64>, Option<i64>), Fail> {
     let key = key(alloc, Kind::Certificate, "web")?;
-    match &world.views(alloc, Role::Readiness, &key)?.certificate {
+    match &waking
+        .world()
+        .views(alloc, Role::Readiness, &key)?
+        .certificate
+    {
         Some(certificate) => Ok((certificate.status.not_after, certificate.status.renewal)),
         None => Err(Fail::from("no Certificate")),
     }
@@ -221,14 +228,37 @@ fn times(alloc: Global, world: &World) -> Result<(Option<i64>, Option<i64>), Fai
 #[test]
 fn a_certificate_times_its_key(rt: HostRuntime) -> Result<(), Fail> {
     let alloc = rt.alloc();
-    let world = looked(alloc)?;
-    let (end, renewal) = times(alloc, &world)?;
+    let waking = looked(alloc)?;
+    let (end, renewal) = times(alloc, &waking)?;
     passes(&rt, "issued", renewal.is_some());
-    let trigger = row_of(alloc, &world, Role::Trigger, "web")?;
+    let trigger = row_of(alloc, &waking, Role::Trigger)?;
     passes(&rt, "renewal", trigger.timed == renewal);
-    let readiness = row_of(alloc, &world, Role::Readiness, "web")?;
+    let readiness = row_of(alloc, &waking, Role::Readiness)?;
     passes(&rt, "expiry", readiness.timed == end);
-    let issuing = row_of(alloc, &world, Role::Issuing, "web")?;
+    let issuing = row_of(alloc, &waking, Role::Issuing)?;
     passes(&rt, "no moment", issuing.timed.is_none());
+    Ok(())
+}
+
+/// A minute is long before the renewal: a role whose key is not timed up to then is not asked.
+#[test]
+fn a_tick_wakes_just_the_keys_whose_moment_has_come(rt: HostRuntime) -> Result<(), Fail> {
+    let alloc = rt.alloc();
+    let mut waking = looked(alloc)?;
+    let _ = make(alloc, &mut waking, Move::Script)?;
+    for role in &ROLES {
+        let row = row_of(alloc, &waking, *role)?;
+        passes(&rt, "left alone", !row.ready);
+    }
+    Ok(())
+}
+
+#[test]
+fn a_world_is_taken_over_with_all_its_keys(rt: HostRuntime) -> Result<(), Fail> {
+    let alloc = rt.alloc();
+    let world = looked(alloc)?.into_world();
+    let waking = Waking::of(alloc, world)?;
+    let row = row_of(alloc, &waking, Role::Trigger)?;
+    passes(&rt, "to be looked at", is_free(row) && row.work.is_unknown());
     Ok(())
 }

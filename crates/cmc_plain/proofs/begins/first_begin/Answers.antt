@@ -15,8 +15,7 @@ loop-place-preserved c = (
   none_before_more (FitsSome (setting_of c.args.world.now.scenario) c.args.world.now.history) c.loop-place.place c.role_in-role.result c.role_in-role.ensures
       (subst (λ (found : Option Key). FindsKey (setting_of c.args.world.now.scenario) c.args.world.now.history c.role_in-role.result found) c.in_default.is c.in_ok-key.ensures.finds)
       c.loop-place.invariant.0,
-  c.first_key.ensures.after,
-  c.first_key.ensures.covers,
+  c.first_key.ensures.fed,
 )
 
 pub returns-clause-finds : goal.returns-clause-finds

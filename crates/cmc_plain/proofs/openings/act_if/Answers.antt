@@ -6,8 +6,8 @@ use Rattle.cmc_moves.specs.Prospects.{IsFirstAct}
 use Rattle.cmc_world.specs.Kept.{setting_of}
 use Rattle.cmc_plain.proofs.openings.act_if.Goals as goal
 
-pub act_known-requires-clause-first : goal.act_known-requires-clause-first
-act_known-requires-clause-first c =
+pub act_first-requires-clause-first : goal.act_first-requires-clause-first
+act_first-requires-clause-first c =
     let s = setting_of c.args.world.now.scenario in
     let h = c.args.world.now.history in
     subst (λ (n : ℕ). IsFirstAct s h n c.in-Some.does) (sym c.passes_begun-pass.ensures)

@@ -15,18 +15,20 @@ use Rattle.cmc_moves.specs.declared.moves.Move.TheVariants as moves
 use Rattle.cmc_world.specs.Kept.{setting_of}
 use Rattle.cmc_plain.specs.Openings.{LeavesNext}
 use Rattle.cmc_plain.proofs.AtOnce.{first_act_where, opened_both}
+use Rattle.cmc_plain.specs.DueMoments.{HasDatedMoments}
+use Rattle.cmc_plain.proofs.Undue.{dated_moments}
 use Rattle.cmc_plain.proofs.openings.open.Goals as goal
 
-pub begin_known-requires-clause-due : goal.begin_known-requires-clause-due
-begin_known-requires-clause-due c =
+pub begin_due-requires-clause-due : goal.begin_due-requires-clause-due
+begin_due-requires-clause-due c =
     let s = setting_of c.args.world.now.scenario in
     let h = c.args.world.now.history in
     let o = c.args.opening in
     subst (λ (t : Role × Key × Views × Option Act). IsDue (past s h t.0 t.1) t.2 (moment s h) (positions h t.0)) (sym c.into_parts-role.ensures)
     (subst (λ (v : Views). IsDue (past s h o.role o.key) v (moment s h) (positions h o.role)) (sym c.requires.work.known.seen) c.requires.work.work.may.due)
 
-pub begin_known-requires-clause-queued : goal.begin_known-requires-clause-queued
-begin_known-requires-clause-queued c =
+pub begin_due-requires-clause-queued : goal.begin_due-requires-clause-queued
+begin_due-requires-clause-queued c =
     let s = setting_of c.args.world.now.scenario in
     let h = c.args.world.now.history in
     let o = c.args.opening in
@@ -39,7 +41,7 @@ act_if-requires-clause-first c =
     let s = setting_of c.args.world.now.scenario in
     let h = c.args.world.now.history in
     let o = c.args.opening in
-    let mid = c.begin_known.new.world in
+    let mid = c.begin_due.new.world in
     let leaves = subst (λ (t : Role × Key × Views × Option Act). Leaves s h (moves.Begin t.0 t.1) c.in-Ok.begin mid.history) c.into_parts-role.ensures c.in-Ok.ensures.leaves in
     subst (λ (t : Role × Key × Views × Option Act). c.is_done.result ≡ true → IfSome t.3 (IsFirstAct (setting_of mid.scenario) mid.history (begun (setting_of mid.scenario) mid.history))) (sym c.into_parts-role.ensures)
     (λ on. first_act_where c.args.world.now mid o.role o.key o.does c.in-Ok.begin c.is_done.result c.in-Ok.ensures.scenario c.requires.work.known.does leaves c.is_done.ensures on)
@@ -49,8 +51,16 @@ returns-in-Ok-act_if-clause-leaves c =
     let s = setting_of c.args.world.now.scenario in
     let h = c.args.world.now.history in
     let o = c.args.opening in
-    let mid = c.begin_known.new.world in
+    let mid = c.begin_due.new.world in
     let new = c.act_if.new.world in
     let leaves = subst (λ (t : Role × Key × Views × Option Act). Leaves s h (moves.Begin t.0 t.1) c.in-Ok.begin mid.history) c.into_parts-role.ensures c.in-Ok.ensures.leaves in
     let next = subst (λ (t : Role × Key × Views × Option Act). LeavesNext (setting_of mid.scenario) mid.history c.is_done.result t.3 c.in-Ok-act_if.first new.history) c.into_parts-role.ensures c.in-Ok-act_if.ensures.leaves in
     opened_both c.args.world.now mid new o.role o.key o.does c.in-Ok.begin c.is_done.result c.in-Ok-act_if.first c.in-Ok.ensures.scenario leaves c.is_done.ensures next
+
+pub begin_due-requires-clause-dated : goal.begin_due-requires-clause-dated
+begin_due-requires-clause-dated c =
+    let s = setting_of c.args.world.now.scenario in
+    let h = c.args.world.now.history in
+    let o = c.args.opening in
+    subst (λ (t : Role × Key × Views × Option Act). HasDatedMoments t.2) (sym c.into_parts-role.ensures)
+    (subst (λ (v : Views). HasDatedMoments v) (sym c.requires.work.known.seen) (dated_moments s h o.role o.key c.is_formed.ensures c.is_run.ensures.run (c.can_act.ensures o.role o.key).dated))

@@ -1,10 +1,5 @@
-use Rattle.std.proofs.Common.{ap, sym, ◌∙◌}
-use Rattle.cmc_queue.specs.Rows.{added}
-use Rattle.cmc_queue.proofs.Waits.{found_by_put}
+use Rattle.cmc_queue.proofs.Waits.{found_by_adding}
 use Rattle.cmc_queue.proofs.queue.Queue.add.Goals as goal
 
 pub invariant_of-self : goal.invariant_of-self
-invariant_of-self c =
-    let same = c.added.ensures ∙ ap added c.get-row.ensures in
-    found_by_put _ c.put.new.self c.args.key.now c.added.result c.self.invariant (ap (λ r. r.timed) same) (ap (λ r. r.parked) same)
-    (λ is. let none = sym (ap (λ r. r.work) same) ∙ is in absurd (cc none)) c.put.ensures.rows
+invariant_of-self c = found_by_adding _ c.add_at.new.self c.args.key.now c.self.invariant (c.add_at.ensures.rows c.args.key.now c.in-Some.ensures.at)

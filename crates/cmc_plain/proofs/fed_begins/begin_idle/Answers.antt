@@ -1,0 +1,45 @@
+use Rattle.std.proofs.Common.{◌≡◌, ap, refl, sym, subst, ◌∙◌}
+use Rattle.cmc_meta.specs.declared.key.Key.{Key}
+use Rattle.cmc_queue.specs.Queues.{row_of, ChangesRow}
+use Rattle.cmc_queue.specs.Rows.{is_unknown}
+use Rattle.cmc_moves.specs.Answers.{Leaves}
+use Rattle.cmc_moves.specs.declared.moves.Move.TheVariants as moves
+use Rattle.cmc_moves.specs.declared.moves.Stepped.{Stepped}
+use Rattle.cmc_moves.proofs.Tables.{the_done}
+use Rattle.cmc_waking.specs.Feeding.{begun}
+use Rattle.cmc_waking.specs.Queues.{queue_in, row_at}
+use Rattle.cmc_world.specs.Kept.{setting_of, on}
+use Rattle.cmc_plain.proofs.AtOnce.{idle_act}
+use Rattle.cmc_plain.proofs.BeginsFed.{begun_none, fit_due, fit_queued, fit_room, idle_fed, idle_fits, idle_now}
+use Rattle.cmc_plain.proofs.Feeding.{fed_not_made, fed_same}
+use Rattle.cmc_plain.proofs.fed_begins.begin_idle.Goals as goal
+
+pub begin_due-requires-clause-free : goal.begin_due-requires-clause-free
+begin_due-requires-clause-free c = (idle_fits c.args.world.now c.args.role c.args.key c.args.queues.now c.is_run.ensures.run c.requires.fed c.requires.running c.requires.free c.requires.nothing).may.idle
+
+pub begin_due-requires-clause-due : goal.begin_due-requires-clause-due
+begin_due-requires-clause-due c = fit_due c.args.world.now c.args.role c.args.key c.in_ok-seen.seen c.in_ok-seen.ensures.sees (idle_fits c.args.world.now c.args.role c.args.key c.args.queues.now c.is_run.ensures.run c.requires.fed c.requires.running c.requires.free c.requires.nothing)
+
+pub begin_due-requires-clause-queued : goal.begin_due-requires-clause-queued
+begin_due-requires-clause-queued c = fit_queued c.args.world.now c.args.role c.args.key (idle_fits c.args.world.now c.args.role c.args.key c.args.queues.now c.is_run.ensures.run c.requires.fed c.requires.running c.requires.free c.requires.nothing)
+
+pub begun-requires-clause-row : goal.begun-requires-clause-row
+begun-requires-clause-row c = fit_room c.args.world.now c.args.role c.args.key c.in_ok-own.own c.args.queues.now c.in_ok-own.ensures c.requires.fed (idle_fits c.args.world.now c.args.role c.args.key c.args.queues.now c.is_run.ensures.run c.requires.fed c.requires.running c.requires.free c.requires.nothing)
+
+pub returns-in_err-answer-clause-fed : goal.returns-in_err-answer-clause-fed
+returns-in_err-answer-clause-fed c = fed_same c.args.world.now c.begin_due.new.self c.args.queues.now c.in_err-answer.ensures.err c.requires.fed
+
+pub returns-then-not-is_done-clause-fed : goal.returns-then-not-is_done-clause-fed
+returns-then-not-is_done-clause-fed c =
+    fed_not_made c.args.world.now c.begin_due.new.self (moves.Begin c.args.role c.args.key) c.in_ok-answer.answer c.args.queues.now c.is_run.ensures.run (sym c.is_done.ensures ∙ c.if-not-is_done.true) c.begin_due.ensures.scenario c.in_ok-answer.ensures.leaves c.requires.fed
+
+pub returns-clause-fed : goal.returns-clause-fed
+returns-clause-fed c =
+    idle_fed c.args.world.now c.begin_due.new.self c.args.role c.args.key c.in_ok-own.own c.args.queues.now c.begun.new.self c.in_ok-answer.answer c.in_ok-own.ensures c.is_run.ensures.run c.begin_due.ensures.run c.begin_due.ensures.scenario c.in_ok-answer.ensures.leaves
+    (sym c.is_done.ensures ∙ c.if-not-is_done.false) c.requires.running c.requires.free c.requires.nothing c.begun.ensures.rows c.begun.ensures.others c.requires.fed
+
+pub returns-clause-kept : goal.returns-clause-kept
+returns-clause-kept c =
+    idle_act c.args.world.now c.begin_due.new.self c.args.role c.args.key c.in_ok-answer.answer c.is_done.result c.begin_due.ensures.scenario
+    (idle_now c.args.world.now c.args.role c.args.key c.args.queues.now c.requires.fed c.requires.running c.requires.free c.requires.nothing (idle_fits c.args.world.now c.args.role c.args.key c.args.queues.now c.is_run.ensures.run c.requires.fed c.requires.running c.requires.free c.requires.nothing).may.work)
+    c.in_ok-answer.ensures.leaves c.is_done.ensures c.if-not-is_done.false

@@ -1,0 +1,216 @@
+//! A pass goes on, and once it has ended its key is in process no more.
+ghost use Rattle.std.specs.Option.{option_copied};
+ghost use Rattle.std.specs.Prelude.{◌≡◌, ℕ, None, IfOk, OnErr, OnOk};
+ghost use Rattle.cmc_meta.specs.declared.key.Key.{Key as KeyValue};
+ghost use Rattle.cmc_objects.specs.declared.role.Role.{Role as RoleValue};
+ghost use Rattle.cmc_held.specs.Remembered.{past_or_new};
+ghost use Rattle.cmc_rules.specs.Runs.{IsRun};
+ghost use Rattle.cmc_moves.specs.Answers.{Answers, AnswersGoing, Leaves, asked_by};
+ghost use Rattle.cmc_moves.specs.Prospects.{IsFirstAct};
+ghost use Rattle.cmc_moves.specs.declared.moves.Move.TheVariants as moves;
+ghost use Rattle.cmc_waking.specs.Parking.{waits_for};
+ghost use Rattle.cmc_waking.specs.Queues.{row_at};
+ghost use Rattle.cmc_world.specs.Kept.{on};
+ghost use Rattle.cmc_plain.specs.Fed.{HasRoomsToEnd, HasRow, IsClosing, IsFed, IsGoing, IsToClose, IsWrote};
+ghost use Rattle.cmc_rules.specs.Memory.{past};
+
+use cmc_meta::Key;
+use cmc_moves::{ending_at, let_go};
+use cmc_objects::{Positions, Role};
+use cmc_pass::Act;
+use cmc_rules::{Ending, Past};
+use cmc_waking::{Queues, parked_after};
+use cmc_world::{Move, Stepped, World};
+use std::alloc::{AllocError, Global};
+
+/// How a pass would end: what its role's queue is told then.
+#[derive(Drop)]
+pub(crate) struct Closing {
+    pub role: Role,
+    pub key: Key,
+    pub ending: Ending,
+    /// The role's own writes on the key.
+    pub own: Positions,
+    /// How far the role was told.
+    pub at: Positions,
+}
+
+/// The role's own writes on the key.
+pub(crate) fn own_of(past: Option<&Past>) -> Positions
+    ensures { result ≡ (past_or_new (option_copied past.entry)).own }
+{
+    match past {
+        Some(past) => past.own,
+        None => Positions {
+            certificates: 0,
+            requests: 0,
+            secrets: 0,
+        },
+    }
+}
+
+/// The role's own writes on the key, where they count for what the key waits for after a pass that ended so.
+fn own_after(world: &World, ending: Ending, role: Role, key: &Key) -> Positions
+    ensures { IsWrote ending → result ≡ (on past world.now role key.now).own }
+{
+    match ending {
+        Ending::Wrote => own_of(world.past(role, key)),
+        _ => own_of(None),
+    }
+}
+
+/// How the pass would end; `None` exactly where it is not open.
+fn closing_of(world: &World, pass: u64) -> Result<Option<Closing>, AllocError>
+    ensures { IfOk result (λ c. on IsClosing world.now pass c) }
+{
+    let Some(open) = world.passes().get(pass) else {
+        return Ok(None);
+    };
+    let key = open.key.copy()?;
+    let ending = ending_at(&open.stage);
+    let own = own_after(world, ending, open.role, &key);
+    Ok(Some(Closing {
+        role: open.role,
+        key,
+        ending,
+        own,
+        at: world.told(open.role),
+    }))
+}
+
+/// Makes room for the key of a pass that may end, and for the version that it waits for then, if there is one. No row changes.
+fn room_to_end(queues: &mut Queues, closing: &Option<Closing>) -> Result<(), AllocError>
+    requires { HasRow closing.now queues.old }
+    ensures made { OnOk result (HasRoomsToEnd closing.now queues.new) }
+    ensures rows { (r : RoleValue) → (k : KeyValue) → row_at queues.new r k ≡ row_at queues.old r k }
+{
+    let Some(closing) = closing else {
+        return Ok(());
+    };
+    match parked_after(closing.ending, closing.own, closing.at) {
+        Some(parked) => queues.place_for(closing.role, &closing.key, parked),
+        None => Ok(()),
+    }
+}
+
+/// After a move of the pass: where it has ended, its key is in process no more.
+fn close(world: &World, queues: &mut Queues, pass: u64, closing: Option<Closing>)
+    requires rooms { HasRoomsToEnd closing queues.old }
+    requires left { on IsToClose world.now pass closing queues.old }
+    ensures { on IsFed world.now queues.new }
+{
+    let Some(closing) = closing else {
+        return;
+    };
+    if world.passes().get(pass).is_some() {
+        return;
+    }
+    let Closing {
+        role,
+        key,
+        ending,
+        own,
+        at,
+    } = closing;
+    queues.ended(role, &key, ending, own, at);
+}
+
+
+/// How the pass may end by its next move, with room for that; `None` where it does not.
+fn ready_to_end(
+    world: &World,
+    queues: &mut Queues,
+    pass: u64,
+) -> Result<Option<Closing>, AllocError>
+    requires { on IsFed world.now queues.old }
+    ensures closing { IfOk result (λ c. on IsClosing world.now pass c) }
+    ensures made { IfOk result (λ c. HasRoomsToEnd c queues.new) }
+    ensures rows { (r : RoleValue) → (k : KeyValue) → row_at queues.new r k ≡ row_at queues.old r k }
+{
+    let closing = closing_of(world, pass)?;
+    room_to_end(queues, &closing)?;
+    Ok(closing)
+}
+
+/// Has the pass go on, as `World::step` does.
+pub(crate) fn go_next(
+    alloc: Global,
+    world: &mut World,
+    queues: &mut Queues,
+    pass: u64,
+    incarnation: u64,
+) -> Result<Stepped, AllocError>
+    requires { on IsFed world.old queues.old }
+    ensures answer { IfOk result (λ r. on Answers world.old (moves.Next pass incarnation) r) }
+    ensures leaves { IfOk result (λ r. on Leaves world.old (moves.Next pass incarnation) r world.new.history) }
+    ensures scenario { world.new.scenario ≡ world.old.scenario }
+    ensures run { on IsRun world.new }
+    ensures err { OnErr result (world.new ≡ world.old) }
+    ensures fed { on IsFed world.new queues.new }
+{
+    world.is_run();
+    let closing = ready_to_end(world, queues, pass)?;
+    let answer = world.step(alloc, Move::Next { pass, incarnation })?;
+    close(world, queues, pass, closing);
+    Ok(answer)
+}
+
+/// Makes the move, by which the pass goes on, as `World::step` does.
+pub(crate) fn go_on(
+    alloc: Global,
+    world: &mut World,
+    queues: &mut Queues,
+    pass: u64,
+    step: Move,
+) -> Result<Stepped, AllocError>
+    requires fed { on IsFed world.old queues.old }
+    requires going { IsGoing pass step }
+    ensures answer { IfOk result (λ r. on Answers world.old step r) }
+    ensures leaves { IfOk result (λ r. on Leaves world.old step r world.new.history) }
+    ensures scenario { world.new.scenario ≡ world.old.scenario }
+    ensures run { on IsRun world.new }
+    ensures err { OnErr result (world.new ≡ world.old) }
+    ensures fed { on IsFed world.new queues.new }
+{
+    world.is_run();
+    let closing = match ready_to_end(world, queues, pass) {
+        Ok(closing) => closing,
+        Err(lack) => {
+            let_go(step);
+            return Err(lack);
+        }
+    };
+    let answer = world.step(alloc, step)?;
+    close(world, queues, pass, closing);
+    Ok(answer)
+}
+
+/// Has a pass, which has only begun, go on by its act, as `World::act_first` does.
+pub(crate) fn act_first(
+    alloc: Global,
+    world: &mut World,
+    queues: &mut Queues,
+    pass: u64,
+    does: Act,
+) -> Result<Stepped, AllocError>
+    requires fed { on IsFed world.old queues.old }
+    requires first { on IsFirstAct world.old pass does }
+    ensures answer { IfOk result (λ r. on AnswersGoing world.old pass None (asked_by does) r) }
+    ensures leaves { IfOk result (λ r. (named : ℕ) → on Leaves world.old (moves.Next pass named) r world.new.history) }
+    ensures scenario { world.new.scenario ≡ world.old.scenario }
+    ensures run { on IsRun world.new }
+    ensures err { OnErr result (world.new ≡ world.old) }
+    ensures fed { on IsFed world.new queues.new }
+{
+    world.is_run();
+    let closing = match ready_to_end(world, queues, pass) {
+        Ok(closing) => closing,
+        Err(lack) => {
+            let_go(does);
+            return Err(lack);
+        }
+    };
+    let answer = world.act_first(alloc, pass, does)?;
+    close(world, queues, pass, closing);
+    Ok(answer)
+}

@@ -1,0 +1,69 @@
+//! The next key on which a role has something to do.
+ghost use Rattle.std.specs.Option.{option_copied};
+ghost use Rattle.std.specs.Prelude.{◌≡◌, ◌&&◌, IfOk, true};
+ghost use Rattle.cmc_model.specs.Histories.{runs};
+ghost use Rattle.cmc_queue.specs.Queues.{is_above, FindsFirst};
+ghost use Rattle.cmc_queue.specs.Rows.{is_pending};
+ghost use Rattle.cmc_waking.specs.Queues.{row_at};
+ghost use Rattle.cmc_world.specs.Kept.{on};
+ghost use Rattle.cmc_plain.specs.Fed.{IsFed};
+ghost use Rattle.cmc_plain.specs.Searches.{FindsPending};
+
+use crate::looks::look_at;
+use crate::openings::Opening;
+use cmc_meta::Key;
+use cmc_objects::Role;
+use cmc_waking::Queues;
+use cmc_world::World;
+use std::alloc::{AllocError, Global};
+
+/// The first key on which a role has something to do.
+#[derive(Drop)]
+pub(crate) enum Pending {
+    /// There is none.
+    None,
+    /// This key; a look found it before.
+    Key(Key),
+    /// The key of this pass, which a look has just found.
+    Pass(Opening),
+}
+
+/// The first key above this one, if there is one, that can be given and on which there may be something to do.
+fn pending_key(
+    queues: &Queues,
+    role: Role,
+    below: Option<&Key>,
+) -> Result<Option<Key>, AllocError>
+    ensures { IfOk result (FindsFirst (λ k. is_above (option_copied below.entry) k && is_pending (row_at queues.now role k))) }
+{
+    match queues.queue(role).next_pending(below) {
+        Some(key) => Ok(Some(key.copy()?)),
+        None => Ok(None),
+    }
+}
+
+/// The first key above this one, if there is one, on which the role, which runs, may begin a pass and has something to do.
+/// Keys are looked at up to there.
+pub(crate) fn next_pending(
+    alloc: Global,
+    world: &World,
+    queues: &mut Queues,
+    role: Role,
+    below: Option<&Key>,
+) -> Result<Pending, AllocError>
+    requires fed { on IsFed world.now queues.old }
+    requires running { on runs world.now role ≡ true }
+    ensures fed { on IsFed world.now queues.new }
+    ensures finds { IfOk result (λ p. on FindsPending world.now role (option_copied below.entry) p) }
+{
+    world.is_run();
+    while let Some(key) = pending_key(queues, role, below)? {
+        if !queues.queue(role).row(&key).work.is_unknown() {
+            return Ok(Pending::Key(key));
+        }
+        if let Some(opening) = look_at(alloc, world, queues, role, &key)? {
+            return Ok(Pending::Pass(opening));
+        }
+    }
+    Ok(Pending::None)
+}

@@ -1,0 +1,13 @@
+use Rattle.std.proofs.Common.{◌≡◌, take}
+use Rattle.cmc_meta.specs.declared.key.Key.{Key}
+use Rattle.cmc_queue.specs.Queues.{row_of}
+use Rattle.cmc_caches.specs.Affected.{is_among}
+use Rattle.cmc_waking.specs.Feeding.{added_if}
+use Rattle.cmc_waking.specs.Queues.{WakesSome}
+use Rattle.cmc_waking.proofs.feeding.wake_each.Given as goal
+
+abbrev pub invariant-loop-key : goal.invariant-loop-key
+invariant-loop-key l = record {
+  rows : (k : Key) → row_of l.queue k ≡ added_if (is_among (take l.key-index l.keys) k) (row_of l.fn.queue k);
+  some : WakesSome l.fn.keys l.fn.queue l.queue;
+}

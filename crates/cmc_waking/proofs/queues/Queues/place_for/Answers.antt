@@ -1,0 +1,18 @@
+use Rattle.std.proofs.Common.{ap, ◌≡◌, true}
+use Rattle.std.proofs.lemmas.Result.{on_ok_weaker}
+use Rattle.cmc_queue.specs.Queues.{fresh_count, has_room_for, Work}
+use Rattle.cmc_waking.proofs.Eight.{put_new, put_own, queue_here, rooms_put, rows_put}
+use Rattle.cmc_waking.proofs.Feeds.{same_rows}
+use Rattle.cmc_waking.proofs.queues.Queues.place_for.Goals as goal
+
+pub returns-clause-place : goal.returns-clause-place
+returns-clause-place c = on_ok_weaker c.place_for.result (λ has. put_new (λ (q : Work). has_room_for q c.args.parked.kind c.args.parked.version c.args.key.now ≡ true) c.self.inside.rows.items c.rank.result c.args.role c.index_mut.result.now c.place_for.new.self (queue_here c.self.inside.rows.items c.rank.result c.args.role c.index_mut.result.now c.self.invariant c.rank.ensures c.index_mut.ensures.value) has) c.place_for.ensures.place
+
+pub returns-clause-rows : goal.returns-clause-rows
+returns-clause-rows c = rw (← c.self.view_is) (rows_put c.self.inside.rows.items c.rank.result c.args.role c.index_mut.result.now c.place_for.new.self (queue_here c.self.inside.rows.items c.rank.result c.args.role c.index_mut.result.now c.self.invariant c.rank.ensures c.index_mut.ensures.value) (same_rows c.index_mut.result.now c.place_for.new.self c.place_for.ensures.rows))
+
+pub returns-clause-room : goal.returns-clause-room
+returns-clause-room c = rw (← c.self.view_is) (rooms_put c.self.inside.rows.items c.rank.result c.args.role c.index_mut.result.now c.place_for.new.self (queue_here c.self.inside.rows.items c.rank.result c.args.role c.index_mut.result.now c.self.invariant c.rank.ensures c.index_mut.ensures.value) c.place_for.ensures.room)
+
+pub returns-clause-fresh : goal.returns-clause-fresh
+returns-clause-fresh c = rw (← c.self.view_is) (put_own (λ (q p : Work). fresh_count p.rows ≡ fresh_count q.rows) c.self.inside.rows.items c.rank.result c.args.role c.index_mut.result.now c.place_for.new.self (queue_here c.self.inside.rows.items c.rank.result c.args.role c.index_mut.result.now c.self.invariant c.rank.ensures c.index_mut.ensures.value) (ap fresh_count c.place_for.ensures.rows))
