@@ -3,3 +3,9 @@ mod Readied
 mod Failing
 mod Going
 mod Issued
+mod CalmScripts
+mod CalmViews
+mod CalmReplies
+mod CalmNames
+mod CalmTargets
+mod RunningAlone
