@@ -9,3 +9,5 @@ mod CalmReplies
 mod CalmNames
 mod CalmTargets
 mod RunningAlone
+mod OwnNames
+mod OwnRequests
