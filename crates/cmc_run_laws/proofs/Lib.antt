@@ -3,3 +3,11 @@ mod Readied
 mod Failing
 mod Going
 mod Issued
+mod CalmScripts
+mod CalmViews
+mod CalmReplies
+mod CalmNames
+mod CalmTargets
+mod RunningAlone
+mod OwnNames
+mod OwnRequests

@@ -17,6 +17,8 @@ mod handed_in;
 #[cfg(test)]
 mod informer;
 #[cfg(test)]
+mod laws;
+#[cfg(test)]
 mod queue;
 #[cfg(test)]
 mod restarts;

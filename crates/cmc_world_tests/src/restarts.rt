@@ -18,7 +18,7 @@ use std::test::Fail;
 static KINDS: [Kind; 3] = [Kind::Certificate, Kind::CertificateRequest, Kind::Secret];
 
 /// The step that applies the Certificate.
-fn applied(alloc: Global) -> Result<Step, Fail> {
+pub(crate) fn applied(alloc: Global) -> Result<Step, Fail> {
     let mut certificate = certificate(alloc, "web", "web-tls", "example.com")?;
     let mut spec = CertSpec::copy(&certificate.spec)?;
     spec.key.algorithm = Some(Algorithm::Ecdsa);
@@ -226,7 +226,7 @@ fn go_on(alloc: Global, world: &mut World) -> Result<bool, Fail> {
 }
 
 /// Makes the plain moves to the end. A pass that is open at first goes before all deliveries.
-fn finish(alloc: Global, world: &mut World) -> Result<(), Fail> {
+pub(crate) fn finish(alloc: Global, world: &mut World) -> Result<(), Fail> {
     let mut goes_on = go_on(alloc, world)?;
     for _ in 0..1000 {
         if !goes_on {
@@ -257,7 +257,7 @@ fn restarted(alloc: Global, role: Role, behind: u64) -> Result<Scenario, Fail> {
 }
 
 /// Whether the run is finished, and its one Certificate is Ready with the revision 1.
-fn is_issued_once(alloc: Global, world: &World) -> Result<bool, Fail> {
+pub(crate) fn is_issued_once(alloc: Global, world: &World) -> Result<bool, Fail> {
     let web = key(alloc, Kind::Certificate, "web")?;
     let is_ready = match world.objects().get(&web) {
         Some(Object::Cert(certificate)) => {
