@@ -24,6 +24,7 @@ use Rattle.cmc_queue.specs.Queues.{row_of, ChangesRow, ChangesRows, Work}
 use Rattle.cmc_queue.specs.declared.row.Row.{Row}
 use Rattle.cmc_queue.specs.Rows.{is_free, no_row, ticked}
 use Rattle.cmc_queue.proofs.OneRow.{same_by_test}
+use Rattle.cmc_queue.proofs.Waits.{working_has_row}
 use Rattle.cmc_model.specs.declared.write.Write.{Write}
 use Rattle.cmc_model.specs.Histories.{Setting, accepted, moment, role_eq, runs}
 use Rattle.cmc_model.specs.Writes.{is_known, writes}
@@ -59,10 +60,11 @@ use Rattle.cmc_waking.specs.Queues.{queue_in, row_at, KeepsOthers}
 use Rattle.cmc_waking.specs.Waking.{IsTimed}
 use Rattle.cmc_waking.proofs.Owners.{same_role}
 use Rattle.cmc_world.specs.Kept.{Seen, setting_of, on}
-use Rattle.cmc_plain.specs.Fed.{AreAffected, AreKnownKeys, HasRoomsToEnd, IsAhead, IsClosing, IsClosingOf, IsFed, IsGoing, IsOfStore, IsWrote, IsStarting, IsToClose, IsToTurn, IsToldUpTo}
+use Rattle.cmc_plain.specs.Fed.{AreAffected, AreKnownKeys, HasRow, IsAhead, IsClosing, IsClosingOf, IsFed, IsGoing, IsOfStore, IsWrote, IsStarting, IsToClose, IsToTurn, IsToldUpTo}
 use Rattle.cmc_plain.specs.declared.fed_passes.Closing.{Closing}
 use Rattle.cmc_plain.specs.declared.fed_scripts.Ahead.{Ahead}
 use Rattle.cmc_plain.specs.declared.fed_scripts.Ahead.TheVariants as ahead
+use Rattle.cmc_plain.proofs.Looking.{row_works}
 use Rattle.cmc_plain.proofs.Moves.{IsSilent, fed_begun, fed_delivered, fed_ended, fed_first, fed_listed, fed_rows, fed_silent, fed_started, fed_stopped, fed_ticked}
 use Rattle.cmc_plain.proofs.Starting.{StartsStopped}
 use Rattle.cmc_plain.proofs.Switches.{starts_stopped}
@@ -306,6 +308,13 @@ to_close old new pass move answer closing queues run after same going leaves is 
     let s : Setting = setting_of old.scenario in
     on_new (λ s h. IsToClose s h pass closing queues) old new same
     (close_by closing s old.history new.history pass queues run.legal (subst (λ (u : Setup). IsLegal (setting_of u) new.history) same after.legal) (grown_by s old.history new.history pass move answer going leaves) is fed)
+
+-- the key of an open pass has a row
+pub closing_row : (s : Setting) (h : List Entry) (pass : ℕ) (closing : Option Closing) (queues : List Work) → IsLegal s h → IsFed s h queues → IsClosing s h pass closing → HasRow closing queues
+closing_row s h pass None queues legal fed is = tt
+closing_row s h pass (Some c) queues legal fed is =
+    let work = work_by c.role c.key (open_pass s h pass) is.mine (on_work s h pass legal) in
+    working_has_row (queue_in queues c.role).rows c.key ((row_works s h c.role c.key queues fed work).1 (pass, is.mine))
 
 -- ---- a step of the script
 

@@ -63,9 +63,14 @@ unfolding moved
 moved_added kind to row = moved_ready (is_reached kind to row.parked) row
 
 -- a key that was woken before its role is told is as one that is woken then
-pub told_woken : (b : Bool) (kind : Kind) (to : ℕ) (row : Row) → moved kind to (added_if b row) ≡ told b kind to row
+told_woken : (b : Bool) (kind : Kind) (to : ℕ) (row : Row) → moved kind to (added_if b row) ≡ told b kind to row
 told_woken true kind to row = moved_added kind to row
 told_woken false kind to row = refl
+
+-- and the rows of a role that is told once its keys are woken are those of one that is told of them
+pub told_rows : (role : Role) (kind : Kind) (to : ℕ) (keys : List Key) (before mid after : List Work) → ((key : Key) → row_at mid role key ≡ added_if (is_among keys key) (row_at before role key)) → ((key : Key) → row_at after role key ≡ told false kind to (row_at mid role key))
+    → (key : Key) → row_at after role key ≡ told (is_among keys key) kind to (row_at before role key)
+told_rows role kind to keys before mid after woken rows key = rows key ∙ ap (moved kind to) (woken key) ∙ told_woken (is_among keys key) kind to (row_at before role key)
 
 pub others_twice : (role : Role) (a b c : List Work) → KeepsOthers role a b → KeepsOthers role b c → KeepsOthers role a c
 others_twice role a b c one two r other = two r other ∙ one r other

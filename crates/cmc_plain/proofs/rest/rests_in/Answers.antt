@@ -1,7 +1,8 @@
 use Rattle.std.proofs.Common.{◌≡◌, ◌∙◌, refl, sym, subst, None}
+use Rattle.cmc_objects.specs.declared.role.Role.{Role}
 use Rattle.cmc_world.specs.Kept.{setting_of}
 use Rattle.cmc_plain.specs.declared.pending.Pending.{Pending}
-use Rattle.cmc_plain.specs.Searches.{FindsPending}
+use Rattle.cmc_plain.specs.Searches.{FindsPending, IsWork}
 use Rattle.cmc_plain.proofs.Resting.{rests_by_none, rests_not}
 use Rattle.cmc_plain.proofs.rest.rests_in.Goals as goal
 
@@ -34,5 +35,12 @@ returns-in-Pass-clause-test c =
     let up = sym c.runs.ensures ∙ c.if-not-runs.false in
     (
       λ on. absurd (cc on),
-      λ rests. absurd (rests_not s h c.args.role c.in-Pass._opening.key c.is_run.ensures.run c.requires.told first.1.work (rests up)),
+      λ rests. absurd (rests_not s h c.args.role c.in-Pass.opening.key c.is_run.ensures.run c.requires.told first.1.work (rests up)),
     )
+
+pub returns-in-Pass-clause-kept : goal.returns-in-Pass-clause-kept
+returns-in-Pass-clause-kept c =
+    let s = setting_of c.args.world.now.scenario in
+    let h = c.args.world.now.history in
+    let first = subst (λ (p : Pending). FindsPending s h c.args.role None p) c.in-Pass.is c.in_ok-next_pending.ensures.finds in
+    subst (λ (r : Role). IsWork s h r c.in-Pass.opening.key c.in-Pass.opening) (sym first.1.known.role) first.1
