@@ -2,7 +2,7 @@
 use Rattle.std.proofs.Common.{◌≡◌, ◌⊎◌, inl, inr, ◌+◌, ◌==◌, ℕ, ℤ, List, [], ◌∷◌, Option, Some, None, Bool, true, false, refl, sym, ap, subst, ◌∙◌, arith, int_le}
 use Rattle.std.proofs.lemmas.Bool.Decides.{Decides-eqb}
 use Rattle.std.proofs.lemmas.Bool.{and_parts}
-use Rattle.std.specs.Prelude.{◌&&◌, IfOk, IfSome, OnErr, Result, Ok, Err, if◌then◌else◌, option_map, nat_le}
+use Rattle.std.specs.Prelude.{◌&&◌, IfOk, IfSome, OnErr, OnOk, Result, Ok, Err, if◌then◌else◌, option_map, nat_le}
 use Rattle.std.specs.declared.alloc.AllocError.{AllocError}
 use Rattle.cmc_meta.specs.declared.key.Key.{Key}
 use Rattle.cmc_meta.specs.declared.key.Kind.{Kind}
@@ -20,7 +20,8 @@ use Rattle.cmc_objects.specs.Watching.{kind_of_work}
 use Rattle.cmc_pass.specs.declared.value.Value.{Value}
 use Rattle.cmc_pass.specs.declared.value.Value.TheVariants as values
 use Rattle.cmc_pass.specs.Giving.{value_of}
-use Rattle.cmc_queue.specs.Queues.{row_of, ChangesRow, ChangesRows, Work}
+use Rattle.cmc_queue.specs.Queues.{has_room, row_of, ChangesRow, ChangesRows, KeepsRoom, Work}
+use Rattle.cmc_queue.specs.declared.row.Parked.{Parked}
 use Rattle.cmc_queue.specs.declared.row.Row.{Row}
 use Rattle.cmc_queue.specs.Rows.{is_free, no_row, ticked}
 use Rattle.cmc_queue.proofs.OneRow.{same_by_test}
@@ -56,11 +57,12 @@ use Rattle.cmc_moves.specs.declared.moves.Stepped.TheVariants as answers
 use Rattle.cmc_moves.specs.Quiet.{no_views}
 use Rattle.cmc_setup.specs.Setups.{Setup, IsOrderlyFrom}
 use Rattle.cmc_waking.specs.Feeding.{begun, closed, started, told}
-use Rattle.cmc_waking.specs.Queues.{queue_in, row_at, KeepsOthers}
+use Rattle.cmc_waking.specs.Parking.{waits_for}
+use Rattle.cmc_waking.specs.Queues.{queue_in, row_at, HasPlaceFor, KeepsOthers}
 use Rattle.cmc_waking.specs.Waking.{IsTimed}
 use Rattle.cmc_waking.proofs.Owners.{same_role}
 use Rattle.cmc_world.specs.Kept.{Seen, setting_of, on}
-use Rattle.cmc_plain.specs.Fed.{AreAffected, AreKnownKeys, HasRow, IsAhead, IsClosing, IsClosingOf, IsFed, IsGoing, IsOfStore, IsWrote, IsStarting, IsToClose, IsToTurn, IsToldUpTo}
+use Rattle.cmc_plain.specs.Fed.{AreAffected, AreKnownKeys, HasRoomsFor, HasRow, IsAhead, IsClosing, IsClosingOf, IsFed, IsGoing, IsOfStore, IsWrote, IsStarting, IsToClose, IsToTurn, IsToldUpTo}
 use Rattle.cmc_plain.specs.declared.fed_passes.Closing.{Closing}
 use Rattle.cmc_plain.specs.declared.fed_scripts.Ahead.{Ahead}
 use Rattle.cmc_plain.specs.declared.fed_scripts.Ahead.TheVariants as ahead
@@ -315,6 +317,12 @@ closing_row s h pass None queues legal fed is = tt
 closing_row s h pass (Some c) queues legal fed is =
     let work = work_by c.role c.key (open_pass s h pass) is.mine (on_work s h pass legal) in
     working_has_row (queue_in queues c.role).rows c.key ((row_works s h c.role c.key queues fed work).1 (pass, is.mine))
+
+-- with a place for the version that it waits for there is room for its end
+pub rooms_made : {A : Type 0} (r : Result A AllocError) (c : Closing) (parked : Option Parked) (old new : List Work) → parked ≡ waits_for c.ending c.own c.at → has_room (queue_in old c.role) c.key ≡ true → KeepsRoom (queue_in old c.role) (queue_in new c.role)
+    → OnOk r (HasPlaceFor parked c.key (queue_in new c.role)) → OnOk r (HasRoomsFor c new)
+rooms_made (Ok x) c parked old new is row keeps place = record { row = keeps.rows c.key row; place = subst (λ (p : Option Parked). HasPlaceFor p c.key (queue_in new c.role)) is place }
+rooms_made (Err lack) c parked old new is row keeps place = tt
 
 -- ---- a step of the script
 

@@ -1,0 +1,16 @@
+use Rattle.std.proofs.Common.{◌≡◌, ◌∙◌, sym, subst, Option, Some, None}
+use Rattle.std.specs.Prelude.{OnOk}
+use Rattle.cmc_queue.specs.declared.row.Parked.{Parked}
+use Rattle.cmc_queue.specs.Queues.{has_room}
+use Rattle.cmc_waking.specs.Queues.{queue_in, HasPlaceFor}
+use Rattle.cmc_plain.specs.declared.fed_passes.Closing.{Closing}
+use Rattle.cmc_plain.specs.Fed.{HasRoomsToEnd, HasRow}
+use Rattle.cmc_plain.proofs.Feeding.{rooms_made}
+use Rattle.cmc_plain.proofs.fed_passes.room_to_end.Goals as goal
+
+pub returns-in-Some-2-clause-made : goal.returns-in-Some-2-clause-made
+returns-in-Some-2-clause-made c =
+    let closing = c.in-Some.closing.now in
+    let row = subst (λ (o : Option Closing). HasRow o c.args.queues.now) c.in-Some.is c.requires in
+    subst (λ (o : Option Closing). OnOk c.place_for.result (HasRoomsToEnd o c.place_for.new.self)) (sym c.in-Some.is)
+    (rooms_made c.place_for.result closing (Some c.in-Some-2.parked) c.args.queues.now c.place_for.new.self (sym c.in-Some-2.is ∙ c.parked_after.ensures) row (c.place_for.ensures.room closing.role) c.place_for.ensures.place)
