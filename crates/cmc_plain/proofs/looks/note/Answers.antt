@@ -65,11 +65,11 @@ found_busy-requires-clause-row c = fresh_room c.args.queues.now c.args.role c.ar
 pub found_busy-requires-clause-place : goal.found_busy-requires-clause-place
 found_busy-requires-clause-place c = fresh_room c.args.queues.now c.args.role c.args.key.now c.requires.fresh
 
-pub place_at-in-Idle-requires : goal.place_at-in-Idle-requires
-place_at-in-Idle-requires c = fresh_room c.args.queues.now c.args.role c.args.key.now c.requires.fresh
+pub place_at-requires : goal.place_at-requires
+place_at-requires c = fresh_room c.args.queues.now c.args.role c.args.key.now c.requires.fresh
 
-pub place_at-in-Quiet-requires : goal.place_at-in-Quiet-requires
-place_at-in-Quiet-requires c = fresh_room c.args.queues.now c.args.role c.args.key.now c.requires.fresh
+pub place_at-requires-in-Quiet : goal.place_at-requires-in-Quiet
+place_at-requires-in-Quiet c = fresh_room c.args.queues.now c.args.role c.args.key.now c.requires.fresh
 
 pub found_held-requires-clause-row : goal.found_held-requires-clause-row
 found_held-requires-clause-row c = (c.place_for.ensures.room c.args.role).rows c.args.key.now (fresh_room c.args.queues.now c.args.role c.args.key.now c.requires.fresh)
