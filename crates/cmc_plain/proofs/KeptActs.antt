@@ -1,6 +1,5 @@
 -- A pass that begins as it was kept, and one that goes on by the act that was kept of it.
-use Rattle.std.proofs.Common.{◌≡◌, ℕ, List, Option, Some, None, inr, refl, sym, ap, subst, ◌∙◌}
-use Rattle.std.specs.Prelude.{IfSome}
+use Rattle.std.proofs.Common.{◌≡◌, ℕ, List, Option, Some, None, inr, sym, ap, subst, ◌∙◌}
 use Rattle.cmc_meta.specs.declared.key.Key.{Key}
 use Rattle.cmc_objects.specs.declared.entry.Entry.{Entry}
 use Rattle.cmc_objects.specs.declared.orders.Order.{Order}
@@ -20,12 +19,10 @@ use Rattle.cmc_moves.specs.declared.moves.Stepped.TheVariants.{Ended, NotNow}
 use Rattle.cmc_moves.specs.declared.moves.Lack.TheVariants.{NoPass}
 use Rattle.cmc_plain.specs.Keeping.{IsKeptRight, IsMine}
 use Rattle.cmc_plain.specs.Plain.{IsOfPresent}
-use Rattle.cmc_plain.specs.Searches.{FindsPending, FindsWork, HasWorkAbove, IsWork}
-use Rattle.cmc_plain.specs.Searches as searches
+use Rattle.cmc_plain.specs.Searches.{IsWork}
 use Rattle.cmc_plain.specs.declared.kept.Kept.{Kept}
 use Rattle.cmc_plain.specs.declared.kept.Kept.TheVariants as kept
 use Rattle.cmc_plain.specs.declared.openings.Opening.{Opening}
-use Rattle.cmc_plain.specs.declared.pending.Pending.TheVariants as pending
 use Rattle.cmc_plain.proofs.Making.{ArePresent}
 
 pub acts_next : (s : Setting) (h : List Entry) (n named : ℕ) (does : Act) (answer : Stepped) → ArePresent s h → IsOfPresent s h named (open_pass s h n) → IsFirstAct s h n does → AnswersGoing s h n None (asked_by does) answer → AnswersNext s h n named answer
@@ -40,22 +37,6 @@ acts_next s h n named does answer present of first a =
     subst (λ (o : Option ℕ). BarOf o (λ present. Ended present) answer (Need (IsOpen (open_pass s h n)) (NotNow (NoPass n)) answer (AnswersGoing s h n (kept_of (open_pass s h n)) (new_of s h (open_pass s h n)) answer))) (sym now)
     (inr (subst IsOpen (sym is) tt, going))
 
--- ---- a pass that was kept
-
--- one of the role on the key
-abbrev pub IsKeptPass : Kept → Role → Key → Opening → Type 0
-IsKeptPass k role key o = (k ≡ kept.Pass o) × IsMine role key o
-
-pub is_kept : (k : Kept) (role : Role) (key : Key) (r : Option Opening) (o : Opening) → r ≡ Some o → IfSome r (IsKeptPass k role key) → IsKeptPass k role key o
-is_kept k role key r o is found = subst (λ (x : Option Opening). IfSome x (IsKeptPass k role key)) is found
-
--- may begin, and has something to do
-pub kept_work : (s : Setting) (h : List Entry) (k : Kept) (role : Role) (key : Key) (o : Opening) → IsKeptRight s h k → IsKeptPass k role key o → IsWork s h o.role o.key o
+-- a pass that was kept may begin, and has something to do
+pub kept_work : (s : Setting) (h : List Entry) (k : Kept) (role : Role) (key : Key) (o : Opening) → IsKeptRight s h k → (k ≡ kept.Pass o) × IsMine role key o → IsWork s h o.role o.key o
 kept_work s h k role key o right is = subst (λ (x : Kept). IsKeptRight s h x) is.0 right
-
--- and is that on the first key on which there is work
-pub kept_first : (s : Setting) (h : List Entry) (k : Kept) (role : Role) (below : Option Key) (key : Key) (o : Opening) → IsKeptRight s h k → IsKeptPass k role key o → FindsPending s h role below (pending.Key key) → FindsWork s h role below (Some o)
-kept_first s h k role below key o right is first = (
-  subst (λ (x : Key). searches.FindsFirst (HasWorkAbove s h role below) (Some x)) (sym is.1.key) first,
-  subst (λ (r : Role). IsWork s h r o.key o) is.1.role (kept_work s h k role key o right is),
-)

@@ -1,5 +1,4 @@
-use Rattle.std.proofs.Common.{◌≡◌, true, sym, subst, ap, ◌∙◌, ◌+◌, ℕ}
-use Rattle.cmc_queue.specs.declared.row.Row.{Row}
+use Rattle.std.proofs.Common.{sym, subst, ap, ◌∙◌}
 use Rattle.cmc_queue.specs.Rows.{is_fresh}
 use Rattle.cmc_world.specs.Kept.{setting_of}
 use Rattle.cmc_plain.specs.Looks.{IsLook}
