@@ -1,5 +1,5 @@
 -- Keys are made ready before what makes them so happens.
-use Rattle.std.proofs.Common.{◌≡◌, ◌⊎◌, ℕ, ℤ, List, Option, Some, None, Bool, true, false, inl, inr, refl, sym, ap, subst, ◌∙◌}
+use Rattle.std.proofs.Common.{◌≡◌, ◌⊎◌, ℕ, ℤ, List, None, Bool, true, false, inl, inr, refl, sym, ap, subst, ◌∙◌}
 use Rattle.std.specs.Prelude.{if◌then◌else◌}
 use Rattle.cmc_meta.specs.declared.key.Key.{Key}
 use Rattle.cmc_meta.specs.declared.key.Kind.{Kind}
@@ -11,14 +11,14 @@ use Rattle.cmc_objects.specs.Watching.{kind_of_work}
 use Rattle.cmc_pass.specs.declared.pass.Views.{Views}
 use Rattle.cmc_queue.specs.declared.row.Found.TheVariants as found
 use Rattle.cmc_queue.specs.declared.row.Row.{Row}
-use Rattle.cmc_queue.specs.Queues.{row_of, Work}
+use Rattle.cmc_queue.specs.Queues.{Work}
 use Rattle.cmc_queue.specs.Rows.{added, is_reached, moved}
 use Rattle.cmc_caches.specs.Affected.{is_among}
-use Rattle.cmc_model.specs.Histories.{Setting, role_eq}
+use Rattle.cmc_model.specs.Histories.{Setting}
 use Rattle.cmc_rules.specs.declared.progress.Past.{Past}
 use Rattle.cmc_waking.specs.Feeding.{added_if, told}
 use Rattle.cmc_waking.specs.Queues.{queue_in, row_at, KeepsOthers, WakesSome}
-use Rattle.cmc_waking.specs.Waking.{AreTended, IsKept, IsTended}
+use Rattle.cmc_waking.specs.Waking.{IsKept, IsTended}
 use Rattle.cmc_world.specs.Kept.{Seen, setting_of, on}
 use Rattle.cmc_plain.specs.Fed.{IsFed}
 use Rattle.cmc_plain.specs.Keeping.{IsKeptRight}

@@ -7,7 +7,7 @@ use Rattle.cmc_moves.specs.declared.moves.Stepped.{Stepped}
 use Rattle.cmc_moves.proofs.Tables.{the_done}
 use Rattle.cmc_waking.specs.Feeding.{added_if}
 use Rattle.cmc_waking.specs.Queues.{queue_in, row_at, WakesSome}
-use Rattle.cmc_world.specs.Kept.{setting_of, on}
+use Rattle.cmc_world.specs.Kept.{on}
 use Rattle.cmc_plain.specs.Fed.{IsReach}
 use Rattle.cmc_plain.proofs.Wakings.{fed_woken, others_twice, told_rows}
 use Rattle.cmc_plain.proofs.Feeding.{fed_not_made, fed_refused, fed_same, fed_told}

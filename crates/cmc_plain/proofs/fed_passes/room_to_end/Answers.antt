@@ -1,8 +1,5 @@
-use Rattle.std.proofs.Common.{◌≡◌, ◌∙◌, sym, subst, Option, Some, None}
+use Rattle.std.proofs.Common.{◌≡◌, ◌∙◌, sym, subst, Option, Some}
 use Rattle.std.specs.Prelude.{OnOk}
-use Rattle.cmc_queue.specs.declared.row.Parked.{Parked}
-use Rattle.cmc_queue.specs.Queues.{has_room}
-use Rattle.cmc_waking.specs.Queues.{queue_in, HasPlaceFor}
 use Rattle.cmc_plain.specs.declared.fed_passes.Closing.{Closing}
 use Rattle.cmc_plain.specs.Fed.{HasRoomsToEnd, HasRow}
 use Rattle.cmc_plain.proofs.Feeding.{rooms_made}

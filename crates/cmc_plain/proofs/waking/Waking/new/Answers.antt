@@ -1,5 +1,3 @@
-use Rattle.std.proofs.Common.{refl}
-use Rattle.cmc_world.specs.Kept.{setting_of}
 use Rattle.cmc_plain.proofs.Feeding.{fed_new}
 use Rattle.cmc_plain.proofs.waking.Waking.new.Goals as goal
 

@@ -1,5 +1,4 @@
-use Rattle.std.proofs.Common.{subst, sym, ◌≡◌, true, Some, List}
-use Rattle.cmc_world.specs.Kept.{Seen, setting_of, on}
+use Rattle.std.proofs.Common.{◌≡◌}
 use Rattle.cmc_plain.proofs.Telling.{queue_finds, queue_wakes, queue_work, queue_works}
 use Rattle.cmc_plain.proofs.waking.Waking.queue.Goals as goal
 

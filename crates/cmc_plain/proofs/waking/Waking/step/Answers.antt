@@ -2,7 +2,7 @@ use Rattle.std.proofs.Common.{subst, sym}
 use Rattle.std.specs.Prelude.{IfOk}
 use Rattle.cmc_moves.specs.Answers.{Answers}
 use Rattle.cmc_moves.specs.declared.moves.Move.{Move}
-use Rattle.cmc_world.specs.Kept.{setting_of, on}
+use Rattle.cmc_world.specs.Kept.{on}
 use Rattle.cmc_plain.proofs.waking.Waking.step.Goals as goal
 
 pub returns-in-Begin-clause-answer : goal.returns-in-Begin-clause-answer
