@@ -106,9 +106,9 @@ row_by : (b : Bool) (s : Setting) (h : List Entry) (role : Role) (key : Key) (ke
 row_by true s h role key keys queue is legal rows all = tended_anew s h role key (row_of queue key) (rows.listed key is)
 row_by false s h role key keys queue is legal rows all =
     subst (IsTended s h role key) (sym (rows.others key is)) (tended_unknown s h role key legal (unknown_by (is_known key (writes s h)) refl)) where
-  unknown_by : (known : Bool) → is_known key (writes s h) ≡ known → is_known key (writes s h) ≡ false
-  unknown_by true known = absurd (let on = all known in cc (on, is))
-  unknown_by false known = known
+      unknown_by : (known : Bool) → is_known key (writes s h) ≡ known → is_known key (writes s h) ≡ false
+      unknown_by true known = absurd (let on = all known in cc (on, is))
+      unknown_by false known = known
 
 others_by : (b : Bool) (s : Setting) (h : List Entry) (role : Role) (key : Key) (keys : List Key) (queue : Work) → is_among keys key ≡ b → AreRowsAnew s h role keys queue → (is_among keys key ≡ true → key.kind ≡ kind_of_work role) → (key.kind ≡ kind_of_work role → ⊥)
     → row_of queue key ≡ no_row

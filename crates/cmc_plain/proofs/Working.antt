@@ -68,5 +68,5 @@ pub work_found : (s : Setting) (h : List Entry) (role : Role) (key : Key) (seen 
     → IsProspect role (act role seen (moment s h) (desk s h role seen)) (prospect does) → IsDue (past s h role key) seen (moment s h) (positions h role) → o ≡ record { role = role; key = key; seen = seen; does = does } → IsWorkOn s h role key (Some o)
 work_found s h role key seen does o legal is running free does_is due same =
     work_where_due s h role key seen does true (Some o) legal is running free does_is (λ on. due, λ d. refl) (ap (λ (x : Opening). some_opening x) same) where
-  some_opening : Opening → Option Opening
-  some_opening x = Some x
+      some_opening : Opening → Option Opening
+      some_opening x = Some x

@@ -287,14 +287,7 @@ impl Waking {
         ensures err { OnErr result (self.new ≡ self.old) }
     {
         let kept = self.kept.take();
-        let (answer, kept) = begin_kept(
-            alloc,
-            &mut self.world,
-            &mut self.queues,
-            role,
-            key,
-            kept,
-        )?;
+        let (answer, kept) = begin_kept(alloc, &mut self.world, &mut self.queues, role, key, kept)?;
         self.kept = kept;
         Ok(answer)
     }

@@ -10,8 +10,7 @@ pub returns-in-None-clause-test : goal.returns-in-None-clause-test
 returns-in-None-clause-test c =
     let s = setting_of c.args.world.now.scenario in
     let h = c.args.world.now.history in
-    let none = subst (λ (p : Pending). FindsPending s h c.args.role None p) c.in-None.is c.in_ok-next_pending.ensures.finds in
-    (
+    let none = subst (λ (p : Pending). FindsPending s h c.args.role None p) c.in-None.is c.in_ok-next_pending.ensures.finds in (
       λ on up. rests_by_none s h c.args.role c.is_run.ensures.run c.requires.closed c.requires.told up (λ key work. none key (record { above = refl; work = work })),
       λ rests. refl,
     )
@@ -21,8 +20,7 @@ returns-in-Key-clause-test c =
     let s = setting_of c.args.world.now.scenario in
     let h = c.args.world.now.history in
     let first = subst (λ (p : Pending). FindsPending s h c.args.role None p) c.in-Key.is c.in_ok-next_pending.ensures.finds in
-    let up = sym c.runs.ensures ∙ c.if-not-runs.false in
-    (
+    let up = sym c.runs.ensures ∙ c.if-not-runs.false in (
       λ on. absurd (cc on),
       λ rests. absurd (rests_not s h c.args.role c.in-Key._key c.is_run.ensures.run c.requires.told first.0.work (rests up)),
     )
@@ -32,8 +30,7 @@ returns-in-Pass-clause-test c =
     let s = setting_of c.args.world.now.scenario in
     let h = c.args.world.now.history in
     let first = subst (λ (p : Pending). FindsPending s h c.args.role None p) c.in-Pass.is c.in_ok-next_pending.ensures.finds in
-    let up = sym c.runs.ensures ∙ c.if-not-runs.false in
-    (
+    let up = sym c.runs.ensures ∙ c.if-not-runs.false in (
       λ on. absurd (cc on),
       λ rests. absurd (rests_not s h c.args.role c.in-Pass.opening.key c.is_run.ensures.run c.requires.told first.1.work (rests up)),
     )
