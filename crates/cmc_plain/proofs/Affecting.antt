@@ -12,7 +12,7 @@ use Rattle.cmc_objects.specs.declared.entry.Entry.TheVariants.{Deliver, List as 
 use Rattle.cmc_model.specs.declared.write.Write.{Write}
 use Rattle.cmc_model.specs.Objects.{Objects}
 use Rattle.cmc_model.specs.Histories.{Setting, accepted, role_eq}
-use Rattle.cmc_model.specs.Writes.{writes, write_at, contents, oldest, of_kind}
+use Rattle.cmc_model.specs.Writes.{writes, contents, oldest, of_kind}
 use Rattle.cmc_model.proofs.Writes.{writes_count}
 use Rattle.cmc_objects.specs.Watching.{has_informer, kind_of_work}
 use Rattle.cmc_rules.specs.Positions.{position, position_of, positions}

@@ -1,5 +1,5 @@
 -- Passes that begin and go on at once.
-use Rattle.std.proofs.Common.{◌≡◌, ℕ, ℤ, ◌+◌, List, ◌∷◌, Option, Some, None, Bool, true, refl, sym, ap, subst, ◌∙◌, arith}
+use Rattle.std.proofs.Common.{◌≡◌, ℕ, ◌+◌, List, ◌∷◌, Option, Some, None, Bool, true, refl, sym, ap, subst, ◌∙◌, arith}
 use Rattle.std.proofs.lemmas.Bool.Decides.{Decides-eqb}
 use Rattle.std.specs.Prelude.{◌==◌, IfSome, if◌then◌else◌}
 use Rattle.cmc_meta.specs.declared.key.Key.{Key}
@@ -100,8 +100,7 @@ idle_act old mid role key begin done same idle leaves tells on =
     let h = old.history in
     let grown : mid.history ≡ beginning s h role key ∷ h = begun_is s h mid.history role key begin (sym tells ∙ on) leaves in
     subst (λ (w : Seen). IsFirstAct (setting_of w.scenario) w.history (begun (setting_of w.scenario) w.history) acts.Nothing)
-    (λ i. record { scenario = (sym same) i; history = (sym grown) i })
-    (
+    (λ i. record { scenario = (sym same) i; history = (sym grown) i }) (
       new_pass role key (views s h role key) (moment s h),
       record {
         opened = opened_new s h role key;

@@ -1,5 +1,6 @@
 -- A begin keeps the queues right.
 use Rattle.std.proofs.Common.{◌≡◌, ℤ, List, Option, Some, None, Bool, true, false, refl, sym, ap, subst, ◌∙◌, int_le}
+use Rattle.std.proofs.lemmas.Bool.{and_parts}
 use Rattle.std.specs.Prelude.{IfSome, if◌then◌else◌}
 use Rattle.cmc_meta.specs.declared.key.Key.{Key}
 use Rattle.cmc_meta.specs.Keys.{key_eq}
@@ -15,7 +16,7 @@ use Rattle.cmc_queue.specs.declared.row.Found.TheVariants as found
 use Rattle.cmc_queue.specs.declared.row.Parked.{Parked}
 use Rattle.cmc_queue.specs.declared.row.Row.{Row}
 use Rattle.cmc_queue.specs.Queues.{has_room, row_of, ChangesRow, Work}
-use Rattle.cmc_queue.specs.Rows.{earlier, is_free, is_unknown, may_work}
+use Rattle.cmc_queue.specs.Rows.{earlier, is_free, is_fresh, is_unknown, may_work}
 use Rattle.cmc_queue.proofs.OneRow.{same_by_test}
 use Rattle.cmc_queue.proofs.Waits.{free_has_row}
 use Rattle.cmc_model.specs.Histories.{Setting, moment, runs}
@@ -70,6 +71,10 @@ begun_done old new role key own seen next before mid after answer same run scena
     (fit_free (setting_of old.scenario) old.history role key mid fed_mid fits)
     (timed_first role (on views old role key) (on moment old) next (subst (λ (v : Views). IsFirstAfter (on moment old) (IsDueMoment role v) next) sees first))
     (subst (λ (k : Key). ChangesRow (begun next) k (queue_in mid role) (queue_in after role)) same changed) others fed_mid
+
+-- a key that is to be looked at has a row
+pub fresh_room : (queues : List Work) (role : Role) (key : Key) → is_fresh (row_at queues role key) ≡ true → has_room (queue_in queues role) key ≡ true
+fresh_room queues role key on = free_has_row (queue_in queues role).rows key (and_parts (is_free (row_at queues role key)) (is_unknown (row_at queues role key).work) on).0
 
 -- ---- a begin by what the row says
 

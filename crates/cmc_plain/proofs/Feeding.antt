@@ -1,18 +1,16 @@
 -- Each move of a world keeps the queues right that are changed as it says.
-use Rattle.std.proofs.Common.{◌≡◌, ◌⊎◌, inl, inr, ◌+◌, ◌==◌, ℕ, ℤ, List, [], ◌∷◌, Option, Some, None, Bool, true, false, refl, sym, ap, subst, ◌∙◌, arith, int_le}
+use Rattle.std.proofs.Common.{◌≡◌, ◌⊎◌, inl, inr, ◌+◌, ◌==◌, ℕ, ℤ, List, [], ◌∷◌, Option, Some, None, Bool, true, false, refl, sym, ap, subst, ◌∙◌, int_le}
 use Rattle.std.proofs.lemmas.Bool.Decides.{Decides-eqb}
 use Rattle.std.proofs.lemmas.Bool.{and_parts}
-use Rattle.std.specs.Prelude.{◌&&◌, IfOk, IfSome, OnErr, Result, Ok, Err, if◌then◌else◌, option_map, nat_le}
+use Rattle.std.specs.Prelude.{◌&&◌, IfOk, IfSome, OnErr, OnOk, Result, Ok, Err, if◌then◌else◌, option_map, nat_le}
 use Rattle.std.specs.declared.alloc.AllocError.{AllocError}
 use Rattle.cmc_meta.specs.declared.key.Key.{Key}
 use Rattle.cmc_meta.specs.declared.key.Kind.{Kind}
 use Rattle.cmc_meta.specs.Keys.{key_eq}
 use Rattle.cmc_objects.specs.declared.call.Call.{Call}
-use Rattle.cmc_objects.specs.declared.call.Reply.{Reply}
 use Rattle.cmc_objects.specs.declared.entry.Cause.{Cause}
 use Rattle.cmc_objects.specs.declared.entry.Entry.{Entry}
 use Rattle.cmc_objects.specs.declared.entry.Entry.TheVariants.{Script, Call as Called, Deliver, List as Listed, Begin, Ask, Made, Signed, Answered, Judged, End, Stop, Start, Tick}
-use Rattle.cmc_objects.specs.declared.entry.Who.{Who}
 use Rattle.cmc_objects.specs.declared.entry.Who.TheVariants.{User, Pass}
 use Rattle.cmc_objects.specs.declared.orders.Order.{Order}
 use Rattle.cmc_objects.specs.declared.role.Role.{Role}
@@ -20,10 +18,12 @@ use Rattle.cmc_objects.specs.Watching.{kind_of_work}
 use Rattle.cmc_pass.specs.declared.value.Value.{Value}
 use Rattle.cmc_pass.specs.declared.value.Value.TheVariants as values
 use Rattle.cmc_pass.specs.Giving.{value_of}
-use Rattle.cmc_queue.specs.Queues.{row_of, ChangesRow, ChangesRows, Work}
+use Rattle.cmc_queue.specs.Queues.{has_room, row_of, ChangesRow, ChangesRows, KeepsRoom, Work}
+use Rattle.cmc_queue.specs.declared.row.Parked.{Parked}
 use Rattle.cmc_queue.specs.declared.row.Row.{Row}
 use Rattle.cmc_queue.specs.Rows.{is_free, no_row, ticked}
 use Rattle.cmc_queue.proofs.OneRow.{same_by_test}
+use Rattle.cmc_queue.proofs.Waits.{working_has_row}
 use Rattle.cmc_model.specs.declared.write.Write.{Write}
 use Rattle.cmc_model.specs.Histories.{Setting, accepted, moment, role_eq, runs}
 use Rattle.cmc_model.specs.Writes.{is_known, writes}
@@ -47,22 +47,23 @@ use Rattle.cmc_rules.specs.Scripting.{scripted}
 use Rattle.cmc_rules.specs.Viewing.{views}
 use Rattle.cmc_rules.proofs.Carrying.{over_ask, over_begin, over_call, over_end, over_given, over_stop}
 use Rattle.cmc_caches.specs.Affected.{is_among}
-use Rattle.cmc_moves.specs.Answers.{is_done, beginning, delivered, asked_once, kept_of, next_effect, value_entry, AnswersBegin, AnswersDelivery, Grows, GrowsBy, GrowsByScript, IsOfPass, Leaves, LeavesAsked}
+use Rattle.cmc_moves.specs.Answers.{is_done, beginning, delivered, asked_once, kept_of, next_effect, value_entry, GrowsBy, IsOfPass, Leaves, LeavesAsked}
 use Rattle.cmc_moves.specs.declared.moves.Move.{Move}
 use Rattle.cmc_moves.specs.declared.moves.Move.TheVariants as moves
 use Rattle.cmc_moves.specs.declared.moves.Stepped.{Stepped}
 use Rattle.cmc_moves.specs.declared.moves.Stepped.TheVariants as answers
-use Rattle.cmc_moves.specs.Quiet.{no_views}
 use Rattle.cmc_setup.specs.Setups.{Setup, IsOrderlyFrom}
-use Rattle.cmc_waking.specs.Feeding.{begun, closed, started, told}
-use Rattle.cmc_waking.specs.Queues.{queue_in, row_at, KeepsOthers}
+use Rattle.cmc_waking.specs.Feeding.{begun, closed, told}
+use Rattle.cmc_waking.specs.Parking.{waits_for}
+use Rattle.cmc_waking.specs.Queues.{queue_in, row_at, HasPlaceFor, KeepsOthers}
 use Rattle.cmc_waking.specs.Waking.{IsTimed}
 use Rattle.cmc_waking.proofs.Owners.{same_role}
 use Rattle.cmc_world.specs.Kept.{Seen, setting_of, on}
-use Rattle.cmc_plain.specs.Fed.{AreAffected, AreKnownKeys, HasRoomsToEnd, IsAhead, IsClosing, IsClosingOf, IsFed, IsGoing, IsOfStore, IsWrote, IsStarting, IsToClose, IsToTurn, IsToldUpTo}
+use Rattle.cmc_plain.specs.Fed.{AreAffected, HasRoomsFor, HasRow, IsAhead, IsClosing, IsClosingOf, IsFed, IsGoing, IsOfStore, IsWrote, IsStarting, IsToClose, IsToTurn, IsToldUpTo}
 use Rattle.cmc_plain.specs.declared.fed_passes.Closing.{Closing}
 use Rattle.cmc_plain.specs.declared.fed_scripts.Ahead.{Ahead}
 use Rattle.cmc_plain.specs.declared.fed_scripts.Ahead.TheVariants as ahead
+use Rattle.cmc_plain.proofs.Looking.{row_works}
 use Rattle.cmc_plain.proofs.Moves.{IsSilent, fed_begun, fed_delivered, fed_ended, fed_first, fed_listed, fed_rows, fed_silent, fed_started, fed_stopped, fed_ticked}
 use Rattle.cmc_plain.proofs.Starting.{StartsStopped}
 use Rattle.cmc_plain.proofs.Switches.{starts_stopped}
@@ -306,6 +307,19 @@ to_close old new pass move answer closing queues run after same going leaves is 
     let s : Setting = setting_of old.scenario in
     on_new (λ s h. IsToClose s h pass closing queues) old new same
     (close_by closing s old.history new.history pass queues run.legal (subst (λ (u : Setup). IsLegal (setting_of u) new.history) same after.legal) (grown_by s old.history new.history pass move answer going leaves) is fed)
+
+-- the key of an open pass has a row
+pub closing_row : (s : Setting) (h : List Entry) (pass : ℕ) (closing : Option Closing) (queues : List Work) → IsLegal s h → IsFed s h queues → IsClosing s h pass closing → HasRow closing queues
+closing_row s h pass None queues legal fed is = tt
+closing_row s h pass (Some c) queues legal fed is =
+    let work = work_by c.role c.key (open_pass s h pass) is.mine (on_work s h pass legal) in
+    working_has_row (queue_in queues c.role).rows c.key ((row_works s h c.role c.key queues fed work).1 (pass, is.mine))
+
+-- with a place for the version that it waits for there is room for its end
+pub rooms_made : {A : Type 0} (r : Result A AllocError) (c : Closing) (parked : Option Parked) (old new : List Work) → parked ≡ waits_for c.ending c.own c.at → has_room (queue_in old c.role) c.key ≡ true → KeepsRoom (queue_in old c.role) (queue_in new c.role)
+    → OnOk r (HasPlaceFor parked c.key (queue_in new c.role)) → OnOk r (HasRoomsFor c new)
+rooms_made (Ok x) c parked old new is row keeps place = record { row = keeps.rows c.key row; place = subst (λ (p : Option Parked). HasPlaceFor p c.key (queue_in new c.role)) is place }
+rooms_made (Err lack) c parked old new is row keeps place = tt
 
 -- ---- a step of the script
 

@@ -1,9 +1,8 @@
 -- What the searches of the work queues find.
-use Rattle.std.proofs.Common.{◌≡◌, ◌⊎◌, inl, inr, List, Option, Some, None, Bool, true, false, refl, sym, ap, subst, Less}
+use Rattle.std.proofs.Common.{◌≡◌, ◌⊎◌, inl, inr, List, Option, Some, None, Bool, true, false, refl, ap}
 use Rattle.std.proofs.lemmas.Bool.{and_from, and_parts}
-use Rattle.std.specs.Prelude.{◌↔◌, ◌&&◌, not, IsTrue, if◌then◌else◌}
+use Rattle.std.specs.Prelude.{◌&&◌, not}
 use Rattle.cmc_meta.specs.declared.key.Key.{Key}
-use Rattle.cmc_meta.specs.Keys.{key_cmp}
 use Rattle.cmc_objects.specs.declared.role.Role.{Role}
 use Rattle.cmc_objects.specs.declared.entry.Entry.{Entry}
 use Rattle.cmc_objects.specs.Watching.{kind_of_work}
@@ -23,7 +22,7 @@ use Rattle.cmc_waking.proofs.Promise.{searched}
 use Rattle.cmc_plain.specs.Fed.{IsFed}
 use Rattle.cmc_plain.specs.Plain.{Fits, MayBegin}
 use Rattle.cmc_plain.specs.Searches as searches
-use Rattle.cmc_plain.specs.Searches.{FindsKey, FitsSome, HasWork, HasWorkAbove}
+use Rattle.cmc_plain.specs.Searches.{FindsKey, HasWork, HasWorkAbove}
 use Rattle.cmc_plain.proofs.Looking.{not_working, ready_work, row_works}
 use Rattle.cmc_plain.proofs.Moves.{fed_of}
 use Rattle.cmc_plain.proofs.Unknown.{known_unless_quiet}

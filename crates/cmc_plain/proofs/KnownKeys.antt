@@ -5,7 +5,6 @@ use Rattle.std.proofs.lemmas.Int.{ints}
 use Rattle.std.proofs.lemmas.List.Folds.{list_any-append}
 use Rattle.std.specs.Prelude.{◌||◌, nat_lt, reverse}
 use Rattle.std.specs.BTreeMap.{is_at}
-use Rattle.std.specs.Ordering.{is_eq}
 use Rattle.cmc_meta.specs.declared.key.Key.{Key}
 use Rattle.cmc_meta.specs.declared.key.Kind.{Kind}
 use Rattle.cmc_meta.specs.Keys.{key_cmp, key_eq}
@@ -28,7 +27,7 @@ use Rattle.cmc_rules.specs.Following.{call_of, call_or, effect_besides, effect_o
 use Rattle.cmc_rules.specs.Scripting.{scripted, step_at}
 use Rattle.cmc_caches.specs.Affected.{is_among}
 use Rattle.cmc_moves.specs.Answers.{next_effect}
-use Rattle.cmc_waking.specs.Queues.{queue_in, KeepsOthers}
+use Rattle.cmc_waking.specs.Queues.{KeepsOthers}
 use Rattle.cmc_world.proofs.AtRest.{same_key, same_kind}
 use Rattle.cmc_plain.specs.Fed.{AreKnownKeys, AreKnownOf, AreRowsAnew, IsAhead, IsOfStore, IsRowAnew, IsStarted, IsStarting}
 use Rattle.cmc_plain.specs.Searches.{EachBefore}

@@ -1,31 +1,27 @@
 -- What a look finds may be kept in the key's row.
-use Rattle.std.proofs.Common.{◌≡◌, ◌⊎◌, inl, inr, ◌<◌, ◌≤◌, ℤ, List, Option, Some, None, Bool, true, false, refl, sym, ap, subst, ◌∙◌, int_le}
+use Rattle.std.proofs.Common.{◌≡◌, ◌⊎◌, inl, ◌<◌, ◌≤◌, ℤ, List, Option, Some, None, Bool, true, false, refl, sym, ap, subst, ◌∙◌}
 use Rattle.std.proofs.lemmas.Bool.{and_parts}
 use Rattle.std.proofs.lemmas.Bool.Decides.{Decides-eqb}
-use Rattle.std.specs.Prelude.{◌↔◌, ◌&&◌, not, IsTrue, IfSome, if◌then◌else◌}
+use Rattle.std.specs.Prelude.{◌↔◌, ◌&&◌, not, IsTrue, if◌then◌else◌}
 use Rattle.cmc_meta.specs.declared.key.Key.{Key}
 use Rattle.cmc_meta.specs.declared.key.Kind.{Kind}
 use Rattle.cmc_meta.specs.Keys.{kind_rank}
 use Rattle.cmc_objects.specs.declared.role.Role.{Role}
 use Rattle.cmc_objects.specs.declared.entry.Entry.{Entry}
-use Rattle.cmc_objects.specs.declared.entry.Positions.{Positions}
 use Rattle.cmc_objects.specs.Watching.{kind_of_work}
 use Rattle.cmc_queue.specs.declared.row.Parked.{Parked}
 use Rattle.cmc_queue.specs.declared.row.Row.{Row}
 use Rattle.cmc_queue.specs.Queues.{ChangesRow, Work}
 use Rattle.cmc_queue.specs.Rows.{is_free, is_fresh, is_unknown, no_row}
-use Rattle.cmc_model.specs.Histories.{Setting, moment, role_eq, runs}
+use Rattle.cmc_model.specs.Histories.{Setting, moment}
 use Rattle.cmc_model.specs.Writes.{kind_eq}
 use Rattle.cmc_rules.specs.Memory.{past}
 use Rattle.cmc_rules.specs.Passes.{IsWorking}
-use Rattle.cmc_rules.specs.Positions.{position_of, positions}
-use Rattle.cmc_rules.specs.Resting.{IsIdle}
-use Rattle.cmc_rules.specs.Sameness.{IsDue}
+use Rattle.cmc_rules.specs.Positions.{positions}
 use Rattle.cmc_rules.specs.Sound.{IsDueMoment}
 use Rattle.cmc_rules.specs.Viewing.{views}
 use Rattle.cmc_pass.specs.declared.pass.Views.{Views}
 use Rattle.cmc_moves.proofs.Sounds.{each_sound}
-use Rattle.cmc_moves.specs.Quiet.{seen_last, IsQuiet}
 use Rattle.cmc_world.proofs.AtRest.{same_kind}
 use Rattle.cmc_waking.specs.Feeding.{found_busy, found_held, found_idle, found_quiet}
 use Rattle.cmc_waking.specs.Parking.{own_ahead}

@@ -1,5 +1,5 @@
 -- The moments of a certificate by what is known of the pair.
-use Rattle.std.proofs.Common.{◌≡◌, ℤ, Bool, true, false, Option, Some, None, sym, ap, subst, ◌∙◌}
+use Rattle.std.proofs.Common.{◌≡◌, ℤ, true, false, Option, Some, None, ap, subst, ◌∙◌}
 use Rattle.cmc_der.specs.Keys.{CertificateFields}
 use Rattle.cmc_objects.specs.KeyPairs.{begins, ends, is_paired}
 use Rattle.cmc_policies.specs.Renewal.{renewal}

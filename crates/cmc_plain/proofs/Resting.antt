@@ -1,20 +1,19 @@
 -- All is at rest where no role that runs has something to do.
-use Rattle.std.proofs.Common.{◌≡◌, ◌⊎◌, inl, inr, ℕ, List, Option, None, Bool, true, false, refl, sym, ap, subst}
-use Rattle.std.specs.Prelude.{◌↔◌, IsTrue, MatchBool}
+use Rattle.std.proofs.Common.{◌≡◌, ◌⊎◌, inl, inr, List, Option, Some, None, Bool, true, false, refl, sym, subst}
+use Rattle.std.specs.Prelude.{◌↔◌, is_some, IsTrue, MatchBool}
 use Rattle.cmc_meta.specs.declared.key.Key.{Key}
 use Rattle.cmc_objects.specs.declared.role.Role.{Role}
 use Rattle.cmc_objects.specs.declared.entry.Entry.{Entry}
-use Rattle.cmc_objects.specs.Watching.{kind_of_work}
 use Rattle.cmc_model.specs.Histories.{Setting, runs}
-use Rattle.cmc_model.specs.Writes.{is_known, writes}
 use Rattle.cmc_pass.specs.declared.pass.Views.{Views}
-use Rattle.cmc_rules.specs.Passes.{open_pass}
-use Rattle.cmc_rules.specs.Resting.{IsAtRest, IsIdle, IsPaused, RestsOn, RestsOnKnown}
+use Rattle.cmc_rules.specs.Resting.{IsAtRest, IsIdle, IsPaused, RestsOnKnown}
 use Rattle.cmc_rules.specs.Runs.{IsRun}
 use Rattle.cmc_rules.specs.Scripting.{has_held}
-use Rattle.cmc_rules.specs.Viewing.{present_views, views}
-use Rattle.cmc_plain.specs.Plain.{Fits, HasNoPass, HasNoDelivery}
-use Rattle.cmc_plain.specs.Searches.{HasWork, RestsWhereRunning}
+use Rattle.cmc_rules.specs.Viewing.{present_views}
+use Rattle.cmc_plain.specs.Plain.{HasNoPass, HasNoDelivery}
+use Rattle.cmc_plain.specs.Searches.{FindsDelivery, FindsPass, HasWork, RestsWhereRunning}
+use Rattle.cmc_plain.specs.declared.deliveries.Delivery.{Delivery}
+use Rattle.cmc_plain.specs.declared.passes.Going.{Going}
 use Rattle.cmc_plain.proofs.Finishing.{closed, rests_unless, told, views_told}
 
 -- a role that runs rests where it can begin nothing that it has to do
@@ -38,3 +37,9 @@ at_rest_by s h b no_pass no_delivery e = (
   λ on. record { closed = closed s h no_pass; rests = λ role running. (λ kind. told s h no_delivery role kind running, e.0 on role running) },
   λ rest. e.1 (λ role running. (rest.rests role running).1),
 )
+
+-- where neither a pass nor a delivery is found
+pub at_rest_where : (s : Setting) (h : List Entry) (going : Option Going) (d : Option Delivery) (b : Bool) → is_some going ≡ false → is_some d ≡ false → FindsPass s h going → FindsDelivery s h d → (IsTrue b ↔ ((role : Role) → RestsWhereRunning s h role)) → IsTrue b ↔ IsAtRest s h
+at_rest_where s h None None b closed told no_pass no_delivery e = at_rest_by s h b no_pass no_delivery e
+at_rest_where s h (Some going) d b closed told no_pass no_delivery e = absurd (cc closed)
+at_rest_where s h None (Some d) b closed told no_pass no_delivery e = absurd (cc told)

@@ -1,12 +1,12 @@
 -- The queues of a world that is taken over, in which all keys are ready that writes named, are right.
-use Rattle.std.proofs.Common.{◌≡◌, ◌⊎◌, inl, inr, ◌<◌, ◌==◌, ℕ, ℤ, List, [], ◌∷◌, Option, Some, None, Bool, true, false, refl, sym, ap, subst, ◌∙◌, int_le}
+use Rattle.std.proofs.Common.{◌≡◌, ◌⊎◌, inl, ◌<◌, ◌==◌, ℕ, ℤ, List, [], ◌∷◌, Option, Some, None, Bool, true, false, refl, sym, subst, ◌∙◌}
 use Rattle.std.proofs.lemmas.Bool.{and_parts, or_right}
-use Rattle.std.specs.Prelude.{◌↔◌, ◌||◌, IsTrue, IfSome, if◌then◌else◌}
+use Rattle.std.specs.Prelude.{◌↔◌, ◌||◌, IfSome, if◌then◌else◌}
 use Rattle.cmc_meta.specs.declared.key.Key.{Key}
 use Rattle.cmc_meta.specs.Keys.{key_eq}
 use Rattle.cmc_objects.specs.declared.role.Role.{Role}
 use Rattle.cmc_objects.specs.declared.entry.Entry.{Entry}
-use Rattle.cmc_objects.specs.declared.entry.Entry.TheVariants.{Script, Call as Called, Deliver, List as Listed, Begin, Ask, Made, Signed, Answered, Judged, End, Stop, Start, Tick}
+use Rattle.cmc_objects.specs.declared.entry.Entry.TheVariants.{Call as Called, Begin, Ask, Made, Signed, Answered, Judged, End, Stop}
 use Rattle.cmc_objects.specs.Watching.{kind_of_work}
 use Rattle.cmc_pass.specs.declared.pass.Views.{Views}
 use Rattle.cmc_pass.specs.declared.value.Value.TheVariants as values
@@ -16,7 +16,7 @@ use Rattle.cmc_queue.specs.declared.row.Row.{Row}
 use Rattle.cmc_queue.specs.Queues.{row_of, Work}
 use Rattle.cmc_queue.specs.Rows.{no_row}
 use Rattle.cmc_model.specs.declared.write.Write.{Write}
-use Rattle.cmc_model.specs.Histories.{Setting, moment, role_eq, runs, state}
+use Rattle.cmc_model.specs.Histories.{Setting, moment, role_eq, state}
 use Rattle.cmc_model.specs.Replies.{is_accepted, settled}
 use Rattle.cmc_model.specs.Writes.{is_known, write_of, writes}
 use Rattle.cmc_rules.specs.declared.progress.OpenPass.{OpenPass}
@@ -29,7 +29,7 @@ use Rattle.cmc_rules.specs.Viewing.{views}
 use Rattle.cmc_rules.proofs.Carrying.{over_ask, over_begin, over_call, over_end, over_given, over_stop}
 use Rattle.cmc_caches.specs.Affected.{is_among}
 use Rattle.cmc_moves.proofs.Sounds.{each_sound}
-use Rattle.cmc_moves.specs.Quiet.{no_views, IsQuiet}
+use Rattle.cmc_moves.specs.Quiet.{IsQuiet}
 use Rattle.cmc_queue.proofs.OneRow.{same_by_test}
 use Rattle.cmc_waking.specs.Queues.{queue_in, row_at}
 use Rattle.cmc_waking.specs.Waking.{AreTended, IsKept, IsLooked, IsStanding, IsTended}
@@ -106,9 +106,9 @@ row_by : (b : Bool) (s : Setting) (h : List Entry) (role : Role) (key : Key) (ke
 row_by true s h role key keys queue is legal rows all = tended_anew s h role key (row_of queue key) (rows.listed key is)
 row_by false s h role key keys queue is legal rows all =
     subst (IsTended s h role key) (sym (rows.others key is)) (tended_unknown s h role key legal (unknown_by (is_known key (writes s h)) refl)) where
-  unknown_by : (known : Bool) → is_known key (writes s h) ≡ known → is_known key (writes s h) ≡ false
-  unknown_by true known = absurd (let on = all known in cc (on, is))
-  unknown_by false known = known
+      unknown_by : (known : Bool) → is_known key (writes s h) ≡ known → is_known key (writes s h) ≡ false
+      unknown_by true known = absurd (let on = all known in cc (on, is))
+      unknown_by false known = known
 
 others_by : (b : Bool) (s : Setting) (h : List Entry) (role : Role) (key : Key) (keys : List Key) (queue : Work) → is_among keys key ≡ b → AreRowsAnew s h role keys queue → (is_among keys key ≡ true → key.kind ≡ kind_of_work role) → (key.kind ≡ kind_of_work role → ⊥)
     → row_of queue key ≡ no_row

@@ -1,8 +1,8 @@
 -- The work queue of a role loses no wake-up.
 use Rattle.std.proofs.Common.{◌≡◌, ◌⊎◌, ◌<◌, ℕ, ℤ, Bool, true, false, List, Option, Some, None, Result, Ok, Err, refl, sym, ap, subst, inl, inr, ◌∙◌, arith}
-use Rattle.std.proofs.lemmas.Bool.{ltb-true, lt-ltb}
+use Rattle.std.proofs.lemmas.Bool.{lt-ltb}
 use Rattle.std.proofs.lemmas.Int.{ints}
-use Rattle.std.specs.Prelude.{◌↔◌, IsTrue, IfOk, int_le, nat_lt, if◌then◌else◌, IfSome, IsSomeAnd}
+use Rattle.std.specs.Prelude.{◌↔◌, IsTrue, IfOk, int_le, nat_lt, if◌then◌else◌}
 use Rattle.std.specs.declared.alloc.AllocError.{AllocError}
 use Rattle.cmc_meta.specs.declared.key.Key.{Key}
 use Rattle.cmc_meta.specs.declared.key.Kind.{Kind}
@@ -10,10 +10,7 @@ use Rattle.cmc_meta.specs.declared.key.Kind.TheVariants as kinds
 use Rattle.cmc_objects.specs.declared.role.Role.{Role}
 use Rattle.cmc_objects.specs.declared.entry.Entry.{Entry}
 use Rattle.cmc_objects.specs.declared.entry.Positions.{Positions}
-use Rattle.cmc_objects.specs.Watching.{kind_of_work}
 use Rattle.cmc_queue.specs.declared.row.Parked.{Parked}
-use Rattle.cmc_queue.specs.declared.row.Row.{Row}
-use Rattle.cmc_queue.specs.Queues.{Work, row_of}
 use Rattle.cmc_objects.specs.declared.request.CertificateRequest.{CertificateRequest}
 use Rattle.cmc_objects.specs.declared.object.Object.TheVariants.{Request}
 use Rattle.cmc_objects.specs.declared.orders.Rules.{Rules}
@@ -22,7 +19,7 @@ use Rattle.cmc_pass.specs.declared.pass.Desk.{Desk}
 use Rattle.cmc_pass.specs.declared.pass.Views.{Views}
 use Rattle.cmc_model.specs.declared.write.Write.{Write}
 use Rattle.cmc_model.specs.Histories.{Setting, moment}
-use Rattle.cmc_model.specs.Writes.{writes, is_known}
+use Rattle.cmc_model.specs.Writes.{writes}
 use Rattle.cmc_rules.specs.declared.progress.Obstacle.TheVariants.{Failure, Newer}
 use Rattle.cmc_rules.specs.declared.progress.Ending.{Ending}
 use Rattle.cmc_rules.specs.declared.progress.Ending.TheVariants as endings
@@ -37,9 +34,8 @@ use Rattle.cmc_rules.specs.Memory.{past}
 use Rattle.cmc_rules.specs.Runs.{IsRun}
 use Rattle.cmc_rules.specs.Positions.{position_of, positions}
 use Rattle.cmc_rules.specs.Sameness.{EndsAlike, IsDue, IsSame, own_above}
-use Rattle.cmc_rules.specs.Sound.{IsDueMoment}
 use Rattle.cmc_rules.specs.Viewing.{views}
-use Rattle.cmc_moves.specs.Quiet.{IsQuiet, no_views, seen_last}
+use Rattle.cmc_moves.specs.Quiet.{IsQuiet, seen_last}
 use Rattle.cmc_waking.specs.Parking.{own_ahead, obstacle_ahead, waits_for, IsParkedUntil, IsRefusedUntil, OrElse}
 use Rattle.cmc_rules.specs.Resting.{IsIdle}
 use Rattle.cmc_rules.proofs.Sights.{seen_request}
@@ -48,10 +44,8 @@ use Rattle.cmc_safety.specs.Formed.{IsFormed}
 use Rattle.cmc_safety.proofs.Carried.{seen_has}
 use Rattle.cmc_safety.proofs.Dated.{IsDatedObject, dated_versions}
 use Rattle.cmc_moves.proofs.Sounds.{each_sound}
-use Rattle.cmc_waking.proofs.Tended.{nothing_due}
 use Rattle.cmc_plain.specs.DueMoments.{IsFirstAfter, sooner, IsDatedRequest, HasDatedMoments}
 use Rattle.cmc_plain.proofs.Remembering.{last_fair, IsFairEnding, IsFairPass, IsFairLast}
-use Rattle.cmc_plain.proofs.Unknown.{unknown_quiet, sees_none}
 
 -- ---- moments
 

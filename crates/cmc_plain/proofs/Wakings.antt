@@ -1,5 +1,5 @@
 -- Keys are made ready before what makes them so happens.
-use Rattle.std.proofs.Common.{◌≡◌, ◌⊎◌, ℕ, ℤ, List, Option, Some, None, Bool, true, false, inl, inr, refl, sym, ap, subst, ◌∙◌}
+use Rattle.std.proofs.Common.{◌≡◌, ◌⊎◌, ℕ, ℤ, List, None, Bool, true, false, inl, inr, refl, sym, ap, subst, ◌∙◌}
 use Rattle.std.specs.Prelude.{if◌then◌else◌}
 use Rattle.cmc_meta.specs.declared.key.Key.{Key}
 use Rattle.cmc_meta.specs.declared.key.Kind.{Kind}
@@ -11,16 +11,19 @@ use Rattle.cmc_objects.specs.Watching.{kind_of_work}
 use Rattle.cmc_pass.specs.declared.pass.Views.{Views}
 use Rattle.cmc_queue.specs.declared.row.Found.TheVariants as found
 use Rattle.cmc_queue.specs.declared.row.Row.{Row}
-use Rattle.cmc_queue.specs.Queues.{row_of, Work}
+use Rattle.cmc_queue.specs.Queues.{Work}
 use Rattle.cmc_queue.specs.Rows.{added, is_reached, moved}
 use Rattle.cmc_caches.specs.Affected.{is_among}
-use Rattle.cmc_model.specs.Histories.{Setting, role_eq}
+use Rattle.cmc_model.specs.Histories.{Setting}
 use Rattle.cmc_rules.specs.declared.progress.Past.{Past}
 use Rattle.cmc_waking.specs.Feeding.{added_if, told}
 use Rattle.cmc_waking.specs.Queues.{queue_in, row_at, KeepsOthers, WakesSome}
-use Rattle.cmc_waking.specs.Waking.{AreTended, IsKept, IsTended}
+use Rattle.cmc_waking.specs.Waking.{IsKept, IsTended}
 use Rattle.cmc_world.specs.Kept.{Seen, setting_of, on}
 use Rattle.cmc_plain.specs.Fed.{IsFed}
+use Rattle.cmc_plain.specs.Keeping.{IsKeptRight}
+use Rattle.cmc_plain.specs.declared.kept.Kept.{Kept}
+use Rattle.cmc_plain.specs.declared.kept.Kept.TheVariants as kept
 use Rattle.cmc_plain.proofs.Moves.{fed_of, fed_one}
 
 added_kept : (b : Bool) (role : Role) (rules : Rules) (past : Past) (seen : Views) (now : ℤ) (at : Positions) (row : Row) → IsKept b role rules past seen now at (added row)
@@ -63,9 +66,20 @@ unfolding moved
 moved_added kind to row = moved_ready (is_reached kind to row.parked) row
 
 -- a key that was woken before its role is told is as one that is woken then
-pub told_woken : (b : Bool) (kind : Kind) (to : ℕ) (row : Row) → moved kind to (added_if b row) ≡ told b kind to row
+told_woken : (b : Bool) (kind : Kind) (to : ℕ) (row : Row) → moved kind to (added_if b row) ≡ told b kind to row
 told_woken true kind to row = moved_added kind to row
 told_woken false kind to row = refl
 
+-- and the rows of a role that is told once its keys are woken are those of one that is told of them
+pub told_rows : (role : Role) (kind : Kind) (to : ℕ) (keys : List Key) (before mid after : List Work) → ((key : Key) → row_at mid role key ≡ added_if (is_among keys key) (row_at before role key)) → ((key : Key) → row_at after role key ≡ told false kind to (row_at mid role key))
+    → (key : Key) → row_at after role key ≡ told (is_among keys key) kind to (row_at before role key)
+told_rows role kind to keys before mid after woken rows key = rows key ∙ ap (moved kind to) (woken key) ∙ told_woken (is_among keys key) kind to (row_at before role key)
+
 pub others_twice : (role : Role) (a b c : List Work) → KeepsOthers role a b → KeepsOthers role b c → KeepsOthers role a c
 others_twice role a b c one two r other = two r other ∙ one r other
+
+-- ---- what is kept of the next pass
+
+-- nothing that is kept is wrong
+pub nothing_kept : (w : Seen) (k : Kept) → k ≡ kept.Nothing → on IsKeptRight w k
+nothing_kept w k is = subst (λ (x : Kept). on IsKeptRight w x) (sym is) tt

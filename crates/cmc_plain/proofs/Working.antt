@@ -1,12 +1,5 @@
 -- When a role has something to do on a key.
 use Rattle.std.proofs.Common.{◌≡◌, ◌&&◌, Bool, true, false, List, ◌∷◌, Option, Some, None, refl, sym, ap, ◌∙◌, subst}
-use Rattle.std.specs.BTreeMap.Range.{range_contains}
-use Rattle.std.specs.BTreeSet.{BTreeSet, contains, keys_between}
-use Rattle.std.specs.List.Sorted.{IsStrictlySortedBy}
-use Rattle.std.specs.declared.ops.Bound.{Bound}
-use Rattle.std.specs.declared.ops.Bound.TheVariants.{Unbounded}
-use Rattle.cmc_meta.specs.Keys.{key_cmp}
-use Rattle.cmc_objects.specs.Watching.{kind_of_work}
 use Rattle.std.specs.Prelude.{◌↔◌, IsTrue, if◌then◌else◌}
 use Rattle.cmc_meta.specs.declared.key.Key.{Key}
 use Rattle.cmc_objects.specs.declared.role.Role.{Role}
@@ -18,7 +11,7 @@ use Rattle.cmc_rules.specs.Positions.{positions}
 use Rattle.cmc_rules.specs.Resting.{IsIdle}
 use Rattle.cmc_rules.specs.Viewing.{views}
 use Rattle.cmc_rules.specs.Memory.{past}
-use Rattle.cmc_rules.specs.Sameness.{IsDue, own_above}
+use Rattle.cmc_rules.specs.Sameness.{IsDue}
 use Rattle.cmc_rules.specs.Legality.{IsLegal}
 use Rattle.cmc_rules.specs.Acts.{act}
 use Rattle.cmc_rules.specs.Desks.{desk}
@@ -75,5 +68,5 @@ pub work_found : (s : Setting) (h : List Entry) (role : Role) (key : Key) (seen 
     → IsProspect role (act role seen (moment s h) (desk s h role seen)) (prospect does) → IsDue (past s h role key) seen (moment s h) (positions h role) → o ≡ record { role = role; key = key; seen = seen; does = does } → IsWorkOn s h role key (Some o)
 work_found s h role key seen does o legal is running free does_is due same =
     work_where_due s h role key seen does true (Some o) legal is running free does_is (λ on. due, λ d. refl) (ap (λ (x : Opening). some_opening x) same) where
-  some_opening : Opening → Option Opening
-  some_opening x = Some x
+      some_opening : Opening → Option Opening
+      some_opening x = Some x

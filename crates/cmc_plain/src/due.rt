@@ -72,10 +72,7 @@ fn renewal_in(now: i64, renew: Renew, secret: &Secret) -> Option<i64>
 {
     let known = known_pairing(secret);
     if known.pair {
-        return coming(
-            now,
-            renewal_time(known.not_before, known.not_after, renew),
-        );
+        return coming(now, renewal_time(known.not_before, known.not_after, renew));
     }
     None
 }

@@ -1,6 +1,6 @@
 //! A pass goes on, and once it has ended its key is in process no more.
 ghost use Rattle.std.specs.Option.{option_copied};
-ghost use Rattle.std.specs.Prelude.{◌≡◌, ℕ, None, IfOk, OnErr, OnOk};
+ghost use Rattle.std.specs.Prelude.{◌≡◌, ℕ, None, IfOk, OnErr, OnOk, true};
 ghost use Rattle.cmc_meta.specs.declared.key.Key.{Key as KeyValue};
 ghost use Rattle.cmc_objects.specs.declared.role.Role.{Role as RoleValue};
 ghost use Rattle.cmc_held.specs.Remembered.{past_or_new};
@@ -12,8 +12,12 @@ ghost use Rattle.cmc_waking.specs.Parking.{waits_for};
 ghost use Rattle.cmc_waking.specs.Queues.{row_at};
 ghost use Rattle.cmc_world.specs.Kept.{on};
 ghost use Rattle.cmc_plain.specs.Fed.{HasRoomsToEnd, HasRow, IsClosing, IsFed, IsGoing, IsToClose, IsWrote};
+ghost use Rattle.cmc_plain.specs.Keeping.{IsKeptRight};
+ghost use Rattle.cmc_plain.specs.Next.{IsNewestPass};
 ghost use Rattle.cmc_rules.specs.Memory.{past};
+ghost use Rattle.cmc_rules.specs.Origins.{begun};
 
+use crate::kept::Kept;
 use cmc_meta::Key;
 use cmc_moves::{ending_at, let_go};
 use cmc_objects::{Positions, Role};
@@ -115,7 +119,6 @@ fn close(world: &World, queues: &mut Queues, pass: u64, closing: Option<Closing>
     queues.ended(role, &key, ending, own, at);
 }
 
-
 /// How the pass may end by its next move, with room for that; `None` where it does not.
 fn ready_to_end(
     world: &World,
@@ -127,13 +130,14 @@ fn ready_to_end(
     ensures made { IfOk result (λ c. HasRoomsToEnd c queues.new) }
     ensures rows { (r : RoleValue) → (k : KeyValue) → row_at queues.new r k ≡ row_at queues.old r k }
 {
+    world.is_run();
     let closing = closing_of(world, pass)?;
     room_to_end(queues, &closing)?;
     Ok(closing)
 }
 
 /// Has the pass go on, as `World::step` does.
-pub(crate) fn go_next(
+fn go_next(
     alloc: Global,
     world: &mut World,
     queues: &mut Queues,
@@ -153,6 +157,71 @@ pub(crate) fn go_next(
     let answer = world.step(alloc, Move::Next { pass, incarnation })?;
     close(world, queues, pass, closing);
     Ok(answer)
+}
+
+/// Whether this names the newest pass, which is open, and the present incarnation of its role.
+fn is_newest(world: &World, pass: u64, incarnation: u64) -> bool
+    ensures { result ≡ true → on IsNewestPass world.now pass incarnation }
+{
+    if pass != world.passes_begun() {
+        return false;
+    }
+    match world.passes().get(pass) {
+        Some(open) => world.incarnation(open.role) == incarnation,
+        None => false,
+    }
+}
+
+/// Has the newest pass, which has only begun, go on by its act, as `World::step` does.
+fn act_newest(
+    alloc: Global,
+    world: &mut World,
+    queues: &mut Queues,
+    pass: u64,
+    incarnation: u64,
+    does: Act,
+) -> Result<Stepped, AllocError>
+    requires fed { on IsFed world.old queues.old }
+    requires newest { on IsNewestPass world.old pass incarnation }
+    requires first { on IsFirstAct world.old (on begun world.old) does }
+    ensures answer { IfOk result (λ r. on Answers world.old (moves.Next pass incarnation) r) }
+    ensures leaves { IfOk result (λ r. on Leaves world.old (moves.Next pass incarnation) r world.new.history) }
+    ensures scenario { world.new.scenario ≡ world.old.scenario }
+    ensures run { on IsRun world.new }
+    ensures err { OnErr result (world.new ≡ world.old) }
+    ensures fed { on IsFed world.new queues.new }
+{
+    world.is_run();
+    let _events = world.scenario().events();
+    act_first(alloc, world, queues, pass, does)
+}
+
+/// Has the pass go on, as `World::step` does, by what was kept of it.
+pub(crate) fn go_kept(
+    alloc: Global,
+    world: &mut World,
+    queues: &mut Queues,
+    pass: u64,
+    incarnation: u64,
+    kept: Kept,
+) -> Result<Stepped, AllocError>
+    requires fed { on IsFed world.old queues.old }
+    requires kept { on IsKeptRight world.old kept }
+    ensures answer { IfOk result (λ r. on Answers world.old (moves.Next pass incarnation) r) }
+    ensures leaves { IfOk result (λ r. on Leaves world.old (moves.Next pass incarnation) r world.new.history) }
+    ensures scenario { world.new.scenario ≡ world.old.scenario }
+    ensures run { on IsRun world.new }
+    ensures err { OnErr result (world.new ≡ world.old) }
+    ensures fed { on IsFed world.new queues.new }
+{
+    let newest = is_newest(world, pass, incarnation);
+    if let Some(does) = kept.act() {
+        if newest {
+            return act_newest(alloc, world, queues, pass, incarnation, does);
+        }
+        let_go(does);
+    }
+    go_next(alloc, world, queues, pass, incarnation)
 }
 
 /// Makes the move, by which the pass goes on, as `World::step` does.

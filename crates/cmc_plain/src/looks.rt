@@ -92,13 +92,7 @@ fn undue(
 }
 
 /// What is found where a pass is due and has nothing to do.
-fn nothing_to_do(
-    alloc: Global,
-    world: &World,
-    role: Role,
-    key: &Key,
-    seen: &Views,
-) -> Look
+fn nothing_to_do(alloc: Global, world: &World, role: Role, key: &Key, seen: &Views) -> Look
     requires sees { seen.now ≡ on views world.now role key.now }
     requires dated { HasDatedMoments seen.now }
     requires due { IsDue (on past world.now role key.now) seen.now (on moment world.now) (positions world.now.history role) }
@@ -114,13 +108,7 @@ fn nothing_to_do(
 }
 
 /// What is found where a pass is due.
-fn due(
-    alloc: Global,
-    world: &World,
-    role: Role,
-    key: &Key,
-    seen: Views,
-) -> Result<Look, AllocError>
+fn due(alloc: Global, world: &World, role: Role, key: &Key, seen: Views) -> Result<Look, AllocError>
     requires running { on runs world.now role ≡ true }
     requires free { on IsFree world.now role key.now }
     requires sees { seen ≡ on views world.now role key.now }

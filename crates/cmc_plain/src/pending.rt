@@ -29,11 +29,7 @@ pub(crate) enum Pending {
 }
 
 /// The first key above this one, if there is one, that can be given and on which there may be something to do.
-fn pending_key(
-    queues: &Queues,
-    role: Role,
-    below: Option<&Key>,
-) -> Result<Option<Key>, AllocError>
+fn pending_key(queues: &Queues, role: Role, below: Option<&Key>) -> Result<Option<Key>, AllocError>
     ensures { IfOk result (FindsFirst (λ k. is_above (option_copied below.entry) k && is_pending (row_at queues.now role k))) }
 {
     match queues.queue(role).next_pending(below) {

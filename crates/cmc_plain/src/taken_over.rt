@@ -33,12 +33,7 @@ fn put_key(world: &World, role: Role, queue: &mut Queue, key: &Key) -> Result<()
 }
 
 /// A queue of the role in which each of the keys is ready.
-fn queue_anew(
-    alloc: Global,
-    world: &World,
-    role: Role,
-    keys: &[Key],
-) -> Result<Queue, AllocError>
+fn queue_anew(alloc: Global, world: &World, role: Role, keys: &[Key]) -> Result<Queue, AllocError>
     ensures { IfOk result (λ queue. on AreRowsAnew world.now role keys.now queue) }
 {
     let mut queue = Queue::new(alloc);
@@ -49,12 +44,7 @@ fn queue_anew(
 }
 
 /// Puts the queue of the role in its place.
-fn put_role(
-    alloc: Global,
-    world: &World,
-    queues: &mut Queues,
-    role: Role,
-) -> Result<(), AllocError>
+fn put_role(alloc: Global, world: &World, queues: &mut Queues, role: Role) -> Result<(), AllocError>
     ensures own { OnOk result (on IsStarted world.now role queues.new) }
     ensures others { OnOk result (KeepsOthers role queues.old queues.new) }
 {

@@ -15,7 +15,8 @@ ghost use Rattle.cmc_moves.specs.Answers.{Answers, Leaves};
 ghost use Rattle.cmc_moves.specs.declared.moves.Move.TheVariants as moves;
 ghost use Rattle.cmc_waking.specs.Waking.{IsSearched, LosesNoWakeUp};
 ghost use Rattle.cmc_world.specs.Kept.{on};
-ghost use Rattle.cmc_plain.specs.Next.{IsNewestPass, IsNextDelivery, IsNextDeliveryTo, IsNextScript};
+ghost use Rattle.cmc_plain.specs.declared.kept.Kept.TheVariants as found;
+ghost use Rattle.cmc_plain.specs.Next.{IsNextDelivery, IsNextDeliveryTo, IsNextScript};
 ghost use Rattle.cmc_plain.specs.Openings.{LeavesOpened};
 ghost use Rattle.cmc_plain.specs.Plain.{IsPlainMove};
 ghost use Rattle.cmc_plain.specs.Searches.{FindsWork, IsWork};
@@ -23,7 +24,7 @@ ghost use Rattle.cmc_plain.specs.Searches.{FindsWork, IsWork};
 use crate::deliveries::{Delivery, first_delivery, first_kind_of};
 use crate::fed_begins::begin_kept;
 use crate::fed_deliveries::deliver;
-use crate::fed_passes::{act_first, go_next, go_on};
+use crate::fed_passes::{go_kept, go_on};
 use crate::fed_scripts::script;
 use crate::kept::Kept;
 use crate::next_move::plain_by;
@@ -32,7 +33,6 @@ use crate::rest::{is_finished, is_step_ready};
 use crate::taken_over::queues_of;
 use crate::work::next_work;
 use cmc_meta::Key;
-use cmc_moves::let_go;
 use cmc_objects::Role;
 use cmc_queue::Queue;
 use cmc_setup::Scenario;
@@ -70,6 +70,15 @@ impl Model for Waking {
     ghost view = { λ w. w.world };
 
     ghost invariant = { λ w. on IsFed w.world w.queues × on IsKeptRight w.world w.kept };
+}
+
+/// Forgets what was found of the next pass.
+fn forget(kept: &mut Kept)
+    ensures { kept.new ≡ found.Nothing }
+{
+    if !matches!(kept, Kept::Nothing) {
+        *kept = Kept::Nothing;
+    }
 }
 
 impl Waking {
@@ -237,7 +246,7 @@ impl Waking {
         ensures scenario { self.new.scenario ≡ self.old.scenario }
         ensures run { on IsRun self.new }
     {
-        self.forget();
+        forget(&mut self.kept);
         open(alloc, &mut self.world, &mut self.queues, opening)
     }
 
@@ -265,17 +274,8 @@ impl Waking {
         self.world.is_run();
         let (world, queues) = (&mut self.world, &mut self.queues);
         let ready = is_step_ready(alloc, world, queues, &mut self.kept)?;
-        self.forget();
+        forget(&mut self.kept);
         script(alloc, &mut self.world, &mut self.queues, ready)
-    }
-
-    /// Forgets what was found of the next pass.
-    fn forget(&mut self)
-        ensures { self.new ≡ self.old }
-    {
-        if !matches!(&self.kept, Kept::Nothing) {
-            self.kept = Kept::Nothing;
-        }
     }
 
     /// Begins a pass of the role on the key, as `World::step` does.
@@ -287,29 +287,9 @@ impl Waking {
         ensures err { OnErr result (self.new ≡ self.old) }
     {
         let kept = self.kept.take();
-        let (answer, kept) = begin_kept(
-            alloc,
-            &mut self.world,
-            &mut self.queues,
-            role,
-            key,
-            kept,
-        )?;
+        let (answer, kept) = begin_kept(alloc, &mut self.world, &mut self.queues, role, key, kept)?;
         self.kept = kept;
         Ok(answer)
-    }
-
-    /// Whether this names the newest pass, which is open, and the present incarnation of its role.
-    fn is_newest(&self, pass: u64, incarnation: u64) -> bool
-        ensures { result ≡ true → on IsNewestPass self.now pass incarnation }
-    {
-        if pass != self.world.passes_begun() {
-            return false;
-        }
-        match self.world.passes().get(pass) {
-            Some(open) => self.world.incarnation(open.role) == incarnation,
-            None => false,
-        }
     }
 
     /// Has the pass go on, as `World::step` does.
@@ -325,14 +305,15 @@ impl Waking {
         ensures run { on IsRun self.new }
         ensures err { OnErr result (self.new ≡ self.old) }
     {
-        let newest = self.is_newest(pass, incarnation);
-        if let Some(does) = self.kept.take().act() {
-            if newest {
-                return act_first(alloc, &mut self.world, &mut self.queues, pass, does);
-            }
-            let_go(does);
-        }
-        go_next(alloc, &mut self.world, &mut self.queues, pass, incarnation)
+        let kept = self.kept.take();
+        go_kept(
+            alloc,
+            &mut self.world,
+            &mut self.queues,
+            pass,
+            incarnation,
+            kept,
+        )
     }
 
     /// Makes one move, as `World::step` does, and feeds the work queues.
@@ -350,13 +331,13 @@ impl Waking {
         match step {
             Move::Script => self.step_script(alloc),
             Move::Deliver { role, kind, to } => {
-                self.forget();
+                forget(&mut self.kept);
                 deliver(alloc, &mut self.world, &mut self.queues, role, kind, to)
             }
             Move::Begin { role, key } => self.step_begin(alloc, role, key),
             Move::Next { pass, incarnation } => self.step_next(alloc, pass, incarnation),
             Move::Give { pass, .. } | Move::Decide { pass, .. } => {
-                self.forget();
+                forget(&mut self.kept);
                 go_on(alloc, &mut self.world, &mut self.queues, pass, step)
             }
         }

@@ -21,12 +21,7 @@ use cmc_world::{Prospect, World};
 use std::alloc::{AllocError, Global};
 
 /// The pass of the role on the key, on which there is something to do.
-fn opening_on(
-    alloc: Global,
-    world: &World,
-    role: Role,
-    key: &Key,
-) -> Result<Opening, AllocError>
+fn opening_on(alloc: Global, world: &World, role: Role, key: &Key) -> Result<Opening, AllocError>
     requires { on HasWork world.now role key.now }
     ensures { IfOk result (on IsWork world.now role key.now) }
 {

@@ -1,4 +1,4 @@
-use Rattle.std.proofs.Common.{◌≡◌, ◌∙◌, ap, sym, rules, w64}
+use Rattle.std.proofs.Common.{◌∙◌, sym, rules, w64}
 use Rattle.std.proofs.lemmas.Int.{to_z-of_z}
 use Rattle.cmc_match.specs.Facts.{pair_in}
 use Rattle.cmc_plain.proofs.Pairs.{expiry_none, expiry_some}

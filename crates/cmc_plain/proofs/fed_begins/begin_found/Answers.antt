@@ -9,7 +9,7 @@ use Rattle.cmc_rules.specs.Memory.{past}
 use Rattle.cmc_rules.specs.Origins.{begun}
 use Rattle.cmc_rules.specs.Positions.{positions}
 use Rattle.cmc_rules.specs.Sameness.{IsDue}
-use Rattle.cmc_moves.specs.Answers.{IsQueued, Leaves}
+use Rattle.cmc_moves.specs.Answers.{Answers, IsQueued, Leaves}
 use Rattle.cmc_moves.specs.Prospects.{IsFirstAct}
 use Rattle.cmc_moves.specs.declared.moves.Move.TheVariants as moves
 use Rattle.cmc_world.specs.Kept.{setting_of, on}
@@ -46,8 +46,8 @@ begin_due-requires-clause-dated c =
     subst (λ (t : Role × Key × Views × Option Act). HasDatedMoments t.2) (sym c.into_parts-role.ensures)
     (subst (λ (v : Views). HasDatedMoments v) (sym c.requires.work.known.seen) (dated_moments s h o.role o.key c.is_formed.ensures c.is_run.ensures.run (c.can_act.ensures o.role o.key).dated))
 
-pub returns-in-Ok-clause-kept : goal.returns-in-Ok-clause-kept
-returns-in-Ok-clause-kept c =
+pub returns-clause-kept : goal.returns-clause-kept
+returns-clause-kept c =
     let s = setting_of c.args.world.now.scenario in
     let h = c.args.world.now.history in
     let o = c.args.opening in
@@ -57,3 +57,9 @@ returns-in-Ok-clause-kept c =
     (kept_begun (setting_of mid.scenario) mid.history c.is_done-begun.result c.into_parts-role.result.3
     (subst (λ (t : Role × Key × Views × Option Act). c.is_done-begun.result ≡ true → IfSome t.3 (IsFirstAct (setting_of mid.scenario) mid.history (begun (setting_of mid.scenario) mid.history))) (sym c.into_parts-role.ensures)
     (λ on. first_act_where c.args.world.now mid o.role o.key o.does c.in-Ok.answer c.is_done-begun.result c.in-Ok.ensures.scenario c.requires.work.known.does leaves c.is_done-begun.ensures on)))
+
+pub returns-clause-answer : goal.returns-clause-answer
+returns-clause-answer c =
+    let s = setting_of c.args.world.now.scenario in
+    let h = c.args.world.now.history in
+    subst (λ (t : Role × Key × Views × Option Act). Answers s h (moves.Begin t.0 t.1) c.in-Ok.answer) c.into_parts-role.ensures c.in-Ok.ensures.answer

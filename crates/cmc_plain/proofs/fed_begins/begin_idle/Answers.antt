@@ -1,16 +1,8 @@
-use Rattle.std.proofs.Common.{◌≡◌, ap, refl, sym, subst, ◌∙◌}
-use Rattle.cmc_meta.specs.declared.key.Key.{Key}
-use Rattle.cmc_queue.specs.Queues.{row_of, ChangesRow}
-use Rattle.cmc_queue.specs.Rows.{is_unknown}
-use Rattle.cmc_moves.specs.Answers.{Leaves}
+use Rattle.std.proofs.Common.{sym, ◌∙◌}
 use Rattle.cmc_moves.specs.declared.moves.Move.TheVariants as moves
-use Rattle.cmc_moves.specs.declared.moves.Stepped.{Stepped}
-use Rattle.cmc_moves.proofs.Tables.{the_done}
 use Rattle.cmc_waking.specs.Feeding.{begun}
-use Rattle.cmc_waking.specs.Queues.{queue_in, row_at}
-use Rattle.cmc_world.specs.Kept.{setting_of, on}
 use Rattle.cmc_plain.proofs.AtOnce.{idle_act}
-use Rattle.cmc_plain.proofs.BeginsFed.{begun_none, fit_due, fit_queued, fit_room, idle_fed, idle_fits, idle_now}
+use Rattle.cmc_plain.proofs.BeginsFed.{fit_due, fit_queued, fit_room, idle_fed, idle_fits, idle_now}
 use Rattle.cmc_plain.proofs.Feeding.{fed_not_made, fed_same}
 use Rattle.cmc_plain.proofs.fed_begins.begin_idle.Goals as goal
 

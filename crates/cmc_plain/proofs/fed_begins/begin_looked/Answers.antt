@@ -1,7 +1,4 @@
-use Rattle.std.proofs.Common.{◌≡◌, ap, sym, subst, ◌∙◌, false}
-use Rattle.cmc_queue.specs.declared.row.Found.{Found}
-use Rattle.cmc_queue.specs.Rows.{is_unknown}
-use Rattle.cmc_world.specs.Kept.{setting_of}
+use Rattle.std.proofs.Common.{sym, ◌∙◌}
 use Rattle.cmc_plain.proofs.BeginsFed.{fit_due, fit_queued, looked_fits, nothing_found}
 use Rattle.cmc_plain.proofs.fed_begins.begin_looked.Goals as goal
 

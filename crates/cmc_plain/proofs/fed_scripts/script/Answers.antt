@@ -1,10 +1,10 @@
-use Rattle.std.proofs.Common.{◌∙◌, sym, subst, ap}
+use Rattle.std.proofs.Common.{◌∙◌, sym, subst}
 use Rattle.cmc_moves.specs.Answers.{Leaves}
 use Rattle.cmc_moves.specs.declared.moves.Move.TheVariants as moves
 use Rattle.cmc_moves.specs.declared.moves.Stepped.{Stepped}
 use Rattle.cmc_moves.proofs.Tables.{the_done}
-use Rattle.cmc_setup.specs.Setups.{IsSetup, Setup}
-use Rattle.cmc_world.specs.Kept.{setting_of, on, Seen}
+use Rattle.cmc_setup.specs.Setups.{IsSetup}
+use Rattle.cmc_world.specs.Kept.{on}
 use Rattle.cmc_plain.proofs.Feeding.{fed_not_made, fed_same, to_turn}
 use Rattle.cmc_plain.proofs.fed_scripts.script.Goals as goal
 

@@ -1,10 +1,9 @@
-use Rattle.std.proofs.Common.{◌≡◌, true, sym, subst, ap, ◌∙◌, ◌+◌, ℕ}
-use Rattle.cmc_queue.specs.declared.row.Row.{Row}
+use Rattle.std.proofs.Common.{sym, subst, ap, ◌∙◌}
 use Rattle.cmc_queue.specs.Rows.{is_fresh}
 use Rattle.cmc_world.specs.Kept.{setting_of}
 use Rattle.cmc_plain.specs.Looks.{IsLook}
 use Rattle.cmc_plain.specs.declared.looks.Look.{Look}
-use Rattle.cmc_plain.proofs.BeginsFed.{roomed}
+use Rattle.cmc_plain.proofs.BeginsFed.{fresh_room, roomed}
 use Rattle.cmc_plain.proofs.Looking.{fed_busy, fed_held, fed_idle, fed_quiet, held_lacks}
 use Rattle.cmc_plain.proofs.looks.note.Goals as goal
 
@@ -58,3 +57,18 @@ returns-in_ok-place_for-in-Held-clause-work c =
 
 pub returns-in_ok-place_for-in-Held-clause-fewer : goal.returns-in_ok-place_for-in-Held-clause-fewer
 returns-in_ok-place_for-in-Held-clause-fewer c = sym c.place_for.ensures.fresh ∙ c.found_held.ensures.fewer (ap is_fresh (c.place_for.ensures.rows c.args.role c.args.key.now) ∙ c.requires.fresh)
+
+pub found_busy-requires-clause-row : goal.found_busy-requires-clause-row
+found_busy-requires-clause-row c = fresh_room c.args.queues.now c.args.role c.args.key.now c.requires.fresh
+
+pub found_busy-requires-clause-place : goal.found_busy-requires-clause-place
+found_busy-requires-clause-place c = fresh_room c.args.queues.now c.args.role c.args.key.now c.requires.fresh
+
+pub place_at-requires : goal.place_at-requires
+place_at-requires c = fresh_room c.args.queues.now c.args.role c.args.key.now c.requires.fresh
+
+pub place_at-requires-in-Quiet : goal.place_at-requires-in-Quiet
+place_at-requires-in-Quiet c = fresh_room c.args.queues.now c.args.role c.args.key.now c.requires.fresh
+
+pub found_held-requires-clause-row : goal.found_held-requires-clause-row
+found_held-requires-clause-row c = (c.place_for.ensures.room c.args.role).rows c.args.key.now (fresh_room c.args.queues.now c.args.role c.args.key.now c.requires.fresh)

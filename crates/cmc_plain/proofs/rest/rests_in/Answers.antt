@@ -1,7 +1,8 @@
 use Rattle.std.proofs.Common.{◌≡◌, ◌∙◌, refl, sym, subst, None}
+use Rattle.cmc_objects.specs.declared.role.Role.{Role}
 use Rattle.cmc_world.specs.Kept.{setting_of}
 use Rattle.cmc_plain.specs.declared.pending.Pending.{Pending}
-use Rattle.cmc_plain.specs.Searches.{FindsPending}
+use Rattle.cmc_plain.specs.Searches.{FindsPending, IsWork}
 use Rattle.cmc_plain.proofs.Resting.{rests_by_none, rests_not}
 use Rattle.cmc_plain.proofs.rest.rests_in.Goals as goal
 
@@ -9,8 +10,7 @@ pub returns-in-None-clause-test : goal.returns-in-None-clause-test
 returns-in-None-clause-test c =
     let s = setting_of c.args.world.now.scenario in
     let h = c.args.world.now.history in
-    let none = subst (λ (p : Pending). FindsPending s h c.args.role None p) c.in-None.is c.in_ok-next_pending.ensures.finds in
-    (
+    let none = subst (λ (p : Pending). FindsPending s h c.args.role None p) c.in-None.is c.in_ok-next_pending.ensures.finds in (
       λ on up. rests_by_none s h c.args.role c.is_run.ensures.run c.requires.closed c.requires.told up (λ key work. none key (record { above = refl; work = work })),
       λ rests. refl,
     )
@@ -20,8 +20,7 @@ returns-in-Key-clause-test c =
     let s = setting_of c.args.world.now.scenario in
     let h = c.args.world.now.history in
     let first = subst (λ (p : Pending). FindsPending s h c.args.role None p) c.in-Key.is c.in_ok-next_pending.ensures.finds in
-    let up = sym c.runs.ensures ∙ c.if-not-runs.false in
-    (
+    let up = sym c.runs.ensures ∙ c.if-not-runs.false in (
       λ on. absurd (cc on),
       λ rests. absurd (rests_not s h c.args.role c.in-Key._key c.is_run.ensures.run c.requires.told first.0.work (rests up)),
     )
@@ -31,8 +30,14 @@ returns-in-Pass-clause-test c =
     let s = setting_of c.args.world.now.scenario in
     let h = c.args.world.now.history in
     let first = subst (λ (p : Pending). FindsPending s h c.args.role None p) c.in-Pass.is c.in_ok-next_pending.ensures.finds in
-    let up = sym c.runs.ensures ∙ c.if-not-runs.false in
-    (
+    let up = sym c.runs.ensures ∙ c.if-not-runs.false in (
       λ on. absurd (cc on),
-      λ rests. absurd (rests_not s h c.args.role c.in-Pass._opening.key c.is_run.ensures.run c.requires.told first.1.work (rests up)),
+      λ rests. absurd (rests_not s h c.args.role c.in-Pass.opening.key c.is_run.ensures.run c.requires.told first.1.work (rests up)),
     )
+
+pub returns-in-Pass-clause-kept : goal.returns-in-Pass-clause-kept
+returns-in-Pass-clause-kept c =
+    let s = setting_of c.args.world.now.scenario in
+    let h = c.args.world.now.history in
+    let first = subst (λ (p : Pending). FindsPending s h c.args.role None p) c.in-Pass.is c.in_ok-next_pending.ensures.finds in
+    subst (λ (r : Role). IsWork s h r c.in-Pass.opening.key c.in-Pass.opening) (sym first.1.known.role) first.1

@@ -1,5 +1,4 @@
 use Rattle.std.proofs.Common.{◌≡◌, arith, subst}
-use Rattle.cmc_objects.specs.Roles.{role_rank}
 use Rattle.cmc_world.specs.Kept.{setting_of}
 use Rattle.cmc_plain.specs.Fed.{IsStarted}
 use Rattle.cmc_plain.specs.Searches.{EachBefore}

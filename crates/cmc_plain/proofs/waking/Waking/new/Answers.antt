@@ -1,7 +1,5 @@
-use Rattle.std.proofs.Common.{refl}
-use Rattle.cmc_world.specs.Kept.{setting_of}
 use Rattle.cmc_plain.proofs.Feeding.{fed_new}
 use Rattle.cmc_plain.proofs.waking.Waking.new.Goals as goal
 
 pub invariant_of-result : goal.invariant_of-result
-invariant_of-result c = fed_new c.args.scenario c.in_ok-world.world c.in_ok-queues.queues c.in_ok-world.ensures c.in_ok-queues.ensures
+invariant_of-result c = (fed_new c.args.scenario c.in_ok-world.world c.in_ok-queues.queues c.in_ok-world.ensures c.in_ok-queues.ensures, tt)
