@@ -115,10 +115,10 @@ wanted_by spec file key signature r reads is small =
     ap (asks_for_names spec) (ap request_at same ∙ request_again octets (fields_of spec key) read) ∙ names_again spec (own_names_small spec key signature small) in
     let terms : has_terms spec r.spec ≡ true = ap (has_terms spec) is ∙ own_terms spec octets in
     let held : HasKey r file = record {
-        fields = fields_of spec key;
-        readable = subst (λ (o : List ℕ). IsRequest o (fields_of spec key)) (sym same) read;
-        key_is = key_file_found file key reads;
-      } in
+      fields = fields_of spec key;
+      readable = subst (λ (o : List ℕ). IsRequest o (fields_of spec key)) (sym same) read;
+      key_is = key_file_found file key reads;
+    } in
     (and_two (asks_for_names spec (request_at r.spec.request)) (has_terms spec r.spec) names terms, (keys_match r file).1 held)
 
 request_octets : (spec : CertSpec) (octets : List ℕ) (s : RequestSpec) → s ≡ request_spec spec octets → s.request ≡ octets

@@ -118,11 +118,7 @@ fn a_key_with_nothing_to_do_is_in_no_queue(rt: HostRuntime) -> Result<(), Fail> 
         refuses(&rt, alloc, &mut waking, *role, "web")?;
         refuses(&rt, alloc, &mut waking, *role, "of-nobody")?;
     }
-    passes(
-        &rt,
-        "as it was",
-        waking.world().history().len() == entries,
-    );
+    passes(&rt, "as it was", waking.world().history().len() == entries);
     Ok(())
 }
 
@@ -259,6 +255,10 @@ fn a_world_is_taken_over_with_all_its_keys(rt: HostRuntime) -> Result<(), Fail> 
     let world = looked(alloc)?.into_world();
     let waking = Waking::of(alloc, world)?;
     let row = row_of(alloc, &waking, Role::Trigger)?;
-    passes(&rt, "to be looked at", is_free(row) && row.work.is_unknown());
+    passes(
+        &rt,
+        "to be looked at",
+        is_free(row) && row.work.is_unknown(),
+    );
     Ok(())
 }
