@@ -1,5 +1,5 @@
 -- In a calm script nothing is held, and no step is ready while a pass is open.
-use Rattle.std.proofs.Common.{◌≡◌, ◌⊎◌, ℕ, zero, suc, ◌+◌, ◌-◌, ◌<◌, List, [], ◌∷◌, length, Option, Some, None, Bool, true, false, refl, sym, ap, subst, ◌∙◌, inl, inr, arith}
+use Rattle.std.proofs.Common.{◌≡◌, ℕ, zero, suc, ◌+◌, ◌-◌, ◌<◌, List, [], ◌∷◌, length, Option, Some, None, Bool, true, false, refl, subst}
 use Rattle.std.proofs.lemmas.Bool.{and_parts}
 use Rattle.std.specs.Prelude.{IfSome, slice_get, if◌then◌else◌}
 use Rattle.cmc_meta.specs.declared.key.Kind.{Kind}
@@ -10,7 +10,7 @@ use Rattle.cmc_objects.specs.declared.entry.Entry.{Entry}
 use Rattle.cmc_objects.specs.declared.entry.Entry.TheVariants.{Script}
 use Rattle.cmc_model.specs.Histories.{Setting}
 use Rattle.cmc_rules.specs.Positions.{is_informer}
-use Rattle.cmc_rules.specs.Scripting.{scripted, step_at, held, held_by, has_held}
+use Rattle.cmc_rules.specs.Scripting.{scripted, step_at, held, held_by}
 use Rattle.cmc_rules.specs.Following.{IsReady}
 use Rattle.cmc_rules.specs.Resting.{IsAtRest}
 use Rattle.cmc_plain.specs.Plain.{HasNoScript}

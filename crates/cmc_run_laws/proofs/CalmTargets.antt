@@ -1,5 +1,5 @@
 -- The Secret that issuing writes after its live read.
-use Rattle.std.proofs.Common.{◌≡◌, ℕ, ℤ, ◌+◌, List, Option, Some, None, Bool, true, false, refl, sym, ap, subst, ◌∙◌, cond, ◌≢◌}
+use Rattle.std.proofs.Common.{◌≡◌, ℕ, ℤ, List, Option, Some, None, Bool, true, false, refl, sym, ap, subst, ◌∙◌, cond, ◌≢◌}
 use Rattle.std.specs.Cmp.{Equal-is}
 use Rattle.std.specs.Ordering.{eq_by_cmp}
 use Rattle.cmc_meta.specs.declared.key.Key.{Key}
@@ -9,9 +9,8 @@ use Rattle.cmc_meta.proofs.KeyOrder.{key_cmp-IsAntisymmetric}
 use Rattle.cmc_objects.specs.declared.certificate.Certificate.{Certificate}
 use Rattle.cmc_objects.specs.declared.secret.Secret.{Secret as SecretObject}
 use Rattle.cmc_objects.specs.declared.object.Object.{Object}
-use Rattle.cmc_objects.specs.declared.object.Object.TheVariants.{Cert, Secret}
+use Rattle.cmc_objects.specs.declared.object.Object.TheVariants.{Cert}
 use Rattle.cmc_objects.specs.declared.call.Call.{Call}
-use Rattle.cmc_objects.specs.declared.call.Call.TheVariants.{Create, Update}
 use Rattle.cmc_objects.specs.declared.call.Reply.{Reply}
 use Rattle.cmc_objects.specs.Objects.{key_of}
 use Rattle.cmc_objects.specs.Watching.{looks_at_secret}
@@ -25,7 +24,7 @@ use Rattle.cmc_model.proofs.Versions.{object_at-put}
 use Rattle.cmc_objects.specs.declared.entry.Entry.{Entry}
 use Rattle.cmc_objects.specs.declared.role.Role.{Role}
 use Rattle.cmc_rules.specs.Causes.{IsSecretCall}
-use Rattle.cmc_rules.specs.Issuing.{issuing, secret_call, new_target, old_target}
+use Rattle.cmc_rules.specs.Issuing.{issuing, secret_call, new_target}
 use Rattle.cmc_rules.specs.Legality.{IsLegal}
 use Rattle.cmc_rules.specs.Viewing.{present_views}
 use Rattle.cmc_safety.specs.Completing.{IsPlan}

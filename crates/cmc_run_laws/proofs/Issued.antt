@@ -35,8 +35,8 @@ use Rattle.cmc_rules.specs.Chains.{trigger_chain, trigger_reason}
 use Rattle.cmc_rules.specs.Triggering.{trigger, for_certificate, for_reason, is_issuing, frame_of}
 use Rattle.cmc_rules.specs.Issuing.{issuing, with_wanted, while_waiting, stand_in_with, temporary_plan, is_granted, is_certified, is_some_pair, is_kept_for_keys, lacks_certificate, failure, fails_now, refusal, issue_plan, secret_call, new_target, old_target, filled, with_ca, marks, signed_marks, issued_status}
 use Rattle.cmc_issuing.proofs.PairLists.{is_name, put_stands, put_beside, out_of, out_beside}
-use Rattle.cmc_run_laws.specs.Issuances.{IsAsWritten, IsNotDue, restated, with_certificate, with_secret, written_secret}
-use Rattle.cmc_run_laws.proofs.Going.{IsGoing, acts, going, going_is}
+use Rattle.cmc_run_laws.specs.Issuances.{IsAsWritten, IsNotDue, restated, with_certificate, with_secret}
+use Rattle.cmc_run_laws.proofs.Going.{acts, going, going_is}
 
 -- ---- the plan
 

@@ -1,19 +1,17 @@
 -- The request that the request manager makes is wanted, and a key that is made fits.
-use Rattle.std.proofs.Common.{◌≡◌, ℕ, ℤ, ◌≤◌, List, [], ◌∷◌, ◌++◌, length, Option, Some, None, Bool, true, false, refl, sym, ap, subst, ◌∙◌, arith}
+use Rattle.std.proofs.Common.{◌≡◌, ℕ, ℤ, ◌≤◌, List, [], ◌∷◌, ◌++◌, length, Option, Some, None, Bool, true, false, refl, sym, ap, subst, ◌∙◌}
 use Rattle.std.proofs.lemmas.Bool.Decides.{Decides-eqb}
 use Rattle.std.specs.Prelude.{if◌then◌else◌}
 use Rattle.cmc_der.specs.Building.{value}
 use Rattle.cmc_der.specs.Keys.{PublicKey, RequestFields}
 use Rattle.cmc_der.proofs.SmallValues.{IsSmall, contents_small, front_small, back_small}
 use Rattle.cmc_x509.specs.Certificates.{IsRequest}
-use Rattle.cmc_x509.specs.KeyFiles.{IsKeyFile}
 use Rattle.cmc_x509.specs.ReadCertificates.{request_at}
 use Rattle.cmc_x509.specs.ReadKeys.{key_file_at}
 use Rattle.cmc_x509.proofs.CertificateLaws.{request_again}
 use Rattle.cmc_x509.proofs.FileLaws.{key_file_found}
 use Rattle.cmc_x509_build.specs.Octets.{name_octets, signature_algorithm, signed_octets, spki_octets}
 use Rattle.cmc_x509_build.specs.Requests.{alternative_of, attributes_of, names_of, request_body}
-use Rattle.cmc_x509_build.specs.declared.requests.NameSet.{NameSet}
 use Rattle.cmc_x509_build.proofs.BuiltNameLaws.{names_small}
 use Rattle.cmc_x509_build.proofs.RequestLaws.{built_body_is, request_is}
 use Rattle.cmc_x509_build.proofs.ServeLaws.{key_file_serves}
@@ -23,7 +21,6 @@ use Rattle.cmc_objects.specs.declared.issuer.IssuerRef.{IssuerRef}
 use Rattle.cmc_objects.specs.declared.key_spec.Rotation.{Rotation}
 use Rattle.cmc_objects.specs.declared.key_spec.Rotation.TheVariants.{Always, Never}
 use Rattle.cmc_objects.specs.declared.object.Object.TheVariants.{Request}
-use Rattle.cmc_objects.specs.declared.call.Call.{Call}
 use Rattle.cmc_objects.specs.declared.call.Call.TheVariants.{Create}
 use Rattle.cmc_objects.specs.declared.orders.KeyOrder.{KeyOrder}
 use Rattle.cmc_objects.specs.declared.orders.Order.{Order}
@@ -34,7 +31,7 @@ use Rattle.cmc_objects.specs.declared.role.Role.TheVariants.{KeyManager, Request
 use Rattle.cmc_objects.specs.declared.secret.Secret.{Secret as SecretObject}
 use Rattle.cmc_objects.specs.Defaults.{certificate_duration, issuer_group, issuer_kind, key_algorithm, key_size}
 use Rattle.cmc_objects.specs.declared.key_spec.Algorithm.{Algorithm}
-use Rattle.cmc_keys.specs.Kinds.{IsKeyOf, is_key_of}
+use Rattle.cmc_keys.specs.Kinds.{is_key_of}
 use Rattle.cmc_keys.specs.Values.{IsKeyValue}
 use Rattle.cmc_keys.proofs.KindLaws.{is_key_means}
 use Rattle.cmc_match.specs.Facts.{fits, key_in}

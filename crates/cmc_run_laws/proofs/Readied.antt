@@ -1,9 +1,9 @@
 -- At rest a Certificate that can be issued is Ready.
-use Rattle.std.proofs.Common.{◌≡◌, ◌⊎◌, ◌==◌, ◌&&◌, ◌||◌, ℕ, suc, ℤ, List, [], ◌∷◌, length, Option, Some, None, Bool, true, false, not, refl, sym, ap, subst, ◌∙◌, inl, inr, option_and_then, arith}
+use Rattle.std.proofs.Common.{◌≡◌, ◌⊎◌, ◌==◌, ◌&&◌, ◌||◌, ℕ, ℤ, List, [], ◌∷◌, length, Option, Some, None, Bool, true, false, not, refl, ap, subst, inl, inr, option_and_then, arith}
 use Rattle.std.proofs.lemmas.Bool.{and_parts}
 use Rattle.std.proofs.lemmas.Bool.Decides.{Decides-eqb}
 use Rattle.std.proofs.lemmas.Slice.Eq.{bytes_eq-Decides}
-use Rattle.std.specs.Prelude.{IfSome, IsSome, codes, int_lt, is_some, if◌then◌else◌}
+use Rattle.std.specs.Prelude.{IfSome, IsSome, codes, is_some, if◌then◌else◌}
 use Rattle.std.specs.Str.{bytes_eq}
 use Rattle.cmc_meta.specs.declared.key.Key.{Key}
 use Rattle.cmc_meta.specs.declared.conditions.Condition.{Condition}
@@ -11,7 +11,6 @@ use Rattle.cmc_meta.specs.declared.conditions.ConditionKind.TheVariants.{Ready}
 use Rattle.cmc_meta.specs.ConditionLists.{condition_at}
 use Rattle.cmc_x509.specs.ReadKeys.{key_file_at}
 use Rattle.cmc_objects.specs.declared.certificate.Certificate.{Certificate}
-use Rattle.cmc_objects.specs.declared.certificate.CertSpec.{CertSpec}
 use Rattle.cmc_objects.specs.declared.issuer.IssuerRef.{IssuerRef}
 use Rattle.cmc_objects.specs.declared.key_spec.Rotation.{Rotation}
 use Rattle.cmc_objects.specs.declared.key_spec.Rotation.TheVariants.{Always, Never}
@@ -23,11 +22,9 @@ use Rattle.cmc_objects.specs.declared.role.Role.TheVariants.{KeyManager, Request
 use Rattle.cmc_objects.specs.declared.entry.Entry.{Entry}
 use Rattle.cmc_objects.specs.Defaults.{issuer_group, issuer_kind, key_rotation}
 use Rattle.cmc_objects.specs.Requests.{is_stated, is_approved, is_denied}
-use Rattle.cmc_summary.specs.declared.summary.WaitName.{WaitName}
 use Rattle.cmc_summary.specs.declared.summary.WaitName.TheVariants as names
 use Rattle.cmc_pass.specs.declared.pass.Act.TheVariants.{Nothing, Call as Calls}
 use Rattle.cmc_pass.specs.declared.pass.Desk.{Desk}
-use Rattle.cmc_pass.specs.declared.pass.Views.{Views}
 use Rattle.cmc_match.specs.Facts.{fits}
 use Rattle.cmc_match.specs.Matching.{matches, has_terms, is_same_issuer}
 use Rattle.cmc_match.specs.Revisions.{next_request}
@@ -36,9 +33,9 @@ use Rattle.cmc_model.specs.Histories.{Setting, moment, objects}
 use Rattle.cmc_rules.specs.Acts.{act}
 use Rattle.cmc_rules.specs.Approving.{approver, ask_judgement, is_covered, is_listed, judge_of, judge_one}
 use Rattle.cmc_rules.specs.Desks.{desk}
-use Rattle.cmc_rules.specs.Granting.{ask_issuer, denied_status, deny, gives, grant, grant_one, is_open, is_own, is_waiting, status_call}
+use Rattle.cmc_rules.specs.Granting.{ask_issuer, denied_status, gives, grant_one, is_own, is_waiting, status_call}
 use Rattle.cmc_rules.specs.Issuing.{is_kept_for_keys, issuing_of, says_issued}
-use Rattle.cmc_rules.specs.KeyManaging.{ask_key, make_call, reused, rotated, target_key, while_idle, while_issuing}
+use Rattle.cmc_rules.specs.KeyManaging.{ask_key, make_call, rotated, target_key, while_idle, while_issuing}
 use Rattle.cmc_rules.specs.NextKeys.{named_key}
 use Rattle.cmc_rules.specs.NextRequests.{is_wanted}
 use Rattle.cmc_rules.specs.RequestManaging as managing

@@ -1,6 +1,6 @@
 -- At rest each Certificate is Ready, in back-off, or under way.
-use Rattle.std.proofs.Common.{◌≡◌, ◌⊎◌, List, Option, Some, None, Bool, true, false, refl, sym, ap, subst, inl, inr, option_and_then}
-use Rattle.std.specs.Prelude.{IsSome, if◌then◌else◌, not, ℤ}
+use Rattle.std.proofs.Common.{◌≡◌, List, Option, Some, None, Bool, true, false, refl, ap, subst, inl, inr, option_and_then}
+use Rattle.std.specs.Prelude.{IsSome, if◌then◌else◌, not}
 use Rattle.cmc_meta.specs.declared.key.Key.{Key}
 use Rattle.cmc_meta.specs.declared.conditions.ConditionKind.TheVariants.{Ready}
 use Rattle.cmc_objects.specs.declared.certificate.Certificate.{Certificate}
@@ -11,7 +11,6 @@ use Rattle.cmc_objects.specs.declared.entry.Entry.{Entry}
 use Rattle.cmc_objects.specs.Requests.{is_stated}
 use Rattle.cmc_summary.specs.declared.summary.WaitName.{WaitName}
 use Rattle.cmc_summary.specs.declared.summary.WaitName.TheVariants.{Stopped}
-use Rattle.cmc_pass.specs.declared.pass.Views.{Views}
 use Rattle.cmc_model.specs.Objects.{object_at}
 use Rattle.cmc_model.specs.Histories.{Setting, moment, objects}
 use Rattle.cmc_rules.specs.Resting.{IsAtRest}
@@ -22,7 +21,7 @@ use Rattle.cmc_plain.specs.Waits.{is_stopped, wait_of, wait_of_seen, wait_in}
 use Rattle.cmc_plain.proofs.EachNamed.{each_named, still}
 use Rattle.cmc_plain.proofs.EachWait.{trigger_rests, readiness_rests}
 use Rattle.cmc_plain.proofs.Stuck.{waits_to_try}
-use Rattle.cmc_run_laws.specs.Settled.{IsSettled, IsBackingOff, IsUnderWay}
+use Rattle.cmc_run_laws.specs.Settled.{IsSettled}
 
 is_certificate : (o : Option Object) (c : Certificate) → option_and_then certificate_in o ≡ Some c → o ≡ Some (Cert c)
 is_certificate None c is = absurd (cc is)
