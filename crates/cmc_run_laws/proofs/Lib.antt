@@ -9,3 +9,4 @@ mod CalmReplies
 mod CalmNames
 mod CalmTargets
 mod RunningAlone
+mod Unmoved
