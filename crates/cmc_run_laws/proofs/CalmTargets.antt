@@ -67,7 +67,7 @@ pub target_write : (seen : Views) (since : ℤ) (call : Call) → IsSecretCall (
 target_write seen since call is = by_certificate seen seen.certificate (issuing seen since) call refl (plans seen since) is
 
 -- where it is made anew, nothing stands under its name
-pub new_by : (s : Setting) (h : List Entry) (stand_in : Bool) (c : Certificate) (key signed ca : List ℕ) (target : Option SecretObject) → (target ≡ None → object_at (objects s h) (target_key c) ≡ None)
+new_by : (s : Setting) (h : List Entry) (stand_in : Bool) (c : Certificate) (key signed ca : List ℕ) (target : Option SecretObject) → (target ≡ None → object_at (objects s h) (target_key c) ≡ None)
     → IsNewName s h (secret_call stand_in c key signed ca target)
 unfolding secret_call new_target
 new_by s h stand_in c key signed ca None none = none refl

@@ -10,3 +10,4 @@ mod CalmNames
 mod CalmTargets
 mod RunningAlone
 mod Unmoved
+mod Refusals

@@ -1,0 +1,38 @@
+-- What stands between two passes of a role on a key.
+use Rattle.std.specs.Prelude.{◌≡◌, ℕ, ℤ, List, [], ◌∷◌, ◌++◌}
+use Rattle.cmc_meta.specs.declared.key.Key.{Key}
+use Rattle.cmc_objects.specs.declared.role.Role.{Role}
+use Rattle.cmc_objects.specs.declared.call.Reply.{Reply}
+use Rattle.cmc_objects.specs.declared.call.Reply.TheVariants.{Ok, Unavailable}
+use Rattle.cmc_objects.specs.declared.entry.Positions.{Positions}
+use Rattle.cmc_objects.specs.declared.entry.Who.TheVariants.{Pass}
+use Rattle.cmc_objects.specs.declared.entry.Entry.{Entry}
+use Rattle.cmc_objects.specs.declared.entry.Entry.TheVariants.{Call as Called, Deliver, List as Listed, Begin, Start, Tick}
+use Rattle.cmc_rules.specs.Safety.{Stands}
+
+-- the call was accepted, or it failed
+abbrev pub IsAcceptedOrFailed : Reply → Type 0
+IsAcceptedOrFailed (Ok version name) = Unit {0}
+IsAcceptedOrFailed (Unavailable number) = Unit {0}
+IsAcceptedOrFailed other = ⊥
+
+-- a reason for another pass of the role after the one of this number: the role is told of something, time goes on, or the pass itself
+-- wrote or met a failure
+abbrev pub IsReason : Role → ℕ → Entry → Type 0
+IsReason role n (Called who call reply) = (who ≡ Pass n) × IsAcceptedOrFailed reply
+IsReason role n (Deliver r kind to) = r ≡ role
+IsReason role n (Listed r kind to) = r ≡ role
+IsReason role n (Tick now) = Unit {0}
+IsReason role n other = ⊥
+
+-- a pass of the role begins on the key, or the role starts and so forgets its passes
+abbrev pub IsNewBegin : Role → Key → Entry → Type 0
+IsNewBegin role key (Begin pass r k at now) = (r ≡ role) × (k ≡ key)
+IsNewBegin role key (Start r at) = r ≡ role
+IsNewBegin role key other = ⊥
+
+-- Of any two passes of a role on a key, one after the other, with no start of the role between: between their begins stands a reason.
+abbrev pub BeginsForSomething : List Entry → Type 0
+BeginsForSomething whole =
+    (l k h : List Entry) (n m : ℕ) (role : Role) (key : Key) (at was : Positions) (now since : ℤ) → whole ≡ l ++ (Begin n role key at now ∷ (k ++ (Begin m role key was since ∷ h)))
+    → (Stands (IsNewBegin role key) k → ⊥) → Stands (IsReason role m) k
