@@ -11,3 +11,4 @@ mod CalmTargets
 mod RunningAlone
 mod Unmoved
 mod Refusals
+mod SinceBegin
