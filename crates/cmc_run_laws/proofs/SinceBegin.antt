@@ -31,7 +31,7 @@ use Rattle.cmc_pass.specs.declared.value.Value.TheVariants as values
 use Rattle.cmc_model.specs.declared.write.Write.{Write}
 use Rattle.cmc_model.specs.Histories.{Setting, accepted, moment, role_eq, runs, state}
 use Rattle.cmc_model.specs.Replies.{IsReply, is_accepted, key_of_call}
-use Rattle.cmc_model.specs.Writes.{writes, contents, last_under, of_kind, oldest}
+use Rattle.cmc_model.specs.Writes.{writes, contents, kind_eq, last_under, of_kind, oldest}
 use Rattle.cmc_rules.specs.declared.progress.Ending.{Ending}
 use Rattle.cmc_rules.specs.declared.progress.Ending.TheVariants as endings
 use Rattle.cmc_rules.specs.declared.progress.LastPass.{LastPass}
@@ -372,3 +372,182 @@ begin_since s h b n r k at now numbered other i =
     (λ m apart none. begun_others (m == n) true b.role b.key (new_pass r k (views s h r k) now) (open_pass s h m) other none)
     (λ course. same_course s h (Begin n r k at now) b (ap (λ (x : Bool). if x then Some (new_pass r k (views s h r k) now) else open_pass s h b.pass) off)
     (ap (λ (x : Bool). (if x then with_begin (views s h r k) now (past s h b.role b.key) else past s h b.role b.key).last) other) course) i
+
+-- ---- other roles are told, stop and start
+
+-- where no position of the role moves
+positions_same : (h k : List Entry) (role : Role) → ((kind : Kind) → position k role kind ≡ position h role kind) → positions k role ≡ positions h role
+positions_same h k role same = λ i. record {
+  certificates = if has_informer role kinds.Certificate then same kinds.Certificate i else 0;
+  requests = if has_informer role kinds.CertificateRequest then same kinds.CertificateRequest i else 0;
+  secrets = if has_informer role kinds.Secret then same kinds.Secret i else 0;
+}
+
+views_same : (s : Setting) (h k : List Entry) (role : Role) (key : Key) → writes s k ≡ writes s h → ((kind : Kind) → position k role kind ≡ position h role kind) → views s k role key ≡ views s h role key
+views_same s h k role key ws same = λ i. views_in role (record {
+  certificates = contents (of_kind kinds.Certificate (oldest (same kinds.Certificate i) (ws i)));
+  requests = contents (of_kind kinds.CertificateRequest (oldest (same kinds.CertificateRequest i) (ws i)));
+  secrets = contents (of_kind kinds.Secret (oldest (same kinds.Secret i) (ws i)));
+}) key
+
+other_told : (mine : Bool) (of_kind : Bool) (to p : ℕ) → mine ≡ false → (if mine && of_kind then to else p) ≡ p
+other_told true of_kind to p off = absurd (cc off)
+other_told false of_kind to p off = refl
+
+other_started : (mine : Bool) (to p : ℕ) → mine ≡ false → (if mine then to else p) ≡ p
+other_started true to p off = absurd (cc off)
+other_started false to p off = refl
+
+deliver_since : (s : Setting) (h : List Entry) (b : Begun) (r : Role) (kind : Kind) (to : ℕ) → role_eq r b.role ≡ false → IsSince s h b → IsSince s (Deliver r kind to ∷ h) b
+deliver_since s h b r kind to other i =
+    let same : (k : Kind) → position (Deliver r kind to ∷ h) b.role k ≡ position h b.role k = λ k. other_told (role_eq r b.role) (kind_eq kind k) to (position h b.role k) other in
+    kept s h (Deliver r kind to) b (positions_same h (Deliver r kind to ∷ h) b.role same) (views_same s h (Deliver r kind to ∷ h) b.role b.key refl same) refl (omega arith) (λ n off none. none)
+    (same_course s h (Deliver r kind to) b refl refl) i
+
+list_since : (s : Setting) (h : List Entry) (b : Begun) (r : Role) (kind : Kind) (to : ℕ) → role_eq r b.role ≡ false → IsSince s h b → IsSince s (Listed r kind to ∷ h) b
+list_since s h b r kind to other i =
+    let same : (k : Kind) → position (Listed r kind to ∷ h) b.role k ≡ position h b.role k = λ k. other_told (role_eq r b.role) (kind_eq kind k) to (position h b.role k) other in
+    kept s h (Listed r kind to) b (positions_same h (Listed r kind to ∷ h) b.role same) (views_same s h (Listed r kind to ∷ h) b.role b.key refl same) refl (omega arith) (λ n off none. none)
+    (same_course s h (Listed r kind to) b refl refl) i
+
+start_since : (s : Setting) (h : List Entry) (b : Begun) (r : Role) (at : ℕ) → role_eq r b.role ≡ false → IsSince s h b → IsSince s (Start r at ∷ h) b
+start_since s h b r at other i =
+    let same : (k : Kind) → position (Start r at ∷ h) b.role k ≡ position h b.role k = λ k. other_started (role_eq r b.role) at (position h b.role k) other in
+    kept s h (Start r at) b (positions_same h (Start r at ∷ h) b.role same) (views_same s h (Start r at ∷ h) b.role b.key refl same) refl (omega arith) (λ n off none. none)
+    (same_course s h (Start r at) b refl (ap (λ (x : Bool). (if x then no_past else past s h b.role b.key).last) other)) i
+
+stopped_others : (r role : Role) (k : Key) (p : Option OpenPass) → is_pass_of role k p ≡ false → is_pass_of role k (unless_of r p) ≡ false
+stopped_others r role k None off = refl
+stopped_others r role k (Some p) off = by (role_eq r p.role) where
+  by : (own : Bool) → is_pass_of role k (if own then None else Some p) ≡ false
+  by true = refl
+  by false = off
+
+stop_course : (s : Setting) (h : List Entry) (b : Begun) (r : Role) → role_eq r b.role ≡ false → Course s h b → Course s (Stop r ∷ h) b
+stop_course s h b r other (inl w) =
+    inl (record {
+      stage = w.stage;
+      opened = ap (unless_of r) w.opened ∙ ap (λ (x : Bool). if x then None else Some (come_to b w.stage)) other;
+      so = w.so;
+      last = w.last;
+    })
+stop_course s h b r other (inr o) = inr (record { ending = o.ending; closed = ap (unless_of r) o.closed; alike = o.alike; last = o.last })
+
+stop_since : (s : Setting) (h : List Entry) (b : Begun) (r : Role) → role_eq r b.role ≡ false → IsSince s h b → IsSince s (Stop r ∷ h) b
+stop_since s h b r other i = kept s h (Stop r) b refl refl refl (omega arith) (λ n off none. stopped_others r b.role b.key (open_pass s h n) none) (stop_course s h b r other) i
+
+-- ---- every entry
+
+told_role : (role : Role) (b : Begun) (e : Entry) (still : Type 0) (mine : Bool) → role_eq role b.role ≡ mine → (role ≡ b.role → IsReason b.role b.pass e) → (mine ≡ false → still) → ReasonOr b e still
+told_role role b e still true is reason same = inl (reason (same_role role b.role is))
+told_role role b e still false is reason same = inr (same refl)
+
+-- one entry more, which is a reason, or leaves all as it was
+since_step : (s : Setting) (h : List Entry) (b : Begun) (e : Entry) → IsLegal s h → IsCaused s h → AreFreeNames s h → NoneIsIdle s → IsLegalEntry s h e → IsCausedEntry s h e → (IsNewBegin b.role b.key e → ⊥) → IsSince s h b
+    → ReasonOr b e (IsSinceOrStopped s (e ∷ h) b)
+since_step s h b (Script step) legal caused free idle right may none i = inr (inr (kept s h (Script step) b refl refl refl (omega arith) (λ n off none. none) (same_course s h (Script step) b refl refl) i))
+since_step s h b (Called who call reply) legal caused free idle right may none i = by (call_since s h b who call reply legal caused free idle right may i) where
+  by : ReasonOr b (Called who call reply) (IsSince s (Called who call reply ∷ h) b) → ReasonOr b (Called who call reply) (IsSinceOrStopped s (Called who call reply ∷ h) b)
+  by (inl reason) = inl reason
+  by (inr same) = inr (inr same)
+since_step s h b (Deliver role kind to) legal caused free idle right may none i =
+    told_role role b (Deliver role kind to) (IsSinceOrStopped s (Deliver role kind to ∷ h) b) (role_eq role b.role) refl (λ is. is) (λ off. inr (deliver_since s h b role kind to off i))
+since_step s h b (Listed role kind to) legal caused free idle right may none i =
+    told_role role b (Listed role kind to) (IsSinceOrStopped s (Listed role kind to ∷ h) b) (role_eq role b.role) refl (λ is. is) (λ off. inr (list_since s h b role kind to off i))
+since_step s h b (Begin pass role key at now) legal caused free idle right may none i = by (role_eq role b.role && key_eq key b.key) refl where
+  by : (mine : Bool) → (role_eq role b.role && key_eq key b.key) ≡ mine → ReasonOr b (Begin pass role key at now) (IsSinceOrStopped s (Begin pass role key at now ∷ h) b)
+  by true is =
+      let both = and_parts (role_eq role b.role) (key_eq key b.key) is in
+      absurd (none (same_role role b.role both.0, same_key key b.key both.1))
+  by false is = inr (inr (begin_since s h b pass role key at now right.numbered is i))
+since_step s h b (Ask pass order) legal caused free idle right may none i = inr (inr (ask_since s h b pass order may i))
+since_step s h b (Made pass key) legal caused free idle right may none i =
+    inr (inr (value_since s h (Made pass key) b pass (values.Made key) (λ m. refl) refl refl refl (omega arith) refl i))
+since_step s h b (Signed pass signature) legal caused free idle right may none i =
+    inr (inr (value_since s h (Signed pass signature) b pass (values.Signed signature) (λ m. refl) refl refl refl (omega arith) refl i))
+since_step s h b (Answered pass answer) legal caused free idle right may none i =
+    inr (inr (value_since s h (Answered pass answer) b pass (values.Answered answer) (λ m. refl) refl refl refl (omega arith) refl i))
+since_step s h b (Judged pass approved) legal caused free idle right may none i =
+    inr (inr (value_since s h (Judged pass approved) b pass (values.Judged approved) (λ m. refl) refl refl refl (omega arith) refl i))
+since_step s h b (End pass cause) legal caused free idle right may none i = inr (inr (end_since s h b pass cause may i))
+since_step s h b (Stop role) legal caused free idle right may none i = by (role_eq role b.role) refl where
+  by : (mine : Bool) → role_eq role b.role ≡ mine → ReasonOr b (Stop role) (IsSinceOrStopped s (Stop role ∷ h) b)
+  by true is = inr (inl (ap (λ (x : Bool). if x then false else runs s h b.role) is))
+  by false is = inr (inr (stop_since s h b role is i))
+since_step s h b (Start role at) legal caused free idle right may none i =  by (role_eq role b.role) refl where
+  by : (mine : Bool) → role_eq role b.role ≡ mine → ReasonOr b (Start role at) (IsSinceOrStopped s (Start role at ∷ h) b)
+  by true is = absurd (none (same_role role b.role is))
+  by false is = inr (inr (start_since s h b role at is i))
+since_step s h b (Tick now) legal caused free idle right may none i = inl tt
+
+-- a role that has stopped runs only once it starts again
+stays_stopped : (s : Setting) (h : List Entry) (b : Begun) (e : Entry) → (IsNewBegin b.role b.key e → ⊥) → runs s h b.role ≡ false → runs s (e ∷ h) b.role ≡ false
+stays_stopped s h b (Stop role) none off = by (role_eq role b.role) where
+  by : (mine : Bool) → (if mine then false else runs s h b.role) ≡ false
+  by true = refl
+  by false = off
+stays_stopped s h b (Start role at) none off = by (role_eq role b.role) refl where
+  by : (mine : Bool) → role_eq role b.role ≡ mine → (if mine then true else runs s h b.role) ≡ false
+  by true is = absurd (none (same_role role b.role is))
+  by false is = off
+stays_stopped s h b other none off = off
+
+-- ---- all entries since the begin
+
+-- so many entries leave free names
+abbrev pub HasFreeNames : Setting → Type 0
+HasFreeNames s = (h : List Entry) → length h ≤ s.events → AreFreeNames s h
+
+entry_more : (s : Setting) (h : List Entry) (b : Begun) (e : Entry) (k : List Entry) → IsLegal s h → IsCaused s h → AreFreeNames s h → NoneIsIdle s → IsLegalEntry s h e → IsCausedEntry s h e → (IsNewBegin b.role b.key e → ⊥)
+    → Stands (IsReason b.role b.pass) k ⊎ IsSinceOrStopped s h b → Stands (IsReason b.role b.pass) (e ∷ k) ⊎ IsSinceOrStopped s (e ∷ h) b
+entry_more s h b e k legal caused free idle right may none (inl stands) = inl (inr stands)
+entry_more s h b e k legal caused free idle right may none (inr (inl off)) = inr (inl (stays_stopped s h b e none off))
+entry_more s h b e k legal caused free idle right may none (inr (inr i)) = by (since_step s h b e legal caused free idle right may none i) where
+  by : ReasonOr b e (IsSinceOrStopped s (e ∷ h) b) → Stands (IsReason b.role b.pass) (e ∷ k) ⊎ IsSinceOrStopped s (e ∷ h) b
+  by (inl reason) = inl (inl reason)
+  by (inr still) = inr still
+
+pub reason_or_still : (s : Setting) (base : List Entry) (b : Begun) (k : List Entry) → HasFreeNames s → NoneIsIdle s → IsLegal s (k ++ base) → IsCaused s (k ++ base) → length (k ++ base) ≤ s.events
+    → (Stands (IsNewBegin b.role b.key) k → ⊥) → IsSince s base b → Stands (IsReason b.role b.pass) k ⊎ IsSinceOrStopped s (k ++ base) b
+unfolding IsLegal IsCaused
+reason_or_still s base b [] free idle legal caused short none i = inr (inr i)
+reason_or_still s base b (e ∷ k) free idle legal caused short none i =
+    let below : length (k ++ base) ≤ s.events = omega (arith, short) in
+    entry_more s (k ++ base) b e k legal.1 caused.1 (free (k ++ base) below) idle legal.0 caused.0 (λ new. none (inl new))
+    (reason_or_still s base b k free idle legal.1 caused.1 below (λ stands. none (inr stands)) i)
+
+-- ---- the next begin
+
+-- what is so as the pass begins
+pub since_begin : (s : Setting) (h : List Entry) (m : ℕ) (role : Role) (key : Key) (was : Positions) (since : ℤ) → IsLegalEntry s h (Begin m role key was since)
+    → IsSince s (Begin m role key was since ∷ h) (record { pass = m; role = role; key = key; at = was; seen = views s h role key; since = since })
+since_begin s h m role key was since right =
+    let b : Begun = record { pass = m; role = role; key = key; at = was; seen = views s h role key; since = since } in
+    record {
+      told = sym right.told;
+      sees = refl;
+      present = sym right.present;
+      begun = let numbered = right.numbered in omega (arith, numbered);
+      others = λ n off. ap (λ (x : Bool). is_pass_of role key (if x then Some (new_pass role key (views s h role key) since) else open_pass s h n)) off ∙ by n (is_pass_of role key (open_pass s h n)) refl;
+      course = inl (record {
+        stage = Fresh;
+        opened = ap (λ (x : Bool). if x then Some (new_pass role key (views s h role key) since) else open_pass s h m) ((Decides-eqb m m).1 refl);
+        so = record { untold = tt; asked = tt };
+        last = ap (λ (x : Bool). (if x then with_begin (views s h role key) since (past s h role key) else past s h role key).last) (mine_itself b Fresh);
+      });
+    } where
+  by : (n : ℕ) (x : Bool) → is_pass_of role key (open_pass s h n) ≡ x → is_pass_of role key (open_pass s h n) ≡ false
+  by n true is = absurd (right.free (n, is))
+  by n false is = is
+
+-- a pass that began then would be that before again
+pub none_begins : (s : Setting) (h : List Entry) (b : Begun) (n : ℕ) (at : Positions) (now : ℤ) → IsLegalEntry s h (Begin n b.role b.key at now) → IsCausedEntry s h (Begin n b.role b.key at now) → IsSinceOrStopped s h b → ⊥
+none_begins s h b n at now right due (inl off) = let running = right.running in cc (off, running)
+none_begins s h b n at now right due (inr i) = by i.course where
+  by : Course s h b → ⊥
+  by (inl w) = right.free (b.pass, ap (is_pass_of b.role b.key) w.opened ∙ mine_itself b w.stage)
+  by (inr o) =
+      let same_moment : b.since ≡ now = sym (right.present ∙ i.present) in
+      let same_positions : b.at ≡ at = sym (right.told ∙ i.told) in
+      let alike : EndsAlike o.ending b.since now at = subst (EndsAlike o.ending b.since now) same_positions (subst (λ (t : ℤ). EndsAlike o.ending b.since t b.at) same_moment o.alike) in
+      due.other (subst (λ (x : Option LastPass). IsSame x (views s h b.role b.key) now at) (sym o.last) (sym i.sees, alike))
