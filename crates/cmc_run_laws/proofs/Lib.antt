@@ -12,3 +12,4 @@ mod RunningAlone
 mod Unmoved
 mod Refusals
 mod SinceBegin
+mod NotForNothing

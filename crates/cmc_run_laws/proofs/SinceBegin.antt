@@ -127,11 +127,11 @@ ReasonOr b e still = IsReason b.role b.pass e ⊎ still
 
 -- ---- no call of a pass is idle
 
--- A call of a pass of which the role still sees what it saw is not answered Unchanged, but for the Secret of an issuance, which its
+-- A call of the pass whose role still sees what it saw is not answered Unchanged, but for the Secret of an issuance, which its
 -- status follows.
-abbrev pub NoneIsIdle : Setting → Type 0
-NoneIsIdle s =
-    (h : List Entry) (b : Begun) (stage : Stage) (call : Call) (version : ℕ) → IsLegal s h → moment s h ≡ b.since → views s h b.role b.key ≡ b.seen → AskedByAct b.role b.seen b.since stage
+abbrev pub NoneIsIdle : Setting → Begun → Type 0
+NoneIsIdle s b =
+    (h : List Entry) (stage : Stage) (call : Call) (version : ℕ) → IsLegal s h → moment s h ≡ b.since → views s h b.role b.key ≡ b.seen → AskedByAct b.role b.seen b.since stage
     → IsNextCall stage (act_of s h (come_to b stage)) (after_of (come_to b stage)) call → IsCallAt stage b.role b.seen b.since call
     → IsReply s.faults (state s h) call (Unchanged version) → stage_written (stands_in (issuing b.seen b.since)) stage ≡ Saved
 
@@ -223,7 +223,7 @@ after_asked role seen since c stand_in stage entry kind last (AlreadyExists have
 after_asked role seen since c stand_in stage entry kind last (Invalid rule) = tt
 after_asked role seen since c stand_in stage entry kind last (Unavailable number) = tt
 
-call_stage : (s : Setting) (h : List Entry) (b : Begun) (n : ℕ) (call : Call) (reply : Reply) → IsLegal s h → IsCaused s h → AreFreeNames s h → NoneIsIdle s → MayCall s h (open_pass s h n) call
+call_stage : (s : Setting) (h : List Entry) (b : Begun) (n : ℕ) (call : Call) (reply : Reply) → IsLegal s h → IsCaused s h → AreFreeNames s h → NoneIsIdle s b → MayCall s h (open_pass s h n) call
     → IsReply s.faults (state s h) call reply → positions h b.role ≡ b.at → views s h b.role b.key ≡ b.seen → moment s h ≡ b.since → (IsAcceptedOrFailed reply → ⊥)
     → (stage : Stage) → open_pass s h n ≡ Some (come_to b stage) → IsStage b stage → IsStage b (stage_after s h call reply (come_to b stage))
 call_stage s h b n call reply legal caused free idle may right told sees present none stage opened so =
@@ -237,7 +237,7 @@ call_stage s h b n call reply legal caused free idle may right told sees present
       untold = subst (λ (p : Positions). IsUntold p (stage_after s h call reply (come_to b stage))) told
       (refused_untold s h (come_to b stage) call reply legal free (subst (λ (q : OpenPass). IsWithin q.role (call_after q.role q.seen q.since) q.seen q.since (act_of s h q)) same within) next at (sym sees) right none
       (λ version is.
-      subst (IsUntold (positions h b.role)) (sym (idle h b stage call version legal present sees so.asked next at (subst (IsReply s.faults (state s h) call) is right))) tt));
+      subst (IsUntold (positions h b.role)) (sym (idle h stage call version legal present sees so.asked next at (subst (IsReply s.faults (state s h) call) is right))) tt));
       asked = after_asked b.role b.seen b.since b.seen.certificate (stands_in (issuing b.seen b.since)) stage (length h + 1) (key_of_call call).kind (last_under (key_of_call call) (writes s h)) reply;
     }
 
@@ -247,7 +247,7 @@ news true m n reply own (inl tells) = inl (ap Pass (sym ((Decides-eqb m n).0 own
 news true m n reply own (inr silent) = inr (λ same. silent)
 news false m n reply own either = inr (λ same. absurd (cc (same, own)))
 
-pass_called : (own : Bool) (s : Setting) (h : List Entry) (b : Begun) (n : ℕ) (call : Call) (reply : Reply) → (b.pass == n) ≡ own → IsLegal s h → IsCaused s h → AreFreeNames s h → NoneIsIdle s → MayCall s h (open_pass s h n) call
+pass_called : (own : Bool) (s : Setting) (h : List Entry) (b : Begun) (n : ℕ) (call : Call) (reply : Reply) → (b.pass == n) ≡ own → IsLegal s h → IsCaused s h → AreFreeNames s h → NoneIsIdle s b → MayCall s h (open_pass s h n) call
     → IsReply s.faults (state s h) call reply → ((b.pass == n) ≡ true → IsAcceptedOrFailed reply → ⊥) → (i : IsSince s h b) → Course s (Called (Pass n) call reply ∷ h) b
 pass_called own s h b n call reply is legal caused free idle may right none i =
     gone_course own s h (Called (Pass n) call reply) b n (stage_after s h call reply) is
@@ -255,7 +255,7 @@ pass_called own s h b n call reply is legal caused free idle may right none i =
     (own_last (is_accepted reply && is_pass_of b.role b.key (open_pass s h n)) (key_of_call call).kind (accepted s h + 1) (past s h b.role b.key))
     (λ own_call stage opened so. call_stage s h b n call reply legal caused free idle may right i.told i.sees i.present (none own_call) stage opened so) i.course
 
-call_since : (s : Setting) (h : List Entry) (b : Begun) (who : Who) (call : Call) (reply : Reply) → IsLegal s h → IsCaused s h → AreFreeNames s h → NoneIsIdle s → IsLegalEntry s h (Called who call reply)
+call_since : (s : Setting) (h : List Entry) (b : Begun) (who : Who) (call : Call) (reply : Reply) → IsLegal s h → IsCaused s h → AreFreeNames s h → NoneIsIdle s b → IsLegalEntry s h (Called who call reply)
     → IsCausedEntry s h (Called who call reply) → IsSince s h b → ReasonOr b (Called who call reply) (IsSince s (Called who call reply ∷ h) b)
 call_since s h b User call reply legal caused free idle right may i =
     inr (kept s h (Called User call reply) b refl (views_called s h User call reply b.role b.key legal) refl (omega arith) (λ n other off. off) (same_course s h (Called User call reply) b refl refl) i)
@@ -443,7 +443,7 @@ told_role role b e still true is reason same = inl (reason (same_role role b.rol
 told_role role b e still false is reason same = inr (same refl)
 
 -- one entry more, which is a reason, or leaves all as it was
-since_step : (s : Setting) (h : List Entry) (b : Begun) (e : Entry) → IsLegal s h → IsCaused s h → AreFreeNames s h → NoneIsIdle s → IsLegalEntry s h e → IsCausedEntry s h e → (IsNewBegin b.role b.key e → ⊥) → IsSince s h b
+since_step : (s : Setting) (h : List Entry) (b : Begun) (e : Entry) → IsLegal s h → IsCaused s h → AreFreeNames s h → NoneIsIdle s b → IsLegalEntry s h e → IsCausedEntry s h e → (IsNewBegin b.role b.key e → ⊥) → IsSince s h b
     → ReasonOr b e (IsSinceOrStopped s (e ∷ h) b)
 since_step s h b (Script step) legal caused free idle right may none i = inr (inr (kept s h (Script step) b refl refl refl (omega arith) (λ n off none. none) (same_course s h (Script step) b refl refl) i))
 since_step s h b (Called who call reply) legal caused free idle right may none i = by (call_since s h b who call reply legal caused free idle right may i) where
@@ -498,7 +498,7 @@ stays_stopped s h b other none off = off
 abbrev pub HasFreeNames : Setting → Type 0
 HasFreeNames s = (h : List Entry) → length h ≤ s.events → AreFreeNames s h
 
-entry_more : (s : Setting) (h : List Entry) (b : Begun) (e : Entry) (k : List Entry) → IsLegal s h → IsCaused s h → AreFreeNames s h → NoneIsIdle s → IsLegalEntry s h e → IsCausedEntry s h e → (IsNewBegin b.role b.key e → ⊥)
+entry_more : (s : Setting) (h : List Entry) (b : Begun) (e : Entry) (k : List Entry) → IsLegal s h → IsCaused s h → AreFreeNames s h → NoneIsIdle s b → IsLegalEntry s h e → IsCausedEntry s h e → (IsNewBegin b.role b.key e → ⊥)
     → Stands (IsReason b.role b.pass) k ⊎ IsSinceOrStopped s h b → Stands (IsReason b.role b.pass) (e ∷ k) ⊎ IsSinceOrStopped s (e ∷ h) b
 entry_more s h b e k legal caused free idle right may none (inl stands) = inl (inr stands)
 entry_more s h b e k legal caused free idle right may none (inr (inl off)) = inr (inl (stays_stopped s h b e none off))
@@ -507,7 +507,7 @@ entry_more s h b e k legal caused free idle right may none (inr (inr i)) = by (s
   by (inl reason) = inl (inl reason)
   by (inr still) = inr still
 
-pub reason_or_still : (s : Setting) (base : List Entry) (b : Begun) (k : List Entry) → HasFreeNames s → NoneIsIdle s → IsLegal s (k ++ base) → IsCaused s (k ++ base) → length (k ++ base) ≤ s.events
+pub reason_or_still : (s : Setting) (base : List Entry) (b : Begun) (k : List Entry) → HasFreeNames s → NoneIsIdle s b → IsLegal s (k ++ base) → IsCaused s (k ++ base) → length (k ++ base) ≤ s.events
     → (Stands (IsNewBegin b.role b.key) k → ⊥) → IsSince s base b → Stands (IsReason b.role b.pass) k ⊎ IsSinceOrStopped s (k ++ base) b
 unfolding IsLegal IsCaused
 reason_or_still s base b [] free idle legal caused short none i = inr (inr i)
