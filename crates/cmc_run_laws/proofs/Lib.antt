@@ -13,3 +13,6 @@ mod Unmoved
 mod Refusals
 mod SinceBegin
 mod NotForNothing
+mod IdleCalls
+mod NewConditions
+mod TablesChange
