@@ -16,3 +16,6 @@ mod NotForNothing
 mod IdleCalls
 mod NewConditions
 mod TablesChange
+mod InOrder
+mod ValuesChange
+mod StandInsChange

@@ -3,7 +3,7 @@ use Rattle.std.proofs.Common.{◌≡◌, ◌==◌, ◌⊎◌, ℕ, ℤ, ◌+◌,
 use Rattle.std.proofs.lemmas.Bool.Decides.{Decides-int_eq}
 use Rattle.std.proofs.lemmas.Bool.{and_parts, and_from, or_parts}
 use Rattle.std.proofs.lemmas.Slice.Eq.{bytes_eq-Decides}
-use Rattle.std.specs.Prelude.{if◌then◌else◌, codes, int_eq, int_lt, option_map, unwrap_or, ◌+ℤ◌}
+use Rattle.std.specs.Prelude.{if◌then◌else◌, codes, int_lt, option_map, unwrap_or, ◌+ℤ◌}
 use Rattle.std.specs.Str.{bytes_eq}
 use Rattle.cmc_der.specs.Keys.{PublicKey, CertificateFields}
 use Rattle.cmc_objects.specs.declared.certificate.Certificate.{Certificate}
@@ -319,7 +319,7 @@ of_named seen moment c target list (Some k) sees order on = of_own seen moment c
 issues : (seen : Views) (moment : ℤ) (next : List SecretObject) (target : Option SecretObject) (list : List CertificateRequest) (c : Option Certificate) → seen.certificate ≡ c → SeesInOrder seen
     → IsProperAct seen (issuance.issuing_of moment next target list c)
 issues seen moment next target list None sees order = tt
-issues seen moment next target list (Some c) sees order = by_test (IsProperAct seen) (triggering.is_issuing c) _ _ (λ on. of_named seen moment c target list _ sees order on) (λ off. tt)
+issues seen moment next target list (Some c) sees order = by_test (IsProperAct seen) (triggering.is_issuing c) _ _ (λ on. of_named seen moment c target list (named_key c.status.next_key next) sees order on) (λ off. tt)
 
 -- ---- readiness
 
