@@ -19,3 +19,4 @@ mod TablesChange
 mod InOrder
 mod ValuesChange
 mod StandInsChange
+mod NeverIdle

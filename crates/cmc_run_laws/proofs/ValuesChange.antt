@@ -100,13 +100,13 @@ IsVerdictOn r (Some verdict) = (tri_eq verdict.status tri.True ≡ true) × (is_
 
 verdict_is : (r : CertificateRequest) (moment : ℤ) (approved : Bool) (denial : Option Denial) → HasNoVerdict r → IsVerdictOn r (verdict_by moment approved denial)
 unfolding approval denied_for
-verdict_is r moment true denial open = (refl, open.approved)
-verdict_is r moment false None open = tt
-verdict_is r moment false (Some denial) open = (refl, open.denied)
+verdict_is r moment true denial unmet = (refl, unmet.approved)
+verdict_is r moment false None unmet = tt
+verdict_is r moment false (Some denial) unmet = (refl, unmet.denied)
 
 verdict_given : (r : CertificateRequest) (moment : ℤ) (order : Order) (value : Value) → HasNoVerdict r → IsVerdictOn r (verdict_of moment order value)
-verdict_given r moment (orders.Judge order) (values.Judged approved) open = verdict_is r moment approved (denial_of order) open
-verdict_given r moment order value open = tt
+verdict_given r moment (orders.Judge order) (values.Judged approved) unmet = verdict_is r moment approved (denial_of order) unmet
+verdict_given r moment order value unmet = tt
 
 judged_differs : (r : CertificateRequest) (verdict : Condition) → IsVerdictOn r (Some verdict) → judged_status verdict r.status ≡ r.status → ⊥
 unfolding judged_status
@@ -154,8 +154,8 @@ grants_open moment desk None order is r sees = absurd (cc sees)
 grants_open moment desk (Some q) order is r sees =
     let same : q ≡ r = cc sees in
     let on = grants_by (is_denied q) (granting.is_open q) (granting.is_waiting moment q) (granting.has_reason (codes "Denied") q) (granting.status_call (granting.denied_status q.status moment) q) (ask_issuer moment desk q) order is in
-    let open = open_one q on.0 in
-    subst (IsUnanswered moment) same (record { issued = open.0; failed = open.1; waits = on.1 })
+    let unmet = open_one q on.0 in
+    subst (IsUnanswered moment) same (record { issued = unmet.0; failed = unmet.1; waits = on.1 })
 
 kept_reason : (old : Option Condition) (new : Condition) (reason : List ℕ) → bytes_eq new.reason reason ≡ true → granting.gives reason (Some (kept_since old new)) ≡ true
 kept_reason None new reason is = is
@@ -175,30 +175,30 @@ within_minute moment = sooner moment where
 
 answer_differs : (r : CertificateRequest) (answer : Signing) (moment : ℤ) → IsUnanswered moment r → answered r.status answer moment ≡ r.status → ⊥
 unfolding answered issued_condition pending_condition failed_condition
-answer_differs r (signings.Issued certificate ca) moment open same =
+answer_differs r (signings.Issued certificate ca) moment unmet same =
     let on = gives_reason r.status.conditions (issued_condition moment) (codes "Issued") refl refl (ap (λ (st : RequestStatus). st.conditions) same) in
-    let off = open.issued in
+    let off = unmet.issued in
     cc (on, off)
-answer_differs r signings.Pending moment open same =
+answer_differs r signings.Pending moment unmet same =
     let found : condition_at r.status.conditions conditions.Ready ≡ Some (pending_condition moment) =
     subst (λ (l : List Condition). condition_at l conditions.Ready ≡ Some (pending_condition moment)) (ap (λ (st : RequestStatus). st.conditions) same) (found_renewed r.status.conditions (pending_condition moment)) in
     let waits : granting.is_waiting moment r ≡ true = ap (granting.is_waiting_on moment) found ∙ within_minute moment in
-    let off = open.waits in
+    let off = unmet.waits in
     cc (waits, off)
-answer_differs r (signings.Failed message) moment open same =
+answer_differs r (signings.Failed message) moment unmet same =
     let on = gives_reason r.status.conditions (failed_condition message moment) (codes "Failed") refl refl (ap (λ (st : RequestStatus). st.conditions) same) in
-    let off = open.failed in
+    let off = unmet.failed in
     cc (on, off)
 
 answered_value : (seen : Views) (moment : ℤ) (r : CertificateRequest) (value : Value) → seen.request ≡ Some r → IsUnanswered moment r → ChangesOption seen (granting.answered_with moment r value)
 unfolding granting.status_call
-answered_value seen moment r (values.Answered answer) sees open = restates_request seen r (answered r.status answer moment) sees (answer_differs r answer moment open)
-answered_value seen moment r other sees open = tt
+answered_value seen moment r (values.Answered answer) sees unmet = restates_request seen r (answered r.status answer moment) sees (answer_differs r answer moment unmet)
+answered_value seen moment r other sees unmet = tt
 
 answered_one : (seen : Views) (moment : ℤ) (x : Option CertificateRequest) (order : Order) (value : Value) → seen.request ≡ x → ((r : CertificateRequest) → x ≡ Some r → IsUnanswered moment r) → ChangesOption seen (granting.answered_to moment x order value)
-answered_one seen moment (Some r) (orders.Sign order) value sees open = answered_value seen moment r value sees (open r refl)
-answered_one seen moment None (orders.Sign order) value sees open = tt
-answered_one seen moment x other value sees open = tt
+answered_one seen moment (Some r) (orders.Sign order) value sees unmet = answered_value seen moment r value sees (unmet r refl)
+answered_one seen moment None (orders.Sign order) value sees unmet = tt
+answered_one seen moment x other value sees unmet = tt
 
 -- ---- each role
 
