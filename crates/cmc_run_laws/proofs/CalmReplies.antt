@@ -10,14 +10,14 @@ use Rattle.cmc_objects.specs.declared.object.Object.TheVariants.{Cert}
 use Rattle.cmc_objects.specs.declared.call.Call.{Call}
 use Rattle.cmc_objects.specs.declared.call.Call.TheVariants.{Create, Update, UpdateStatus, Delete, Get}
 use Rattle.cmc_objects.specs.declared.call.Reply.{Reply}
-use Rattle.cmc_objects.specs.declared.call.Reply.TheVariants.{Ok, Unchanged, Found, Conflict, NotFound, AlreadyExists, Invalid, Unavailable}
+use Rattle.cmc_objects.specs.declared.call.Reply.TheVariants.{Ok, Conflict, Unavailable}
 use Rattle.cmc_objects.specs.declared.entry.Entry.{Entry}
 use Rattle.cmc_objects.specs.Objects.{key_of, version_of, name_of}
 use Rattle.cmc_pass.specs.declared.pass.Views.{Views}
 use Rattle.cmc_model.specs.Admission.{refusing_rule, is_taken}
 use Rattle.cmc_model.specs.Generated.{named, free_named}
 use Rattle.cmc_model.specs.Objects.{Objects, object_at}
-use Rattle.cmc_model.specs.Replies.{State, IsAdmitted, IsChange, IsCreated, IsUpdated, IsRestated, IsDeleted, IsGot, IsServed, IsReply, key_of_call}
+use Rattle.cmc_model.specs.Replies.{IsAdmitted, IsChange, IsCreated, IsUpdated, IsRestated, IsDeleted, IsGot, IsServed, IsReply, key_of_call}
 use Rattle.cmc_model.specs.Stored.{updated, with_status}
 use Rattle.cmc_model.specs.Histories.{Setting, state, objects, accepted}
 use Rattle.cmc_rules.specs.Safety.{IsStatusUpdate}

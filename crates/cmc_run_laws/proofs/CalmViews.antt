@@ -1,5 +1,5 @@
 -- What a role sees where it sees all that there is to see.
-use Rattle.std.proofs.Common.{◌≡◌, ◌⊎◌, ◌&&◌, List, [], ◌∷◌, Option, Some, None, Bool, true, false, refl, sym, ap, subst, ◌∙◌, inl, inr, option_and_then, filter_map}
+use Rattle.std.proofs.Common.{◌≡◌, ◌&&◌, List, [], ◌∷◌, Option, Some, None, Bool, true, false, refl, sym, ap, subst, ◌∙◌, inl, inr, option_and_then, filter_map}
 use Rattle.std.specs.FinMap as map
 use Rattle.std.specs.Prelude.{if◌then◌else◌}
 use Rattle.cmc_meta.specs.declared.key.Key.{Key}
@@ -19,7 +19,7 @@ use Rattle.cmc_model.specs.Histories.{Setting, objects}
 use Rattle.cmc_rules.specs.Legality.{IsLegal}
 use Rattle.cmc_rules.specs.Sighting.{IsAmong, IsPart, IsPartOf, IsSeen}
 use Rattle.cmc_rules.specs.Viewing.{Caches, certificate_in, request_in, secret_in, certificate_at, request_at, target_at, is_owned, has_next_label, next_in, owned_in, next_of, requests_of, of_certificate, views_of, views_in, present_views}
-use Rattle.cmc_rules.proofs.Sighted.{IsPicked, picked, stands_among}
+use Rattle.cmc_rules.proofs.Sighted.{picked, stands_among}
 use Rattle.cmc_rules.proofs.Versions.{stands_is_version, version_keyed}
 
 -- the object stands under some key

@@ -1,8 +1,7 @@
 -- The conditions of each version of a Certificate are in order.
-use Rattle.std.proofs.Common.{◌≡◌, ℕ, ℤ, List, [], ◌∷◌, Option, Some, None, Bool, true, false, refl, sym, subst}
+use Rattle.std.proofs.Common.{◌≡◌, ℕ, ℤ, List, [], ◌∷◌, Option, Some, None, sym, subst}
 use Rattle.std.specs.Prelude.{IfSome, if◌then◌else◌}
 use Rattle.std.specs.List.Sorted.{IsStrictlySortedBy}
-use Rattle.std.specs.Ordering.{nat_cmp}
 use Rattle.cmc_der.specs.Keys.{PublicKey}
 use Rattle.cmc_meta.specs.ConditionLists.{IsInOrder}
 use Rattle.cmc_objects.specs.declared.certificate.Certificate.{Certificate}
@@ -10,8 +9,7 @@ use Rattle.cmc_objects.specs.declared.certificate.CertStatus.{CertStatus}
 use Rattle.cmc_objects.specs.declared.request.CertificateRequest.{CertificateRequest}
 use Rattle.cmc_objects.specs.declared.request.RequestStatus.{RequestStatus}
 use Rattle.cmc_objects.specs.declared.secret.Secret.{Secret as SecretObject}
-use Rattle.cmc_objects.specs.declared.object.Object.{Object}
-use Rattle.cmc_objects.specs.declared.object.Object.TheVariants.{Cert, Request}
+use Rattle.cmc_objects.specs.declared.object.Object.TheVariants.{Cert}
 use Rattle.cmc_objects.specs.declared.orders.Order.{Order}
 use Rattle.cmc_objects.specs.declared.orders.Order.TheVariants as orders
 use Rattle.cmc_objects.specs.declared.call.Call.{Call}
@@ -24,13 +22,12 @@ use Rattle.cmc_objects.specs.declared.entry.Entry.TheVariants.{Call as Called}
 use Rattle.cmc_meta.specs.declared.conditions.Condition.{Condition}
 use Rattle.cmc_pass.specs.declared.pass.Views.{Views}
 use Rattle.cmc_pass.specs.declared.pass.Act.{Act}
-use Rattle.cmc_pass.specs.declared.pass.Act.TheVariants.{Nothing, Call as Calls, Ask as Asks, Issue, Temporary}
+use Rattle.cmc_pass.specs.declared.pass.Act.TheVariants.{Call as Calls, Issue, Temporary}
 use Rattle.cmc_pass.specs.declared.value.Value.{Value}
 use Rattle.cmc_pass.specs.declared.value.Value.TheVariants as values
 use Rattle.cmc_model.specs.declared.write.Write.{Write}
 use Rattle.cmc_model.specs.Replies.{is_accepted}
 use Rattle.cmc_model.specs.Histories.{Setting, moment, objects}
-use Rattle.cmc_model.specs.Stored.{created}
 use Rattle.cmc_model.specs.Writes.{writes}
 use Rattle.cmc_rules.specs.declared.progress.OpenPass.{OpenPass}
 use Rattle.cmc_rules.specs.declared.progress.Stage.{Stage}

@@ -20,3 +20,4 @@ mod InOrder
 mod ValuesChange
 mod StandInsChange
 mod NeverIdle
+mod ReasonsEnough

@@ -3,7 +3,7 @@ use Rattle.std.proofs.Common.{◌≡◌, ◌==◌, ℕ, List, [], ◌∷◌, map
 use Rattle.std.proofs.lemmas.Bool.Decides.{Decides-eqb, nat_tests}
 use Rattle.std.specs.Prelude.{if◌then◌else◌}
 use Rattle.std.specs.Cmp.{unsigned_ties}
-use Rattle.std.specs.List.{AllByRecursion, list_any}
+use Rattle.std.specs.List.{AllByRecursion}
 use Rattle.std.specs.List.Sorted.{IsStrictlySortedBy}
 use Rattle.std.specs.Ordering.{is_eq, nat_cmp, match_ordering}
 use Rattle.cmc_meta.specs.declared.conditions.Condition.{Condition}
@@ -85,8 +85,10 @@ sole_by : (own : Bool) (kind : ConditionKind) (c x : Condition) (cs : List Condi
 sole_by true kind c x cs own is above on below = by (tri_eq c.status True) refl where
   same : c ≡ x
   same = cc is
+
   none : is_stated kind cs ≡ false
   none = none_above kind cs (subst (λ (n : ℕ). AllByRecursion (λ m. nat_cmp n m ≡ Less) (map (λ (d : Condition). condition_rank d.kind) cs)) ((Decides-eqb (condition_rank c.kind) (condition_rank kind)).0 own) above)
+
   by : (b : Bool) → tri_eq c.status True ≡ b → tri_eq x.status True ≡ true
   by true e = ap (λ (y : Condition). tri_eq y.status True) (sym same) ∙ e
   by false e = absurd (let off : (tri_eq c.status True || is_stated kind cs) ≡ false = ap (λ (b : Bool). b || is_stated kind cs) e ∙ none in cc (on, off))

@@ -1,13 +1,10 @@
 -- No pass begins for nothing.
-use Rattle.std.proofs.Common.{◌≡◌, ◌⊎◌, ℕ, ℤ, ◌+◌, ◌<◌, ◌≤◌, ◌^◌, ◌++◌, List, [], ◌∷◌, length, refl, sym, subst, inl, inr, arith}
+use Rattle.std.proofs.Common.{◌≡◌, ◌⊎◌, ℕ, ℤ, ◌<◌, ◌≤◌, ◌^◌, ◌++◌, List, [], ◌∷◌, length, sym, subst, inl, inr, arith}
 use Rattle.std.specs.Prelude.{true}
-use Rattle.cmc_meta.specs.declared.key.Key.{Key}
-use Rattle.cmc_objects.specs.declared.role.Role.{Role}
-use Rattle.cmc_objects.specs.declared.entry.Positions.{Positions}
 use Rattle.cmc_objects.specs.declared.entry.Entry.{Entry}
 use Rattle.cmc_objects.specs.declared.entry.Entry.TheVariants.{Begin}
 use Rattle.cmc_objects.specs.Requests.{is_run_time}
-use Rattle.cmc_model.specs.Histories.{Setting, moment}
+use Rattle.cmc_model.specs.Histories.{Setting}
 use Rattle.cmc_rules.specs.Causes.{IsCaused}
 use Rattle.cmc_rules.specs.Following.{Follows}
 use Rattle.cmc_rules.specs.Legality.{IsLegal}
@@ -20,7 +17,7 @@ use Rattle.cmc_rules.proofs.Sighted.{views_known}
 use Rattle.cmc_safety.specs.Formed.{IsFormed}
 use Rattle.cmc_safety.proofs.Completing.{caused_below, legal_below}
 use Rattle.cmc_safety.proofs.Moments.{moment_in_run}
-use Rattle.cmc_run_laws.specs.Begins.{BeginsForSomething, IsNewBegin, IsReason}
+use Rattle.cmc_run_laws.specs.Begins.{BeginsForSomething, IsReason}
 use Rattle.cmc_run_laws.proofs.InOrder.{all_in_order, sees_in_order}
 use Rattle.cmc_run_laws.proofs.NeverIdle.{never_idle}
 use Rattle.cmc_run_laws.proofs.RunningAlone.{NamesLaw}
@@ -59,9 +56,9 @@ not_for_nothing names s whole formed run l k h n m role key at was now since is 
     let in_run : is_run_time since ≡ true = subst (λ (t : ℤ). is_run_time t ≡ true) (sym first.0.present) (moment_in_run s h formed before) in
     let in_order : SeesInOrder (views s h role key) = sees_in_order (writes s h) (views s h role key) (all_in_order s h (caused_below s k base caused.1).1 before) (views_known s h role key) in
     by legal caused (reason_or_still s base b k (free_names names s formed) (never_idle s b in_run in_order) legal.1 caused.1 (omega (arith, short)) none (since_begin s h m role key was since first.0)) where
-  by : IsLegal s (Begin n role key at now ∷ (k ++ (Begin m role key was since ∷ h))) → IsCaused s (Begin n role key at now ∷ (k ++ (Begin m role key was since ∷ h)))
-      → Stands (IsReason role m) k ⊎ IsSinceOrStopped s (k ++ (Begin m role key was since ∷ h)) (record { pass = m; role = role; key = key; at = was; seen = views s h role key; since = since })
-      → Stands (IsReason role m) k
-  by legal caused (inl stands) = stands
-  by legal caused (inr still) =
-      absurd (none_begins s (k ++ (Begin m role key was since ∷ h)) (record { pass = m; role = role; key = key; at = was; seen = views s h role key; since = since }) n at now legal.0 caused.0 still)
+      by : IsLegal s (Begin n role key at now ∷ (k ++ (Begin m role key was since ∷ h))) → IsCaused s (Begin n role key at now ∷ (k ++ (Begin m role key was since ∷ h)))
+          → Stands (IsReason role m) k ⊎ IsSinceOrStopped s (k ++ (Begin m role key was since ∷ h)) (record { pass = m; role = role; key = key; at = was; seen = views s h role key; since = since })
+          → Stands (IsReason role m) k
+      by legal caused (inl stands) = stands
+      by legal caused (inr still) =
+          absurd (none_begins s (k ++ (Begin m role key was since ∷ h)) (record { pass = m; role = role; key = key; at = was; seen = views s h role key; since = since }) n at now legal.0 caused.0 still)

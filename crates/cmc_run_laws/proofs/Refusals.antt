@@ -1,7 +1,7 @@
 -- A pass that is refused was refused for a write of which its role has not been told.
-use Rattle.std.proofs.Common.{◌≡◌, ◌==◌, ◌⊎◌, ℕ, ℤ, ◌+◌, ◌<◌, List, [], ◌∷◌, length, Option, Some, None, Bool, true, false, refl, sym, ap, subst, ◌∙◌, inl, inr, arith}
+use Rattle.std.proofs.Common.{◌≡◌, ◌==◌, ℕ, ℤ, ◌+◌, ◌<◌, List, length, Option, Some, None, Bool, true, false, refl, sym, ap, subst, ◌∙◌, inl, inr, arith}
 use Rattle.std.proofs.lemmas.Bool.Decides.{Decides-eqb, nat_tests}
-use Rattle.std.specs.Prelude.{MatchBool, nat_le, if◌then◌else◌}
+use Rattle.std.specs.Prelude.{MatchBool, nat_le}
 use Rattle.std.specs.List.{list_any}
 use Rattle.cmc_meta.specs.declared.key.Key.{Key}
 use Rattle.cmc_meta.specs.declared.key.Kind.{Kind}
@@ -35,13 +35,13 @@ use Rattle.cmc_rules.specs.declared.progress.Stage.TheVariants.{Fresh, Asked, Gi
 use Rattle.cmc_rules.specs.Acts.{call_after}
 use Rattle.cmc_rules.specs.Causes.{act_of, after_of, IsNextCall, IsSecretCall}
 use Rattle.cmc_rules.specs.Desks.{desk}
-use Rattle.cmc_rules.specs.Issuing.{issuing, secret_call, new_target, old_target}
+use Rattle.cmc_rules.specs.Issuing.{issuing, secret_call, new_target}
 use Rattle.cmc_rules.specs.Legality.{IsLegal}
 use Rattle.cmc_rules.specs.Passes.{is_as_seen, stage_after, stage_by, stage_read, stage_written, stands_in}
 use Rattle.cmc_rules.specs.Positions.{cache, position_of, positions}
 use Rattle.cmc_rules.specs.Safety.{IsStatusUpdate}
 use Rattle.cmc_rules.specs.Sameness.{IsStillBehind}
-use Rattle.cmc_rules.specs.Sighting.{IsPart, IsSeen, OnSeen}
+use Rattle.cmc_rules.specs.Sighting.{IsPart, OnSeen}
 use Rattle.cmc_rules.specs.Sound.{IsAnswer, IsMarked, IsOrdinary, IsRaiseOf, IsSigned, IsWithin, WritesTarget}
 use Rattle.cmc_rules.specs.Viewing.{caches, views}
 use Rattle.cmc_rules.proofs.Seen.{seen_is_version}
@@ -54,7 +54,7 @@ use Rattle.cmc_run_laws.specs.Begins.{IsAcceptedOrFailed}
 use Rattle.cmc_run_laws.specs.Calm.{IsCalmReply}
 use Rattle.cmc_run_laws.proofs.CalmNames.{IsUnnamed, first_is_unnamed, following_is_unnamed}
 use Rattle.cmc_run_laws.proofs.CalmReplies.{AreFreeNames, IsNewName, StandsUnder, calm_read, calm_under}
-use Rattle.cmc_run_laws.proofs.CalmTargets.{IsTargetWrite, target_write}
+use Rattle.cmc_run_laws.proofs.CalmTargets.{target_write}
 use Rattle.cmc_run_laws.proofs.CalmViews.{none_there, target_key}
 use Rattle.cmc_run_laws.proofs.Unmoved.{IsToldOf, stands_where_told, unmoved, version_is_last}
 

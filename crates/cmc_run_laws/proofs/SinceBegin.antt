@@ -1,5 +1,5 @@
 -- What is so since a pass has begun, as long as nothing stands that is a reason for another one.
-use Rattle.std.proofs.Common.{◌≡◌, ◌==◌, ◌⊎◌, ℕ, ℤ, ◌+◌, ◌<◌, ◌≤◌, ◌++◌, List, [], ◌∷◌, length, Option, Some, None, Bool, true, false, refl, sym, ap, subst, ◌∙◌, inl, inr, arith}
+use Rattle.std.proofs.Common.{◌≡◌, ◌==◌, ◌⊎◌, ℕ, ℤ, ◌+◌, ◌≤◌, ◌++◌, List, [], ◌∷◌, length, Option, Some, None, Bool, true, false, refl, sym, ap, subst, ◌∙◌, inl, inr, arith}
 use Rattle.std.proofs.lemmas.Bool.{and_parts, and_from}
 use Rattle.std.proofs.lemmas.Bool.Decides.{Decides-eqb, nat_tests}
 use Rattle.std.specs.Prelude.{if◌then◌else◌, ◌&&◌, option_map}
@@ -28,7 +28,6 @@ use Rattle.cmc_pass.specs.declared.pass.Desk.{Desk}
 use Rattle.cmc_pass.specs.declared.pass.Views.{Views}
 use Rattle.cmc_pass.specs.declared.value.Value.{Value}
 use Rattle.cmc_pass.specs.declared.value.Value.TheVariants as values
-use Rattle.cmc_model.specs.declared.write.Write.{Write}
 use Rattle.cmc_model.specs.Histories.{Setting, accepted, moment, role_eq, runs, state}
 use Rattle.cmc_model.specs.Replies.{IsReply, is_accepted, key_of_call}
 use Rattle.cmc_model.specs.Writes.{writes, contents, kind_eq, last_under, of_kind, oldest}
@@ -46,11 +45,11 @@ use Rattle.cmc_rules.specs.Issuing.{issuing}
 use Rattle.cmc_rules.specs.Legality.{IsLegal, IsLegalEntry}
 use Rattle.cmc_rules.specs.Memory.{ending_at, ending_of, no_past, past, with_begin, with_ending, with_own}
 use Rattle.cmc_rules.specs.Origins.{begun}
-use Rattle.cmc_rules.specs.Passes.{called, gone_on, is_as_seen, is_pass_of, new_pass, open_pass, stage_after, stage_by, stage_given, stage_read, stage_written, stands_in, unless_of, with_stage}
+use Rattle.cmc_rules.specs.Passes.{gone_on, is_as_seen, is_pass_of, new_pass, open_pass, stage_after, stage_by, stage_given, stage_read, stage_written, stands_in, unless_of, with_stage}
 use Rattle.cmc_rules.specs.Positions.{position, positions}
 use Rattle.cmc_rules.specs.Safety.{Stands}
 use Rattle.cmc_rules.specs.Sound.{IsWithin}
-use Rattle.cmc_rules.specs.Sameness.{EndsAlike, IsDue, IsSame}
+use Rattle.cmc_rules.specs.Sameness.{EndsAlike, IsSame}
 use Rattle.cmc_rules.specs.Viewing.{views, views_in}
 use Rattle.cmc_rules.proofs.Positions.{views_called}
 use Rattle.cmc_safety.proofs.Course.{within_act}
@@ -235,9 +234,9 @@ call_stage s h b n call reply legal caused free idle may right told sees present
     let within = within_act each_sound s h c.pass c.saw in
     record {
       untold = subst (λ (p : Positions). IsUntold p (stage_after s h call reply (come_to b stage))) told
-      (refused_untold s h (come_to b stage) call reply legal free (subst (λ (q : OpenPass). IsWithin q.role (call_after q.role q.seen q.since) q.seen q.since (act_of s h q)) same within) next at (sym sees) right none
-      (λ version is.
-      subst (IsUntold (positions h b.role)) (sym (idle h stage call version legal present sees so.asked next at (subst (IsReply s.faults (state s h) call) is right))) tt));
+          (refused_untold s h (come_to b stage) call reply legal free (subst (λ (q : OpenPass). IsWithin q.role (call_after q.role q.seen q.since) q.seen q.since (act_of s h q)) same within) next at (sym sees) right none
+          (λ version is.
+          subst (IsUntold (positions h b.role)) (sym (idle h stage call version legal present sees so.asked next at (subst (IsReply s.faults (state s h) call) is right))) tt));
       asked = after_asked b.role b.seen b.since b.seen.certificate (stands_in (issuing b.seen b.since)) stage (length h + 1) (key_of_call call).kind (last_under (key_of_call call) (writes s h)) reply;
     }
 
@@ -272,15 +271,16 @@ call_since s h b (Pass n) call reply legal caused free idle right may i = by (ne
 stage_asked : (s : Setting) (h : List Entry) (b : Begun) (n : ℕ) (order : Order) → MayAsk s h (open_pass s h n) order → (stage : Stage) → open_pass s h n ≡ Some (come_to b stage) → IsStage b stage → IsStage b (Asked order)
 stage_asked s h b n order may stage opened so =
     record { untold = tt; asked = by stage (act_of s h (come_to b stage)) refl (subst (λ (x : Option OpenPass). MayAsk s h x order) opened may) } where
-  by_act : (does : Act) → act_of s h (come_to b stage) ≡ does → IsAsked does order → (d : Desk) × (act b.role b.seen b.since d ≡ Asks order)
-  by_act Nothing is asks = absurd asks
-  by_act (Calls first) is asks = absurd asks
-  by_act (Asks asked) is asks = (desk s h b.role b.seen, is ∙ ap Asks (sym asks))
-  by_act (Issue plan) is asks = absurd asks
-  by_act (Temporary plan) is asks = absurd asks
-  by : (t : Stage) (does : Act) → act_of s h (come_to b stage) ≡ does → AsksBy t does order → (d : Desk) × (act b.role b.seen b.since d ≡ Asks order)
-  by Fresh does is asks = by_act does is asks
-  by other does is asks = absurd asks
+      by_act : (does : Act) → act_of s h (come_to b stage) ≡ does → IsAsked does order → (d : Desk) × (act b.role b.seen b.since d ≡ Asks order)
+      by_act Nothing is asks = absurd asks
+      by_act (Calls first) is asks = absurd asks
+      by_act (Asks asked) is asks = (desk s h b.role b.seen, is ∙ ap Asks (sym asks))
+      by_act (Issue plan) is asks = absurd asks
+      by_act (Temporary plan) is asks = absurd asks
+
+      by : (t : Stage) (does : Act) → act_of s h (come_to b stage) ≡ does → AsksBy t does order → (d : Desk) × (act b.role b.seen b.since d ≡ Asks order)
+      by Fresh does is asks = by_act does is asks
+      by other does is asks = absurd asks
 
 ask_since : (s : Setting) (h : List Entry) (b : Begun) (n : ℕ) (order : Order) → MayAsk s h (open_pass s h n) order → IsSince s h b → IsSince s (Ask n order ∷ h) b
 ask_since s h b n order may i =
@@ -474,7 +474,7 @@ since_step s h b (Stop role) legal caused free idle right may none i = by (role_
   by : (mine : Bool) → role_eq role b.role ≡ mine → ReasonOr b (Stop role) (IsSinceOrStopped s (Stop role ∷ h) b)
   by true is = inr (inl (ap (λ (x : Bool). if x then false else runs s h b.role) is))
   by false is = inr (inr (stop_since s h b role is i))
-since_step s h b (Start role at) legal caused free idle right may none i =  by (role_eq role b.role) refl where
+since_step s h b (Start role at) legal caused free idle right may none i = by (role_eq role b.role) refl where
   by : (mine : Bool) → role_eq role b.role ≡ mine → ReasonOr b (Start role at) (IsSinceOrStopped s (Start role at ∷ h) b)
   by true is = absurd (none (same_role role b.role is))
   by false is = inr (inr (start_since s h b role at is i))
@@ -536,9 +536,9 @@ since_begin s h m role key was since right =
         last = ap (λ (x : Bool). (if x then with_begin (views s h role key) since (past s h role key) else past s h role key).last) (mine_itself b Fresh);
       });
     } where
-  by : (n : ℕ) (x : Bool) → is_pass_of role key (open_pass s h n) ≡ x → is_pass_of role key (open_pass s h n) ≡ false
-  by n true is = absurd (right.free (n, is))
-  by n false is = is
+      by : (n : ℕ) (x : Bool) → is_pass_of role key (open_pass s h n) ≡ x → is_pass_of role key (open_pass s h n) ≡ false
+      by n true is = absurd (right.free (n, is))
+      by n false is = is
 
 -- a pass that began then would be that before again
 pub none_begins : (s : Setting) (h : List Entry) (b : Begun) (n : ℕ) (at : Positions) (now : ℤ) → IsLegalEntry s h (Begin n b.role b.key at now) → IsCausedEntry s h (Begin n b.role b.key at now) → IsSinceOrStopped s h b → ⊥

@@ -1,9 +1,8 @@
 -- A stand-in certificate is written only where it changes the Secret.
-use Rattle.std.proofs.Common.{◌≡◌, ◌⊎◌, ℕ, ℤ, List, [], ◌∷◌, length, Option, Some, None, Bool, true, false, ◌&&◌, not, refl, sym, ap, subst, ◌∙◌, inl, inr}
+use Rattle.std.proofs.Common.{◌≡◌, ℕ, ℤ, List, [], length, Option, Some, None, Bool, true, false, ◌&&◌, not, refl, sym, ap, subst, ◌∙◌, inl, inr}
 use Rattle.std.proofs.lemmas.Bool.{and_parts}
 use Rattle.std.specs.Prelude.{if◌then◌else◌, codes, nat_le}
 use Rattle.cmc_der.specs.Keys.{PublicKey, CertificateFields}
-use Rattle.cmc_meta.specs.declared.key.Kind.{Kind}
 use Rattle.cmc_meta.specs.declared.key.Key.{Key}
 use Rattle.cmc_meta.specs.PairLists.{text_at}
 use Rattle.cmc_x509.specs.ReadKeys.{key_file_at}
@@ -13,13 +12,12 @@ use Rattle.cmc_objects.specs.declared.request.CertificateRequest.{CertificateReq
 use Rattle.cmc_objects.specs.declared.secret.Secret.{Secret as SecretObject}
 use Rattle.cmc_objects.specs.declared.object.Object.{Object}
 use Rattle.cmc_objects.specs.declared.object.Object.TheVariants.{Cert, Request, Secret}
-use Rattle.cmc_objects.specs.declared.call.Call.{Call}
 use Rattle.cmc_objects.specs.declared.role.Role.{Role}
 use Rattle.cmc_objects.specs.KeyPairs.{is_one_key, with_key}
 use Rattle.cmc_objects.specs.Objects.{key_of}
 use Rattle.cmc_objects.specs.Requests.{is_denied, is_run_time}
 use Rattle.cmc_answers.specs.Temporary.{temporary}
-use Rattle.cmc_match.specs.Facts.{certificate_in, fits, key_in, pair_in, IsPair}
+use Rattle.cmc_match.specs.Facts.{certificate_in, fits, key_in, pair_in}
 use Rattle.cmc_match.specs.Marks.{asks_for_temporary, is_temporary}
 use Rattle.cmc_match.specs.Revisions.{next_request}
 use Rattle.cmc_match.proofs.PairLaws.{pair_again}
@@ -27,12 +25,12 @@ use Rattle.cmc_model.specs.Stored.{revised, updated, generation_after, merged_me
 use Rattle.cmc_objects.specs.Objects.{numbered}
 use Rattle.cmc_pass.specs.declared.pass.Views.{Views}
 use Rattle.cmc_pass.specs.declared.pass.Act.{Act}
-use Rattle.cmc_pass.specs.declared.pass.Act.TheVariants.{Nothing, Call as Calls, Ask as Asks, Issue, Temporary}
+use Rattle.cmc_pass.specs.declared.pass.Act.TheVariants.{Nothing, Issue, Temporary}
 use Rattle.cmc_pass.specs.declared.pass.TemporaryPlan.{TemporaryPlan}
 use Rattle.cmc_rules.specs.Issuing.{issuing, issuing_of, with_key_of, with_file, with_request, with_wanted, with_granted, while_waiting, stand_in_with, temporary_plan, is_granted, is_certified, is_kept_for_keys, lacks_certificate, lacks_pair, is_of_file, failure, fails_now, refusal, issue_plan, secret_call, new_target, old_target, filled}
 use Rattle.cmc_rules.specs.NextKeys.{named_key}
 use Rattle.cmc_rules.specs.NextRequests.{is_refused, is_wanted}
-use Rattle.cmc_rules.specs.Sighting.{IsPart, IsSeen, ForSeen, OnSeen}
+use Rattle.cmc_rules.specs.Sighting.{IsPart, ForSeen, OnSeen}
 use Rattle.cmc_rules.specs.Sound.{IsMarked, IsStandingIn, WritesTarget}
 use Rattle.cmc_rules.specs.Triggering.{is_issuing}
 use Rattle.cmc_rules.proofs.Lines.{by_test}
@@ -172,11 +170,11 @@ changes_target seen c d r file other made role now (Some k) sees run lacks on = 
   inr (inl (subst (λ (x : Option SecretObject). IsPart Secret x (Secret k)) (sym sees) refl)),
   refl,
   λ same.
-  let pair = written_pair c d r file other made role now k (old_target true c file made [] k) seen _ run refl on in
-  let parts : filled file made [] k.parts ≡ k.parts = ap (parts_of k) same in
-  let key : key_in k ≡ Some file = ap (λ (l : List (List ℕ × List ℕ)). text_at l (codes "tls.key")) (sym parts) ∙ filled_key file made [] k.parts in
-  let certificate : certificate_in k ≡ Some made = ap (λ (l : List (List ℕ × List ℕ)). text_at l (codes "tls.crt")) (sym parts) ∙ filled_certificate file made [] k.parts in
-  no_pair_lacked file made k pair.0 (secret_pair k file made key certificate ∙ pair.1) pair.1 lacks,
+      let pair = written_pair c d r file other made role now k (old_target true c file made [] k) seen _ run refl on in
+      let parts : filled file made [] k.parts ≡ k.parts = ap (parts_of k) same in
+      let key : key_in k ≡ Some file = ap (λ (l : List (List ℕ × List ℕ)). text_at l (codes "tls.key")) (sym parts) ∙ filled_key file made [] k.parts in
+      let certificate : certificate_in k ≡ Some made = ap (λ (l : List (List ℕ × List ℕ)). text_at l (codes "tls.crt")) (sym parts) ∙ filled_certificate file made [] k.parts in
+      no_pair_lacked file made k pair.0 (secret_pair k file made key certificate ∙ pair.1) pair.1 lacks,
 )
 
 -- so a stand-in that is written changes the Secret

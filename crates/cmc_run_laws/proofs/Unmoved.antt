@@ -1,5 +1,5 @@
 -- What is seen under a key stands there, where its role was told of the last write under it.
-use Rattle.std.proofs.Common.{◌≡◌, ◌==◌, ℕ, ◌≤◌, List, [], ◌∷◌, length, Option, Some, None, Bool, true, false, cond, refl, sym, ap, subst, ◌∙◌, arith}
+use Rattle.std.proofs.Common.{◌≡◌, ℕ, ◌≤◌, List, [], ◌∷◌, length, Option, Some, None, Bool, true, false, cond, refl, sym, ap, subst, ◌∙◌, arith}
 use Rattle.std.proofs.lemmas.Bool.Decides.{nat_tests}
 use Rattle.std.proofs.lemmas.Cmp.{eq_by_cmp_equiv}
 use Rattle.std.specs.Prelude.{if◌then◌else◌, nat_le}
@@ -23,7 +23,6 @@ use Rattle.cmc_model.proofs.Versions.{IsLawful, lawful_object, object_at-put}
 use Rattle.cmc_model.proofs.Writes.{writes_leave}
 use Rattle.cmc_rules.specs.Legality.{IsLegal}
 use Rattle.cmc_rules.specs.Positions.{position, positions, position_of, cache}
-use Rattle.cmc_rules.specs.Sighting.{IsSeen}
 use Rattle.cmc_rules.specs.Viewing.{caches, views}
 use Rattle.cmc_rules.proofs.Seen.{seen_is_version}
 use Rattle.cmc_rules.proofs.Versions.{lawful, version_keyed}

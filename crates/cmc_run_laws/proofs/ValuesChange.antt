@@ -1,5 +1,5 @@
 -- What a role writes after the value of its question changes what it saw.
-use Rattle.std.proofs.Common.{◌≡◌, ◌==◌, ◌⊎◌, ℕ, ℤ, ◌+◌, pos, List, [], ◌∷◌, Option, Some, None, Bool, true, false, ◌&&◌, ◌||◌, not, refl, sym, ap, subst, ◌∙◌, inl, inr, arith}
+use Rattle.std.proofs.Common.{◌≡◌, ℕ, ℤ, pos, List, Option, Some, None, Bool, true, false, ◌&&◌, ◌||◌, not, refl, ap, subst, ◌∙◌, arith}
 use Rattle.std.proofs.lemmas.Bool.{and_parts, or_parts}
 use Rattle.std.proofs.lemmas.Int.{ints}
 use Rattle.std.specs.Prelude.{if◌then◌else◌, codes, int_lt, ◌+ℤ◌}
@@ -19,7 +19,7 @@ use Rattle.cmc_objects.specs.Requests.{is_approved, is_denied, is_stated}
 use Rattle.cmc_meta.specs.declared.conditions.Condition.{Condition}
 use Rattle.cmc_meta.specs.declared.conditions.ConditionKind.TheVariants as conditions
 use Rattle.cmc_meta.specs.declared.conditions.Tri.TheVariants as tri
-use Rattle.cmc_meta.specs.ConditionLists.{condition_at, kept_since, renewed, transitioned, tri_eq}
+use Rattle.cmc_meta.specs.ConditionLists.{condition_at, kept_since, transitioned, tri_eq}
 use Rattle.cmc_answers.specs.declared.denial.Denial.{Denial}
 use Rattle.cmc_objects.specs.declared.orders.Signing.{Signing}
 use Rattle.cmc_objects.specs.declared.orders.Signing.TheVariants as signings
