@@ -5,8 +5,6 @@ use Rattle.std.proofs.lemmas.Bool.Decides.{Decides-eqb}
 use Rattle.std.specs.Prelude.{if◌then◌else◌}
 use Rattle.cmc_meta.specs.declared.key.Key.{Key}
 use Rattle.cmc_meta.specs.Keys.{key_eq}
-use Rattle.cmc_objects.specs.declared.call.Reply.{Reply}
-use Rattle.cmc_objects.specs.declared.call.Reply.TheVariants.{Ok, Unavailable}
 use Rattle.cmc_objects.specs.declared.role.Role.{Role}
 use Rattle.cmc_objects.specs.declared.entry.Positions.{Positions}
 use Rattle.cmc_objects.specs.declared.entry.Who.TheVariants.{User, Pass}
@@ -17,7 +15,7 @@ use Rattle.cmc_model.specs.Histories.{role_eq}
 use Rattle.cmc_rules.specs.Safety.{Stands}
 use Rattle.cmc_world.proofs.AtRest.{key_eq-refl, same_key}
 use Rattle.cmc_world.proofs.RoleStates.{same_role}
-use Rattle.cmc_run_laws.specs.Begins.{BeginsForSomething, HasReasonsEnough, IsAcceptedOrFailed, IsNewBegin, IsReason, begins_on, count_of, is_accepted_or_failed, is_reason_for}
+use Rattle.cmc_run_laws.specs.Begins.{BeginsForSomething, HasReasonsEnough, IsNewBegin, IsReason, begins_on, count_of, is_reason_for}
 
 -- ---- counts
 
@@ -47,14 +45,9 @@ counted_more p e k = no_less (p e) (count_of p k)
 own_role : (a b : Role) → a ≡ b → role_eq a b ≡ true
 own_role a b same = (Decides-eqb (role_rank a) (role_rank b)).1 (ap role_rank same)
 
-reply_counts : (reply : Reply) → IsAcceptedOrFailed reply → is_accepted_or_failed reply ≡ true
-reply_counts (Ok version name) is = refl
-reply_counts (Unavailable number) is = refl
-reply_counts other is = absurd is
-
 reason_counts : (role : Role) (m : ℕ) (e : Entry) → IsReason role m e → is_reason_for role e ≡ true
 reason_counts role m (Called User call reply) is = absurd (let no = is.0 in cc no)
-reason_counts role m (Called (Pass n) call reply) is = reply_counts reply is.1
+reason_counts role m (Called (Pass n) call reply) is = is.1
 reason_counts role m (Deliver r kind to) is = own_role r role is
 reason_counts role m (Listed r kind to) is = own_role r role is
 reason_counts role m (Tick now) is = refl

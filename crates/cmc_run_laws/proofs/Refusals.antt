@@ -50,7 +50,7 @@ use Rattle.cmc_store_laws.specs.Names.{IsFresh}
 use Rattle.cmc_safety.proofs.Course.{live_at}
 use Rattle.cmc_safety.proofs.NextCalls.{IsCallAt, IsLiveCall, ReadsObject, found_is_read}
 use Rattle.cmc_safety.proofs.Plans.{act_of_issuing}
-use Rattle.cmc_run_laws.specs.Begins.{IsAcceptedOrFailed}
+use Rattle.cmc_run_laws.specs.Begins.{is_accepted_or_failed}
 use Rattle.cmc_run_laws.specs.Calm.{IsCalmReply}
 use Rattle.cmc_run_laws.proofs.CalmNames.{IsUnnamed, first_is_unnamed, following_is_unnamed}
 use Rattle.cmc_run_laws.proofs.CalmReplies.{AreFreeNames, IsNewName, StandsUnder, calm_read, calm_under}
@@ -159,9 +159,9 @@ untold_read true at entry kind version low = tt
 untold_read false at entry kind version low = low
 
 -- where the role has not been told of the last write under the key
-newer_reply : (at : Positions) (c : Option Certificate) (stand_in : Bool) (stage : Stage) (entry : ℕ) (kind : Kind) (last : ℕ) (reply : Reply) → (IsAcceptedOrFailed reply → ⊥)
+newer_reply : (at : Positions) (c : Option Certificate) (stand_in : Bool) (stage : Stage) (entry : ℕ) (kind : Kind) (last : ℕ) (reply : Reply) → (is_accepted_or_failed reply ≡ true → ⊥)
     → ((version : ℕ) → reply ≡ Unchanged version → IsUntold at (stage_written stand_in stage)) → NamesLast last reply → position_of kind at < last → IsUntold at (stage_by c stand_in stage entry kind last reply)
-newer_reply at c stand_in stage entry kind last (Ok version name) none goes names low = absurd (none tt)
+newer_reply at c stand_in stage entry kind last (Ok version name) none goes names low = absurd (none refl)
 newer_reply at c stand_in stage entry kind last (Unchanged version) none goes names low = goes version refl
 newer_reply at c stand_in stage entry kind last (Found o) none goes names low =
     untold_read (is_as_seen c o) at entry kind (version_of o) (subst (λ (n : ℕ). position_of kind at < n) (sym names) low)
@@ -169,19 +169,19 @@ newer_reply at c stand_in stage entry kind last (Conflict named have) none goes 
 newer_reply at c stand_in stage entry kind last (NotFound found) none goes names low = low
 newer_reply at c stand_in stage entry kind last (AlreadyExists have) none goes names low = subst (λ (n : ℕ). position_of kind at < n) (sym names) low
 newer_reply at c stand_in stage entry kind last (Invalid rule) none goes names low = tt
-newer_reply at c stand_in stage entry kind last (Unavailable number) none goes names low = absurd (none tt)
+newer_reply at c stand_in stage entry kind last (Unavailable number) none goes names low = absurd (none refl)
 
 -- where the reply says that what was seen stands
-calm_reply : (at : Positions) (c : Option Certificate) (stand_in : Bool) (stage : Stage) (entry : ℕ) (kind : Kind) (last : ℕ) (reply : Reply) → (IsAcceptedOrFailed reply → ⊥)
+calm_reply : (at : Positions) (c : Option Certificate) (stand_in : Bool) (stage : Stage) (entry : ℕ) (kind : Kind) (last : ℕ) (reply : Reply) → (is_accepted_or_failed reply ≡ true → ⊥)
     → ((version : ℕ) → reply ≡ Unchanged version → IsUntold at (stage_written stand_in stage)) → IsCalmReply reply → ((o : Object) → reply ≡ Found o → is_as_seen c o ≡ true) → IsUntold at (stage_by c stand_in stage entry kind last reply)
-calm_reply at c stand_in stage entry kind last (Ok version name) none goes calm found = absurd (none tt)
+calm_reply at c stand_in stage entry kind last (Ok version name) none goes calm found = absurd (none refl)
 calm_reply at c stand_in stage entry kind last (Unchanged version) none goes calm found = goes version refl
 calm_reply at c stand_in stage entry kind last (Found o) none goes calm found = subst (λ (b : Bool). IsUntold at (stage_read b entry kind (version_of o))) (sym (found o refl)) tt
 calm_reply at c stand_in stage entry kind last (Conflict named have) none goes calm found = absurd calm
 calm_reply at c stand_in stage entry kind last (NotFound at_version) none goes calm found = absurd calm
 calm_reply at c stand_in stage entry kind last (AlreadyExists have) none goes calm found = absurd calm
 calm_reply at c stand_in stage entry kind last (Invalid rule) none goes calm found = absurd calm
-calm_reply at c stand_in stage entry kind last (Unavailable number) none goes calm found = absurd (none tt)
+calm_reply at c stand_in stage entry kind last (Unavailable number) none goes calm found = absurd (none refl)
 
 -- ---- where the role has been told of the last write under the key of the call
 
@@ -270,7 +270,7 @@ found_as_seen s h q stage call o legal at i right =
 
 by_told : (b : Bool) (s : Setting) (h : List Entry) (q : OpenPass) (call : Call) (reply : Reply) → nat_le (last_under (key_of_call call) (writes s h)) (position_of (key_of_call call).kind (positions h q.role)) ≡ b
     → IsLegal s h → AreFreeNames s h → IsWithin q.role (call_after q.role q.seen q.since) q.seen q.since (act_of s h q) → IsNextCall q.stage (act_of s h q) (after_of q) call → IsCallAt q.stage q.role q.seen q.since call
-    → q.seen ≡ views s h q.role q.key → IsReply s.faults (state s h) call reply → (IsAcceptedOrFailed reply → ⊥)
+    → q.seen ≡ views s h q.role q.key → IsReply s.faults (state s h) call reply → (is_accepted_or_failed reply ≡ true → ⊥)
     → ((version : ℕ) → reply ≡ Unchanged version → IsUntold (positions h q.role) (stage_written (stands_in (issuing q.seen q.since)) q.stage)) → IsUntold (positions h q.role) (stage_after s h call reply q)
 by_told true s h q call reply e legal free within next at sees right none goes =
     let i : IsInformed s h q call = record { sees = sees; told = grind (arith, nat_tests) } in
@@ -283,7 +283,7 @@ by_told false s h q call reply e legal free within next at sees right none goes 
 
 -- a call of a pass whose role still sees what the pass saw
 pub refused_untold : (s : Setting) (h : List Entry) (q : OpenPass) (call : Call) (reply : Reply) → IsLegal s h → AreFreeNames s h → IsWithin q.role (call_after q.role q.seen q.since) q.seen q.since (act_of s h q)
-    → IsNextCall q.stage (act_of s h q) (after_of q) call → IsCallAt q.stage q.role q.seen q.since call → q.seen ≡ views s h q.role q.key → IsReply s.faults (state s h) call reply → (IsAcceptedOrFailed reply → ⊥)
+    → IsNextCall q.stage (act_of s h q) (after_of q) call → IsCallAt q.stage q.role q.seen q.since call → q.seen ≡ views s h q.role q.key → IsReply s.faults (state s h) call reply → (is_accepted_or_failed reply ≡ true → ⊥)
     → ((version : ℕ) → reply ≡ Unchanged version → IsUntold (positions h q.role) (stage_written (stands_in (issuing q.seen q.since)) q.stage)) → IsUntold (positions h q.role) (stage_after s h call reply q)
 refused_untold s h q call reply legal free within next at sees right none goes =
     by_told (nat_le (last_under (key_of_call call) (writes s h)) (position_of (key_of_call call).kind (positions h q.role))) s h q call reply refl legal free within next at sees right none goes

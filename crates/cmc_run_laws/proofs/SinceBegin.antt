@@ -58,7 +58,7 @@ use Rattle.cmc_safety.proofs.NextCalls.{IsCallAt}
 use Rattle.cmc_moves.proofs.Sounds.{each_sound}
 use Rattle.cmc_world.proofs.AtRest.{key_eq-refl, same_key}
 use Rattle.cmc_world.proofs.RoleStates.{same_role}
-use Rattle.cmc_run_laws.specs.Begins.{IsAcceptedOrFailed, IsNewBegin, IsReason}
+use Rattle.cmc_run_laws.specs.Begins.{IsNewBegin, IsReason, is_accepted_or_failed}
 use Rattle.cmc_run_laws.proofs.CalmReplies.{AreFreeNames}
 use Rattle.cmc_run_laws.proofs.Refusals.{IsUntold, refused_untold}
 
@@ -185,16 +185,6 @@ own_last : (b : Bool) (kind : Kind) (version : ℕ) (p : Past) → (if b then wi
 own_last true kind version p = refl
 own_last false kind version p = refl
 
-either_reply : (reply : Reply) → IsAcceptedOrFailed reply ⊎ (IsAcceptedOrFailed reply → ⊥)
-either_reply (Ok version name) = inl tt
-either_reply (Unavailable number) = inl tt
-either_reply (Unchanged version) = inr (λ none. none)
-either_reply (Found o) = inr (λ none. none)
-either_reply (Conflict named have) = inr (λ none. none)
-either_reply (NotFound at) = inr (λ none. none)
-either_reply (AlreadyExists have) = inr (λ none. none)
-either_reply (Invalid rule) = inr (λ none. none)
-
 -- a call leaves no question open
 written_asked : (role : Role) (seen : Views) (since : ℤ) (stand_in : Bool) (stage : Stage) → AskedByAct role seen since (stage_written stand_in stage)
 written_asked role seen since true Read = tt
@@ -223,7 +213,7 @@ after_asked role seen since c stand_in stage entry kind last (Invalid rule) = tt
 after_asked role seen since c stand_in stage entry kind last (Unavailable number) = tt
 
 call_stage : (s : Setting) (h : List Entry) (b : Begun) (n : ℕ) (call : Call) (reply : Reply) → IsLegal s h → IsCaused s h → AreFreeNames s h → NoneIsIdle s b → MayCall s h (open_pass s h n) call
-    → IsReply s.faults (state s h) call reply → positions h b.role ≡ b.at → views s h b.role b.key ≡ b.seen → moment s h ≡ b.since → (IsAcceptedOrFailed reply → ⊥)
+    → IsReply s.faults (state s h) call reply → positions h b.role ≡ b.at → views s h b.role b.key ≡ b.seen → moment s h ≡ b.since → (is_accepted_or_failed reply ≡ true → ⊥)
     → (stage : Stage) → open_pass s h n ≡ Some (come_to b stage) → IsStage b stage → IsStage b (stage_after s h call reply (come_to b stage))
 call_stage s h b n call reply legal caused free idle may right told sees present none stage opened so =
     let c = caller_of each_sound s h n call legal caused may in
@@ -241,13 +231,14 @@ call_stage s h b n call reply legal caused free idle may right told sees present
     }
 
 -- the call is one of the pass and a reason, or it is none
-news : (own : Bool) (m n : ℕ) (reply : Reply) → (m == n) ≡ own → IsAcceptedOrFailed reply ⊎ (IsAcceptedOrFailed reply → ⊥) → ((Pass n ≡ Pass m) × IsAcceptedOrFailed reply) ⊎ ((m == n) ≡ true → IsAcceptedOrFailed reply → ⊥)
-news true m n reply own (inl tells) = inl (ap Pass (sym ((Decides-eqb m n).0 own)), tells)
-news true m n reply own (inr silent) = inr (λ same. silent)
-news false m n reply own either = inr (λ same. absurd (cc (same, own)))
+news : (own ok : Bool) (m n : ℕ) (reply : Reply) → (m == n) ≡ own → is_accepted_or_failed reply ≡ ok
+    → ((Pass n ≡ Pass m) × (is_accepted_or_failed reply ≡ true)) ⊎ ((m == n) ≡ true → is_accepted_or_failed reply ≡ true → ⊥)
+news true true m n reply own is = inl (ap Pass (sym ((Decides-eqb m n).0 own)), is)
+news true false m n reply own is = inr (λ same ok. absurd (cc (is, ok)))
+news false ok m n reply own is = inr (λ same. absurd (cc (same, own)))
 
 pass_called : (own : Bool) (s : Setting) (h : List Entry) (b : Begun) (n : ℕ) (call : Call) (reply : Reply) → (b.pass == n) ≡ own → IsLegal s h → IsCaused s h → AreFreeNames s h → NoneIsIdle s b → MayCall s h (open_pass s h n) call
-    → IsReply s.faults (state s h) call reply → ((b.pass == n) ≡ true → IsAcceptedOrFailed reply → ⊥) → (i : IsSince s h b) → Course s (Called (Pass n) call reply ∷ h) b
+    → IsReply s.faults (state s h) call reply → ((b.pass == n) ≡ true → is_accepted_or_failed reply ≡ true → ⊥) → (i : IsSince s h b) → Course s (Called (Pass n) call reply ∷ h) b
 pass_called own s h b n call reply is legal caused free idle may right none i =
     gone_course own s h (Called (Pass n) call reply) b n (stage_after s h call reply) is
     (ap (λ (x : Bool). if x then option_map (λ (q : OpenPass). with_stage (stage_after s h call reply q) q) (open_pass s h b.pass) else open_pass s h b.pass) is)
@@ -258,8 +249,8 @@ call_since : (s : Setting) (h : List Entry) (b : Begun) (who : Who) (call : Call
     → IsCausedEntry s h (Called who call reply) → IsSince s h b → ReasonOr b (Called who call reply) (IsSince s (Called who call reply ∷ h) b)
 call_since s h b User call reply legal caused free idle right may i =
     inr (kept s h (Called User call reply) b refl (views_called s h User call reply b.role b.key legal) refl (omega arith) (λ n other off. off) (same_course s h (Called User call reply) b refl refl) i)
-call_since s h b (Pass n) call reply legal caused free idle right may i = by (news (b.pass == n) b.pass n reply refl (either_reply reply)) where
-  by : ((Pass n ≡ Pass b.pass) × IsAcceptedOrFailed reply) ⊎ ((b.pass == n) ≡ true → IsAcceptedOrFailed reply → ⊥) → ReasonOr b (Called (Pass n) call reply) (IsSince s (Called (Pass n) call reply ∷ h) b)
+call_since s h b (Pass n) call reply legal caused free idle right may i = by (news (b.pass == n) (is_accepted_or_failed reply) b.pass n reply refl refl) where
+  by : ((Pass n ≡ Pass b.pass) × (is_accepted_or_failed reply ≡ true)) ⊎ ((b.pass == n) ≡ true → is_accepted_or_failed reply ≡ true → ⊥) → ReasonOr b (Called (Pass n) call reply) (IsSince s (Called (Pass n) call reply ∷ h) b)
   by (inl reason) = inl reason
   by (inr none) =
       inr (kept s h (Called (Pass n) call reply) b refl (views_called s h (Pass n) call reply b.role b.key legal) refl (omega arith)

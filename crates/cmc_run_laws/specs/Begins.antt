@@ -13,15 +13,15 @@ use Rattle.cmc_model.specs.Histories.{role_eq}
 use Rattle.cmc_rules.specs.Safety.{Stands}
 
 -- the call was accepted, or it failed
-abbrev pub IsAcceptedOrFailed : Reply → Type 0
-IsAcceptedOrFailed (Ok version name) = Unit {0}
-IsAcceptedOrFailed (Unavailable number) = Unit {0}
-IsAcceptedOrFailed other = ⊥
+abbrev pub is_accepted_or_failed : Reply → Bool
+is_accepted_or_failed (Ok version name) = true
+is_accepted_or_failed (Unavailable number) = true
+is_accepted_or_failed other = false
 
 -- a reason for another pass of the role after the one of this number: the role is told of something, time goes on, or the pass itself
 -- wrote or met a failure
 abbrev pub IsReason : Role → ℕ → Entry → Type 0
-IsReason role n (Called who call reply) = (who ≡ Pass n) × IsAcceptedOrFailed reply
+IsReason role n (Called who call reply) = (who ≡ Pass n) × (is_accepted_or_failed reply ≡ true)
 IsReason role n (Deliver r kind to) = r ≡ role
 IsReason role n (Listed r kind to) = r ≡ role
 IsReason role n (Tick now) = Unit {0}
@@ -40,11 +40,6 @@ BeginsForSomething whole =
     → (Stands (IsNewBegin role key) k → ⊥) → Stands (IsReason role m) k
 
 -- ---- how many passes begin
-
-abbrev pub is_accepted_or_failed : Reply → Bool
-is_accepted_or_failed (Ok version name) = true
-is_accepted_or_failed (Unavailable number) = true
-is_accepted_or_failed other = false
 
 -- a pass of the role begins on the key
 abbrev pub begins_on : Role → Key → Entry → Bool
