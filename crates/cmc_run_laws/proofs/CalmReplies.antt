@@ -17,11 +17,11 @@ use Rattle.cmc_pass.specs.declared.pass.Views.{Views}
 use Rattle.cmc_model.specs.Admission.{refusing_rule, is_taken}
 use Rattle.cmc_model.specs.Generated.{named, free_named}
 use Rattle.cmc_model.specs.Objects.{Objects, object_at}
-use Rattle.cmc_model.specs.Replies.{IsAdmitted, IsChange, IsCreated, IsUpdated, IsRestated, IsDeleted, IsGot, IsServed, IsReply}
+use Rattle.cmc_model.specs.Replies.{IsAdmitted, IsChange, IsCreated, IsUpdated, IsRestated, IsDeleted, IsGot, IsServed, IsReply, key_of_call}
 use Rattle.cmc_model.specs.Stored.{updated, with_status}
 use Rattle.cmc_model.specs.Histories.{Setting, state, objects, accepted}
 use Rattle.cmc_rules.specs.Safety.{IsStatusUpdate}
-use Rattle.cmc_rules.specs.Sighting.{OnSeen}
+use Rattle.cmc_rules.specs.Sighting.{IsSeen, OnSeen}
 use Rattle.cmc_rules.specs.Sound.{IsRaiseOf}
 use Rattle.cmc_store_laws.specs.Names.{IsFresh}
 use Rattle.cmc_run_laws.specs.Calm.{IsCalmReply}
@@ -67,6 +67,10 @@ deleted_calm n named name old x reply there same right =
 
 -- ---- calls on what is seen
 
+-- what is seen under the key stands there
+abbrev pub StandsUnder : Setting → List Entry → Views → Key → Type 0
+StandsUnder s h seen key = (o : Object) → IsSeen seen o → key_of o ≡ key → object_at (objects s h) (key_of o) ≡ Some o
+
 -- under the name of a create with a name of its own nothing stands
 abbrev pub IsNewName : Setting → List Entry → Call → Type 0
 IsNewName s h (Create object false) = object_at (objects s h) (key_of object) ≡ None
@@ -78,7 +82,7 @@ fresh_calm : (stored : Objects) (object : Object) (reply : Reply) (n : ℕ) (tak
 fresh_calm stored object reply n taken made None fresh passes right = created n taken made None reply refl passes right
 fresh_calm stored object reply n taken made (Some old) fresh passes right = absurd (subst (IsFresh stored object) right fresh)
 
-served : (P : Option Object → Option Object → Type 0) (s : Setting) (h : List Entry) (seen : Views) (call : Call) (reply : Reply) → StandsSeen s h seen → IsNewName s h call
+served : (P : Option Object → Option Object → Type 0) (s : Setting) (h : List Entry) (seen : Views) (call : Call) (reply : Reply) → StandsUnder s h seen (key_of_call call) → IsNewName s h call
     → ((object : Object) → call ≡ Create object true → IsFresh (objects s h) object reply) → OnSeen P seen call → IsServed (accepted s h) (objects s h) call reply → IsCalmReply reply
 unfolding OnSeen free_named
 served P s h seen (Create object false) reply stands new fresh on right =
@@ -90,14 +94,14 @@ served P s h seen (Create object true) reply stands new fresh on right =
     fresh_calm (objects s h) object reply (accepted s h) taken made (object_at (objects s h) (key_of made)) (fresh object refl) ((on _).passes taken) right
 served P s h seen (Update object at) reply stands new fresh on right =
     let taken = is_taken (objects s h) object in
-    let there : object_at (objects s h) (key_of object) ≡ Some on.old = sym (ap (object_at (objects s h)) on.key) ∙ stands on.old on.sees in
+    let there : object_at (objects s h) (key_of object) ≡ Some on.old = sym (ap (object_at (objects s h)) on.key) ∙ stands on.old on.sees on.key in
     updated_calm (accepted s h) taken object on.old at (object_at (objects s h) (key_of object)) reply there on.version (on.passes taken) right
 served P s h seen (UpdateStatus object at) reply stands new fresh on right =
-    let there : object_at (objects s h) (key_of object) ≡ Some on.old = sym (ap (object_at (objects s h)) on.key) ∙ stands on.old on.sees in
+    let there : object_at (objects s h) (key_of object) ≡ Some on.old = sym (ap (object_at (objects s h)) on.key) ∙ stands on.old on.sees on.key in
     restated_calm (accepted s h) object on.old at (object_at (objects s h) (key_of object)) reply there on.version (on.passes false) right
 served P s h seen (Delete key None) reply stands new fresh on right = absurd on
 served P s h seen (Delete key (Some at)) reply stands new fresh on right =
-    let there : object_at (objects s h) key ≡ Some on.old = sym (ap (object_at (objects s h)) on.key) ∙ stands on.old on.sees in
+    let there : object_at (objects s h) key ≡ Some on.old = sym (ap (object_at (objects s h)) on.key) ∙ stands on.old on.sees on.key in
     deleted_calm (accepted s h) at key.name on.old (object_at (objects s h) key) reply there on.version right
 served P s h seen (Get key) reply stands new fresh on right = absurd on
 
@@ -109,12 +113,17 @@ by_fault false number right reply calm is = calm is
 abbrev pub AreFreeNames : Setting → List Entry → Type 0
 AreFreeNames s h = (object : Object) (reply : Reply) → IsReply s.faults (state s h) (Create object true) reply → IsFresh (objects s h) object reply
 
--- the reply to a write for what is seen
-pub calm_write : (P : Option Object → Option Object → Type 0) (s : Setting) (h : List Entry) (seen : Views) (call : Call) (reply : Reply) → AreFreeNames s h → StandsSeen s h seen → IsNewName s h call
+-- the reply to a write for what is seen, where that stands under the key of the call
+pub calm_under : (P : Option Object → Option Object → Type 0) (s : Setting) (h : List Entry) (seen : Views) (call : Call) (reply : Reply) → AreFreeNames s h → StandsUnder s h seen (key_of_call call) → IsNewName s h call
     → OnSeen P seen call → IsReply s.faults (state s h) call reply → IsCalmReply reply
-calm_write P s h seen call reply free stands new on right =
+calm_under P s h seen call reply free stands new on right =
     by_fault (list_any (λ n. n == (state s h).calls + 1) s.faults) ((state s h).calls + 1) (IsServed (accepted s h) (objects s h) call reply) reply
     (λ is. served P s h seen call reply stands new (λ object made. free object reply (subst (λ (c : Call). IsReply s.faults (state s h) c reply) made right)) on is) right
+
+-- and where all that is seen stands
+pub calm_write : (P : Option Object → Option Object → Type 0) (s : Setting) (h : List Entry) (seen : Views) (call : Call) (reply : Reply) → AreFreeNames s h → StandsSeen s h seen → IsNewName s h call
+    → OnSeen P seen call → IsReply s.faults (state s h) call reply → IsCalmReply reply
+calm_write P s h seen call reply free stands new on right = calm_under P s h seen call reply free (λ o is under. stands o is) new on right
 
 -- the status that ends an issuance, where its Certificate stands
 status_served : (s : Setting) (h : List Entry) (seen : Views) (since : ℤ) (c : Certificate) (call : Call) (reply : Reply) → IsStatusUpdate call → OnSeen (IsRaiseOf c since) seen call

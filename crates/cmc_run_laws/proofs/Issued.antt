@@ -95,14 +95,14 @@ ca_beside : (ca : List ℕ) (parts : List (List ℕ × List ℕ)) (name : List �
 ca_beside [] parts name apart = out_beside parts (codes "ca.crt") name apart
 ca_beside (b ∷ ca) parts name apart = put_beside parts (codes "ca.crt") (b ∷ ca) name apart
 
-filled_key : (key certificate ca : List ℕ) (parts : List (List ℕ × List ℕ)) → text_at (filled key certificate ca parts) (codes "tls.key") ≡ Some key
+pub filled_key : (key certificate ca : List ℕ) (parts : List (List ℕ × List ℕ)) → text_at (filled key certificate ca parts) (codes "tls.key") ≡ Some key
 unfolding filled
 filled_key key certificate ca parts =
     ca_beside ca (with_text (with_text parts (codes "tls.key") key) (codes "tls.crt") certificate) (codes "tls.key") refl
     ∙ put_beside (with_text parts (codes "tls.key") key) (codes "tls.crt") certificate (codes "tls.key") refl
     ∙ put_stands parts (codes "tls.key") key
 
-filled_certificate : (key certificate ca : List ℕ) (parts : List (List ℕ × List ℕ)) → text_at (filled key certificate ca parts) (codes "tls.crt") ≡ Some certificate
+pub filled_certificate : (key certificate ca : List ℕ) (parts : List (List ℕ × List ℕ)) → text_at (filled key certificate ca parts) (codes "tls.crt") ≡ Some certificate
 unfolding filled
 filled_certificate key certificate ca parts =
     ca_beside ca (with_text (with_text parts (codes "tls.key") key) (codes "tls.crt") certificate) (codes "tls.crt") refl
@@ -197,7 +197,7 @@ secret_filled : (k : Secret) (file found : List ℕ) → key_in k ≡ Some file 
 unfolding is_filled
 secret_filled k file found a b c d e = filled_by (key_in k) (certificate_in k) file found (is_temporary k) a b c d e
 
-secret_pair : (k : Secret) (file found : List ℕ) → key_in k ≡ Some file → certificate_in k ≡ Some found → pair_in k ≡ with_key (key_file_at file) (certificate_at found)
+pub secret_pair : (k : Secret) (file found : List ℕ) → key_in k ≡ Some file → certificate_in k ≡ Some found → pair_in k ≡ with_key (key_file_at file) (certificate_at found)
 unfolding pair_in
 secret_pair k file found a b = rw (a, b) refl
 

@@ -11,3 +11,15 @@ mod CalmTargets
 mod RunningAlone
 mod OwnNames
 mod OwnRequests
+mod Unmoved
+mod Refusals
+mod SinceBegin
+mod NotForNothing
+mod IdleCalls
+mod NewConditions
+mod TablesChange
+mod InOrder
+mod ValuesChange
+mod StandInsChange
+mod NeverIdle
+mod ReasonsEnough

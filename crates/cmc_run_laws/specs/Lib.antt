@@ -1,3 +1,4 @@
 pub mod Settled
 pub mod Issuances
 pub mod Calm
+pub mod Begins
