@@ -351,16 +351,16 @@ end_since s h b n cause may i =
 
 -- ---- another pass begins
 
-begun_others : (own mine : Bool) (r : Role) (k : Key) (new : OpenPass) (p : Option OpenPass) → is_pass_of r k (Some new) ≡ false → is_pass_of r k p ≡ false → is_pass_of r k (if own then Some new else p) ≡ false
-begun_others true mine r k new p one other = one
-begun_others false mine r k new p one other = other
+begun_others : (own : Bool) (r : Role) (k : Key) (new : OpenPass) (p : Option OpenPass) → is_pass_of r k (Some new) ≡ false → is_pass_of r k p ≡ false → is_pass_of r k (if own then Some new else p) ≡ false
+begun_others true r k new p one other = one
+begun_others false r k new p one other = other
 
 begin_since : (s : Setting) (h : List Entry) (b : Begun) (n : ℕ) (r : Role) (k : Key) (at : Positions) (now : ℤ) → n ≡ begun s h + 1 → (role_eq r b.role && key_eq k b.key) ≡ false → IsSince s h b → IsSince s (Begin n r k at now ∷ h) b
 begin_since s h b n r k at now numbered other i =
     let low = i.begun in
     let off : (b.pass == n) ≡ false = grind (arith, nat_tests, low, numbered) in
     kept s h (Begin n r k at now) b refl refl refl (omega arith)
-    (λ m apart none. begun_others (m == n) true b.role b.key (new_pass r k (views s h r k) now) (open_pass s h m) other none)
+    (λ m apart none. begun_others (m == n) b.role b.key (new_pass r k (views s h r k) now) (open_pass s h m) other none)
     (λ course. same_course s h (Begin n r k at now) b (ap (λ (x : Bool). if x then Some (new_pass r k (views s h r k) now) else open_pass s h b.pass) off)
     (ap (λ (x : Bool). (if x then with_begin (views s h r k) now (past s h b.role b.key) else past s h b.role b.key).last) other) course) i
 
