@@ -1,4 +1,5 @@
-//! Runs by one hand that meet all that the laws of runs take for granted, and do what these say.
+//! Runs that meet all that the laws of runs take for granted, and do what these say.
+use crate::begins::begun_again;
 use crate::checks::passes;
 use crate::fixtures::{denied_scenario, put};
 use crate::restarts::{applied, finish, is_issued_once, make, scenario};
@@ -92,6 +93,8 @@ fn passes_of_an_issuance_run_alone(rt: HostRuntime) -> Result<(), Fail> {
     let world = plain_world(alloc, issued_scenario(alloc)?)?;
     let calm = is_calm(alloc, &world)?;
     passes(&rt, "calm", calm);
+    let again = begun_again(world.history())?;
+    passes(&rt, "again", again > 0);
     let issued = is_issued_once(alloc, &world)?;
     passes(&rt, "issued once", issued);
     Ok(())

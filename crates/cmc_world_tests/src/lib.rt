@@ -7,6 +7,8 @@ mod answers;
 #[cfg(test)]
 mod audit;
 #[cfg(test)]
+mod begins;
+#[cfg(test)]
 mod checks;
 #[cfg(test)]
 mod deciding;

@@ -1,5 +1,6 @@
 //! A controller that stops after any move of a run and starts again: the run still ends, and with one issuance.
 use crate::audit::{audit, raises, stands_true};
+use crate::begins::begun_again;
 use crate::fixtures::{ROLES, apply, certificate, is_done, put, value_then, whole_scenario};
 use cmc_history::History;
 use cmc_meta::{ConditionKind, Kind, Numbers};
@@ -291,6 +292,7 @@ fn ends_well(alloc: Global, moves: &[Move], role: Role, behind: u64) -> Result<b
     let mut world = World::new(alloc, restarted(alloc, role, behind)?)?;
     run(alloc, &mut world, moves)?;
     let is_issued_once = is_issued_once(alloc, &world)?;
+    begun_again(world.history())?;
     Ok(is_issued_once && raises(world.history())? == 1 && audit(world.history())? >= 1)
 }
 

@@ -2,6 +2,7 @@
 // refused. Pseudo-random moves of all eight roles, mixed with plain ones, are made on a world of several
 // Certificates and Secrets, with lag, stops, starts, holds, faults, and values that answer another question.
 use crate::audit::audit;
+use crate::begins::begun_again;
 use crate::checks::{passes, tells};
 use crate::deciding::decision;
 use crate::fixtures::{applied, put, value_of, whole_scenario};
@@ -404,6 +405,7 @@ fn wander(
     let mut world = World::new(alloc, scenario(alloc, events)?)?;
     walk_on(alloc, &mut world, met, seed)?;
     note_entries(shown, world.history());
+    begun_again(world.history())?;
     audit(world.history())
 }
 
