@@ -1,5 +1,5 @@
-// What no clause says: that a key leaves the work queue of a role as the role has looked at it and has nothing to do there,
-// so that a begin on it is refused, at a later moment too; for which version and which moment keys wait in some runs; and
+// What no clause says: that a key leaves the work queue of a role as a pass of the role has looked at it and found nothing to
+// do, so that a begin on it is refused, at a later moment too; for which version and which moment keys wait in some runs; and
 // that a tick wakes just the keys whose moment has come.
 use crate::checks::{passes, tells};
 use crate::deciding::word_then;
@@ -81,10 +81,29 @@ fn come_to_the_tick(alloc: Global, waking: &mut Waking) -> Result<(), Fail> {
     Ok(())
 }
 
-/// A world up to the tick: each role has looked at the Certificate.
+/// What a begin of the role on the Certificate is answered, in a word.
+fn begin(alloc: Global, waking: &mut Waking, role: Role, word: &str) -> Result<&'static str, Fail> {
+    let key = key(alloc, Kind::Certificate, word)?;
+    make(alloc, waking, Move::Begin { role, key })
+}
+
+/// Has the role look at the Certificate, if that is in its queue, and find nothing to do.
+fn look(alloc: Global, waking: &mut Waking, role: Role) -> Result<(), Fail> {
+    if begin(alloc, waking, role, "web")? == "done" {
+        let pass = waking.world().passes_begun();
+        let incarnation = waking.world().incarnation(role);
+        let _ = make(alloc, waking, Move::Next { pass, incarnation })?;
+    }
+    Ok(())
+}
+
+/// A world up to the tick, with each role having looked at the Certificate.
 fn looked(alloc: Global) -> Result<Waking, Fail> {
     let mut waking = Waking::new(alloc, scenario(alloc)?)?;
     come_to_the_tick(alloc, &mut waking)?;
+    for role in &ROLES {
+        look(alloc, &mut waking, *role)?;
+    }
     Ok(waking)
 }
 
@@ -96,8 +115,7 @@ fn refuses(
     role: Role,
     word: &str,
 ) -> Result<(), Fail> {
-    let key = key(alloc, Kind::Certificate, word)?;
-    let told = make(alloc, waking, Move::Begin { role, key })?;
+    let told = begin(alloc, waking, role, word)?;
     tells(rt, word, told, "not queued");
     Ok(())
 }
@@ -152,6 +170,11 @@ fn is_free(row: Row) -> bool {
     row.ready && !row.working
 }
 
+/// Whether there may be something to do on the key.
+fn is_pending(row: Row) -> bool {
+    is_free(row) && row.work.may_work()
+}
+
 #[test]
 fn a_key_waits_for_the_own_write(rt: HostRuntime) -> Result<(), Fail> {
     let alloc = rt.alloc();
@@ -171,6 +194,20 @@ fn a_key_waits_for_the_own_write(rt: HostRuntime) -> Result<(), Fail> {
     Ok(())
 }
 
+/// Makes the plain moves up to a begin, which is not made.
+fn come_to_begin(alloc: Global, waking: &mut Waking) -> Result<(), Fail> {
+    for _move in 0..400 {
+        let step = waking.plain(alloc)?;
+        let begins = matches!(step, Some(Move::Begin { .. }));
+        let_go(step);
+        if begins {
+            return Ok(());
+        }
+        let _ = go_on(alloc, waking)?;
+    }
+    Err(Fail::from("no pass begins"))
+}
+
 #[test]
 fn a_key_is_ready_where_there_is_something_to_do(rt: HostRuntime) -> Result<(), Fail> {
     let alloc = rt.alloc();
@@ -184,9 +221,7 @@ fn a_key_is_ready_where_there_is_something_to_do(rt: HostRuntime) -> Result<(), 
     let _ = go_on(alloc, &mut waking)?;
     let told = row_of(alloc, &waking, Role::Trigger)?;
     passes(&rt, "ready", is_free(told) && told.work.is_unknown());
-    let step = waking.plain(alloc)?;
-    passes(&rt, "begun next", matches!(step, Some(Move::Begin { .. })));
-    let_go(step);
+    come_to_begin(alloc, &mut waking)?;
     let found = row_of(alloc, &waking, Role::Trigger)?;
     passes(
         &rt,
@@ -204,7 +239,7 @@ fn a_failure_times_the_key(rt: HostRuntime) -> Result<(), Fail> {
     come_to_the_tick(alloc, &mut waking)?;
     let row = row_of(alloc, &waking, Role::Trigger)?;
     passes(&rt, "timed", row.timed == Some(1_893_459_600));
-    passes(&rt, "not ready", !is_free(row));
+    passes(&rt, "nothing to do", !is_pending(row));
     Ok(())
 }
 
