@@ -23,3 +23,5 @@ mod ValuesChange
 mod StandInsChange
 mod NeverIdle
 mod ReasonsEnough
+mod Counting
+mod FewPasses
