@@ -26,7 +26,7 @@ on_a_key : (role : Role) (keys : List Key) (e : Entry) → BeginsOn keys e → b
 on_a_key role keys (Begin pass r k at now) on is = same_test (role_eq r role) k keys is on
 on_a_key role keys other on is = absurd (cc is)
 
-some_role : (r : Role) → list_any (λ role. role_eq r role) all_roles ≡ true
+pub some_role : (r : Role) → list_any (λ role. role_eq r role) all_roles ≡ true
 some_role Trigger = refl
 some_role KeyManager = refl
 some_role RequestManager = refl

@@ -25,3 +25,6 @@ mod NeverIdle
 mod ReasonsEnough
 mod Counting
 mod FewPasses
+mod PassEntries
+mod Tellings
+mod ShortRuns

@@ -15,5 +15,5 @@ pub use issuance::{
     due_at_once, lead_is_below_the_lifetime, nothing_is_due_after_a_failure,
     nothing_is_due_after_an_issuance,
 };
-pub use lengths::runs_have_bounded_passes;
+pub use lengths::length_is_bounded;
 pub use own::{made_key_fits, own_request_is_wanted};
