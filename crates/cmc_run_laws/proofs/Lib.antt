@@ -23,3 +23,8 @@ mod ValuesChange
 mod StandInsChange
 mod NeverIdle
 mod ReasonsEnough
+mod Counting
+mod FewPasses
+mod PassEntries
+mod Tellings
+mod ShortRuns

@@ -27,7 +27,7 @@ counted_over : (p : Entry → Bool) (k h : List Entry) → count_of p (k ++ h) �
 counted_over p [] h = omega arith
 counted_over p (e ∷ k) h = one_more (p e) (count_of p (k ++ h)) (count_of p k) (count_of p h) (counted_over p k h)
 
-counted_here : (p : Entry → Bool) (e : Entry) (k : List Entry) → p e ≡ true → count_of p (e ∷ k) ≡ count_of p k + 1
+pub counted_here : (p : Entry → Bool) (e : Entry) (k : List Entry) → p e ≡ true → count_of p (e ∷ k) ≡ count_of p k + 1
 counted_here p e k on = ap (λ (b : Bool). if b then count_of p k + 1 else count_of p k) on
 
 uncounted : (p : Entry → Bool) (e : Entry) (k : List Entry) → p e ≡ false → count_of p (e ∷ k) ≡ count_of p k
@@ -37,7 +37,7 @@ no_less : (b : Bool) (n : ℕ) → n ≤ (if b then n + 1 else n)
 no_less true n = omega arith
 no_less false n = omega arith
 
-counted_more : (p : Entry → Bool) (e : Entry) (k : List Entry) → count_of p k ≤ count_of p (e ∷ k)
+pub counted_more : (p : Entry → Bool) (e : Entry) (k : List Entry) → count_of p k ≤ count_of p (e ∷ k)
 counted_more p e k = no_less (p e) (count_of p k)
 
 -- ---- what is a reason is counted
