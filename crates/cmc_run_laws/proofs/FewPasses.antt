@@ -1,6 +1,5 @@
 -- No more passes begin than there are pairs of a role and a key, each taken once and once more for each reason.
-use Rattle.std.proofs.Common.{◌≡◌, ℕ, ◌+◌, ◌*◌, ◌≤◌, List, [], ◌∷◌, length, Bool, true, false, ◌&&◌, refl, arith}
-use Rattle.std.specs.Prelude.{◌||◌}
+use Rattle.std.proofs.Common.{◌≡◌, ℕ, ◌+◌, ◌*◌, ◌≤◌, List, length, Bool, true, false, ◌&&◌, refl, arith}
 use Rattle.std.specs.List.{list_any}
 use Rattle.cmc_meta.specs.declared.key.Key.{Key}
 use Rattle.cmc_meta.specs.Keys.{key_eq}
@@ -11,7 +10,7 @@ use Rattle.cmc_objects.specs.declared.entry.Entry.{Entry}
 use Rattle.cmc_objects.specs.declared.entry.Entry.TheVariants.{Call as Called, Deliver, List as Listed, Begin, Start, Tick}
 use Rattle.cmc_model.specs.Histories.{role_eq}
 use Rattle.cmc_run_laws.specs.Begins.{HasReasonsEnough, begins_on, count_of, is_reason_for}
-use Rattle.cmc_run_laws.specs.Lengths.{BeginsOn, Each, HasFewPasses, all_roles, is_begin, is_reason}
+use Rattle.cmc_run_laws.specs.Lengths.{BeginsOn, HasFewPasses, all_roles, is_begin, is_reason}
 use Rattle.cmc_run_laws.proofs.Counting.{counted_by_parts, counted_less, each_goes, is_in_part, of_all}
 
 abbrev begins_of : Role → Entry → Bool

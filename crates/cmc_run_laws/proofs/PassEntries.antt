@@ -1,5 +1,5 @@
 -- A pass has at most four entries after its Begin.
-use Rattle.std.proofs.Common.{◌≡◌, ◌⊎◌, ◌==◌, ◌++◌, inl, inr, ℕ, ℤ, ◌+◌, ◌*◌, ◌≤◌, List, [], ◌∷◌, length, Option, Some, None, Bool, true, false, refl, sym, ap, subst, ◌∙◌, arith, append_assoc, length-append}
+use Rattle.std.proofs.Common.{◌≡◌, ◌⊎◌, ◌==◌, ◌++◌, inl, inr, ℕ, ℤ, ◌+◌, ◌≤◌, List, [], ◌∷◌, length, Option, Some, None, Bool, true, false, refl, sym, ap, ◌∙◌, arith, append_assoc, length-append}
 use Rattle.std.proofs.lemmas.Bool.{or_left, or_right}
 use Rattle.std.proofs.lemmas.Bool.Decides.{Decides-eqb}
 use Rattle.std.specs.Prelude.{if◌then◌else◌, ◌||◌, MatchBool, option_map}
@@ -18,13 +18,13 @@ use Rattle.cmc_pass.specs.declared.value.Value.{Value}
 use Rattle.cmc_pass.specs.declared.pass.Views.{Views}
 use Rattle.cmc_pass.specs.declared.pass.Act.{Act}
 use Rattle.cmc_pass.specs.declared.pass.Act.TheVariants.{Nothing, Call as Calls, Ask as Asks, Issue, Temporary}
-use Rattle.cmc_model.specs.Histories.{Setting, role_eq}
+use Rattle.cmc_model.specs.Histories.{Setting}
 use Rattle.cmc_rules.specs.declared.progress.Stage.{Stage}
 use Rattle.cmc_rules.specs.declared.progress.OpenPass.{OpenPass}
 use Rattle.cmc_rules.specs.Acts.{act, call_after}
 use Rattle.cmc_rules.specs.Desks.{desk}
 use Rattle.cmc_rules.specs.Viewing.{views}
-use Rattle.cmc_rules.specs.Passes.{open_pass, called, unless_of, with_stage}
+use Rattle.cmc_rules.specs.Passes.{open_pass, called, unless_of}
 use Rattle.cmc_rules.specs.Legality.{IsLegal, IsLegalEntry, IsOpen}
 use Rattle.cmc_safety.specs.Courses.{is_entry_of, Placed, course_of, IsEnding, lets_on, AreCalls, IsFollowing, IsAnswering, IsAsking, IsCourseBy, IsCourse, HaveCourses}
 use Rattle.cmc_run_laws.specs.Begins.{count_of}

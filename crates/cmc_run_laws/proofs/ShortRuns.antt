@@ -1,5 +1,5 @@
 -- A run is no longer than its accepted writes, its failed calls and its steps allow.
-use Rattle.std.proofs.Common.{◌≡◌, ◌==◌, ℕ, ℤ, ◌+◌, ◌*◌, ◌≤◌, List, [], ◌∷◌, length, map, Option, Some, None, Bool, true, false, refl, sym, ap, ◌∙◌, arith}
+use Rattle.std.proofs.Common.{◌≡◌, ℕ, ◌+◌, ◌*◌, ◌≤◌, List, [], ◌∷◌, length, map, Option, Some, None, Bool, true, false, refl, ap, ◌∙◌, arith}
 use Rattle.std.proofs.lemmas.Bool.{or_left, or_right}
 use Rattle.std.proofs.lemmas.List.{length-map}
 use Rattle.std.proofs.lemmas.Nat.{mul-le}
@@ -10,10 +10,9 @@ use Rattle.cmc_meta.specs.Keys.{key_eq}
 use Rattle.cmc_objects.specs.declared.call.Call.{Call}
 use Rattle.cmc_objects.specs.declared.call.Reply.{Reply}
 use Rattle.cmc_objects.specs.declared.call.Reply.TheVariants.{Ok, Unavailable}
-use Rattle.cmc_objects.specs.declared.entry.Who.{Who}
 use Rattle.cmc_objects.specs.declared.entry.Who.TheVariants.{User, Pass}
 use Rattle.cmc_objects.specs.declared.entry.Entry.{Entry}
-use Rattle.cmc_objects.specs.declared.entry.Entry.TheVariants.{Script, Call as Called, Deliver, List as Listed, Begin, Ask, Made, Signed, Answered, Judged, End, Stop, Start, Tick}
+use Rattle.cmc_objects.specs.declared.entry.Entry.TheVariants.{Script, Call as Called, Begin, Stop, Start, Tick}
 use Rattle.cmc_model.specs.declared.write.Write.{Write}
 use Rattle.cmc_model.specs.Replies.{is_accepted, settled}
 use Rattle.cmc_model.specs.Histories.{Setting, accepted, moment, state}
@@ -158,6 +157,6 @@ bounded_length s whole run passes short seldom =
     let reasons = all_reasons (count_of is_reason whole) written failed (count_of is_effect whole) (count_of is_told whole) steps (most_told written steps) (reasons_from s whole) effects told in
     let keys : length (keys_of (writes s whole)) ≡ written = length-map (writes s whole) (λ (w : Write). w.key) ∙ writes_count s whole in
     let begins = more_passes (count_of is_begin whole) (length (keys_of (writes s whole))) written (count_of is_reason whole) (most_reasons written failed steps)
-        (passes (keys_of (writes s whole)) (on_known s whole (writes s whole) run.legal (λ key is. is))) keys reasons in
+    (passes (keys_of (writes s whole)) (on_known s whole (writes s whole) run.legal (λ key is. is))) keys reasons in
     sum_up (length whole) steps (count_of is_effect whole) (count_of is_told whole) (count_of is_begin whole) (count_of is_of_pass whole) (most_told written steps) (most_passes written failed steps)
     (by_sorts whole) effects told begins short
