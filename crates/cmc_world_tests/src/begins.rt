@@ -62,11 +62,15 @@ fn last_behind(last: Option<LastPass>, entry: &Entry, role: Role, key: &Key) -> 
     }
 }
 
-/// The last pass of the role on the key behind all these entries.
-fn last_pass(entries: &[Entry], role: Role, key: &Key) -> Option<LastPass> {
+/// The last pass of the role on the key behind so many entries.
+fn last_pass(entries: &[Entry], count: usize, role: Role, key: &Key) -> Option<LastPass> {
     let mut last = None;
+    let mut place = 0_usize;
     for entry in entries {
-        last = last_behind(last, entry, role, key);
+        if place < count {
+            last = last_behind(last, entry, role, key);
+        }
+        place = place.saturating_add(1);
     }
     last
 }
@@ -78,7 +82,7 @@ pub(crate) fn begun_again(history: &History) -> Result<u64, Fail> {
     let mut before = 0_usize;
     for entry in entries {
         if let Entry::Begin { role, key, .. } = entry {
-            if let Some(last) = last_pass(&entries[..before], *role, key) {
+            if let Some(last) = last_pass(entries, before, *role, key) {
                 if !last.has_reason {
                     return Err(Fail::from("a pass begins for nothing"));
                 }
