@@ -1,16 +1,19 @@
 -- The tests on names say what they are to say.
-use Rattle.std.proofs.Common.{◌≡◌, ℕ, Bool, true, false, ◌&&◌, ◌||◌, eqb, cond, List, [], ◌∷◌, filter, Option, Some, None, refl, sym, ap, ◌∙◌, inl, inr}
+use Rattle.std.proofs.Common.{◌≡◌, ℕ, Bool, true, false, ◌&&◌, ◌||◌, eqb, cond, List, [], ◌∷◌, filter, length, Option, Some, None, refl, sym, ap, subst, ◌∙◌, inl, inr, arith}
 use Rattle.std.specs.Str.{bytes_eq}
 use Rattle.std.specs.List.{list_any, list_all, cons_option}
 use Rattle.std.specs.Option.{option_map_or}
+use Rattle.std.specs.Prelude.{◌==◌, if◌then◌else◌}
 use Rattle.cmc_x509_build.specs.Addresses.{address_at}
 use Rattle.std.proofs.lemmas.Bool.{cases_Bool}
+use Rattle.std.proofs.lemmas.Bool.Decides.{Decides-eqb}
 use Rattle.std.proofs.lemmas.Slice.Eq.{bytes_eq-Decides}
 use Rattle.cmc_der.specs.Values.{BeginsWith}
 use Rattle.cmc_x509.specs.Taking.{Value}
 use Rattle.cmc_x509.specs.Lists.{IsValues, IsValueList}
 use Rattle.cmc_x509.proofs.ListLaws.{values_again}
-use Rattle.cmc_match.specs.Sets.{is_among, is_within}
+use Rattle.cmc_match.specs.Sets.{IsSameSet, is_among, is_within, is_same_set}
+use Rattle.cmc_match.proofs.SetLaws.{sets}
 use Rattle.cmc_match.specs.SubjectNames.{named, is_address, addresses, value_list, values_of, is_octets, is_written_by, written}
 
 -- the values that the octets are
@@ -56,6 +59,25 @@ pub name_later : (octets : List ℕ) (kind : ℕ) (body rest : List ℕ) (tag : 
 name_later octets kind body rest tag name whole h list test kept =
     let step : is_among (named tag (values_of octets)) name ≡ is_among (named tag (values_of rest)) name = rw (values_next octets kind body rest h list) (among_named tag kind body name (values_of rest) ∙ ap (λ (b : Bool). b || is_among (named tag (values_of rest)) name) test) in
     sym step ∙ kept
+
+-- what the order of names says at the values that are left
+pub order_later : (octets : List ℕ) (kind : ℕ) (body rest : List ℕ) (tag : ℕ) (left others : List (List ℕ)) (Whole : Type 0) → BeginsWith octets kind body rest → IsValueList rest
+    → left ≡ (if kind == tag then body ∷ others else others) → (named tag (values_of octets) ≡ left → Whole) → named tag (values_of rest) ≡ others → Whole
+order_later octets kind body rest tag left others Whole h list is kept same =
+    kept (ap (named tag) (values_next octets kind body rest h list) ∙ ap (λ (l : List (List ℕ)). if kind == tag then body ∷ l else l) same ∙ sym is)
+
+no_texts : (texts : List (List ℕ)) → (length texts == 0) ≡ true → [] ≡ texts
+no_texts [] is = refl
+no_texts (text ∷ texts) is = absurd (omega (arith, (Decides-eqb (length (text ∷ texts)) 0).0 is))
+
+-- where no value is left no name is
+pub no_name_left : (octets : List ℕ) (tag : ℕ) (left : List (List ℕ)) → octets ≡ [] → (length left == 0) ≡ true → named tag (values_of octets) ≡ left
+no_name_left octets tag left end none = ap (named tag) (values_end octets end) ∙ no_texts left none
+
+-- names in the order of the texts are the same set
+pub same_in_order : (alternative : List ℕ) (tag : ℕ) (texts : List (List ℕ)) → named tag (values_of alternative) ≡ texts → is_same_set texts (named tag (values_of alternative)) ≡ true
+same_in_order alternative tag texts is =
+    (sets texts (named tag (values_of alternative))).1 (subst (IsSameSet texts) (sym is) (λ text. (λ there. there, λ there. there)))
 
 pub name_nowhere : (octets : List ℕ) (tag : ℕ) (name : List ℕ) (whole : Bool) → octets ≡ [] → is_among (named tag (values_of octets)) name ≡ whole → false ≡ whole
 name_nowhere octets tag name whole e kept =

@@ -1,7 +1,7 @@
 //! The names that a Certificate asks for, and those of a certification request.
 ghost use Rattle.std.specs.List.{list_any, list_all};
 ghost use Rattle.std.specs.Option.{option_map_or};
-ghost use Rattle.std.specs.Prelude.{◌≡◌, ◌↔◌, ◌==◌, ◌&&◌, ◌||◌, length, true, IsTrue, if◌then◌else◌};
+ghost use Rattle.std.specs.Prelude.{◌≡◌, ◌↔◌, ◌==◌, ◌&&◌, ◌||◌, ◌∷◌, length, true, IfSome, IsTrue, if◌then◌else◌};
 ghost use Rattle.std.specs.Str.{bytes_eq};
 ghost use Rattle.cmc_der.specs.Keys.{text_shown, names_shown};
 ghost use Rattle.cmc_x509.specs.Lists.{IsValueList};
@@ -81,10 +81,56 @@ fn has_each(alternative: &[u8], tag: u8, texts: &[Text]) -> bool
         .all(|text| has_name(alternative, tag, text.as_slice()))
 }
 
+// The texts behind the first, where that has these contents.
+fn behind<'a>(texts: &'a [Text], contents: &[u8]) -> Option<&'a [Text]>
+    ensures { IfSome result (λ others. texts.now ≡ contents.now ∷ others.now) }
+{
+    match texts.split_first() {
+        Some((first, others)) if first.as_slice() == contents => Some(others),
+        _ => None,
+    }
+}
+
+// The texts that are left behind a name, where a name of this tag is the first of them.
+fn left_behind<'a>(
+    texts: &'a [Text],
+    tag: u8,
+    kind: u8,
+    contents: &[u8],
+) -> Option<&'a [Text]>
+    ensures { IfSome result (λ others. texts.now ≡ (if kind == tag then contents.now ∷ others.now else others.now)) }
+{
+    if kind == tag {
+        return behind(texts, contents);
+    }
+    Some(texts)
+}
+
+// Whether the names of this tag are these texts, in this order.
+fn are_in_order(alternative: &[u8], tag: u8, texts: &[Text]) -> bool
+    requires { IsValueList alternative.now }
+    ensures { result ≡ true → named tag (values_of alternative.now) ≡ texts.now }
+{
+    let mut rest = alternative;
+    let mut left = texts;
+    while let Some((kind, contents, after)) = next_name(rest) {
+        let Some(others) = left_behind(left, tag, kind, contents) else {
+            return false;
+        };
+        left = others;
+        rest = after;
+    }
+    left.is_empty()
+}
+
+// Names are mostly asked for in the order of the specification, and compared as sets only where they are not.
 fn has_same_names(alternative: &[u8], tag: u8, texts: &[Text]) -> bool
     requires { IsValueList alternative.now }
     ensures { result ≡ words.has_same_names tag texts.now alternative.now }
 {
+    if are_in_order(alternative, tag, texts) {
+        return true;
+    }
     has_each(alternative, tag, texts) && has_no_other(alternative, tag, texts)
 }
 
