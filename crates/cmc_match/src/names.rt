@@ -92,12 +92,7 @@ fn behind<'a>(texts: &'a [Text], contents: &[u8]) -> Option<&'a [Text]>
 }
 
 // The texts that are left behind a name, where a name of this tag is the first of them.
-fn left_behind<'a>(
-    texts: &'a [Text],
-    tag: u8,
-    kind: u8,
-    contents: &[u8],
-) -> Option<&'a [Text]>
+fn left_behind<'a>(texts: &'a [Text], tag: u8, kind: u8, contents: &[u8]) -> Option<&'a [Text]>
     ensures { IfSome result (λ others. texts.now ≡ (if kind == tag then contents.now ∷ others.now else others.now)) }
 {
     if kind == tag {

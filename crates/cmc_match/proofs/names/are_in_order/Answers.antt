@@ -7,7 +7,7 @@ pub loop-kind-preserved : goal.loop-kind-preserved
 loop-kind-preserved c = record {
   list = c.in-Some.ensures.more;
   order = order_later c.loop-kind.rest.now c.in-Some.kind c.in-Some.contents.now c.in-Some.after.now c.args.tag c.loop-kind.left.now c.in-Some-left_behind.others.now _ c.in-Some.ensures.some c.in-Some.ensures.more
-  c.in-Some-left_behind.ensures c.loop-kind.invariant.order;
+      c.in-Some-left_behind.ensures c.loop-kind.invariant.order;
 }
 
 pub returns : goal.returns
