@@ -2,6 +2,7 @@ pub mod Numbered
 pub mod Rows
 pub mod ByNumber
 pub mod Behind
+pub mod OneRun
 pub mod OpenOnes
 pub mod RowsOfPasts
 pub mod Lasts

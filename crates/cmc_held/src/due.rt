@@ -4,7 +4,9 @@ ghost use Rattle.std.specs.Prelude.{◌≡◌, ◌↔◌, IsTrue, if◌then◌el
 ghost use Rattle.cmc_rules.specs.Sameness.{EndsAlike, IsSame, IsStillBehind, own_above};
 ghost use Rattle.cmc_objects.specs.Watching.{has_informer};
 ghost use Rattle.cmc_held.specs.Dues.{shown_positions};
+ghost use Rattle.cmc_held.specs.OneRun.{IsOfOneRun};
 
+use crate::one_run::same_seen;
 use crate::role_states::at_kind;
 use cmc_meta::Kind;
 use cmc_objects::{Positions, Role, has_informer};
@@ -29,13 +31,15 @@ pub fn own_above(own: Positions, at: Positions) -> Option<u64>
     None
 }
 
-/// Whether a pass that sees this would be the last one again: it sees the same, and would end alike.
+/// Whether a pass that sees `seen` would be the last one again: it sees the same, and would end alike. Both views are of one
+/// run.
 pub fn is_same(last: &Option<LastPass>, seen: &Views, now: i64, at: Positions) -> bool
+    requires { IsOfOneRun last.now seen.now }
     ensures { IsTrue result ↔ IsSame last.now seen.now now at }
 {
     match last {
-        // Views are long to compare, and most passes end in a way that is never repeated.
-        Some(last) => ends_alike(last.ending, last.since, now, at) && last.seen.same(seen),
+        // Most passes end in a way that is never repeated.
+        Some(last) => ends_alike(last.ending, last.since, now, at) && same_seen(&last.seen, seen),
         None => false,
     }
 }

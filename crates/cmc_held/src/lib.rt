@@ -5,6 +5,7 @@
 
 mod due;
 mod log;
+mod one_run;
 mod origins;
 mod passes;
 mod questions;
@@ -13,6 +14,7 @@ mod role_states;
 
 pub use due::{is_same, own_above, shown_positions};
 pub use log::Log;
+pub use one_run::same_seen;
 pub use origins::Origins;
 pub use passes::Passes;
 pub use questions::Questions;

@@ -1,5 +1,5 @@
 -- Of the writes under one key only the last one counts.
-use Rattle.std.proofs.Common.{◌≡◌, ◌++◌, ◌+◌, ◌<◌, ℕ, List, [], ◌∷◌, length, get_or, reverse, Option, Bool, true, false, cond, refl, sym, ap, subst, ◌∙◌}
+use Rattle.std.proofs.Common.{◌≡◌, ◌++◌, ◌+◌, ◌<◌, ℕ, List, [], ◌∷◌, length, get_or, reverse, Option, Some, Bool, true, false, cond, refl, sym, ap, subst, ◌∙◌}
 use Rattle.std.specs.FinMap.{same_map}
 use Rattle.std.specs.Ordering.{eq_by_cmp}
 use Rattle.std.specs.Prelude.{if◌then◌else◌, ◌&&◌, ◌||◌, not}
@@ -17,7 +17,7 @@ use Rattle.cmc_model.proofs.Writes.{contents_of-next}
 use Rattle.cmc_informer.specs.Caches.{written}
 use Rattle.std.specs.Borrow.{Bor}
 use Rattle.cmc_informer.specs.declared.latest.Change.{Change}
-use Rattle.cmc_informer.specs.Superseding.{with_older, writes_of}
+use Rattle.cmc_informer.specs.Superseding.{has_seen, with_first, with_older, writes_of}
 use Rattle.cmc_informer.proofs.OneMark.{equal_key, key_eq_self, same_key}
 
 covered : (b : Bool) (p o r : Option Object) → cond b p (cond b o r) ≡ cond b p r
@@ -117,3 +117,9 @@ change_added cs new key o w set k is =
 pub one_more : (b r : Bool) → cond b true r ≡ (b || r)
 one_more true r = refl
 one_more false r = refl
+
+-- a key that is not the first one is seen among the others
+pub seen_more : (first : Option (Bor Key)) (f : Bor Key) (others new : List (Bor Key)) (key k : Key) → first ≡ Some f → has_seen new k ≡ cond (key_eq key k) true (has_seen others k)
+    → has_seen (with_first first new) k ≡ (key_eq key k || has_seen (with_first first others) k)
+seen_more first f others new key k is more = subst (λ (x : Option (Bor Key)). has_seen (with_first x new) k ≡ (key_eq key k || has_seen (with_first x others) k)) (sym is)
+    (ap (λ (r : Bool). key_eq k f.now || r) (more ∙ one_more (key_eq key k) (has_seen others k)) ∙ swapped (key_eq k f.now) (key_eq key k) (has_seen others k))

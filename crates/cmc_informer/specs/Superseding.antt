@@ -1,5 +1,5 @@
 -- What contracts see of the changes that a range of writes leaves to be made.
-use Rattle.std.specs.Prelude.{Bool, List, [], ◌∷◌, ◌++◌, ◌&&◌, not, if◌then◌else◌}
+use Rattle.std.specs.Prelude.{Bool, List, [], ◌∷◌, ◌++◌, ◌&&◌, not, Option, Some, None, if◌then◌else◌}
 use Rattle.std.specs.List.{list_any}
 use Rattle.std.specs.Borrow.{Bor}
 use Rattle.cmc_meta.specs.declared.key.Key.{Key}
@@ -8,6 +8,11 @@ use Rattle.cmc_meta.specs.Keys.{key_eq}
 use Rattle.cmc_model.specs.declared.write.Write.{Write}
 use Rattle.cmc_model.specs.Writes.{is_known, kind_eq}
 use Rattle.cmc_informer.specs.declared.latest.Change.{Change}
+
+-- the first key, where there is one, and the others
+abbrev pub with_first : Option (Bor Key) → List (Bor Key) → List (Bor Key)
+with_first None others = others
+with_first (Some first) others = first ∷ others
 
 -- whether the key is one of those that were seen
 abbrev pub has_seen : List (Bor Key) → Key → Bool

@@ -17,32 +17,37 @@ pub(crate) struct Change<'a> {
     pub(crate) object: Option<Object>,
 }
 
-/// Keys that later writes named.
+/// Keys that later writes named. The first is kept by itself: most deliveries bring one key of a kind, and make no set.
 #[derive(Drop)]
 pub(crate) struct SeenKeys<'a> {
-    keys: HashSet<&'a Key>,
+    first: Option<&'a Key>,
+    others: HashSet<&'a Key>,
 }
 
 impl<'a> Model for SeenKeys<'a> {
     ghost use Rattle.std.specs.Borrow.{Bor};
-    ghost use Rattle.std.specs.Prelude.{List};
+    ghost use Rattle.std.specs.Prelude.{List, [], None, ◌≡◌};
     ghost use Rattle.cmc_meta.specs.declared.key.Key.{Key};
+    ghost use Rattle.cmc_informer.specs.Superseding.{with_first};
 
     ghost Value = { List (Bor Key) };
 
-    ghost view = { λ s. s.keys.keys };
+    ghost view = { λ s. with_first s.first s.others.keys };
+
+    ghost invariant = { λ s. s.first ≡ None → s.others.keys ≡ [] };
 }
 
 impl<'a> SeenKeys<'a> {
     ghost use Rattle.std.specs.Prelude.{[]};
 
-    /// No keys, and room for so many. An error is one of memory.
-    pub(crate) fn new(alloc: Global, room: usize) -> Result<SeenKeys<'a>, AllocError>
-        ensures { IfOk result (λ s. s ≡ []) }
+    /// No keys. It takes no memory.
+    pub(crate) fn new(alloc: Global) -> SeenKeys<'a>
+        ensures { result ≡ [] }
     {
-        Ok(SeenKeys {
-            keys: HashSet::with_capacity(alloc, room)?,
-        })
+        SeenKeys {
+            first: None,
+            others: HashSet::new(alloc),
+        }
     }
 
     /// The key was seen now; whether it had not been before. An error is one of memory.
@@ -50,7 +55,14 @@ impl<'a> SeenKeys<'a> {
         ensures is_new { IfOk result (λ is_new. is_new ≡ not (has_seen self.old key.now)) }
         ensures seen { OnOk result ((k : KeyValue) → has_seen self.new k ≡ (key_eq key.now k || has_seen self.old k)) }
     {
-        let is_new = self.keys.insert(key)?;
+        let Some(first) = self.first else {
+            self.first = Some(key);
+            return Ok(true);
+        };
+        if first.same(key) {
+            return Ok(false);
+        }
+        let is_new = self.others.insert(key)?;
         Ok(is_new)
     }
 }

@@ -154,7 +154,7 @@ pub(crate) fn prepare<'a>(
 {
     let count = (to - from) as usize;
     let mut changes = Vec::with_capacity(alloc, count)?;
-    let mut seen = SeenKeys::new(alloc, count)?;
+    let mut seen = SeenKeys::new(alloc);
     for place in (from..to).rev() {
         let write = &writes[place as usize];
         prepare_one(alloc, rows, &mut seen, &mut changes, write, kind)?;

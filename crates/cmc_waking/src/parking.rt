@@ -59,13 +59,11 @@ fn refused_until(last: &Option<LastPass>, seen: &Views, at: Positions) -> Option
 {
     match last {
         None => None,
-        Some(last) => {
-            if last.seen.same(seen) {
-                obstacle_ahead(last.ending, at)
-            } else {
-                None
-            }
-        }
+        // Few passes are refused for a version that is still ahead.
+        Some(last) => match obstacle_ahead(last.ending, at) {
+            Some(first) if last.seen.same(seen) => Some(first),
+            _ => None,
+        },
     }
 }
 

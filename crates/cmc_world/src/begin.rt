@@ -2,6 +2,7 @@
 ghost use Rattle.std.specs.Option.{option_copied};
 ghost use Rattle.std.specs.Prelude.{◌≡◌, ◌↔◌, ◌<◌, ◌∷◌, ◌&&◌, not, IsTrue, IfOk, OnOk, OnErr, true, is_some};
 ghost use Rattle.cmc_rules.specs.Sameness as sameness;
+ghost use Rattle.cmc_held.specs.OneRun.{IsOfOneRun};
 ghost use Rattle.cmc_held.specs.Remembered.{past_or_new};
 ghost use Rattle.cmc_rules.specs.Memory.{past};
 ghost use Rattle.cmc_rules.specs.Passes.{IsWorking, new_pass};
@@ -57,6 +58,7 @@ fn own_write(past: Option<&Past>, at: Positions) -> Option<u64>
 
 /// Whether a pass that sees this would be the last one again.
 fn is_again(past: Option<&Past>, seen: &Views, now: i64, at: Positions) -> bool
+    requires { IsOfOneRun (past_or_new (option_copied past.entry)).last seen.now }
     ensures { IsTrue result ↔ IsSame (past_or_new (option_copied past.entry)).last seen.now now at }
 {
     match past {
@@ -129,6 +131,7 @@ impl World {
         let working = self.passes.is_on(role, key);
         let past = self.memories.get(role, key);
         let own = own_write(past, at);
+        self.saw_one_run(role, key);
         let same = is_again(past, seen, self.moment, at);
         let of_work = is_of_work(stands(&self.store, key), &self.log, role, key);
         let quiet = self.is_quiet(alloc, role, key, seen)?;

@@ -129,11 +129,21 @@ impl World {
         self.moment
     }
 
-    /// Whether a pass of the role on the key that sees this would be due: the role was told of its own
-    /// writes, and the pass would not be the last one again.
+    /// A law: what the role saw as it last began a pass on the key, and what it sees of the key, are views of one run: no
+    /// version was given twice.
+    pub(crate) fn saw_one_run(&self, role: Role, key: &Key)
+        ensures { IsOfOneRun (on past self.now role key.now).last (on views self.now role key.now) }
+    {
+        self.is_run();
+    }
+
+    /// Whether a pass of the role on the key, of which it sees `seen`, would be due: the role was told of its own writes, and
+    /// the pass would not be the last one again.
     pub fn is_due(&self, role: Role, key: &Key, seen: &Views) -> bool
+        requires { seen.now ≡ on views self.now role key.now }
         ensures { IsTrue result ↔ IsDue (on past self.now role key.now) seen.now (on spec.moment self.now) (positions self.now.history role) }
     {
+        self.saw_one_run(role, key);
         rest::is_due(self.past(role, key), seen, self.moment(), self.told(role))
     }
 }

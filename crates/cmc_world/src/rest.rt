@@ -14,6 +14,7 @@ ghost use Rattle.cmc_rules.specs.Desks.{desk as desk_at};
 ghost use Rattle.cmc_safety.specs.Acting.{MayAct};
 ghost use Rattle.cmc_rules.specs.Viewing.{views};
 ghost use Rattle.cmc_model.specs.Writes.{writes};
+ghost use Rattle.cmc_held.specs.OneRun.{IsOfOneRun};
 ghost use Rattle.cmc_held.specs.Remembered.{past_or_new};
 ghost use Rattle.cmc_rules.specs.Acts.{act};
 ghost use Rattle.cmc_moves.specs.Answers.{AnswersScript, entries_of};
@@ -36,6 +37,7 @@ use std::collections::BTreeSet;
 
 /// Whether a role that has done this on the key may begin a pass on it that sees this.
 fn is_due_after(past: &Past, seen: &Views, now: i64, at: Positions) -> bool
+    requires { IsOfOneRun past.now.last seen.now }
     ensures { IsTrue result ↔ IsDue past.now seen.now now at }
 {
     own_above(past.own, at).is_none() && !is_same(&past.last, seen, now, at)
@@ -43,6 +45,7 @@ fn is_due_after(past: &Past, seen: &Views, now: i64, at: Positions) -> bool
 
 /// Whether the role may begin a pass on the key that sees this.
 pub(crate) fn is_due(past: Option<&Past>, seen: &Views, now: i64, at: Positions) -> bool
+    requires { IsOfOneRun (past_or_new (option_copied past.entry)).last seen.now }
     ensures { IsTrue result ↔ IsDue (past_or_new (option_copied past.entry)) seen.now now at }
 {
     match past {
