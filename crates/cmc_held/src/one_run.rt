@@ -8,10 +8,7 @@ ghost use Rattle.cmc_held.specs.OneRun.{AreOfOneRun, VersionsTell, VersionsTellA
 use cmc_objects::{Certificate, CertificateRequest, Secret, Shared};
 use cmc_pass::Views;
 
-fn same_certificate(
-    left: &Option<Shared<Certificate>>,
-    right: &Option<Shared<Certificate>>,
-) -> bool
+fn same_certificate(left: &Option<Shared<Certificate>>, right: &Option<Shared<Certificate>>) -> bool
     requires { VersionsTell (λ (c : CertificateValue). c.meta.version) left.now right.now }
     ensures { IsTrue result ↔ (left.now ≡ right.now) }
 {

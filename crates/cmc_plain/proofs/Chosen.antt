@@ -9,6 +9,8 @@ use Rattle.cmc_rules.specs.Resting.{IsAtRest}
 use Rattle.cmc_rules.specs.Runs.{IsRun}
 use Rattle.cmc_moves.specs.declared.moves.Move.TheVariants.{Script}
 use Rattle.cmc_plain.specs.Plain.{IsStepReady, HasNoScript, HasNoPass, HasNoDelivery, IsPlainMove}
+use Rattle.cmc_plain.specs.declared.plain_move.PlainMove.TheVariants as plains
+use Rattle.cmc_plain.specs.PlainMoves.{IsNextPlain}
 use Rattle.cmc_plain.specs.Searches.{FindsBegin, IsLeft, RestsWhereRunning}
 use Rattle.cmc_plain.proofs.Finishing.{nothing_left, finished_at_rest}
 use Rattle.cmc_plain.proofs.Resting.{at_rest_by}
@@ -35,6 +37,11 @@ pub some_begin : (s : Setting) (h : List Entry) (left rests : Bool) → IsRun s 
 some_begin s h left rests run settled l closed told test off none =
     let busy : IsAtRest s h → ⊥ = restless s h rests closed told test off in
     busy (nothing_left s h run settled (still s h left l busy) closed told none).rest
+
+-- the step that waits for rest, as the search tells it
+pub as_told : (s : Setting) (h : List Entry) (left : Bool) → IsPlainMove s h (if left then Some Script else None) → IsNextPlain s h (if left then Some plains.Script else None)
+as_told s h true is = is
+as_told s h false is = is
 
 -- ---- rest
 

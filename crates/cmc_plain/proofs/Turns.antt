@@ -1,22 +1,25 @@
 -- Runs by the plain order.
-use Rattle.std.proofs.Common.{◌≡◌, ◌∙◌, ℕ, ◌+◌, ◌<◌, ◌≤◌, true, false, List, [], ◌∷◌, ◌++◌, length, Option, Some, None, inl, inr, refl, sym, subst, arith}
+use Rattle.std.proofs.Common.{◌≡◌, ◌∙◌, ℕ, ◌+◌, ◌<◌, ◌≤◌, Bool, true, false, List, [], ◌∷◌, ◌++◌, length, Option, Some, None, inl, inr, refl, sym, subst, arith}
+use Rattle.std.specs.Prelude.{if◌then◌else◌}
 use Rattle.cmc_objects.specs.declared.entry.Entry.{Entry}
 use Rattle.cmc_rules.specs.declared.effect.Effect.{Effect}
 use Rattle.cmc_model.specs.Histories.{Setting}
 use Rattle.cmc_rules.specs.Runs.{IsRun, IsFinished}
-use Rattle.cmc_setup.specs.Setups.{Setup}
+use Rattle.cmc_setup.specs.Setups.{Setup, IsOrderlyFrom}
 use Rattle.cmc_moves.specs.declared.moves.Move.{Move}
 use Rattle.cmc_moves.specs.declared.moves.Move.TheVariants as moves
 use Rattle.cmc_moves.specs.declared.moves.Stepped.{Stepped}
-use Rattle.cmc_moves.specs.Answers.{next_effect, entries_of}
+use Rattle.cmc_moves.specs.Answers.{Answers, Leaves, next_effect, entries_of}
 use Rattle.cmc_world.specs.Kept.{Seen, setting_of}
 use Rattle.cmc_plain.specs.Plain.{IsPlainMove}
 use Rattle.cmc_plain.specs.Histories.{IsPlainStep, LeadsPlainly, IsPlain, IsFull, entries_for}
 use Rattle.cmc_plain.specs.declared.run.Driven.{Driven}
 use Rattle.cmc_plain.specs.declared.run.Driven.TheVariants.{Finished, Spent}
-use Rattle.cmc_plain.specs.Driving.{GoesOn, IsDriving, IsDrained, IsDriven, EndsFrom, EndsPlainly, goes_on}
+use Rattle.cmc_plain.specs.declared.run.Turn.TheVariants as turns
+use Rattle.cmc_plain.specs.Driving.{GoesOn, IsDriving, IsDrained, IsDriven, IsMadeFor, IsTurn, EndsFrom, EndsPlainly, goes_on, turn_after}
 use Rattle.cmc_plain.proofs.Determined.{grown_length}
-use Rattle.cmc_plain.proofs.Making.{ComesTo}
+use Rattle.cmc_plain.proofs.Going.{open_present}
+use Rattle.cmc_plain.proofs.Making.{ComesTo, chosen_comes}
 
 -- ---- the plain move is made, or does not fit
 
@@ -40,6 +43,17 @@ moves_on s h move answer k plain on run (inl is) =
     let long = grown_length s h move k grown in
     let more = more_for s h move in
     record { move = move; step = record { plain = plain; grows = grown; run = run }; longer = omega (arith, long, more) }
+
+-- what came of a turn is what its move was answered
+pub turned : (u : Setup) (h k : List Entry) (move step : Move) (a : Stepped) → IsOrderlyFrom u.roles u.script → IsRun (setting_of u) h → IsPlainMove (setting_of u) h (Some move)
+    → IsMadeFor (setting_of u) h move step → IsRun (setting_of u) k → Answers (setting_of u) h step a → Leaves (setting_of u) h step a k → IsTurn (setting_of u) h k (turn_after a)
+turned u h k move step a orderly before plain made run answers leaves = by (goes_on a) refl where
+  comes : ComesTo (setting_of u) h move a k
+  comes = chosen_comes (setting_of u) h move step a k (open_present u h orderly before) plain.1 made run answers leaves
+
+  by : (b : Bool) → goes_on a ≡ b → IsTurn (setting_of u) h k (if b then turns.On else turns.Spent)
+  by true on = moves_on (setting_of u) h move a k plain on run comes
+  by false off = stops (setting_of u) h move a k plain off comes
 
 -- ---- one plain step more
 

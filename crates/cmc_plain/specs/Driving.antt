@@ -1,5 +1,5 @@
 -- How a run by the plain order goes on, and ends.
-use Rattle.std.specs.Prelude.{◌≡◌, ℕ, ◌+◌, ◌≤◌, Bool, true, false, List, length, Option, Some, None, IfSome}
+use Rattle.std.specs.Prelude.{◌≡◌, ℕ, ◌+◌, ◌≤◌, Bool, true, false, List, length, Option, Some, None, IfSome, if◌then◌else◌}
 use Rattle.cmc_objects.specs.declared.entry.Entry.{Entry}
 use Rattle.cmc_objects.specs.declared.orders.Order.{Order}
 use Rattle.cmc_objects.specs.declared.orders.Order.TheVariants.{Key}
@@ -49,6 +49,10 @@ abbrev pub goes_on : Stepped → Bool
 goes_on Done = true
 goes_on (Tells pass order) = true
 goes_on other = false
+
+-- what came of a turn by what its move was answered
+abbrev pub turn_after : Stepped → Turn
+turn_after answer = if goes_on answer then turns.On else turns.Spent
 
 -- the plain move was made, and the history grew
 pub record GoesOn (s : Setting) (h k : List Entry) : Type 0 where

@@ -1,4 +1,5 @@
 pub mod Plain
+pub mod PlainMoves
 pub mod Searches
 pub mod Histories
 pub mod Driving

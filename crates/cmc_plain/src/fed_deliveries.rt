@@ -10,7 +10,7 @@ use cmc_held::at_kind;
 use cmc_meta::{Key, Kind};
 use cmc_objects::{Role, has_informer};
 use cmc_waking::Queues;
-use cmc_world::{Move, Stepped, World};
+use cmc_world::{Stepped, World};
 use std::alloc::{AllocError, Global};
 
 /// Up to where the delivery tells the role: that far, or all that was accepted where the watch no longer reaches back. `None`
@@ -72,11 +72,11 @@ pub(crate) fn deliver(
 {
     world.is_run();
     let Some(upto) = reach(world, role, kind, to) else {
-        return world.step(alloc, Move::Deliver { role, kind, to });
+        return world.step_deliver(alloc, role, kind, to);
     };
     let keys = affected(alloc, world, role, kind, to, upto)?;
     queues.wake(role, &keys)?;
-    let answer = world.step(alloc, Move::Deliver { role, kind, to })?;
+    let answer = world.step_deliver(alloc, role, kind, to)?;
     if !answer.is_done() {
         return Ok(answer);
     }

@@ -154,7 +154,7 @@ fn go_next(
 {
     world.is_run();
     let closing = ready_to_end(world, queues, pass)?;
-    let answer = world.step(alloc, Move::Next { pass, incarnation })?;
+    let answer = world.step_next(alloc, pass, incarnation)?;
     close(world, queues, pass, closing);
     Ok(answer)
 }

@@ -17,6 +17,7 @@ mod next_move;
 mod openings;
 mod passes;
 mod pending;
+mod plain_move;
 mod questions;
 mod rest;
 mod roles;

@@ -1,8 +1,9 @@
 //! The move that a run by one hand makes next.
 ghost use Rattle.std.specs.Prelude.{◌≡◌, IfOk, Some, None, if◌then◌else◌};
-ghost use Rattle.cmc_moves.specs.declared.moves.Move.TheVariants.{Script};
 ghost use Rattle.cmc_world.specs.Kept.{on};
+ghost use Rattle.cmc_plain.specs.declared.plain_move.PlainMove.TheVariants.{Script};
 ghost use Rattle.cmc_plain.specs.Plain.{HasNoDelivery, HasNoPass, IsPlainMove};
+ghost use Rattle.cmc_plain.specs.PlainMoves.{IsNextPlain};
 ghost use Rattle.cmc_plain.specs.Fed.{IsFed};
 ghost use Rattle.cmc_plain.specs.Keeping.{IsKeptRight};
 ghost use Rattle.cmc_plain.specs.Searches.{IsLeft};
@@ -11,6 +12,7 @@ use crate::begins::{Beginning, first_begin};
 use crate::deliveries::first_delivery;
 use crate::kept::Kept;
 use crate::passes::first_pass;
+use crate::plain_move::{PlainMove, as_move};
 use crate::rest::rests_in_each;
 use crate::scripts::{Awaits, awaited};
 use crate::taken_over::queues_of;
@@ -19,10 +21,10 @@ use cmc_world::{Move, World};
 use std::alloc::{AllocError, Global};
 
 /// What is done once all is at rest: the step of the script that waits for it, if one is left.
-fn at_rest(left: bool) -> Option<Move>
+fn at_rest(left: bool) -> Option<PlainMove>
     ensures { result ≡ (if left then Some Script else None) }
 {
-    if left { Some(Move::Script) } else { None }
+    if left { Some(PlainMove::Script) } else { None }
 }
 
 /// The next move where no pass is open, no role is behind and a step that is left waits for rest.
@@ -32,13 +34,13 @@ fn first_to_begin(
     left: bool,
     queues: &mut Queues,
     kept: &mut Kept,
-) -> Result<Option<Move>, AllocError>
+) -> Result<Option<PlainMove>, AllocError>
     requires left { on IsLeft world.now left }
     requires closed { on HasNoPass world.now }
     requires told { on HasNoDelivery world.now }
     requires fed { on IsFed world.now queues.old }
     requires kept { on IsKeptRight world.now kept.old }
-    ensures plain { IfOk result (λ m. on IsPlainMove world.now m) }
+    ensures plain { IfOk result (λ m. on IsNextPlain world.now m) }
     ensures fed { on IsFed world.now queues.new }
     ensures kept { on IsKeptRight world.now kept.new }
 {
@@ -48,7 +50,7 @@ fn first_to_begin(
         return Ok(at_rest(left));
     }
     match first_begin(alloc, world, queues)? {
-        Some(Beginning { role, key }) => Ok(Some(Move::Begin { role, key })),
+        Some(Beginning { role, key }) => Ok(Some(PlainMove::Begin(Beginning { role, key }))),
         None => unreachable!(),
     }
 }
@@ -60,22 +62,19 @@ fn first_of_roles(
     left: bool,
     queues: &mut Queues,
     kept: &mut Kept,
-) -> Result<Option<Move>, AllocError>
+) -> Result<Option<PlainMove>, AllocError>
     requires left { on IsLeft world.now left }
     requires fed { on IsFed world.now queues.old }
     requires kept { on IsKeptRight world.now kept.old }
-    ensures plain { IfOk result (λ m. on IsPlainMove world.now m) }
+    ensures plain { IfOk result (λ m. on IsNextPlain world.now m) }
     ensures fed { on IsFed world.now queues.new }
     ensures kept { on IsKeptRight world.now kept.new }
 {
     if let Some(going) = first_pass(world) {
-        return Ok(Some(Move::Next {
-            pass: going.pass,
-            incarnation: going.incarnation,
-        }));
+        return Ok(Some(PlainMove::Next(going)));
     }
     if let Some(delivery) = first_delivery(alloc, world)? {
-        return Ok(Some(Move::Deliver {
+        return Ok(Some(PlainMove::Deliver {
             role: delivery.role,
             kind: delivery.kind,
             to: world.log().last_of_kind(delivery.kind),
@@ -96,15 +95,15 @@ pub(crate) fn plain_by(
     world: &World,
     queues: &mut Queues,
     kept: &mut Kept,
-) -> Result<Option<Move>, AllocError>
+) -> Result<Option<PlainMove>, AllocError>
     requires fed { on IsFed world.now queues.old }
     requires kept { on IsKeptRight world.now kept.old }
-    ensures plain { IfOk result (λ m. on IsPlainMove world.now m) }
+    ensures plain { IfOk result (λ m. on IsNextPlain world.now m) }
     ensures fed { on IsFed world.now queues.new }
     ensures kept { on IsKeptRight world.now kept.new }
 {
     match awaited(world) {
-        Awaits::Nothing => Ok(Some(Move::Script)),
+        Awaits::Nothing => Ok(Some(PlainMove::Script)),
         Awaits::Rest => first_of_roles(alloc, world, true, queues, kept),
         Awaits::Never => first_of_roles(alloc, world, false, queues, kept),
     }
@@ -124,5 +123,6 @@ pub fn plain(alloc: Global, world: &World) -> Result<Option<Move>, AllocError>
 {
     let mut queues = queues_of(alloc, world)?;
     let mut kept = Kept::Nothing;
-    plain_by(alloc, world, &mut queues, &mut kept)
+    let next = plain_by(alloc, world, &mut queues, &mut kept)?;
+    Ok(as_move(next))
 }

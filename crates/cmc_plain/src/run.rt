@@ -1,15 +1,23 @@
 //! A run by one hand, from its beginning on or from where others left it.
 ghost use Rattle.std.specs.Prelude.{◌≡◌, IfOk, Some};
+ghost use Rattle.cmc_pass.specs.Giving.{order_of};
+ghost use Rattle.cmc_rules.specs.Passes.{open_pass};
+ghost use Rattle.cmc_moves.specs.Answers.{kept_of};
+ghost use Rattle.cmc_moves.specs.declared.moves.Move.TheVariants as moves;
 ghost use Rattle.cmc_world.specs.Kept.{on};
 ghost use Rattle.cmc_plain.specs.Plain.{IsPlainMove};
+ghost use Rattle.cmc_plain.specs.PlainMoves.{move_of};
 ghost use Rattle.cmc_plain.specs.Driving as spec;
-ghost use Rattle.cmc_plain.specs.Driving.{IsTurn, IsDrained, IsDriven};
+ghost use Rattle.cmc_plain.specs.Driving.{IsMadeFor, IsTurn, IsDrained, IsDriven};
 
 use crate::gate::Gate;
-use crate::values::made_for;
+use crate::passes::Going;
+use crate::plain_move::PlainMove;
+use crate::values::value_of;
 use crate::waking::Waking;
 use cmc_answers::Signer;
 use cmc_keys::KeyMaker;
+use cmc_pass::Given;
 use cmc_setup::Scenario;
 use cmc_world::{Move, Stepped, World};
 use std::alloc::{AllocError, Global};
@@ -34,34 +42,66 @@ pub(crate) enum Turn {
     Spent,
 }
 
-/// Whether a step answers so to a move that was made; of a pass that asks the question is told.
-fn goes_on(answer: Stepped) -> bool
-    ensures { result ≡ spec.goes_on answer }
+/// What came of a turn by what its move was answered: of a pass that asks the question is told.
+fn turn_after(answer: Stepped) -> Turn
+    ensures { result ≡ spec.turn_after answer }
 {
-    matches!(&answer, Stepped::Done | Stepped::Order { .. })
+    match &answer {
+        Stepped::Done | Stepped::Order { .. } => Turn::On,
+        _ => Turn::Spent,
+    }
 }
 
-/// Makes the plain move, which is this one, where it fits.
-fn make_move<M: KeyMaker, N: Signer, G: Gate>(
-    alloc: Global,
-    waking: &mut Waking,
-    step: Move,
-    keys: &M,
-    signer: &N,
-    gate: &G,
-) -> Result<Turn, AllocError>
-    requires { on IsPlainMove waking.old (Some step) }
+/// Makes the plain move `next`, by which no pass goes on that waits for a value, where it fits.
+fn make_move(alloc: Global, waking: &mut Waking, next: PlainMove) -> Result<Turn, AllocError>
+    requires plain { on IsPlainMove waking.old (Some (move_of next)) }
+    requires made { on IsMadeFor waking.old (move_of next) (move_of next) }
     ensures turn { IfOk result (λ t. on IsTurn waking.old waking.new.history t) }
     ensures scenario { waking.new.scenario ≡ waking.old.scenario }
 {
     let world = waking.world();
-    let made = made_for(alloc, world, step, keys, signer, gate)?;
     world.is_run();
     let _events = world.scenario().events();
-    if goes_on(waking.step(alloc, made)?) {
-        Ok(Turn::On)
-    } else {
-        Ok(Turn::Spent)
+    let answer = waking.make_plain(alloc, next)?;
+    Ok(turn_after(answer))
+}
+
+/// Gives the pass, which is the next to go on, the value that it waits for, where its entry fits.
+fn give(alloc: Global, waking: &mut Waking, going: Going, given: Given) -> Result<Turn, AllocError>
+    requires plain { on IsPlainMove waking.old (Some (moves.Next going.pass going.incarnation)) }
+    requires waits { Some (order_of given) ≡ kept_of (on open_pass waking.old going.pass) }
+    ensures turn { IfOk result (λ t. on IsTurn waking.old waking.new.history t) }
+    ensures scenario { waking.new.scenario ≡ waking.old.scenario }
+{
+    let world = waking.world();
+    world.is_run();
+    let _events = world.scenario().events();
+    let Going { pass, incarnation } = going;
+    let step = Move::Give {
+        pass,
+        incarnation,
+        given,
+    };
+    let answer = waking.step(alloc, step)?;
+    Ok(turn_after(answer))
+}
+
+/// Has the pass, which is the next to go on, do so: it is given the value that it waits for, or goes on by itself.
+fn go_on<M: KeyMaker, N: Signer, G: Gate>(
+    alloc: Global,
+    waking: &mut Waking,
+    going: Going,
+    keys: &M,
+    signer: &N,
+    gate: &G,
+) -> Result<Turn, AllocError>
+    requires { on IsPlainMove waking.old (Some (moves.Next going.pass going.incarnation)) }
+    ensures turn { IfOk result (λ t. on IsTurn waking.old waking.new.history t) }
+    ensures scenario { waking.new.scenario ≡ waking.old.scenario }
+{
+    match value_of(alloc, waking.world(), going.pass, keys, signer, gate)? {
+        Some(given) => give(alloc, waking, going, given),
+        None => make_move(alloc, waking, PlainMove::Next(going)),
     }
 }
 
@@ -75,9 +115,10 @@ fn take_turn<M: KeyMaker, N: Signer, G: Gate>(
     ensures turn { IfOk result (λ t. on IsTurn waking.old waking.new.history t) }
     ensures scenario { waking.new.scenario ≡ waking.old.scenario }
 {
-    match waking.plain(alloc)? {
+    match waking.next_plain(alloc)? {
         None => Ok(Turn::Finished),
-        Some(step) => make_move(alloc, waking, step, keys, signer, gate),
+        Some(PlainMove::Next(going)) => go_on(alloc, waking, going, keys, signer, gate),
+        Some(next) => make_move(alloc, waking, next),
     }
 }
 

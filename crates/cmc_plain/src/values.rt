@@ -4,7 +4,7 @@ ghost use Rattle.cmc_pass.specs.Giving.{order_of};
 ghost use Rattle.cmc_rules.specs.Passes.{open_pass};
 ghost use Rattle.cmc_moves.specs.Answers.{kept_of};
 ghost use Rattle.cmc_world.specs.Kept.{on};
-ghost use Rattle.cmc_plain.specs.Driving.{CanBeMade, IsMadeFor, IsNextWith};
+ghost use Rattle.cmc_plain.specs.Driving.{CanBeMade};
 
 use crate::gate::Gate;
 use crate::questions::{point_of, question};
@@ -12,7 +12,7 @@ use cmc_answers::{Signer, judge};
 use cmc_keys::KeyMaker;
 use cmc_objects::Order;
 use cmc_pass::Given;
-use cmc_world::{Move, World};
+use cmc_world::World;
 use std::alloc::{AllocError, Global};
 
 /// A value for the question, which is right for its row: a key or a signature by `keys`, an issuer's answer by `signer`, and
@@ -39,7 +39,7 @@ pub fn value_for<M: KeyMaker, N: Signer>(
 }
 
 /// A value for the question that the pass of this number waits at, behind the gate; `None` exactly where it waits at none.
-fn value_of<M: KeyMaker, N: Signer, G: Gate>(
+pub(crate) fn value_of<M: KeyMaker, N: Signer, G: Gate>(
     alloc: Global,
     world: &World,
     pass: u64,
@@ -55,46 +55,5 @@ fn value_of<M: KeyMaker, N: Signer, G: Gate>(
             Ok(Some(value_for(alloc, &order, keys, signer)?))
         }
         None => Ok(None),
-    }
-}
-
-/// The next move of the pass of this number: it is given the value that it waits for, or goes on.
-fn next_of<M: KeyMaker, N: Signer, G: Gate>(
-    alloc: Global,
-    world: &World,
-    pass: u64,
-    incarnation: u64,
-    keys: &M,
-    signer: &N,
-    gate: &G,
-) -> Result<Move, AllocError>
-    ensures { IfOk result (λ m. IsNextWith pass incarnation (kept_of (on open_pass world.now pass)) m) }
-{
-    match value_of(alloc, world, pass, keys, signer, gate)? {
-        Some(given) => Ok(Move::Give {
-            pass,
-            incarnation,
-            given,
-        }),
-        None => Ok(Move::Next { pass, incarnation }),
-    }
-}
-
-/// What is made for the plain move: a pass that waits for a value is given one.
-pub(crate) fn made_for<M: KeyMaker, N: Signer, G: Gate>(
-    alloc: Global,
-    world: &World,
-    step: Move,
-    keys: &M,
-    signer: &N,
-    gate: &G,
-) -> Result<Move, AllocError>
-    ensures { IfOk result (λ m. on IsMadeFor world.now step m) }
-{
-    match step {
-        Move::Next { pass, incarnation } => {
-            next_of(alloc, world, pass, incarnation, keys, signer, gate)
-        }
-        other => Ok(other),
     }
 }

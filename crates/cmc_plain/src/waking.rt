@@ -19,8 +19,10 @@ ghost use Rattle.cmc_plain.specs.declared.kept.Kept.TheVariants as found;
 ghost use Rattle.cmc_plain.specs.Next.{IsNextDelivery, IsNextDeliveryTo, IsNextScript};
 ghost use Rattle.cmc_plain.specs.Openings.{LeavesOpened};
 ghost use Rattle.cmc_plain.specs.Plain.{IsPlainMove};
+ghost use Rattle.cmc_plain.specs.PlainMoves.{IsNextPlain, move_of};
 ghost use Rattle.cmc_plain.specs.Searches.{FindsWork, IsWork};
 
+use crate::begins::Beginning;
 use crate::deliveries::{Delivery, first_delivery, first_kind_of};
 use crate::fed_begins::begin_kept;
 use crate::fed_deliveries::deliver;
@@ -29,10 +31,12 @@ use crate::fed_scripts::script;
 use crate::kept::Kept;
 use crate::next_move::plain_by;
 use crate::openings::{Opened, Opening, open};
+use crate::passes::Going;
+use crate::plain_move::{PlainMove, as_move};
 use crate::rest::{is_finished, is_step_ready};
 use crate::taken_over::queues_of;
 use crate::work::next_work;
-use cmc_meta::Key;
+use cmc_meta::{Key, Kind};
 use cmc_objects::Role;
 use cmc_queue::Queue;
 use cmc_setup::Scenario;
@@ -151,6 +155,15 @@ impl Waking {
     /// Want of memory alone.
     pub fn plain(&mut self, alloc: Global) -> Result<Option<Move>, AllocError>
         ensures plain { IfOk result (λ m. on IsPlainMove self.old m) }
+        ensures same { self.new ≡ self.old }
+    {
+        let next = self.next_plain(alloc)?;
+        Ok(as_move(next))
+    }
+
+    /// The same, as the search tells it.
+    pub(crate) fn next_plain(&mut self, alloc: Global) -> Result<Option<PlainMove>, AllocError>
+        ensures plain { IfOk result (λ m. on IsNextPlain self.old m) }
         ensures same { self.new ≡ self.old }
     {
         plain_by(alloc, &self.world, &mut self.queues, &mut self.kept)
@@ -278,6 +291,24 @@ impl Waking {
         script(alloc, &mut self.world, &mut self.queues, ready)
     }
 
+    /// Tells the role of the accepted writes of the kind up to the version `to`, as `World::step` does.
+    fn step_deliver(
+        &mut self,
+        alloc: Global,
+        role: Role,
+        kind: Kind,
+        to: u64,
+    ) -> Result<Stepped, AllocError>
+        ensures answer { IfOk result (λ r. on Answers self.old (moves.Deliver role kind to) r) }
+        ensures leaves { IfOk result (λ r. on Leaves self.old (moves.Deliver role kind to) r self.new.history) }
+        ensures scenario { self.new.scenario ≡ self.old.scenario }
+        ensures run { on IsRun self.new }
+        ensures err { OnErr result (self.new ≡ self.old) }
+    {
+        forget(&mut self.kept);
+        deliver(alloc, &mut self.world, &mut self.queues, role, kind, to)
+    }
+
     /// Begins a pass of the role on the key, as `World::step` does.
     fn step_begin(&mut self, alloc: Global, role: Role, key: Key) -> Result<Stepped, AllocError>
         ensures answer { IfOk result (λ r. on Answers self.old (moves.Begin role key) r) }
@@ -316,6 +347,28 @@ impl Waking {
         )
     }
 
+    /// Makes the move of the plain order, as `step` does.
+    pub(crate) fn make_plain(
+        &mut self,
+        alloc: Global,
+        next: PlainMove,
+    ) -> Result<Stepped, AllocError>
+        ensures answer { IfOk result (λ r. on Answers self.old (move_of next) r) }
+        ensures leaves { IfOk result (λ r. on Leaves self.old (move_of next) r self.new.history) }
+        ensures scenario { self.new.scenario ≡ self.old.scenario }
+        ensures run { on IsRun self.new }
+        ensures err { OnErr result (self.new ≡ self.old) }
+    {
+        match next {
+            PlainMove::Script => self.step_script(alloc),
+            PlainMove::Deliver { role, kind, to } => self.step_deliver(alloc, role, kind, to),
+            PlainMove::Begin(Beginning { role, key }) => self.step_begin(alloc, role, key),
+            PlainMove::Next(Going { pass, incarnation }) => {
+                self.step_next(alloc, pass, incarnation)
+            }
+        }
+    }
+
     /// Makes one move, as `World::step` does, and feeds the work queues.
     ///
     /// # Errors
@@ -330,10 +383,7 @@ impl Waking {
     {
         match step {
             Move::Script => self.step_script(alloc),
-            Move::Deliver { role, kind, to } => {
-                forget(&mut self.kept);
-                deliver(alloc, &mut self.world, &mut self.queues, role, kind, to)
-            }
+            Move::Deliver { role, kind, to } => self.step_deliver(alloc, role, kind, to),
             Move::Begin { role, key } => self.step_begin(alloc, role, key),
             Move::Next { pass, incarnation } => self.step_next(alloc, pass, incarnation),
             Move::Give { pass, .. } | Move::Decide { pass, .. } => {

@@ -5,6 +5,7 @@ ghost use Rattle.cmc_pass.specs.Values.{IsValue};
 ghost use Rattle.cmc_rules.specs.Acts.{act, call_after};
 ghost use Rattle.cmc_rules.specs.Causes.{MayCall, MayAsk, MayEnd};
 ghost use Rattle.cmc_rules.specs.Legality.{IsOpen};
+ghost use Rattle.cmc_rules.specs.Runs.{IsRun};
 ghost use Rattle.cmc_rules.specs.Desks.{desk as desk_at};
 ghost use Rattle.cmc_model.specs.Replies as replies;
 ghost use Rattle.cmc_rules.specs.Passes as spec;
@@ -23,7 +24,7 @@ use cmc_moves::{
     Doing, Judged, Lack, Stepped, answer_of, answer_value, doing_of, ending_at, hangs_on_act,
     let_go, outdated_of, value_entry_of,
 };
-use cmc_objects::{Call, Cause, Entry, Order, Role, Who};
+use cmc_objects::{Call, Cause, Entry, Order, Role, Shared, Who};
 use cmc_pass::{Desk, Given, Value};
 use cmc_rules::{Ending, OpenPass, Origin, Stage};
 use cmc_store::Replied;
@@ -245,7 +246,7 @@ impl World {
         match &current.stage {
             Stage::Asked { order } => Ok(Judged::Answer(Stepped::Order {
                 pass,
-                order: order.copy()?,
+                order: Shared::new(alloc, order.copy()?)?,
             })),
             _ => self.judge_doing(alloc, pass, current),
         }
@@ -276,7 +277,7 @@ impl World {
         match self.judge_next(alloc, pass, named)? {
             Judged::Answer(answer) => Ok(answer),
             Judged::Does(doing) => {
-                let answer = answer_of(pass, &doing);
+                let answer = answer_of(alloc, pass, &doing);
                 let_go(doing);
                 answer
             }
@@ -284,7 +285,12 @@ impl World {
     }
 
     /// What a value for the question of the open pass is answered.
-    fn judge_value(&self, current: &OpenPass, given: &Given) -> Result<Stepped, AllocError>
+    fn judge_value(
+        &self,
+        alloc: Global,
+        current: &OpenPass,
+        given: &Given,
+    ) -> Result<Stepped, AllocError>
         ensures { IfOk result (λ a. on AnswersGiven self.now (kept_of (Some current.now)) (order_of given.now) a) }
     {
         let Stage::Asked { order } = &current.stage else {
@@ -292,12 +298,13 @@ impl World {
         };
         let entries = self.history.len();
         let room = has_room(entries, self.scenario.events(), 1);
-        answer_value(order, given, entries, room)
+        answer_value(alloc, order, given, entries, room)
     }
 
     /// What the pass of this number is answered where it is given this.
     pub(crate) fn judge_give(
         &self,
+        alloc: Global,
         pass: u64,
         named: u64,
         given: &Given,
@@ -308,7 +315,7 @@ impl World {
             return Ok(Stepped::Ended { incarnation });
         }
         match self.passes.get(pass) {
-            Some(open) => self.judge_value(open, given),
+            Some(open) => self.judge_value(alloc, open, given),
             None => Ok(Stepped::NotNow(Lack::NoPass { pass })),
         }
     }
@@ -460,7 +467,7 @@ impl World {
         ensures leaves { IfOk result (λ r. (named : ℕ) → on Leaves self.old (moves.Next pass named) r self.new.history) }
         ensures err { OnErr result (self.new ≡ self.old) }
     {
-        let answer = match answer_of(pass, &doing) {
+        let answer = match answer_of(alloc, pass, &doing) {
             Ok(answer) => answer,
             Err(lack) => {
                 let_go(doing);
@@ -471,7 +478,26 @@ impl World {
         Ok(answer)
     }
 
-    pub(crate) fn step_next(
+    /// Has the pass of this number, begun while its role had the incarnation `named`, go on, as `step` does by the move
+    /// `Next`.
+    ///
+    /// # Errors
+    ///
+    /// Want of memory alone, which leaves the world as it was.
+    pub fn step_next(&mut self, alloc: Global, pass: u64, named: u64) -> Result<Stepped, AllocError>
+        ensures answer { IfOk result (λ r. on AnswersNext self.old pass named r) }
+        ensures scenario { self.new.scenario ≡ self.old.scenario }
+        ensures leaves { IfOk result (λ r. on Leaves self.old (moves.Next pass named) r self.new.history) }
+        ensures run { on IsRun self.new }
+        ensures err { OnErr result (self.new ≡ self.old) }
+    {
+        self.is_run();
+        let answer = self.go_next(alloc, pass, named)?;
+        self.is_run();
+        Ok(answer)
+    }
+
+    pub(crate) fn go_next(
         &mut self,
         alloc: Global,
         pass: u64,
@@ -490,6 +516,7 @@ impl World {
 
     pub(crate) fn step_give(
         &mut self,
+        alloc: Global,
         pass: u64,
         named: u64,
         given: Given,
@@ -499,7 +526,7 @@ impl World {
         ensures leaves { IfOk result (λ r. on Leaves self.old (moves.Give pass named given) r self.new.history) }
         ensures err { OnErr result (self.new ≡ self.old) }
     {
-        let answer = self.judge_give(pass, named, &given)?;
+        let answer = self.judge_give(alloc, pass, named, &given)?;
         if !answer.is_done() {
             return Ok(answer);
         }

@@ -3,6 +3,7 @@ ghost use Rattle.std.specs.Prelude.{◌≡◌, ◌↔◌, ◌<◌, ◌≤◌, �
 ghost use Rattle.cmc_model.specs.Histories.{accepted};
 ghost use Rattle.cmc_rules.specs.Legality.{IsOfKind, IsDelivery, IsListing};
 ghost use Rattle.cmc_rules.specs.Positions.{position};
+ghost use Rattle.cmc_rules.specs.Runs.{IsRun};
 ghost use Rattle.cmc_rules.specs.Scripting as spec;
 ghost use Rattle.cmc_model.specs.Writes.{write_at};
 ghost use Rattle.cmc_moves.specs.Answers.{AnswersDelivery, Leaves, delivered};
@@ -111,7 +112,31 @@ impl World {
         self.list(alloc, role, kind, newest)
     }
 
-    pub(crate) fn step_deliver(
+    /// Tells the role of the accepted writes of the kind up to the version `to`, as `step` does by the move `Deliver`.
+    ///
+    /// # Errors
+    ///
+    /// Want of memory alone, which leaves the world as it was.
+    pub fn step_deliver(
+        &mut self,
+        alloc: Global,
+        role: Role,
+        kind: Kind,
+        to: u64,
+    ) -> Result<Stepped, AllocError>
+        ensures answer { IfOk result (λ r. on AnswersDelivery self.old role kind to r) }
+        ensures scenario { self.new.scenario ≡ self.old.scenario }
+        ensures leaves { IfOk result (λ r. on Leaves self.old (moves.Deliver role kind to) r self.new.history) }
+        ensures run { on IsRun self.new }
+        ensures err { OnErr result (self.new ≡ self.old) }
+    {
+        self.is_run();
+        let answer = self.make_delivery(alloc, role, kind, to)?;
+        self.is_run();
+        Ok(answer)
+    }
+
+    pub(crate) fn make_delivery(
         &mut self,
         alloc: Global,
         role: Role,

@@ -15,24 +15,24 @@ use Rattle.cmc_plain.proofs.fed_deliveries.deliver.Goals as goal
 
 pub returns-in_default-clause-fed : goal.returns-in_default-clause-fed
 returns-in_default-clause-fed c =
-    fed_refused c.args.world.now c.step.new.self (moves.Deliver c.args.role c.args.kind c.args.to) (λ a. on AnswersDelivery c.args.world.now c.args.role c.args.kind c.args.to a) c.step.result c.args.queues.now c.is_run.ensures.run
-    (subst (λ (o : Option ℕ). on IsReach c.args.world.now c.args.role c.args.kind c.args.to o) c.in_default.is c.reach.ensures) c.step.ensures.scenario c.step.ensures.answer c.step.ensures.leaves c.step.ensures.err c.requires
+    fed_refused c.args.world.now c.step_deliver.new.self (moves.Deliver c.args.role c.args.kind c.args.to) (λ a. on AnswersDelivery c.args.world.now c.args.role c.args.kind c.args.to a) c.step_deliver.result c.args.queues.now c.is_run.ensures.run
+    (subst (λ (o : Option ℕ). on IsReach c.args.world.now c.args.role c.args.kind c.args.to o) c.in_default.is c.reach.ensures) c.step_deliver.ensures.scenario c.step_deliver.ensures.answer c.step_deliver.ensures.leaves c.step_deliver.ensures.err c.requires
 
 pub returns-in_err-wake-clause-fed : goal.returns-in_err-wake-clause-fed
 returns-in_err-wake-clause-fed c = fed_woken c.args.world.now c.args.role c.in_ok-keys.keys.items c.args.queues.now c.wake.new.self c.in_ok-keys.ensures.work (subst (λ (ks : List Key). WakesSome ks (queue_in c.args.queues.now c.args.role) (queue_in c.wake.new.self c.args.role)) c.deref.ensures.value c.wake.ensures.some) c.wake.ensures.others c.requires
 
 pub returns-in_err-answer-clause-fed : goal.returns-in_err-answer-clause-fed
-returns-in_err-answer-clause-fed c = fed_same c.args.world.now c.step-2.new.self c.wake.new.self c.in_err-answer.ensures.err (fed_woken c.args.world.now c.args.role c.in_ok-keys.keys.items c.args.queues.now c.wake.new.self c.in_ok-keys.ensures.work (subst (λ (ks : List Key). WakesSome ks (queue_in c.args.queues.now c.args.role) (queue_in c.wake.new.self c.args.role)) c.deref.ensures.value c.wake.ensures.some) c.wake.ensures.others c.requires)
+returns-in_err-answer-clause-fed c = fed_same c.args.world.now c.step_deliver-2.new.self c.wake.new.self c.in_err-answer.ensures.err (fed_woken c.args.world.now c.args.role c.in_ok-keys.keys.items c.args.queues.now c.wake.new.self c.in_ok-keys.ensures.work (subst (λ (ks : List Key). WakesSome ks (queue_in c.args.queues.now c.args.role) (queue_in c.wake.new.self c.args.role)) c.deref.ensures.value c.wake.ensures.some) c.wake.ensures.others c.requires)
 
 pub returns-then-not-is_done-clause-fed : goal.returns-then-not-is_done-clause-fed
 returns-then-not-is_done-clause-fed c =
-    fed_not_made c.args.world.now c.step-2.new.self (moves.Deliver c.args.role c.args.kind c.args.to) c.in_ok-answer.answer c.wake.new.self c.is_run.ensures.run (sym c.is_done.ensures ∙ c.if-not-is_done.true) c.step-2.ensures.scenario
+    fed_not_made c.args.world.now c.step_deliver-2.new.self (moves.Deliver c.args.role c.args.kind c.args.to) c.in_ok-answer.answer c.wake.new.self c.is_run.ensures.run (sym c.is_done.ensures ∙ c.if-not-is_done.true) c.step_deliver-2.ensures.scenario
     c.in_ok-answer.ensures.leaves (fed_woken c.args.world.now c.args.role c.in_ok-keys.keys.items c.args.queues.now c.wake.new.self c.in_ok-keys.ensures.work (subst (λ (ks : List Key). WakesSome ks (queue_in c.args.queues.now c.args.role) (queue_in c.wake.new.self c.args.role)) c.deref.ensures.value c.wake.ensures.some) c.wake.ensures.others c.requires)
 
 pub returns-clause-fed : goal.returns-clause-fed
 returns-clause-fed c =
-    fed_told c.args.world.now c.step-2.new.self c.args.role c.args.kind c.args.to c.in-Some.upto c.in_ok-keys.keys.items c.args.queues.now c.told.new.self c.step-2.ensures.run c.step-2.ensures.scenario
-    (subst (λ (a : Stepped). on Leaves c.args.world.now (moves.Deliver c.args.role c.args.kind c.args.to) a c.step-2.new.self.history) (the_done c.in_ok-answer.answer (sym c.is_done.ensures ∙ c.if-not-is_done.false)) c.in_ok-answer.ensures.leaves)
+    fed_told c.args.world.now c.step_deliver-2.new.self c.args.role c.args.kind c.args.to c.in-Some.upto c.in_ok-keys.keys.items c.args.queues.now c.told.new.self c.step_deliver-2.ensures.run c.step_deliver-2.ensures.scenario
+    (subst (λ (a : Stepped). on Leaves c.args.world.now (moves.Deliver c.args.role c.args.kind c.args.to) a c.step_deliver-2.new.self.history) (the_done c.in_ok-answer.answer (sym c.is_done.ensures ∙ c.if-not-is_done.false)) c.in_ok-answer.ensures.leaves)
     (subst (λ (o : Option ℕ). on IsReach c.args.world.now c.args.role c.args.kind c.args.to o) c.in-Some.is c.reach.ensures) c.in_ok-keys.ensures
     (told_rows c.args.role c.args.kind c.in-Some.upto c.in_ok-keys.keys.items c.args.queues.now c.wake.new.self c.told.new.self
     (subst (λ (ks : List Key). (key : Key) → row_at c.wake.new.self c.args.role key ≡ added_if (is_among ks key) (row_at c.args.queues.now c.args.role key)) c.deref.ensures.value c.in_ok-wake.ensures.rows) c.told.ensures.rows) (others_twice c.args.role c.args.queues.now c.wake.new.self c.told.new.self c.wake.ensures.others c.told.ensures.others)

@@ -1,18 +1,19 @@
 use Rattle.std.proofs.Common.{Option, sym, subst}
-use Rattle.cmc_moves.specs.declared.moves.Move.{Move}
 use Rattle.cmc_world.specs.Kept.{setting_of}
 use Rattle.cmc_plain.specs.declared.begins.Beginning.{Beginning}
-use Rattle.cmc_plain.specs.Plain.{IsPlainMove}
+use Rattle.cmc_plain.specs.declared.plain_move.PlainMove.{PlainMove}
+use Rattle.cmc_plain.specs.PlainMoves.{IsNextPlain}
 use Rattle.cmc_plain.specs.Searches.{FindsBegin}
-use Rattle.cmc_plain.proofs.Chosen.{rest_first, some_begin}
+use Rattle.cmc_plain.proofs.Chosen.{as_told, rest_first, some_begin}
 use Rattle.cmc_plain.proofs.next_move.first_to_begin.Goals as goal
 
 pub returns-then-branch-clause-plain : goal.returns-then-branch-clause-plain
 returns-then-branch-clause-plain c =
     let s = setting_of c.args.world.now.scenario in
     let h = c.args.world.now.history in
-    subst (λ (m : Option Move). IsPlainMove s h m) (sym c.at_rest.ensures)
-    (rest_first s h c.args.left c.in_ok-rests_in_each.field-0 c.is_run.ensures.run c.is_settled.ensures c.requires.left c.requires.closed c.requires.told c.in_ok-rests_in_each.ensures.test c.if-branch.true)
+    subst (λ (m : Option PlainMove). IsNextPlain s h m) (sym c.at_rest.ensures)
+    (as_told s h c.args.left
+    (rest_first s h c.args.left c.in_ok-rests_in_each.field-0 c.is_run.ensures.run c.is_settled.ensures c.requires.left c.requires.closed c.requires.told c.in_ok-rests_in_each.ensures.test c.if-branch.true))
 
 pub unreachable-requires : goal.unreachable-requires
 unreachable-requires c =
