@@ -1,20 +1,20 @@
 -- What a role saw last and what it sees are of one run.
-use Rattle.std.proofs.Common.{◌≡◌, ◌&&◌, ◌+◌, ℕ, ℤ, inr, List, [], ◌∷◌, Option, Some, None, Bool, true, false}
-use Rattle.std.specs.Prelude.{IfSome, option_map, if◌then◌else◌}
+use Rattle.std.proofs.Common.{◌≡◌, ◌∙◌, ◌&&◌, ◌+◌, ℕ, ℤ, inr, ◌<◌, suc, zero, inl, List, [], ◌∷◌, length, get_or, slice_index_or, take, Option, Some, None, Bool, true, false, nat_eq, sym, ap, subst, arith}
+use Rattle.std.proofs.lemmas.List.{take_more_same}
+use Rattle.std.proofs.lemmas.Bool.Decides.{nat_tests}
+use Rattle.std.specs.Prelude.{◌↔◌, IsTrue, IfSome, option_map, if◌then◌else◌}
 use Rattle.cmc_meta.specs.declared.key.Key.{Key}
 use Rattle.cmc_meta.specs.declared.key.Kind.{Kind}
 use Rattle.cmc_meta.specs.Keys.{key_eq}
 use Rattle.cmc_objects.specs.declared.certificate.Certificate.{Certificate}
 use Rattle.cmc_objects.specs.declared.request.CertificateRequest.{CertificateRequest}
 use Rattle.cmc_objects.specs.declared.secret.Secret.{Secret as SecretObject}
-use Rattle.cmc_objects.specs.declared.object.Object.{Object}
 use Rattle.cmc_objects.specs.declared.object.Object.TheVariants.{Cert, Request, Secret}
 use Rattle.cmc_objects.specs.declared.role.Role.{Role}
 use Rattle.cmc_objects.specs.declared.entry.Who.{Who}
 use Rattle.cmc_objects.specs.declared.entry.Who.TheVariants.{User, Pass}
 use Rattle.cmc_objects.specs.declared.entry.Entry.{Entry}
 use Rattle.cmc_objects.specs.declared.entry.Entry.TheVariants.{Call as Called, Begin, End, Start}
-use Rattle.cmc_objects.specs.Objects.{version_of}
 use Rattle.cmc_pass.specs.declared.pass.Views.{Views}
 use Rattle.cmc_model.specs.declared.write.Write.{Write}
 use Rattle.cmc_model.specs.Replies.{is_accepted, key_of_call, settled}
@@ -26,6 +26,7 @@ use Rattle.cmc_rules.specs.declared.progress.Past.{Past}
 use Rattle.cmc_rules.specs.Legality.{IsLegal}
 use Rattle.cmc_rules.specs.Memory.{ending_of, no_past, past, past_called, with_begin, with_ending, with_own}
 use Rattle.cmc_rules.specs.Passes.{is_pass_of, open_pass}
+use Rattle.cmc_rules.specs.Sighting.{IsAmong}
 use Rattle.cmc_rules.specs.Viewing.{views}
 use Rattle.cmc_rules.proofs.Sighted.{AreKnown, version_has_one_object, views_known}
 use Rattle.cmc_rules.proofs.Sights.{seen_certificate, seen_secret, seen_request, seen_next, seen_owned}
@@ -104,3 +105,29 @@ next_tell l r one = λ a b x y same. let o : Secret a ≡ Secret b = one (Secret
 
 pub owned_tell : (l r : Views) → AreOfOneRun l r → VersionsTellAll (λ (q : CertificateRequest). q.meta.version) l.requests r.requests
 owned_tell l r one = λ a b x y same. let o : Request a ≡ Request b = one (Request a) (Request b) (seen_owned l a x) (seen_owned r b y) same in cc o
+
+-- the test of one part
+pub by_version : {A : Type 0} (version : A → ℕ) (left right : Option A) (a b x y : A) → VersionsTell version left right → left ≡ Some a → right ≡ Some b → x ≡ a → y ≡ b
+    → IsTrue (nat_eq (version x) (version y)) ↔ (left ≡ right)
+by_version version left right a b x y tell l r p q = (λ on.
+    let same : version x ≡ version y = grind (arith, nat_tests, on) in
+    l ∙ ap Some (tell a b l r (sym (ap version p) ∙ same ∙ ap version q)) ∙ sym r, λ is.
+    let one : Some a ≡ Some b = sym l ∙ is ∙ r in
+    let both : a ≡ b = cc one in
+    let same : version x ≡ version y = ap version (p ∙ both ∙ sym q) in
+    grind (arith, nat_tests, same))
+
+at_among : {A : Type 0} (xs : List A) (i : ℕ) (a : A) → i < length xs → get_or xs i a ≡ a → IsAmong a xs
+at_among [] i a within is = absurd (omega (arith, within))
+at_among (x ∷ xs) zero a within is = inl is
+at_among (x ∷ xs) (suc i) a within is = inr (at_among xs i a (omega (arith, within)) is)
+
+-- one item more of two lists is the same
+pub next_same : {A : Type 0} (version : A → ℕ) (left right : List A) (i : ℕ) (a b x y : A) → VersionsTellAll version left right → i < length left → length left ≡ length right → take i left ≡ take i right
+    → a ≡ slice_index_or left i a → b ≡ slice_index_or right i b → x ≡ a → y ≡ b → version x ≡ version y → take (i + 1) left ≡ take (i + 1) right
+next_same version left right i a b x y tell within long so_far is_left is_right p q same =
+    let l : get_or left i a ≡ a = grind (arith, is_left) in
+    let r : get_or right i b ≡ b = grind (arith, is_right) in
+    let there : i < length right = omega (arith, within, long) in
+    let one : a ≡ b = tell a b (at_among left i a within l) (at_among right i b there r) (sym (ap version p) ∙ same ∙ ap version q) in
+    take_more_same left right i a within there so_far (l ∙ sym (subst (λ z. get_or right i z ≡ z) (sym one) r))

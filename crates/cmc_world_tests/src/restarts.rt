@@ -56,9 +56,9 @@ fn give(
     world: &mut World,
     pass: u64,
     incarnation: u64,
-    order: Order,
+    order: &Order,
 ) -> Result<(), Fail> {
-    let given = value_then(alloc, order)?;
+    let given = value_then(alloc, order.copy()?)?;
     let step = Move::Give {
         pass,
         incarnation,
@@ -90,7 +90,7 @@ pub(crate) fn make(alloc: Global, world: &mut World, step: Move) -> Result<(), F
     }
     match answer.into_order() {
         Some((pass, order)) if world.history().as_slice().len() == before => {
-            give(alloc, world, pass, incarnation, order)
+            give(alloc, world, pass, incarnation, &order)
         }
         Some(_) => Ok(()),
         None => Err(Fail::from("not made")),

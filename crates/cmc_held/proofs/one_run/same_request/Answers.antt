@@ -1,0 +1,8 @@
+use Rattle.cmc_objects.specs.declared.request.CertificateRequest.{CertificateRequest}
+use Rattle.cmc_held.proofs.OneRun.{by_version}
+use Rattle.cmc_held.proofs.one_run.same_request.Goals as goal
+
+pub returns-in-Some-Some : goal.returns-in-Some-Some
+returns-in-Some-Some c =
+    by_version (λ (r : CertificateRequest). r.meta.version) c.args.left.now c.args.right.now c.in-Some-Some.left c.in-Some-Some.right c.deref.result.now c.deref-in-Some-Some.result.now
+    c.requires c.in-Some-Some.is-0 c.in-Some-Some.is-1 c.deref.ensures c.deref-in-Some-Some.ensures

@@ -1,0 +1,5 @@
+use Rattle.std.proofs.Common.{◌≡◌, take, length}
+use Rattle.cmc_held.proofs.one_run.same_requests.Given as goal
+
+abbrev pub invariant-loop-i : goal.invariant-loop-i
+invariant-loop-i l = (take l.i l.left ≡ take l.i l.right) × (length l.left ≡ length l.right)
