@@ -109,13 +109,16 @@ owned_tell l r one = λ a b x y same. let o : Request a ≡ Request b = one (Req
 -- the test of one part
 pub by_version : {A : Type 0} (version : A → ℕ) (left right : Option A) (a b x y : A) → VersionsTell version left right → left ≡ Some a → right ≡ Some b → x ≡ a → y ≡ b
     → IsTrue (nat_eq (version x) (version y)) ↔ (left ≡ right)
-by_version version left right a b x y tell l r p q = (λ on.
-    let same : version x ≡ version y = grind (arith, nat_tests, on) in
-    l ∙ ap Some (tell a b l r (sym (ap version p) ∙ same ∙ ap version q)) ∙ sym r, λ is.
-    let one : Some a ≡ Some b = sym l ∙ is ∙ r in
-    let both : a ≡ b = cc one in
-    let same : version x ≡ version y = ap version (p ∙ both ∙ sym q) in
-    grind (arith, nat_tests, same))
+by_version version left right a b x y tell l r p q = (
+  λ on.
+      let same : version x ≡ version y = grind (arith, nat_tests, on) in
+      l ∙ ap Some (tell a b l r (sym (ap version p) ∙ same ∙ ap version q)) ∙ sym r,
+  λ is.
+      let one : Some a ≡ Some b = sym l ∙ is ∙ r in
+      let both : a ≡ b = cc one in
+      let same : version x ≡ version y = ap version (p ∙ both ∙ sym q) in
+      grind (arith, nat_tests, same),
+)
 
 at_among : {A : Type 0} (xs : List A) (i : ℕ) (a : A) → i < length xs → get_or xs i a ≡ a → IsAmong a xs
 at_among [] i a within is = absurd (omega (arith, within))
