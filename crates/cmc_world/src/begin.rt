@@ -58,7 +58,7 @@ fn own_write(past: Option<&Past>, at: Positions) -> Option<u64>
 
 /// Whether a pass that sees this would be the last one again.
 fn is_again(past: Option<&Past>, seen: &Views, now: i64, at: Positions) -> bool
-    requires { IsOfOneRun (past_or_new (option_copied past.entry)).last seen.now }
+    requires { IsOfOneRun (past_or_new (option_copied past)).last seen.now }
     ensures { IsTrue result ↔ IsSame (past_or_new (option_copied past.entry)).last seen.now now at }
 {
     match past {

@@ -5,6 +5,7 @@ ghost use Rattle.cmc_objects.specs.declared.role.Role.{Role as RoleValue};
 ghost use Rattle.cmc_rules.specs.Following.{owed};
 ghost use Rattle.cmc_model.specs.Histories as spec;
 ghost use Rattle.cmc_rules.specs.Passes.{open_pass};
+ghost use Rattle.cmc_held.specs.OneRun.{IsOfOneRun};
 ghost use Rattle.cmc_rules.specs.Memory.{past};
 ghost use Rattle.cmc_rules.specs.Origins.{begun};
 ghost use Rattle.cmc_rules.specs.Sameness.{IsDue};

@@ -45,7 +45,7 @@ fn is_due_after(past: &Past, seen: &Views, now: i64, at: Positions) -> bool
 
 /// Whether the role may begin a pass on the key that sees this.
 pub(crate) fn is_due(past: Option<&Past>, seen: &Views, now: i64, at: Positions) -> bool
-    requires { IsOfOneRun (past_or_new (option_copied past.entry)).last seen.now }
+    requires { IsOfOneRun (past_or_new (option_copied past)).last seen.now }
     ensures { IsTrue result ↔ IsDue (past_or_new (option_copied past.entry)) seen.now now at }
 {
     match past {

@@ -36,7 +36,7 @@ fn saw(alloc: Global, last: &Option<LastPass>, seen: &Views) -> bool
 
 /// Whether the role saw this as it last began on the key.
 fn saw_before(alloc: Global, before: Option<&Past>, seen: &Views) -> bool
-    requires { IsOfOneRun (past_or_new (option_copied before.entry)).last seen.now }
+    requires { IsOfOneRun (past_or_new (option_copied before)).last seen.now }
     ensures { IsTrue result ↔ (seen.now ≡ spec.seen_last (past_or_new (option_copied before.entry)).last) }
 {
     match before {
