@@ -14,6 +14,7 @@ import json
 import os
 import random
 import re
+import shutil
 import subprocess
 import sys
 import tempfile
@@ -40,10 +41,10 @@ HISTORY_TOOLS = ("timeline.py", "status.py", "lanes.py")
 LONGEST = 60
 
 
-def ran(words, data=b"", cwd=TOP, seconds=600):
+def ran(words, data=b"", cwd=TOP, seconds=600, tools=TOOLS):
     """Runs a tool, and gives its status, its output, and its lines on standard error."""
     environment = {**os.environ, "PYTHONDONTWRITEBYTECODE": "1"}
-    it = subprocess.run([sys.executable, f"{TOOLS}/{words[0]}", *words[1:]], input=data, capture_output=True, cwd=cwd, timeout=seconds, env=environment, check=False)
+    it = subprocess.run([sys.executable, f"{tools}/{words[0]}", *words[1:]], input=data, capture_output=True, cwd=cwd, timeout=seconds, env=environment, check=False)
     return it.returncode, it.stdout.decode(), it.stderr.decode()
 
 
@@ -138,6 +139,14 @@ def test_links():
                 assert "://" in target or os.path.exists(path), f"{os.path.relpath(page, TOP)}: {target}"
 
 
+def test_changing_paths():
+    """Each path that the page on changes names is there, at the top or in crates/, but for those of a controller that is new."""
+    with open(f"{TOP}/docs/CHANGING.md", encoding="utf-8") as file:
+        paths = [it for it in re.findall(r"`([^`\s]+/[^`\s]+)`", file.read()) if "NAME" not in it and not it.startswith("src/")]
+    gone = [it for it in paths if not os.path.exists(f"{TOP}/{it}") and not os.path.exists(f"{TOP}/crates/{it}")]
+    assert len(paths) > 50 and not gone, gone
+
+
 def test_expect_members():
     """Each member that an expectation may have is told of a Certificate or of all."""
     facts = expect.Facts(History.read(stored("shop.history")))
@@ -212,6 +221,13 @@ def test_words_are_refused():
         ["library.py", "--program", "/nonexistent"],
         ["why.py", "--program", "/nonexistent", "x"],
         ["demo", "--no-such"],
+        ["names", "x"],
+        ["names", "--at-most", "1"],
+        ["do"],
+        ["do", "above"],
+        ["do", "above", "no_such"],
+        ["do", "check", "no_such"],
+        ["do", "rows", "--program", "/nonexistent", "true"],
     ]
     for words in cases:
         code, out, err = ran(words)
@@ -371,6 +387,82 @@ def test_tools_write_nothing():
             ran([name], stored("shop.history"), cwd=folder)
         ran(["cluster.py"], stored("cluster.json"), cwd=folder)
         assert os.listdir(folder) == []
+
+
+# ---- tools that read the code
+
+
+@contextlib.contextmanager
+def small_tree(files):
+    """The tools of a repository that has these files alone."""
+    with tempfile.TemporaryDirectory() as folder:
+        for path, text in files.items():
+            os.makedirs(os.path.dirname(f"{folder}/{path}"), exist_ok=True)
+            cli.write_text(f"{folder}/{path}", text)
+        os.makedirs(f"{folder}/tools")
+        for name in ("cli.py", "do", "names"):
+            shutil.copy(f"{TOOLS}/{name}", f"{folder}/tools/{name}")
+        yield f"{folder}/tools"
+
+
+WORDS = {
+    "crates/low/specs/Keys.antt": """-- pub no_word : Type 0
+pub use Rattle.low.specs.Names.{one}
+abbrev pub two : Bool
+two = true
+unfoldable pub once : Bool
+pub record Same : Type 0 where
+  pub field : Bool
+abbrev mutual
+  pub within : Bool
+  within = two
+""",
+    "crates/low/specs/Names.antt": "pub data Same : Type 0 where\npub record two (n : ℕ) : Type 0 where\n  pub field : Bool\n",
+    "crates/low/specs/Lib.antt": "pub mod Keys\npub mod Names\n",
+    "crates/high/specs/Lib.antt": "pub mod Keys\n",
+    "crates/high/specs/Keys.antt": "abbrev pub within {ℓ} : Bool\nabbrev hidden : Bool\n",
+    "crates/high/src/long.rt": "\n" * 601,
+    "crates/high/src/short.rt": "\n" * 600,
+    "crates/high/out/long.rt": "\n" * 601,
+    "crates/all_tests/src/long.rt": "\n" * 601,
+    "docs/STYLE.md": "| `two` | |\n<!-- one rule: begin -->\n| Words |\n|---|\n| `Same` `gone` | a rule of `within` |\n<!-- one rule: end -->\n",
+}
+
+
+def test_names():
+    """Words that several modules define are listed, but for those of the table, and so are long files; more than so many are refused."""
+    count = "2 words with several definitions, 1 files of more than 600 lines\n"
+    lists = """two: low/specs/Keys, low/specs/Names
+within: high/specs/Keys, low/specs/Keys
+gone: in the table of docs/STYLE.md, and defined by no two modules
+crates/high/src/long.rt: 601 lines
+"""
+    with small_tree(WORDS) as tools:
+        assert ran(["names"], tools=tools) == (0, lists + count, "")
+        assert ran(["names", "--at-most", "2", "1"], tools=tools) == (0, count, "")
+        for words, files, word in (("1", "1", "2 words"), ("2", "0", "1 files")):
+            code, out, err = ran(["names", "--at-most", words, files], tools=tools)
+            assert code == 1 and out == lists + count and err.startswith("names: ") and word in err, f"{code} {out} {err}"
+        assert ran(["do", "names"], tools=tools) == (0, lists + count, "")
+
+
+def test_names_may_not_rise():
+    """The gate refuses more double words and long files than the page on style says that there are."""
+    with open(f"{TOP}/docs/STYLE.md", encoding="utf-8") as page, open(f"{TOP}/.ci/run", encoding="utf-8") as gate:
+        said = re.findall(r"there are (\d+) such words and (\d+) such files", page.read())
+        assert len(said) == 1 and said == re.findall(r"tools/names --at-most (\d+) (\d+)", gate.read()), said
+
+
+def test_above():
+    """What proves again is the crate and all above it, in their order, with what each takes."""
+    files = {
+        "crates.txt": "# NAME: DEP ..\ntop may_wait=1: mid other\nlow:\nmid: low std\nother:\ntests: low\n",
+        "docs/costs.tsv": "crate\tC\tmeasured\tmeasured with tests\nlow\t20\t30\t\nmid\t50\t\t\ntop\t9\t8\t7\ntests\t14\t\t100\nall\t9\t\t\n",
+    }
+    with small_tree(files) as tools:
+        lines = "    15  top\n    30  low\n    50  mid (estimated)\n   114  tests\n4 crates, 209 seconds of one processor\n"
+        assert ran(["do", "above", "low"], tools=tools) == (0, lines, "")
+        assert ran(["do", "above", "top"], tools=tools) == (0, "    15  top\n1 crates, 15 seconds of one processor\n", "")
 
 
 # ---- the schema
