@@ -45,8 +45,3 @@ question_made s h n p found there run opened same is = open_made s h n p run (sy
 pub with_value : (n named : ℕ) (kept : Option Order) (given : Given) → option_map order_of (Some given) ≡ kept → IsNextWith n named kept (Give n named given)
 with_value n named None given is = absurd (cc is)
 with_value n named (Some order) given is = let same : order_of given ≡ order = cc is in (given, same, refl)
-
--- where none is kept, the pass goes on by itself
-pub with_none : (n named : ℕ) (kept : Option Order) → None ≡ kept → IsNextWith n named kept (Next n named)
-with_none n named None is = refl
-with_none n named (Some order) is = absurd (cc is)
