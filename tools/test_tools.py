@@ -26,6 +26,7 @@ STORED = f"{TOOLS}/stored"
 sys.path.insert(0, TOOLS)
 sys.dont_write_bytecode = True
 import cli  # noqa: E402
+import colliding_names  # noqa: E402
 import expect  # noqa: E402
 import lanes  # noqa: E402
 import library  # noqa: E402
@@ -215,6 +216,9 @@ def test_words_are_refused():
         ["expect.py"],
         ["cluster.py", "--now", "today"],
         ["cluster.py", "--cert-manager", "2"],
+        ["colliding_names.py"],
+        ["colliding_names.py", "0"],
+        ["colliding_names.py", "5", "--counts"],
         ["forecast.py", "x"],
         ["forecast.py", "x", "--days", "0"],
         ["explore.py", "x", "--lags", "0"],
@@ -463,6 +467,41 @@ def test_above():
         lines = "    15  top\n    30  low\n    50  mid (estimated)\n   114  tests\n4 crates, 209 seconds of one processor\n"
         assert ran(["do", "above", "low"], tools=tools) == (0, lines, "")
         assert ran(["do", "above", "top"], tools=tools) == (0, "    15  top\n1 crates, 15 seconds of one processor\n", "")
+
+
+# ---- names that collide
+
+# Hashes that were found in the memory of a run: of a Certificate's key, of a Secret's, and of a name under which questions are counted.
+SEEN_HASHES = {colliding_names.CERTIFICATE: 0x15CD9E6C, colliding_names.SECRET: 0xFB946D57, None: 0x28D290DB}
+
+
+def test_table_hashes():
+    """The hash is the program's."""
+    for kind, seen in SEEN_HASHES.items():
+        assert colliding_names.table_hash(colliding_names.before_name(kind), b"ordinaryordinaryordinary00000000") == seen, kind
+
+
+def made_names(words):
+    """The names that a scenario of colliding_names.py has: those of Certificates, and those of the Secrets that they name."""
+    code, out, err = ran(["colliding_names.py", *words])
+    assert code == 0, err
+    scenario = json.loads(out)
+    assert not Schema.load().faults(scenario)
+    objects = [it["object"] for it in scenario["script"] if it["do"] == "apply"]
+    assert {it["metadata"]["namespace"] for it in objects} == {colliding_names.NAMESPACE.decode()}
+    return [it["metadata"]["name"] for it in objects], [it["spec"]["secretName"] for it in objects]
+
+
+def test_colliding_names():
+    """The names are distinct, subdomains, and of one length. All bits that a table sees of their hashes agree, and those of ordinary names differ."""
+    cases = [([], colliding_names.CERTIFICATE, 1, 1), (["--counts", "--roles", "all"], None, 1, 1), (["--ordinary"], colliding_names.CERTIFICATE, 4990, 5000)]
+    for words, kind, fewest, most in cases:
+        for names, place in zip(made_names(["5000", *words]), (kind, colliding_names.SECRET)):
+            assert len(set(names)) == 5000 and {len(it) for it in names} == {colliding_names.LENGTH}
+            assert all(re.fullmatch(r"[a-z0-9]([-a-z0-9]*[a-z0-9])?", it) for it in names)
+            before = colliding_names.before_name(place)
+            hashes = {colliding_names.table_hash(before, it.encode()) for it in names}
+            assert fewest <= len(hashes) <= most, f"{words}: {len(hashes)} hashes of {len(names)} names"
 
 
 # ---- the schema
