@@ -40,10 +40,10 @@ fn reused(
     ensures { IfOk result (λ a. a ≡ table.reused certificate.now desk.now (option_copied file.entry)) }
 {
     let Some(file) = file else {
-        return ask_key(certificate, desk);
+        return ask_key(alloc, certificate, desk);
     };
     if !is_readable(file) {
-        return ask_key(certificate, desk);
+        return ask_key(alloc, certificate, desk);
     }
     if key_fits(&certificate.spec.key, file.as_slice()) {
         Ok(Act::Call(make_call(alloc, certificate, file.copy()?)?))
@@ -63,7 +63,7 @@ fn rotated(
     ensures { IfOk result (λ a. a ≡ table.rotated certificate.now desk.now (option_copied file.entry) rotation) }
 {
     match rotation {
-        Rotation::Always => ask_key(certificate, desk),
+        Rotation::Always => ask_key(alloc, certificate, desk),
         Rotation::Never => reused(alloc, certificate, desk, file),
     }
 }
