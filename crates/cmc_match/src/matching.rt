@@ -13,8 +13,10 @@ ghost use Rattle.cmc_match.specs.Matching.{Matches, HasKey};
 use crate::names::has_names;
 use crate::sets::is_same_set;
 use cmc_keys::{is_key_of, is_public_of};
-use cmc_objects::{CertSpec, CertificateRequest, IssuerRef, KeySpec, RequestSpec, is_one_key};
-use cmc_x509::{CsrFields, Spki, read_key};
+use cmc_objects::{
+    CertSpec, CertificateRequest, IssuerRef, KeySpec, RequestSpec, is_one_key, public_of,
+};
+use cmc_x509::{CsrFields, Spki};
 
 /// Whether the octets are a file of a private key of the algorithm and the size that are asked for, in whichever
 /// encoding.
@@ -123,13 +125,6 @@ pub fn request_matches(spec: &CertSpec, request: &CertificateRequest) -> bool
     ensures value { result ≡ words.matches spec.now request.now }
 {
     matches(spec, request)
-}
-
-/// The public key of a key file: `None` exactly where it is not readable.
-fn public_of<'a>(file: &'a [u8]) -> Option<Spki<'a>>
-    ensures { option_map key_shown result ≡ key_file_at file.now }
-{
-    read_key(file).ok()
 }
 
 /// Whether both were read, and have one public key.

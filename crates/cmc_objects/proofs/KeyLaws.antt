@@ -48,9 +48,12 @@ key_again a b e = let P : PublicKey → Type 0 = λ k. is_one_key a k ≡ true i
 pub key_value : (r : Bool) (a b : PublicKey) → IsTrue r ↔ (a ≡ b) → r ≡ is_one_key a b
 key_value r a b h = same_from_decides r (is_one_key a b) h (key_found a b, key_again a b)
 
+by_key_read : (key certificate : Option (List ℕ)) → pair_of key certificate ≡ pair_with_key (key_read key) certificate
+by_key_read None None = refl
+by_key_read None (Some certificate) = refl
+by_key_read (Some key) None = refl
+by_key_read (Some key) (Some certificate) = refl
+
 -- a pair is told by the public key that was read of the key file
-pub pair_by_read : (key certificate : Option (List ℕ)) → pair_of key certificate ≡ pair_with_key (key_read key) certificate
-pair_by_read None None = refl
-pair_by_read None (Some certificate) = refl
-pair_by_read (Some key) None = refl
-pair_by_read (Some key) (Some certificate) = refl
+pub pair_by_read : (key certificate : Option (List ℕ)) (public : Option PublicKey) → public ≡ key_read key → pair_of key certificate ≡ pair_with_key public certificate
+pair_by_read key certificate public e = rw (e) (by_key_read key certificate)

@@ -35,7 +35,7 @@ pub use lookups::{part_under, text_under};
 pub use material::Material;
 pub use object::Object;
 pub use orders::{CsrOrder, JudgeOrder, KeyOrder, Order, Rules, SignOrder, Signing};
-pub use pairing::{Pairing, is_one_key};
+pub use pairing::{Pairing, is_one_key, public_of};
 pub use parts::Parts;
 pub use request::{CertificateRequest, RequestSpec, RequestStatus};
 pub use role::Role;

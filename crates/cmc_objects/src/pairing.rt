@@ -47,7 +47,8 @@ fn certificate_with_key<'a>(
     }
 }
 
-fn public_of<'a>(file: &'a [u8]) -> Option<Spki<'a>>
+/// Returns the public key of a file of a private key: `None` exactly if `file` is not readable.
+pub fn public_of<'a>(file: &'a [u8]) -> Option<Spki<'a>>
     ensures { option_map key_shown result ≡ key_file_at file.now }
 {
     read_key(file).ok()

@@ -10,9 +10,9 @@ use cmc_match::{
 use cmc_meta::{Bytes, Text, Texts};
 use cmc_objects::{
     Algorithm, CertSpec, CertificateRequest, IssuerRef, KeySpec, RequestSpec, Shared,
-    SigningRequest,
+    SigningRequest, public_of,
 };
-use cmc_x509::{key_public, read_csr, read_key};
+use cmc_x509::{read_csr, read_key};
 use std::alloc::{AllocError, Global};
 use std::test::Fail;
 
@@ -433,7 +433,7 @@ static ANSWERS: [(&str, &str, bool); 5] = [
 fn answers(alloc: Global, request: &str, key: &str) -> Result<bool, Fail> {
     let asked = asking_called(alloc, request)?;
     let file = key_called(alloc, key)?;
-    let public = key_public(file.as_slice());
+    let public = public_of(file.as_slice());
     Ok(request_answers(&whole_spec(alloc)?, &asked, file.as_slice(), &public))
 }
 
