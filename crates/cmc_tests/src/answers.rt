@@ -14,6 +14,7 @@ use cmc_answers::{
 use cmc_meta::{Bytes, Text, Texts};
 use cmc_objects::{
     CertificateRequest, JudgeOrder, RequestSpec, Rules, Shared, SignOrder, SignRow, Signing,
+    SigningRequest,
 };
 use cmc_policy_rules::{Field, Policies, Policy};
 use std::alloc::{AllocError, Global};
@@ -39,7 +40,7 @@ fn asking(alloc: Global, name: &str) -> Result<CertificateRequest, Fail> {
     let octets = made(alloc, &[made_requests::made()], name)?;
     let mut request = request(alloc)?;
     let mut spec = RequestSpec::copy(&request.spec)?;
-    spec.request = octets;
+    spec.request = SigningRequest::new(alloc, octets)?;
     request.spec = Shared::new(alloc, spec)?;
     Ok(request)
 }
