@@ -2,14 +2,14 @@
 ghost use Rattle.std.specs.Prelude.{◌≡◌, IfOk};
 
 use crate::signing::signing_of;
-use cmc_objects::{SignOrder, Signing};
+use cmc_objects::{Shared, SignOrder, Signing};
 use std::alloc::{AllocError, Global};
 use std::marker::Model;
 
 /// A question to an issuer and its answer, which is what the row of the question says, or any where the row is
 /// free.
 pub struct Answered {
-    order: SignOrder,
+    order: Shared<SignOrder>,
     answer: Signing,
 }
 
@@ -36,7 +36,7 @@ impl Answered {
     ghost use Rattle.cmc_answers.specs.Answers.{IsAnswer, AnsweredQuestion};
 
     /// The question with this answer.
-    pub fn new(order: SignOrder, answer: Signing) -> Answered
+    pub fn new(order: Shared<SignOrder>, answer: Signing) -> Answered
         requires { IsAnswer order answer }
         ensures { result ≡ record { order = order; answer = answer } }
     {
@@ -44,7 +44,7 @@ impl Answered {
     }
 
     /// The question.
-    pub fn order(&self) -> &SignOrder
+    pub fn order(&self) -> &Shared<SignOrder>
         ensures { result.now ≡ self.now.order }
     {
         &self.order
@@ -59,7 +59,7 @@ impl Answered {
     }
 
     /// The question and the answer.
-    pub fn into_parts(self) -> (SignOrder, Signing)
+    pub fn into_parts(self) -> (Shared<SignOrder>, Signing)
         ensures order { result.0 ≡ self.order }
         ensures answer { result.1 ≡ self.answer }
         ensures is_answer { IsAnswer self.order self.answer }
@@ -87,7 +87,7 @@ pub trait Signer: Sync {
     /// # Errors
     ///
     /// Where there is no memory.
-    fn sign(&self, alloc: Global, order: &SignOrder) -> Result<Answered, AllocError>
+    fn sign(&self, alloc: Global, order: &Shared<SignOrder>) -> Result<Answered, AllocError>
         ensures { IfOk result (λ a. a.order ≡ order.now) };
 }
 
@@ -99,7 +99,7 @@ impl Signer for ScriptedSigner {
     ghost use Rattle.cmc_answers.specs.Answers.{scripted_answer};
 
     /// What the row says; to a free row that the issuer has not decided yet.
-    fn sign(&self, alloc: Global, order: &SignOrder) -> Result<Answered, AllocError>
+    fn sign(&self, alloc: Global, order: &Shared<SignOrder>) -> Result<Answered, AllocError>
         ensures { IfOk result (λ a. a ≡ record { order = order.now; answer = scripted_answer order.now }) }
     {
         let answer = signing_of(

@@ -5,13 +5,13 @@ ghost use Rattle.cmc_answers.specs.Judging as spec;
 
 use crate::denial::Denial;
 use crate::judging::denial_of;
-use cmc_objects::JudgeOrder;
+use cmc_objects::{JudgeOrder, Shared};
 use std::alloc::{AllocError, Global};
 use std::marker::Model;
 
 /// A question whether a request may be approved, and its judgement. Only `judge` makes one.
 pub struct Judged {
-    order: JudgeOrder,
+    order: Shared<JudgeOrder>,
     denial: Option<Denial>,
 }
 
@@ -37,7 +37,7 @@ impl Model for Judged {
 
 impl Judged {
     /// The question.
-    pub fn order(&self) -> &JudgeOrder
+    pub fn order(&self) -> &Shared<JudgeOrder>
         ensures { result.now ≡ self.now.order }
     {
         &self.order
@@ -60,7 +60,7 @@ impl Judged {
     }
 
     /// The question and its judgement.
-    pub fn into_parts(self) -> (JudgeOrder, Option<Denial>)
+    pub fn into_parts(self) -> (Shared<JudgeOrder>, Option<Denial>)
         ensures order { result.0 ≡ self.order }
         ensures denial { result.1 ≡ self.denial }
         ensures judged { self.denial ≡ spec.denial_of self.order }
@@ -77,7 +77,7 @@ impl Judged {
 /// # Errors
 ///
 /// Where there is no memory.
-pub fn judge(alloc: Global, order: JudgeOrder) -> Result<Judged, AllocError>
+pub fn judge(alloc: Global, order: Shared<JudgeOrder>) -> Result<Judged, AllocError>
     ensures { IfOk result (λ judged. judged ≡ record { order = order; denial = spec.denial_of order }) }
 {
     let denial = denial_of(alloc, &order)?;

@@ -11,7 +11,6 @@ use crate::wanting::wanted_of;
 use cmc_meta::Text;
 use cmc_objects::{JudgeOrder, Rules};
 use cmc_policy_rules::{Decision, Pattern, Policies, Policy, Wanted, decide};
-use cmc_x509::read_csr;
 use std::alloc::{AllocError, Global};
 
 fn is_text(text: &Text, name: &[u8]) -> bool
@@ -92,11 +91,11 @@ fn denial_of_wanted(
 pub fn denial_of(alloc: Global, order: &JudgeOrder) -> Result<Option<Denial>, AllocError>
     ensures { IfOk result (λ denial. denial ≡ spec.denial_of order.now) }
 {
-    match read_csr(order.request.spec.request.as_slice()) {
-        Ok(csr) => {
+    match order.request.spec.request.fields() {
+        Some(csr) => {
             let wanted = wanted_of(alloc, &order.request, &csr)?;
             denial_of_wanted(alloc, &order.rules, &wanted)
         }
-        Err(_) => Ok(Some(Denial::Unreadable)),
+        None => Ok(Some(Denial::Unreadable)),
     }
 }

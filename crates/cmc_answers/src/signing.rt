@@ -7,8 +7,7 @@ ghost use Rattle.cmc_answers.specs.Signings as spec;
 
 use crate::certificates::certificate;
 use cmc_meta::{Bytes, Text};
-use cmc_objects::{CertificateRequest, SignRow, Signing};
-use cmc_x509::read_csr;
+use cmc_objects::{CertificateRequest, SignRow, Signing, SigningRequest};
 use cmc_x509_build::CertPlan;
 use std::alloc::{AllocError, Global};
 
@@ -85,13 +84,13 @@ fn issued(
     plan: &CertPlan,
     key: Option<u64>,
     ca: &Bytes,
-    request: &[u8],
+    request: &SigningRequest,
 ) -> Result<Signing, AllocError>
     requires begins_in_range { IsCertificateTime plan.now.not_before }
     requires ends_in_range { IsCertificateTime plan.now.not_after }
     ensures { IfOk result (λ answer. answer ≡ spec.issued plan.now key ca.now (request_at request.now)) }
 {
-    let Ok(csr) = read_csr(request) else {
+    let Some(csr) = request.fields() else {
         return not_readable(alloc);
     };
     if csr.key.kind().is_none() {
@@ -131,7 +130,7 @@ pub fn signing_of(
             ca,
         } => {
             let plan = plan(number, request, now, *seconds, *before, *serial)?;
-            issued(alloc, &plan, *key, ca, request.spec.request.as_slice())
+            issued(alloc, &plan, *key, ca, &request.spec.request)
         }
         SignRow::Pending => Ok(Signing::Pending),
         SignRow::Fail { message } => Ok(Signing::Failed {

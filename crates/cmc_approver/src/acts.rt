@@ -21,22 +21,31 @@ fn is_covered(rules: &Rules, issuer: &IssuerRef) -> bool
 }
 
 #[tactic(auto, unfolding(cmc_rules::specs::Approving::ask_judgement))]
-fn ask_judgement(request: &Shared<CertificateRequest>, rules: &Rules) -> Result<Act, AllocError>
+fn ask_judgement(
+    alloc: Global,
+    request: &Shared<CertificateRequest>,
+    rules: &Rules,
+) -> Result<Act, AllocError>
     ensures { IfOk result (λ a. a ≡ table.ask_judgement request.now rules.now) }
 {
     let rules = rules.copy()?;
     let request = request.copy()?;
-    Ok(Act::Ask(Order::Judge(JudgeOrder { request, rules })))
+    let order = JudgeOrder { request, rules };
+    Ok(Act::Ask(Order::Judge(Shared::new(alloc, order)?)))
 }
 
-fn judge_one(rules: &Rules, request: &Shared<CertificateRequest>) -> Result<Act, AllocError>
+fn judge_one(
+    alloc: Global,
+    rules: &Rules,
+    request: &Shared<CertificateRequest>,
+) -> Result<Act, AllocError>
     ensures { IfOk result (λ a. a ≡ table.judge_one rules.now request.now) }
 {
     if is_approved(request) || is_denied(request) {
         return Ok(Act::Nothing);
     }
     if is_covered(rules, &request.spec.issuer) {
-        ask_judgement(request, rules)
+        ask_judgement(alloc, request, rules)
     } else {
         Ok(Act::Nothing)
     }
@@ -55,9 +64,9 @@ fn judge_one(rules: &Rules, request: &Shared<CertificateRequest>) -> Result<Act,
 pub fn act(alloc: Global, views: &Views, now: i64, desk: &Desk) -> Result<Act, AllocError>
     ensures { IfOk result (λ a. a ≡ table.approver views.now desk.now) }
 {
-    let (_alloc, _now) = (alloc, now);
+    let _now = now;
     match &views.request {
         None => Ok(Act::Nothing),
-        Some(request) => judge_one(&desk.rules, request),
+        Some(request) => judge_one(alloc, &desk.rules, request),
     }
 }

@@ -11,11 +11,11 @@ use crate::verdicts::verdict_by;
 use cmc_answers::{Denial, judge};
 use cmc_meta::Condition;
 use cmc_next::value_in;
-use cmc_objects::{Call, CertificateRequest, JudgeOrder, Order};
+use cmc_objects::{Call, CertificateRequest, JudgeOrder, Order, Shared};
 use cmc_pass::{Given, Value, Views};
 use std::alloc::{AllocError, Global};
 
-fn denial_in(alloc: Global, order: &JudgeOrder) -> Result<Option<Denial>, AllocError>
+fn denial_in(alloc: Global, order: &Shared<JudgeOrder>) -> Result<Option<Denial>, AllocError>
     ensures { IfOk result (λ d. d ≡ denial_of order.now) }
 {
     let (_order, denial) = judge(alloc, order.copy()?)?.into_parts();

@@ -7,7 +7,7 @@ ghost use Rattle.cmc_codec.specs.CertificateForm as forms;
 use crate::certificate_in::{Api, Signing, read_signing};
 use crate::given::{Wording, given_duration, given_list, needed_bytes};
 use cmc_cursor::{BadField, check_end, fields};
-use cmc_objects::RequestSpec;
+use cmc_objects::{RequestSpec, SigningRequest};
 use serde_json::Value;
 use std::alloc::Global;
 
@@ -27,7 +27,7 @@ fn request_spec(alloc: Global, value: &Value) -> Result<RequestSpec, BadField>
         duration,
         is_ca,
         usages,
-        request,
+        request: SigningRequest::new(alloc, request)?,
     })
 }
 
@@ -47,7 +47,7 @@ fn old_request_spec(alloc: Global, value: &Value) -> Result<RequestSpec, BadFiel
         duration,
         is_ca,
         usages,
-        request,
+        request: SigningRequest::new(alloc, request)?,
     })
 }
 

@@ -50,5 +50,6 @@ pub fn ask_issuer(
     requires few { desk.now.asked < 2 ^ 63 }
     ensures { IfOk result (λ a. a ≡ table.ask_issuer now desk.now request.now) }
 {
-    Ok(Act::Ask(Order::Sign(sign_order(alloc, request, now, desk)?)))
+    let order = sign_order(alloc, request, now, desk)?;
+    Ok(Act::Ask(Order::Sign(Shared::new(alloc, order)?)))
 }

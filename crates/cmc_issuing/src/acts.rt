@@ -1,8 +1,11 @@
 //! The act, by the first line of the table that fits.
 ghost use Rattle.std.specs.Option.{option_copied};
-ghost use Rattle.std.specs.Prelude.{◌≡◌, ◌↔◌, ℕ, ℤ, List, IfOk, IsTrue, Some, true, false};
+ghost use Rattle.std.specs.Prelude.{◌≡◌, ◌↔◌, ℕ, ℤ, List, IfOk, IsTrue, Some, true, false, option_map};
 ghost use Rattle.std.specs.declared.option.Option.{Option as OptionValue};
 ghost use Rattle.cmc_objects.specs.declared.secret.Secret.{Secret as SecretValue};
+ghost use Rattle.cmc_der.specs.Keys.{key_shown};
+ghost use Rattle.cmc_x509.specs.ReadKeys.{key_file_at};
+ghost use Rattle.cmc_objects.specs.KeyPairs.{key_read};
 ghost use Rattle.cmc_objects.specs.Requests.{is_run_time};
 ghost use Rattle.cmc_pass.specs.declared.pass.Act.TheVariants.{Nothing};
 ghost use Rattle.cmc_issuing.specs.Choosing.{act_of};
@@ -14,11 +17,12 @@ use crate::deciding::{
     fails_now, is_certified, is_granted, is_kept_for_keys, lacks_certificate, refusal,
 };
 use cmc_answers::temporary;
-use cmc_match::{asks_for_temporary, key_fits, next_request};
+use cmc_match::{asks_for_temporary, key_fits_as_read, next_request, public_in};
 use cmc_meta::Bytes;
 use cmc_next::{is_denied, is_issuing, is_refused, is_wanted, key_in, named_key};
 use cmc_objects::{Certificate, CertificateRequest, Secret, Shared};
 use cmc_pass::{Act, Desk, Views};
+use cmc_x509::Spki;
 use std::alloc::{AllocError, Global};
 
 /// The largest certificate that is read, in octets.
@@ -45,16 +49,18 @@ fn while_waiting<'a>(
     moment: i64,
     certificate: &Certificate,
     file: &'a Bytes,
+    public: &Option<Spki<'_>>,
     target: &Option<Shared<Secret>>,
     request: &CertificateRequest,
 ) -> Result<Choice<'a>, AllocError>
-    requires { is_run_time moment ≡ true }
+    requires time { is_run_time moment ≡ true }
+    requires public { option_map key_shown public.now ≡ key_file_at file.now }
     ensures { IfOk result (λ choice. act_of moment certificate.now target.now choice ≡ table.while_waiting moment certificate.now file.now target.now request.now) }
 {
     let stands_in = asks_for_temporary(certificate)
         && !is_denied(request)
         && !is_kept_for_keys(target)
-        && lacks_certificate(file.as_slice(), target);
+        && lacks_certificate(file.as_slice(), public, target);
     if !stands_in {
         return Ok(Choice::Nothing);
     }
@@ -71,12 +77,18 @@ fn while_waiting<'a>(
 fn with_granted<'a>(
     certificate: &Certificate,
     file: &'a Bytes,
+    public: &Option<Spki<'_>>,
     target: &Option<Shared<Secret>>,
     request: &'a CertificateRequest,
 ) -> Choice<'a>
+    requires { option_map key_shown public.now ≡ key_file_at file.now }
     ensures { (moment : ℤ) → act_of moment certificate.now target.now result ≡ table.with_granted moment certificate.now file.now target.now request.now }
 {
-    if !is_certified(file.as_slice(), request.status.certificate.as_slice()) {
+    if !is_certified(
+        file.as_slice(),
+        public,
+        request.status.certificate.as_slice(),
+    ) {
         return Choice::Fail {
             reason: "InvalidCertificate",
         };
@@ -92,10 +104,12 @@ fn with_wanted<'a>(
     moment: i64,
     certificate: &Certificate,
     file: &'a Bytes,
+    public: &Option<Spki<'_>>,
     target: &Option<Shared<Secret>>,
     request: &'a CertificateRequest,
 ) -> Result<Choice<'a>, AllocError>
-    requires { is_run_time moment ≡ true }
+    requires time { is_run_time moment ≡ true }
+    requires public { option_map key_shown public.now ≡ key_file_at file.now }
     ensures { IfOk result (λ choice. act_of moment certificate.now target.now choice ≡ table.with_wanted moment certificate.now file.now target.now request.now) }
 {
     if is_refused(request) {
@@ -107,9 +121,9 @@ fn with_wanted<'a>(
         return Ok(Choice::Nothing);
     }
     if is_granted(request) {
-        return Ok(with_granted(certificate, file, target, request));
+        return Ok(with_granted(certificate, file, public, target, request));
     }
-    while_waiting(alloc, moment, certificate, file, target, request)
+    while_waiting(alloc, moment, certificate, file, public, target, request)
 }
 
 fn with_request<'a>(
@@ -117,17 +131,19 @@ fn with_request<'a>(
     moment: i64,
     certificate: &Certificate,
     file: &'a Bytes,
+    public: &Option<Spki<'_>>,
     target: &Option<Shared<Secret>>,
     request: Option<&'a Shared<CertificateRequest>>,
 ) -> Result<Choice<'a>, AllocError>
-    requires { is_run_time moment ≡ true }
+    requires time { is_run_time moment ≡ true }
+    requires public { option_map key_shown public.now ≡ key_file_at file.now }
     ensures { IfOk result (λ choice. act_of moment certificate.now target.now choice ≡ table.with_request moment certificate.now file.now target.now (option_copied request.entry)) }
 {
     match request {
         None => Ok(Choice::Nothing),
         Some(request) => {
-            if is_wanted(certificate, file.as_slice(), request) {
-                with_wanted(alloc, moment, certificate, file, target, request)
+            if is_wanted(certificate, file.as_slice(), public, request) {
+                with_wanted(alloc, moment, certificate, file, public, target, request)
             } else {
                 Ok(Choice::Nothing)
             }
@@ -156,20 +172,22 @@ fn with_file<'a>(
     target: &Option<Shared<Secret>>,
     requests: &'a [Shared<CertificateRequest>],
     file: Option<&'a Bytes>,
+    public: &Option<Spki<'_>>,
 ) -> Result<Choice<'a>, AllocError>
-    requires { is_run_time moment ≡ true }
+    requires time { is_run_time moment ≡ true }
+    requires public { option_map key_shown public.now ≡ key_read (option_copied file) }
     ensures { IfOk result (λ choice. act_of moment certificate.now target.now choice ≡ table.with_file moment certificate.now target.now requests.now (option_copied file.entry)) }
 {
     match file {
         None => Ok(Choice::Nothing),
         Some(file) => {
-            // Keys and requests are long to read, and most looks find a request that waits.
+            // Most looks find a request that waits.
             let request = next_request(certificate.status.revision, requests);
             if !is_worth_reading(certificate, request) {
                 return Ok(Choice::Nothing);
             }
-            if key_fits(&certificate.spec.key, file.as_slice()) {
-                with_request(alloc, moment, certificate, file, target, request)
+            if key_fits_as_read(&certificate.spec.key, file.as_slice(), public) {
+                with_request(alloc, moment, certificate, file, public, target, request)
             } else {
                 Ok(Choice::Nothing)
             }
@@ -190,7 +208,15 @@ fn with_key_of<'a>(
 {
     match key {
         None => Ok(Choice::Nothing),
-        Some(key) => with_file(alloc, moment, certificate, target, requests, key_in(key)),
+        Some(key) => with_file(
+            alloc,
+            moment,
+            certificate,
+            target,
+            requests,
+            key_in(key),
+            &public_in(key),
+        ),
     }
 }
 

@@ -62,11 +62,11 @@ pub fn build(
         Choice::Fail { reason } => failure(alloc, moment, reason, certificate),
         Choice::Issue { file, request } => {
             let plan = issue_plan(alloc, moment, certificate, file, request, target)?;
-            Ok(Act::Issue(plan))
+            Ok(Act::Issue(Shared::new(alloc, plan)?))
         }
         Choice::Temporary { file, stand_in } => {
             let plan = temporary_plan(alloc, certificate, file, stand_in, target)?;
-            Ok(Act::Temporary(plan))
+            Ok(Act::Temporary(Shared::new(alloc, plan)?))
         }
     }
 }

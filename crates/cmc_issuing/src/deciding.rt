@@ -1,6 +1,6 @@
 //! What the controller looks at: the answer of the issuer, and the Secret that stands.
 ghost use Rattle.std.specs.Option.{option_copied};
-ghost use Rattle.std.specs.Prelude.{◌≡◌};
+ghost use Rattle.std.specs.Prelude.{◌≡◌, option_map};
 ghost use Rattle.cmc_der.specs.Keys.{key_shown};
 ghost use Rattle.cmc_x509.specs.ReadKeys.{key_file_at};
 ghost use Rattle.cmc_match.specs.Facts as facts;
@@ -10,7 +10,7 @@ use cmc_match::{is_next_key, is_one_key, is_temporary, pair_in};
 use cmc_meta::{Condition, ConditionKind, Tri};
 use cmc_next::{failed_before, is_approved, is_denied};
 use cmc_objects::{Certificate, CertificateRequest, Secret, Shared};
-use cmc_x509::{Spki, read_cert, read_key};
+use cmc_x509::{Spki, read_cert};
 
 fn says_issued(ready: Option<&Condition>) -> bool
     ensures { result ≡ table.says_issued (option_copied ready.entry) }
@@ -60,12 +60,14 @@ pub fn refusal(request: &CertificateRequest) -> &'static str
     }
 }
 
-/// Whether the certificate is readable, and its public key is that of the key file.
-pub fn is_certified(file: &[u8], certificate: &[u8]) -> bool
+/// Says whether the certificate is readable, and its public key is that of `file`. `public` was read of `file`.
+pub fn is_certified(file: &[u8], public: &Option<Spki<'_>>, certificate: &[u8]) -> bool
+    requires { option_map key_shown public.now ≡ key_file_at file.now }
     ensures { result ≡ table.is_certified file.now certificate.now }
 {
-    match (read_key(file), read_cert(certificate)) {
-        (Ok(key), Ok(fields)) => is_one_key(&key, &fields.key),
+    let _file = file;
+    match (public, read_cert(certificate)) {
+        (Some(key), Ok(fields)) => is_one_key(key, &fields.key),
         _ => false,
     }
 }
@@ -80,30 +82,38 @@ pub fn is_kept_for_keys(target: &Option<Shared<Secret>>) -> bool
     }
 }
 
-fn is_of_file(file: &[u8], key: &Spki<'_>) -> bool
-    ensures { result ≡ table.is_of_file (key_file_at file.now) (key_shown key.now) }
+fn is_of_file(public: &Option<Spki<'_>>, key: &Spki<'_>) -> bool
+    ensures { result ≡ table.is_of_file (option_map key_shown public.now) (key_shown key.now) }
 {
-    match read_key(file) {
-        Ok(own) => is_one_key(&own, key),
-        Err(_) => false,
+    match public {
+        Some(own) => is_one_key(own, key),
+        None => false,
     }
 }
 
-fn lacks_pair(file: &[u8], secret: &Secret) -> bool
+fn lacks_pair(file: &[u8], public: &Option<Spki<'_>>, secret: &Secret) -> bool
+    requires { option_map key_shown public.now ≡ key_file_at file.now }
     ensures { result ≡ table.lacks_pair file.now secret.now (facts.pair_in secret.now) }
 {
+    let _file = file;
     match pair_in(secret) {
         None => true,
-        Some(fields) => is_temporary(secret) && !is_of_file(file, &fields.key),
+        Some(fields) => is_temporary(secret) && !is_of_file(public, &fields.key),
     }
 }
 
-/// Whether the Secret has no key and certificate that are a pair, or a stand-in for another key than that of the file.
-pub fn lacks_certificate(file: &[u8], target: &Option<Shared<Secret>>) -> bool
+/// Says whether the Secret has no key and certificate that are a pair, or a temporary certificate for another key than
+/// that of `file`. `public` was read of `file`.
+pub fn lacks_certificate(
+    file: &[u8],
+    public: &Option<Spki<'_>>,
+    target: &Option<Shared<Secret>>,
+) -> bool
+    requires { option_map key_shown public.now ≡ key_file_at file.now }
     ensures { result ≡ table.lacks_certificate file.now target.now }
 {
     match target {
         None => true,
-        Some(secret) => lacks_pair(file, secret),
+        Some(secret) => lacks_pair(file, public, secret),
     }
 }

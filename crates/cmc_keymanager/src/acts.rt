@@ -1,24 +1,28 @@
 //! The act, by the first line of the table that fits.
 ghost use Rattle.std.specs.Option.{option_copied};
-ghost use Rattle.std.specs.Prelude.{◌≡◌, ◌<◌, ◌^◌, IfOk, find, is_some, not};
+ghost use Rattle.std.specs.Prelude.{◌≡◌, ◌<◌, ◌^◌, IfOk, find, is_some, not, option_map};
+ghost use Rattle.cmc_der.specs.Keys.{key_shown};
 ghost use Rattle.cmc_x509.specs.ReadKeys.{key_file_at};
+ghost use Rattle.cmc_objects.specs.KeyPairs.{key_read};
 ghost use Rattle.cmc_rules.specs.KeyManaging as table;
 ghost use Rattle.cmc_rules.specs.NextKeys as words;
 
 use crate::calls::{drop_call, make_call, name_call};
 use crate::questions::ask_key;
-use cmc_match::key_fits;
+use cmc_match::{key_fits_as_read, public_in};
 use cmc_meta::{Bytes, Name};
 use cmc_next::{has_fitting_key, is_issuing, is_named, key_in};
 use cmc_objects::{Certificate, Rotation, Secret, Shared};
 use cmc_pass::{Act, Desk, Views};
-use cmc_x509::read_key;
+use cmc_x509::Spki;
 use std::alloc::{AllocError, Global};
 
-fn is_readable(file: &Bytes) -> bool
+fn is_readable(file: &Bytes, public: &Option<Spki<'_>>) -> bool
+    requires { option_map key_shown public.now ≡ key_file_at file.now }
     ensures { result ≡ is_some (key_file_at file.now) }
 {
-    read_key(file.as_slice()).is_ok()
+    let _file = file;
+    public.is_some()
 }
 
 fn target_key(target: &Option<Shared<Secret>>) -> Option<&Bytes>
@@ -30,22 +34,34 @@ fn target_key(target: &Option<Shared<Secret>>) -> Option<&Bytes>
     }
 }
 
+/// Returns the public key of the target's key file, if it is readable.
+fn target_public(target: &Option<Shared<Secret>>) -> Option<Spki<'_>>
+    ensures { option_map key_shown result ≡ key_read (table.target_key target.now) }
+{
+    match target {
+        None => None,
+        Some(secret) => public_in(secret),
+    }
+}
+
 fn reused(
     alloc: Global,
     certificate: &Certificate,
     desk: &Desk,
     file: Option<&Bytes>,
+    public: &Option<Spki<'_>>,
 ) -> Result<Act, AllocError>
-    requires { desk.now.asked < 2 ^ 63 }
+    requires asked { desk.now.asked < 2 ^ 63 }
+    requires public { option_map key_shown public.now ≡ key_read (option_copied file) }
     ensures { IfOk result (λ a. a ≡ table.reused certificate.now desk.now (option_copied file.entry)) }
 {
     let Some(file) = file else {
-        return ask_key(certificate, desk);
+        return ask_key(alloc, certificate, desk);
     };
-    if !is_readable(file) {
-        return ask_key(certificate, desk);
+    if !is_readable(file, public) {
+        return ask_key(alloc, certificate, desk);
     }
-    if key_fits(&certificate.spec.key, file.as_slice()) {
+    if key_fits_as_read(&certificate.spec.key, file.as_slice(), public) {
         Ok(Act::Call(make_call(alloc, certificate, file.copy()?)?))
     } else {
         Ok(Act::Nothing)
@@ -57,14 +73,16 @@ fn rotated(
     certificate: &Certificate,
     desk: &Desk,
     file: Option<&Bytes>,
+    public: &Option<Spki<'_>>,
     rotation: Rotation,
 ) -> Result<Act, AllocError>
-    requires { desk.now.asked < 2 ^ 63 }
+    requires asked { desk.now.asked < 2 ^ 63 }
+    requires public { option_map key_shown public.now ≡ key_read (option_copied file) }
     ensures { IfOk result (λ a. a ≡ table.rotated certificate.now desk.now (option_copied file.entry) rotation) }
 {
     match rotation {
-        Rotation::Always => ask_key(certificate, desk),
-        Rotation::Never => reused(alloc, certificate, desk, file),
+        Rotation::Always => ask_key(alloc, certificate, desk),
+        Rotation::Never => reused(alloc, certificate, desk, file, public),
     }
 }
 
@@ -118,6 +136,7 @@ fn while_issuing(
             certificate,
             desk,
             target_key(target),
+            &target_public(target),
             certificate.spec.key.rotation_at_use(),
         ),
         [secret] => only_key(alloc, certificate, secret),

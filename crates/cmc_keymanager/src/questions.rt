@@ -7,9 +7,9 @@ ghost use Rattle.cmc_rules.specs.KeyManaging as table;
 ghost use Rattle.cmc_rules.specs.Orders as orders;
 
 use cmc_meta::{Key, Kind};
-use cmc_objects::{Certificate, KeyOrder, KeyRow, Material, Order};
+use cmc_objects::{Certificate, KeyOrder, KeyRow, Material, Order, Shared};
 use cmc_pass::{Act, Desk};
-use std::alloc::AllocError;
+use std::alloc::{AllocError, Global};
 
 fn row_at(rows: &[KeyRow], asked: u64) -> Result<KeyRow, AllocError>
     ensures { IfOk result (λ r. r ≡ unwrap_or (slice_get rows.now asked) Default) }
@@ -60,9 +60,10 @@ fn key_order(certificate: &Certificate, desk: &Desk) -> Result<KeyOrder, AllocEr
 /// The question for a key of the kind that the Certificate asks for: the one behind those that were asked, with its
 /// row.
 #[tactic(auto, unfolding(cmc_rules::specs::KeyManaging::ask_key))]
-pub fn ask_key(certificate: &Certificate, desk: &Desk) -> Result<Act, AllocError>
+pub fn ask_key(alloc: Global, certificate: &Certificate, desk: &Desk) -> Result<Act, AllocError>
     requires { desk.now.asked < 2 ^ 63 }
     ensures { IfOk result (λ a. a ≡ table.ask_key certificate.now desk.now) }
 {
-    Ok(Act::Ask(Order::Key(key_order(certificate, desk)?)))
+    let order = key_order(certificate, desk)?;
+    Ok(Act::Ask(Order::Key(Shared::new(alloc, order)?)))
 }

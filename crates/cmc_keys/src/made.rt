@@ -2,14 +2,14 @@
 ghost use Rattle.std.specs.Prelude.{◌≡◌, length, IfOk};
 
 use cmc_meta::Bytes;
-use cmc_objects::{CsrOrder, KeyOrder};
+use cmc_objects::{CsrOrder, KeyOrder, Shared};
 use std::alloc::AllocError;
 use std::marker::Model;
 
 /// A private key that was made for a question: it is of the algorithm and the size that are asked for, and what
 /// the row of the question says.
 pub struct Made {
-    order: KeyOrder,
+    order: Shared<KeyOrder>,
     bytes: Bytes,
 }
 
@@ -36,7 +36,7 @@ impl Made {
     ghost use Rattle.cmc_keys.specs.Values.{IsKeyValue};
 
     /// The key of these octets, in DER, as the answer to the question.
-    pub fn new(order: KeyOrder, bytes: Bytes) -> Made
+    pub fn new(order: Shared<KeyOrder>, bytes: Bytes) -> Made
         requires { IsKeyValue order bytes }
         ensures { result ≡ record { order = order; bytes = bytes } }
     {
@@ -44,7 +44,7 @@ impl Made {
     }
 
     /// The question.
-    pub fn order(&self) -> &KeyOrder
+    pub fn order(&self) -> &Shared<KeyOrder>
         ensures { result.now ≡ self.now.order }
     {
         &self.order
@@ -59,7 +59,7 @@ impl Made {
     }
 
     /// The question and the file, of which is still known that it answers it.
-    pub fn into_parts(self) -> (KeyOrder, Bytes)
+    pub fn into_parts(self) -> (Shared<KeyOrder>, Bytes)
         ensures value { result ≡ (self.order, self.bytes) }
         ensures answers { IsKeyValue self.order self.bytes }
     {
@@ -79,7 +79,7 @@ impl Made {
 
 /// The signature that was made for a certification request: the SHA-256 digest of its body, 32 octets.
 pub struct SignedCsr {
-    order: CsrOrder,
+    order: Shared<CsrOrder>,
     signature: Bytes,
 }
 
@@ -106,7 +106,7 @@ impl SignedCsr {
     ghost use Rattle.cmc_keys.specs.Values.{IsCsrValue};
 
     /// The signature of these octets as the answer to the question.
-    pub fn new(order: CsrOrder, signature: Bytes) -> SignedCsr
+    pub fn new(order: Shared<CsrOrder>, signature: Bytes) -> SignedCsr
         requires { IsCsrValue order signature }
         ensures { result ≡ record { order = order; signature = signature } }
     {
@@ -114,7 +114,7 @@ impl SignedCsr {
     }
 
     /// The question.
-    pub fn order(&self) -> &CsrOrder
+    pub fn order(&self) -> &Shared<CsrOrder>
         ensures { result.now ≡ self.now.order }
     {
         &self.order
@@ -131,7 +131,7 @@ impl SignedCsr {
     }
 
     /// The question and the signature, of which is still known that it answers it.
-    pub fn into_parts(self) -> (CsrOrder, Bytes)
+    pub fn into_parts(self) -> (Shared<CsrOrder>, Bytes)
         ensures value { result ≡ (self.order, self.signature) }
         ensures answers { IsCsrValue self.order self.signature }
     {

@@ -3,7 +3,7 @@ ghost use Rattle.std.specs.Prelude.{◌≡◌, IfOk, IsTrue};
 ghost use Rattle.cmc_keys.specs.Kinds.{allows_size};
 
 use crate::made::{Made, SignedCsr};
-use cmc_objects::{CsrOrder, KeyOrder};
+use cmc_objects::{CsrOrder, KeyOrder, Shared};
 use std::alloc::{AllocError, Global};
 
 /// Makes private keys and signs certification requests. Several threads may ask it at once.
@@ -13,7 +13,7 @@ pub trait KeyMaker: Sync {
     /// # Errors
     ///
     /// Only where there is no memory.
-    fn make(&self, alloc: Global, order: &KeyOrder) -> Result<Made, AllocError>
+    fn make(&self, alloc: Global, order: &Shared<KeyOrder>) -> Result<Made, AllocError>
         requires { IsTrue (allows_size order.now.algorithm order.now.size) }
         ensures { IfOk result (λ made. made.order ≡ order.now) };
 
@@ -22,6 +22,6 @@ pub trait KeyMaker: Sync {
     /// # Errors
     ///
     /// Only where there is no memory.
-    fn sign(&self, alloc: Global, order: &CsrOrder) -> Result<SignedCsr, AllocError>
+    fn sign(&self, alloc: Global, order: &Shared<CsrOrder>) -> Result<SignedCsr, AllocError>
         ensures { IfOk result (λ signed. signed.order ≡ order.now) };
 }

@@ -13,7 +13,7 @@ use crate::made::{Made, SignedCsr};
 use crate::maker::KeyMaker;
 use crate::synthetic::synthetic_key;
 use cmc_meta::Bytes;
-use cmc_objects::{CsrOrder, KeyOrder, KeyRow};
+use cmc_objects::{CsrOrder, KeyOrder, KeyRow, Shared};
 use sha2::{Digest, Sha256};
 use std::alloc::{AllocError, Global};
 
@@ -103,7 +103,7 @@ pub struct ScriptedKeys;
 
 impl KeyMaker for ScriptedKeys {
     #[tactic(auto, using(crate::proofs::ScriptedLaws::scripted_answers))]
-    fn make(&self, alloc: Global, order: &KeyOrder) -> Result<Made, AllocError>
+    fn make(&self, alloc: Global, order: &Shared<KeyOrder>) -> Result<Made, AllocError>
         requires { IsTrue (allows_size order.now.algorithm order.now.size) }
         ensures order { IfOk result (λ made. made.order ≡ order.now) }
         ensures value { IfOk result (λ made. IsScripted order.now made.bytes) }
@@ -113,7 +113,7 @@ impl KeyMaker for ScriptedKeys {
         Ok(Made::new(order, bytes))
     }
 
-    fn sign(&self, alloc: Global, order: &CsrOrder) -> Result<SignedCsr, AllocError>
+    fn sign(&self, alloc: Global, order: &Shared<CsrOrder>) -> Result<SignedCsr, AllocError>
         ensures { IfOk result (λ signed. signed.order ≡ order.now) }
     {
         let signature = Bytes::from_slice(alloc, &digest_of(order.body.as_slice()))?;

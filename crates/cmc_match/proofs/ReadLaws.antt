@@ -7,11 +7,12 @@ use Rattle.cmc_x509.specs.ReadKeys.{key_file_at}
 use Rattle.cmc_x509.specs.ReadCertificates.{request_at}
 use Rattle.cmc_keys.specs.Kinds.{is_key_of, is_public_of}
 use Rattle.cmc_objects.specs.Defaults.{key_algorithm, key_size}
+use Rattle.cmc_objects.specs.KeyPairs.{key_read}
 use Rattle.cmc_objects.specs.declared.key_spec.KeySpec.{KeySpec}
 use Rattle.cmc_objects.specs.declared.secret.Secret.{Secret}
 use Rattle.cmc_objects.specs.declared.certificate.CertSpec.{CertSpec}
 use Rattle.cmc_objects.specs.declared.request.CertificateRequest.{CertificateRequest}
-use Rattle.cmc_match.specs.Matching.{Matches, HasKey, matches, has_key, key_read, request_read}
+use Rattle.cmc_match.specs.Matching.{Matches, HasKey, matches, has_key, request_read}
 use Rattle.cmc_match.specs.Facts.{key_in, is_requested, is_requested_as_read, has_requested_key}
 use Rattle.cmc_match.proofs.MatchLaws.{matching, keys_match}
 
@@ -39,6 +40,12 @@ pub requested_as_read : (spec : KeySpec) (secret : Secret) (current : Option Cer
     → has_requested_key spec (Some secret) current ≡ is_requested_as_read spec key asked
 unfolding has_requested_key
 requested_as_read spec secret current key asked e f = rw (e, f) (by_parts spec (key_in secret) current)
+
+-- what the check of a key file says of the public key that was read of it
+pub fitting_as_read : (spec : KeySpec) (file : List ℕ) (key : Option PublicKey) → key ≡ key_file_at file
+    → is_key_of (key_algorithm spec) (key_size spec) file ≡ is_public_of (key_algorithm spec) (key_size spec) key
+unfolding is_key_of
+fitting_as_read spec file key e = rw (e) refl
 
 -- a request that asks for what is wanted, with the key
 pub answered : (spec : CertSpec) (request : CertificateRequest) (file : List ℕ) → IsTrue (matches spec request && has_key request file) ↔ (Matches spec request × HasKey request file)

@@ -73,8 +73,3 @@ has_key request file = is_one_of (key_file_at file) (request_at request.spec.req
 abbrev pub request_read : Option CertificateRequest → Option RequestFields
 request_read None = None
 request_read (Some request) = request_at request.spec.request
-
--- the public key of a key file, if there is one
-abbrev pub key_read : Option (List ℕ) → Option PublicKey
-key_read None = None
-key_read (Some file) = key_file_at file

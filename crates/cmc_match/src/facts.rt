@@ -5,9 +5,9 @@ ghost use Rattle.cmc_der.specs.Keys.{CertificateFields, cert_shown, csr_shown, k
 ghost use Rattle.cmc_x509.specs.Lists.{IsValueList};
 ghost use Rattle.cmc_time.specs.Asn1.{IsCertificateTime};
 ghost use Rattle.cmc_policies.specs.Reasons.{known};
-ghost use Rattle.cmc_objects.specs.KeyPairs.{begins, ends, is_paired};
+ghost use Rattle.cmc_objects.specs.KeyPairs.{begins, ends, is_paired, key_read};
 ghost use Rattle.cmc_match.specs.Facts as words;
-ghost use Rattle.cmc_match.specs.Matching.{key_read, request_read};
+ghost use Rattle.cmc_match.specs.Matching.{request_read};
 ghost use Rattle.cmc_match.specs.Facts.{IsPair, IsFilled, NamesIssuer, NamesOwner, HasRequestedKey};
 ghost use Rattle.cmc_objects.specs.declared.issuer.IssuerRef.{IssuerRef};
 ghost use Rattle.cmc_objects.specs.declared.secret.Secret.{Secret};
@@ -15,7 +15,7 @@ ghost use Rattle.cmc_objects.specs.declared.key_spec.KeySpec.{KeySpec};
 ghost use Rattle.cmc_objects.specs.declared.request.CertificateRequest.{CertificateRequest};
 
 use crate::marks::{has_text, is_temporary};
-use crate::matching::{fields_of, is_one_of, matches_as_read, public_of};
+use crate::matching::{fields_of, is_one_of, matches_as_read};
 use crate::revisions::current_request;
 use cmc_keys::is_public_of;
 use cmc_meta::{Bytes, Name};
@@ -26,14 +26,12 @@ use cmc_objects::{
 use cmc_policies::Facts;
 use cmc_x509::{CertFields, CsrFields, Spki};
 
-/// The public key of the file, if there is one and it is readable.
-fn public_in<'a>(key: Option<&'a Bytes>) -> Option<Spki<'a>>
-    ensures { option_map key_shown result ≡ key_read (option_copied key.entry) }
+/// Returns the public key of the Secret's private key (`tls.key`): as it is kept beside its data, or else as it is read
+/// now. `None` exactly if the Secret has no such file or it is not readable.
+pub fn public_in(secret: &Secret) -> Option<Spki<'_>>
+    ensures { option_map key_shown result ≡ key_read (words.key_in secret.now) }
 {
-    match key {
-        None => None,
-        Some(key) => public_of(key.as_slice()),
-    }
+    secret.parts.public()
 }
 
 #[tactic(auto, unfolding(crate::specs::Facts::pair_in))]
@@ -243,8 +241,7 @@ fn facts_in(
 ) -> Facts
     ensures { known result ≡ words.known_of spec.now name.now (Some secret.now) (option_copied current.entry) }
 {
-    // The key and the certification request are read once for all checks.
-    let public = public_in(part_under(&secret.parts, "tls.key"));
+    let public = public_in(secret);
     let asked = asked_of(current);
     let paired = pair_facts(secret);
     Facts {

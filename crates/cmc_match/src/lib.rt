@@ -11,9 +11,9 @@ mod revisions;
 mod sets;
 
 pub use cmc_objects::{is_one_key, part_under, text_under};
-pub use facts::{facts_for, facts_mean, facts_of, pair_in};
+pub use facts::{facts_for, facts_mean, facts_of, pair_in, public_in};
 pub use marks::{asks_for_temporary, has_text, is_next_key, is_temporary};
-pub use matching::{key_fits, request_answers, request_has_key, request_matches};
+pub use matching::{key_fits, key_fits_as_read, request_answers, request_has_key, request_matches};
 pub use names::has_names;
 pub use revisions::{current_request, is_of, next_request, revision_of};
 pub use sets::is_same_set;

@@ -6,14 +6,17 @@ ghost use Rattle.cmc_x509.specs.ReadKeys.{key_file_at};
 ghost use Rattle.cmc_x509.specs.ReadCertificates.{request_at};
 ghost use Rattle.cmc_objects.specs.Defaults.{certificate_duration, key_algorithm, key_size};
 ghost use Rattle.cmc_keys.specs.Kinds.{IsKeyOf, is_key_of};
+ghost use Rattle.cmc_keys.specs.Kinds as kinds;
 ghost use Rattle.cmc_match.specs.Matching as words;
 ghost use Rattle.cmc_match.specs.Matching.{Matches, HasKey};
 
 use crate::names::has_names;
 use crate::sets::is_same_set;
-use cmc_keys::is_key_of;
-use cmc_objects::{CertSpec, CertificateRequest, IssuerRef, KeySpec, RequestSpec, is_one_key};
-use cmc_x509::{CsrFields, Spki, read_csr, read_key};
+use cmc_keys::{is_key_of, is_public_of};
+use cmc_objects::{
+    CertSpec, CertificateRequest, IssuerRef, KeySpec, RequestSpec, is_one_key, public_of,
+};
+use cmc_x509::{CsrFields, Spki};
 
 /// Whether the octets are a file of a private key of the algorithm and the size that are asked for, in whichever
 /// encoding.
@@ -22,6 +25,25 @@ pub fn key_fits(spec: &KeySpec, key: &[u8]) -> bool
     ensures value { result ≡ is_key_of (key_algorithm spec.now) (key_size spec.now) key.now }
 {
     is_key_of(spec.algorithm_at_use(), spec.size_at_use(), key)
+}
+
+fn is_public_fitting(spec: &KeySpec, public: &Option<Spki<'_>>) -> bool
+    ensures { result ≡ kinds.is_public_of (key_algorithm spec.now) (key_size spec.now) (option_map key_shown public.now) }
+{
+    match public {
+        None => false,
+        Some(key) => is_public_of(spec.algorithm_at_use(), spec.size_at_use(), key),
+    }
+}
+
+/// Says what `key_fits` says, by the public key that was read of `key`. It does not read `key` again.
+#[tactic(auto, using(crate::proofs::ReadLaws::fitting_as_read))]
+pub fn key_fits_as_read(spec: &KeySpec, key: &[u8], public: &Option<Spki<'_>>) -> bool
+    requires { option_map key_shown public.now ≡ key_file_at key.now }
+    ensures { result ≡ is_key_of (key_algorithm spec.now) (key_size spec.now) key.now }
+{
+    let _key = key;
+    is_public_fitting(spec, public)
 }
 
 fn is_same_issuer(left: &IssuerRef, right: &IssuerRef) -> bool
@@ -62,7 +84,7 @@ pub(crate) fn fields_of<'a>(request: &'a CertificateRequest) -> Option<CsrFields
     ensures fields { option_map csr_shown result ≡ request_at request.now.spec.request }
     ensures names { IfSome result (λ fields. IsValueList fields.names.alternative.now) }
 {
-    read_csr(request.spec.request.as_slice()).ok()
+    request.spec.request.fields()
 }
 
 fn asks_for_names(spec: &CertSpec, asked: &Option<CsrFields<'_>>) -> bool
@@ -105,13 +127,6 @@ pub fn request_matches(spec: &CertSpec, request: &CertificateRequest) -> bool
     matches(spec, request)
 }
 
-/// The public key of a key file: `None` exactly where it is not readable.
-pub(crate) fn public_of<'a>(file: &'a [u8]) -> Option<Spki<'a>>
-    ensures { option_map key_shown result ≡ key_file_at file.now }
-{
-    read_key(file).ok()
-}
-
 /// Whether both were read, and have one public key.
 pub(crate) fn is_one_of(key: &Option<Spki<'_>>, asked: &Option<CsrFields<'_>>) -> bool
     ensures { result ≡ words.is_one_of (option_map key_shown key.now) (option_map csr_shown asked.now) }
@@ -130,27 +145,46 @@ fn has_key(request: &CertificateRequest, file: &[u8]) -> bool
 }
 
 #[tactic(auto, unfolding(crate::specs::Matching::has_key))]
-fn has_key_as_read(request: &CertificateRequest, file: &[u8], asked: &Option<CsrFields<'_>>) -> bool
-    requires { option_map csr_shown asked.now ≡ request_at request.now.spec.request }
+fn has_key_as_read(
+    request: &CertificateRequest,
+    file: &[u8],
+    public: &Option<Spki<'_>>,
+    asked: &Option<CsrFields<'_>>,
+) -> bool
+    requires public { option_map key_shown public.now ≡ key_file_at file.now }
+    requires asked { option_map csr_shown asked.now ≡ request_at request.now.spec.request }
     ensures { result ≡ words.has_key request.now file.now }
 {
-    is_one_of(&public_of(file), asked)
+    let (_request, _file) = (request, file);
+    is_one_of(public, asked)
 }
 
-fn answers(spec: &CertSpec, request: &CertificateRequest, file: &[u8]) -> bool
+fn answers(
+    spec: &CertSpec,
+    request: &CertificateRequest,
+    file: &[u8],
+    public: &Option<Spki<'_>>,
+) -> bool
+    requires { option_map key_shown public.now ≡ key_file_at file.now }
     ensures { result ≡ (words.matches spec.now request.now && words.has_key request.now file.now) }
 {
     let asked = fields_of(request);
-    matches_as_read(spec, request, &asked) && has_key_as_read(request, file, &asked)
+    matches_as_read(spec, request, &asked) && has_key_as_read(request, file, public, &asked)
 }
 
-/// Whether the request asks for what the specification asks for, with the key of this file: `request_matches` and
-/// `request_has_key` in one, which reads the certification request once.
-pub fn request_answers(spec: &CertSpec, request: &CertificateRequest, file: &[u8]) -> bool
+/// Says whether the request asks for what the specification asks for, with the key of `file`: `request_matches` and
+/// `request_has_key` in one. `public` was read of `file`. Neither the request nor the file is read again.
+pub fn request_answers(
+    spec: &CertSpec,
+    request: &CertificateRequest,
+    file: &[u8],
+    public: &Option<Spki<'_>>,
+) -> bool
+    requires { option_map key_shown public.now ≡ key_file_at file.now }
     ensures means { IsTrue result ↔ (Matches spec.now request.now × HasKey request.now file.now) }
     ensures value { result ≡ (words.matches spec.now request.now && words.has_key request.now file.now) }
 {
-    answers(spec, request, file)
+    answers(spec, request, file, public)
 }
 
 /// Whether the request's certification request and the file of a private key are readable, and have one public key.

@@ -13,7 +13,7 @@ ghost use Rattle.cmc_moves.specs.Answers.{next_answer, outdated_at, value_entry}
 
 use crate::acts::{act_of, follow_of};
 use crate::moves::Stepped;
-use cmc_objects::{Call, Cause, Entry, Order, Role, Shared};
+use cmc_objects::{Call, Cause, Entry, Order, Role};
 use cmc_pass::{Act, Desk, Value, Views};
 use cmc_rules::{Ending, OpenPass, Stage};
 use std::alloc::{AllocError, Global};
@@ -143,13 +143,13 @@ pub fn doing_of(alloc: Global, pass: &OpenPass, desk: &Desk) -> Result<Doing, Al
 }
 
 /// What a move is answered that has the pass do this.
-pub fn answer_of(alloc: Global, pass: u64, doing: &Doing) -> Result<Stepped, AllocError>
+pub fn answer_of(pass: u64, doing: &Doing) -> Result<Stepped, AllocError>
     ensures { IfOk result (λ a. a ≡ next_answer pass (asked_in doing.now)) }
 {
     match doing {
         Doing::Ask(order) => Ok(Stepped::Order {
             pass,
-            order: Shared::new(alloc, order.copy()?)?,
+            order: order.copy()?,
         }),
         Doing::Call(_) | Doing::End(_) => Ok(Stepped::Done),
     }

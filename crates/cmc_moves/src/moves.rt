@@ -6,9 +6,9 @@ ghost use Rattle.cmc_moves.specs.Answers as answers;
 
 use crate::decision::Decided;
 use cmc_meta::{Key, Kind};
-use cmc_objects::{Order, Role, Shared};
+use cmc_objects::{Order, Role};
 use cmc_pass::Given;
-use std::alloc::{AllocError, Global};
+use std::alloc::AllocError;
 
 /// What may happen next.
 #[derive(Drop)]
@@ -82,36 +82,24 @@ pub enum Lack {
     Settled,
 }
 
-/// What a step answers. Questions are shared, so that an answer is cheap to hand on.
+/// What a step answers.
 pub enum Stepped {
     /// The move was made: the history has its one or two entries more.
     Done,
     /// The pass asks this question, and waits for its value. The history has the question once: the first such
     /// answer of a pass adds its entry.
-    Order {
-        pass: u64,
-        order: Shared<Order>,
-    },
+    Order { pass: u64, order: Order },
     /// The move is not possible now; all is as it was.
     NotNow(Lack),
     /// The pass has this number, and it or the move is not of the role's present incarnation, which is
     /// this one; all is as it was.
-    Ended {
-        incarnation: u64,
-    },
+    Ended { incarnation: u64 },
     /// The pass waits for the value of another question than the one that is answered; all is as it was.
-    NotMine {
-        kept: Shared<Order>,
-        given: Shared<Order>,
-    },
+    NotMine { kept: Order, given: Order },
     /// The decision is not on what this pass saw: the role, the views or the moment differ; all is as it was.
-    OtherViews {
-        pass: u64,
-    },
+    OtherViews { pass: u64 },
     /// The entries of the move do not fit in the history, which has this many; all is as it was.
-    Spent {
-        entries: u64,
-    },
+    Spent { entries: u64 },
 }
 
 impl Drop for Stepped {
@@ -145,7 +133,7 @@ impl Stepped {
     }
 
     /// The question that the pass of this number asks; `None` where the move was answered otherwise.
-    pub fn into_order(self) -> Option<(u64, Shared<Order>)>
+    pub fn into_order(self) -> Option<(u64, Order)>
         ensures { result ≡ answers.told_order self }
     {
         match self {
@@ -251,7 +239,6 @@ pub fn answer_script(left: bool, ready: bool, entries: u64, room: bool) -> Stepp
 ///
 /// Want of memory alone.
 pub fn answer_value(
-    alloc: Global,
     order: &Order,
     given: &Given,
     entries: u64,
@@ -261,8 +248,8 @@ pub fn answer_value(
 {
     if !given.is_for(order) {
         return Ok(Stepped::NotMine {
-            kept: Shared::new(alloc, order.copy()?)?,
-            given: Shared::new(alloc, given.order()?)?,
+            kept: order.copy()?,
+            given: given.order()?,
         });
     }
     if !room {

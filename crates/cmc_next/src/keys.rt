@@ -1,12 +1,15 @@
 //! The private key of an issuance in progress.
 ghost use Rattle.std.specs.Option.{option_copied};
-ghost use Rattle.std.specs.Prelude.{◌≡◌};
+ghost use Rattle.std.specs.Prelude.{◌≡◌, option_map};
+ghost use Rattle.cmc_der.specs.Keys.{key_shown};
+ghost use Rattle.cmc_objects.specs.KeyPairs.{key_read};
 ghost use Rattle.cmc_match.specs.Facts as facts;
 ghost use Rattle.cmc_rules.specs.NextKeys as words;
 
-use cmc_match::{key_fits, part_under};
+use cmc_match::{key_fits_as_read, part_under, public_in};
 use cmc_meta::{Bytes, Name};
 use cmc_objects::{KeySpec, Secret, Shared};
+use cmc_x509::Spki;
 
 /// The file of the Secret's private key, in DER (`tls.key`); `None` exactly where the Secret has none.
 pub fn key_in(secret: &Secret) -> Option<&Bytes>
@@ -32,12 +35,13 @@ pub fn named_key<'a>(name: &Option<Name>, next: &'a [Shared<Secret>]) -> Option<
     next.iter().find(|secret| is_named(name, secret))
 }
 
-fn is_fitting(spec: &KeySpec, file: Option<&Bytes>) -> bool
+fn is_fitting(spec: &KeySpec, file: Option<&Bytes>, public: &Option<Spki<'_>>) -> bool
+    requires { option_map key_shown public.now ≡ key_read (option_copied file) }
     ensures { result ≡ words.is_fitting spec.now (option_copied file.entry) }
 {
     match file {
         None => false,
-        Some(file) => key_fits(spec, file.as_slice()),
+        Some(file) => key_fits_as_read(spec, file.as_slice(), public),
     }
 }
 
@@ -45,5 +49,5 @@ fn is_fitting(spec: &KeySpec, file: Option<&Bytes>) -> bool
 pub fn has_fitting_key(spec: &KeySpec, secret: &Secret) -> bool
     ensures { result ≡ words.has_fitting_key spec.now secret.now }
 {
-    is_fitting(spec, key_in(secret))
+    is_fitting(spec, key_in(secret), &public_in(secret))
 }

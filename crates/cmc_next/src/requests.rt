@@ -1,11 +1,14 @@
 //! The requests of an issuance in progress.
 ghost use Rattle.std.specs.Option.{option_copied};
-ghost use Rattle.std.specs.Prelude.{◌≡◌, Some, length};
+ghost use Rattle.std.specs.Prelude.{◌≡◌, Some, length, option_map};
+ghost use Rattle.cmc_der.specs.Keys.{key_shown};
+ghost use Rattle.cmc_x509.specs.ReadKeys.{key_file_at};
 ghost use Rattle.cmc_rules.specs.NextRequests as words;
 
 use cmc_match::{is_of, request_answers};
 use cmc_meta::{Condition, ConditionKind, Tri};
 use cmc_objects::{Certificate, CertificateRequest, Shared};
+use cmc_x509::Spki;
 
 /// Whether the request is for the next revision of the Certificate: the one behind the revision that its status has,
 /// which is 0 where it has none.
@@ -27,11 +30,17 @@ pub fn next_count(certificate: &Certificate, requests: &[Shared<CertificateReque
         .count()
 }
 
-/// Whether the request asks for what the Certificate asks for, with the key of this file.
-pub fn is_wanted(certificate: &Certificate, file: &[u8], request: &CertificateRequest) -> bool
+/// Says whether the request asks for what the Certificate asks for, with the key of `file`. `public` was read of `file`.
+pub fn is_wanted(
+    certificate: &Certificate,
+    file: &[u8],
+    public: &Option<Spki<'_>>,
+    request: &CertificateRequest,
+) -> bool
+    requires { option_map key_shown public.now ≡ key_file_at file.now }
     ensures { result ≡ words.is_wanted certificate.now file.now request.now }
 {
-    request_answers(&certificate.spec, request, file)
+    request_answers(&certificate.spec, request, file, public)
 }
 
 fn says_refused(ready: Option<&Condition>) -> bool

@@ -1,5 +1,5 @@
 -- The test of two public keys says whether they are one.
-use Rattle.std.proofs.Common.{◌≡◌, ℕ, Bool, true, false, List, refl, ap, subst}
+use Rattle.std.proofs.Common.{◌≡◌, ℕ, Bool, true, false, List, Option, Some, None, refl, ap, subst}
 use Rattle.std.specs.Prelude.{◌↔◌, ◌&&◌, IsTrue}
 use Rattle.std.proofs.lemmas.Bool.{and_from, eqb-true, eq-eqb, false≢true, and_parts}
 use Rattle.std.proofs.lemmas.Bool.Decides.{same_from_decides}
@@ -7,7 +7,7 @@ use Rattle.std.proofs.lemmas.Slice.Eq.{bytes_eq-Decides}
 use Rattle.cmc_der.specs.declared.fields.KeyKind.{KeyKind}
 use Rattle.cmc_der.specs.declared.fields.KeyKind.TheVariants.{Rsa, P256, P384, P521}
 use Rattle.cmc_der.specs.Keys.{PublicKey, RsaKey, EcKey, OtherKey, same_kind}
-use Rattle.cmc_objects.specs.KeyPairs.{is_one_key}
+use Rattle.cmc_objects.specs.KeyPairs.{is_one_key, key_read, pair_of, pair_with_key}
 
 kind_found : (a b : KeyKind) → same_kind a b ≡ true → a ≡ b
 kind_found (Rsa m) (Rsa n) h = ap Rsa (eqb-true m n h)
@@ -47,3 +47,13 @@ key_again a b e = let P : PublicKey → Type 0 = λ k. is_one_key a k ≡ true i
 -- what says whether two keys are equal gives the test's value
 pub key_value : (r : Bool) (a b : PublicKey) → IsTrue r ↔ (a ≡ b) → r ≡ is_one_key a b
 key_value r a b h = same_from_decides r (is_one_key a b) h (key_found a b, key_again a b)
+
+by_key_read : (key certificate : Option (List ℕ)) → pair_of key certificate ≡ pair_with_key (key_read key) certificate
+by_key_read None None = refl
+by_key_read None (Some certificate) = refl
+by_key_read (Some key) None = refl
+by_key_read (Some key) (Some certificate) = refl
+
+-- a pair is told by the public key that was read of the key file
+pub pair_by_read : (key certificate : Option (List ℕ)) (public : Option PublicKey) → public ≡ key_read key → pair_of key certificate ≡ pair_with_key public certificate
+pair_by_read key certificate public e = rw (e) (by_key_read key certificate)

@@ -1,3 +1,4 @@
+pub mod KeptLaws
 pub mod KeyLaws
 pub mod LookupLaws
 pub mod Ranks

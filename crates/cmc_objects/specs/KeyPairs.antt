@@ -19,6 +19,20 @@ with_key None certificate = None
 with_key (Some key) None = None
 with_key (Some key) (Some fields) = if is_one_key key fields.key then Some fields else None
 
+-- the public key of a key file, if there is one
+abbrev pub key_read : Option (List ℕ) → Option PublicKey
+key_read None = None
+key_read (Some file) = key_file_at file
+
+-- the public key of the key file among the data of a Secret
+abbrev pub public_among : List (List ℕ × List ℕ) → Option PublicKey
+public_among parts = key_read (text_at parts (codes "tls.key"))
+
+-- the fields of the certificate, where one stands and has this key
+abbrev pub pair_with_key : Option PublicKey → Option (List ℕ) → Option CertificateFields
+pair_with_key key None = None
+pair_with_key key (Some certificate) = with_key key (certificate_at certificate)
+
 abbrev pub pair_of : Option (List ℕ) → Option (List ℕ) → Option CertificateFields
 pair_of None certificate = None
 pair_of (Some key) None = None

@@ -3,6 +3,7 @@ pub mod Defaults
 pub mod KeyPairs
 pub mod Objects
 pub mod Roles
+pub mod Kept
 pub mod Materials
 pub mod Requests
 pub mod Watching

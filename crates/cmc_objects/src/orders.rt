@@ -281,17 +281,27 @@ impl JudgeOrder {
     }
 }
 
-/// Work that a pass hands out.
-#[derive(Drop)]
+/// Work that a pass hands out. It is shared, so that the pass, the history and who does it hold the same one.
 pub enum Order {
-    Key(KeyOrder),
-    Csr(CsrOrder),
-    Sign(SignOrder),
-    Judge(JudgeOrder),
+    Key(Shared<KeyOrder>),
+    Csr(Shared<CsrOrder>),
+    Sign(Shared<SignOrder>),
+    Judge(Shared<JudgeOrder>),
+}
+
+impl Drop for Order {
+    fn drop(self) {
+        match self {
+            Order::Key(_order) => {}
+            Order::Csr(_order) => {}
+            Order::Sign(_order) => {}
+            Order::Judge(_order) => {}
+        }
+    }
 }
 
 impl Order {
-    /// An equal order.
+    /// The same order, for one holder more.
     pub fn copy(&self) -> Result<Order, AllocError>
         ensures { IfOk result (λ o. o ≡ self.now) }
     {

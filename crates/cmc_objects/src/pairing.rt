@@ -47,24 +47,33 @@ fn certificate_with_key<'a>(
     }
 }
 
-fn public_of<'a>(file: &'a [u8]) -> Option<Spki<'a>>
+/// Returns the public key of a file of a private key: `None` exactly if `file` is not readable.
+pub fn public_of<'a>(file: &'a [u8]) -> Option<Spki<'a>>
     ensures { option_map key_shown result ≡ key_file_at file.now }
 {
     read_key(file).ok()
 }
 
-/// The fields of the certificate, where the key and the certificate are there and readable and have one public key.
-pub fn pair_of<'a>(key: Option<&Bytes>, certificate: Option<&'a Bytes>) -> Option<CertFields<'a>>
-    ensures { option_map cert_shown result ≡ spec.pair_of (option_copied key.entry) (option_copied certificate.entry) }
+/// Returns the public key of `file`, if there is one and it is readable.
+pub fn public_in<'a>(file: Option<&'a Bytes>) -> Option<Spki<'a>>
+    ensures { option_map key_shown result ≡ spec.key_read (option_copied file.entry) }
 {
-    match key {
+    match file {
         None => None,
-        Some(key) => match certificate {
-            None => None,
-            Some(certificate) => {
-                certificate_with_key(&public_of(key.as_slice()), certificate.as_slice())
-            }
-        },
+        Some(file) => public_of(file.as_slice()),
+    }
+}
+
+/// Returns the fields of `certificate`, if there is one, it is readable and its public key is `public`.
+pub fn certificate_of<'a>(
+    public: &Option<Spki<'_>>,
+    certificate: Option<&'a Bytes>,
+) -> Option<CertFields<'a>>
+    ensures { option_map cert_shown result ≡ spec.pair_with_key (option_map key_shown public.now) (option_copied certificate.entry) }
+{
+    match certificate {
+        None => None,
+        Some(certificate) => certificate_with_key(public, certificate.as_slice()),
     }
 }
 

@@ -1,13 +1,16 @@
 ghost use Rattle.std.specs.Option.{option_copied};
-ghost use Rattle.std.specs.Prelude.{◌≡◌, ◌↔◌, ◌&&◌, [], IsTrue, IfOk, OnOk, OnErr, nat_eq, option_map};
-ghost use Rattle.cmc_der.specs.Keys.{cert_shown};
-ghost use Rattle.cmc_objects.specs.KeyPairs.{IsPairing, pair_among};
+ghost use Rattle.std.specs.Prelude.{◌≡◌, ◌↔◌, ◌&&◌, [], IsTrue, IfOk, IfSome, OnOk, OnErr, nat_eq, option_map};
+ghost use Rattle.cmc_der.specs.Keys.{cert_shown, key_shown};
+ghost use Rattle.cmc_objects.specs.Kept.{IsKeyOfParts};
+ghost use Rattle.cmc_objects.specs.KeyPairs.{IsPairing, pair_among, public_among};
 ghost use Rattle.cmc_meta.specs.PairLists.{text_at, with_text, without_text};
 
+use crate::kept::{KeptKey, keep_key, key_as_read};
 use crate::lookups::part_under;
-use crate::pairing::{Pairing, pair_of, pairing_of};
+use crate::pairing::{Pairing, certificate_of, pairing_of, public_in};
+use crate::shared::Shared;
 use cmc_meta::{Bytes, Text};
-use cmc_x509::CertFields;
+use cmc_x509::{CertFields, Spki};
 use std::alloc::{AllocError, Global};
 use std::collections::BTreeMap;
 use std::marker::Model;
@@ -17,6 +20,8 @@ use std::marker::Model;
 pub struct Parts {
     map: BTreeMap<Text, Bytes>,
     pairing: Option<Pairing>,
+    /// The public key of the key file, if it is kept. Copies share it.
+    key: Option<Shared<Option<KeptKey>>>,
 }
 
 impl Drop for Parts {
@@ -24,6 +29,7 @@ impl Drop for Parts {
         let Parts {
             map: _map,
             pairing: _pairing,
+            key: _key,
         } = self;
     }
 }
@@ -31,12 +37,25 @@ impl Drop for Parts {
 impl Model for Parts {
     ghost use Rattle.std.specs.Prelude.{IfSome, List, ℕ};
     ghost use Rattle.cmc_objects.specs.KeyPairs.{IsPairing};
+    ghost use Rattle.cmc_objects.specs.Kept.{IsKeyOfParts};
 
     ghost Value = { List (List ℕ × List ℕ) };
 
     ghost view = { λ p. p.map.entries };
 
-    ghost invariant = { λ p. IfSome p.pairing (IsPairing p.map.entries) };
+    ghost invariant = { λ p. (IfSome p.pairing (IsPairing p.map.entries)) × (IfSome p.key (IsKeyOfParts p.map.entries)) };
+}
+
+/// Adds a holder of `kept`, and copies no octets.
+fn share(
+    kept: &Option<Shared<Option<KeptKey>>>,
+) -> Result<Option<Shared<Option<KeptKey>>>, AllocError>
+    ensures { IfOk result (λ k. k ≡ kept.now) }
+{
+    match kept {
+        None => Ok(None),
+        Some(kept) => Ok(Some(kept.copy()?)),
+    }
 }
 
 impl Parts {
@@ -47,6 +66,7 @@ impl Parts {
         Parts {
             map: BTreeMap::new(alloc),
             pairing: None,
+            key: None,
         }
     }
 
@@ -63,6 +83,7 @@ impl Parts {
         ensures err { OnErr result (self.new ≡ self.old) }
     {
         self.pairing = None;
+        self.key = None;
         self.map.insert(name, bytes)?;
         Ok(())
     }
@@ -72,6 +93,7 @@ impl Parts {
         ensures { self.new ≡ without_text self.old name.now }
     {
         self.pairing = None;
+        self.key = None;
         let _ = self.map.remove(name);
     }
 
@@ -82,12 +104,24 @@ impl Parts {
         &self.map
     }
 
+    /// Returns the public key of the key file (`tls.key`): as it is kept, or else as it is read now. `None` exactly if
+    /// there is no such file or it is not readable.
+    pub fn public(&self) -> Option<Spki<'_>>
+        ensures { option_map key_shown result ≡ public_among self.now }
+    {
+        match &self.key {
+            Some(kept) => key_as_read(kept),
+            None => public_in(part_under(self, "tls.key")),
+        }
+    }
+
     /// The fields of the certificate (`tls.crt`), where it and the key (`tls.key`) are there and readable and have one
     /// public key; `None` exactly elsewhere.
+    #[tactic(auto, using(crate::proofs::KeyLaws::pair_by_read))]
     pub fn pair(&self) -> Option<CertFields<'_>>
         ensures { option_map cert_shown result ≡ pair_among self.now }
     {
-        pair_of(part_under(self, "tls.key"), part_under(self, "tls.crt"))
+        certificate_of(&self.public(), part_under(self, "tls.crt"))
     }
 
     /// Whether the key and the certificate are a pair, and its validity: as it is kept, or else as it is read now.
@@ -108,11 +142,33 @@ impl Parts {
         let Parts {
             map,
             pairing: _pairing,
+            key,
         } = self;
         Parts {
             map,
             pairing: Some(pairing),
+            key,
         }
+    }
+
+    /// Keeps the public key of the key file from now on, for copies too. It reads the file once.
+    pub fn keep_key(self, alloc: Global) -> Result<Parts, AllocError>
+        ensures { IfOk result (λ p. p ≡ self) }
+    {
+        if self.key.is_some() {
+            return Ok(self);
+        }
+        let key = Shared::new(alloc, keep_key(alloc, &self.public())?)?;
+        let Parts {
+            map,
+            pairing,
+            key: _key,
+        } = self;
+        Ok(Parts {
+            map,
+            pairing,
+            key: Some(key),
+        })
     }
 
     /// Equal data.
@@ -122,6 +178,7 @@ impl Parts {
         Ok(Parts {
             map: self.map.clone()?,
             pairing: self.pairing,
+            key: share(&self.key)?,
         })
     }
 

@@ -3,6 +3,7 @@ ghost use Rattle.std.specs.Prelude.{◌≡◌, ◌↔◌, IsTrue, IfOk};
 use crate::issuer::IssuerRef;
 use crate::optional::{same_moment, same_u64};
 use crate::shared::Shared;
+use crate::signing_request::SigningRequest;
 use cmc_meta::{Bytes, Conditions, Item, ObjectMeta, Texts};
 use std::alloc::{AllocError, Global};
 
@@ -13,8 +14,8 @@ pub struct RequestSpec {
     pub duration: Option<u64>,
     pub is_ca: bool,
     pub usages: Texts,
-    /// The DER of a certificate signing request.
-    pub request: Bytes,
+    /// The DER of a certificate signing request, with what is read of it.
+    pub request: SigningRequest,
 }
 
 /// The status of a CertificateRequest (cert-manager.io/v1 `CertificateRequestStatus`).

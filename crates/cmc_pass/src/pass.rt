@@ -126,7 +126,7 @@ impl TemporaryPlan {
     }
 }
 
-/// What a pass does.
+/// What a pass does. Its plans are shared, so that an act is cheap to hand on.
 #[derive(Drop)]
 pub enum Act {
     /// There is nothing to do.
@@ -136,9 +136,9 @@ pub enum Act {
     /// A question, whose answer says which call follows.
     Ask(Order),
     /// The Secret and the status of an issuance.
-    Issue(IssuePlan),
+    Issue(Shared<IssuePlan>),
     /// The Secret with a stand-in certificate.
-    Temporary(TemporaryPlan),
+    Temporary(Shared<TemporaryPlan>),
 }
 
 impl Act {

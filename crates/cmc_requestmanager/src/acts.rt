@@ -3,6 +3,8 @@ ghost use Rattle.std.specs.List.{last_or};
 ghost use Rattle.std.specs.Option.{option_copied};
 ghost use Rattle.std.specs.Prelude.{◌≡◌, ◌↔◌, None, Some, IfOk, IsTrue, option_map, if◌then◌else◌};
 ghost use Rattle.cmc_der.specs.Keys.{key_shown};
+ghost use Rattle.cmc_x509.specs.ReadKeys.{key_file_at};
+ghost use Rattle.cmc_objects.specs.KeyPairs.{key_read};
 ghost use Rattle.cmc_pass.specs.declared.pass.Act.TheVariants.{Nothing};
 ghost use Rattle.cmc_requestmanager.specs.Choosing.{act_of};
 ghost use Rattle.cmc_rules.specs.NextRequests as next_words;
@@ -10,33 +12,41 @@ ghost use Rattle.cmc_rules.specs.RequestManaging as table;
 ghost use Rattle.cmc_rules.specs.Revising as revising;
 
 use crate::choices::{Choice, build, is_nothing};
-use cmc_match::key_fits;
+use cmc_match::{key_fits_as_read, public_in};
 use cmc_meta::Bytes;
 use cmc_next::{
     failed_before, is_issuing, is_next, is_refused, is_wanted, key_in, named_key, next_count,
 };
 use cmc_objects::{Certificate, CertificateRequest, Secret, Shared};
 use cmc_pass::{Act, Desk, Views};
-use cmc_x509::{Spki, key_public};
+use cmc_x509::Spki;
 use std::alloc::{AllocError, Global};
 
-fn is_stale(certificate: &Certificate, file: &[u8], request: &CertificateRequest) -> bool
+fn is_stale(
+    certificate: &Certificate,
+    file: &[u8],
+    public: &Option<Spki<'_>>,
+    request: &CertificateRequest,
+) -> bool
+    requires { option_map key_shown public.now ≡ key_file_at file.now }
     ensures { result ≡ table.is_stale certificate.now file.now request.now }
 {
-    !is_wanted(certificate, file, request)
+    !is_wanted(certificate, file, public, request)
         || (is_refused(request) && failed_before(certificate, request))
 }
 
 fn stale_request<'a>(
     certificate: &Certificate,
     file: &[u8],
+    public: &Option<Spki<'_>>,
     requests: &'a [Shared<CertificateRequest>],
 ) -> Option<&'a Shared<CertificateRequest>>
-    requires { next_words.HasNextRevision (Some certificate.now) }
+    requires revision { next_words.HasNextRevision (Some certificate.now) }
+    requires public { option_map key_shown public.now ≡ key_file_at file.now }
     ensures { option_copied result ≡ table.stale_request certificate.now file.now requests.now }
 {
     requests.iter().find(|request| is_next(certificate, request)
-        && is_stale(certificate, file, request))
+        && is_stale(certificate, file, public, request))
 }
 
 fn last_with<'a>(
@@ -77,15 +87,19 @@ fn delete_of<'a>(request: Option<&'a Shared<CertificateRequest>>) -> Choice<'a>
     }
 }
 
-fn ask_with<'a>(certificate: &'a Certificate, file: &'a Bytes, key: Option<Spki<'a>>) -> Choice<'a>
-    ensures { act_of result ≡ table.ask_with certificate.now file.now (option_map key_shown key.entry) }
+fn ask_with<'a>(
+    certificate: &'a Certificate,
+    file: &'a Bytes,
+    public: &Option<Spki<'a>>,
+) -> Choice<'a>
+    ensures { act_of result ≡ table.ask_with certificate.now file.now (option_map key_shown public.now) }
 {
-    match key {
+    match public {
         None => Choice::Nothing,
         Some(key) => Choice::Ask {
             certificate,
             file,
-            key,
+            key: *key,
         },
     }
 }
@@ -93,14 +107,16 @@ fn ask_with<'a>(certificate: &'a Certificate, file: &'a Bytes, key: Option<Spki<
 fn by_count<'a>(
     certificate: &'a Certificate,
     file: &'a Bytes,
+    public: &Option<Spki<'a>>,
     requests: &'a [Shared<CertificateRequest>],
 ) -> Choice<'a>
-    requires { next_words.HasNextRevision (Some certificate.now) }
+    requires revision { next_words.HasNextRevision (Some certificate.now) }
+    requires public { option_map key_shown public.now ≡ key_file_at file.now }
     ensures { act_of result ≡ table.by_count certificate.now file.now (next_words.next_requests certificate.now requests.now) }
 {
     let count = next_count(certificate, requests);
     if count == 0 {
-        ask_with(certificate, file, key_public(file.as_slice()))
+        ask_with(certificate, file, public)
     } else if count == 1 {
         Choice::Nothing
     } else {
@@ -111,13 +127,15 @@ fn by_count<'a>(
 fn by_stale<'a>(
     certificate: &'a Certificate,
     file: &'a Bytes,
+    public: &Option<Spki<'a>>,
     requests: &'a [Shared<CertificateRequest>],
 ) -> Choice<'a>
-    requires { next_words.HasNextRevision (Some certificate.now) }
+    requires revision { next_words.HasNextRevision (Some certificate.now) }
+    requires public { option_map key_shown public.now ≡ key_file_at file.now }
     ensures { act_of result ≡ table.by_stale certificate.now file.now requests.now (table.stale_request certificate.now file.now requests.now) }
 {
-    match stale_request(certificate, file.as_slice(), requests) {
-        None => by_count(certificate, file, requests),
+    match stale_request(certificate, file.as_slice(), public, requests) {
+        None => by_count(certificate, file, public, requests),
         Some(request) => Choice::Delete { request },
     }
 }
@@ -126,13 +144,15 @@ fn with_file<'a>(
     certificate: &'a Certificate,
     requests: &'a [Shared<CertificateRequest>],
     file: Option<&'a Bytes>,
+    public: &Option<Spki<'a>>,
 ) -> Choice<'a>
-    requires { next_words.HasNextRevision (Some certificate.now) }
+    requires revision { next_words.HasNextRevision (Some certificate.now) }
+    requires public { option_map key_shown public.now ≡ key_read (option_copied file) }
     ensures { act_of result ≡ table.with_file certificate.now requests.now (option_copied file.entry) }
 {
     match file {
-        Some(file) if key_fits(&certificate.spec.key, file.as_slice()) => {
-            by_stale(certificate, file, requests)
+        Some(file) if key_fits_as_read(&certificate.spec.key, file.as_slice(), public) => {
+            by_stale(certificate, file, public, requests)
         }
         _ => Choice::Nothing,
     }
@@ -148,7 +168,7 @@ fn with_key<'a>(
 {
     match secret {
         None => Choice::Nothing,
-        Some(secret) => with_file(certificate, requests, key_in(secret)),
+        Some(secret) => with_file(certificate, requests, key_in(secret), &public_in(secret)),
     }
 }
 

@@ -9,7 +9,7 @@ use cmc_meta::{Bytes, Key, Kind, Pairs, Text};
 use cmc_next::owned_meta;
 use cmc_objects::{
     Call, CertSpec, Certificate, CertificateRequest, Object, RequestSpec, RequestStatus, Secret,
-    Shared,
+    Shared, SigningRequest,
 };
 use cmc_pass::Act;
 use std::alloc::{AllocError, Global};
@@ -79,7 +79,7 @@ fn request_marks(
 }
 
 #[tactic(auto, unfolding(cmc_rules::specs::RequestManaging::request_spec))]
-fn request_spec(spec: &CertSpec, request: Bytes) -> Result<RequestSpec, AllocError>
+fn request_spec(alloc: Global, spec: &CertSpec, request: Bytes) -> Result<RequestSpec, AllocError>
     ensures { IfOk result (λ s. s ≡ table.request_spec spec.now request) }
 {
     let issuer = spec.issuer.copy()?;
@@ -89,7 +89,7 @@ fn request_spec(spec: &CertSpec, request: Bytes) -> Result<RequestSpec, AllocErr
         duration: spec.duration,
         is_ca: spec.is_ca,
         usages,
-        request,
+        request: SigningRequest::new(alloc, request)?,
     })
 }
 
@@ -103,7 +103,7 @@ fn new_request(
     requires { next.HasNextRevision (Some certificate.now) }
     ensures { IfOk result (λ r. r ≡ table.new_request certificate.now secret.now request) }
 {
-    let spec = request_spec(&certificate.spec, request)?;
+    let spec = request_spec(alloc, &certificate.spec, request)?;
     let marks = request_marks(alloc, certificate, secret)?;
     let meta = owned_meta(alloc, certificate, Pairs::new(alloc), marks)?;
     Ok(CertificateRequest {

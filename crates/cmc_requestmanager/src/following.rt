@@ -2,6 +2,7 @@
 ghost use Rattle.std.specs.Option.{option_copied};
 ghost use Rattle.std.specs.Prelude.{◌≡◌, IfOk, IsSome, Some, option_map};
 ghost use Rattle.cmc_der.specs.Keys.{key_shown};
+ghost use Rattle.cmc_objects.specs.KeyPairs.{key_read};
 ghost use Rattle.cmc_next.specs.Questions.{IsQuestionOf};
 ghost use Rattle.cmc_pass.specs.Giving.{order_of, value_of};
 ghost use Rattle.cmc_pass.specs.Values.{IsValue};
@@ -10,11 +11,12 @@ ghost use Rattle.cmc_rules.specs.RequestManaging as table;
 
 use crate::calls::make_request;
 use crate::questions::body_of;
+use cmc_match::public_in;
 use cmc_meta::Bytes;
 use cmc_next::{key_in, named_key, value_in};
 use cmc_objects::{Call, Certificate, Order, Secret, Shared};
 use cmc_pass::{Given, Value, Views};
-use cmc_x509::{Spki, key_public};
+use cmc_x509::Spki;
 use cmc_x509_build::csr_whole;
 use std::alloc::{AllocError, Global};
 
@@ -22,16 +24,16 @@ fn signed_by(
     alloc: Global,
     certificate: &Certificate,
     secret: &Secret,
-    key: Option<Spki<'_>>,
+    public: &Option<Spki<'_>>,
     signature: &[u8],
 ) -> Result<Option<Call>, AllocError>
     requires { next_words.HasNextRevision (Some certificate.now) }
-    ensures { IfOk result (λ c. c ≡ table.signed_by certificate.now secret.now (option_map key_shown key.entry) signature.now) }
+    ensures { IfOk result (λ c. c ≡ table.signed_by certificate.now secret.now (option_map key_shown public.now) signature.now) }
 {
-    let Some(key) = key else {
+    let Some(key) = public else {
         return Ok(None);
     };
-    let body = body_of(alloc, &certificate.spec, &key)?;
+    let body = body_of(alloc, &certificate.spec, key)?;
     let request = csr_whole(alloc, body.as_slice(), signature)?;
     Ok(Some(make_request(alloc, certificate, secret, request)?))
 }
@@ -41,20 +43,16 @@ fn signed_in(
     certificate: &Certificate,
     secret: &Secret,
     file: Option<&Bytes>,
+    public: &Option<Spki<'_>>,
     signature: &[u8],
 ) -> Result<Option<Call>, AllocError>
-    requires { next_words.HasNextRevision (Some certificate.now) }
+    requires revision { next_words.HasNextRevision (Some certificate.now) }
+    requires public { option_map key_shown public.now ≡ key_read (option_copied file) }
     ensures { IfOk result (λ c. c ≡ table.signed_in certificate.now secret.now (option_copied file.entry) signature.now) }
 {
     match file {
         None => Ok(None),
-        Some(file) => signed_by(
-            alloc,
-            certificate,
-            secret,
-            key_public(file.as_slice()),
-            signature,
-        ),
+        Some(_file) => signed_by(alloc, certificate, secret, public, signature),
     }
 }
 
@@ -69,7 +67,14 @@ fn signed_with(
 {
     match secret {
         None => Ok(None),
-        Some(secret) => signed_in(alloc, certificate, secret, key_in(secret), signature),
+        Some(secret) => signed_in(
+            alloc,
+            certificate,
+            secret,
+            key_in(secret),
+            &public_in(secret),
+            signature,
+        ),
     }
 }
 

@@ -4,7 +4,7 @@ ghost use Rattle.cmc_der.specs.Keys.{key_shown};
 ghost use Rattle.cmc_rules.specs.RequestManaging as table;
 
 use cmc_meta::Bytes;
-use cmc_objects::{CertSpec, Certificate, CsrOrder, Order};
+use cmc_objects::{CertSpec, Certificate, CsrOrder, Order, Shared};
 use cmc_pass::Act;
 use cmc_x509::Spki;
 use cmc_x509_build::{NameSet, csr_body};
@@ -46,8 +46,9 @@ pub fn ask_signature(
     ensures { IfOk result (λ a. a ≡ table.ask_signature certificate.now file.now (key_shown key.now)) }
 {
     let body = body_of(alloc, &certificate.spec, key)?;
-    Ok(Act::Ask(Order::Csr(CsrOrder {
+    let order = CsrOrder {
         key: file.copy()?,
         body,
-    })))
+    };
+    Ok(Act::Ask(Order::Csr(Shared::new(alloc, order)?)))
 }

@@ -339,19 +339,24 @@ fn rules(alloc: Global, ruled: &Ruled) -> Result<Rules, Fail> {
     })
 }
 
-fn order_in(act: Act) -> Result<JudgeOrder, Fail>
-    ensures { IfOk result (λ order. act ≡ acts.Ask (orders.Judge order)) }
+fn order_of(act: &Act) -> Result<Shared<JudgeOrder>, Fail>
+    ensures { IfOk result (λ order. act.now ≡ acts.Ask (orders.Judge order)) }
 {
     match act {
-        Act::Ask(Order::Judge(order)) => Ok(order),
-        other => {
-            let_go(other);
-            Err(Fail::from("no question"))
-        }
+        Act::Ask(Order::Judge(order)) => Ok(order.copy()?),
+        _ => Err(Fail::from("no question")),
     }
 }
 
-fn question(alloc: Global, views: &Views, desk: &Desk) -> Result<JudgeOrder, Fail>
+fn order_in(act: Act) -> Result<Shared<JudgeOrder>, Fail>
+    ensures { IfOk result (λ order. act ≡ acts.Ask (orders.Judge order)) }
+{
+    let order = order_of(&act);
+    let_go(act);
+    order
+}
+
+fn question(alloc: Global, views: &Views, desk: &Desk) -> Result<Shared<JudgeOrder>, Fail>
     ensures { IfOk result (λ order. approver views.now desk.now ≡ acts.Ask (orders.Judge order)) }
 {
     order_in(act(alloc, views, 0, desk)?)
@@ -363,7 +368,7 @@ fn written_on(
     alloc: Global,
     views: &Views,
     desk: &Desk,
-    order: JudgeOrder,
+    order: Shared<JudgeOrder>,
 ) -> Result<String, AllocError>
     requires stands { IsSome views.now.request }
     requires asked { approver views.now desk.now ≡ acts.Ask (orders.Judge order) }

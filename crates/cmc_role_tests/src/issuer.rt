@@ -463,21 +463,26 @@ fn signing(alloc: Global, answer: &Answer) -> Result<Signing, Fail> {
     }
 }
 
-fn order_in(act: Act) -> Result<SignOrder, Fail>
-    ensures { IfOk result (λ order. act ≡ acts.Ask (orders.Sign order)) }
+fn order_of(act: &Act) -> Result<Shared<SignOrder>, Fail>
+    ensures { IfOk result (λ order. act.now ≡ acts.Ask (orders.Sign order)) }
 {
     match act {
-        Act::Ask(Order::Sign(order)) => Ok(order),
-        other => {
-            let_go(other);
-            Err(Fail::from("no question"))
-        }
+        Act::Ask(Order::Sign(order)) => Ok(order.copy()?),
+        _ => Err(Fail::from("no question")),
     }
+}
+
+fn order_in(act: Act) -> Result<Shared<SignOrder>, Fail>
+    ensures { IfOk result (λ order. act ≡ acts.Ask (orders.Sign order)) }
+{
+    let order = order_of(&act);
+    let_go(act);
+    order
 }
 
 /// The question about the request.
 #[tactic(auto, unfolding(cmc_rules::specs::Orders::reply_row))]
-fn question(alloc: Global, views: &Views, desk: &Desk) -> Result<SignOrder, Fail>
+fn question(alloc: Global, views: &Views, desk: &Desk) -> Result<Shared<SignOrder>, Fail>
     requires form { HasForm views.now.request }
     requires few { desk.now.asked < 2 ^ 63 }
     requires plain { desk.now.material ≡ [] }

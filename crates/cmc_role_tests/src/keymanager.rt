@@ -338,19 +338,24 @@ fn scripted(alloc: Global) -> Result<Desk, Fail>
     Ok(desk)
 }
 
-fn order_in(act: Act) -> Result<KeyOrder, Fail>
-    ensures { IfOk result (λ order. act ≡ acts.Ask (orders.Key order)) }
+fn order_of(act: &Act) -> Result<Shared<KeyOrder>, Fail>
+    ensures { IfOk result (λ order. act.now ≡ acts.Ask (orders.Key order)) }
 {
     match act {
-        Act::Ask(Order::Key(order)) => Ok(order),
-        other => {
-            let_go(other);
-            Err(Fail::from("no question"))
-        }
+        Act::Ask(Order::Key(order)) => Ok(order.copy()?),
+        _ => Err(Fail::from("no question")),
     }
 }
 
-fn question(alloc: Global, views: &Views, desk: &Desk) -> Result<KeyOrder, Fail>
+fn order_in(act: Act) -> Result<Shared<KeyOrder>, Fail>
+    ensures { IfOk result (λ order. act ≡ acts.Ask (orders.Key order)) }
+{
+    let order = order_of(&act);
+    let_go(act);
+    order
+}
+
+fn question(alloc: Global, views: &Views, desk: &Desk) -> Result<Shared<KeyOrder>, Fail>
     requires { desk.now.asked < 2 ^ 63 }
     ensures { IfOk result (λ order. key_manager views.now desk.now ≡ acts.Ask (orders.Key order)) }
 {
@@ -368,7 +373,12 @@ fn views_with(alloc: Global, case: &Case) -> Result<Views, Fail>
 }
 
 #[tactic(auto, unfolding(cmc_rules::specs::KeyManaging::key_after))]
-fn kept(alloc: Global, views: &Views, desk: &Desk, order: &KeyOrder) -> Result<String, AllocError>
+fn kept(
+    alloc: Global,
+    views: &Views,
+    desk: &Desk,
+    order: &Shared<KeyOrder>,
+) -> Result<String, AllocError>
     requires stands { IsSome views.now.certificate }
     requires asked { key_manager views.now desk.now ≡ acts.Ask (orders.Key order.now) }
 {

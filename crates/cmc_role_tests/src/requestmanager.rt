@@ -416,19 +416,24 @@ fn follows(views: &Views) -> bool
     }
 }
 
-fn order_in(act: Act) -> Result<CsrOrder, Fail>
-    ensures { IfOk result (λ order. act ≡ acts.Ask (orders.Csr order)) }
+fn order_of(act: &Act) -> Result<Shared<CsrOrder>, Fail>
+    ensures { IfOk result (λ order. act.now ≡ acts.Ask (orders.Csr order)) }
 {
     match act {
-        Act::Ask(Order::Csr(order)) => Ok(order),
-        other => {
-            let_go(other);
-            Err(Fail::from("no question"))
-        }
+        Act::Ask(Order::Csr(order)) => Ok(order.copy()?),
+        _ => Err(Fail::from("no question")),
     }
 }
 
-fn question(alloc: Global, views: &Views, desk: &Desk) -> Result<CsrOrder, Fail>
+fn order_in(act: Act) -> Result<Shared<CsrOrder>, Fail>
+    ensures { IfOk result (λ order. act ≡ acts.Ask (orders.Csr order)) }
+{
+    let order = order_of(&act);
+    let_go(act);
+    order
+}
+
+fn question(alloc: Global, views: &Views, desk: &Desk) -> Result<Shared<CsrOrder>, Fail>
     requires { HasNextRevision views.now.certificate }
     ensures { IfOk result (λ order. table.request_manager views.now ≡ acts.Ask (orders.Csr order)) }
 {
@@ -440,7 +445,7 @@ fn made_on(
     alloc: Global,
     views: &Views,
     desk: &Desk,
-    order: &CsrOrder,
+    order: &Shared<CsrOrder>,
 ) -> Result<String, AllocError>
     requires revision { HasNextRevision views.now.certificate }
     requires asked { table.request_manager views.now ≡ acts.Ask (orders.Csr order.now) }

@@ -7,7 +7,7 @@ use crate::fixtures::{bytes, conditions as stated, pairs, put_part, set_pair};
 use cmc_meta::{Bytes, Condition, ConditionKind, Conditions, ObjectMeta, Pairs, Texts, Tri};
 use cmc_objects::{
     Algorithm, Call, CertSpec, CertStatus, Certificate, CertificateRequest, IssuerRef, Material,
-    Object, Parts, RequestSpec, RequestStatus, Rules, Secret, Shared,
+    Object, Parts, RequestSpec, RequestStatus, Rules, Secret, Shared, SigningRequest,
 };
 use cmc_pass::{Act, Desk, Requests, Views};
 use cmc_policy_rules::Policies;
@@ -170,7 +170,7 @@ fn request_spec(alloc: Global, der: &str) -> Result<RequestSpec, Fail> {
         duration: None,
         is_ca: false,
         usages: Texts::new(alloc),
-        request: bytes(alloc, der)?,
+        request: SigningRequest::new(alloc, bytes(alloc, der)?)?,
     })
 }
 

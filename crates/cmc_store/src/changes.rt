@@ -59,7 +59,7 @@ pub fn make(alloc: Global, object: &Object, version: u64, now: i64) -> Result<Ob
             Secret {
                 meta: fresh_meta(&s.meta, version, now, 0)?,
                 kind_text: s.kind_text.copy()?,
-                parts: s.parts.copy()?.keep_pairing(),
+                parts: s.parts.copy()?.keep_key(alloc)?.keep_pairing(),
             },
         ),
     }
@@ -108,7 +108,7 @@ fn merge(alloc: Global, old: &Object, new: &Object) -> Result<Object, AllocError
             Secret {
                 meta: merge_meta(&a.meta, &b.meta)?,
                 kind_text: a.kind_text.copy()?,
-                parts: b.parts.copy()?.keep_pairing(),
+                parts: b.parts.copy()?.keep_key(alloc)?.keep_pairing(),
             },
         ),
         _ => old.copy(),

@@ -14,6 +14,7 @@ use cmc_answers::{
 use cmc_meta::{Bytes, Text, Texts};
 use cmc_objects::{
     CertificateRequest, JudgeOrder, RequestSpec, Rules, Shared, SignOrder, SignRow, Signing,
+    SigningRequest,
 };
 use cmc_policy_rules::{Field, Policies, Policy};
 use std::alloc::{AllocError, Global};
@@ -39,7 +40,7 @@ fn asking(alloc: Global, name: &str) -> Result<CertificateRequest, Fail> {
     let octets = made(alloc, &[made_requests::made()], name)?;
     let mut request = request(alloc)?;
     let mut spec = RequestSpec::copy(&request.spec)?;
-    spec.request = octets;
+    spec.request = SigningRequest::new(alloc, octets)?;
     request.spec = Shared::new(alloc, spec)?;
     Ok(request)
 }
@@ -238,9 +239,10 @@ fn answers_by_the_row(rt: HostRuntime) -> Result<(), Fail> {
     Ok(())
 }
 
-fn order(alloc: Global) -> Result<SignOrder, Fail> {
+fn order(alloc: Global) -> Result<Shared<SignOrder>, Fail> {
     let request = Shared::new(alloc, asking(alloc, "P-384, no names")?)?;
-    Ok(question(request).ok_or("not to be asked")?)
+    let order = question(request).ok_or("not to be asked")?;
+    Ok(Shared::new(alloc, order)?)
 }
 
 fn answered(alloc: Global) -> Result<Answered, Fail> {
@@ -336,7 +338,8 @@ fn denial_word(denial: Option<&Denial>) -> &'static str {
 /// Why the request may not be approved, in a word.
 fn denial(alloc: Global, request: CertificateRequest, rules: Rules) -> Result<&'static str, Fail> {
     let request = Shared::new(alloc, request)?;
-    let judged = judge(alloc, JudgeOrder { request, rules })?;
+    let order = Shared::new(alloc, JudgeOrder { request, rules })?;
+    let judged = judge(alloc, order)?;
     Ok(denial_word(judged.denial()))
 }
 

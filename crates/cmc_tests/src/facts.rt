@@ -72,9 +72,13 @@ fn put_certificate(alloc: Global, parts: &mut Parts, certificate: &str) -> Resul
     Ok(())
 }
 
-/// Keeps what is known of the pair, where that is to be kept.
-fn keep(parts: Parts, kept: bool) -> Parts {
-    if kept { parts.keep_pairing() } else { parts }
+/// Keeps what is known of the key and of the pair, where that is to be kept.
+fn keep(alloc: Global, parts: Parts, kept: bool) -> Result<Parts, AllocError> {
+    if kept {
+        Ok(parts.keep_key(alloc)?.keep_pairing())
+    } else {
+        Ok(parts)
+    }
 }
 
 /// The parts of a Secret with this key and this certificate, where each is one. What is known of them is kept once the key
@@ -82,9 +86,9 @@ fn keep(parts: Parts, kept: bool) -> Parts {
 fn parts(alloc: Global, key: &str, certificate: &str, kept: bool) -> Result<Parts, Fail> {
     let mut parts = Parts::new(alloc);
     put_key(alloc, &mut parts, key)?;
-    parts = keep(parts, kept);
+    parts = keep(alloc, parts, kept)?;
     put_certificate(alloc, &mut parts, certificate)?;
-    Ok(keep(parts, kept))
+    Ok(keep(alloc, parts, kept)?)
 }
 
 /// Names the issuer `ca`.

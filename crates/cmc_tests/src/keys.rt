@@ -9,7 +9,7 @@ use cmc_keys::{
     synthetic_key, synthetic_keys_fit,
 };
 use cmc_meta::{Bytes, Key, Kind};
-use cmc_objects::{Algorithm, CsrOrder, Encoding, KeyOrder, KeyRow};
+use cmc_objects::{Algorithm, CsrOrder, Encoding, KeyOrder, KeyRow, Shared};
 use sha2::{Digest, Sha256};
 use std::alloc::{AllocError, Global};
 use std::test::Fail;
@@ -254,17 +254,18 @@ fn certificate_of(alloc: Global, row: &str) -> Result<Key, Fail> {
     })
 }
 
-fn question(alloc: Global, row: &str) -> Result<KeyOrder, Fail> {
+fn question(alloc: Global, row: &str) -> Result<Shared<KeyOrder>, Fail> {
     let certificate = certificate_of(alloc, row)?;
     let sort = sort_in(row, 4, 5, 6);
-    Ok(KeyOrder {
+    let order = KeyOrder {
         number: number_at(row, 3),
         certificate,
         algorithm: sort.algorithm,
         size: sort.size,
         encoding: sort.encoding,
         row: row_called(alloc, column(row, 0))?,
-    })
+    };
+    Ok(Shared::new(alloc, order)?)
 }
 
 /// The parts of the answer make an answer that is read as the other one.
@@ -274,7 +275,7 @@ fn is_made_again(made: Made, other: &Made) -> bool {
     again.order().same(other.order()) && again.bytes() == other.bytes()
 }
 
-fn made_for(alloc: Global, order: &KeyOrder) -> Result<Made, Fail> {
+fn made_for(alloc: Global, order: &Shared<KeyOrder>) -> Result<Made, Fail> {
     if !is_allowed_size(order.algorithm, order.size) {
         return Err(Fail::from("another size"));
     }
@@ -296,7 +297,7 @@ fn is_right(alloc: Global, made: &Made, order: &KeyOrder, want: &str) -> Result<
     Ok(is_file && is_read(made, order) && is_copied(made)?)
 }
 
-fn is_answer(alloc: Global, order: &KeyOrder, want: &str) -> Result<bool, Fail> {
+fn is_answer(alloc: Global, order: &Shared<KeyOrder>, want: &str) -> Result<bool, Fail> {
     let made = made_for(alloc, order)?;
     Ok(is_right(alloc, &made, order, want)?)
 }
@@ -321,12 +322,13 @@ fn is_signed_again(signed: SignedCsr, other: &SignedCsr) -> bool {
     again.order().same(other.order()) && again.signature() == other.signature()
 }
 
-fn body_order(alloc: Global, file: &str, body: &str) -> Result<CsrOrder, Fail> {
+fn body_order(alloc: Global, file: &str, body: &str) -> Result<Shared<CsrOrder>, Fail> {
     let key = made(alloc, &[made_keys::made()], file)?;
-    Ok(CsrOrder {
+    let order = CsrOrder {
         key,
         body: Bytes::from_slice(alloc, body.as_bytes())?,
-    })
+    };
+    Ok(Shared::new(alloc, order)?)
 }
 
 fn is_signature_copied(signed: &SignedCsr) -> Result<bool, AllocError> {
@@ -344,7 +346,7 @@ fn is_written(
     Ok(is_written && signed.order().same(order) && is_signature_copied(signed)?)
 }
 
-fn is_signature(alloc: Global, order: &CsrOrder, want: &str) -> Result<bool, AllocError> {
+fn is_signature(alloc: Global, order: &Shared<CsrOrder>, want: &str) -> Result<bool, AllocError> {
     let signed = ScriptedKeys.sign(alloc, order)?;
     is_written(alloc, &signed, order, want)
 }

@@ -16,21 +16,23 @@ use std::test::Fail;
 
 fn signature(alloc: Global) -> Result<Order, Fail> {
     let key = bytes(alloc)?;
-    Ok(Order::Csr(CsrOrder {
+    let order = CsrOrder {
         key,
         body: bytes(alloc)?,
-    }))
+    };
+    Ok(Order::Csr(Shared::new(alloc, order)?))
 }
 
 fn key_question(alloc: Global) -> Result<Order, Fail> {
-    Ok(Order::Key(KeyOrder {
+    let order = KeyOrder {
         number: 1,
         certificate: key(alloc, Kind::Certificate, "web")?,
         algorithm: Algorithm::Rsa,
         size: 2048,
         encoding: Encoding::Pkcs1,
         row: KeyRow::Synthetic(5),
-    }))
+    };
+    Ok(Order::Key(Shared::new(alloc, order)?))
 }
 
 fn rules(alloc: Global) -> Result<Rules, Fail> {
@@ -43,10 +45,11 @@ fn rules(alloc: Global) -> Result<Rules, Fail> {
 
 fn judgement(alloc: Global) -> Result<Order, Fail> {
     let request = Shared::new(alloc, request(alloc)?)?;
-    Ok(Order::Judge(JudgeOrder {
+    let order = JudgeOrder {
         request,
         rules: rules(alloc)?,
-    }))
+    };
+    Ok(Order::Judge(Shared::new(alloc, order)?))
 }
 
 /// The copy is the same question, and not the other one.

@@ -95,8 +95,8 @@ fn is_same(order: &Order) -> Result<bool, AllocError> {
     Ok(copied.same(order))
 }
 
-fn is_copied_as_any(order: SignOrder) -> Result<bool, AllocError> {
-    is_same(&Order::Sign(order))
+fn is_copied_as_any(alloc: Global, order: SignOrder) -> Result<bool, AllocError> {
+    is_same(&Order::Sign(Shared::new(alloc, order)?))
 }
 
 fn order(alloc: Global) -> Result<SignOrder, Fail> {
@@ -116,6 +116,7 @@ fn copies(rt: &impl Abort, order: &SignOrder) -> Result<(), AllocError> {
 fn copies_a_question_to_an_issuer(rt: HostRuntime) -> Result<(), Fail> {
     let order = order(rt.alloc())?;
     copies(&rt, &order)?;
-    passes(&rt, "as any question", is_copied_as_any(order)?);
+    let as_any = is_copied_as_any(rt.alloc(), order)?;
+    passes(&rt, "as any question", as_any);
     Ok(())
 }

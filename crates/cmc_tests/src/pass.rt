@@ -107,7 +107,7 @@ fn told_then(act: Act) -> &'static str {
 fn act_of(alloc: Global, word: &str) -> Result<Act, Fail> {
     match word {
         "call" => call(alloc),
-        "ask" => Ok(question(alloc)),
+        "ask" => question(alloc),
         "issue" => plan(alloc),
         "temporary" => temporary_plan(alloc),
         _ => Ok(Act::Nothing),
@@ -131,20 +131,21 @@ fn call(alloc: Global) -> Result<Act, Fail> {
     Ok(Act::Call(Call::Get { key }))
 }
 
-fn question(alloc: Global) -> Act {
-    Act::Ask(Order::Csr(CsrOrder {
+fn question(alloc: Global) -> Result<Act, Fail> {
+    let order = CsrOrder {
         key: Bytes::new(alloc),
         body: Bytes::new(alloc),
-    }))
+    };
+    Ok(Act::Ask(Order::Csr(Shared::new(alloc, order)?)))
 }
 
-fn issuing(get: Key, secret: Key, status: Key) -> Act {
-    Act::Issue(IssuePlan {
+fn issuing(get: Key, secret: Key, status: Key) -> IssuePlan {
+    IssuePlan {
         get,
         version: 1,
         secret: Call::Get { key: secret },
         status: Call::Get { key: status },
-    })
+    }
 }
 
 // The keys first: a call that is alive at a `?` is a wide enum to let go there.
@@ -152,17 +153,18 @@ fn plan(alloc: Global) -> Result<Act, Fail> {
     let secret = key(alloc, Kind::Secret, "web")?;
     let status = key(alloc, Kind::Secret, "web")?;
     let get = key(alloc, Kind::Secret, "web")?;
-    Ok(issuing(get, secret, status))
+    Ok(Act::Issue(Shared::new(alloc, issuing(get, secret, status))?))
 }
 
 fn temporary_plan(alloc: Global) -> Result<Act, Fail> {
     let secret = key(alloc, Kind::Secret, "web")?;
     let get = key(alloc, Kind::Certificate, "web")?;
-    Ok(Act::Temporary(TemporaryPlan {
+    let plan = TemporaryPlan {
         get,
         version: 1,
         secret: Call::Get { key: secret },
-    }))
+    };
+    Ok(Act::Temporary(Shared::new(alloc, plan)?))
 }
 
 /// An act of each sort, in a word.

@@ -10,6 +10,7 @@ use cmc_match::{
 use cmc_meta::{Bytes, Text, Texts};
 use cmc_objects::{
     Algorithm, CertSpec, CertificateRequest, IssuerRef, KeySpec, RequestSpec, Shared,
+    SigningRequest, public_of,
 };
 use cmc_x509::{read_csr, read_key};
 use std::alloc::{AllocError, Global};
@@ -166,7 +167,7 @@ fn asking_on(alloc: Global, terms: &str) -> Result<CertificateRequest, Fail> {
 fn asking_for(alloc: Global, terms: &str, octets: Bytes) -> Result<CertificateRequest, Fail> {
     let mut asking = asking_on(alloc, terms)?;
     let mut spec = RequestSpec::copy(&asking.spec)?;
-    spec.request = octets;
+    spec.request = SigningRequest::new(alloc, octets)?;
     asking.spec = Shared::new(alloc, spec)?;
     Ok(asking)
 }
@@ -432,7 +433,8 @@ static ANSWERS: [(&str, &str, bool); 5] = [
 fn answers(alloc: Global, request: &str, key: &str) -> Result<bool, Fail> {
     let asked = asking_called(alloc, request)?;
     let file = key_called(alloc, key)?;
-    Ok(request_answers(&whole_spec(alloc)?, &asked, file.as_slice()))
+    let public = public_of(file.as_slice());
+    Ok(request_answers(&whole_spec(alloc)?, &asked, file.as_slice(), &public))
 }
 
 #[test]

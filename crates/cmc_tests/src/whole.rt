@@ -5,7 +5,7 @@ use cmc_meta::{
 };
 use cmc_objects::{
     Algorithm, CertSpec, CertStatus, Certificate, CertificateRequest, Encoding, IssuerRef, KeySpec,
-    Parts, RequestSpec, RequestStatus, Rotation, Secret, Shared,
+    Parts, RequestSpec, RequestStatus, Rotation, Secret, Shared, SigningRequest,
 };
 use std::alloc::Global;
 use std::test::Fail;
@@ -139,7 +139,7 @@ fn request_spec(alloc: Global) -> Result<RequestSpec, Fail> {
         duration: Some(3_600),
         is_ca: false,
         usages,
-        request: bytes(alloc)?,
+        request: SigningRequest::new(alloc, bytes(alloc)?)?,
     })
 }
 

@@ -24,7 +24,7 @@ use cmc_moves::{
     Doing, Judged, Lack, Stepped, answer_of, answer_value, doing_of, ending_at, hangs_on_act,
     let_go, outdated_of, value_entry_of,
 };
-use cmc_objects::{Call, Cause, Entry, Order, Role, Shared, Who};
+use cmc_objects::{Call, Cause, Entry, Order, Role, Who};
 use cmc_pass::{Desk, Given, Value};
 use cmc_rules::{Ending, OpenPass, Origin, Stage};
 use cmc_store::Replied;
@@ -140,9 +140,10 @@ pub(crate) struct Asking {
 
 impl Drop for Asking {
     fn drop(self) {
-        let Asking { order, kept } = self;
-        let_go(order);
-        let_go(kept);
+        let Asking {
+            order: _order,
+            kept: _kept,
+        } = self;
     }
 }
 
@@ -246,7 +247,7 @@ impl World {
         match &current.stage {
             Stage::Asked { order } => Ok(Judged::Answer(Stepped::Order {
                 pass,
-                order: Shared::new(alloc, order.copy()?)?,
+                order: order.copy()?,
             })),
             _ => self.judge_doing(alloc, pass, current),
         }
@@ -277,7 +278,7 @@ impl World {
         match self.judge_next(alloc, pass, named)? {
             Judged::Answer(answer) => Ok(answer),
             Judged::Does(doing) => {
-                let answer = answer_of(alloc, pass, &doing);
+                let answer = answer_of(pass, &doing);
                 let_go(doing);
                 answer
             }
@@ -285,12 +286,7 @@ impl World {
     }
 
     /// What a value for the question of the open pass is answered.
-    fn judge_value(
-        &self,
-        alloc: Global,
-        current: &OpenPass,
-        given: &Given,
-    ) -> Result<Stepped, AllocError>
+    fn judge_value(&self, current: &OpenPass, given: &Given) -> Result<Stepped, AllocError>
         ensures { IfOk result (λ a. on AnswersGiven self.now (kept_of (Some current.now)) (order_of given.now) a) }
     {
         let Stage::Asked { order } = &current.stage else {
@@ -298,13 +294,12 @@ impl World {
         };
         let entries = self.history.len();
         let room = has_room(entries, self.scenario.events(), 1);
-        answer_value(alloc, order, given, entries, room)
+        answer_value(order, given, entries, room)
     }
 
     /// What the pass of this number is answered where it is given this.
     pub(crate) fn judge_give(
         &self,
-        alloc: Global,
         pass: u64,
         named: u64,
         given: &Given,
@@ -315,7 +310,7 @@ impl World {
             return Ok(Stepped::Ended { incarnation });
         }
         match self.passes.get(pass) {
-            Some(open) => self.judge_value(alloc, open, given),
+            Some(open) => self.judge_value(open, given),
             None => Ok(Stepped::NotNow(Lack::NoPass { pass })),
         }
     }
@@ -467,7 +462,7 @@ impl World {
         ensures leaves { IfOk result (λ r. (named : ℕ) → on Leaves self.old (moves.Next pass named) r self.new.history) }
         ensures err { OnErr result (self.new ≡ self.old) }
     {
-        let answer = match answer_of(alloc, pass, &doing) {
+        let answer = match answer_of(pass, &doing) {
             Ok(answer) => answer,
             Err(lack) => {
                 let_go(doing);
@@ -516,7 +511,6 @@ impl World {
 
     pub(crate) fn step_give(
         &mut self,
-        alloc: Global,
         pass: u64,
         named: u64,
         given: Given,
@@ -526,7 +520,7 @@ impl World {
         ensures leaves { IfOk result (λ r. on Leaves self.old (moves.Give pass named given) r self.new.history) }
         ensures err { OnErr result (self.new ≡ self.old) }
     {
-        let answer = self.judge_give(alloc, pass, named, &given)?;
+        let answer = self.judge_give(pass, named, &given)?;
         if !answer.is_done() {
             return Ok(answer);
         }

@@ -109,7 +109,6 @@ impl World {
     /// What the pass of this number is answered where a decision is handed in for it.
     pub(crate) fn answer_decide(
         &self,
-        alloc: Global,
         pass: u64,
         named: u64,
         decided: &Decided,
@@ -119,7 +118,7 @@ impl World {
         match self.judge_decide(pass, named, decided)? {
             Judged::Answer(answer) => Ok(answer),
             Judged::Does(doing) => {
-                let answer = answer_of(alloc, pass, &doing);
+                let answer = answer_of(pass, &doing);
                 let_go(doing);
                 answer
             }

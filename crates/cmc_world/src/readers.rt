@@ -47,12 +47,12 @@ impl World {
                 pass,
                 incarnation,
                 given,
-            } => self.judge_give(alloc, *pass, *incarnation, given),
+            } => self.judge_give(*pass, *incarnation, given),
             Move::Decide {
                 pass,
                 incarnation,
                 decided,
-            } => self.answer_decide(alloc, *pass, *incarnation, decided),
+            } => self.answer_decide(*pass, *incarnation, decided),
         }
     }
 

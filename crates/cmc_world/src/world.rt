@@ -253,7 +253,7 @@ impl World {
                 pass,
                 incarnation,
                 given,
-            } => self.step_give(alloc, pass, incarnation, given),
+            } => self.step_give(pass, incarnation, given),
             Move::Decide {
                 pass,
                 incarnation,

@@ -167,7 +167,7 @@ fn own_key(alloc: Global, order: &KeyOrder) -> Result<Bytes, AllocError>
     synthetic_key(alloc, order.algorithm, order.size, order.encoding, 77)
 }
 
-fn own_made(alloc: Global, order: &KeyOrder) -> Result<Made, AllocError>
+fn own_made(alloc: Global, order: &Shared<KeyOrder>) -> Result<Made, AllocError>
     requires { IsTrue (allows_size order.now.algorithm order.now.size) }
     ensures { IfOk result (λ made. made.order ≡ order.now) }
 {
@@ -181,7 +181,7 @@ fn own_made(alloc: Global, order: &KeyOrder) -> Result<Made, AllocError>
 }
 
 impl KeyMaker for OwnKeys<'_> {
-    fn make(&self, alloc: Global, order: &KeyOrder) -> Result<Made, AllocError>
+    fn make(&self, alloc: Global, order: &Shared<KeyOrder>) -> Result<Made, AllocError>
         requires { IsTrue (allows_size order.now.algorithm order.now.size) }
         ensures { IfOk result (λ made. made.order ≡ order.now) }
     {
@@ -189,7 +189,7 @@ impl KeyMaker for OwnKeys<'_> {
         own_made(alloc, order)
     }
 
-    fn sign(&self, alloc: Global, order: &CsrOrder) -> Result<SignedCsr, AllocError>
+    fn sign(&self, alloc: Global, order: &Shared<CsrOrder>) -> Result<SignedCsr, AllocError>
         ensures { IfOk result (λ signed. signed.order ≡ order.now) }
     {
         self.ledger.count(Work::Csr, &self.ledger.signatures);
@@ -209,7 +209,7 @@ fn own_answer(alloc: Global, order: &SignOrder) -> Result<Signing, AllocError> {
     signing_of(alloc, &row, order.number(), order.request(), order.now())
 }
 
-fn own_answered(alloc: Global, order: &SignOrder) -> Result<Answered, AllocError>
+fn own_answered(alloc: Global, order: &Shared<SignOrder>) -> Result<Answered, AllocError>
     ensures { IfOk result (λ answered. answered.order ≡ order.now) }
 {
     match order.row() {
@@ -222,7 +222,7 @@ fn own_answered(alloc: Global, order: &SignOrder) -> Result<Answered, AllocError
 }
 
 impl Signer for OwnSigner<'_> {
-    fn sign(&self, alloc: Global, order: &SignOrder) -> Result<Answered, AllocError>
+    fn sign(&self, alloc: Global, order: &Shared<SignOrder>) -> Result<Answered, AllocError>
         ensures { IfOk result (λ answered. answered.order ≡ order.now) }
     {
         self.ledger.count(Work::Sign, &self.ledger.answers);

@@ -8,7 +8,7 @@ use crate::deciding::decision;
 use crate::fixtures::{applied, put, value_of, whole_scenario};
 use cmc_history::History;
 use cmc_meta::{Bytes, Key, Kind, Numbers};
-use cmc_objects::{Cause, Entry, Material, Object, Order, Parts, Role, Secret, Shared, Step};
+use cmc_objects::{Cause, Entry, Material, Object, Order, Parts, Role, Secret, Step};
 use cmc_plain::plain;
 use cmc_setup::{Scenario, Steps};
 use cmc_tests::values::{key, new_meta, text};
@@ -317,11 +317,11 @@ fn next_move(alloc: Global, world: &World, walk: &mut Walk) -> Result<Move, Fail
 #[derive(Drop)]
 struct Told {
     pass: u64,
-    last: Option<Shared<Order>>,
-    before: Option<Shared<Order>>,
+    last: Option<Order>,
+    before: Option<Order>,
 }
 
-fn tell(told: &mut Told, pass: u64, order: Shared<Order>) {
+fn tell(told: &mut Told, pass: u64, order: Order) {
     let last = mem::replace(&mut told.last, Some(order));
     if told.pass != pass {
         told.before = last;

@@ -4,7 +4,7 @@ use crate::status::Status;
 use crate::tests::{run_with, web};
 use cmc_answers::ScriptedSigner;
 use cmc_keys::ScriptedKeys;
-use cmc_objects::{Entry, Order, SignOrder, Who};
+use cmc_objects::{Entry, Order, Shared, SignOrder, Who};
 use cmc_scenario::generate;
 use cmc_workers::{Driven, Gate, Point, Work, drive};
 use cmc_world::World;
@@ -143,7 +143,7 @@ impl Gate for Holding {
 }
 
 /// The pass that asks an issuer in the entry of this number, and what it asks.
-fn asked(world: &World, number: u64) -> Option<(u64, &SignOrder)> {
+fn asked(world: &World, number: u64) -> Option<(u64, &Shared<SignOrder>)> {
     match world.history().entry(number)? {
         Entry::Ask {
             pass,
