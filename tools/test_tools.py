@@ -149,8 +149,8 @@ def test_links():
 
 
 def test_changing_paths():
-    """Each path that the pages on changes and on proofs name is there, at the top or in crates/, but for those of a controller that is new."""
-    for page, fewest in (("CHANGING", 50), ("PROOFS", 30)):
+    """Each path that these pages name is there, at the top or in crates/, but for those of a controller that is new."""
+    for page, fewest in (("CHANGING", 50), ("PROOFS", 30), ("ARCHITECTURE", 20), ("THEOREMS", 15)):
         with open(f"{TOP}/docs/{page}.md", encoding="utf-8") as file:
             paths = [it for it in re.findall(r"`([^`\s]+/[^`\s]+)`", file.read()) if "NAME" not in it and not it.startswith("src/")]
         gone = [it for it in paths if not any(os.path.exists(f"{TOP}/{folder}{it}{end}") for folder in ("", "crates/") for end in ("", ".antt"))]
