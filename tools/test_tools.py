@@ -130,22 +130,31 @@ def test_rules_are_the_models():
     assert set(admission_rules()) == numbers == set(range(1, 17)), f"{sorted(numbers)}"
 
 
+def anchors_of(path):
+    """The names under which the headings of a page can be linked."""
+    with open(path, encoding="utf-8") as file:
+        heads = re.findall(r"^#+ +(.*)$", file.read(), re.M)
+    return {re.sub(r"[^\w -]", "", it.lower()).strip().replace(" ", "-") for it in heads}
+
+
 def test_links():
-    """Each link of a page leads to a file of the repository."""
+    """Each link of a page leads to a file of the repository, and to a heading of it where it names one."""
     pages = [f"{TOP}/README.md", *(f"{TOP}/{folder}/{name}" for folder in ("docs", "scenarios") for name in os.listdir(f"{TOP}/{folder}") if name.endswith(".md"))]
     for page in pages:
         with open(page, encoding="utf-8") as file:
-            for target in re.findall(r"\]\(([^)#\s]+)(?:#[^)]*)?\)", file.read()):
-                path = os.path.join(os.path.dirname(page), target)
+            for target, anchor in re.findall(r"\]\(([^)#\s]*)(?:#([^)]*))?\)", file.read()):
+                path = os.path.join(os.path.dirname(page), target) if target else page
                 assert "://" in target or os.path.exists(path), f"{os.path.relpath(page, TOP)}: {target}"
+                assert not anchor or "://" in target or anchor in anchors_of(path), f"{os.path.relpath(page, TOP)}: {target}#{anchor}"
 
 
 def test_changing_paths():
-    """Each path that the page on changes names is there, at the top or in crates/, but for those of a controller that is new."""
-    with open(f"{TOP}/docs/CHANGING.md", encoding="utf-8") as file:
-        paths = [it for it in re.findall(r"`([^`\s]+/[^`\s]+)`", file.read()) if "NAME" not in it and not it.startswith("src/")]
-    gone = [it for it in paths if not os.path.exists(f"{TOP}/{it}") and not os.path.exists(f"{TOP}/crates/{it}")]
-    assert len(paths) > 50 and not gone, gone
+    """Each path that these pages name is there, at the top or in crates/, but for those of a controller that is new."""
+    for page, fewest in (("CHANGING", 50), ("PROOFS", 30), ("ARCHITECTURE", 20), ("THEOREMS", 15)):
+        with open(f"{TOP}/docs/{page}.md", encoding="utf-8") as file:
+            paths = [it for it in re.findall(r"`([^`\s]+/[^`\s]+)`", file.read()) if "NAME" not in it and not it.startswith("src/")]
+        gone = [it for it in paths if not any(os.path.exists(f"{TOP}/{folder}{it}{end}") for folder in ("", "crates/") for end in ("", ".antt"))]
+        assert len(paths) > fewest and not gone, f"{page}: {gone}"
 
 
 def test_expect_members():
@@ -404,7 +413,7 @@ def small_tree(files):
             os.makedirs(os.path.dirname(f"{folder}/{path}"), exist_ok=True)
             cli.write_text(f"{folder}/{path}", text)
         os.makedirs(f"{folder}/tools")
-        for name in ("cli.py", "do", "names"):
+        for name in ("calls", "cli.py", "do", "names"):
             shutil.copy(f"{TOOLS}/{name}", f"{folder}/tools/{name}")
         yield f"{folder}/tools"
 
@@ -467,6 +476,99 @@ def test_above():
         lines = "    15  top\n    30  low\n    50  mid (estimated)\n   114  tests\n4 crates, 209 seconds of one processor\n"
         assert ran(["do", "above", "low"], tools=tools) == (0, lines, "")
         assert ran(["do", "above", "top"], tools=tools) == (0, "    15  top\n1 crates, 15 seconds of one processor\n", "")
+
+
+# ---- the page of calls
+
+SOURCES = {
+    "crates.txt": "# NAME: DEP ..\nlow:\ncmc_der: low\nlow_tests: low\n",
+    "crates/cmc_der/src/lib.rt": "pub use der::read;\n",
+    "crates/low/src/lib.rt": "//! What is low: a crate.\n#![tactic(auto)]\n\nmod list;\nmod maker;\n\npub use list::{List, law, longest, read};\npub use maker::Maker;\npub use cmc_der::Tag;\n",
+    "crates/low/src/list.rt": """/// A list.
+pub struct List {
+    items: Vec<u64>,
+}
+
+impl Drop for List {
+    fn drop(self) {}
+}
+
+impl List {
+    /// No items.
+    pub fn new(alloc: Global) -> List
+        ensures { result ≡ [] }
+    {
+    }
+
+    /// Adds an item.
+    pub fn put(&mut self, item: u64) -> Result<(), AllocError>
+        ensures ok { OnOk result (self.new ≡ item) }
+        ensures err { OnErr result (self.new ≡ self.old) }
+    {
+    }
+
+    /// Inside.
+    pub(crate) fn hidden(&self) {}
+}
+
+/// Reads a list (RFC 1) of a text. It says more.
+///
+/// # Errors
+///
+/// `BadList` where it is none.
+pub fn read(
+    text: &str,
+) -> Result<List, BadList>
+    requires short { length text ≤ 9 }
+    ensures found { IfOk result (λ l. l ≡ text) }
+    ensures { IsTrue yes }
+{
+}
+
+/// What is said of this one has so many words that not all of them can be shown here.
+pub fn longest() {}
+
+/// A law: nothing is lost.
+pub fn law()
+    ensures kept { IsTrue yes }
+{}
+
+/// Not given on.
+pub fn unused() {}
+""",
+    "crates/low/src/maker.rt": "/// Makes.\npub trait Maker: Drop {\n    /// A value.\n    fn make(&self) -> u64;\n}\n\nimpl Maker for List {\n    fn make(&self) -> u64 {\n    }\n}\n",
+    "docs/CALLS.md": "# Calls\n\n<!-- tools/calls writes what follows -->\nold\n",
+}
+
+
+def test_calls():
+    """The page has the public calls of each crate with what is said of them, and --check refuses one that is out of date."""
+    page = """# Calls
+
+<!-- tools/calls writes what follows -->
+
+**low**: What is low
+- *List* new; `put` Adds an item
+- `read` Reads a list of a text `BadList` *short found*; `longest` What is said of this one has so many words that not all of ..
+- *Maker* `make` A value
+- laws: `law` *kept*
+- of cmc_der: Tag
+
+Parts of these, whose calls are in their `src/lib.rt`: cmc_der.
+"""
+    with small_tree(SOURCES) as tools:
+        code, out, err = ran(["calls", "--check"], tools=tools)
+        assert code == 1 and not out and err.startswith("calls: ") and "docs/CALLS.md" in err, err
+        assert ran(["calls"], tools=tools) == (0, "", "")
+        with open(f"{tools}/../docs/CALLS.md", encoding="utf-8") as file:
+            text = file.read()
+        assert text == page, text
+        assert ran(["calls", "--check"], tools=tools) == (0, "", "")
+
+
+def test_calls_are_the_sources():
+    """The page of calls is what the sources say."""
+    assert ran(["calls", "--check"]) == (0, "", "")
 
 
 # ---- names that collide
