@@ -487,12 +487,14 @@ impl World {
         ensures err { OnErr result (self.new ≡ self.old) }
     {
         self.is_run();
-        let answer = match self.judge_next(alloc, pass, named)? {
-            Judged::Answer(answer) => answer,
-            Judged::Does(doing) => self.make_next(alloc, pass, doing)?,
-        };
-        self.is_run();
-        Ok(answer)
+        match self.judge_next(alloc, pass, named)? {
+            Judged::Answer(answer) => Ok(answer),
+            Judged::Does(doing) => {
+                let answer = self.make_next(alloc, pass, doing)?;
+                self.is_run();
+                Ok(answer)
+            }
+        }
     }
 
     pub(crate) fn step_give(
