@@ -1,7 +1,7 @@
 -- A begin keeps the queues right.
 use Rattle.std.proofs.Common.{◌≡◌, ℤ, List, Option, Some, None, Bool, true, false, refl, sym, ap, subst, ◌∙◌, int_le}
 use Rattle.std.proofs.lemmas.Bool.{and_parts}
-use Rattle.std.specs.Prelude.{IfSome, if◌then◌else◌}
+use Rattle.std.specs.Prelude.{if◌then◌else◌}
 use Rattle.cmc_meta.specs.declared.key.Key.{Key}
 use Rattle.cmc_meta.specs.Keys.{key_eq}
 use Rattle.cmc_objects.specs.declared.entry.Entry.{Entry}
@@ -9,7 +9,6 @@ use Rattle.cmc_objects.specs.declared.entry.Positions.{Positions}
 use Rattle.cmc_objects.specs.declared.orders.Rules.{Rules}
 use Rattle.cmc_objects.specs.declared.role.Role.{Role}
 use Rattle.cmc_objects.specs.Watching.{kind_of_work}
-use Rattle.cmc_pass.specs.declared.pass.Act.{Act}
 use Rattle.cmc_pass.specs.declared.pass.Views.{Views}
 use Rattle.cmc_queue.specs.declared.row.Found.{Found}
 use Rattle.cmc_queue.specs.declared.row.Found.TheVariants as found
@@ -22,7 +21,6 @@ use Rattle.cmc_queue.proofs.Waits.{free_has_row}
 use Rattle.cmc_model.specs.Histories.{Setting, moment, runs}
 use Rattle.cmc_rules.specs.declared.progress.Past.{Past}
 use Rattle.cmc_rules.specs.Memory.{past}
-use Rattle.cmc_rules.specs.Origins as origins
 use Rattle.cmc_rules.specs.Passes.{IsWorking}
 use Rattle.cmc_rules.specs.Positions.{positions}
 use Rattle.cmc_rules.specs.Resting.{IsIdle}
@@ -31,7 +29,6 @@ use Rattle.cmc_rules.specs.Sameness.{IsDue}
 use Rattle.cmc_rules.specs.Sound.{IsDueMoment}
 use Rattle.cmc_rules.specs.Viewing.{views}
 use Rattle.cmc_moves.specs.Answers.{is_done, AnswersBegin, IsQueued, Leaves}
-use Rattle.cmc_moves.specs.Prospects.{IsFirstAct}
 use Rattle.cmc_moves.specs.declared.moves.Move.TheVariants as moves
 use Rattle.cmc_moves.specs.declared.moves.Stepped.{Stepped}
 use Rattle.cmc_moves.specs.declared.moves.Stepped.TheVariants as answers
@@ -42,8 +39,6 @@ use Rattle.cmc_waking.specs.Waking.{IsKept, IsTended, IsTimed}
 use Rattle.cmc_world.specs.Kept.{Seen, setting_of, on}
 use Rattle.cmc_plain.specs.DueMoments.{IsFirstAfter}
 use Rattle.cmc_plain.specs.Fed.{IsFed}
-use Rattle.cmc_plain.specs.Keeping.{act_if_any, IsKeptRight}
-use Rattle.cmc_plain.specs.declared.kept.Kept.TheVariants as kept
 use Rattle.cmc_plain.specs.Plain.{Fits}
 use Rattle.cmc_plain.proofs.Feeding.{fed_begins}
 use Rattle.cmc_plain.proofs.Finding.{fit_free, free_fits, free_is, says}
@@ -137,12 +132,6 @@ begun_here false old key k row is at = at
 -- so its next due moment need not be noted again
 pub begun_none : (key : Key) (old new : Work) → ChangesRow (begun None) key old new → ChangesRow (begun (row_of old key).timed) key old new
 begun_none key old new rows k = begun_here (key_eq key k) old key k (row_of new k) refl (rows k)
-
--- what is kept of a pass that was begun, or not
-pub kept_begun : (s : Setting) (h : List Entry) (b : Bool) (does : Option Act) → (b ≡ true → IfSome does (IsFirstAct s h (origins.begun s h))) → IsKeptRight s h (if b then act_if_any does else kept.Nothing)
-kept_begun s h true None first = tt
-kept_begun s h true (Some does) first = first refl
-kept_begun s h false does first = tt
 
 -- ---- a key of which a look found something
 

@@ -1,5 +1,5 @@
 -- What the search finds is the plain move.
-use Rattle.std.proofs.Common.{◌≡◌, ℕ, List, Some, None, Bool, true, false, arith}
+use Rattle.std.proofs.Common.{◌≡◌, List, Some, None, Bool, true, false, arith}
 use Rattle.std.specs.Prelude.{◌↔◌, IsTrue, MatchBool, if◌then◌else◌}
 use Rattle.cmc_objects.specs.declared.role.Role.{Role}
 use Rattle.cmc_objects.specs.declared.entry.Entry.{Entry}

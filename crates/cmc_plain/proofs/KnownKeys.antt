@@ -22,7 +22,6 @@ use Rattle.cmc_model.specs.declared.write.Write.{Write}
 use Rattle.cmc_model.specs.Histories.{Setting, accepted, moment, objects, role_eq}
 use Rattle.cmc_model.specs.Writes.{is_known, kind_eq, writes}
 use Rattle.cmc_rules.specs.declared.effect.Effect.{Effect}
-use Rattle.cmc_rules.specs.declared.effect.Effect.TheVariants as effects
 use Rattle.cmc_rules.specs.Following.{call_of, call_or, effect_besides, effect_of}
 use Rattle.cmc_rules.specs.Scripting.{scripted, step_at}
 use Rattle.cmc_caches.specs.Affected.{is_among}

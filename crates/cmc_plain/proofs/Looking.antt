@@ -1,8 +1,8 @@
 -- What a look finds may be kept in the key's row.
-use Rattle.std.proofs.Common.{◌≡◌, ◌⊎◌, inl, ◌<◌, ◌≤◌, ℤ, List, Option, Some, None, Bool, true, false, refl, sym, ap, subst, ◌∙◌}
+use Rattle.std.proofs.Common.{◌≡◌, inl, ℤ, List, Option, Some, None, Bool, true, false, refl, sym, ap, subst, ◌∙◌}
 use Rattle.std.proofs.lemmas.Bool.{and_parts}
 use Rattle.std.proofs.lemmas.Bool.Decides.{Decides-eqb}
-use Rattle.std.specs.Prelude.{◌↔◌, ◌&&◌, not, IsTrue, if◌then◌else◌}
+use Rattle.std.specs.Prelude.{◌↔◌, not, IsTrue}
 use Rattle.cmc_meta.specs.declared.key.Key.{Key}
 use Rattle.cmc_meta.specs.declared.key.Kind.{Kind}
 use Rattle.cmc_meta.specs.Keys.{kind_rank}
@@ -18,9 +18,12 @@ use Rattle.cmc_model.specs.Writes.{kind_eq}
 use Rattle.cmc_rules.specs.Memory.{past}
 use Rattle.cmc_rules.specs.Passes.{IsWorking}
 use Rattle.cmc_rules.specs.Positions.{positions}
+use Rattle.cmc_rules.specs.Resting.{IsIdle}
 use Rattle.cmc_rules.specs.Sound.{IsDueMoment}
 use Rattle.cmc_rules.specs.Viewing.{views}
+use Rattle.cmc_pass.specs.declared.pass.Act.TheVariants as acts
 use Rattle.cmc_pass.specs.declared.pass.Views.{Views}
+use Rattle.cmc_moves.specs.Quiet.{seen_last}
 use Rattle.cmc_moves.proofs.Sounds.{each_sound}
 use Rattle.cmc_world.proofs.AtRest.{same_kind}
 use Rattle.cmc_waking.specs.Feeding.{found_busy, found_held, found_idle, found_quiet}
@@ -31,8 +34,10 @@ use Rattle.cmc_waking.proofs.Barring.{own_behind, own_is, IsBehind, IsOwn}
 use Rattle.cmc_waking.proofs.Tended.{waiting_undue}
 use Rattle.cmc_plain.specs.DueMoments.{IsFirstAfter}
 use Rattle.cmc_plain.specs.Fed.{IsFed}
+use Rattle.cmc_plain.specs.Keeping.{IsFound}
 use Rattle.cmc_plain.specs.Looks.{FindsIdle, FindsQuiet}
 use Rattle.cmc_plain.specs.Searches.{HasWork, IsFree}
+use Rattle.cmc_plain.specs.declared.openings.Opening.{Opening}
 use Rattle.cmc_plain.proofs.Moves.{fed_of, fed_one}
 use Rattle.cmc_plain.proofs.Served.{are_busy, are_held, are_idle, are_quiet}
 
@@ -115,8 +120,8 @@ fed_busy s h role key old new fed fresh work rows others =
     fed_one s h h role old new others
     (are_busy s h role key (λ k. row_at old role k) (λ k. row_at new role k) (ready_work s h role key old fed is.0) is.0 is.1 work.busy work.may.due rows (fed_of s h role old fed)) (λ r other k row kept. kept) fed
 
-pub fed_idle : (s : Setting) (h : List Entry) (role : Role) (key : Key) (next : Option ℤ) (old new : List Work) → IsFed s h old → is_fresh (row_at old role key) ≡ true → FindsIdle s h role key next → ChangesRow (found_idle next) key (queue_in old role) (queue_in new role) → KeepsOthers role old new → IsFed s h new
-fed_idle s h role key next old new fed fresh found rows others =
+pub fed_idle : (s : Setting) (h : List Entry) (role : Role) (key : Key) (opening : Opening) (next : Option ℤ) (old new : List Work) → IsFed s h old → is_fresh (row_at old role key) ≡ true → FindsIdle s h role key opening next → ChangesRow (found_idle next) key (queue_in old role) (queue_in new role) → KeepsOthers role old new → IsFed s h new
+fed_idle s h role key opening next old new fed fresh found rows others =
     let is = fresh_is (row_at old role key) fresh in
     fed_one s h h role old new others
     (are_idle s h role key next (λ k. row_at old role k) (λ k. row_at new role k) (each_sound role) (ready_work s h role key old fed is.0) is.0 is.1 found.timed found.idle found.new found.due rows (fed_of s h role old fed)) (λ r other k row kept. kept) fed
@@ -133,3 +138,16 @@ fed_held s h role key parked old new fed fresh barred rows others =
     let is = fresh_is (row_at old role key) fresh in
     fed_one s h h role old new others
     (are_held s h role key parked (λ k. row_at old role k) (λ k. row_at new role k) (ready_work s h role key old fed is.0) is.1 barred.behind barred.cause rows (fed_of s h role old fed)) (λ r other k row kept. kept) fed
+
+-- ---- a pass that has nothing to do
+
+pub idle_look : (s : Setting) (h : List Entry) (role : Role) (key : Key) (seen : Views) (o : Opening) (next : Option ℤ) → seen ≡ views s h role key → o ≡ record { role = role; key = key; seen = seen; does = Some acts.Nothing } → IsIdle s h role (views s h role key)
+    → (views s h role key ≡ seen_last (past s h role key).last → ⊥) → IsDueNow s h role key → IsTimed role (views s h role key) (moment s h) next → FindsIdle s h role key o next
+idle_look s h role key seen o next sees same idle new due timed = record {
+  mine = record { role = ap (λ (x : Opening). x.role) same; key = ap (λ (x : Opening). x.key) same };
+  found = subst (λ (x : Opening). IsFound s h x) (sym same) (record { seen = sees; does = sym idle });
+  idle = idle;
+  new = new;
+  due = due;
+  timed = timed;
+}

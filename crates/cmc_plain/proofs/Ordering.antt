@@ -1,5 +1,5 @@
 -- Searches over the roles and the kinds in their order.
-use Rattle.std.proofs.Common.{◌≡◌, ◌⊎◌, ℕ, ◌+◌, ◌<◌, Bool, true, false, List, refl, subst, inl, inr, arith}
+use Rattle.std.proofs.Common.{◌≡◌, ◌⊎◌, ℕ, ◌+◌, ◌<◌, Bool, true, false, List, refl, sym, subst, inl, inr, arith}
 use Rattle.std.proofs.lemmas.Bool.Decides.{nat_tests}
 use Rattle.std.specs.Prelude.{nat_lt, Some}
 use Rattle.cmc_meta.specs.declared.key.Key.{Key}
@@ -11,7 +11,7 @@ use Rattle.cmc_objects.specs.declared.entry.Entry.{Entry}
 use Rattle.cmc_objects.proofs.Ranks.{rank_low, role_of_rank}
 use Rattle.cmc_model.specs.Histories.{Setting}
 use Rattle.cmc_plain.specs.Plain.{HasNoDelivery, Fits, IsFirstBegin}
-use Rattle.cmc_plain.specs.Searches.{HasNoneBefore, IsBehindInSome, FitsSome, FindsKey, HasNoBegin}
+use Rattle.cmc_plain.specs.Searches.{EachBefore, HasNoneBefore, IsBehindInSome, FitsSome, FindsKey, HasNoBegin}
 
 -- ---- roles
 
@@ -25,7 +25,12 @@ none_before_more P n role is not_here before r low p = one_more P n role r (nat_
 pub none_at_all : (P : Role → Type 0) → HasNoneBefore P 8 → (r : Role) → P r → ⊥
 none_at_all P before r p = before r (rank_low r) p
 
--- ---- kinds
+each_one_more : (P : Role → Type 0) (n : ℕ) (role r : Role) (b : Bool) → role_rank role ≡ n → P role → EachBefore P n → role_rank r < n + 1 → nat_lt (role_rank r) n ≡ b → P r
+each_one_more P n role r true is here before low e = before r (grind (arith, nat_tests))
+each_one_more P n role r false is here before low e = subst P (sym (role_of_rank r role (grind (arith, nat_tests)))) here
+
+pub each_before_more : (P : Role → Type 0) (n : ℕ) (role : Role) → role_rank role ≡ n → P role → EachBefore P n → EachBefore P (n + 1)
+each_before_more P n role is here before r low = each_one_more P n role r (nat_lt (role_rank r) n) is here before low refl
 
 -- ---- deliveries
 

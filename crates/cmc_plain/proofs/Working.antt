@@ -1,5 +1,5 @@
 -- When a role has something to do on a key.
-use Rattle.std.proofs.Common.{◌≡◌, ◌&&◌, Bool, true, false, List, ◌∷◌, Option, Some, None, refl, sym, ap, ◌∙◌, subst}
+use Rattle.std.proofs.Common.{◌≡◌, Bool, true, false, List, Option, Some, None, refl, sym, ap, subst}
 use Rattle.std.specs.Prelude.{◌↔◌, IsTrue, if◌then◌else◌}
 use Rattle.cmc_meta.specs.declared.key.Key.{Key}
 use Rattle.cmc_objects.specs.declared.role.Role.{Role}

@@ -1,5 +1,5 @@
 //! Runs by threads, and what they leave by one hand.
-ghost use Rattle.std.specs.Prelude.{◌≡◌, ◌/◌, IfOk, length, nat_le};
+ghost use Rattle.std.specs.Prelude.{◌≡◌, IfOk};
 ghost use Rattle.cmc_plain.specs.Driving.{IsDriven};
 ghost use Rattle.cmc_workers.specs.Driving.{Drives};
 
@@ -14,12 +14,14 @@ use std::alloc::{AllocError, Global};
 use std::sync::Wait;
 use std::thread::Threads;
 
-/// Whether no more than a quarter of the history is full. The plain order takes up to four times the entries that
-/// threads do, so with less room than this it may need more than there is.
-fn is_roomy(world: &World) -> bool
-    ensures { result ≡ nat_le (length world.now.history) (world.now.scenario.events / 4) }
-{
-    world.history().len() <= world.scenario().events() / 4
+/// Up to so many entries of room the plain order decides whether a run fits. It makes that many in some 20 milliseconds.
+const SHORT_ROOM: u64 = 10_000;
+
+/// Whether the status of the run would be the same by the plain order, as far as is measured: it takes up to four times the
+/// entries that threads do. Of longer histories nobody asks that.
+fn is_roomy(world: &World) -> bool {
+    let events = world.scenario().events();
+    events > SHORT_ROOM || world.history().len() <= events / 4
 }
 
 /// Runs the scenario in threads: so many workers take passes, one thread delivers and one performs the script, all round
@@ -27,9 +29,10 @@ fn is_roomy(world: &World) -> bool
 /// What the threads leave, because memory or room was wanting or one of them could not be started, the caller goes on
 /// with by the plain order. With 0 workers it is `drive_plain`, and no thread is started.
 ///
-/// A finished world is one of this scenario, whatever the order in which the threads came. Where the threads' history
-/// came to be full, or more than a quarter of it is, the scenario is run anew by the plain order, which may need more
-/// entries; so `Spent` has always a plain history that is full, and where room is short comes whatever the workers.
+/// A finished world is one of this scenario, whatever the order in which the threads came. Where the threads' history is
+/// full, the scenario is run anew by the plain order, so `Spent` always has a plain history that is full. So it is where there
+/// is room for 10,000 entries at most and more than a quarter of it is taken: then the status is that of the plain order,
+/// which needs more entries than threads do.
 ///
 /// # Errors
 ///

@@ -16,6 +16,7 @@ loop-place-preserved c = (
       (subst (λ (found : Option Key). FindsKey (setting_of c.args.world.now.scenario) c.args.world.now.history c.role_in-role.result found) c.in_default.is c.in_ok-key.ensures.finds)
       c.loop-place.invariant.0,
   c.first_key.ensures.fed,
+  c.first_key.ensures.kept,
 )
 
 pub returns-clause-finds : goal.returns-clause-finds

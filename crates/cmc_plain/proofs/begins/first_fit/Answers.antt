@@ -18,10 +18,10 @@ returns-then-not-is_unknown-clause-finds c =
     let first = subst (λ (k : Option Key). FindsFirst (λ k. is_free (row_at queues role k)) k) c.in-Some.is c.in_ok-key.ensures in
     let row = c.row.ensures ∙ ap (λ (q : Work). row_of q key) c.queue.ensures in
     let known = subst (λ (r : Row). is_unknown r.work ≡ false) row (sym c.is_unknown.ensures ∙ c.if-not-is_unknown.true) in
-    fits_first s h role queues key c.loop-key.invariant first
-    (free_fits s h role key queues c.is_run.ensures.run.legal c.loop-key.invariant c.requires.running first.0 known)
+    fits_first s h role queues key c.loop-key.invariant.0 first
+    (free_fits s h role key queues c.is_run.ensures.run.legal c.loop-key.invariant.0 c.requires.running first.0 known)
 
 pub returns-clause-finds : goal.returns-clause-finds
 returns-clause-finds c =
-    fits_none (setting_of c.args.world.now.scenario) c.args.world.now.history c.args.role c.loop-key.queues c.loop-key.invariant
+    fits_none (setting_of c.args.world.now.scenario) c.args.world.now.history c.args.role c.loop-key.queues c.loop-key.invariant.0
     (subst (λ (k : Option Key). FindsFirst (λ k. is_free (row_at c.loop-key.queues c.args.role k)) k) c.in_default.is c.in_ok-key.ensures)

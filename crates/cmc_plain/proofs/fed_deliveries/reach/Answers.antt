@@ -1,4 +1,4 @@
-use Rattle.std.proofs.Common.{◌≡◌, ◌≤◌, ◌<◌, ◌-◌, ◌∙◌, ℕ, ap, sym, subst, arith, length, List}
+use Rattle.std.proofs.Common.{◌≤◌, ◌<◌, ◌-◌, ◌∙◌, ℕ, ap, sym, subst, arith, length, List}
 use Rattle.cmc_objects.specs.declared.entry.Positions.{Positions}
 use Rattle.cmc_model.specs.declared.write.Write.{Write}
 use Rattle.cmc_setup.specs.Setups.{Setup}

@@ -1,4 +1,3 @@
-use Rattle.cmc_moves.specs.declared.moves.Move.TheVariants as moves
 use Rattle.cmc_plain.proofs.BeginsFed.{roomed}
 use Rattle.cmc_plain.proofs.Feeding.{fed_same, to_close}
 use Rattle.cmc_plain.proofs.fed_passes.go_on.Goals as goal

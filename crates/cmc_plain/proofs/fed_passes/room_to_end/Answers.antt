@@ -1,4 +1,4 @@
-use Rattle.std.proofs.Common.{◌≡◌, ◌∙◌, sym, subst, Option, Some}
+use Rattle.std.proofs.Common.{◌∙◌, sym, subst, Option, Some}
 use Rattle.std.specs.Prelude.{OnOk}
 use Rattle.cmc_plain.specs.declared.fed_passes.Closing.{Closing}
 use Rattle.cmc_plain.specs.Fed.{HasRoomsToEnd, HasRow}

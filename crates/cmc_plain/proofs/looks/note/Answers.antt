@@ -4,6 +4,7 @@ use Rattle.cmc_world.specs.Kept.{setting_of}
 use Rattle.cmc_plain.specs.Looks.{IsLook}
 use Rattle.cmc_plain.specs.declared.looks.Look.{Look}
 use Rattle.cmc_plain.proofs.BeginsFed.{fresh_room, roomed}
+use Rattle.cmc_plain.proofs.KeptOver.{kept_noted}
 use Rattle.cmc_plain.proofs.Looking.{fed_busy, fed_held, fed_idle, fed_quiet, held_lacks}
 use Rattle.cmc_plain.proofs.looks.note.Goals as goal
 
@@ -26,7 +27,7 @@ pub returns-in_ok-place_at-in-Idle-clause-fed : goal.returns-in_ok-place_at-in-I
 returns-in_ok-place_at-in-Idle-clause-fed c =
     let s = setting_of c.args.world.now.scenario in
     let h = c.args.world.now.history in
-    fed_idle s h c.args.role c.args.key.now c.in-Idle.next c.place_at.new.queues c.found_idle.new.self (roomed c.args.world.now c.args.queues.now c.place_at.new.queues c.place_at.ensures.rows c.requires.fed)
+    fed_idle s h c.args.role c.args.key.now c.in-Idle.opening c.in-Idle.next c.place_at.new.queues c.found_idle.new.self (roomed c.args.world.now c.args.queues.now c.place_at.new.queues c.place_at.ensures.rows c.requires.fed)
     (ap is_fresh (c.place_at.ensures.rows c.args.role c.args.key.now) ∙ c.requires.fresh) (subst (λ (l : Look). IsLook s h c.args.role c.args.key.now l) c.in-Idle.is c.requires.found) c.found_idle.ensures.rows c.found_idle.ensures.others
 
 pub returns-in_ok-place_at-in-Idle-clause-fewer : goal.returns-in_ok-place_at-in-Idle-clause-fewer
@@ -72,3 +73,9 @@ place_at-requires-in-Quiet c = fresh_room c.args.queues.now c.args.role c.args.k
 
 pub found_held-requires-clause-row : goal.found_held-requires-clause-row
 found_held-requires-clause-row c = (c.place_for.ensures.room c.args.role).rows c.args.key.now (fresh_room c.args.queues.now c.args.role c.args.key.now c.requires.fresh)
+
+pub returns-in_ok-place_at-in-Idle-clause-kept : goal.returns-in_ok-place_at-in-Idle-clause-kept
+returns-in_ok-place_at-in-Idle-clause-kept c =
+    let s = setting_of c.args.world.now.scenario in
+    let h = c.args.world.now.history in
+    kept_noted c.args.world.now c.args.kept.now c.note.new.self c.in-Idle.opening c.note.ensures.told c.note.ensures.act c.note.ensures.looked (subst (λ (l : Look). IsLook s h c.args.role c.args.key.now l) c.in-Idle.is c.requires.found).found c.requires.kept

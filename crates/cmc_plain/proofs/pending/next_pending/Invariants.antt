@@ -2,10 +2,11 @@ use Rattle.cmc_queue.specs.Queues.{fresh_count}
 use Rattle.cmc_waking.specs.Queues.{queue_in}
 use Rattle.cmc_world.specs.Kept.{setting_of}
 use Rattle.cmc_plain.specs.Fed.{IsFed}
+use Rattle.cmc_plain.specs.Keeping.{IsKeptRight}
 use Rattle.cmc_plain.proofs.pending.next_pending.Given as goal
 
 abbrev pub invariant-loop-key : goal.invariant-loop-key
-invariant-loop-key l = IsFed (setting_of l.world.scenario) l.world.history l.queues
+invariant-loop-key l = IsFed (setting_of l.world.scenario) l.world.history l.queues × IsKeptRight (setting_of l.world.scenario) l.world.history l.kept
 
 abbrev pub decreases-loop-key : goal.decreases-loop-key
 decreases-loop-key l = fresh_count (queue_in l.queues l.role).rows

@@ -9,4 +9,4 @@ returns-clause-test c =
     let no_pass = sym c.is_some.ensures ∙ c.if-is_some.false in
     let no_delivery = sym c.is_some-2.ensures ∙ c.if-is_some-2.false in
     IfOk-weaker c.rests_in_each.result _ _
-    (λ b rests. at_rest_where (setting_of c.args.world.now.scenario) c.args.world.now.history c.first_pass.result c.in_ok-first_delivery.field-0 b no_pass no_delivery c.first_pass.ensures c.in_ok-first_delivery.ensures rests) c.rests_in_each.ensures.test
+    (λ b rests. at_rest_where (setting_of c.args.world.now.scenario) c.args.world.now.history c.first_pass.result c.next_delivery.result b no_pass no_delivery c.first_pass.ensures c.next_delivery.ensures.finds rests) c.rests_in_each.ensures.test

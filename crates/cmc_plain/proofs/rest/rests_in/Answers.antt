@@ -1,8 +1,9 @@
-use Rattle.std.proofs.Common.{◌≡◌, ◌∙◌, refl, sym, subst, None}
-use Rattle.cmc_objects.specs.declared.role.Role.{Role}
+use Rattle.std.proofs.Common.{◌∙◌, refl, sym, subst, None}
 use Rattle.cmc_world.specs.Kept.{setting_of}
 use Rattle.cmc_plain.specs.declared.pending.Pending.{Pending}
-use Rattle.cmc_plain.specs.Searches.{FindsPending, IsWork}
+use Rattle.cmc_plain.specs.Searches.{FindsPending}
+use Rattle.cmc_plain.proofs.KeptActs.{work_was_found}
+use Rattle.cmc_plain.proofs.KeptOver.{kept_noted}
 use Rattle.cmc_plain.proofs.Resting.{rests_by_none, rests_not}
 use Rattle.cmc_plain.proofs.rest.rests_in.Goals as goal
 
@@ -40,4 +41,5 @@ returns-in-Pass-clause-kept c =
     let s = setting_of c.args.world.now.scenario in
     let h = c.args.world.now.history in
     let first = subst (λ (p : Pending). FindsPending s h c.args.role None p) c.in-Pass.is c.in_ok-next_pending.ensures.finds in
-    subst (λ (r : Role). IsWork s h r c.in-Pass.opening.key c.in-Pass.opening) (sym first.1.known.role) first.1
+    kept_noted c.args.world.now c.next_pending.new.kept c.note.new.self c.in-Pass.opening c.note.ensures.told c.note.ensures.act c.note.ensures.looked
+    (work_was_found s h c.args.role c.in-Pass.opening.key c.in-Pass.opening first.1) c.next_pending.ensures.kept

@@ -2,7 +2,7 @@ use Rattle.std.proofs.Common.{◌≡◌, ◌+◌, [], ◌∷◌, ◌++◌, take,
 use Rattle.std.proofs.lemmas.List.{take_more}
 use Rattle.cmc_meta.specs.declared.key.Key.{Key}
 use Rattle.cmc_world.specs.Kept.{setting_of}
-use Rattle.cmc_plain.proofs.KnownKeys.{anew_first, anew_more, put_before}
+use Rattle.cmc_plain.proofs.KnownKeys.{anew_more, put_before}
 use Rattle.cmc_plain.proofs.taken_over.queue_anew.Goals as goal
 
 pub put_key-requires : goal.put_key-requires

@@ -1,4 +1,3 @@
-use Rattle.std.proofs.Common.{◌≡◌}
 use Rattle.cmc_plain.proofs.Telling.{queue_finds, queue_wakes, queue_work, queue_works}
 use Rattle.cmc_plain.proofs.waking.Waking.queue.Goals as goal
 
