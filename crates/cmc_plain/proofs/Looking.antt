@@ -23,7 +23,7 @@ use Rattle.cmc_rules.specs.Viewing.{views}
 use Rattle.cmc_pass.specs.declared.pass.Views.{Views}
 use Rattle.cmc_moves.proofs.Sounds.{each_sound}
 use Rattle.cmc_world.proofs.AtRest.{same_kind}
-use Rattle.cmc_waking.specs.Feeding.{found_busy, found_held, found_idle, found_quiet}
+use Rattle.cmc_waking.specs.Feeding.{found_busy, found_parked, found_idle, found_quiet}
 use Rattle.cmc_waking.specs.Parking.{own_ahead}
 use Rattle.cmc_waking.specs.Queues.{queue_in, row_at, KeepsOthers}
 use Rattle.cmc_waking.specs.Waking.{AreTended, IsBarredBy, IsDueNow, IsTended, IsTimed, IsWaiting}
@@ -128,7 +128,7 @@ fed_quiet s h role key next old new fed fresh found rows others =
     (are_quiet s h role key next (λ k. row_at old role k) (λ k. row_at new role k) (each_sound role) (ready_work s h role key old fed is.0) is.1 found.timed found.quiet rows (fed_of s h role old fed)) (λ r other k row kept. kept) fed
 
 pub fed_held : (s : Setting) (h : List Entry) (role : Role) (key : Key) (parked : Parked) (old new : List Work) → IsFed s h old → is_fresh (row_at old role key) ≡ true → IsBarredBy (past s h role key) (views s h role key) (positions h role) parked
-    → ChangesRow (found_held parked) key (queue_in old role) (queue_in new role) → KeepsOthers role old new → IsFed s h new
+    → ChangesRow (found_parked parked) key (queue_in old role) (queue_in new role) → KeepsOthers role old new → IsFed s h new
 fed_held s h role key parked old new fed fresh barred rows others =
     let is = fresh_is (row_at old role key) fresh in
     fed_one s h h role old new others

@@ -1,6 +1,6 @@
 use Rattle.std.proofs.Common.{sym, ◌∙◌}
 use Rattle.cmc_moves.specs.declared.moves.Move.TheVariants as moves
-use Rattle.cmc_waking.specs.Feeding.{begun}
+use Rattle.cmc_waking.specs.Feeding.{row_begun}
 use Rattle.cmc_plain.proofs.AtOnce.{idle_act}
 use Rattle.cmc_plain.proofs.BeginsFed.{fit_due, fit_queued, fit_room, idle_fed, idle_fits, idle_now}
 use Rattle.cmc_plain.proofs.Feeding.{fed_not_made, fed_same}
