@@ -54,10 +54,6 @@ fn has_news(world: &World, told: Positions, role: Role, kind: Kind, to: u64) -> 
 }
 
 /// What a role is answered that is to be told so far of the kind.
-///
-/// # Errors
-///
-/// Want of memory alone.
 pub(crate) fn told_answer(
     alloc: Global,
     world: &World,
@@ -145,10 +141,6 @@ fn first_kind(
 }
 
 /// The first kind in which the role is behind; `None` exactly where it is behind in none.
-///
-/// # Errors
-///
-/// Want of memory alone.
 pub(crate) fn first_kind_of(
     alloc: Global,
     world: &World,
@@ -161,10 +153,6 @@ pub(crate) fn first_kind_of(
 
 /// The first role that is behind in a kind, with the first such kind; `None` exactly where there is
 /// none.
-///
-/// # Errors
-///
-/// Want of memory alone.
 pub(crate) fn first_delivery(alloc: Global, world: &World) -> Result<Option<Delivery>, AllocError>
     ensures { IfOk result (λ d. on FindsDelivery world.now d) }
 {

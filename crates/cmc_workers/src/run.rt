@@ -23,17 +23,13 @@ fn is_roomy(world: &World) -> bool
 }
 
 /// Runs the scenario in threads: so many workers take passes, one thread delivers and one performs the script, all round
-/// one lock; keys, signatures, answers and judgements are made outside of it, by `keys` and `signer`, behind the gate.
+/// one lock; keys, signatures, answers and judgements are made outside of it, by `keys` and `signer`, after the gate.
 /// What the threads leave, because memory or room was wanting or one of them could not be started, the caller goes on
 /// with by the plain order. With 0 workers it is `drive_plain`, and no thread is started.
 ///
 /// A finished world is one of this scenario, whatever the order in which the threads came. Where the threads' history
 /// came to be full, or more than a quarter of it is, the scenario is run anew by the plain order, which may need more
 /// entries; so `Spent` has always a plain history that is full, and where room is short comes whatever the workers.
-///
-/// # Errors
-///
-/// Want of memory alone.
 pub fn drive<R: Threads + Wait + Sync, M: KeyMaker, N: Signer, G: Gate>(
     rt: &R,
     alloc: Global,
