@@ -7,7 +7,6 @@ use Rattle.cmc_objects.specs.declared.role.Role.{Role}
 use Rattle.cmc_objects.specs.declared.role.Role.TheVariants.{Trigger, KeyManager, RequestManager, Approver, Issuer, Issuing, Readiness, Revision}
 use Rattle.cmc_objects.specs.declared.entry.Entry.{Entry}
 use Rattle.cmc_pass.specs.declared.pass.Act.{Act}
-use Rattle.cmc_pass.specs.declared.pass.Act.TheVariants as acts
 use Rattle.cmc_pass.specs.declared.pass.Desk.{Desk}
 use Rattle.cmc_pass.specs.declared.pass.Views.{Views}
 use Rattle.cmc_rules.specs.declared.progress.OpenPass.{OpenPass}
@@ -16,7 +15,6 @@ use Rattle.cmc_rules.specs.Desks.{desk}
 use Rattle.cmc_model.specs.Histories.{Setting, moment}
 use Rattle.cmc_rules.specs.Origins.{begun}
 use Rattle.cmc_rules.specs.Passes.{new_pass, open_pass}
-use Rattle.cmc_rules.specs.Resting.{IsIdle}
 use Rattle.cmc_rules.specs.Viewing.{views}
 use Rattle.cmc_moves.specs.Answers.{Leaves, beginning, is_done}
 use Rattle.cmc_moves.specs.Prospects.{IsFirstAct, IsProspect}
@@ -24,6 +22,7 @@ use Rattle.cmc_moves.specs.declared.moves.Move.TheVariants as moves
 use Rattle.cmc_moves.specs.declared.moves.Stepped.{Stepped}
 use Rattle.cmc_moves.proofs.Tables.{the_done}
 use Rattle.cmc_world.specs.Kept.{Seen, setting_of}
+use Rattle.cmc_plain.specs.Keeping.{DoesOn}
 use Rattle.cmc_plain.specs.Openings.{LeavesBoth, LeavesNext}
 use Rattle.cmc_plain.specs.Searches.{prospect}
 
@@ -47,7 +46,7 @@ opened_new : (s : Setting) (h : List Entry) (role : Role) (key : Key) → open_p
 opened_new s h role key =
     opened_by (begun s (beginning s h role key ∷ h)) (begun s h + 1) (Some (new_pass role key (views s h role key) (moment s h))) (open_pass s h (begun s (beginning s h role key ∷ h))) (omega arith)
 
-pub first_act : (s : Setting) (h : List Entry) (role : Role) (key : Key) (does : Option Act) → IsProspect role (act role (views s h role key) (moment s h) (desk s h role (views s h role key))) (prospect does)
+pub first_act : (s : Setting) (h : List Entry) (role : Role) (key : Key) (does : Option Act) → IfSome does (DoesOn s h role key)
     → IfSome does (IsFirstAct s (beginning s h role key ∷ h) (begun s (beginning s h role key ∷ h)))
 first_act s h role key None is = tt
 first_act s h role key (Some does) is = (
@@ -55,7 +54,7 @@ first_act s h role key (Some does) is = (
   record {
     opened = opened_new s h role key;
     fresh = refl;
-    acts = is.0 ∙ ap (λ (d : Desk). act role (views s h role key) (moment s h) d) (sym (desk_begun s h role role key (views s h role key)));
+    acts = is ∙ ap (λ (d : Desk). act role (views s h role key) (moment s h) d) (sym (desk_begun s h role role key (views s h role key)));
   },
 )
 
@@ -63,8 +62,13 @@ first_act s h role key (Some does) is = (
 begun_is : (s : Setting) (h k : List Entry) (role : Role) (key : Key) (begin : Stepped) → is_done begin ≡ true → Leaves s h (moves.Begin role key) begin k → k ≡ beginning s h role key ∷ h
 begun_is s h k role key begin on leaves = subst (λ (a : Stepped). Leaves s h (moves.Begin role key) a k) (the_done begin on) leaves
 
+-- what is known of a pass that may begin
+pub does_known : (s : Setting) (h : List Entry) (role : Role) (key : Key) (does : Option Act) → IsProspect role (act role (views s h role key) (moment s h) (desk s h role (views s h role key))) (prospect does) → IfSome does (DoesOn s h role key)
+does_known s h role key None is = tt
+does_known s h role key (Some does) is = is.0
+
 pub first_act_where : (old mid : Seen) (role : Role) (key : Key) (does : Option Act) (begin : Stepped) (done : Bool) → mid.scenario ≡ old.scenario
-    → IsProspect role (act role (views (setting_of old.scenario) old.history role key) (moment (setting_of old.scenario) old.history) (desk (setting_of old.scenario) old.history role (views (setting_of old.scenario) old.history role key))) (prospect does)
+    → IfSome does (DoesOn (setting_of old.scenario) old.history role key)
     → Leaves (setting_of old.scenario) old.history (moves.Begin role key) begin mid.history → done ≡ is_done begin → done ≡ true
     → IfSome does (IsFirstAct (setting_of mid.scenario) mid.history (begun (setting_of mid.scenario) mid.history))
 first_act_where old mid role key does begin done same is leaves tells on =
@@ -90,21 +94,4 @@ opened_both old mid new role key does begin done (Some first) same leaves tells 
       the_done begin on,
       subst (λ (w : Seen). (named : ℕ) → Leaves (setting_of w.scenario) w.history (moves.Next (begun (setting_of w.scenario) w.history) named) first new.history)
           (λ i. record { scenario = same i; history = grown i }) next.1,
-    )
-
--- an idle pass has nothing to do
-pub idle_act : (old mid : Seen) (role : Role) (key : Key) (begin : Stepped) (done : Bool) → mid.scenario ≡ old.scenario → IsIdle (setting_of old.scenario) old.history role (views (setting_of old.scenario) old.history role key)
-    → Leaves (setting_of old.scenario) old.history (moves.Begin role key) begin mid.history → done ≡ is_done begin → done ≡ true → IsFirstAct (setting_of mid.scenario) mid.history (begun (setting_of mid.scenario) mid.history) acts.Nothing
-idle_act old mid role key begin done same idle leaves tells on =
-    let s = setting_of old.scenario in
-    let h = old.history in
-    let grown : mid.history ≡ beginning s h role key ∷ h = begun_is s h mid.history role key begin (sym tells ∙ on) leaves in
-    subst (λ (w : Seen). IsFirstAct (setting_of w.scenario) w.history (begun (setting_of w.scenario) w.history) acts.Nothing)
-    (λ i. record { scenario = (sym same) i; history = (sym grown) i }) (
-      new_pass role key (views s h role key) (moment s h),
-      record {
-        opened = opened_new s h role key;
-        fresh = refl;
-        acts = sym idle ∙ ap (λ (d : Desk). act role (views s h role key) (moment s h) d) (sym (desk_begun s h role role key (views s h role key)));
-      },
     )

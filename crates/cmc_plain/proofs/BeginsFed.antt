@@ -31,7 +31,6 @@ use Rattle.cmc_rules.specs.Sameness.{IsDue}
 use Rattle.cmc_rules.specs.Sound.{IsDueMoment}
 use Rattle.cmc_rules.specs.Viewing.{views}
 use Rattle.cmc_moves.specs.Answers.{is_done, AnswersBegin, IsQueued, Leaves}
-use Rattle.cmc_moves.specs.Prospects.{IsFirstAct}
 use Rattle.cmc_moves.specs.declared.moves.Move.TheVariants as moves
 use Rattle.cmc_moves.specs.declared.moves.Stepped.{Stepped}
 use Rattle.cmc_moves.specs.declared.moves.Stepped.TheVariants as answers
@@ -42,8 +41,6 @@ use Rattle.cmc_waking.specs.Waking.{IsKept, IsTended, IsTimed}
 use Rattle.cmc_world.specs.Kept.{Seen, setting_of, on}
 use Rattle.cmc_plain.specs.DueMoments.{IsFirstAfter}
 use Rattle.cmc_plain.specs.Fed.{IsFed}
-use Rattle.cmc_plain.specs.Keeping.{act_if_any, IsKeptRight}
-use Rattle.cmc_plain.specs.declared.kept.Kept.TheVariants as kept
 use Rattle.cmc_plain.specs.Plain.{Fits}
 use Rattle.cmc_plain.proofs.Feeding.{fed_begins}
 use Rattle.cmc_plain.proofs.Finding.{fit_free, free_fits, free_is, says}
@@ -137,12 +134,6 @@ begun_here false old key k row is at = at
 -- so its next due moment need not be noted again
 pub begun_none : (key : Key) (old new : Work) → ChangesRow (begun None) key old new → ChangesRow (begun (row_of old key).timed) key old new
 begun_none key old new rows k = begun_here (key_eq key k) old key k (row_of new k) refl (rows k)
-
--- what is kept of a pass that was begun, or not
-pub kept_begun : (s : Setting) (h : List Entry) (b : Bool) (does : Option Act) → (b ≡ true → IfSome does (IsFirstAct s h (origins.begun s h))) → IsKeptRight s h (if b then act_if_any does else kept.Nothing)
-kept_begun s h true None first = tt
-kept_begun s h true (Some does) first = first refl
-kept_begun s h false does first = tt
 
 -- ---- a key of which a look found something
 

@@ -49,3 +49,4 @@ pub mod Telling
 pub mod Pairs
 pub mod KeptActs
 pub mod Wakings
+pub mod KeptOver

@@ -33,6 +33,7 @@ use Rattle.cmc_plain.specs.DueMoments.{IsFirstAfter}
 use Rattle.cmc_plain.specs.Fed.{IsFed}
 use Rattle.cmc_plain.specs.Looks.{FindsIdle, FindsQuiet}
 use Rattle.cmc_plain.specs.Searches.{HasWork, IsFree}
+use Rattle.cmc_plain.specs.declared.openings.Opening.{Opening}
 use Rattle.cmc_plain.proofs.Moves.{fed_of, fed_one}
 use Rattle.cmc_plain.proofs.Served.{are_busy, are_held, are_idle, are_quiet}
 
@@ -115,8 +116,8 @@ fed_busy s h role key old new fed fresh work rows others =
     fed_one s h h role old new others
     (are_busy s h role key (λ k. row_at old role k) (λ k. row_at new role k) (ready_work s h role key old fed is.0) is.0 is.1 work.busy work.may.due rows (fed_of s h role old fed)) (λ r other k row kept. kept) fed
 
-pub fed_idle : (s : Setting) (h : List Entry) (role : Role) (key : Key) (next : Option ℤ) (old new : List Work) → IsFed s h old → is_fresh (row_at old role key) ≡ true → FindsIdle s h role key next → ChangesRow (found_idle next) key (queue_in old role) (queue_in new role) → KeepsOthers role old new → IsFed s h new
-fed_idle s h role key next old new fed fresh found rows others =
+pub fed_idle : (s : Setting) (h : List Entry) (role : Role) (key : Key) (opening : Opening) (next : Option ℤ) (old new : List Work) → IsFed s h old → is_fresh (row_at old role key) ≡ true → FindsIdle s h role key opening next → ChangesRow (found_idle next) key (queue_in old role) (queue_in new role) → KeepsOthers role old new → IsFed s h new
+fed_idle s h role key opening next old new fed fresh found rows others =
     let is = fresh_is (row_at old role key) fresh in
     fed_one s h h role old new others
     (are_idle s h role key next (λ k. row_at old role k) (λ k. row_at new role k) (each_sound role) (ready_work s h role key old fed is.0) is.0 is.1 found.timed found.idle found.new found.due rows (fed_of s h role old fed)) (λ r other k row kept. kept) fed

@@ -21,9 +21,6 @@ use Rattle.cmc_waking.specs.Queues.{queue_in, row_at, KeepsOthers, WakesSome}
 use Rattle.cmc_waking.specs.Waking.{IsKept, IsTended}
 use Rattle.cmc_world.specs.Kept.{Seen, setting_of, on}
 use Rattle.cmc_plain.specs.Fed.{IsFed}
-use Rattle.cmc_plain.specs.Keeping.{IsKeptRight}
-use Rattle.cmc_plain.specs.declared.kept.Kept.{Kept}
-use Rattle.cmc_plain.specs.declared.kept.Kept.TheVariants as kept
 use Rattle.cmc_plain.proofs.Moves.{fed_of, fed_one}
 
 added_kept : (b : Bool) (role : Role) (rules : Rules) (past : Past) (seen : Views) (now : ℤ) (at : Positions) (row : Row) → IsKept b role rules past seen now at (added row)
@@ -77,9 +74,3 @@ told_rows role kind to keys before mid after woken rows key = rows key ∙ ap (m
 
 pub others_twice : (role : Role) (a b c : List Work) → KeepsOthers role a b → KeepsOthers role b c → KeepsOthers role a c
 others_twice role a b c one two r other = two r other ∙ one r other
-
--- ---- what is kept of the next pass
-
--- nothing that is kept is wrong
-pub nothing_kept : (w : Seen) (k : Kept) → k ≡ kept.Nothing → on IsKeptRight w k
-nothing_kept w k is = subst (λ (x : Kept). on IsKeptRight w x) (sym is) tt

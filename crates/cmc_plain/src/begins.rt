@@ -6,8 +6,10 @@ ghost use Rattle.cmc_queue.specs.Rows.{is_free};
 ghost use Rattle.cmc_waking.specs.Queues.{row_at};
 ghost use Rattle.cmc_world.specs.Kept.{on};
 ghost use Rattle.cmc_plain.specs.Fed.{IsFed};
+ghost use Rattle.cmc_plain.specs.Keeping.{IsKeptRight};
 ghost use Rattle.cmc_plain.specs.Searches.{FindsBegin, FindsKey};
 
+use crate::kept::Kept;
 use crate::looks::look_at;
 use crate::roles::role_in;
 use cmc_meta::Key;
@@ -38,11 +40,14 @@ fn first_fit(
     alloc: Global,
     world: &World,
     queues: &mut Queues,
+    kept: &mut Kept,
     role: Role,
 ) -> Result<Option<Key>, AllocError>
     requires fed { on IsFed world.now queues.old }
+    requires kept { on IsKeptRight world.now kept.old }
     requires running { on runs world.now role ≡ true }
     ensures fed { on IsFed world.now queues.new }
+    ensures kept { on IsKeptRight world.now kept.new }
     ensures finds { IfOk result (λ k. on FindsKey world.now role k) }
 {
     world.is_run();
@@ -50,7 +55,7 @@ fn first_fit(
         if !queues.queue(role).row(&key).work.is_unknown() {
             return Ok(Some(key));
         }
-        look_at(alloc, world, queues, role, &key)?;
+        look_at(alloc, world, queues, kept, role, &key)?;
     }
     Ok(None)
 }
@@ -60,16 +65,19 @@ fn first_key(
     alloc: Global,
     world: &World,
     queues: &mut Queues,
+    kept: &mut Kept,
     role: Role,
 ) -> Result<Option<Key>, AllocError>
-    requires { on IsFed world.now queues.old }
+    requires fed { on IsFed world.now queues.old }
+    requires kept { on IsKeptRight world.now kept.old }
     ensures fed { on IsFed world.now queues.new }
+    ensures kept { on IsKeptRight world.now kept.new }
     ensures finds { IfOk result (λ k. on FindsKey world.now role k) }
 {
     if !world.runs(role) {
         return Ok(None);
     }
-    first_fit(alloc, world, queues, role)
+    first_fit(alloc, world, queues, kept, role)
 }
 
 /// The first role that a key fits, with the first such key; `None` exactly where there is none.
@@ -81,14 +89,17 @@ pub(crate) fn first_begin(
     alloc: Global,
     world: &World,
     queues: &mut Queues,
+    kept: &mut Kept,
 ) -> Result<Option<Beginning>, AllocError>
-    requires { on IsFed world.now queues.old }
+    requires fed { on IsFed world.now queues.old }
+    requires kept { on IsKeptRight world.now kept.old }
     ensures fed { on IsFed world.now queues.new }
+    ensures kept { on IsKeptRight world.now kept.new }
     ensures finds { IfOk result (λ b. on FindsBegin world.now b) }
 {
     for place in 0..8 {
         let role = role_in(place);
-        if let Some(key) = first_key(alloc, world, queues, role)? {
+        if let Some(key) = first_key(alloc, world, queues, kept, role)? {
             return Ok(Some(Beginning { role, key }));
         }
     }

@@ -1,20 +1,19 @@
 //! The first delivery that brings a role up to date in a kind.
-ghost use Rattle.std.specs.Prelude.{◌≡◌, ◌↔◌, IsTrue, IfOk, false};
+ghost use Rattle.std.specs.Prelude.{◌≡◌, ◌↔◌, IsTrue, false};
 ghost use Rattle.cmc_model.specs.Writes.{last_of_kind, writes};
 ghost use Rattle.cmc_rules.specs.Positions.{positions};
-ghost use Rattle.cmc_moves.specs.Answers.{AnswersDelivery};
 ghost use Rattle.cmc_world.specs.Kept.{on};
+ghost use Rattle.cmc_plain.specs.Keeping.{IsKeptRight};
 ghost use Rattle.cmc_plain.specs.Plain.{IsBehind};
-ghost use Rattle.cmc_plain.specs.Searches.{FindsKind, FindsDelivery, IsNewest};
+ghost use Rattle.cmc_plain.specs.Searches.{FindsKind, FindsDelivery, HasNoneBefore, IsBehindInSome, IsNewest};
 
+use crate::kept::Kept;
 use crate::roles::role_in;
 use crate::scripts::is_accepted;
 use cmc_held::at_kind;
 use cmc_meta::Kind;
-use cmc_moves::let_go;
 use cmc_objects::{Positions, Role, has_informer};
-use cmc_world::{Move, Stepped, World};
-use std::alloc::{AllocError, Global};
+use cmc_world::World;
 
 /// A role that is behind in a kind.
 #[derive(Clone, Copy)]
@@ -53,127 +52,91 @@ fn has_news(world: &World, told: Positions, role: Role, kind: Kind, to: u64) -> 
     at_kind(told, kind) < to && has_informer(role, kind)
 }
 
-/// What a role is answered that is to be told so far of the kind.
-///
-/// # Errors
-///
-/// Want of memory alone.
-pub(crate) fn told_answer(
-    alloc: Global,
-    world: &World,
-    role: Role,
-    kind: Kind,
-    to: u64,
-) -> Result<Stepped, AllocError>
-    ensures { IfOk result (λ a. on AnswersDelivery world.now role kind to a) }
+/// Whether the role has not been told of the newest write of some kind. Most roles are told apart by this alone.
+fn has_any_news(world: &World, told: Positions, role: Role, newest: Newest) -> bool
+    requires told { told ≡ positions world.now.history role }
+    requires newest { on IsNewest world.now newest }
+    ensures { result ≡ false → on IsBehindInSome world.now role → ⊥ }
 {
-    let step = Move::Deliver { role, kind, to };
-    let answer = world.answer(alloc, &step);
-    let_go(step);
-    answer
+    has_news(world, told, role, Kind::Certificate, newest.certificate)
+        || has_news(world, told, role, Kind::CertificateRequest, newest.request)
+        || has_news(world, told, role, Kind::Secret, newest.secret)
 }
 
-/// Whether the role runs, and can be told of the newest write of the kind, `to`, of which it was not told. A function clears
-/// room for all of its locals as it begins, and a move and its answer are large: so the question to the world stands alone.
-fn takes_delivery(
-    alloc: Global,
-    world: &World,
-    role: Role,
-    kind: Kind,
-    to: u64,
-) -> Result<bool, AllocError>
+/// Whether the role runs, and can be told of the newest write of the kind, `to`, of which it was not told.
+fn takes_delivery(world: &World, role: Role, kind: Kind, to: u64) -> bool
     requires { to ≡ last_of_kind kind (on writes world.now) }
-    ensures { IfOk result (λ b. IsTrue b ↔ on IsBehind world.now role kind) }
+    ensures { IsTrue result ↔ on IsBehind world.now role kind }
 {
-    Ok(is_accepted(told_answer(alloc, world, role, kind, to)?))
+    is_accepted(world.judge_delivery(role, kind, to))
 }
 
 /// The same, where most are told apart without a question to the world.
-fn is_behind(
-    alloc: Global,
-    world: &World,
-    told: Positions,
-    role: Role,
-    kind: Kind,
-    to: u64,
-) -> Result<bool, AllocError>
+fn is_behind(world: &World, told: Positions, role: Role, kind: Kind, to: u64) -> bool
     requires told { told ≡ positions world.now.history role }
     requires newest { to ≡ last_of_kind kind (on writes world.now) }
-    ensures { IfOk result (λ b. IsTrue b ↔ on IsBehind world.now role kind) }
+    ensures { IsTrue result ↔ on IsBehind world.now role kind }
 {
     if !has_news(world, told, role, kind, to) {
-        return Ok(false);
+        return false;
     }
-    takes_delivery(alloc, world, role, kind, to)
+    takes_delivery(world, role, kind, to)
 }
 
 /// The first kind in which the role is behind.
-fn first_kind(
-    alloc: Global,
-    world: &World,
-    role: Role,
-    newest: Newest,
-) -> Result<Option<Kind>, AllocError>
+fn first_kind(world: &World, role: Role, newest: Newest) -> Option<Kind>
     requires { on IsNewest world.now newest }
-    ensures { IfOk result (λ k. on FindsKind world.now role k) }
+    ensures { on FindsKind world.now role result }
 {
     let told = world.told(role);
-    if is_behind(
-        alloc,
-        world,
-        told,
-        role,
-        Kind::Certificate,
-        newest.certificate,
-    )? {
-        return Ok(Some(Kind::Certificate));
+    if !has_any_news(world, told, role, newest) {
+        return None;
     }
-    if is_behind(
-        alloc,
-        world,
-        told,
-        role,
-        Kind::CertificateRequest,
-        newest.request,
-    )? {
-        return Ok(Some(Kind::CertificateRequest));
+    if is_behind(world, told, role, Kind::Certificate, newest.certificate) {
+        return Some(Kind::Certificate);
     }
-    if is_behind(alloc, world, told, role, Kind::Secret, newest.secret)? {
-        return Ok(Some(Kind::Secret));
+    if is_behind(world, told, role, Kind::CertificateRequest, newest.request) {
+        return Some(Kind::CertificateRequest);
     }
-    Ok(None)
+    if is_behind(world, told, role, Kind::Secret, newest.secret) {
+        return Some(Kind::Secret);
+    }
+    None
 }
 
 /// The first kind in which the role is behind; `None` exactly where it is behind in none.
-///
-/// # Errors
-///
-/// Want of memory alone.
-pub(crate) fn first_kind_of(
-    alloc: Global,
-    world: &World,
-    role: Role,
-) -> Result<Option<Kind>, AllocError>
-    ensures { IfOk result (λ k. on FindsKind world.now role k) }
+pub(crate) fn first_kind_of(world: &World, role: Role) -> Option<Kind>
+    ensures { on FindsKind world.now role result }
 {
-    first_kind(alloc, world, role, newest_of(world))
+    first_kind(world, role, newest_of(world))
 }
 
-/// The first role that is behind in a kind, with the first such kind; `None` exactly where there is
-/// none.
-///
-/// # Errors
-///
-/// Want of memory alone.
-pub(crate) fn first_delivery(alloc: Global, world: &World) -> Result<Option<Delivery>, AllocError>
-    ensures { IfOk result (λ d. on FindsDelivery world.now d) }
+/// The first role that is behind in a kind, with the first such kind; `None` exactly where there is none. No role before the
+/// place `told` is behind.
+pub(crate) fn first_delivery(world: &World, told: u8) -> Option<Delivery>
+    requires { HasNoneBefore (on IsBehindInSome world.now) told }
+    ensures { on FindsDelivery world.now result }
 {
     let newest = newest_of(world);
-    for place in 0..8 {
+    for place in told.min(8)..8 {
         let role = role_in(place);
-        if let Some(kind) = first_kind(alloc, world, role, newest)? {
-            return Ok(Some(Delivery { role, kind }));
+        if let Some(kind) = first_kind(world, role, newest) {
+            return Some(Delivery { role, kind });
         }
     }
-    Ok(None)
+    None
+}
+
+/// The same, by the place that is kept, which is kept anew.
+pub(crate) fn next_delivery(world: &World, kept: &mut Kept) -> Option<Delivery>
+    requires kept { on IsKeptRight world.now kept.old }
+    ensures kept { on IsKeptRight world.now kept.new }
+    ensures finds { on FindsDelivery world.now result }
+{
+    let found = first_delivery(world, kept.told);
+    kept.told = match &found {
+        Some(delivery) => delivery.role.rank(),
+        None => 8,
+    };
+    found
 }

@@ -1,5 +1,5 @@
 //! A pass begins, and its key is in process.
-ghost use Rattle.std.specs.Prelude.{◌≡◌, ℕ, IfOk, OnErr, OnOk, false, true};
+ghost use Rattle.std.specs.Prelude.{◌≡◌, ℕ, IfOk, IfSome, OnErr, OnOk, false, true};
 ghost use Rattle.cmc_meta.specs.declared.key.Key.{Key as KeyValue};
 ghost use Rattle.cmc_objects.specs.declared.role.Role.{Role as RoleValue};
 ghost use Rattle.cmc_model.specs.Histories.{moment, runs};
@@ -7,23 +7,25 @@ ghost use Rattle.cmc_queue.specs.Queues.{fresh_count, has_room};
 ghost use Rattle.cmc_rules.specs.Memory.{past};
 ghost use Rattle.cmc_rules.specs.Passes.{IsWorking};
 ghost use Rattle.cmc_rules.specs.Positions.{positions};
+ghost use Rattle.cmc_rules.specs.Origins.{begun as begun_by};
+ghost use Rattle.cmc_rules.specs.Resting.{IsIdle};
 ghost use Rattle.cmc_rules.specs.Runs.{IsRun};
 ghost use Rattle.cmc_rules.specs.Sameness.{IsDue};
 ghost use Rattle.cmc_rules.specs.Sound.{IsDueMoment};
 ghost use Rattle.cmc_rules.specs.Viewing.{views};
 ghost use Rattle.cmc_moves.specs.Answers.{Answers, AnswersBegin, IsQueued, Leaves};
+ghost use Rattle.cmc_moves.specs.Prospects.{IsFirstAct};
 ghost use Rattle.cmc_moves.specs.declared.moves.Move.TheVariants as moves;
 ghost use Rattle.cmc_waking.specs.Queues.{queue_in, row_at, HasPlaceAt};
 ghost use Rattle.cmc_world.specs.Kept.{on};
 ghost use Rattle.cmc_plain.specs.DueMoments.{HasDatedMoments, IsFirstAfter};
 ghost use Rattle.cmc_plain.specs.Fed.{IsFed};
-ghost use Rattle.cmc_plain.specs.Keeping.{IsKeptRight};
-ghost use Rattle.cmc_plain.specs.Searches.{IsWork};
+ghost use Rattle.cmc_plain.specs.Keeping.{IsFound, IsMine, DoesOn};
 ghost use Rattle.cmc_queue.specs.Rows.{is_free, is_unknown};
 ghost use Rattle.cmc_queue.specs.declared.row.Found.TheVariants as found;
 
 use crate::due::due_after;
-use crate::kept::{Kept, kept_of};
+use crate::kept::only_if;
 use crate::openings::Opening;
 use cmc_meta::Key;
 use cmc_moves::let_go;
@@ -158,70 +160,69 @@ pub(crate) fn begin_due(
     Ok(answer)
 }
 
-/// Begins the pass, which was found, and keeps what it does.
-fn begin_found(
-    world: &mut World,
-    queues: &mut Queues,
-    opening: Opening,
-) -> Result<(Stepped, Kept), AllocError>
-    requires fed { on IsFed world.old queues.old }
-    requires work { on IsWork world.old opening.role opening.key opening }
-    ensures answer { IfOk result (λ r. on Answers world.old (moves.Begin opening.role opening.key) r.0) }
-    ensures leaves { IfOk result (λ r. on Leaves world.old (moves.Begin opening.role opening.key) r.0 world.new.history) }
-    ensures scenario { world.new.scenario ≡ world.old.scenario }
-    ensures run { on IsRun world.new }
-    ensures err { OnErr result (world.new ≡ world.old) }
-    ensures fed { on IsFed world.new queues.new }
-    ensures kept { IfOk result (λ r. on IsKeptRight world.new r.1) }
-{
-    world.is_run();
-    world.is_formed();
-    world.can_act();
-    let (role, key, seen, does) = opening.into_parts();
-    let answer = match begin_due(world, queues, role, key, seen) {
-        Ok(answer) => answer,
-        Err(lack) => {
-            let_go(does);
-            return Err(lack);
-        }
-    };
-    let begun = answer.is_done();
-    Ok((answer, kept_of(begun, does)))
-}
-
-/// Begins a pass of the role on the key, on which a look found that there is nothing to do but to see what is new: its next due
-/// moment is noted by that look.
-fn begin_idle(
-    alloc: Global,
+/// Begins a pass of the role on the key, whose next due moment is noted, as `World::begin_due` does.
+fn begin_noted(
     world: &mut World,
     queues: &mut Queues,
     role: Role,
     key: Key,
-) -> Result<(Stepped, Kept), AllocError>
+    seen: Views,
+) -> Result<Stepped, AllocError>
     requires fed { on IsFed world.old queues.old }
     requires running { on runs world.old role ≡ true }
     requires free { is_free (row_at queues.old role key) ≡ true }
     requires nothing { (row_at queues.old role key).work ≡ found.Nothing }
-    ensures answer { IfOk result (λ r. on Answers world.old (moves.Begin role key) r.0) }
-    ensures leaves { IfOk result (λ r. on Leaves world.old (moves.Begin role key) r.0 world.new.history) }
+    requires sees { seen ≡ on views world.old role key }
+    ensures answer { IfOk result (λ r. on Answers world.old (moves.Begin role key) r) }
+    ensures leaves { IfOk result (λ r. on Leaves world.old (moves.Begin role key) r world.new.history) }
     ensures scenario { world.new.scenario ≡ world.old.scenario }
     ensures run { on IsRun world.new }
     ensures err { OnErr result (world.new ≡ world.old) }
     ensures fed { on IsFed world.new queues.new }
-    ensures kept { IfOk result (λ r. on IsKeptRight world.new r.1) }
 {
     world.is_run();
-    let seen = dated_views(alloc, world, role, &key)?;
     let own = key.copy()?;
     let answer = world.begin_due(role, key, seen)?;
     if !answer.is_done() {
-        return Ok((answer, Kept::Nothing));
+        return Ok(answer);
     }
     queues.begun(role, &own, None);
-    Ok((answer, Kept::Act(Act::Nothing)))
+    Ok(answer)
 }
 
-/// Begins a pass of the role, which runs, on the key, of which a look found that one may begin.
+/// What the role sees of the key, on which a look found this, and what it does, where that is known: as the look left it, or
+/// made anew.
+fn found_on(
+    alloc: Global,
+    world: &World,
+    role: Role,
+    key: &Key,
+    work: Found,
+    opening: Option<Opening>,
+) -> Result<(Views, Option<Act>), AllocError>
+    requires mine { IfSome opening (IsMine role key.now) }
+    requires found { IfSome opening (on IsFound world.now) }
+    requires idle { work ≡ found.Nothing → on IsIdle world.now role (on views world.now role key.now) }
+    ensures sees { IfOk result (λ r. r.0 ≡ on views world.now role key.now) }
+    ensures dated { IfOk result (λ r. HasDatedMoments r.0) }
+    ensures does { IfOk result (λ r. IfSome r.1 (on DoesOn world.now role key.now)) }
+{
+    world.is_run();
+    world.is_formed();
+    world.can_act();
+    if let Some(opening) = opening {
+        let (_role, _key, seen, does) = opening.into_parts();
+        return Ok((seen, does));
+    }
+    let seen = dated_views(alloc, world, role, key)?;
+    if work.may_work() {
+        return Ok((seen, None));
+    }
+    Ok((seen, Some(Act::Nothing)))
+}
+
+/// Begins a pass of the role, which runs, on the key, of which a look found that one may begin; what the pass does, where it
+/// was begun and that is known.
 fn begin_looked(
     alloc: Global,
     world: &mut World,
@@ -229,76 +230,69 @@ fn begin_looked(
     role: Role,
     key: Key,
     work: Found,
-) -> Result<(Stepped, Kept), AllocError>
+    opening: Option<Opening>,
+) -> Result<(Stepped, Option<Act>), AllocError>
     requires fed { on IsFed world.old queues.old }
     requires running { on runs world.old role ≡ true }
     requires free { is_free (row_at queues.old role key) ≡ true }
     requires looked { is_unknown work ≡ false }
     requires work { work ≡ (row_at queues.old role key).work }
+    requires mine { IfSome opening (IsMine role key) }
+    requires found { IfSome opening (on IsFound world.old) }
     ensures answer { IfOk result (λ r. on Answers world.old (moves.Begin role key) r.0) }
     ensures leaves { IfOk result (λ r. on Leaves world.old (moves.Begin role key) r.0 world.new.history) }
     ensures scenario { world.new.scenario ≡ world.old.scenario }
     ensures run { on IsRun world.new }
     ensures err { OnErr result (world.new ≡ world.old) }
     ensures fed { on IsFed world.new queues.new }
-    ensures kept { IfOk result (λ r. on IsKeptRight world.new r.1) }
+    ensures does { IfOk result (λ r. IfSome r.1 (on IsFirstAct world.new (on begun_by world.new))) }
 {
     world.is_run();
-    if !work.may_work() {
-        return begin_idle(alloc, world, queues, role, key);
+    let (seen, does) = found_on(alloc, world, role, &key, work, opening)?;
+    let answer = if work.may_work() {
+        begin_due(world, queues, role, key, seen)
+    } else {
+        begin_noted(world, queues, role, key, seen)
+    };
+    match answer {
+        Ok(answer) => {
+            let does = only_if(answer.is_done(), does);
+            Ok((answer, does))
+        }
+        Err(lack) => {
+            let_go(does);
+            Err(lack)
+        }
     }
-    let seen = dated_views(alloc, world, role, &key)?;
-    let answer = begin_due(world, queues, role, key, seen)?;
-    Ok((answer, Kept::Nothing))
 }
 
-/// Begins a pass of the role on the key, as `World::step` does. Where the key's row says that one may begin, the world is not
-/// asked for that.
-fn begin_by_row(
-    alloc: Global,
-    world: &mut World,
-    queues: &mut Queues,
-    role: Role,
-    key: Key,
-) -> Result<(Stepped, Kept), AllocError>
-    requires fed { on IsFed world.old queues.old }
-    ensures answer { IfOk result (λ r. on Answers world.old (moves.Begin role key) r.0) }
-    ensures leaves { IfOk result (λ r. on Leaves world.old (moves.Begin role key) r.0 world.new.history) }
-    ensures scenario { world.new.scenario ≡ world.old.scenario }
-    ensures run { on IsRun world.new }
-    ensures err { OnErr result (world.new ≡ world.old) }
-    ensures fed { on IsFed world.new queues.new }
-    ensures kept { IfOk result (λ r. on IsKeptRight world.new r.1) }
-{
-    let row = queues.queue(role).row(&key);
-    if row.is_free() && !row.work.is_unknown() && world.runs(role) {
-        return begin_looked(alloc, world, queues, role, key, row.work);
-    }
-    let answer = begin(alloc, world, queues, role, key)?;
-    Ok((answer, Kept::Nothing))
-}
-
-/// Begins a pass of the role on the key, as `World::step` does, by what was kept of it.
+/// Begins a pass of the role on the key, as `World::step` does; what the pass does, where it was begun and that is known. Where
+/// the key's row says that one may begin, the world is not asked for that, and the pass begins as the look found it, if that
+/// was kept.
 pub(crate) fn begin_kept(
     alloc: Global,
     world: &mut World,
     queues: &mut Queues,
     role: Role,
     key: Key,
-    kept: Kept,
-) -> Result<(Stepped, Kept), AllocError>
+    opening: Option<Opening>,
+) -> Result<(Stepped, Option<Act>), AllocError>
     requires fed { on IsFed world.old queues.old }
-    requires kept { on IsKeptRight world.old kept }
+    requires mine { IfSome opening (IsMine role key) }
+    requires found { IfSome opening (on IsFound world.old) }
     ensures answer { IfOk result (λ r. on Answers world.old (moves.Begin role key) r.0) }
     ensures leaves { IfOk result (λ r. on Leaves world.old (moves.Begin role key) r.0 world.new.history) }
     ensures scenario { world.new.scenario ≡ world.old.scenario }
     ensures run { on IsRun world.new }
     ensures err { OnErr result (world.new ≡ world.old) }
     ensures fed { on IsFed world.new queues.new }
-    ensures kept { IfOk result (λ r. on IsKeptRight world.new r.1) }
+    ensures does { IfOk result (λ r. IfSome r.1 (on IsFirstAct world.new (on begun_by world.new))) }
 {
-    match kept.pass_on(role, &key) {
-        Some(opening) => begin_found(world, queues, opening),
-        None => begin_by_row(alloc, world, queues, role, key),
+    let row = queues.queue(role).row(&key);
+    if row.is_free() && !row.work.is_unknown() && world.runs(role) {
+        return begin_looked(alloc, world, queues, role, key, row.work, opening);
     }
+    let_go(opening);
+    let answer = begin(alloc, world, queues, role, key)?;
+    Ok((answer, None))
 }

@@ -1,6 +1,6 @@
 //! A pass goes on, and once it has ended its key is in process no more.
 ghost use Rattle.std.specs.Option.{option_copied};
-ghost use Rattle.std.specs.Prelude.{◌≡◌, ℕ, None, IfOk, OnErr, OnOk, true};
+ghost use Rattle.std.specs.Prelude.{◌≡◌, ℕ, None, IfOk, IfSome, IsSome, OnErr, OnOk, true};
 ghost use Rattle.cmc_meta.specs.declared.key.Key.{Key as KeyValue};
 ghost use Rattle.cmc_objects.specs.declared.role.Role.{Role as RoleValue};
 ghost use Rattle.cmc_held.specs.Remembered.{past_or_new};
@@ -12,12 +12,10 @@ ghost use Rattle.cmc_waking.specs.Parking.{waits_for};
 ghost use Rattle.cmc_waking.specs.Queues.{row_at};
 ghost use Rattle.cmc_world.specs.Kept.{on};
 ghost use Rattle.cmc_plain.specs.Fed.{HasRoomsToEnd, HasRow, IsClosing, IsFed, IsGoing, IsToClose, IsWrote};
-ghost use Rattle.cmc_plain.specs.Keeping.{IsKeptRight};
 ghost use Rattle.cmc_plain.specs.Next.{IsNewestPass};
 ghost use Rattle.cmc_rules.specs.Memory.{past};
 ghost use Rattle.cmc_rules.specs.Origins.{begun};
 
-use crate::kept::Kept;
 use cmc_meta::Key;
 use cmc_moves::{ending_at, let_go};
 use cmc_objects::{Positions, Role};
@@ -160,7 +158,7 @@ fn go_next(
 }
 
 /// Whether this names the newest pass, which is open, and the present incarnation of its role.
-fn is_newest(world: &World, pass: u64, incarnation: u64) -> bool
+pub(crate) fn is_newest(world: &World, pass: u64, incarnation: u64) -> bool
     ensures { result ≡ true → on IsNewestPass world.now pass incarnation }
 {
     if pass != world.passes_begun() {
@@ -196,17 +194,18 @@ fn act_newest(
     act_first(alloc, world, queues, pass, does)
 }
 
-/// Has the pass go on, as `World::step` does, by what was kept of it.
+/// Has the pass go on, as `World::step` does: one that has only begun by its act, where that is known.
 pub(crate) fn go_kept(
     alloc: Global,
     world: &mut World,
     queues: &mut Queues,
     pass: u64,
     incarnation: u64,
-    kept: Kept,
+    does: Option<Act>,
 ) -> Result<Stepped, AllocError>
     requires fed { on IsFed world.old queues.old }
-    requires kept { on IsKeptRight world.old kept }
+    requires newest { IsSome does → on IsNewestPass world.old pass incarnation }
+    requires first { IfSome does (on IsFirstAct world.old (on begun world.old)) }
     ensures answer { IfOk result (λ r. on Answers world.old (moves.Next pass incarnation) r) }
     ensures leaves { IfOk result (λ r. on Leaves world.old (moves.Next pass incarnation) r world.new.history) }
     ensures scenario { world.new.scenario ≡ world.old.scenario }
@@ -214,14 +213,10 @@ pub(crate) fn go_kept(
     ensures err { OnErr result (world.new ≡ world.old) }
     ensures fed { on IsFed world.new queues.new }
 {
-    let newest = is_newest(world, pass, incarnation);
-    if let Some(does) = kept.act() {
-        if newest {
-            return act_newest(alloc, world, queues, pass, incarnation, does);
-        }
-        let_go(does);
+    match does {
+        Some(does) => act_newest(alloc, world, queues, pass, incarnation, does),
+        None => go_next(alloc, world, queues, pass, incarnation),
     }
-    go_next(alloc, world, queues, pass, incarnation)
 }
 
 /// Makes the move, by which the pass goes on, as `World::step` does.

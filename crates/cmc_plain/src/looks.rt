@@ -15,11 +15,13 @@ ghost use Rattle.cmc_waking.specs.Queues.{queue_in, row_at};
 ghost use Rattle.cmc_world.specs.Kept.{on};
 ghost use Rattle.cmc_plain.specs.DueMoments.{HasDatedMoments};
 ghost use Rattle.cmc_plain.specs.Fed.{IsFed};
+ghost use Rattle.cmc_plain.specs.Keeping.{IsKeptRight};
 ghost use Rattle.cmc_plain.specs.Looks.{IsLook};
 ghost use Rattle.cmc_plain.specs.Searches.{IsFree, IsWorkOn};
 
 use crate::fed_begins::{dated_views, next_due, place_at};
 use crate::fed_passes::own_of;
+use crate::kept::Kept;
 use crate::openings::Opening;
 use cmc_meta::Key;
 use cmc_moves::let_go;
@@ -36,8 +38,8 @@ use std::alloc::{AllocError, Global};
 pub(crate) enum Look {
     /// This pass may begin, and has something to do.
     Busy(Opening),
-    /// A pass may begin, has nothing to do and sees something new; and the next due moment of what is seen.
-    Idle(Option<i64>),
+    /// This pass may begin, has nothing to do and sees something new; and the next due moment of what it sees.
+    Idle(Opening, Option<i64>),
     /// There is nothing to do, and nothing new to see; and the next due moment of what is seen.
     Quiet(Option<i64>),
     /// No pass may begin before the role is told of this version.
@@ -92,19 +94,24 @@ fn undue(
 }
 
 /// What is found where a pass is due and has nothing to do.
-fn nothing_to_do(alloc: Global, world: &World, role: Role, key: &Key, seen: &Views) -> Look
-    requires sees { seen.now ≡ on views world.now role key.now }
-    requires dated { HasDatedMoments seen.now }
-    requires due { IsDue (on past world.now role key.now) seen.now (on moment world.now) (positions world.now.history role) }
+fn nothing_to_do(
+    alloc: Global,
+    world: &World,
+    role: Role,
+    key: &Key,
+    seen: Views,
+) -> Result<Look, AllocError>
+    requires sees { seen ≡ on views world.now role key.now }
+    requires dated { HasDatedMoments seen }
+    requires due { IsDue (on past world.now role key.now) seen (on moment world.now) (positions world.now.history role) }
     requires idle { on IsIdle world.now role (on views world.now role key.now) }
-    ensures { on IsLook world.now role key.now result }
+    ensures { IfOk result (λ look. on IsLook world.now role key.now look) }
 {
-    let next = next_due(world, role, seen);
-    if world.saw_last(alloc, role, key, seen) {
-        Look::Quiet(next)
-    } else {
-        Look::Idle(next)
+    let next = next_due(world, role, &seen);
+    if world.saw_last(alloc, role, key, &seen) {
+        return Ok(Look::Quiet(next));
     }
+    Ok(Look::Idle(opening(role, key, seen, Some(Act::Nothing))?, next))
 }
 
 /// What is found where a pass is due.
@@ -118,7 +125,7 @@ fn due(alloc: Global, world: &World, role: Role, key: &Key, seen: Views) -> Resu
 {
     world.is_run();
     match world.prospect(alloc, role, key, &seen)? {
-        Prospect::Nothing => Ok(nothing_to_do(alloc, world, role, key, &seen)),
+        Prospect::Nothing => nothing_to_do(alloc, world, role, key, seen),
         Prospect::Does(does) => Ok(Look::Busy(opening(role, key, seen, Some(does))?)),
         Prospect::Something => Ok(Look::Busy(opening(role, key, seen, None)?)),
     }
@@ -141,18 +148,22 @@ fn see(alloc: Global, world: &World, role: Role, key: &Key) -> Result<Look, Allo
     due(alloc, world, role, key, seen)
 }
 
-/// Keeps in the key's row what the look found; the pass that may begin, if it found one.
+/// Keeps in the key's row what the look found, and beside the rows the pass that may begin and has nothing to do; the pass that
+/// may begin and has something to do, if it found one.
 fn note(
     world: &World,
     queues: &mut Queues,
+    kept: &mut Kept,
     role: Role,
     key: &Key,
     look: Look,
 ) -> Result<Option<Opening>, AllocError>
     requires fed { on IsFed world.now queues.old }
+    requires kept { on IsKeptRight world.now kept.old }
     requires fresh { is_fresh (row_at queues.old role key.now) ≡ true }
     requires found { on IsLook world.now role key.now look }
     ensures fed { on IsFed world.now queues.new }
+    ensures kept { on IsKeptRight world.now kept.new }
     ensures work { IfOk result (λ o. on IsWorkOn world.now role key.now o) }
     ensures fewer { OnOk result (fresh_count (queue_in queues.old role).rows ≡ fresh_count (queue_in queues.new role).rows + 1) }
 {
@@ -161,9 +172,10 @@ fn note(
             queues.found_busy(role, key);
             Ok(Some(opening))
         }
-        Look::Idle(next) => {
+        Look::Idle(opening, next) => {
             place_at(queues, role, key, next)?;
             queues.found_idle(role, key, next);
+            kept.note(opening);
             Ok(None)
         }
         Look::Quiet(next) => {
@@ -185,16 +197,19 @@ pub(crate) fn look_at(
     alloc: Global,
     world: &World,
     queues: &mut Queues,
+    kept: &mut Kept,
     role: Role,
     key: &Key,
 ) -> Result<Option<Opening>, AllocError>
     requires fed { on IsFed world.now queues.old }
+    requires kept { on IsKeptRight world.now kept.old }
     requires running { on runs world.now role ≡ true }
     requires fresh { is_fresh (row_at queues.old role key.now) ≡ true }
     ensures fed { on IsFed world.now queues.new }
+    ensures kept { on IsKeptRight world.now kept.new }
     ensures work { IfOk result (λ o. on IsWorkOn world.now role key.now o) }
     ensures fewer { OnOk result (fresh_count (queue_in queues.old role).rows ≡ fresh_count (queue_in queues.new role).rows + 1) }
 {
     let found = see(alloc, world, role, key)?;
-    note(world, queues, role, key, found)
+    note(world, queues, kept, role, key, found)
 }

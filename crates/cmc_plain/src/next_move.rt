@@ -9,7 +9,7 @@ ghost use Rattle.cmc_plain.specs.Keeping.{IsKeptRight};
 ghost use Rattle.cmc_plain.specs.Searches.{IsLeft};
 
 use crate::begins::{Beginning, first_begin};
-use crate::deliveries::first_delivery;
+use crate::deliveries::next_delivery;
 use crate::kept::Kept;
 use crate::passes::first_pass;
 use crate::plain_move::{PlainMove, as_move};
@@ -49,7 +49,7 @@ fn first_to_begin(
     if rests_in_each(alloc, world, queues, kept)? {
         return Ok(at_rest(left));
     }
-    match first_begin(alloc, world, queues)? {
+    match first_begin(alloc, world, queues, kept)? {
         Some(Beginning { role, key }) => Ok(Some(PlainMove::Begin(Beginning { role, key }))),
         None => unreachable!(),
     }
@@ -73,7 +73,7 @@ fn first_of_roles(
     if let Some(going) = first_pass(world) {
         return Ok(Some(PlainMove::Next(going)));
     }
-    if let Some(delivery) = first_delivery(alloc, world)? {
+    if let Some(delivery) = next_delivery(world, kept) {
         return Ok(Some(PlainMove::Deliver {
             role: delivery.role,
             kind: delivery.kind,
@@ -122,7 +122,7 @@ pub fn plain(alloc: Global, world: &World) -> Result<Option<Move>, AllocError>
     ensures { IfOk result (λ m. on IsPlainMove world.now m) }
 {
     let mut queues = queues_of(alloc, world)?;
-    let mut kept = Kept::Nothing;
+    let mut kept = Kept::new(alloc);
     let next = plain_by(alloc, world, &mut queues, &mut kept)?;
     Ok(as_move(next))
 }

@@ -42,11 +42,18 @@ impl Drop for Opening {
 }
 
 impl Opening {
+    /// Whether this is of the role and the key.
+    pub(crate) fn is_on(&self, role: Role, key: &Key) -> bool
+        ensures { result ≡ true → IsMine role key.now self.now }
+    {
+        self.role.rank() == role.rank() && self.key.same(key)
+    }
+
     /// This, where it is of the role and the key.
     pub(crate) fn only_on(self, role: Role, key: &Key) -> Option<Opening>
         ensures { IfSome result (λ o. (o ≡ self) × IsMine role key.now o) }
     {
-        if self.role.rank() == role.rank() && self.key.same(key) {
+        if self.is_on(role, key) {
             return Some(self);
         }
         let_go(self);

@@ -7,8 +7,10 @@ ghost use Rattle.cmc_queue.specs.Rows.{is_pending};
 ghost use Rattle.cmc_waking.specs.Queues.{row_at};
 ghost use Rattle.cmc_world.specs.Kept.{on};
 ghost use Rattle.cmc_plain.specs.Fed.{IsFed};
+ghost use Rattle.cmc_plain.specs.Keeping.{IsKeptRight};
 ghost use Rattle.cmc_plain.specs.Searches.{FindsPending};
 
+use crate::kept::Kept;
 use crate::looks::look_at;
 use crate::openings::Opening;
 use cmc_meta::Key;
@@ -44,12 +46,15 @@ pub(crate) fn next_pending(
     alloc: Global,
     world: &World,
     queues: &mut Queues,
+    kept: &mut Kept,
     role: Role,
     below: Option<&Key>,
 ) -> Result<Pending, AllocError>
     requires fed { on IsFed world.now queues.old }
+    requires kept { on IsKeptRight world.now kept.old }
     requires running { on runs world.now role ≡ true }
     ensures fed { on IsFed world.now queues.new }
+    ensures kept { on IsKeptRight world.now kept.new }
     ensures finds { IfOk result (λ p. on FindsPending world.now role (option_copied below.entry) p) }
 {
     world.is_run();
@@ -57,7 +62,7 @@ pub(crate) fn next_pending(
         if !queues.queue(role).row(&key).work.is_unknown() {
             return Ok(Pending::Key(key));
         }
-        if let Some(opening) = look_at(alloc, world, queues, role, &key)? {
+        if let Some(opening) = look_at(alloc, world, queues, kept, role, &key)? {
             return Ok(Pending::Pass(opening));
         }
     }

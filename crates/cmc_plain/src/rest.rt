@@ -9,7 +9,7 @@ ghost use Rattle.cmc_plain.specs.Keeping.{IsKeptRight};
 ghost use Rattle.cmc_plain.specs.Plain.{HasNoDelivery, HasNoPass, IsStepReady};
 ghost use Rattle.cmc_plain.specs.Searches.{RestsWhereRunning};
 
-use crate::deliveries::first_delivery;
+use crate::deliveries::next_delivery;
 use crate::kept::Kept;
 use crate::passes::first_pass;
 use crate::pending::{Pending, next_pending};
@@ -40,11 +40,11 @@ fn rests_in(
         return Ok(true);
     }
     world.is_run();
-    match next_pending(alloc, world, queues, role, None)? {
+    match next_pending(alloc, world, queues, kept, role, None)? {
         Pending::None => Ok(true),
         Pending::Key(_key) => Ok(false),
         Pending::Pass(opening) => {
-            *kept = Kept::Pass(opening);
+            kept.note(opening);
             Ok(false)
         }
     }
@@ -89,7 +89,7 @@ fn is_at_rest(
     if first_pass(world).is_some() {
         return Ok(false);
     }
-    if first_delivery(alloc, world)?.is_some() {
+    if next_delivery(world, kept).is_some() {
         return Ok(false);
     }
     rests_in_each(alloc, world, queues, kept)

@@ -170,6 +170,6 @@ fn summarize(
 pub fn summary(alloc: Global, world: &World) -> Result<Summary, AllocError>
     ensures { IfOk result (λ s. s ≡ on summary_at world.now) }
 {
-    let stopped = is_stopped(alloc, world)?;
+    let stopped = is_stopped(world);
     summarize(alloc, world, stopped, world.objects())
 }

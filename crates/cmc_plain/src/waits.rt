@@ -11,7 +11,6 @@ ghost use Rattle.cmc_rules.specs.Viewing as viewing;
 ghost use Rattle.cmc_world.specs.Kept.{on};
 ghost use Rattle.cmc_plain.specs.Waits as words;
 
-use crate::deliveries::told_answer;
 use cmc_caches::RoleCaches;
 use cmc_match::{is_next_key, next_request};
 use cmc_meta::{Condition, ConditionKind, Key, Kind, Tri};
@@ -135,43 +134,34 @@ fn is_refusal(answer: &Stepped) -> bool
 }
 
 /// Whether the role does not run, or its informer of the kind is held.
-fn is_kept_from(alloc: Global, world: &World, role: Role, kind: Kind) -> Result<bool, AllocError>
-    ensures { IfOk result (λ b. b ≡ on words.is_kept_from world.now role kind) }
+fn is_kept_from(world: &World, role: Role, kind: Kind) -> bool
+    ensures { result ≡ on words.is_kept_from world.now role kind }
 {
-    let answer = told_answer(alloc, world, role, kind, 0)?;
-    Ok(is_refusal(&answer))
+    is_refusal(&world.judge_delivery(role, kind, 0))
 }
 
-fn is_hindered(alloc: Global, world: &World, role: Role) -> Result<bool, AllocError>
-    ensures { IfOk result (λ b. b ≡ on words.is_hindered world.now role) }
+fn is_hindered(world: &World, role: Role) -> bool
+    ensures { result ≡ on words.is_hindered world.now role }
 {
-    if is_kept_from(alloc, world, role, Kind::Certificate)? {
-        return Ok(true);
-    }
-    if is_kept_from(alloc, world, role, Kind::CertificateRequest)? {
-        return Ok(true);
-    }
-    is_kept_from(alloc, world, role, Kind::Secret)
+    is_kept_from(world, role, Kind::Certificate)
+        || is_kept_from(world, role, Kind::CertificateRequest)
+        || is_kept_from(world, role, Kind::Secret)
 }
 
-fn is_any_hindered(alloc: Global, world: &World, roles: &[Role]) -> Result<bool, AllocError>
-    ensures { IfOk result (λ b. b ≡ list_any (λ role. on words.is_hindered world.now role) roles.now) }
+fn is_any_hindered(world: &World, roles: &[Role]) -> bool
+    ensures { result ≡ list_any (λ role. on words.is_hindered world.now role) roles.now }
 {
     for role in roles {
-        if is_hindered(alloc, world, *role)? {
-            return Ok(true);
+        if is_hindered(world, *role) {
+            return true;
         }
     }
-    Ok(false)
+    false
 }
 
 /// Whether some role does not run, or some informer is held.
-///
-/// # Errors
-///
-/// Want of memory alone.
-pub(crate) fn is_stopped(alloc: Global, world: &World) -> Result<bool, AllocError>
-    ensures { IfOk result (λ b. b ≡ on words.is_stopped world.now) }
+pub(crate) fn is_stopped(world: &World) -> bool
+    ensures { result ≡ on words.is_stopped world.now }
 {
     let roles = [
         Role::Trigger,
@@ -183,7 +173,7 @@ pub(crate) fn is_stopped(alloc: Global, world: &World) -> Result<bool, AllocErro
         Role::Readiness,
         Role::Revision,
     ];
-    is_any_hindered(alloc, world, &roles)
+    is_any_hindered(world, &roles)
 }
 
 // ---- a Certificate, by all that stands

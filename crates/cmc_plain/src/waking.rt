@@ -15,7 +15,6 @@ ghost use Rattle.cmc_moves.specs.Answers.{Answers, Leaves};
 ghost use Rattle.cmc_moves.specs.declared.moves.Move.TheVariants as moves;
 ghost use Rattle.cmc_waking.specs.Waking.{IsSearched, LosesNoWakeUp};
 ghost use Rattle.cmc_world.specs.Kept.{on};
-ghost use Rattle.cmc_plain.specs.declared.kept.Kept.TheVariants as found;
 ghost use Rattle.cmc_plain.specs.Next.{IsNextDelivery, IsNextDeliveryTo, IsNextScript};
 ghost use Rattle.cmc_plain.specs.Openings.{LeavesOpened};
 ghost use Rattle.cmc_plain.specs.Plain.{IsPlainMove};
@@ -26,9 +25,9 @@ use crate::begins::Beginning;
 use crate::deliveries::{Delivery, first_delivery, first_kind_of};
 use crate::fed_begins::begin_kept;
 use crate::fed_deliveries::deliver;
-use crate::fed_passes::{go_kept, go_on};
+use crate::fed_passes::{go_kept, go_on, is_newest};
 use crate::fed_scripts::script;
-use crate::kept::Kept;
+use crate::kept::{Kept, only_if};
 use crate::next_move::plain_by;
 use crate::openings::{Opened, Opening, open};
 use crate::passes::Going;
@@ -37,7 +36,9 @@ use crate::rest::{is_finished, is_step_ready};
 use crate::taken_over::queues_of;
 use crate::work::next_work;
 use cmc_meta::{Key, Kind};
+use cmc_moves::let_go;
 use cmc_objects::Role;
+use cmc_pass::Act;
 use cmc_queue::Queue;
 use cmc_setup::Scenario;
 use cmc_waking::Queues;
@@ -50,7 +51,7 @@ use std::marker::Model;
 pub struct Waking {
     world: World,
     queues: Queues,
-    /// What was found of the next pass, up to the next move.
+    /// What was found of the newest pass, and of the next ones as long as it is so.
     kept: Kept,
 }
 
@@ -76,15 +77,6 @@ impl Model for Waking {
     ghost invariant = { λ w. on IsFed w.world w.queues × on IsKeptRight w.world w.kept };
 }
 
-/// Forgets what was found of the next pass.
-fn forget(kept: &mut Kept)
-    ensures { kept.new ≡ found.Nothing }
-{
-    if !matches!(kept, Kept::Nothing) {
-        *kept = Kept::Nothing;
-    }
-}
-
 impl Waking {
     /// The world of the scenario before its first step.
     ///
@@ -99,7 +91,7 @@ impl Waking {
         Ok(Waking {
             world,
             queues,
-            kept: Kept::Nothing,
+            kept: Kept::new(alloc),
         })
     }
 
@@ -115,7 +107,7 @@ impl Waking {
         Ok(Waking {
             world,
             queues,
-            kept: Kept::Nothing,
+            kept: Kept::new(alloc),
         })
     }
 
@@ -191,10 +183,10 @@ impl Waking {
     /// # Errors
     ///
     /// Want of memory alone.
-    pub fn next_delivery(&self, alloc: Global) -> Result<Option<Move>, AllocError>
+    pub fn next_delivery(&self, _alloc: Global) -> Result<Option<Move>, AllocError>
         ensures { IfOk result (λ m. on IsNextDelivery self.now m) }
     {
-        match first_delivery(alloc, &self.world)? {
+        match first_delivery(&self.world, self.kept.told) {
             Some(Delivery { role, kind }) => {
                 let to = self.world.log().last_of_kind(kind);
                 Ok(Some(Move::Deliver { role, kind, to }))
@@ -209,10 +201,10 @@ impl Waking {
     /// # Errors
     ///
     /// Want of memory alone.
-    pub fn next_delivery_to(&self, alloc: Global, role: Role) -> Result<Option<Move>, AllocError>
+    pub fn next_delivery_to(&self, _alloc: Global, role: Role) -> Result<Option<Move>, AllocError>
         ensures { IfOk result (λ m. on IsNextDeliveryTo self.now role m) }
     {
-        match first_kind_of(alloc, &self.world, role)? {
+        match first_kind_of(&self.world, role) {
             Some(kind) => {
                 let to = self.world.log().last_of_kind(kind);
                 Ok(Some(Move::Deliver { role, kind, to }))
@@ -259,7 +251,7 @@ impl Waking {
         ensures scenario { self.new.scenario ≡ self.old.scenario }
         ensures run { on IsRun self.new }
     {
-        forget(&mut self.kept);
+        self.kept.forget();
         open(alloc, &mut self.world, &mut self.queues, opening)
     }
 
@@ -287,7 +279,7 @@ impl Waking {
         self.world.is_run();
         let (world, queues) = (&mut self.world, &mut self.queues);
         let ready = is_step_ready(alloc, world, queues, &mut self.kept)?;
-        forget(&mut self.kept);
+        self.kept.forget();
         script(alloc, &mut self.world, &mut self.queues, ready)
     }
 
@@ -305,7 +297,7 @@ impl Waking {
         ensures run { on IsRun self.new }
         ensures err { OnErr result (self.new ≡ self.old) }
     {
-        forget(&mut self.kept);
+        self.kept.forget_told(role);
         deliver(alloc, &mut self.world, &mut self.queues, role, kind, to)
     }
 
@@ -317,9 +309,17 @@ impl Waking {
         ensures run { on IsRun self.new }
         ensures err { OnErr result (self.new ≡ self.old) }
     {
-        let kept = self.kept.take();
-        let (answer, kept) = begin_kept(alloc, &mut self.world, &mut self.queues, role, key, kept)?;
-        self.kept = kept;
+        let opening = self.kept.take_pass(role, &key);
+        let_go(self.kept.take_act());
+        let (answer, does) = begin_kept(
+            alloc,
+            &mut self.world,
+            &mut self.queues,
+            role,
+            key,
+            opening,
+        )?;
+        self.kept.act = does;
         Ok(answer)
     }
 
@@ -336,15 +336,19 @@ impl Waking {
         ensures run { on IsRun self.new }
         ensures err { OnErr result (self.new ≡ self.old) }
     {
-        let kept = self.kept.take();
-        go_kept(
+        let newest = is_newest(&self.world, pass, incarnation);
+        let does = only_if(newest, self.kept.take_act());
+        let idle = matches!(does, Some(Act::Nothing));
+        let answer = go_kept(
             alloc,
             &mut self.world,
             &mut self.queues,
             pass,
             incarnation,
-            kept,
-        )
+            does,
+        )?;
+        self.kept.forget_gone(idle, &answer);
+        Ok(answer)
     }
 
     /// Makes the move of the plain order, as `step` does.
@@ -387,7 +391,7 @@ impl Waking {
             Move::Begin { role, key } => self.step_begin(alloc, role, key),
             Move::Next { pass, incarnation } => self.step_next(alloc, pass, incarnation),
             Move::Give { pass, .. } | Move::Decide { pass, .. } => {
-                forget(&mut self.kept);
+                self.kept.forget();
                 go_on(alloc, &mut self.world, &mut self.queues, pass, step)
             }
         }

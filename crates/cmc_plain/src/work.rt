@@ -56,9 +56,9 @@ pub(crate) fn next_work(
     if !world.runs(role) {
         return Ok(None);
     }
-    match next_pending(alloc, world, queues, role, below)? {
+    match next_pending(alloc, world, queues, kept, role, below)? {
         Pending::None => Ok(None),
-        Pending::Key(key) => match kept.take().pass_on(role, &key) {
+        Pending::Key(key) => match kept.take_pass(role, &key) {
             Some(opening) => Ok(Some(opening)),
             None => Ok(Some(opening_on(alloc, world, role, &key)?)),
         },

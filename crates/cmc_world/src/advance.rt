@@ -487,26 +487,12 @@ impl World {
         ensures err { OnErr result (self.new ≡ self.old) }
     {
         self.is_run();
-        let answer = self.go_next(alloc, pass, named)?;
+        let answer = match self.judge_next(alloc, pass, named)? {
+            Judged::Answer(answer) => answer,
+            Judged::Does(doing) => self.make_next(alloc, pass, doing)?,
+        };
         self.is_run();
         Ok(answer)
-    }
-
-    pub(crate) fn go_next(
-        &mut self,
-        alloc: Global,
-        pass: u64,
-        named: u64,
-    ) -> Result<Stepped, AllocError>
-        ensures answer { IfOk result (λ r. on AnswersNext self.old pass named r) }
-        ensures scenario { self.new.scenario ≡ self.old.scenario }
-        ensures leaves { IfOk result (λ r. on Leaves self.old (moves.Next pass named) r self.new.history) }
-        ensures err { OnErr result (self.new ≡ self.old) }
-    {
-        match self.judge_next(alloc, pass, named)? {
-            Judged::Answer(answer) => Ok(answer),
-            Judged::Does(doing) => self.make_next(alloc, pass, doing),
-        }
     }
 
     pub(crate) fn step_give(

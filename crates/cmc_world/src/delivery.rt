@@ -35,7 +35,9 @@ fn reaches(accepted: u64, position: u64, window: u64) -> bool
 }
 
 impl World {
-    pub(crate) fn judge_delivery(&self, role: Role, kind: Kind, to: u64) -> Stepped
+    /// What `step` would answer to a delivery of the kind to the role up to the version `to`: the first refusal of the table,
+    /// or that it would be made.
+    pub fn judge_delivery(&self, role: Role, kind: Kind, to: u64) -> Stepped
         ensures { on AnswersDelivery self.now role kind to result }
     {
         let standing = self.role_states.get(role);
@@ -131,28 +133,12 @@ impl World {
         ensures err { OnErr result (self.new ≡ self.old) }
     {
         self.is_run();
-        let answer = self.make_delivery(alloc, role, kind, to)?;
-        self.is_run();
-        Ok(answer)
-    }
-
-    pub(crate) fn make_delivery(
-        &mut self,
-        alloc: Global,
-        role: Role,
-        kind: Kind,
-        to: u64,
-    ) -> Result<Stepped, AllocError>
-        ensures answer { IfOk result (λ r. on AnswersDelivery self.old role kind to r) }
-        ensures scenario { self.new.scenario ≡ self.old.scenario }
-        ensures leaves { IfOk result (λ r. on Leaves self.old (moves.Deliver role kind to) r self.new.history) }
-        ensures err { OnErr result (self.new ≡ self.old) }
-    {
         let answer = self.judge_delivery(role, kind, to);
         if !answer.is_done() {
             return Ok(answer);
         }
         self.tell(alloc, role, kind, to)?;
+        self.is_run();
         Ok(Stepped::Done)
     }
 }

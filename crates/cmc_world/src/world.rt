@@ -246,9 +246,9 @@ impl World {
     {
         match step {
             Move::Script => self.step_script(alloc),
-            Move::Deliver { role, kind, to } => self.make_delivery(alloc, role, kind, to),
+            Move::Deliver { role, kind, to } => self.step_deliver(alloc, role, kind, to),
             Move::Begin { role, key } => self.step_begin(alloc, role, key),
-            Move::Next { pass, incarnation } => self.go_next(alloc, pass, incarnation),
+            Move::Next { pass, incarnation } => self.step_next(alloc, pass, incarnation),
             Move::Give {
                 pass,
                 incarnation,

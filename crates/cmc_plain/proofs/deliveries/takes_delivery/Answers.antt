@@ -8,6 +8,6 @@ pub returns : goal.returns
 returns c =
     let s = setting_of c.args.world.now.scenario in
     let h = c.args.world.now.history in
-    behind_by s h c.args.role c.args.kind c.in_ok-told_answer.field-0 c.is_accepted.result
-    (subst (λ (to : ℕ). AnswersDelivery s h c.args.role c.args.kind to c.in_ok-told_answer.field-0) c.requires c.in_ok-told_answer.ensures)
+    behind_by s h c.args.role c.args.kind c.judge_delivery.result c.is_accepted.result
+    (subst (λ (to : ℕ). AnswersDelivery s h c.args.role c.args.kind to c.judge_delivery.result) c.requires c.judge_delivery.ensures)
     c.is_accepted.ensures

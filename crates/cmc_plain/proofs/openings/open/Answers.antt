@@ -14,7 +14,7 @@ use Rattle.cmc_moves.specs.Prospects.{IsFirstAct}
 use Rattle.cmc_moves.specs.declared.moves.Move.TheVariants as moves
 use Rattle.cmc_world.specs.Kept.{setting_of}
 use Rattle.cmc_plain.specs.Openings.{LeavesNext}
-use Rattle.cmc_plain.proofs.AtOnce.{first_act_where, opened_both}
+use Rattle.cmc_plain.proofs.AtOnce.{does_known, first_act_where, opened_both}
 use Rattle.cmc_plain.specs.DueMoments.{HasDatedMoments}
 use Rattle.cmc_plain.proofs.Undue.{dated_moments}
 use Rattle.cmc_plain.proofs.openings.open.Goals as goal
@@ -44,7 +44,7 @@ act_if-requires-clause-first c =
     let mid = c.begin_due.new.world in
     let leaves = subst (λ (t : Role × Key × Views × Option Act). Leaves s h (moves.Begin t.0 t.1) c.in-Ok.begin mid.history) c.into_parts-role.ensures c.in-Ok.ensures.leaves in
     subst (λ (t : Role × Key × Views × Option Act). c.is_done.result ≡ true → IfSome t.3 (IsFirstAct (setting_of mid.scenario) mid.history (begun (setting_of mid.scenario) mid.history))) (sym c.into_parts-role.ensures)
-    (λ on. first_act_where c.args.world.now mid o.role o.key o.does c.in-Ok.begin c.is_done.result c.in-Ok.ensures.scenario c.requires.work.known.does leaves c.is_done.ensures on)
+    (λ on. first_act_where c.args.world.now mid o.role o.key o.does c.in-Ok.begin c.is_done.result c.in-Ok.ensures.scenario (does_known s h o.role o.key o.does c.requires.work.known.does) leaves c.is_done.ensures on)
 
 pub returns-in-Ok-act_if-clause-leaves : goal.returns-in-Ok-act_if-clause-leaves
 returns-in-Ok-act_if-clause-leaves c =

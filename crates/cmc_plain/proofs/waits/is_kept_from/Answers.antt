@@ -4,4 +4,4 @@ use Rattle.cmc_plain.proofs.NothingHeld.{kept_by}
 use Rattle.cmc_plain.proofs.waits.is_kept_from.Goals as goal
 
 pub returns : goal.returns
-returns c = c.is_refusal.ensures ∙ kept_by (setting_of c.args.world.now.scenario) c.args.world.now.history c.args.role c.args.kind 0 _ c.in_ok-answer.ensures
+returns c = c.is_refusal.ensures ∙ kept_by (setting_of c.args.world.now.scenario) c.args.world.now.history c.args.role c.args.kind 0 _ c.judge_delivery.ensures
