@@ -13,6 +13,7 @@ use cmc_match::text_under;
 use cmc_meta::{Name, Text};
 use cmc_objects::{Certificate, CertificateRequest, Order, Role, Shared};
 use cmc_pass::Views;
+use cmc_seed::HashSeed;
 use std::alloc::{AllocError, Global};
 use std::collections::HashMap;
 use std::hash::{Hash, Hasher};
@@ -56,7 +57,7 @@ impl Hash for Subject {
 /// names: so they are hashed, and not sorted.
 #[derive(Drop)]
 struct Counts {
-    map: HashMap<Subject, u64>,
+    map: HashMap<Subject, u64, HashSeed>,
 }
 
 impl Model for Counts {
@@ -69,11 +70,11 @@ impl Model for Counts {
 
 impl Counts {
     #[tactic(auto, unfolding(crate::specs::Questioned::count_at))]
-    fn new(alloc: Global) -> Counts
+    fn new(alloc: Global, seed: HashSeed) -> Counts
         ensures { (k : SubjectValue) → spec.count_at result k ≡ 0 }
     {
         Counts {
-            map: HashMap::new(alloc),
+            map: HashMap::with_hasher(alloc, seed),
         }
     }
 
@@ -162,15 +163,15 @@ fn subject_in(alloc: Global, request: &CertificateRequest) -> Result<Subject, Al
 }
 
 impl Questions {
-    /// None was asked. It takes no memory.
-    pub fn new(alloc: Global) -> Questions
+    /// None was asked, and names are hashed by the seed. It takes no memory.
+    pub fn new(alloc: Global, seed: HashSeed) -> Questions
         ensures keys { (s : SubjectValue) → spec.count_at result.keys s ≡ 0 }
         ensures answers { (s : SubjectValue) → spec.count_at result.answers s ≡ 0 }
     {
         Questions {
             alloc,
-            keys: Counts::new(alloc),
-            answers: Counts::new(alloc),
+            keys: Counts::new(alloc, seed),
+            answers: Counts::new(alloc, seed),
         }
     }
 

@@ -13,6 +13,7 @@ use cmc_meta::{Key, Kind};
 use cmc_objects::{Positions, Role};
 use cmc_pass::Views;
 use cmc_rules::{Ending, LastPass, Past};
+use cmc_seed::HashSeed;
 use std::alloc::{AllocError, Global};
 use std::collections::HashMap;
 use std::marker::Model;
@@ -21,7 +22,7 @@ use std::marker::Model;
 /// only ever looked for by itself, and nobody asks for an order of keys: so they are hashed, and not sorted.
 #[derive(Drop)]
 struct RoleMemory {
-    map: HashMap<Key, Past>,
+    map: HashMap<Key, Past, HashSeed>,
 }
 
 impl Model for RoleMemory {
@@ -33,13 +34,13 @@ impl Model for RoleMemory {
 }
 
 impl RoleMemory {
-    /// Nothing. It takes no memory.
+    /// Nothing, and keys are hashed by the seed. It takes no memory.
     #[tactic(auto, unfolding(crate::specs::Remembered::memory_at))]
-    fn new(alloc: Global) -> RoleMemory
+    fn new(alloc: Global, seed: HashSeed) -> RoleMemory
         ensures { (k : KeyValue) → memory_at result k ≡ no_past }
     {
         RoleMemory {
-            map: HashMap::new(alloc),
+            map: HashMap::with_hasher(alloc, seed),
         }
     }
 
@@ -134,19 +135,19 @@ impl Model for RoleMemories {
 }
 
 impl RoleMemories {
-    /// No role remembers anything. An error is one of memory.
-    pub fn new(alloc: Global) -> Result<RoleMemories, AllocError>
+    /// No role remembers anything, and keys are hashed by the seed. An error is one of memory.
+    pub fn new(alloc: Global, seed: HashSeed) -> Result<RoleMemories, AllocError>
         ensures { IfOk result (λ t. (r : RoleValue) → (k : KeyValue) → past_at t r k ≡ no_past) }
     {
         let rows = vec![in alloc;
-            RoleMemory::new(alloc),
-            RoleMemory::new(alloc),
-            RoleMemory::new(alloc),
-            RoleMemory::new(alloc),
-            RoleMemory::new(alloc),
-            RoleMemory::new(alloc),
-            RoleMemory::new(alloc),
-            RoleMemory::new(alloc),
+            RoleMemory::new(alloc, seed),
+            RoleMemory::new(alloc, seed),
+            RoleMemory::new(alloc, seed),
+            RoleMemory::new(alloc, seed),
+            RoleMemory::new(alloc, seed),
+            RoleMemory::new(alloc, seed),
+            RoleMemory::new(alloc, seed),
+            RoleMemory::new(alloc, seed),
         ]?;
         Ok(RoleMemories { rows })
     }

@@ -12,6 +12,7 @@ use crate::targets::key_of_secret;
 use cmc_meta::{Key, Kind, Name};
 use cmc_model::Write;
 use cmc_objects::Object;
+use cmc_seed::HashSeed;
 use std::alloc::{AllocError, Global};
 use std::marker::Model;
 
@@ -49,9 +50,21 @@ impl Cache {
     pub fn new(alloc: Global) -> Cache
         ensures { result ≡ no_objects }
     {
+        Cache::seeded(alloc, HashSeed::fixed())
+    }
+
+    /// The same, where keys and uids are hashed by the seed.
+    pub fn seeded(alloc: Global, seed: HashSeed) -> Cache
+        ensures { result ≡ no_objects }
+    {
         Cache {
-            rows: no_rows(alloc),
+            rows: no_rows(alloc, seed),
         }
+    }
+
+    /// What keys and uids are hashed by.
+    pub fn seed(&self) -> HashSeed {
+        self.rows.slots.seed()
     }
 
     /// The object under the key; `None` exactly where none stands.

@@ -9,6 +9,7 @@ ghost use Rattle.cmc_informer.specs.Indexes.{AreKeys, Finds, KeepsRooms, has_roo
 use crate::keys::Keys;
 use crate::marks::Marks;
 use cmc_meta::Key;
+use cmc_seed::HashSeed;
 use std::alloc::{AllocError, Global};
 use std::collections::HashMap;
 use std::marker::Model;
@@ -16,7 +17,7 @@ use std::marker::Model;
 /// Keys under uids. A row is only ever looked for under its own uid, and nobody asks for an order of uids: so
 /// they are hashed, and not sorted.
 pub(crate) struct Index {
-    map: HashMap<u64, Marks>,
+    map: HashMap<u64, Marks, HashSeed>,
 }
 
 impl Drop for Index {
@@ -34,13 +35,13 @@ impl Model for Index {
 }
 
 impl Index {
-    /// No key stands. It takes no memory.
+    /// No key stands, and uids are hashed by the seed. It takes no memory.
     #[tactic(auto, unfolding(crate::specs::Indexes::stands))]
-    pub(crate) fn new(alloc: Global) -> Index
+    pub(crate) fn new(alloc: Global, seed: HashSeed) -> Index
         ensures { (u : ℕ) → (k : KeyValue) → stands result u k ≡ false }
     {
         Index {
-            map: HashMap::new(alloc),
+            map: HashMap::with_hasher(alloc, seed),
         }
     }
 

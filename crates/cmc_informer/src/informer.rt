@@ -13,6 +13,7 @@ use crate::keys::Keys;
 use crate::watch::Watch;
 use cmc_meta::{Key, Kind, Name};
 use cmc_objects::Object;
+use cmc_seed::HashSeed;
 use std::alloc::{AllocError, Global};
 use std::marker::Model;
 
@@ -73,11 +74,23 @@ impl Informer {
     pub fn new(alloc: Global, kind: Kind) -> Informer
         ensures { result ≡ record { kind = kind; position = 0; objects = no_objects } }
     {
+        Informer::seeded(alloc, HashSeed::fixed(), kind)
+    }
+
+    /// The same, where keys and uids are hashed by the seed.
+    pub fn seeded(alloc: Global, seed: HashSeed, kind: Kind) -> Informer
+        ensures { result ≡ record { kind = kind; position = 0; objects = no_objects } }
+    {
         Informer {
             kind,
             position: 0,
-            cache: Cache::new(alloc),
+            cache: Cache::seeded(alloc, seed),
         }
+    }
+
+    /// What keys and uids are hashed by.
+    pub fn seed(&self) -> HashSeed {
+        self.cache.seed()
     }
 
     /// How many of the accepted writes it was told.

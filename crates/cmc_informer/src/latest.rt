@@ -6,6 +6,7 @@ ghost use Rattle.cmc_informer.specs.Superseding.{has_seen};
 
 use cmc_meta::Key;
 use cmc_objects::Object;
+use cmc_seed::HashSeed;
 use std::alloc::{AllocError, Global};
 use std::collections::HashSet;
 use std::marker::Model;
@@ -21,7 +22,7 @@ pub(crate) struct Change<'a> {
 #[derive(Drop)]
 pub(crate) struct SeenKeys<'a> {
     first: Option<&'a Key>,
-    others: HashSet<&'a Key>,
+    others: HashSet<&'a Key, HashSeed>,
 }
 
 impl<'a> Model for SeenKeys<'a> {
@@ -40,13 +41,13 @@ impl<'a> Model for SeenKeys<'a> {
 impl<'a> SeenKeys<'a> {
     ghost use Rattle.std.specs.Prelude.{[]};
 
-    /// No keys. It takes no memory.
-    pub(crate) fn new(alloc: Global) -> SeenKeys<'a>
+    /// No keys, which are hashed by the seed. It takes no memory.
+    pub(crate) fn new(alloc: Global, seed: HashSeed) -> SeenKeys<'a>
         ensures { result ≡ [] }
     {
         SeenKeys {
             first: None,
-            others: HashSet::new(alloc),
+            others: HashSet::with_hasher(alloc, seed),
         }
     }
 

@@ -18,6 +18,7 @@ use crate::uids::room_for_uid;
 use cmc_meta::{Key, Kind};
 use cmc_model::Write;
 use cmc_objects::Object;
+use cmc_seed::HashSeed;
 use std::alloc::{AllocError, Global};
 
 /// The slots of objects, under each uid the keys of what it owns and the key of the object that has it, and
@@ -30,17 +31,17 @@ pub(crate) struct Rows {
     pub(crate) targets: Targets,
 }
 
-/// No objects. It takes no memory.
+/// No objects, and all is hashed by the seed. It takes no memory.
 #[tactic(auto, unfolding(crate::specs::Caches::slot_at, crate::specs::Caches::objects_in))]
-pub(crate) fn no_rows(alloc: Global) -> Rows
+pub(crate) fn no_rows(alloc: Global, seed: HashSeed) -> Rows
     ensures objects { objects_in result.slots ≡ no_objects }
     ensures indexed { IsIndexed result }
 {
     Rows {
-        slots: Slots::new(alloc),
-        owners: Index::new(alloc),
-        uids: Index::new(alloc),
-        targets: Targets::new(alloc),
+        slots: Slots::new(alloc, seed),
+        owners: Index::new(alloc, seed),
+        uids: Index::new(alloc, seed),
+        targets: Targets::new(alloc, seed),
     }
 }
 
@@ -154,7 +155,7 @@ pub(crate) fn prepare<'a>(
 {
     let count = (to - from) as usize;
     let mut changes = Vec::with_capacity(alloc, count)?;
-    let mut seen = SeenKeys::new(alloc);
+    let mut seen = SeenKeys::new(alloc, rows.slots.seed());
     for place in (from..to).rev() {
         let write = &writes[place as usize];
         prepare_one(alloc, rows, &mut seen, &mut changes, write, kind)?;

@@ -15,6 +15,7 @@ use crate::owners::move_owners;
 use crate::uids::move_uid;
 use cmc_meta::{Key, Name};
 use cmc_objects::Object;
+use cmc_seed::HashSeed;
 use std::alloc::{AllocError, Global};
 use std::collections::HashMap;
 use std::marker::Model;
@@ -24,7 +25,7 @@ use std::marker::Model;
 /// its own key, and nobody asks for an order of slots: so they are hashed, and not sorted.
 #[derive(Drop)]
 pub(crate) struct Slots {
-    map: HashMap<Key, Option<Object>>,
+    map: HashMap<Key, Option<Object>, HashSeed>,
 }
 
 impl Model for Slots {
@@ -38,13 +39,18 @@ impl Model for Slots {
 impl Slots {
     ghost use Rattle.std.specs.Prelude.{[]};
 
-    /// No slots. It takes no memory.
-    pub(crate) fn new(alloc: Global) -> Slots
+    /// No slots, and keys are hashed by the seed. It takes no memory.
+    pub(crate) fn new(alloc: Global, seed: HashSeed) -> Slots
         ensures { result ≡ [] }
     {
         Slots {
-            map: HashMap::new(alloc),
+            map: HashMap::with_hasher(alloc, seed),
         }
+    }
+
+    /// What keys are hashed by.
+    pub(crate) fn seed(&self) -> HashSeed {
+        *self.map.hasher()
     }
 
     /// The object under the key; `None` exactly where none stands.

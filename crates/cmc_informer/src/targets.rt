@@ -9,6 +9,7 @@ use crate::keys::Keys;
 use crate::marks::Marks;
 use cmc_meta::{Key, Kind, Name};
 use cmc_objects::Object;
+use cmc_seed::HashSeed;
 use std::alloc::{AllocError, Global};
 use std::collections::HashMap;
 use std::marker::Model;
@@ -19,7 +20,7 @@ use std::marker::Model;
 /// an emptied slot does. A Secret is only ever looked for under its own key, so they are hashed, and not sorted.
 #[derive(Drop)]
 pub(crate) struct Targets {
-    map: HashMap<Key, Marks>,
+    map: HashMap<Key, Marks, HashSeed>,
 }
 
 impl Model for Targets {
@@ -31,13 +32,13 @@ impl Model for Targets {
 }
 
 impl Targets {
-    /// No Secret leads to a key. It takes no memory.
+    /// No Secret leads to a key, and Secrets are hashed by the seed. It takes no memory.
     #[tactic(auto, unfolding(crate::specs::Indexes::points))]
-    pub(crate) fn new(alloc: Global) -> Targets
+    pub(crate) fn new(alloc: Global, seed: HashSeed) -> Targets
         ensures { (s k : KeyValue) → points result s k ≡ false }
     {
         Targets {
-            map: HashMap::new(alloc),
+            map: HashMap::with_hasher(alloc, seed),
         }
     }
 

@@ -12,6 +12,7 @@ use crate::marks::Marks;
 use cmc_meta::{Key, Kind};
 use cmc_model::Write;
 use cmc_objects::Object;
+use cmc_seed::HashSeed;
 use std::alloc::{AllocError, Global};
 use std::marker::Model;
 
@@ -112,7 +113,21 @@ impl Watch {
         requires { at ≤ length self.now.writes }
         ensures { IfOk result (λ objects. objects ≡ spec.contents (spec.of_kind kind (spec.oldest at self.now.writes))) }
     {
-        let mut objects = Cache::new(alloc);
+        self.list_seeded(alloc, HashSeed::fixed(), kind, at)
+    }
+
+    /// The same, where keys and uids are hashed by the seed.
+    pub fn list_seeded(
+        &self,
+        alloc: Global,
+        seed: HashSeed,
+        kind: Kind,
+        at: u64,
+    ) -> Result<Cache, AllocError>
+        requires { at ≤ length self.now.writes }
+        ensures { IfOk result (λ objects. objects ≡ spec.contents (spec.of_kind kind (spec.oldest at self.now.writes))) }
+    {
+        let mut objects = Cache::seeded(alloc, seed);
         objects.apply(alloc, self.as_slice(), kind, 0, at)?;
         Ok(objects)
     }

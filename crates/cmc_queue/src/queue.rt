@@ -13,6 +13,7 @@ use crate::rows::Rows;
 use crate::searching::{move_rows, tick_rows};
 use crate::versions::Versions;
 use cmc_meta::{Key, Kind};
+use cmc_seed::HashSeed;
 use std::alloc::{AllocError, Global};
 use std::marker::Model;
 
@@ -60,13 +61,25 @@ impl Queue {
     pub fn new(alloc: Global) -> Queue
         ensures { (k : KeyValue) → row_of result k ≡ no_row }
     {
+        Queue::seeded(alloc, HashSeed::fixed())
+    }
+
+    /// The same, where keys are hashed by the seed.
+    pub fn seeded(alloc: Global, seed: HashSeed) -> Queue
+        ensures { (k : KeyValue) → row_of result k ≡ no_row }
+    {
         Queue {
-            rows: Rows::new(alloc),
+            rows: Rows::new(alloc, seed),
             moments: Moments::new(alloc),
             certificates: Versions::new(alloc),
             requests: Versions::new(alloc),
             secrets: Versions::new(alloc),
         }
+    }
+
+    /// What keys are hashed by.
+    pub fn seed(&self) -> HashSeed {
+        self.rows.seed()
     }
 
     /// What is kept of the key.

@@ -14,6 +14,7 @@ ghost use Rattle.std.specs.List.Sorted.{IsSorted};
 use crate::row::{Row, Sort};
 use crate::spots::{Spot, place_from, recount, shifted, spot_after};
 use cmc_meta::{Key, Kind};
+use cmc_seed::HashSeed;
 use indexmap::IndexMap;
 use std::alloc::{AllocError, Global};
 use std::marker::Model;
@@ -24,7 +25,7 @@ use std::marker::Model;
 /// key is that can be given, and the first on which there may be something to do: so no search goes over rows that do not qualify.
 #[derive(Drop)]
 pub struct Rows {
-    map: IndexMap<Key, Row>,
+    map: IndexMap<Key, Row, HashSeed>,
     free: Spot,
     pending: Spot,
     fresh: u64,
@@ -45,7 +46,7 @@ impl Model for Rows {
 }
 
 /// The row at the place, which was this one, becomes that one.
-fn put_row(map: &mut IndexMap<Key, Row>, at: usize, was: Row, row: Row)
+fn put_row(map: &mut IndexMap<Key, Row, HashSeed>, at: usize, was: Row, row: Row)
     requires { (key : KeyValue) × (slice_get map.old.entries at ≡ Some (key, was)) }
     ensures rewritten { IsRewritten map.old.entries map.new.entries at was row }
     ensures keys { keys_of map.new.entries ≡ keys_of map.old.entries }
@@ -58,7 +59,7 @@ fn put_row(map: &mut IndexMap<Key, Row>, at: usize, was: Row, row: Row)
 }
 
 /// Puts in a row for the key, which has none, among the others in the order of keys; the place of it. An error is one of memory.
-fn put_in(map: &mut IndexMap<Key, Row>, key: &Key) -> Result<usize, AllocError>
+fn put_in(map: &mut IndexMap<Key, Row, HashSeed>, key: &Key) -> Result<usize, AllocError>
     requires { is_some (lookup (key_eq key.now) map.old.entries) ≡ false }
     ensures put { IfOk result (IsPutIn map.old.entries map.new.entries key.now) }
     ensures sorted { OnOk result (IsSorted key_cmp (keys_of map.old.entries) → IsSorted key_cmp (keys_of map.new.entries)) }
@@ -73,18 +74,23 @@ fn put_in(map: &mut IndexMap<Key, Row>, key: &Key) -> Result<usize, AllocError>
 }
 
 impl Rows {
-    /// Nothing is to be done on any key. It takes no memory.
+    /// Nothing is to be done on any key, and keys are hashed by the seed. It takes no memory.
     #[tactic(auto, unfolding(crate::specs::Rows::row_in))]
-    pub fn new(alloc: Global) -> Rows
+    pub fn new(alloc: Global, seed: HashSeed) -> Rows
         ensures { (k : KeyValue) → row_in result k ≡ no_row }
     {
         Rows {
-            map: IndexMap::new(alloc),
+            map: IndexMap::with_hasher(alloc, seed),
             free: Spot { count: 0, first: 0 },
             pending: Spot { count: 0, first: 0 },
             fresh: 0,
             found: 0,
         }
+    }
+
+    /// What keys are hashed by.
+    pub fn seed(&self) -> HashSeed {
+        *self.map.hasher()
     }
 
     /// The row of the key.

@@ -6,6 +6,7 @@ ghost use Rattle.cmc_queue.specs.Spots.{HadSpot, IsPlaceFrom, IsSpot, WasSpot};
 
 use crate::row::{Row, Sort};
 use cmc_meta::Key;
+use cmc_seed::HashSeed;
 use indexmap::IndexMap;
 
 /// Of how many rows something holds, and the place of the first of them, if there is one.
@@ -16,7 +17,7 @@ pub struct Spot {
 }
 
 /// The first place from this one on with a row of the sort; the end where there is none.
-pub(crate) fn place_from(map: &IndexMap<Key, Row>, sort: Sort, from: usize) -> usize
+pub(crate) fn place_from(map: &IndexMap<Key, Row, HashSeed>, sort: Sort, from: usize) -> usize
     ensures { IsPlaceFrom (qualifies sort) map.now.entries from result }
 {
     let len = map.len();
@@ -31,7 +32,14 @@ pub(crate) fn place_from(map: &IndexMap<Key, Row>, sort: Sort, from: usize) -> u
 }
 
 /// The spot after the row at the place came to be of the sort.
-fn entered(spot: Spot, map: &IndexMap<Key, Row>, sort: Sort, at: usize, was: Row, row: Row) -> Spot
+fn entered(
+    spot: Spot,
+    map: &IndexMap<Key, Row, HashSeed>,
+    sort: Sort,
+    at: usize,
+    was: Row,
+    row: Row,
+) -> Spot
     requires before { WasSpot (qualifies sort) map.now.entries at was row spot }
     requires off { qualifies sort was ≡ false }
     requires on { qualifies sort row ≡ true }
@@ -49,7 +57,14 @@ fn entered(spot: Spot, map: &IndexMap<Key, Row>, sort: Sort, at: usize, was: Row
 }
 
 /// The spot after the row at the place came to be of the sort no more.
-fn left(spot: Spot, map: &IndexMap<Key, Row>, sort: Sort, at: usize, was: Row, row: Row) -> Spot
+fn left(
+    spot: Spot,
+    map: &IndexMap<Key, Row, HashSeed>,
+    sort: Sort,
+    at: usize,
+    was: Row,
+    row: Row,
+) -> Spot
     requires before { WasSpot (qualifies sort) map.now.entries at was row spot }
     requires on { qualifies sort was ≡ true }
     requires off { qualifies sort row ≡ false }
@@ -72,7 +87,7 @@ fn left(spot: Spot, map: &IndexMap<Key, Row>, sort: Sort, at: usize, was: Row, r
 /// The spot after the row at the place has changed.
 pub(crate) fn spot_after(
     spot: Spot,
-    map: &IndexMap<Key, Row>,
+    map: &IndexMap<Key, Row, HashSeed>,
     sort: Sort,
     at: usize,
     was: Row,
@@ -108,7 +123,7 @@ pub(crate) fn recount(count: u64, was: bool, is: bool) -> u64
 }
 
 /// The spot after a row with nothing to do was put in at the place.
-pub(crate) fn shifted(spot: Spot, map: &IndexMap<Key, Row>, sort: Sort, at: usize) -> Spot
+pub(crate) fn shifted(spot: Spot, map: &IndexMap<Key, Row, HashSeed>, sort: Sort, at: usize) -> Spot
     requires had { HadSpot (qualifies sort) map.now.entries at spot }
     requires nothing { qualifies sort no_row ≡ false }
     ensures { IsSpot (qualifies sort) map.now.entries result }

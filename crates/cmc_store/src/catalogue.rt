@@ -10,6 +10,7 @@ use crate::claims::{Claims, is_same_secret, secret_of};
 use crate::shelf::Shelf;
 use cmc_meta::{Key, Name};
 use cmc_objects::Object;
+use cmc_seed::HashSeed;
 use std::alloc::{AllocError, Global};
 use std::marker::Model;
 
@@ -36,13 +37,13 @@ impl Model for Catalogue {
 }
 
 impl Catalogue {
-    /// No objects. It takes no memory.
-    pub fn new(alloc: Global) -> Catalogue
+    /// No objects, and Secrets are hashed by the seed. It takes no memory.
+    pub fn new(alloc: Global, seed: HashSeed) -> Catalogue
         ensures { result ≡ no_objects }
     {
         Catalogue {
             shelf: Shelf::new(alloc),
-            claims: Claims::new(alloc),
+            claims: Claims::new(alloc, seed),
         }
     }
 

@@ -6,6 +6,7 @@ ghost use Rattle.cmc_store.specs.Claims as spec;
 
 use cmc_meta::{Key, Kind, Name};
 use cmc_objects::Object;
+use cmc_seed::HashSeed;
 use std::alloc::{AllocError, Global};
 use std::collections::HashMap;
 use std::marker::Model;
@@ -14,7 +15,7 @@ use std::marker::Model;
 /// is only ever looked for under its own key, and nobody asks for an order: so they are hashed, and not sorted.
 #[derive(Drop)]
 pub struct Claims {
-    map: HashMap<Key, Name>,
+    map: HashMap<Key, Name, HashSeed>,
 }
 
 impl Model for Claims {
@@ -31,12 +32,12 @@ impl Model for Claims {
 }
 
 impl Claims {
-    /// No claims. It takes no memory.
-    pub fn new(alloc: Global) -> Claims
+    /// No claims, and Secrets are hashed by the seed. It takes no memory.
+    pub fn new(alloc: Global, seed: HashSeed) -> Claims
         ensures { result ≡ spec.no_claims }
     {
         Claims {
-            map: HashMap::new(alloc),
+            map: HashMap::with_hasher(alloc, seed),
         }
     }
 

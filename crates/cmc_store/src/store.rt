@@ -14,6 +14,7 @@ use crate::generating::create_named;
 use crate::shelf::Shelf;
 use cmc_meta::{Key, Numbers};
 use cmc_objects::{Call, Object, Reply};
+use cmc_seed::HashSeed;
 use std::alloc::{AllocError, Global};
 use std::collections::BTreeMap;
 use std::marker::Model;
@@ -58,8 +59,15 @@ impl Store {
     pub fn new(alloc: Global, faults: Numbers) -> Store
         ensures { result ≡ record { faults = faults; state = empty_store } }
     {
+        Store::seeded(alloc, HashSeed::fixed(), faults)
+    }
+
+    /// The same, where Secrets are hashed by the seed.
+    pub fn seeded(alloc: Global, seed: HashSeed, faults: Numbers) -> Store
+        ensures { result ≡ record { faults = faults; state = empty_store } }
+    {
         Store {
-            catalogue: Catalogue::new(alloc),
+            catalogue: Catalogue::new(alloc, seed),
             accepted: 0,
             calls: 0,
             faults,

@@ -32,6 +32,7 @@ use cmc_meta::{Key, Numbers};
 use cmc_moves::{Move, Stepped};
 use cmc_objects::{Object, Role};
 use cmc_pass::Desk;
+use cmc_seed::HashSeed;
 use cmc_setup::Scenario;
 use cmc_store::Store;
 use std::alloc::{AllocError, Global};
@@ -139,7 +140,7 @@ impl World {
     {
         let faults = numbers_of(alloc, scenario.faults())?;
         let role_states = RoleStates::new(alloc, scenario.roles())?;
-        let memories = RoleMemories::new(alloc)?;
+        let memories = RoleMemories::new(alloc, HashSeed::fixed())?;
         let caches = Caches::new(alloc)?;
         let moment = scenario.now();
         let material = scenario.material().copy()?;
@@ -162,7 +163,7 @@ impl World {
             origins: Origins::new(alloc),
             passes: Passes::new(alloc),
             memories,
-            questions: Questions::new(alloc),
+            questions: Questions::new(alloc, HashSeed::fixed()),
             desk,
         })
     }
