@@ -1,5 +1,5 @@
 -- Passes that begin and go on at once.
-use Rattle.std.proofs.Common.{◌≡◌, ℕ, ◌+◌, List, ◌∷◌, Option, Some, None, Bool, true, refl, sym, ap, subst, ◌∙◌, arith}
+use Rattle.std.proofs.Common.{◌≡◌, ℕ, ◌+◌, List, ◌∷◌, Option, Some, None, Bool, true, false, refl, sym, ap, subst, ◌∙◌, arith}
 use Rattle.std.proofs.lemmas.Bool.Decides.{Decides-eqb}
 use Rattle.std.specs.Prelude.{◌==◌, IfSome, if◌then◌else◌}
 use Rattle.cmc_meta.specs.declared.key.Key.{Key}
@@ -95,3 +95,8 @@ opened_both old mid new role key does begin done (Some first) same leaves tells 
       subst (λ (w : Seen). (named : ℕ) → Leaves (setting_of w.scenario) w.history (moves.Next (begun (setting_of w.scenario) w.history) named) first new.history)
           (λ i. record { scenario = same i; history = grown i }) next.1,
     )
+
+-- what a pass does is known where it was begun
+pub only_does : (P : Act → Type 0) (b : Bool) (does : Option Act) → (b ≡ true → IfSome does P) → IfSome (if b then does else None) P
+only_does P true does is = is refl
+only_does P false does is = tt

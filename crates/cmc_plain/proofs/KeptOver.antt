@@ -45,7 +45,8 @@ use Rattle.cmc_world.specs.Kept.{Seen, setting_of, on}
 use Rattle.cmc_plain.specs.Keeping.{AreFound, IsActOn, IsFound, IsKeptRight}
 use Rattle.cmc_plain.specs.Next.{IsNewestPass}
 use Rattle.cmc_plain.specs.Plain.{IsBehind}
-use Rattle.cmc_plain.specs.Searches.{HasNoneBefore, IsBehindInSome}
+use Rattle.cmc_plain.specs.Searches.{FindsDelivery, HasNoneBefore, IsBehindInSome}
+use Rattle.cmc_plain.specs.declared.deliveries.Delivery.{Delivery}
 use Rattle.cmc_plain.specs.declared.kept.Kept.{Kept}
 use Rattle.cmc_plain.specs.declared.openings.Opening.{Opening}
 use Rattle.cmc_plain.proofs.Feeding.{on_new}
@@ -269,3 +270,28 @@ kept_same old new before after same right told none fewer = record {
   act = subst (λ (a : Option Act). IfSome a (on IsFirstAct new (on begun new))) (sym none) tt;
   looked = subst (λ (w : Seen). on AreFound w after.looked.items) (sym same) (fewer (setting_of old.scenario) old.history right.looked);
 }
+
+-- ---- what searches note
+
+pub kept_noted : (w : Seen) (before after : Kept) (o : Opening) → after.told ≡ before.told → after.act ≡ before.act → ((s : Setting) (h : List Entry) → AreFound s h before.looked.items → IsFound s h o → AreFound s h after.looked.items) → on IsFound w o → on IsKeptRight w before → on IsKeptRight w after
+kept_noted w before after o told does more found right = record {
+  told = subst (λ (n : ℕ). HasNoneBefore (on IsBehindInSome w) n) (sym told) right.told;
+  act = subst (λ (a : Option Act). IfSome a (on IsFirstAct w (on begun w))) (sym does) right.act;
+  looked = more (setting_of w.scenario) w.history right.looked found;
+}
+
+pub kept_taken : (w : Seen) (before after : Kept) → after.told ≡ before.told → after.act ≡ before.act → ((s : Setting) (h : List Entry) → AreFound s h before.looked.items → AreFound s h after.looked.items) → on IsKeptRight w before → on IsKeptRight w after
+kept_taken w before after told does fewer right = record {
+  told = subst (λ (n : ℕ). HasNoneBefore (on IsBehindInSome w) n) (sym told) right.told;
+  act = subst (λ (a : Option Act). IfSome a (on IsFirstAct w (on begun w))) (sym does) right.act;
+  looked = fewer (setting_of w.scenario) w.history right.looked;
+}
+
+-- the place of the first role that is behind
+abbrev pub place_of : Option Delivery → ℕ
+place_of None = 8
+place_of (Some d) = role_rank d.role
+
+pub none_before_found : (s : Setting) (h : List Entry) (d : Option Delivery) → FindsDelivery s h d → HasNoneBefore (IsBehindInSome s h) (place_of d)
+none_before_found s h None none role low b = none role b.0 b.1
+none_before_found s h (Some d) first role low b = first.first role b.0 (inl low) b.1

@@ -179,38 +179,22 @@ impl Waking {
 
     /// The delivery to the newest accepted write of a kind of which a role was not told, by role, then by kind; `None`
     /// exactly where each role that runs was told of all that is not held from it.
-    ///
-    /// # Errors
-    ///
-    /// Want of memory alone.
-    pub fn next_delivery(&self, _alloc: Global) -> Result<Option<Move>, AllocError>
-        ensures { IfOk result (λ m. on IsNextDelivery self.now m) }
+    pub fn next_delivery(&self) -> Option<Move>
+        ensures { on IsNextDelivery self.now result }
     {
-        match first_delivery(&self.world, self.kept.told) {
-            Some(Delivery { role, kind }) => {
-                let to = self.world.log().last_of_kind(kind);
-                Ok(Some(Move::Deliver { role, kind, to }))
-            }
-            None => Ok(None),
-        }
+        let Delivery { role, kind } = first_delivery(&self.world, self.kept.told)?;
+        let to = self.world.log().last_of_kind(kind);
+        Some(Move::Deliver { role, kind, to })
     }
 
     /// The delivery to the role of the newest accepted write of the first kind of which it was not told; `None` exactly where
     /// it does not run, or was told of all that is not held from it.
-    ///
-    /// # Errors
-    ///
-    /// Want of memory alone.
-    pub fn next_delivery_to(&self, _alloc: Global, role: Role) -> Result<Option<Move>, AllocError>
-        ensures { IfOk result (λ m. on IsNextDeliveryTo self.now role m) }
+    pub fn next_delivery_to(&self, role: Role) -> Option<Move>
+        ensures { on IsNextDeliveryTo self.now role result }
     {
-        match first_kind_of(&self.world, role) {
-            Some(kind) => {
-                let to = self.world.log().last_of_kind(kind);
-                Ok(Some(Move::Deliver { role, kind, to }))
-            }
-            None => Ok(None),
-        }
+        let kind = first_kind_of(&self.world, role)?;
+        let to = self.world.log().last_of_kind(kind);
+        Some(Move::Deliver { role, kind, to })
     }
 
     /// A pass on the first key on which one of the role may begin, and the role has something to do by what it sees; where a key

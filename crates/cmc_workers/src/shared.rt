@@ -141,7 +141,7 @@ fn first_of(alloc: Global, waking: &mut Waking, role: Role) -> Result<Found, All
     ensures found { IfOk result (IsFound waking.new) }
     ensures same { waking.new ≡ waking.old }
 {
-    if let Some(step) = waking.next_delivery_to(alloc, role)? {
+    if let Some(step) = waking.next_delivery_to(role) {
         let_go(step);
         return Ok(Found::Behind(role));
     }
@@ -430,7 +430,7 @@ impl Shared {
     pub(crate) fn is_to_deliver(&self, alloc: Global) -> Result<bool, AllocError>
         ensures { IfOk result (λ b. b ≡ false → on HasNoDelivery self.now.waking) }
     {
-        match self.waking.next_delivery(alloc)? {
+        match self.waking.next_delivery() {
             Some(step) => {
                 let_go(step);
                 Ok(true)
@@ -537,7 +537,7 @@ impl Shared {
         ensures { self.new.waking.scenario ≡ self.old.waking.scenario }
     {
         for _delivery in 0..=self.limit() {
-            let Some(step) = self.waking.next_delivery_to(alloc, self.wanted)? else {
+            let Some(step) = self.waking.next_delivery_to(self.wanted) else {
                 return Ok(());
             };
             if !matches!(self.make(alloc, step)?, Went::On) {

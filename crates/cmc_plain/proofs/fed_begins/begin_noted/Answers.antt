@@ -1,16 +1,15 @@
 use Rattle.std.proofs.Common.{sym, ◌∙◌}
 use Rattle.cmc_moves.specs.declared.moves.Move.TheVariants as moves
 use Rattle.cmc_waking.specs.Feeding.{begun}
-use Rattle.cmc_plain.proofs.AtOnce.{idle_act}
-use Rattle.cmc_plain.proofs.BeginsFed.{fit_due, fit_queued, fit_room, idle_fed, idle_fits, idle_now}
+use Rattle.cmc_plain.proofs.BeginsFed.{fit_due, fit_queued, fit_room, idle_fed, idle_fits}
 use Rattle.cmc_plain.proofs.Feeding.{fed_not_made, fed_same}
-use Rattle.cmc_plain.proofs.fed_begins.begin_idle.Goals as goal
+use Rattle.cmc_plain.proofs.fed_begins.begin_noted.Goals as goal
 
 pub begin_due-requires-clause-free : goal.begin_due-requires-clause-free
 begin_due-requires-clause-free c = (idle_fits c.args.world.now c.args.role c.args.key c.args.queues.now c.is_run.ensures.run c.requires.fed c.requires.running c.requires.free c.requires.nothing).may.idle
 
 pub begin_due-requires-clause-due : goal.begin_due-requires-clause-due
-begin_due-requires-clause-due c = fit_due c.args.world.now c.args.role c.args.key c.in_ok-seen.seen c.in_ok-seen.ensures.sees (idle_fits c.args.world.now c.args.role c.args.key c.args.queues.now c.is_run.ensures.run c.requires.fed c.requires.running c.requires.free c.requires.nothing)
+begin_due-requires-clause-due c = fit_due c.args.world.now c.args.role c.args.key c.args.seen c.requires.sees (idle_fits c.args.world.now c.args.role c.args.key c.args.queues.now c.is_run.ensures.run c.requires.fed c.requires.running c.requires.free c.requires.nothing)
 
 pub begin_due-requires-clause-queued : goal.begin_due-requires-clause-queued
 begin_due-requires-clause-queued c = fit_queued c.args.world.now c.args.role c.args.key (idle_fits c.args.world.now c.args.role c.args.key c.args.queues.now c.is_run.ensures.run c.requires.fed c.requires.running c.requires.free c.requires.nothing)
@@ -29,9 +28,3 @@ pub returns-clause-fed : goal.returns-clause-fed
 returns-clause-fed c =
     idle_fed c.args.world.now c.begin_due.new.self c.args.role c.args.key c.in_ok-own.own c.args.queues.now c.begun.new.self c.in_ok-answer.answer c.in_ok-own.ensures c.is_run.ensures.run c.begin_due.ensures.run c.begin_due.ensures.scenario c.in_ok-answer.ensures.leaves
     (sym c.is_done.ensures ∙ c.if-not-is_done.false) c.requires.running c.requires.free c.requires.nothing c.begun.ensures.rows c.begun.ensures.others c.requires.fed
-
-pub returns-clause-kept : goal.returns-clause-kept
-returns-clause-kept c =
-    idle_act c.args.world.now c.begin_due.new.self c.args.role c.args.key c.in_ok-answer.answer c.is_done.result c.begin_due.ensures.scenario
-    (idle_now c.args.world.now c.args.role c.args.key c.args.queues.now c.requires.fed c.requires.running c.requires.free c.requires.nothing (idle_fits c.args.world.now c.args.role c.args.key c.args.queues.now c.is_run.ensures.run c.requires.fed c.requires.running c.requires.free c.requires.nothing).may.work)
-    c.in_ok-answer.ensures.leaves c.is_done.ensures c.if-not-is_done.false
