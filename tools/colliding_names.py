@@ -1,5 +1,5 @@
 #!/usr/bin/env python3
-"""Makes a scenario whose names collide in the maps that find things by hash, to measure what that costs.
+"""Makes a scenario whose names collide in maps whose hasher has the fixed seed, to measure what a run makes of them.
 
 usage: tools/colliding_names.py COUNT [--ordinary] [--roles trigger|none|all] [--counts] > SCENARIO
 
@@ -19,6 +19,9 @@ their bits: in those that choose the place in a table of any size, and in those 
 
 The names of requests and of the Secrets of private keys are generated, and their keys do not collide. With `--counts` names collide
 where questions are counted, under a namespace and a name without a kind, and no longer as the keys of Certificates.
+
+The maps of `cmrun` have a seed of their own for each run, so both scenarios cost it the same; with the fixed seed 5,000 names that
+collide took it 103 times as long.
 """
 import itertools
 

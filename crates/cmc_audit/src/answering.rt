@@ -9,6 +9,7 @@ use crate::text::verdict_text;
 use cmc_line_reading::{BadHistory, read_history};
 use cmc_lines::Printed;
 use cmc_report::Lines;
+use cmc_seed::HashSeed;
 use std::alloc::{AllocError, Global};
 
 /// Why no verdict is given on some bytes.
@@ -49,12 +50,12 @@ fn history_in(alloc: Global, bytes: &[u8]) -> Result<Printed, NotAudited>
 /// # Errors
 ///
 /// `Line` exactly where the bytes are the text of no history, with the first line that fails.
-pub fn audit_bytes(alloc: Global, bytes: &[u8]) -> Result<Lines, NotAudited>
+pub fn audit_bytes(alloc: Global, seed: HashSeed, bytes: &[u8]) -> Result<Lines, NotAudited>
     ensures ok { IfOk result (λ lines. words.Answers bytes.now (joined lines)) }
     ensures err { IfErr result (λ why. words.Refuses bytes.now why) }
 {
     let printed = history_in(alloc, bytes)?;
-    let verdict = audit(alloc, &printed)?;
+    let verdict = audit(alloc, seed, &printed)?;
     let lines = verdict_text(alloc, verdict)?;
     Ok(lines)
 }

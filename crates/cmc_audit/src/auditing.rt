@@ -9,6 +9,7 @@ use cmc_audit_clauses::{Clause, Verdict};
 use cmc_audit_ledger::Ledger;
 use cmc_audit_steps::step;
 use cmc_lines::Printed;
+use cmc_seed::HashSeed;
 use std::alloc::{AllocError, Global};
 
 /// Takes in the lines, and says at which one a clause fails first, if one fails. An error is one of memory.
@@ -52,10 +53,10 @@ fn summed(printed: &Printed, ledger: &Ledger) -> Verdict
 
 /// Whether the printed history is one that a right world prints, of this scenario. Where it is not, the verdict has the
 /// first entry at which a clause fails, and the first clause that fails there. An error is one of memory.
-pub fn audit(alloc: Global, printed: &Printed) -> Result<Verdict, AllocError>
+pub fn audit(alloc: Global, seed: HashSeed, printed: &Printed) -> Result<Verdict, AllocError>
     ensures { IfOk result (λ v. IsVerdict (setting_of printed.now.scenario) (reverse printed.now.entries) printed.now.counts v) }
 {
-    let mut ledger = Ledger::new(alloc, &printed.scenario)?;
+    let mut ledger = Ledger::new(alloc, seed, &printed.scenario)?;
     match take_in(alloc, printed, &mut ledger)? {
         Some(verdict) => Ok(verdict),
         None => Ok(summed(printed, &ledger)),

@@ -19,6 +19,7 @@ use cmc_match::is_temporary;
 use cmc_meta::{Key, Kind};
 use cmc_model::Write;
 use cmc_objects::{Call, Certificate, CertificateRequest, Object, Reply, Shared, Who};
+use cmc_seed::HashSeed;
 use std::alloc::{AllocError, Global};
 use std::mem;
 
@@ -139,7 +140,9 @@ fn add(
     let Some(key) = key else {
         return Ok(());
     };
-    let older = mem::replace(journal, Journal::new(alloc));
+    // (this one stands there only until the other is back)
+    let none = Journal::new(alloc, HashSeed::fixed());
+    let older = mem::replace(journal, none);
     *journal = older.with(alloc, Write { key, object })?;
     Ok(())
 }

@@ -5,6 +5,7 @@ ghost use Rattle.cmc_audit_ledger.specs.Following.{Follows, setting_of};
 use crate::ledger::Ledger;
 use cmc_audit_state::{Journal, Passes, Standings};
 use cmc_meta::Numbers;
+use cmc_seed::HashSeed;
 use cmc_setup::Scenario;
 use cmc_store::Store;
 use std::alloc::{AllocError, Global};
@@ -22,7 +23,7 @@ fn numbers_of(alloc: Global, items: &[u64]) -> Result<Numbers, AllocError>
 impl Ledger {
     /// What is kept before any entry: no object stands, nothing was done, and the scenario's roles run, told of nothing. An
     /// error is one of memory.
-    pub fn new(alloc: Global, scenario: &Scenario) -> Result<Ledger, AllocError>
+    pub fn new(alloc: Global, seed: HashSeed, scenario: &Scenario) -> Result<Ledger, AllocError>
         ensures follows { IfOk result (λ l. Follows (setting_of scenario.now) [] l) }
         ensures count { IfOk result (λ l. l.entries ≡ 0) }
     {
@@ -30,8 +31,8 @@ impl Ledger {
         let standings = Standings::new(alloc, scenario.roles())?;
         let _events = scenario.events();
         Ok(Ledger {
-            store: Store::new(alloc, faults),
-            journal: Journal::new(alloc),
+            store: Store::seeded(alloc, seed, faults),
+            journal: Journal::new(alloc, seed),
             standings,
             passes: Passes::new(alloc),
             moment: scenario.now(),

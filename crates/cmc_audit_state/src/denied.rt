@@ -2,13 +2,14 @@
 ghost use Rattle.std.specs.Prelude.{◌≡◌, ◌==◌, ◌||◌, ℕ, OnErr, OnOk, false};
 ghost use Rattle.cmc_audit_state.specs.Journaled.{is_noted};
 
+use cmc_seed::HashSeed;
 use std::alloc::{AllocError, Global};
 use std::collections::HashSet;
 use std::marker::Model;
 
 /// Uids; contracts see the list of them, in no order.
 pub struct Denied {
-    set: HashSet<u64>,
+    set: HashSet<u64, HashSeed>,
 }
 
 impl Drop for Denied {
@@ -26,13 +27,13 @@ impl Model for Denied {
 }
 
 impl Denied {
-    /// No uid. It takes no memory.
+    /// No uid, and uids are hashed by the seed. It takes no memory.
     #[tactic(auto, unfolding(crate::specs::Journaled::is_noted))]
-    pub fn new(alloc: Global) -> Denied
+    pub fn new(alloc: Global, seed: HashSeed) -> Denied
         ensures { (uid : ℕ) → is_noted result uid ≡ false }
     {
         Denied {
-            set: HashSet::new(alloc),
+            set: HashSet::with_hasher(alloc, seed),
         }
     }
 

@@ -13,6 +13,7 @@ use crate::versions::Versions;
 use cmc_meta::{Condition, ConditionKind, Key, Tri};
 use cmc_model::Write;
 use cmc_objects::{CertificateRequest, Object};
+use cmc_seed::HashSeed;
 use std::alloc::{AllocError, Global};
 
 /// What leads from a key, an owner or a uid to the writes.
@@ -39,15 +40,15 @@ impl Drop for Indexes {
 }
 
 impl Indexes {
-    /// The indexes of no writes. It takes no memory.
-    pub fn new(alloc: Global) -> Indexes
+    /// The indexes of no writes, where all is hashed by the seed. It takes no memory.
+    pub fn new(alloc: Global, seed: HashSeed) -> Indexes
         ensures { IsIndexed [] result }
     {
         Indexes {
-            versions: Versions::new(alloc),
-            owned: Owned::new(alloc),
-            revisions: Revisions::new(alloc),
-            denied: Denied::new(alloc),
+            versions: Versions::new(alloc, seed),
+            owned: Owned::new(alloc, seed),
+            revisions: Revisions::new(alloc, seed),
+            denied: Denied::new(alloc, seed),
         }
     }
 

@@ -14,6 +14,7 @@ use cmc_meta::{Key, Kind, ObjectMeta, OwnerRef};
 use cmc_model::Write;
 use cmc_objects::{Certificate, CertificateRequest, Object, Shared};
 use cmc_pass::Requests;
+use cmc_seed::HashSeed;
 use std::alloc::{AllocError, Global};
 use std::collections::BTreeSet;
 use std::marker::Model;
@@ -49,13 +50,13 @@ impl Model for Journal {
 }
 
 impl Journal {
-    /// No writes. It takes no memory.
-    pub fn new(alloc: Global) -> Journal
+    /// No writes, and all is hashed by the seed. It takes no memory.
+    pub fn new(alloc: Global, seed: HashSeed) -> Journal
         ensures { result ≡ [] }
     {
         Journal {
             items: Vec::new(alloc),
-            indexes: Indexes::new(alloc),
+            indexes: Indexes::new(alloc, seed),
         }
     }
 

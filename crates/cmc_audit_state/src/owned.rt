@@ -7,6 +7,7 @@ ghost use Rattle.cmc_meta.specs.Keys.{key_cmp, key_eq};
 ghost use Rattle.cmc_audit_state.specs.Journaled.{has_key, is_kept, is_named, keys_of, keys_under};
 
 use cmc_meta::{Key, OwnerRef};
+use cmc_seed::HashSeed;
 use std::alloc::{AllocError, Global};
 use std::collections::{BTreeSet, HashMap};
 use std::marker::Model;
@@ -61,7 +62,7 @@ impl KeySet {
 
 /// Keys under uids; contracts see the list of the uids, in no order, with the keys of each.
 pub struct Owned {
-    map: HashMap<u64, KeySet>,
+    map: HashMap<u64, KeySet, HashSeed>,
 }
 
 impl Drop for Owned {
@@ -80,13 +81,13 @@ impl Model for Owned {
 }
 
 impl Owned {
-    /// No keys. It takes no memory.
+    /// No keys, and uids are hashed by the seed. It takes no memory.
     #[tactic(auto, unfolding(crate::specs::Journaled::keys_under))]
-    pub fn new(alloc: Global) -> Owned
+    pub fn new(alloc: Global, seed: HashSeed) -> Owned
         ensures { (uid : ℕ) → (k : KeyValue) → is_kept result uid k ≡ false }
     {
         Owned {
-            map: HashMap::new(alloc),
+            map: HashMap::with_hasher(alloc, seed),
         }
     }
 

@@ -2,13 +2,14 @@
 ghost use Rattle.std.specs.Prelude.{◌≡◌, ◌==◌, ℕ, OnErr, OnOk, if◌then◌else◌};
 ghost use Rattle.cmc_audit_state.specs.Journaled.{revision_in};
 
+use cmc_seed::HashSeed;
 use std::alloc::{AllocError, Global};
 use std::collections::HashMap;
 use std::marker::Model;
 
 /// Revisions under uids, 0 where none was put; contracts see the list of both, in no order.
 pub struct Revisions {
-    map: HashMap<u64, u64>,
+    map: HashMap<u64, u64, HashSeed>,
 }
 
 impl Drop for Revisions {
@@ -26,13 +27,13 @@ impl Model for Revisions {
 }
 
 impl Revisions {
-    /// No revisions. It takes no memory.
+    /// No revisions, and uids are hashed by the seed. It takes no memory.
     #[tactic(auto, unfolding(crate::specs::Journaled::revision_in))]
-    pub fn new(alloc: Global) -> Revisions
+    pub fn new(alloc: Global, seed: HashSeed) -> Revisions
         ensures { (uid : ℕ) → revision_in result uid ≡ 0 }
     {
         Revisions {
-            map: HashMap::new(alloc),
+            map: HashMap::with_hasher(alloc, seed),
         }
     }
 

@@ -6,6 +6,7 @@ ghost use Rattle.cmc_meta.specs.Keys.{key_eq};
 ghost use Rattle.cmc_audit_state.specs.Journaled.{is_listed, latest_in, versions_in};
 
 use cmc_meta::{Key, Numbers};
+use cmc_seed::HashSeed;
 use std::alloc::{AllocError, Global};
 use std::collections::HashMap;
 use std::marker::Model;
@@ -13,7 +14,7 @@ use std::marker::Model;
 /// The versions of the writes under each key; contracts see the list of the keys, in no order, with the versions of
 /// each, the oldest first.
 pub struct Versions {
-    map: HashMap<Key, Numbers>,
+    map: HashMap<Key, Numbers, HashSeed>,
 }
 
 impl Drop for Versions {
@@ -32,13 +33,13 @@ impl Model for Versions {
 }
 
 impl Versions {
-    /// No versions. It takes no memory.
+    /// No versions, and keys are hashed by the seed. It takes no memory.
     #[tactic(auto, unfolding(crate::specs::Journaled::versions_in))]
-    pub fn new(alloc: Global) -> Versions
+    pub fn new(alloc: Global, seed: HashSeed) -> Versions
         ensures { (k : KeyValue) → versions_in result k ≡ [] }
     {
         Versions {
-            map: HashMap::new(alloc),
+            map: HashMap::with_hasher(alloc, seed),
         }
     }
 

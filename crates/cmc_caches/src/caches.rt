@@ -14,6 +14,7 @@ use cmc_meta::{Key, Kind};
 use cmc_model::Write;
 use cmc_objects::Role;
 use cmc_pass::Views;
+use cmc_seed::HashSeed;
 use std::alloc::{AllocError, Global};
 use std::marker::Model;
 
@@ -55,21 +56,33 @@ fn put_row<T: Drop>(rows: &mut Vec<T>, place: usize, row: T)
 
 impl Caches {
     /// No role was told of anything. An `Err` is want of memory.
-    #[tactic(auto, unfolding(crate::specs::Told::caches_of))]
     pub fn new(alloc: Global) -> Result<Caches, AllocError>
         ensures { IfOk result (λ c. (r : RoleValue) → caches_of c r ≡ nothing_told) }
     {
+        Caches::seeded(alloc, HashSeed::fixed())
+    }
+
+    /// The same, where keys and uids are hashed by the seed.
+    #[tactic(auto, unfolding(crate::specs::Told::caches_of))]
+    pub fn seeded(alloc: Global, seed: HashSeed) -> Result<Caches, AllocError>
+        ensures { IfOk result (λ c. (r : RoleValue) → caches_of c r ≡ nothing_told) }
+    {
         let rows = vec![in alloc;
-            RoleCaches::new(alloc),
-            RoleCaches::new(alloc),
-            RoleCaches::new(alloc),
-            RoleCaches::new(alloc),
-            RoleCaches::new(alloc),
-            RoleCaches::new(alloc),
-            RoleCaches::new(alloc),
-            RoleCaches::new(alloc),
+            RoleCaches::new(alloc, seed),
+            RoleCaches::new(alloc, seed),
+            RoleCaches::new(alloc, seed),
+            RoleCaches::new(alloc, seed),
+            RoleCaches::new(alloc, seed),
+            RoleCaches::new(alloc, seed),
+            RoleCaches::new(alloc, seed),
+            RoleCaches::new(alloc, seed),
         ]?;
         Ok(Caches { rows })
+    }
+
+    /// What keys and uids are hashed by.
+    pub fn seed(&self) -> HashSeed {
+        self.rows[0].seed()
     }
 
     /// Tells the role of the writes of the kind above the one version and up to the other, and no other role

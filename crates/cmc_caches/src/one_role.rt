@@ -14,6 +14,7 @@ use cmc_meta::{Key, Kind};
 use cmc_model::Write;
 use cmc_objects::{Positions, Role};
 use cmc_pass::Views;
+use cmc_seed::HashSeed;
 use std::alloc::{AllocError, Global};
 use std::marker::Model;
 
@@ -47,39 +48,55 @@ impl Model for RoleCaches {
 }
 
 /// The objects of the kind that the first `at` writes leave. An error is one of memory.
-fn listed(alloc: Global, writes: &[Write], kind: Kind, at: u64) -> Result<Cache, AllocError>
+fn listed(
+    alloc: Global,
+    seed: HashSeed,
+    writes: &[Write],
+    kind: Kind,
+    at: u64,
+) -> Result<Cache, AllocError>
     requires { at ≤ length writes.now }
     ensures { IfOk result (λ objects. objects ≡ spec.contents (spec.of_kind kind (spec.oldest at (reverse writes.now)))) }
 {
-    let mut objects = Cache::new(alloc);
+    let mut objects = Cache::seeded(alloc, seed);
     objects.apply(alloc, writes, kind, 0, at)?;
     Ok(objects)
 }
 
 impl RoleCaches {
-    /// Nothing was told of any kind. It takes no memory.
-    pub fn new(alloc: Global) -> RoleCaches
+    /// Nothing was told of any kind, and keys and uids are hashed by the seed. It takes no memory.
+    pub fn new(alloc: Global, seed: HashSeed) -> RoleCaches
         ensures { result ≡ nothing_told }
     {
         RoleCaches {
-            certificates: Cache::new(alloc),
-            requests: Cache::new(alloc),
-            secrets: Cache::new(alloc),
+            certificates: Cache::seeded(alloc, seed),
+            requests: Cache::seeded(alloc, seed),
+            secrets: Cache::seeded(alloc, seed),
         }
     }
 
+    /// What keys and uids are hashed by.
+    pub fn seed(&self) -> HashSeed {
+        self.certificates.seed()
+    }
+
     /// What stands of each kind after the first so many of the writes, the oldest of which comes first: what
-    /// a list of each kind gives. An `Err` is want of memory.
-    pub fn list(alloc: Global, writes: &[Write], at: Positions) -> Result<RoleCaches, AllocError>
+    /// a list of each kind gives; keys and uids are hashed by the seed. An `Err` is want of memory.
+    pub fn list(
+        alloc: Global,
+        seed: HashSeed,
+        writes: &[Write],
+        at: Positions,
+    ) -> Result<RoleCaches, AllocError>
         requires certificates { at.certificates ≤ length writes.now }
         requires requests { at.requests ≤ length writes.now }
         requires secrets { at.secrets ≤ length writes.now }
         ensures { IfOk result (λ caches. caches ≡ caches_at (reverse writes.now) at) }
     {
         Ok(RoleCaches {
-            certificates: listed(alloc, writes, Kind::Certificate, at.certificates)?,
-            requests: listed(alloc, writes, Kind::CertificateRequest, at.requests)?,
-            secrets: listed(alloc, writes, Kind::Secret, at.secrets)?,
+            certificates: listed(alloc, seed, writes, Kind::Certificate, at.certificates)?,
+            requests: listed(alloc, seed, writes, Kind::CertificateRequest, at.requests)?,
+            secrets: listed(alloc, seed, writes, Kind::Secret, at.secrets)?,
         })
     }
 

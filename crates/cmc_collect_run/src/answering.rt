@@ -9,6 +9,7 @@ use crate::text::collect_text;
 use cmc_collect_form::{BadCollection, read};
 use cmc_meta::Text;
 use cmc_report::Lines;
+use cmc_seed::HashSeed;
 use serde_json::Value;
 use std::alloc::{AllocError, Global};
 
@@ -40,7 +41,7 @@ impl From<AllocError> for NotCollected {
 ///
 /// `Path` exactly where the value is no such script, with the first failing path; `Spent` where a step comes to an entry for
 /// which there is no room.
-pub fn collect(alloc: Global, value: &Value) -> Result<Lines, NotCollected>
+pub fn collect(alloc: Global, seed: HashSeed, value: &Value) -> Result<Lines, NotCollected>
     ensures ok { IfOk result (λ lines. Answers (view value.now) (joined lines)) }
     ensures err { IfErr result (λ why. Refuses (view value.now) why) }
 {
@@ -49,7 +50,7 @@ pub fn collect(alloc: Global, value: &Value) -> Result<Lines, NotCollected>
         Err(BadCollection::Path(path)) => return Err(NotCollected::Path(path)),
         Err(BadCollection::NoMemory) => return Err(NotCollected::NoMemory),
     };
-    match run_script(alloc, script)? {
+    match run_script(alloc, seed, script)? {
         Ran::Finished(collection) => {
             collection.collects_well();
             let lines = collect_text(alloc, value, &collection)?;

@@ -11,6 +11,7 @@ ghost use Rattle.cmc_collect_form.specs.declared.script.CollectStep.TheVariants.
 use cmc_collect_form::{CollectScript, CollectStep};
 use cmc_collector::{CollectMove, Collected, Collection};
 use cmc_objects::{Call, Object};
+use cmc_seed::HashSeed;
 use cmc_store::Store;
 use std::alloc::{AllocError, Global};
 
@@ -116,7 +117,7 @@ fn make_step(
 
 /// Makes the steps of the script in order, on an empty store. A step that is not possible when its turn comes makes no
 /// entry. It ends at the first entry for which there is no room.
-pub fn run_script(alloc: Global, script: CollectScript) -> Result<Ran, AllocError>
+pub fn run_script(alloc: Global, seed: HashSeed, script: CollectScript) -> Result<Ran, AllocError>
     requires { IsInTime script }
     ensures { IfOk result (IsRunOf script) }
 {
@@ -127,7 +128,7 @@ pub fn run_script(alloc: Global, script: CollectScript) -> Result<Ran, AllocErro
         steps,
         window,
     } = script;
-    let mut collection = Collection::new(alloc, window, faults, events);
+    let mut collection = Collection::seeded(alloc, seed, window, faults, events);
     let mut moment = now;
     for step in steps.as_slice() {
         if !make_step(&mut collection, alloc, moment, step)? {

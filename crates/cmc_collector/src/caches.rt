@@ -9,6 +9,7 @@ ghost use Rattle.cmc_collector.specs.Caches.{AreTold, IsToldOf, Moves, held, inf
 use cmc_informer::{Informer, Watch};
 use cmc_meta::{Key, Kind};
 use cmc_objects::Object;
+use cmc_seed::HashSeed;
 use std::alloc::{AllocError, Global};
 use std::marker::Model;
 
@@ -44,15 +45,15 @@ impl Model for Caches {
 impl Caches {
     ghost use Rattle.std.specs.Prelude.{[]};
 
-    /// Caches that were told nothing yet. It takes no memory.
-    pub(crate) fn new(alloc: Global) -> Caches
+    /// Caches that were told nothing yet, where all is hashed by the seed. It takes no memory.
+    pub(crate) fn new(alloc: Global, seed: HashSeed) -> Caches
         ensures told { AreTold result [] }
         ensures position { (k : KindValue) → position_in k result ≡ 0 }
     {
         Caches {
-            certificates: Informer::new(alloc, Kind::Certificate),
-            requests: Informer::new(alloc, Kind::CertificateRequest),
-            secrets: Informer::new(alloc, Kind::Secret),
+            certificates: Informer::seeded(alloc, seed, Kind::Certificate),
+            requests: Informer::seeded(alloc, seed, Kind::CertificateRequest),
+            secrets: Informer::seeded(alloc, seed, Kind::Secret),
         }
     }
 
@@ -120,7 +121,7 @@ fn tell_one(
 {
     if informer.position() < watch.start() {
         let newest = watch.accepted();
-        let objects = watch.list(alloc, kind, newest)?;
+        let objects = watch.list_seeded(alloc, informer.seed(), kind, newest)?;
         informer.relist(newest, objects);
         return Ok(());
     }

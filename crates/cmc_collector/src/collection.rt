@@ -21,6 +21,7 @@ use crate::rows::{Row, Rows, give_up_rows, make_rows};
 use crate::watched::WatchedStore;
 use cmc_meta::{Key, Kind, Numbers, OwnerRef};
 use cmc_objects::Call;
+use cmc_seed::HashSeed;
 use cmc_store::Store;
 use std::alloc::{AllocError, Global};
 use std::marker::Model;
@@ -63,9 +64,22 @@ impl Collection {
     pub fn new(alloc: Global, window: u64, faults: Numbers, events: u64) -> Collection
         ensures { result ≡ record { window = window; faults = faults; events = events; moments = [] } }
     {
+        Collection::seeded(alloc, HashSeed::fixed(), window, faults, events)
+    }
+
+    /// The same, where all that is hashed is hashed by the seed.
+    pub fn seeded(
+        alloc: Global,
+        seed: HashSeed,
+        window: u64,
+        faults: Numbers,
+        events: u64,
+    ) -> Collection
+        ensures { result ≡ record { window = window; faults = faults; events = events; moments = [] } }
+    {
         Collection {
-            server: WatchedStore::new(alloc, window, faults),
-            caches: Caches::new(alloc),
+            server: WatchedStore::new(alloc, seed, window, faults),
+            caches: Caches::new(alloc, seed),
             rows: Rows::new(alloc),
             entries: CollectEntries::new(alloc),
             events,

@@ -12,6 +12,7 @@ use cmc_informer::Watch;
 use cmc_meta::{Key, Kind, Numbers};
 use cmc_model::Write;
 use cmc_objects::{Call, Object, Positions, Reply};
+use cmc_seed::HashSeed;
 use cmc_store::{Replied, Store};
 use std::alloc::{AllocError, Global};
 use std::marker::Model;
@@ -53,11 +54,11 @@ impl Model for WatchedStore {
 
 impl WatchedStore {
     /// An empty store and a watch with this window. It takes no memory.
-    pub(crate) fn new(alloc: Global, window: u64, faults: Numbers) -> WatchedStore
+    pub(crate) fn new(alloc: Global, seed: HashSeed, window: u64, faults: Numbers) -> WatchedStore
         ensures { result ≡ record { faults = faults; window = window; state = empty_store; writes = [] } }
     {
         WatchedStore {
-            store: Store::new(alloc, faults),
+            store: Store::seeded(alloc, seed, faults),
             watch: Watch::new(alloc, window),
             newest: Positions {
                 certificates: 0,

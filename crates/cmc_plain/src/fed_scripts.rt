@@ -70,7 +70,7 @@ fn ahead_of(alloc: Global, world: &World, step: &Step) -> Result<Ahead, AllocErr
         Step::Stop { role } => Ok(Ahead::Stop(*role)),
         Step::Start { role, .. } => {
             let keys = known_keys(alloc, world, *role)?;
-            Ok(Ahead::Start(*role, starting_queue(alloc, &keys)?))
+            Ok(Ahead::Start(*role, starting_queue(alloc, world.seed(), &keys)?))
         }
         Step::Apply { .. }
         | Step::Delete { .. }

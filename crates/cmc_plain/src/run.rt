@@ -18,6 +18,7 @@ use crate::waking::Waking;
 use cmc_answers::Signer;
 use cmc_keys::KeyMaker;
 use cmc_pass::Given;
+use cmc_seed::HashSeed;
 use cmc_setup::Scenario;
 use cmc_world::{Move, Stepped, World};
 use std::alloc::{AllocError, Global};
@@ -162,6 +163,7 @@ pub fn drain<M: KeyMaker, N: Signer, G: Gate>(
 /// Want of memory alone.
 pub fn drive_plain<M: KeyMaker, N: Signer, G: Gate>(
     alloc: Global,
+    seed: HashSeed,
     scenario: Scenario,
     keys: &M,
     signer: &N,
@@ -169,6 +171,6 @@ pub fn drive_plain<M: KeyMaker, N: Signer, G: Gate>(
 ) -> Result<Driven, AllocError>
     ensures { IfOk result (λ d. IsDriven scenario d) }
 {
-    let waking = Waking::new(alloc, scenario)?;
+    let waking = Waking::seeded(alloc, seed, scenario)?;
     drain(alloc, waking, keys, signer, gate)
 }

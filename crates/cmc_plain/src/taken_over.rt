@@ -36,7 +36,7 @@ fn put_key(world: &World, role: Role, queue: &mut Queue, key: &Key) -> Result<()
 fn queue_anew(alloc: Global, world: &World, role: Role, keys: &[Key]) -> Result<Queue, AllocError>
     ensures { IfOk result (λ queue. on AreRowsAnew world.now role keys.now queue) }
 {
-    let mut queue = Queue::new(alloc);
+    let mut queue = Queue::seeded(alloc, world.seed());
     for key in keys {
         put_key(world, role, &mut queue, key)?;
     }
@@ -63,7 +63,7 @@ pub(crate) fn queues_of(alloc: Global, world: &World) -> Result<Queues, AllocErr
     ensures { IfOk result (λ queues. on IsFed world.now queues) }
 {
     world.is_run();
-    let mut queues = Queues::new(alloc)?;
+    let mut queues = Queues::new(alloc, world.seed())?;
     for place in 0..8 {
         put_role(alloc, world, &mut queues, role_in(place))?;
     }

@@ -193,7 +193,7 @@ pub(crate) fn all_that_stands(alloc: Global, world: &World) -> Result<RoleCaches
         requests: newest,
         secrets: newest,
     };
-    RoleCaches::list(alloc, log.as_slice(), at)
+    RoleCaches::list(alloc, world.seed(), log.as_slice(), at)
 }
 
 /// What there is to see of the key, where `all` is all that stands.

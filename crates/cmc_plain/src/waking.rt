@@ -40,6 +40,7 @@ use cmc_moves::let_go;
 use cmc_objects::Role;
 use cmc_pass::Act;
 use cmc_queue::Queue;
+use cmc_seed::HashSeed;
 use cmc_setup::Scenario;
 use cmc_waking::Queues;
 use cmc_world::{Move, Stepped, World};
@@ -86,8 +87,19 @@ impl Waking {
     pub fn new(alloc: Global, scenario: Scenario) -> Result<Waking, AllocError>
         ensures { IfOk result (λ w. w ≡ record { scenario = scenario; history = [] }) }
     {
-        let world = World::new(alloc, scenario)?;
-        let queues = Queues::new(alloc)?;
+        Waking::seeded(alloc, HashSeed::fixed(), scenario)
+    }
+
+    /// The same, where all that is hashed is hashed by the seed.
+    ///
+    /// # Errors
+    ///
+    /// Want of memory alone.
+    pub fn seeded(alloc: Global, seed: HashSeed, scenario: Scenario) -> Result<Waking, AllocError>
+        ensures { IfOk result (λ w. w ≡ record { scenario = scenario; history = [] }) }
+    {
+        let world = World::seeded(alloc, seed, scenario)?;
+        let queues = Queues::new(alloc, seed)?;
         Ok(Waking {
             world,
             queues,

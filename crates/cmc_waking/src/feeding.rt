@@ -13,6 +13,7 @@ use cmc_meta::{Key, Kind};
 use cmc_objects::Positions;
 use cmc_queue::{Parked, Queue};
 use cmc_rules::Ending;
+use cmc_seed::HashSeed;
 use std::alloc::{AllocError, Global};
 
 /// Makes each of the keys ready.
@@ -159,11 +160,11 @@ pub(crate) fn room_each(queue: &mut Queue, keys: &[Key]) -> Result<(), AllocErro
     Ok(())
 }
 
-/// The queue of a role that starts: each of the keys is ready.
-pub fn starting_queue(alloc: Global, keys: &[Key]) -> Result<Queue, AllocError>
+/// The queue of a role that starts: each of the keys is ready, and keys are hashed by the seed.
+pub fn starting_queue(alloc: Global, seed: HashSeed, keys: &[Key]) -> Result<Queue, AllocError>
     ensures { IfOk result (λ queue. (k : KeyValue) → row_of queue k ≡ words.started (is_among keys.now k)) }
 {
-    let mut queue = Queue::new(alloc);
+    let mut queue = Queue::seeded(alloc, seed);
     room_each(&mut queue, keys)?;
     add_each(&mut queue, keys);
     Ok(queue)

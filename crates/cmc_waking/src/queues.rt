@@ -14,6 +14,7 @@ use cmc_meta::{Key, Kind};
 use cmc_objects::{Positions, Role};
 use cmc_queue::{Parked, Queue};
 use cmc_rules::Ending;
+use cmc_seed::HashSeed;
 use std::alloc::{AllocError, Global};
 use std::marker::Model;
 
@@ -42,20 +43,20 @@ impl Model for Queues {
 }
 
 impl Queues {
-    /// Nothing is to be done by any role. An error is one of memory.
+    /// Nothing is to be done by any role, and keys are hashed by the seed. An error is one of memory.
     #[tactic(auto, unfolding(crate::specs::Queues::queue_in))]
-    pub fn new(alloc: Global) -> Result<Queues, AllocError>
+    pub fn new(alloc: Global, seed: HashSeed) -> Result<Queues, AllocError>
         ensures { IfOk result (λ queues. (r : RoleValue) → (k : KeyValue) → row_at queues r k ≡ no_row) }
     {
         let rows = vec![in alloc;
-            Queue::new(alloc),
-            Queue::new(alloc),
-            Queue::new(alloc),
-            Queue::new(alloc),
-            Queue::new(alloc),
-            Queue::new(alloc),
-            Queue::new(alloc),
-            Queue::new(alloc),
+            Queue::seeded(alloc, seed),
+            Queue::seeded(alloc, seed),
+            Queue::seeded(alloc, seed),
+            Queue::seeded(alloc, seed),
+            Queue::seeded(alloc, seed),
+            Queue::seeded(alloc, seed),
+            Queue::seeded(alloc, seed),
+            Queue::seeded(alloc, seed),
         ]?;
         Ok(Queues { rows })
     }
@@ -189,7 +190,8 @@ impl Queues {
         ensures rows { (k : KeyValue) → row_at self.new role k ≡ no_row }
         ensures others { KeepsOthers role self.old self.new }
     {
-        self.rows[role.rank() as usize] = Queue::new(alloc);
+        let seed = self.queue(role).seed();
+        self.rows[role.rank() as usize] = Queue::seeded(alloc, seed);
     }
 
     /// The role starts with this queue.

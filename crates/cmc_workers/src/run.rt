@@ -7,6 +7,7 @@ use crate::threads::in_threads;
 use cmc_answers::Signer;
 use cmc_keys::KeyMaker;
 use cmc_plain::{Driven, Gate, Waking, drain, drive_plain};
+use cmc_seed::HashSeed;
 use cmc_setup::Scenario;
 use cmc_world::World;
 use std::alloc::{AllocError, Global};
@@ -36,6 +37,7 @@ fn is_roomy(world: &World) -> bool
 pub fn drive<R: Threads + Wait + Sync, M: KeyMaker, N: Signer, G: Gate>(
     rt: &R,
     alloc: Global,
+    seed: HashSeed,
     scenario: Scenario,
     keys: &M,
     signer: &N,
@@ -46,18 +48,18 @@ pub fn drive<R: Threads + Wait + Sync, M: KeyMaker, N: Signer, G: Gate>(
     ensures alone { workers ≡ 0 → IfOk result (λ d. IsDriven scenario d) }
 {
     if workers == 0 {
-        return drive_plain(alloc, scenario, keys, signer, gate);
+        return drive_plain(alloc, seed, scenario, keys, signer, gate);
     }
-    let begun = Waking::new(alloc, scenario.copy()?)?;
+    let begun = Waking::seeded(alloc, seed, scenario.copy()?)?;
     let left = in_threads(rt, alloc, begun, keys, signer, gate, workers);
     if let Driven::Finished(world) = drain(alloc, left, keys, signer, gate)? {
         if !is_roomy(&world) {
-            return drive_plain(alloc, scenario, keys, signer, gate);
+            return drive_plain(alloc, seed, scenario, keys, signer, gate);
         }
         let same = world.scenario().same(&scenario);
         if same {
             return Ok(Driven::Finished(world));
         }
     }
-    drive_plain(alloc, scenario, keys, signer, gate)
+    drive_plain(alloc, seed, scenario, keys, signer, gate)
 }

@@ -33,6 +33,7 @@ use cmc_meta::Kind;
 use cmc_moves::{Stepped, answer, approve, deny, renew, request_for};
 use cmc_objects::{Call, Entry, Object, Positions, Role, Step, Who};
 use cmc_rules::Effect;
+use cmc_seed::HashSeed;
 use cmc_setup::Scenario;
 use cmc_store::{Replied, Store};
 use std::alloc::{AllocError, Global};
@@ -236,12 +237,18 @@ fn all_at(at: u64) -> Positions
 
 /// What a role that starts is told of: what stood after the first `at` writes, of each kind that it looks at.
 /// An `Err` is want of memory.
-fn list_at(alloc: Global, log: &Log, role: Role, at: u64) -> Result<RoleCaches, AllocError>
+fn list_at(
+    alloc: Global,
+    seed: HashSeed,
+    log: &Log,
+    role: Role,
+    at: u64,
+) -> Result<RoleCaches, AllocError>
     requires { at ≤ length log.now.writes }
     ensures { IfOk result (λ caches. caches ≡ caches_at log.now.writes (shown_positions role (each_at at))) }
 {
     let told = shown_positions(role, all_at(at));
-    RoleCaches::list(alloc, log.as_slice(), told)
+    RoleCaches::list(alloc, seed, log.as_slice(), told)
 }
 
 fn started(standing: RoleState, at: u64) -> RoleState
@@ -364,7 +371,7 @@ impl World {
         ensures err { OnErr result (self.new ≡ self.old) }
     {
         self.history.reserve(2)?;
-        let caches = list_at(alloc, &self.log, role, at)?;
+        let caches = list_at(alloc, self.caches.seed(), &self.log, role, at)?;
         self.caches.set(role, caches);
         self.memories.start(role);
         note_start(&mut self.role_states, role, at);

@@ -138,10 +138,21 @@ impl World {
     pub fn new(alloc: Global, scenario: Scenario) -> Result<World, AllocError>
         ensures { IfOk result (λ w. w ≡ record { scenario = scenario; history = [] }) }
     {
+        World::seeded(alloc, HashSeed::fixed(), scenario)
+    }
+
+    /// The same, where all that is hashed is hashed by the seed.
+    ///
+    /// # Errors
+    ///
+    /// Want of memory alone.
+    pub fn seeded(alloc: Global, seed: HashSeed, scenario: Scenario) -> Result<World, AllocError>
+        ensures { IfOk result (λ w. w ≡ record { scenario = scenario; history = [] }) }
+    {
         let faults = numbers_of(alloc, scenario.faults())?;
         let role_states = RoleStates::new(alloc, scenario.roles())?;
-        let memories = RoleMemories::new(alloc, HashSeed::fixed())?;
-        let caches = Caches::new(alloc)?;
+        let memories = RoleMemories::new(alloc, seed)?;
+        let caches = Caches::seeded(alloc, seed)?;
         let moment = scenario.now();
         let material = scenario.material().copy()?;
         let rules = scenario.approver().copy()?;
@@ -153,7 +164,7 @@ impl World {
         let _events = scenario.events();
         Ok(World {
             scenario,
-            store: Store::new(alloc, faults),
+            store: Store::seeded(alloc, seed, faults),
             log: Log::new(alloc),
             history: History::new(alloc),
             moment,
@@ -163,9 +174,14 @@ impl World {
             origins: Origins::new(alloc),
             passes: Passes::new(alloc),
             memories,
-            questions: Questions::new(alloc, HashSeed::fixed()),
+            questions: Questions::new(alloc, seed),
             desk,
         })
+    }
+
+    /// What all is hashed by.
+    pub fn seed(&self) -> HashSeed {
+        self.caches.seed()
     }
 
     /// A law: the history has at most 250,000 entries.

@@ -13,6 +13,7 @@ use cmc_objects::{
     Algorithm, CertSpec, CsrOrder, Entry, KeyOrder, KeyRow, KeyRows, Material, Order, Role, Rows,
     Shared, SignOrder, SignRow, SignRows, Signing, Step,
 };
+use cmc_seed::HashSeed;
 use cmc_setup::{Scenario, Steps};
 use cmc_tests::values::key;
 use cmc_workers::{Driven, Gate, Point, Work, drive, drive_plain};
@@ -415,7 +416,8 @@ fn hands_work_out_by_one_hand(rt: HostRuntime) -> Result<(), Fail> {
     let alloc = rt.alloc();
     let ledger = new_ledger(alloc)?;
     let (keys, signer) = (OwnKeys { ledger: &ledger }, OwnSigner { ledger: &ledger });
-    let world = finished(drive_plain(alloc, scenario(alloc)?, &keys, &signer, &ledger)?)?;
+    let seed = HashSeed::fixed();
+    let world = finished(drive_plain(alloc, seed, scenario(alloc)?, &keys, &signer, &ledger)?)?;
     let decided = is_handed_in(&rt, alloc, &world, &ledger)?;
     passes(&rt, "no decision is handed out", decided == 0);
     Ok(())
@@ -430,8 +432,10 @@ fn hands_work_out_by_threads(rt: HostRuntime) -> Result<(), Fail> {
     for workers in &WORKERS {
         let ledger = new_ledger(alloc)?;
         let (keys, signer) = (OwnKeys { ledger: &ledger }, OwnSigner { ledger: &ledger });
-        let scenario = scenario(alloc)?;
-        let driven = drive(&rt, alloc, scenario, &keys, &signer, &ledger, *workers)?;
+        let (seed, scenario) = (HashSeed::fixed(), scenario(alloc)?);
+        let driven = drive(
+            &rt, alloc, seed, scenario, &keys, &signer, &ledger, *workers,
+        )?;
         let world = finished(driven)?;
         let decided = is_handed_in(&rt, alloc, &world, &ledger)?;
         passes(&rt, "decisions are handed out", decided > 0);

@@ -9,14 +9,15 @@ use crate::source::{HISTORY_LIMIT, ReadError, Source, read_all};
 use crate::status::Status;
 use cmc_audit::{NotAudited, audit_bytes};
 use cmc_report::Lines;
+use cmc_seed::HashSeed;
 use std::alloc::Global;
 
 /// The line that answers the bytes, the text of a history.
-fn verdict_on(alloc: Global, bytes: &[u8]) -> Result<Lines, Status>
+fn verdict_on(alloc: Global, seed: HashSeed, bytes: &[u8]) -> Result<Lines, Status>
     ensures ok { IfOk result (λ lines. Answers bytes.now (joined lines)) }
     ensures err { IfErr result (λ status. RefusesHistory bytes.now status) }
 {
-    match audit_bytes(alloc, bytes) {
+    match audit_bytes(alloc, seed, bytes) {
         Ok(lines) => Ok(lines),
         Err(NotAudited::Line(line)) => Err(Status::BadHistory(line)),
         Err(NotAudited::NoMemory) => Err(Status::NoMemory),
@@ -24,7 +25,12 @@ fn verdict_on(alloc: Global, bytes: &[u8]) -> Result<Lines, Status>
 }
 
 /// Audits the printed history that the source gives.
-pub fn run_audit<S: Source, K: Sink>(alloc: Global, source: &mut S, sink: &mut K) -> Status
+pub fn run_audit<S: Source, K: Sink>(
+    alloc: Global,
+    seed: HashSeed,
+    source: &mut S,
+    sink: &mut K,
+) -> Status
     ensures told { IfSome (S.left source.old) (λ bytes. ExplainsAudit result bytes (K.holds sink.old) (K.holds sink.new)) }
     ensures left { LeavesRead history_limit result (S.left source.old) (S.left source.new) }
     ensures unwritten { writes_nothing result ≡ true → sink.new ≡ sink.old }
@@ -38,7 +44,7 @@ pub fn run_audit<S: Source, K: Sink>(alloc: Global, source: &mut S, sink: &mut K
         Err(ReadError::Fault) => return Status::ReadFault,
         Err(ReadError::TooLong) => return Status::TooLong,
     };
-    let lines = match verdict_on(alloc, bytes.as_slice()) {
+    let lines = match verdict_on(alloc, seed, bytes.as_slice()) {
         Ok(lines) => lines,
         Err(status) => return status,
     };

@@ -13,16 +13,17 @@ use crate::source::{ReadError, SCENARIO_LIMIT, Source, read_all};
 use crate::status::Status;
 use cmc_collect_run::{NotCollected, collect};
 use cmc_report::Lines;
+use cmc_seed::HashSeed;
 use serde_json::{Category, Value};
 use std::alloc::Global;
 use std::str;
 
 /// The lines that the value is answered with as a script of owner collection.
-fn collect_value(alloc: Global, value: &Value) -> Result<Lines, Status>
+fn collect_value(alloc: Global, seed: HashSeed, value: &Value) -> Result<Lines, Status>
     ensures ok { IfOk result (λ lines. collection.Answers (view value.now) (joined lines)) }
     ensures err { IfErr result (λ status. RefusesScript (view value.now) status) }
 {
-    match collect(alloc, value) {
+    match collect(alloc, seed, value) {
         Ok(lines) => Ok(lines),
         Err(NotCollected::Path(path)) => Err(Status::BadScenario(path)),
         Err(NotCollected::Spent) => Err(Status::Spent),
@@ -31,14 +32,14 @@ fn collect_value(alloc: Global, value: &Value) -> Result<Lines, Status>
 }
 
 /// The same of a text.
-fn collect_text(alloc: Global, text: &str) -> Result<Lines, Status>
+fn collect_text(alloc: Global, seed: HashSeed, text: &str) -> Result<Lines, Status>
     requires { IsUtf8 text.now }
     ensures ok { IfOk result (λ lines. IsCollectOf text.now (joined lines)) }
     ensures err { IfErr result (λ status. RefusesScriptIn text.now status) }
 {
     match Value::from_str(alloc, text) {
         Ok(value) => {
-            let lines = collect_value(alloc, &value);
+            let lines = collect_value(alloc, seed, &value);
             leave(value);
             lines
         }
@@ -50,18 +51,23 @@ fn collect_text(alloc: Global, text: &str) -> Result<Lines, Status>
 }
 
 /// The same of some bytes.
-fn collect_bytes(alloc: Global, bytes: &[u8]) -> Result<Lines, Status>
+fn collect_bytes(alloc: Global, seed: HashSeed, bytes: &[u8]) -> Result<Lines, Status>
     ensures ok { IfOk result (λ lines. IsCollectOf bytes.now (joined lines)) }
     ensures err { IfErr result (λ status. RefusesScriptIn bytes.now status) }
 {
     match str::from_utf8(bytes) {
-        Ok(text) => collect_text(alloc, text),
+        Ok(text) => collect_text(alloc, seed, text),
         Err(_) => Err(Status::NotJson),
     }
 }
 
 /// Runs the script of owner collection that the source gives.
-pub fn run_collect<S: Source, K: Sink>(alloc: Global, source: &mut S, sink: &mut K) -> Status
+pub fn run_collect<S: Source, K: Sink>(
+    alloc: Global,
+    seed: HashSeed,
+    source: &mut S,
+    sink: &mut K,
+) -> Status
     ensures told { IfSome (S.left source.old) (λ bytes. ExplainsCollect result bytes (K.holds sink.old) (K.holds sink.new)) }
     ensures left { LeavesRead scenario_limit result (S.left source.old) (S.left source.new) }
     ensures unwritten { writes_nothing result ≡ true → sink.new ≡ sink.old }
@@ -75,7 +81,7 @@ pub fn run_collect<S: Source, K: Sink>(alloc: Global, source: &mut S, sink: &mut
         Err(ReadError::Fault) => return Status::ReadFault,
         Err(ReadError::TooLong) => return Status::TooLong,
     };
-    let lines = match collect_bytes(alloc, bytes.as_slice()) {
+    let lines = match collect_bytes(alloc, seed, bytes.as_slice()) {
         Ok(lines) => lines,
         Err(status) => return status,
     };

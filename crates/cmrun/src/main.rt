@@ -22,6 +22,7 @@ mod words;
 
 use cmc_answers::ScriptedSigner;
 use cmc_keys::ScriptedKeys;
+use cmc_seed::HashSeed;
 use cmc_workers::NoGate;
 use sink::StdSink;
 use source::StdSource;
@@ -47,6 +48,14 @@ fn command_line(rt: &HostRuntime) -> Result<Vec<String>, AllocError> {
     Ok(words)
 }
 
+/// Draws the seed that the run's maps hash by. No run fails for want of random bytes: it has the fixed seed then.
+fn drawn_seed(rt: &HostRuntime) -> HashSeed {
+    match HashSeed::new(rt) {
+        Ok(seed) => seed,
+        Err(_) => HashSeed::fixed(),
+    }
+}
+
 fn main(rt: HostRuntime) -> ExitCode {
     let status = match command_line(&rt) {
         Ok(words) => {
@@ -55,6 +64,7 @@ fn main(rt: HostRuntime) -> ExitCode {
             run(
                 &rt,
                 rt.alloc(),
+                drawn_seed(&rt),
                 words.as_slice(),
                 &mut source,
                 &mut sink,

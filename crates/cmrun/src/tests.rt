@@ -9,6 +9,7 @@ use crate::top::run;
 use cmc_answers::ScriptedSigner;
 use cmc_keys::ScriptedKeys;
 use cmc_meta::{Bytes, Numbers, Text};
+use cmc_seed::HashSeed;
 use cmc_workers::NoGate;
 use std::alloc::{AllocError, Global};
 use std::process::Abort;
@@ -67,6 +68,7 @@ fn run_over<R: Threads + Wait + Sync, S: Source, K: Sink>(
     Ok(run(
         rt,
         alloc,
+        HashSeed::fixed(),
         words.as_slice(),
         source,
         sink,

@@ -6,6 +6,7 @@ use cmc_answers::ScriptedSigner;
 use cmc_keys::ScriptedKeys;
 use cmc_objects::{Entry, Order, Shared, SignOrder, Who};
 use cmc_scenario::generate;
+use cmc_seed::HashSeed;
 use cmc_workers::{Driven, Gate, Point, Work, drive};
 use cmc_world::World;
 use std::alloc::{AllocError, Global};
@@ -174,7 +175,16 @@ fn world_of_two<R: Threads + Wait + Sync>(
     gate: &Holding,
 ) -> Result<World, Fail> {
     let scenario = generate(alloc, 2)?;
-    let driven = drive(rt, alloc, scenario, &ScriptedKeys, &ScriptedSigner, gate, 2)?;
+    let driven = drive(
+        rt,
+        alloc,
+        HashSeed::fixed(),
+        scenario,
+        &ScriptedKeys,
+        &ScriptedSigner,
+        gate,
+        2,
+    )?;
     match driven {
         Driven::Finished(world) => Ok(world),
         Driven::Spent(_) => Err("spent".into()),

@@ -28,6 +28,7 @@ use cmc_keys::KeyMaker;
 use cmc_plain::{each_wait_is_named, summary};
 use cmc_report::{Lines, history_text, summary_text};
 use cmc_scenario::{BadScenario, Scenario, generate, read, value_of_scenario};
+use cmc_seed::HashSeed;
 use cmc_workers::{Driven, Gate, drive};
 use cmc_world::World;
 use serde_json::{Category, Value};
@@ -73,6 +74,7 @@ fn lines_of(
 fn run_of<R: Threads + Wait + Sync, M: KeyMaker, N: Signer, G: Gate>(
     rt: &R,
     alloc: Global,
+    seed: HashSeed,
     workers: u32,
     alone: bool,
     value: &Value,
@@ -85,7 +87,7 @@ fn run_of<R: Threads + Wait + Sync, M: KeyMaker, N: Signer, G: Gate>(
     ensures ok { IfOk result (λ lines. RunsOn workers alone (view value.now) scenario (joined lines)) }
     ensures err { IfErr result (λ status. SpendsOn scenario status) }
 {
-    match drive(rt, alloc, scenario, keys, signer, gate, workers)? {
+    match drive(rt, alloc, seed, scenario, keys, signer, gate, workers)? {
         Driven::Finished(world) => {
             let lines = lines_of(alloc, workers, alone, value, &world)?;
             leave(world);
@@ -99,6 +101,7 @@ fn run_of<R: Threads + Wait + Sync, M: KeyMaker, N: Signer, G: Gate>(
 fn answer<R: Threads + Wait + Sync, M: KeyMaker, N: Signer, G: Gate>(
     rt: &R,
     alloc: Global,
+    seed: HashSeed,
     workers: u32,
     alone: bool,
     value: &Value,
@@ -111,7 +114,7 @@ fn answer<R: Threads + Wait + Sync, M: KeyMaker, N: Signer, G: Gate>(
 {
     match read(alloc, value) {
         Ok(scenario) => run_of(
-            rt, alloc, workers, alone, value, scenario, keys, signer, gate,
+            rt, alloc, seed, workers, alone, value, scenario, keys, signer, gate,
         ),
         Err(BadScenario::Path(path)) => Err(Status::BadScenario(path)),
         Err(BadScenario::NoMemory) => Err(Status::NoMemory),
@@ -122,6 +125,7 @@ fn answer<R: Threads + Wait + Sync, M: KeyMaker, N: Signer, G: Gate>(
 fn answer_text<R: Threads + Wait + Sync, M: KeyMaker, N: Signer, G: Gate>(
     rt: &R,
     alloc: Global,
+    seed: HashSeed,
     workers: u32,
     alone: bool,
     text: &str,
@@ -135,7 +139,7 @@ fn answer_text<R: Threads + Wait + Sync, M: KeyMaker, N: Signer, G: Gate>(
 {
     match Value::from_str(alloc, text) {
         Ok(value) => {
-            let lines = answer(rt, alloc, workers, alone, &value, keys, signer, gate);
+            let lines = answer(rt, alloc, seed, workers, alone, &value, keys, signer, gate);
             leave(value);
             lines
         }
@@ -150,6 +154,7 @@ fn answer_text<R: Threads + Wait + Sync, M: KeyMaker, N: Signer, G: Gate>(
 fn answer_bytes<R: Threads + Wait + Sync, M: KeyMaker, N: Signer, G: Gate>(
     rt: &R,
     alloc: Global,
+    seed: HashSeed,
     workers: u32,
     alone: bool,
     bytes: &[u8],
@@ -161,7 +166,7 @@ fn answer_bytes<R: Threads + Wait + Sync, M: KeyMaker, N: Signer, G: Gate>(
     ensures err { IfErr result (λ status. Refuses bytes.now status) }
 {
     match str::from_utf8(bytes) {
-        Ok(text) => answer_text(rt, alloc, workers, alone, text, keys, signer, gate),
+        Ok(text) => answer_text(rt, alloc, seed, workers, alone, text, keys, signer, gate),
         Err(_) => Err(Status::NotJson),
     }
 }
@@ -181,6 +186,7 @@ fn printed_value(alloc: Global, alone: bool, scenario: &Scenario) -> Result<Valu
 fn load_lines<R: Threads + Wait + Sync, M: KeyMaker, N: Signer, G: Gate>(
     rt: &R,
     alloc: Global,
+    seed: HashSeed,
     workers: u32,
     alone: bool,
     count: u32,
@@ -196,7 +202,7 @@ fn load_lines<R: Threads + Wait + Sync, M: KeyMaker, N: Signer, G: Gate>(
     let scenario = generate(alloc, count)?;
     let value = printed_value(alloc, alone, &scenario)?;
     let lines = run_of(
-        rt, alloc, workers, alone, &value, scenario, keys, signer, gate,
+        rt, alloc, seed, workers, alone, &value, scenario, keys, signer, gate,
     );
     leave(value);
     lines
@@ -206,6 +212,7 @@ fn load_lines<R: Threads + Wait + Sync, M: KeyMaker, N: Signer, G: Gate>(
 fn run_source<R: Threads + Wait + Sync, S: Source, K: Sink, M: KeyMaker, N: Signer, G: Gate>(
     rt: &R,
     alloc: Global,
+    seed: HashSeed,
     workers: u32,
     alone: bool,
     source: &mut S,
@@ -230,6 +237,7 @@ fn run_source<R: Threads + Wait + Sync, S: Source, K: Sink, M: KeyMaker, N: Sign
     let lines = match answer_bytes(
         rt,
         alloc,
+        seed,
         workers,
         alone,
         bytes.as_slice(),
@@ -250,6 +258,7 @@ fn run_source<R: Threads + Wait + Sync, S: Source, K: Sink, M: KeyMaker, N: Sign
 fn run_load<R: Threads + Wait + Sync, K: Sink, M: KeyMaker, N: Signer, G: Gate>(
     rt: &R,
     alloc: Global,
+    seed: HashSeed,
     workers: u32,
     alone: bool,
     count: u32,
@@ -264,7 +273,7 @@ fn run_load<R: Threads + Wait + Sync, K: Sink, M: KeyMaker, N: Signer, G: Gate>(
     ensures unwritten { writes_nothing result ≡ true → sink.new ≡ sink.old }
     ensures write { K.faults sink.new ≡ writes_failed result (K.faults sink.old) }
 {
-    let lines = match load_lines(rt, alloc, workers, alone, count, keys, signer, gate) {
+    let lines = match load_lines(rt, alloc, seed, workers, alone, count, keys, signer, gate) {
         Ok(lines) => lines,
         Err(status) => return status,
     };
@@ -291,6 +300,7 @@ fn run_load<R: Threads + Wait + Sync, K: Sink, M: KeyMaker, N: Signer, G: Gate>(
 pub fn run<R: Threads + Wait + Sync, S: Source, K: Sink, M: KeyMaker, N: Signer, G: Gate>(
     rt: &R,
     alloc: Global,
+    seed: HashSeed,
     words: &[String],
     source: &mut S,
     sink: &mut K,
@@ -310,7 +320,7 @@ pub fn run<R: Threads + Wait + Sync, S: Source, K: Sink, M: KeyMaker, N: Signer,
         None => Status::Usage,
         Some(Command::Run { workers, summary }) => {
             run_source(
-                rt, alloc, workers, summary, source, sink, keys, signer, gate,
+                rt, alloc, seed, workers, summary, source, sink, keys, signer, gate,
             )
         }
         Some(
@@ -319,8 +329,10 @@ pub fn run<R: Threads + Wait + Sync, S: Source, K: Sink, M: KeyMaker, N: Signer,
                 workers,
                 summary,
             },
-        ) => run_load(rt, alloc, workers, summary, count, sink, keys, signer, gate),
-        Some(Command::Audit) => run_audit(alloc, source, sink),
-        Some(Command::Collect) => run_collect(alloc, source, sink),
+        ) => run_load(
+            rt, alloc, seed, workers, summary, count, sink, keys, signer, gate,
+        ),
+        Some(Command::Audit) => run_audit(alloc, seed, source, sink),
+        Some(Command::Collect) => run_collect(alloc, seed, source, sink),
     }
 }

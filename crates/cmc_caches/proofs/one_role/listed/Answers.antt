@@ -6,4 +6,4 @@ use Rattle.cmc_caches.proofs.one_role.listed.Goals as goal
 
 pub apply-requires-clause-holds : goal.apply-requires-clause-holds
 unfolding contents
-apply-requires-clause-holds c = c.new-objects.ensures ∙ sym (ap (λ (ws : List Write). contents (of_kind c.args.kind ws)) (oldest-none _))
+apply-requires-clause-holds c = c.seeded-objects.ensures ∙ sym (ap (λ (ws : List Write). contents (of_kind c.args.kind ws)) (oldest-none _))

@@ -16,6 +16,6 @@ pub returns-clause-follows : goal.returns-clause-follows
 unfolding kept_with
 returns-clause-follows c =
     follows_none c.args.scenario.now _ c.events-events.ensures.setup
-    (c.new-2.ensures ∙ ap kept_with (c.in_ok-faults.ensures ∙ c.faults.ensures)) c.new-3.ensures (to_z-of_z w64 c.now.result (search rules) ∙ c.now.ensures) c.window.ensures
+    (c.seeded.ensures ∙ ap kept_with (c.in_ok-faults.ensures ∙ c.faults.ensures)) c.new-2.ensures (to_z-of_z w64 c.now.result (search rules) ∙ c.now.ensures) c.window.ensures
     (λ r. c.in_ok-standings.ensures r ∙ ap (λ (l : List Role). first_standing (list_any (λ role. role_eq role r) l)) c.roles.ensures)
-    c.new-4.ensures.begun c.new-4.ensures.none
+    c.new-3.ensures.begun c.new-3.ensures.none

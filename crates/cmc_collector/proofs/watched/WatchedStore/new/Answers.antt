@@ -7,6 +7,6 @@ use Rattle.cmc_collector.proofs.watched.WatchedStore.new.Goals as goal
 
 pub invariant_of-result : goal.invariant_of-result
 invariant_of-result c = record {
-  count = ap (λ (ws : List Write). length ws) c.new-2.ensures.writes ∙ sym (ap (λ (s : Kept). s.state.accepted) c.new.ensures);
-  last = λ kind. none_newest kind ∙ ap (last_of_kind kind) (sym c.new-2.ensures.writes);
+  count = ap (λ (ws : List Write). length ws) c.new.ensures.writes ∙ sym (ap (λ (s : Kept). s.state.accepted) c.seeded.ensures);
+  last = λ kind. none_newest kind ∙ ap (last_of_kind kind) (sym c.new.ensures.writes);
 }

@@ -1,5 +1,5 @@
 use Rattle.cmc_caches.proofs.EachRole.{told_nothing}
-use Rattle.cmc_caches.proofs.caches.Caches.new.Goals as goal
+use Rattle.cmc_caches.proofs.caches.Caches.seeded.Goals as goal
 
 pub returns : goal.returns
 returns c =
