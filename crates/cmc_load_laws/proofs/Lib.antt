@@ -1,0 +1,16 @@
+pub mod Keeping
+pub mod Parts
+pub mod Triggered
+pub mod Keyed
+pub mod Failed
+pub mod Restated
+pub mod Approved
+pub mod Issued
+pub mod Requested
+pub mod Answered
+pub mod Again
+pub mod Stored
+pub mod Readied
+pub mod Revised
+pub mod Marked
+pub mod Outdated
