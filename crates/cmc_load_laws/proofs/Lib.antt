@@ -14,3 +14,6 @@ pub mod Readied
 pub mod Revised
 pub mod Marked
 pub mod Outdated
+pub mod Splits
+pub mod Elsewhere
+pub mod OneWrite
