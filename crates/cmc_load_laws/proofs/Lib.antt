@@ -17,3 +17,4 @@ pub mod Outdated
 pub mod Splits
 pub mod Elsewhere
 pub mod OneWrite
+pub mod Totals
