@@ -1,10 +1,16 @@
 -- The measure of all Certificates of a load.
-use Rattle.std.specs.Prelude.{ℕ, ℤ, ◌+◌, List, [], ◌∷◌}
+use Rattle.std.specs.Prelude.{ℕ, ℤ, ◌+◌, List, [], ◌∷◌, ◌≡◌, Some}
 use Rattle.cmc_meta.specs.declared.key.Key.{Key}
 use Rattle.cmc_model.specs.Objects.{Objects}
+use Rattle.cmc_objects.specs.declared.certificate.Certificate.{Certificate}
 use Rattle.cmc_pass.specs.declared.pass.Desk.{Desk}
+use Rattle.cmc_rules.specs.Viewing.{certificate_at}
 use Rattle.cmc_load_laws.specs.Measure.{measure}
 use Rattle.cmc_load_laws.specs.Frame.{seen_of}
+
+-- there is a Certificate under the key
+abbrev pub HasCertificate : Objects → Key → Type 0
+HasCertificate m key = (c : Certificate) × (certificate_at m key ≡ Some c)
 
 abbrev pub total : (Key → ℕ) → List Key → ℕ
 total f [] = 0
