@@ -18,3 +18,5 @@ pub mod Splits
 pub mod Elsewhere
 pub mod OneWrite
 pub mod Totals
+pub mod Belonging
+pub mod LoadFalls
