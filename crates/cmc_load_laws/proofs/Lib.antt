@@ -20,3 +20,4 @@ pub mod OneWrite
 pub mod Totals
 pub mod Belonging
 pub mod LoadFalls
+pub mod RolesKeep
