@@ -21,3 +21,4 @@ pub mod Totals
 pub mod Belonging
 pub mod LoadFalls
 pub mod RolesKeep
+pub mod LegalStores
