@@ -42,13 +42,13 @@ pub fn changes_spec(old: Option<&Object>, new: &Object) -> bool
 }
 
 fn is_of(condition: &Condition, kind: ConditionKind) -> bool
-    ensures { result ≡ rules.is_of kind condition.now }
+    ensures { result ≡ rules.is_of_condition kind condition.now }
 {
     condition.kind.same(kind)
 }
 
 fn stands(conditions: &[Condition], kind: ConditionKind) -> bool
-    ensures { result ≡ rules.stands kind conditions.now }
+    ensures { result ≡ rules.has_condition kind conditions.now }
 {
     conditions.iter().any(|condition| is_of(condition, kind))
 }

@@ -6,12 +6,12 @@ use Rattle.std.proofs.lemmas.List.{length-replicate}
 use Rattle.std.specs.Int.{w64, to_be_bytes}
 use Rattle.std.proofs.lemmas.Bool.{and_parts}
 use Rattle.sha2.specs.Sha256.{sha256}
-use Rattle.cmc_der.specs.Keys.{PublicKey, RequestFields, kind_of}
+use Rattle.cmc_der.specs.Keys.{PublicKey, RequestFields, key_kind_of}
 use Rattle.cmc_der.specs.Building.{value}
 use Rattle.cmc_time.specs.Asn1.{IsCertificateTime}
 use Rattle.cmc_x509.specs.Certificates.{IsRequest, IsCertificate}
 use Rattle.cmc_x509.specs.KeyFiles.{IsKeyFile}
-use Rattle.cmc_x509_build.specs.Certificates.{fields_of, certificate_body}
+use Rattle.cmc_x509_build.specs.Certificates.{fields_of_plan, certificate_body}
 use Rattle.cmc_x509_build.specs.Keys.{IsWritable}
 use Rattle.cmc_x509_build.specs.Octets.{signed_octets, signature_algorithm}
 use Rattle.cmc_x509_build.specs.declared.certificates.CertPlan.{CertPlan}
@@ -19,8 +19,8 @@ use Rattle.cmc_x509_build.proofs.CertificateBuiltLaws.{planned_body_is, certific
 use Rattle.cmc_x509_build.proofs.ServeLaws.{request_serves, key_file_serves}
 use Rattle.cmc_der.proofs.SmallValues.{IsSmall, contents_small, front_small}
 use Rattle.cmc_answers.specs.StandIns.{coordinate, stand_in_point, stand_in_key}
-use Rattle.cmc_answers.specs.Signings.{certificate_of, certified_key}
-use Rattle.cmc_answers.specs.Temporary.{temporary_plan}
+use Rattle.cmc_answers.specs.Signings.{certificate_of_plan, certified_key}
+use Rattle.cmc_answers.specs.Temporary.{temporary_cert_plan}
 use Rattle.cmc_objects.specs.Requests.{is_run_time}
 use borrow.Author.Differences.{le-true}
 
@@ -49,16 +49,16 @@ body_small body signature small =
     (contents_small 48 (body ++ (signature_algorithm ++ value 3 (0 ∷ signature))) small)
 
 pub issued_read : (plan : CertPlan) (request : List ℕ) (csr : RequestFields) (row_key : Option ℕ)
-    → IsRequest request csr → IsSome (kind_of csr.key)
+    → IsRequest request csr → IsSome (key_kind_of csr.key)
     → IsCertificateTime plan.not_before → IsCertificateTime plan.not_after → plan.not_before ≤ℤ plan.not_after
-    → IsSmall (certificate_of plan csr.names (certified_key row_key csr.key))
-    → IsCertificate (certificate_of plan csr.names (certified_key row_key csr.key)) (fields_of plan csr.names (certified_key row_key csr.key))
-unfolding certificate_of
+    → IsSmall (certificate_of_plan plan csr.names (certified_key row_key csr.key))
+    → IsCertificate (certificate_of_plan plan csr.names (certified_key row_key csr.key)) (fields_of_plan plan csr.names (certified_key row_key csr.key))
+unfolding certificate_of_plan
 issued_read plan request csr row_key is known begins ends ordered small =
     let serves = request_serves request csr is in
     let key = certified_key row_key csr.key in
-    let body = certificate_body plan.issuer (fields_of plan csr.names key) in
-    certificate_is body (sha256 body) (fields_of plan csr.names key)
+    let body = certificate_body plan.issuer (fields_of_plan plan csr.names key) in
+    certificate_is body (sha256 body) (fields_of_plan plan csr.names key)
     (planned_body_is plan csr.names key begins ends ordered (certified_writable row_key csr.key (serves.1 known)) serves.0
     (body_small body (sha256 body) small))
     small
@@ -74,14 +74,14 @@ run_time now is =
 
 pub temporary_read : (request file : List ℕ) (csr : RequestFields) (key : PublicKey) (now : ℤ)
     → IsRequest request csr → IsKeyFile file key → is_run_time now ≡ true
-    → IsSmall (certificate_of (temporary_plan now) csr.names key)
-    → IsCertificate (certificate_of (temporary_plan now) csr.names key) (fields_of (temporary_plan now) csr.names key)
-unfolding certificate_of temporary_plan
+    → IsSmall (certificate_of_plan (temporary_cert_plan now) csr.names key)
+    → IsCertificate (certificate_of_plan (temporary_cert_plan now) csr.names key) (fields_of_plan (temporary_cert_plan now) csr.names key)
+unfolding certificate_of_plan temporary_cert_plan
 temporary_read request file csr key now is has time small =
     let serves = request_serves request csr is in
     let times = run_time now time in
-    let plan = temporary_plan now in
-    let body = certificate_body plan.issuer (fields_of plan csr.names key) in
-    certificate_is body (sha256 body) (fields_of plan csr.names key)
+    let plan = temporary_cert_plan now in
+    let body = certificate_body plan.issuer (fields_of_plan plan csr.names key) in
+    certificate_is body (sha256 body) (fields_of_plan plan csr.names key)
     (planned_body_is plan csr.names key times.0.0 times.0.1 times.1 (key_file_serves file key has) serves.0 (body_small body (sha256 body) small))
     small

@@ -7,12 +7,12 @@ use Rattle.cmc_objects.specs.declared.orders.Signing.{Signing}
 use Rattle.cmc_answers.specs.Signings.{signing_of}
 
 -- a row that leaves the answer open
-abbrev pub is_free : SignRow → Bool
-is_free (Issue seconds before serial key ca) = false
-is_free Pending = false
-is_free (Fail message) = false
-is_free (Raw der) = false
-is_free Free = true
+abbrev pub is_left_open : SignRow → Bool
+is_left_open (Issue seconds before serial key ca) = false
+is_left_open Pending = false
+is_left_open (Fail message) = false
+is_left_open (Raw der) = false
+is_left_open Free = true
 
 -- what the row of the question says
 abbrev pub scripted_answer : Signs → Signing
@@ -20,7 +20,7 @@ scripted_answer order = signing_of order.row order.number order.request order.mo
 
 -- the answer is what the row says, unless the row leaves it open
 abbrev pub IsAnswer : Signs → Signing → Type 0
-IsAnswer order answer = is_free order.row ≡ false → answer ≡ scripted_answer order
+IsAnswer order answer = is_left_open order.row ≡ false → answer ≡ scripted_answer order
 
 -- what contracts see of an answered question
 pub record AnsweredQuestion : Type 0 where

@@ -4,7 +4,7 @@ use Rattle.std.specs.List.{list_any}
 use Rattle.std.specs.Option.{option_to_list, option_map}
 use Rattle.std.specs.Str.Lossy.{utf8_lossy}
 use Rattle.cmc_der.specs.Keys.{RequestFields}
-use Rattle.cmc_x509.specs.ReadCertificates.{request_at}
+use Rattle.cmc_x509.specs.ReadCertificates.{request_fields_at}
 use Rattle.cmc_objects.specs.declared.orders.Rules.{Rules}
 use Rattle.cmc_objects.specs.declared.orders.JudgeOrder.{JudgeOrder}
 use Rattle.cmc_policy_rules.specs.Allowing.{has_entry}
@@ -18,8 +18,8 @@ use Rattle.cmc_answers.specs.declared.denial.Denial.TheVariants as denials
 use Rattle.cmc_answers.specs.Wanting.{wanted_of}
 
 -- the common name or a DNS name is one that no request may have
-abbrev pub is_refused : List (List ℕ) → Wanted → Bool
-is_refused refuse wanted = list_any (λ name. has_entry refuse name) (option_to_list wanted.common ++ wanted.dns)
+abbrev pub has_refused_name : List (List ℕ) → Wanted → Bool
+has_refused_name refuse wanted = list_any (λ name. has_entry refuse name) (option_to_list wanted.common ++ wanted.dns)
 
 -- the name of the policy at this place, as a text
 abbrev pub policy_name : List Policy → ℕ → List ℕ
@@ -37,7 +37,7 @@ denial_by_policies (policy ∷ policies) wanted = denial_by (policy ∷ policies
 
 -- a request that is read is denied for a refused name, and else by the policies
 abbrev pub denial_of_wanted : Rules → Wanted → Option Denial
-denial_of_wanted rules wanted = if is_refused rules.refuse wanted then Some denials.Refused else denial_by_policies rules.policies wanted
+denial_of_wanted rules wanted = if has_refused_name rules.refuse wanted then Some denials.Refused else denial_by_policies rules.policies wanted
 
 -- a request that is not readable is denied
 abbrev pub denial_on : JudgeOrder → Option RequestFields → Option Denial
@@ -46,7 +46,7 @@ denial_on order (Some csr) = denial_of_wanted order.rules (wanted_of order.reque
 
 -- why the request may not be approved: none where it may be
 unfoldable pub denial_of : JudgeOrder → Option Denial
-denial_of order = denial_on order (request_at order.request.spec.request)
+denial_of order = denial_on order (request_fields_at order.request.spec.request)
 
 -- what contracts see of a judged question
 pub record JudgedQuestion : Type 0 where

@@ -2,7 +2,7 @@
 ghost use Rattle.std.specs.Prelude.{◌≡◌, IfOk};
 ghost use Rattle.cmc_der.specs.Keys.{key_shown, names_shown};
 ghost use Rattle.cmc_time.specs.Asn1.{IsCertificateTime};
-ghost use Rattle.cmc_answers.specs.Signings.{signed_certificate, certificate_of, certified_key};
+ghost use Rattle.cmc_answers.specs.Signings.{signed_certificate, certificate_of_plan, certified_key};
 
 use crate::stand_ins::stand_in_point;
 use cmc_der::{CsrFields, KeyKind, Spki};
@@ -19,7 +19,7 @@ fn signed(alloc: Global, body: &[u8]) -> Result<Bytes, AllocError>
 }
 
 /// The certificate of this plan with the names of the signing request, for this key.
-#[tactic(auto, unfolding(crate::specs::Signings::certificate_of))]
+#[tactic(auto, unfolding(crate::specs::Signings::certificate_of_plan))]
 pub fn certificate_with(
     alloc: Global,
     plan: &CertPlan,
@@ -28,7 +28,7 @@ pub fn certificate_with(
 ) -> Result<Bytes, AllocError>
     requires begins_in_range { IsCertificateTime plan.now.not_before }
     requires ends_in_range { IsCertificateTime plan.now.not_after }
-    ensures { IfOk result (λ whole. whole ≡ certificate_of plan.now (names_shown csr.now.names) (key_shown key.now)) }
+    ensures { IfOk result (λ whole. whole ≡ certificate_of_plan plan.now (names_shown csr.now.names) (key_shown key.now)) }
 {
     let body = cert_body(alloc, plan, csr, key)?;
     signed(alloc, body.as_slice())
@@ -44,7 +44,7 @@ pub fn certificate(
 ) -> Result<Bytes, AllocError>
     requires begins_in_range { IsCertificateTime plan.now.not_before }
     requires ends_in_range { IsCertificateTime plan.now.not_after }
-    ensures { IfOk result (λ whole. whole ≡ certificate_of plan.now (names_shown csr.now.names)
+    ensures { IfOk result (λ whole. whole ≡ certificate_of_plan plan.now (names_shown csr.now.names)
         (certified_key key (key_shown csr.now.key))) }
 {
     match key {

@@ -2,7 +2,7 @@
 ghost use Rattle.std.specs.Prelude.{◌≡◌, IfOk, is_none};
 ghost use Rattle.std.specs.List.{list_any};
 ghost use Rattle.std.specs.Str.{bytes_eq};
-ghost use Rattle.cmc_x509.specs.ReadCertificates.{request_at};
+ghost use Rattle.cmc_x509.specs.ReadCertificates.{request_fields_at};
 ghost use Rattle.cmc_policy_rules.specs.Allowing.{has_entry};
 ghost use Rattle.cmc_answers.specs.Judging as spec;
 
@@ -32,7 +32,7 @@ fn some_stands_in(refuse: &[Text], names: &[Pattern]) -> bool
 }
 
 fn is_refused(refuse: &[Text], wanted: &Wanted) -> bool
-    ensures { result ≡ spec.is_refused refuse.now wanted.now }
+    ensures { result ≡ spec.has_refused_name refuse.now wanted.now }
 {
     match &wanted.common {
         Some(common) => {

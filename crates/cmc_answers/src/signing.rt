@@ -2,7 +2,7 @@
 ghost use Rattle.std.specs.Prelude.{◌≡◌, ◌≤◌, ◌≤ℤ◌, ◌+ℤ◌, ◌-ℤ◌, neg_ℤ, pos, true, IfOk};
 ghost use Rattle.cmc_time.specs.Asn1.{IsCertificateTime};
 ghost use Rattle.cmc_objects.specs.Requests.{is_lifetime, is_row_form, is_run_time};
-ghost use Rattle.cmc_x509.specs.ReadCertificates.{request_at};
+ghost use Rattle.cmc_x509.specs.ReadCertificates.{request_fields_at};
 ghost use Rattle.cmc_answers.specs.Signings as spec;
 
 use crate::certificates::certificate;
@@ -15,7 +15,7 @@ const MOST: u64 = 3_153_600_000;
 
 fn lifetime(seconds: Option<u64>, asked: Option<u64>) -> u64
     requires { is_lifetime seconds ≡ true }
-    ensures value { result ≡ spec.lifetime seconds asked }
+    ensures value { result ≡ spec.lifetime_given seconds asked }
     ensures within { result ≤ 3153600000 }
 {
     match seconds {
@@ -88,7 +88,7 @@ fn issued(
 ) -> Result<Signing, AllocError>
     requires begins_in_range { IsCertificateTime plan.now.not_before }
     requires ends_in_range { IsCertificateTime plan.now.not_after }
-    ensures { IfOk result (λ answer. answer ≡ spec.issued plan.now key ca.now (request_at request.now)) }
+    ensures { IfOk result (λ answer. answer ≡ spec.issued plan.now key ca.now (request_fields_at request.now)) }
 {
     let Some(csr) = request.fields() else {
         return not_readable(alloc);

@@ -6,8 +6,8 @@ ghost use Rattle.cmc_time.specs.Asn1.{IsCertificateTime};
 ghost use Rattle.cmc_x509.specs.Certificates.{IsCertificate, IsRequest};
 ghost use Rattle.cmc_x509.specs.KeyFiles.{IsKeyFile};
 ghost use Rattle.cmc_x509.specs.declared.taking.TheConstants.{MAX_INPUT};
-ghost use Rattle.cmc_x509_build.specs.Certificates.{fields_of};
-ghost use Rattle.cmc_answers.specs.Signings.{certificate_of};
+ghost use Rattle.cmc_x509_build.specs.Certificates.{fields_of_plan};
+ghost use Rattle.cmc_answers.specs.Signings.{certificate_of_plan};
 ghost use Rattle.cmc_answers.specs.Temporary as spec;
 
 use crate::certificates::certificate_with;
@@ -16,10 +16,10 @@ use cmc_x509::{read_csr, read_key};
 use cmc_x509_build::CertPlan;
 use std::alloc::{AllocError, Global};
 
-#[tactic(auto, unfolding(crate::specs::Temporary::temporary_plan))]
+#[tactic(auto, unfolding(crate::specs::Temporary::temporary_cert_plan))]
 fn plan(alloc: Global, now: i64) -> Result<CertPlan, AllocError>
     requires { is_run_time now ≡ true }
-    ensures plan { IfOk result (λ p. p ≡ spec.temporary_plan now) }
+    ensures plan { IfOk result (λ p. p ≡ spec.temporary_cert_plan now) }
     ensures begins_in_range { IfOk result (λ p. IsCertificateTime p.not_before) }
     ensures ends_in_range { IfOk result (λ p. IsCertificateTime p.not_after) }
 {
@@ -66,6 +66,6 @@ pub fn temporary(
 pub fn temporary_is_read()
     ensures { (request file : List ℕ) (csr : RequestFields) (key : PublicKey) (now : ℤ)
         → IsRequest request csr → IsKeyFile file key → is_run_time now ≡ true
-        → length (certificate_of (spec.temporary_plan now) csr.names key) ≤ MAX_INPUT
-        → IsCertificate (certificate_of (spec.temporary_plan now) csr.names key) (fields_of (spec.temporary_plan now) csr.names key) }
+        → length (certificate_of_plan (spec.temporary_cert_plan now) csr.names key) ≤ MAX_INPUT
+        → IsCertificate (certificate_of_plan (spec.temporary_cert_plan now) csr.names key) (fields_of_plan (spec.temporary_cert_plan now) csr.names key) }
 {}

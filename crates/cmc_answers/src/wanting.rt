@@ -28,7 +28,7 @@ fn has_tag(wanted: u8, tag: u8, body: &[u8]) -> bool
 // The names of this tag among the alternative names, in order.
 fn names_of(alloc: Global, tag: u8, alternative: &[u8]) -> Result<Patterns, AllocError>
     requires { IsValueList alternative.now }
-    ensures { IfOk result (λ names. names ≡ spec.names_of tag alternative.now) }
+    ensures { IfOk result (λ names. names ≡ spec.names_of_tag tag alternative.now) }
 {
     let mut names = Patterns::new(alloc);
     let mut rest = alternative;
@@ -71,7 +71,7 @@ fn is_rsa(kind: Option<KeyKind>) -> Option<bool>
 }
 
 fn size_of(kind: Option<KeyKind>) -> u32
-    ensures { result ≡ spec.size_of kind }
+    ensures { result ≡ spec.key_size_of kind }
 {
     match kind {
         Some(KeyKind::Rsa { bits }) => bits,

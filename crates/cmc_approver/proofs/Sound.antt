@@ -4,10 +4,10 @@ use Rattle.cmc_objects.specs.declared.role.Role.TheVariants.{Approver}
 use Rattle.cmc_pass.specs.declared.pass.Views.{Views}
 use Rattle.cmc_pass.specs.declared.pass.Desk.{Desk}
 use Rattle.cmc_rules.specs.Approving.{approver, judged_after}
-use Rattle.cmc_rules.specs.Sound.{shown, IsSoundTable}
+use Rattle.cmc_rules.specs.Sound.{views_shown, IsSoundTable}
 use Rattle.cmc_approver.proofs.Table.{within, stays, none}
 
-told : (seen : Views) (desk : Desk) → approver seen desk ≡ approver (shown Approver seen) desk
+told : (seen : Views) (desk : Desk) → approver seen desk ≡ approver (views_shown Approver seen) desk
 unfolding approver
 told seen desk = refl
 

@@ -18,7 +18,7 @@ use Rattle.cmc_pass.specs.declared.pass.Act.TheVariants.{Nothing}
 use Rattle.cmc_pass.specs.declared.value.Value.{Value}
 use Rattle.cmc_pass.specs.declared.value.Value.TheVariants.{Made, Signed, Answered, Judged}
 use Rattle.cmc_pass.specs.Values.{IsValue}
-use Rattle.cmc_rules.specs.Approving.{approval, denied_for, judge_call, is_covered, ask_judgement, judge_of, approver, verdict_by, judged_for, judged_after}
+use Rattle.cmc_rules.specs.Approving.{approval, denied_for, verdict_call, is_covered, ask_judgement, judge_of, approver, verdict_by, judged_for, judged_after}
 use Rattle.cmc_rules.specs.Sighting.{IsWellSeen}
 use Rattle.cmc_rules.specs.Sound.{IsFollowed, IsWithin}
 use Rattle.cmc_rules.proofs.Sights.{seen_request}
@@ -51,7 +51,7 @@ followed seen now r order sees open_ (Signed signature) right = absurd right
 followed seen now r order sees open_ (Answered answer) right = absurd right
 followed seen now r order sees open_ (Judged approved) right =
     let j = judged now approved r (denial_of order) open_ right in record {
-      call = judge_call j.verdict r;
+      call = verdict_call j.verdict r;
       follows = ap (λ (o : Option CertificateRequest). judged_for o (verdict_by now approved (denial_of order))) sees ∙ ap (judged_for (Some r)) j.is;
       on = judging seen now approved r j.verdict sees j.fits j.dated;
     }

@@ -9,16 +9,16 @@ use Rattle.cmc_objects.specs.declared.object.Object.TheVariants.{Request}
 use Rattle.cmc_objects.specs.declared.role.Role.TheVariants.{Approver}
 use Rattle.cmc_objects.specs.Requests.{is_stated, is_approved, is_denied}
 use Rattle.cmc_answers.specs.declared.denial.Denial.{Denial}
-use Rattle.cmc_model.specs.Admission.{is_of, refusing_rule, verdict_rules, least_failing}
+use Rattle.cmc_model.specs.Admission.{is_of_condition, refusing_rule, verdict_rules, least_failing}
 use Rattle.cmc_objects.specs.Objects.{numbered}
 use Rattle.cmc_model.specs.Stored.{with_status}
 use Rattle.cmc_pass.specs.declared.pass.Views.{Views}
 use Rattle.cmc_pass.specs.declared.value.Value.TheVariants.{Judged}
 use Rattle.cmc_rules.specs.Rights.{ChangesVerdict, other_conditions}
-use Rattle.cmc_rules.specs.Approving.{approval, denied_for, judged_status, judge_call}
+use Rattle.cmc_rules.specs.Approving.{approval, denied_for, judged_status, verdict_call}
 use Rattle.cmc_rules.specs.Dates.{StaysDated}
 use Rattle.cmc_rules.specs.Sighting.{OnSeen}
-use Rattle.cmc_rules.specs.Sound.{IsAnswer}
+use Rattle.cmc_rules.specs.Sound.{IsWriteAfterValue}
 use Rattle.cmc_rules.proofs.Sights.{seen_request}
 use Rattle.cmc_rules.proofs.Conditions.{others-transitioned}
 use Rattle.cmc_rules.proofs.Dating.{dated_transitioned}
@@ -48,7 +48,7 @@ approval_is moment r open_ =
 denial_leaves : (moment : ℤ) (denial : Denial) (cs : List Condition) → is_stated kinds.Approved (transitioned cs (denied_for moment denial)) ≡ is_stated kinds.Approved cs
 unfolding denied_for
 denial_leaves moment denial cs =
-    any_same (λ c. is_of kinds.Approved c && tri_eq c.status True) cs (denied_for moment denial) (λ c is. and_first (is_of kinds.Approved c) (tri_eq c.status True) (apart kinds.Denied kinds.Approved refl c is))
+    any_same (λ c. is_of_condition kinds.Approved c && tri_eq c.status True) cs (denied_for moment denial) (λ c is. and_first (is_of_condition kinds.Approved c) (tri_eq c.status True) (apart kinds.Denied kinds.Approved refl c is))
 
 pub denial_is : (moment : ℤ) (denial : Denial) (r : CertificateRequest) → IsOpen r → IsVerdict false r (denied_for moment denial)
 unfolding denied_for
@@ -95,8 +95,8 @@ unfolding denied_for judged_status
 dated_denial moment denial r timed dated = record { conditions = dated_transitioned r.status.conditions (denied_for moment denial) dated.conditions timed; failure = dated.failure }
 
 pub judging : (seen : Views) (now : ℤ) (approved : Bool) (r : CertificateRequest) (verdict : Condition) → seen.request ≡ Some r → IsVerdict approved r verdict → IsDatedVerdict now r verdict
-    → OnSeen (IsAnswer Approver seen now (Judged approved)) seen (judge_call verdict r)
-unfolding judge_call judged_status OnSeen numbered with_status
+    → OnSeen (IsWriteAfterValue Approver seen now (Judged approved)) seen (verdict_call verdict r)
+unfolding verdict_call judged_status OnSeen numbered with_status
 judging seen now approved r verdict sees is dates = record {
   old = Request r;
   sees = seen_request seen r sees;

@@ -9,7 +9,7 @@ use cmc_pass::{Act, Desk, Views};
 use std::alloc::{AllocError, Global};
 
 fn is_listed(issuer: &Text, names: &[Text]) -> bool
-    ensures { result ≡ table.is_listed issuer.now names.now }
+    ensures { result ≡ table.is_listed_issuer issuer.now names.now }
 {
     names.iter().any(|name| name.as_str() == issuer.as_str() || name.as_str() == "*")
 }

@@ -35,13 +35,13 @@ fn with_verdict(
 /// # Errors
 ///
 /// Want of memory alone.
-#[tactic(auto, unfolding(cmc_rules::specs::Approving::judge_call))]
+#[tactic(auto, unfolding(cmc_rules::specs::Approving::verdict_call))]
 pub fn judge_call(
     alloc: Global,
     verdict: Condition,
     request: &CertificateRequest,
 ) -> Result<Call, AllocError>
-    ensures { IfOk result (λ c. c ≡ table.judge_call verdict request.now) }
+    ensures { IfOk result (λ c. c ≡ table.verdict_call verdict request.now) }
 {
     let object = Object::of_request(alloc, with_verdict(alloc, verdict, request)?)?;
     Ok(Call::UpdateStatus {

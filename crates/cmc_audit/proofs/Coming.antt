@@ -10,36 +10,36 @@ use Rattle.cmc_rules.specs.declared.progress.OpenPass.{OpenPass}
 use Rattle.cmc_lines.specs.declared.line.PrintedLine.{PrintedLine}
 use Rattle.cmc_audit_state.specs.declared.row.Row.{Row}
 use Rattle.cmc_audit_state.specs.declared.row.Version.{Version}
-use Rattle.cmc_audit_state.specs.OpenRows.{row_at}
+use Rattle.cmc_audit_state.specs.OpenRows.{open_row_at}
 use Rattle.cmc_audit_ledger.specs.declared.ledger.Ledger.{Ledger}
-use Rattle.cmc_audit_ledger.specs.Following.{Follows, IsRowOf}
+use Rattle.cmc_audit_ledger.specs.Following.{IsLedgerOf, IsRowOf}
 use Rattle.cmc_model.specs.declared.write.Write.{Write}
 use Rattle.cmc_audit_clauses.specs.declared.clause.Clause.{Clause}
 use Rattle.cmc_audit_clauses.specs.declared.clause.Clause.TheVariants.{Counts}
-use Rattle.cmc_audit_steps.specs.Meant.{AreNamed, IsMeant}
-use Rattle.cmc_audit_steps.specs.Stepping.{AreKept, FailsAt, IsClean, IsKept}
-use Rattle.cmc_audit.specs.Verdicts.{AreClean, FailsFirst, IsWhole, MissCount, counted}
+use Rattle.cmc_audit_steps.specs.Meant.{AreNamedEntries, IsMeant}
+use Rattle.cmc_audit_steps.specs.Stepping.{AreKept, FailsAt, IsClean, IsCleanLedger}
+use Rattle.cmc_audit.specs.Verdicts.{AreClean, FailsFirst, IsWholeVerdict, MissCount, counted}
 
 -- ---- before any line
 
-none_named : (s : Setting) → AreNamed s []
-unfolding AreNamed
+none_named : (s : Setting) → AreNamedEntries s []
+unfolding AreNamedEntries
 none_named s = tt
 
 none_clean : (s : Setting) → IsClean s []
 unfolding IsClean
 none_clean s = tt
 
-kept_none : (s : Setting) (l : Ledger) → Follows s [] l → (h : List Entry) → IsMeant s [] h → IsKept s h l
+kept_none : (s : Setting) (l : Ledger) → IsLedgerOf s [] l → (h : List Entry) → IsMeant s [] h → IsCleanLedger s h l
 kept_none s l is [] meant = record { follows = is; clean = none_clean s }
 kept_none s l is (e ∷ h) meant = absurd (let shows = meant.shows in cc shows)
 
-pub kept_first : (s : Setting) (l : Ledger) → Follows s [] l → AreKept s [] l
+pub kept_first : (s : Setting) (l : Ledger) → IsLedgerOf s [] l → AreKept s [] l
 kept_first s l is = record { some = ([], record { shows = refl; named = none_named s }); all = kept_none s l is }
 
 -- ---- what is kept stays in bounds
 
-of_some : (s : Setting) (lines : List PrintedLine) (l : Ledger) (kept : AreKept s lines l) → IsKept s kept.some.0 l
+of_some : (s : Setting) (lines : List PrintedLine) (l : Ledger) (kept : AreKept s lines l) → IsCleanLedger s kept.some.0 l
 of_some s lines l kept = kept.all kept.some.0 kept.some.1
 
 pub begun_low : (s : Setting) (lines : List PrintedLine) (l : Ledger) → AreKept s lines l → l.passes.begun ≤ l.entries
@@ -54,8 +54,8 @@ row_in_run ws found saved asked approved None o row at is = absurd (cc at)
 row_in_run ws found saved asked approved (Some r) None row at is = absurd is
 row_in_run ws found saved asked approved (Some r) (Some p) row at is = let same : r ≡ row = cc at in subst (λ (q : Row). is_run_time q.since ≡ true) same is.in_run
 
-pub rows_in_run : (s : Setting) (lines : List PrintedLine) (l : Ledger) → AreKept s lines l → (pass : ℕ) (row : Row) → row_at l.passes pass ≡ Some row → is_run_time row.since ≡ true
-rows_in_run s lines l kept pass row at = row_in_run _ _ _ _ _ (row_at l.passes pass) _ row at ((of_some s lines l kept).follows.rows pass)
+pub rows_in_run : (s : Setting) (lines : List PrintedLine) (l : Ledger) → AreKept s lines l → (pass : ℕ) (row : Row) → open_row_at l.passes pass ≡ Some row → is_run_time row.since ≡ true
+rows_in_run s lines l kept pass row at = row_in_run _ _ _ _ _ (open_row_at l.passes pass) _ row at ((of_some s lines l kept).follows.rows pass)
 
 -- ---- verdicts
 
@@ -70,7 +70,7 @@ fails_first s later before lines line l number clause parts numbered kept fails 
 counts_of : (s : Setting) (lines : List PrintedLine) (l : Ledger) → AreKept s lines l → (h : List Entry) → IsMeant s lines h → counted l.store.state.objects ≡ counted (objects s h)
 counts_of s lines l kept h meant = ap (λ (st : State). counted st.objects) (kept.all h meant).follows.state
 
-pub whole : (s : Setting) (lines : List PrintedLine) (l : Ledger) (counts : List ℕ) (entries : ℕ) → AreKept s lines l → entries ≡ length lines → counts ≡ counted l.store.state.objects → IsWhole s lines counts entries
+pub whole : (s : Setting) (lines : List PrintedLine) (l : Ledger) (counts : List ℕ) (entries : ℕ) → AreKept s lines l → entries ≡ length lines → counts ≡ counted l.store.state.objects → IsWholeVerdict s lines counts entries
 whole s lines l counts entries kept all same = record { all = all; clean = clean_of s lines l kept; right = λ h meant. same ∙ counts_of s lines l kept h meant }
 
 pub missed : (s : Setting) (lines : List PrintedLine) (l : Ledger) (counts : List ℕ) (number : ℕ) → AreKept s lines l → number ≡ length lines + 1 → (counts ≡ counted l.store.state.objects → ⊥) → MissCount s lines counts number Counts

@@ -41,14 +41,14 @@ pub record MissCount (s : Setting) (lines : List PrintedLine) (counts : List ℕ
   pub miss : (h : List Entry) → IsMeant s lines h → counts ≢ counted (objects s h)
 
 -- nothing fails at any of so many entries, and the counts are those of what stands
-pub record IsWhole (s : Setting) (lines : List PrintedLine) (counts : List ℕ) (entries : ℕ) : Type 0 where
+pub record IsWholeVerdict (s : Setting) (lines : List PrintedLine) (counts : List ℕ) (entries : ℕ) : Type 0 where
   pub all : entries ≡ length lines
   pub clean : AreClean s lines
   pub right : (h : List Entry) → IsMeant s lines h → counts ≡ counted (objects s h)
 
 -- the verdict on the lines, the newest first, with these counts behind them
 abbrev pub IsVerdict : Setting → List PrintedLine → List ℕ → Verdict → Type 0
-IsVerdict s lines counts (Yes entries) = IsWhole s lines counts entries
+IsVerdict s lines counts (Yes entries) = IsWholeVerdict s lines counts entries
 IsVerdict s lines counts (No entry clause) = FailsFirst s lines entry clause ⊎ MissCount s lines counts entry clause
 
 -- ---- line by line

@@ -51,7 +51,7 @@ fn history_in(alloc: Global, bytes: &[u8]) -> Result<Printed, NotAudited>
 ///
 /// `Line` exactly where the bytes are the text of no history, with the first line that fails.
 pub fn audit_bytes(alloc: Global, seed: HashSeed, bytes: &[u8]) -> Result<Lines, NotAudited>
-    ensures ok { IfOk result (λ lines. words.Answers bytes.now (joined lines)) }
+    ensures ok { IfOk result (λ lines. words.AnswersAudit bytes.now (joined lines)) }
     ensures err { IfErr result (λ why. words.Refuses bytes.now why) }
 {
     let printed = history_in(alloc, bytes)?;

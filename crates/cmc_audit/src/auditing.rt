@@ -1,6 +1,6 @@
 //! The audit of a printed history.
 ghost use Rattle.std.specs.Prelude.{◌≡◌, [], IfOk, reverse};
-ghost use Rattle.cmc_audit_ledger.specs.Following.{Follows, setting_of};
+ghost use Rattle.cmc_audit_ledger.specs.Following.{IsLedgerOf, setting_of};
 ghost use Rattle.cmc_audit_steps.specs.Stepping.{AreKept};
 ghost use Rattle.cmc_audit.specs.Verdicts.{CameTo, IsVerdict};
 
@@ -18,7 +18,7 @@ fn take_in(
     printed: &Printed,
     ledger: &mut Ledger,
 ) -> Result<Option<Verdict>, AllocError>
-    requires { Follows (setting_of printed.now.scenario) [] ledger.old }
+    requires { IsLedgerOf (setting_of printed.now.scenario) [] ledger.old }
     ensures { IfOk result (λ failed. CameTo (setting_of printed.now.scenario) (reverse printed.now.entries) ledger.new failed) }
 {
     let mut entry: u64 = 0;

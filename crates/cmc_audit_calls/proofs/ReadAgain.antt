@@ -18,7 +18,7 @@ use Rattle.cmc_report.specs.Trees.{call_key}
 use Rattle.cmc_lines.specs.declared.line.CallName.{CallName}
 use Rattle.cmc_lines.specs.declared.line.CallName.TheVariants as names
 use Rattle.cmc_lines.specs.Shown.{shown_given, shown_name, shown_object, shown_version}
-use Rattle.cmc_audit_calls.specs.Reading.{HasNames, IsKept, IsOfNames, IsRead, IsShown, Shows, bare_call, call_of, is_slash, key_of_names, key_read, key_under, kind_read, name_read, split}
+use Rattle.cmc_audit_calls.specs.Reading.{HasCallNames, IsShownCall, IsOfNames, IsRead, IsShown, Shows, bare_call, call_of_parts, is_slash, key_of_names, key_of_printed, key_under, kind_read, name_read, split}
 
 -- ---- no slash stands in a name
 
@@ -99,7 +99,7 @@ kind_others kinds.Certificate = refl
 kind_others kinds.CertificateRequest = refl
 kind_others kinds.Secret = refl
 
-key_again : (key : Key) → IsOfNames key → key_read (key_text key) ≡ Some key
+key_again : (key : Key) → IsOfNames key → key_of_printed (key_text key) ≡ Some key
 key_again key is = rw (split_is (kind_name key.kind) (name_text key) (kind_others key.kind), kind_again key.kind) (under_again key is)
 
 -- ---- what is read of a key
@@ -121,7 +121,7 @@ and_then : {A B : Type 0} (f : A → Option B) (x : Option A) (y : B) → option
 and_then f None y e = absurd (cc e)
 and_then f (Some a) y e = (a, refl, e)
 
-key_named : (t : List ℕ) (key : Key) → key_read t ≡ Some key → IsOfNames key
+key_named : (t : List ℕ) (key : Key) → key_of_printed t ≡ Some key → IsOfNames key
 key_named t key is =
     let parts = and_then (λ (p : List ℕ × List ℕ). option_and_then (λ kind. key_under kind p.1) (kind_read p.0)) (split t) key is in
     let kind = and_then (λ kind. key_under kind parts.0.1) (kind_read parts.0.0) key parts.2 in
@@ -158,7 +158,7 @@ bare_key (UpdateStatus (Secret c) v) = refl
 bare_key (Delete k v) = refl
 bare_key (Get k) = refl
 
-again : (q : Call) → HasNames q → call_of (shown_name q) (call_key q) (shown_given q) (shown_version q) ≡ Some (bare_call q)
+again : (q : Call) → HasCallNames q → call_of_parts (shown_name q) (call_key q) (shown_given q) (shown_version q) ≡ Some (bare_call q)
 again (Create o true) is = refl
 again (Create o false) is = refl
 again (Update o v) is = refl
@@ -166,14 +166,14 @@ again (UpdateStatus o v) is = refl
 again (Delete k v) is = ap (option_map (λ x. Delete x v)) (key_again k is)
 again (Get k) is = ap (option_map (λ x. Get x)) (key_again k is)
 
-kept_is : (key : List ℕ) (call : Call) (read : Option Call) → IsShown key call → IsKept key (Some call) read → read ≡ Some call
+kept_is : (key : List ℕ) (call : Call) (read : Option Call) → IsShown key call → IsShownCall key (Some call) read → read ≡ Some call
 kept_is key call None shown is = absurd (is shown)
 kept_is key call (Some c) shown is = ap Some is.0
 
 -- of a call with names what it shows is read, and nothing else
-pub read_again : (q : Call) (read : Option Call) → HasNames q → IsRead (shown_name q) (call_key q) (shown_given q) (shown_version q) read → read ≡ Some (bare_call q)
+pub read_again : (q : Call) (read : Option Call) → HasCallNames q → IsRead (shown_name q) (call_key q) (shown_given q) (shown_version q) read → read ≡ Some (bare_call q)
 read_again q read is kept =
-    kept_is (call_key q) (bare_call q) read (bare_again q, bare_key q) (subst (λ (x : Option Call). IsKept (call_key q) x read) (again q is) kept)
+    kept_is (call_key q) (bare_call q) read (bare_again q, bare_key q) (subst (λ (x : Option Call). IsShownCall (call_key q) x read) (again q is) kept)
 
 -- ---- what is read shows as its parts
 
@@ -186,7 +186,7 @@ record IsOf (name : CallName) (given : Option Object) (version : Option ℕ) (c 
   name_is : shown_name c ≡ name
   object_is : bare_call c ≡ c → shown_given c ≡ given
   version_is : shown_version c ≡ version
-  named : HasNames c
+  named : HasCallNames c
 
 created_of : (o : Object) (g : Bool) → bare_call (Create o g) ≡ Create o g → Some (shown_object o) ≡ Some o
 created_of o g is = let same : shown_object o ≡ o = cc is in ap Some same
@@ -197,7 +197,7 @@ updated_of o v is = let same : shown_object o ≡ o = cc is in ap Some same
 restated_of : (o : Object) (v : ℕ) → bare_call (UpdateStatus o v) ≡ UpdateStatus o v → Some (shown_object o) ≡ Some o
 restated_of o v is = let same : shown_object o ≡ o = cc is in ap Some same
 
-of_so : (name : CallName) (key : List ℕ) (given : Option Object) (version : Option ℕ) (c : Call) → call_of name key given version ≡ Some c → IsOf name given version c
+of_so : (name : CallName) (key : List ℕ) (given : Option Object) (version : Option ℕ) (c : Call) → call_of_parts name key given version ≡ Some c → IsOf name given version c
 of_so names.Create key (Some o) None c e =
     let same : Create o false ≡ c = cc e in subst (IsOf names.Create (Some o) None) same (record { name_is = refl; object_is = created_of o false; version_is = refl; named = tt })
 of_so names.Generate key (Some o) None c e =
@@ -207,10 +207,10 @@ of_so names.Update key (Some o) (Some v) c e =
 of_so names.UpdateStatus key (Some o) (Some v) c e =
     let same : UpdateStatus o v ≡ c = cc e in subst (IsOf names.UpdateStatus (Some o) (Some v)) same (record { name_is = refl; object_is = restated_of o v; version_is = refl; named = tt })
 of_so names.Delete key None version c e =
-    let made = made_by (λ k. Delete k version) (key_read key) c e in
+    let made = made_by (λ k. Delete k version) (key_of_printed key) c e in
     subst (IsOf names.Delete None version) made.2 (record { name_is = refl; object_is = λ is. refl; version_is = refl; named = key_named key made.0 made.1 })
 of_so names.Get key None None c e =
-    let made = made_by (λ k. Get k) (key_read key) c e in
+    let made = made_by (λ k. Get k) (key_of_printed key) c e in
     subst (IsOf names.Get None None) made.2 (record { name_is = refl; object_is = λ is. refl; version_is = refl; named = key_named key made.0 made.1 })
 of_so names.Create key None version c e = absurd (cc e)
 of_so names.Create key (Some o) (Some v) c e = absurd (cc e)
@@ -228,9 +228,9 @@ of_so names.Get key None (Some v) c e = absurd (cc e)
 pub record IsCallOf (name : CallName) (key : List ℕ) (given : Option Object) (version : Option ℕ) (c : Call) : Type 0 where
   pub shows : Shows c name key given version
   pub bare : bare_call c ≡ c
-  pub named : HasNames c
+  pub named : HasCallNames c
 
-kept_so : (name : CallName) (key : List ℕ) (given : Option Object) (version : Option ℕ) (x : Option Call) (c : Call) → call_of name key given version ≡ x → IsKept key x (Some c) → IsCallOf name key given version c
+kept_so : (name : CallName) (key : List ℕ) (given : Option Object) (version : Option ℕ) (x : Option Call) (c : Call) → call_of_parts name key given version ≡ x → IsShownCall key x (Some c) → IsCallOf name key given version c
 kept_so name key given version None c e is = absurd is
 kept_so name key given version (Some d) c e is =
     let bare : bare_call c ≡ c = subst (λ (x : Call). bare_call x ≡ x) (sym is.0) is.1.0 in
@@ -242,4 +242,4 @@ kept_so name key given version (Some d) c e is =
     }
 
 pub read_so : (name : CallName) (key : List ℕ) (given : Option Object) (version : Option ℕ) (c : Call) → IsRead name key given version (Some c) → IsCallOf name key given version c
-read_so name key given version c is = kept_so name key given version (call_of name key given version) c refl is
+read_so name key given version c is = kept_so name key given version (call_of_parts name key given version) c refl is

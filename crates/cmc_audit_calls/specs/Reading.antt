@@ -47,46 +47,46 @@ abbrev pub key_under : Kind → List ℕ → Option Key
 key_under kind t = option_and_then (λ p. key_of_names kind (name_read p.0) (name_read p.1)) (split t)
 
 -- the key that is written `Kind/namespace/name`
-abbrev pub key_read : List ℕ → Option Key
-key_read t = option_and_then (λ p. option_and_then (λ kind. key_under kind p.1) (kind_read p.0)) (split t)
+abbrev pub key_of_printed : List ℕ → Option Key
+key_of_printed t = option_and_then (λ p. option_and_then (λ kind. key_under kind p.1) (kind_read p.0)) (split t)
 
 -- ---- calls
 
 -- the call of these parts, where they are those of one
-abbrev pub call_of : CallName → List ℕ → Option Object → Option ℕ → Option Call
-call_of names.Create key (Some object) None = Some (Create object false)
-call_of names.Generate key (Some object) None = Some (Create object true)
-call_of names.Update key (Some object) (Some version) = Some (Update object version)
-call_of names.UpdateStatus key (Some object) (Some version) = Some (UpdateStatus object version)
-call_of names.Delete key None version = option_map (λ k. Delete k version) (key_read key)
-call_of names.Get key None None = option_map (λ k. Get k) (key_read key)
-call_of name key object version = None
+abbrev pub call_of_parts : CallName → List ℕ → Option Object → Option ℕ → Option Call
+call_of_parts names.Create key (Some object) None = Some (Create object false)
+call_of_parts names.Generate key (Some object) None = Some (Create object true)
+call_of_parts names.Update key (Some object) (Some version) = Some (Update object version)
+call_of_parts names.UpdateStatus key (Some object) (Some version) = Some (UpdateStatus object version)
+call_of_parts names.Delete key None version = option_map (λ k. Delete k version) (key_of_printed key)
+call_of_parts names.Get key None None = option_map (λ k. Get k) (key_of_printed key)
+call_of_parts name key object version = None
 
 -- it has nothing of what the store owns, and this is its key's text
 abbrev pub IsShown : List ℕ → Call → Type 0
 IsShown key call = (bare_call call ≡ call) × (call_key call ≡ key)
 
 -- of this call, if it is one, this is what is shown
-abbrev pub IsKept : List ℕ → Option Call → Option Call → Type 0
-IsKept key None None = Unit {0}
-IsKept key None (Some call) = ⊥
-IsKept key (Some call) None = IsShown key call → ⊥
-IsKept key (Some call) (Some shown) = (shown ≡ call) × IsShown key call
+abbrev pub IsShownCall : List ℕ → Option Call → Option Call → Type 0
+IsShownCall key None None = Unit {0}
+IsShownCall key None (Some call) = ⊥
+IsShownCall key (Some call) None = IsShown key call → ⊥
+IsShownCall key (Some call) (Some shown) = (shown ≡ call) × IsShown key call
 
 -- what is read of the parts of a line is the call that they show, and where there is none, they show none
 abbrev pub IsRead : CallName → List ℕ → Option Object → Option ℕ → Option Call → Type 0
-IsRead name key object version read = IsKept key (call_of name key object version) read
+IsRead name key object version read = IsShownCall key (call_of_parts name key object version) read
 
 -- what no line says otherwise: the key that a call deletes or gets has a namespace and a name
 abbrev pub IsOfNames : Key → Type 0
 IsOfNames key = (is_subdomain key.namespace ≡ true) × (is_subdomain key.name ≡ true)
 
-abbrev pub HasNames : Call → Type 0
-HasNames (Create object generate) = Unit {0}
-HasNames (Update object named) = Unit {0}
-HasNames (UpdateStatus object named) = Unit {0}
-HasNames (Delete key named) = IsOfNames key
-HasNames (Get key) = IsOfNames key
+abbrev pub HasCallNames : Call → Type 0
+HasCallNames (Create object generate) = Unit {0}
+HasCallNames (Update object named) = Unit {0}
+HasCallNames (UpdateStatus object named) = Unit {0}
+HasCallNames (Delete key named) = IsOfNames key
+HasCallNames (Get key) = IsOfNames key
 
 -- the parts of a line are those that the call shows
 pub record Shows (call : Call) (name : CallName) (key : List ℕ) (object : Option Object) (version : Option ℕ) : Type 0 where

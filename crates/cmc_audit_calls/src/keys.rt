@@ -46,7 +46,7 @@ fn key_under(alloc: Global, kind: Kind, text: &str) -> Result<Option<Key>, Alloc
 
 /// The key that is written `Kind/namespace/name`. An error is one of memory.
 pub(crate) fn key_read(alloc: Global, text: &str) -> Result<Option<Key>, AllocError>
-    ensures { IfOk result (λ k. k ≡ words.key_read text.now) }
+    ensures { IfOk result (λ k. k ≡ words.key_of_printed text.now) }
 {
     let Some((kind, rest)) = text.split_once('/') else {
         return Ok(None);

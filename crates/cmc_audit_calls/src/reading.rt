@@ -4,7 +4,7 @@ ghost use Rattle.cmc_lines.specs.declared.line.CallName.TheVariants as names;
 ghost use Rattle.cmc_report.specs.Trees.{call_key};
 ghost use Rattle.cmc_lines.specs.Shown.{shown_meta, shown_object};
 ghost use Rattle.cmc_audit_calls.specs.Reading as words;
-ghost use Rattle.cmc_audit_calls.specs.Reading.{IsKept, IsRead, IsShown, bare_call};
+ghost use Rattle.cmc_audit_calls.specs.Reading.{IsShownCall, IsRead, IsShown, bare_call};
 
 use crate::keys::key_read;
 use cmc_lines::CallName;
@@ -76,7 +76,7 @@ fn is_shown(alloc: Global, call: &Call, key: &Text) -> Result<bool, AllocError>
 }
 
 fn deleted(alloc: Global, key: &Text, version: Option<u64>) -> Result<Option<Call>, AllocError>
-    ensures { IfOk result (λ c. c ≡ words.call_of names.Delete key.now None version) }
+    ensures { IfOk result (λ c. c ≡ words.call_of_parts names.Delete key.now None version) }
 {
     match key_read(alloc, key.as_str())? {
         Some(key) => Ok(Some(Call::Delete { key, version })),
@@ -85,7 +85,7 @@ fn deleted(alloc: Global, key: &Text, version: Option<u64>) -> Result<Option<Cal
 }
 
 fn got(alloc: Global, key: &Text) -> Result<Option<Call>, AllocError>
-    ensures { IfOk result (λ c. c ≡ words.call_of names.Get key.now None None) }
+    ensures { IfOk result (λ c. c ≡ words.call_of_parts names.Get key.now None None) }
 {
     match key_read(alloc, key.as_str())? {
         Some(key) => Ok(Some(Call::Get { key })),
@@ -100,7 +100,7 @@ fn call_of(
     object: &Option<Object>,
     version: Option<u64>,
 ) -> Result<Option<Call>, AllocError>
-    ensures { IfOk result (λ c. c ≡ words.call_of name key.now object.now version) }
+    ensures { IfOk result (λ c. c ≡ words.call_of_parts name key.now object.now version) }
 {
     match (name, object, version) {
         (CallName::Create, Some(object), None) => Ok(Some(Call::Create {
@@ -126,7 +126,7 @@ fn call_of(
 }
 
 fn kept(alloc: Global, call: Call, key: &Text) -> Result<Option<Call>, AllocError>
-    ensures { IfOk result (λ shown. IsKept key.now (Some call) shown) }
+    ensures { IfOk result (λ shown. IsShownCall key.now (Some call) shown) }
 {
     if is_shown(alloc, &call, key)? {
         Ok(Some(call))

@@ -29,8 +29,8 @@ use Rattle.cmc_objects.specs.declared.entry.Entry.TheVariants.{Call as Called}
 use Rattle.cmc_objects.specs.Objects.{key_of, version_of}
 use Rattle.cmc_match.specs.Marks.{is_temporary}
 use Rattle.cmc_answers.specs.Temporary.{temporary}
-use Rattle.cmc_match.specs.Facts.{key_in, certificate_in}
-use Rattle.cmc_match.specs.Revisions.{is_of, only_of}
+use Rattle.cmc_match.specs.Facts.{key_in, certificate_file_in}
+use Rattle.cmc_match.specs.Revisions.{is_of_revision, only_of}
 use Rattle.cmc_pass.specs.declared.pass.Views.{Views}
 use Rattle.cmc_model.specs.declared.write.Write.{Write}
 use Rattle.cmc_model.specs.Objects.{Objects, object_at}
@@ -43,17 +43,17 @@ use Rattle.cmc_model.proofs.Versions.{IsLawful, lawful_called, lawful_object, ve
 use Rattle.cmc_model.proofs.Writes.{writes_count, writes_leave}
 use Rattle.cmc_rules.specs.declared.progress.OpenPass.{OpenPass}
 use Rattle.cmc_rules.specs.Sighting.{IsAmong}
-use Rattle.cmc_rules.specs.Safety.{IsGoodIssue, IsLiveRead, IsOfIssuer, IsStandIn, Stands}
+use Rattle.cmc_rules.specs.Safety.{IsGoodIssue, IsLiveRead, IsOfIssuer, IsTemporaryCertificate, HasEntry}
 use Rattle.cmc_rules.specs.Viewing.{Caches, certificate_at, certificate_in as certificate_part, has_next_label, is_owned, next_in, next_of, of_certificate, owned_in, requests_of, views_in, views_of}
 use Rattle.cmc_rules.proofs.Sighted.{picked, stands_among}
 use Rattle.cmc_rules.proofs.Sights.{found_among}
 use Rattle.cmc_rules.specs.Raising.{revision_of_uid}
 use Rattle.cmc_audit_state.specs.declared.row.Row.{Row}
 use Rattle.cmc_audit_state.specs.declared.row.Version.{Version}
-use Rattle.cmc_audit_state.specs.Heard.{approved, asked, found, finds, is_by, saved}
+use Rattle.cmc_audit_state.specs.Heard.{approved, last_judged, has_found, finds, is_by, saved}
 use Rattle.cmc_audit_state.specs.Journaled.{cached, is_denied_uid}
 use Rattle.cmc_audit_ledger.specs.Following.{IsRow, reached}
-use Rattle.cmc_audit_clauses.specs.Issuing.{Exists, IsIssueBy, IsIssueFor, IsIssueOf, IsIssueWith, IsIssuers, IsKeptIssue, IsSigned, IsStandingIn, next_key_at, next_named, request_in_progress}
+use Rattle.cmc_audit_clauses.specs.Issuing.{Exists, IsIssueBy, IsIssueFor, IsIssueOf, IsIssueWith, IsIssuers, IsKeptIssue, IsSignedWrite, IsTemporaryWrite, next_key_at, next_named, request_in_progress}
 use Rattle.cmc_audit_clauses.proofs.Heeding.{never_denied, none_denied, same_number}
 
 -- ---- where there is one
@@ -94,7 +94,7 @@ record FoundAt (s : Setting) (n version : ℕ) (h : List Entry) : Type 0 where
   certificate : Certificate
   has : HasVersion s h key (Cert certificate)
   same : certificate.meta.version ≡ version
-  reads : Stands (IsLiveRead n certificate) h
+  reads : HasEntry (IsLiveRead n certificate) h
 
 found_later : (s : Setting) (n version : ℕ) (e : Entry) (h : List Entry) → ((key : Key) (o : Object) → HasVersion s h key o → HasVersion s (e ∷ h) key o) → FoundAt s n version h → FoundAt s n version (e ∷ h)
 found_later s n version e h keeps f = record { key = f.key; certificate = f.certificate; has = keeps f.key (Cert f.certificate) f.has; same = f.same; reads = inr f.reads }
@@ -154,12 +154,12 @@ found_here s n version who call reply h right is keeps =
     }
 
 found_or : (s : Setting) (n version : ℕ) (who : Who) (call : Call) (reply : Reply) (h : List Entry) → IsReply s.faults (state s h) call reply
-    → ((key : Key) (o : Object) → HasVersion s h key o → HasVersion s (Called who call reply ∷ h) key o) → (found n version h ≡ true → FoundAt s n version h) → (b : Bool) → (is_by n who && finds version call reply) ≡ b
-    → (b || found n version h) ≡ true → FoundAt s n version (Called who call reply ∷ h)
+    → ((key : Key) (o : Object) → HasVersion s h key o → HasVersion s (Called who call reply ∷ h) key o) → (has_found n version h ≡ true → FoundAt s n version h) → (b : Bool) → (is_by n who && finds version call reply) ≡ b
+    → (b || has_found n version h) ≡ true → FoundAt s n version (Called who call reply ∷ h)
 found_or s n version who call reply h right keeps below true here is = found_here s n version who call reply h right here keeps
 found_or s n version who call reply h right keeps below false here is = found_later s n version (Called who call reply) h keeps (below is)
 
-found_at : (s : Setting) (n version : ℕ) (h : List Entry) → IsAnswered s h → found n version h ≡ true → FoundAt s n version h
+found_at : (s : Setting) (n version : ℕ) (h : List Entry) → IsAnswered s h → has_found n version h ≡ true → FoundAt s n version h
 found_at s n version [] right is = absurd (cc is)
 found_at s n version (Called who call reply ∷ h) right is =
     found_or s n version who call reply h right.0 (λ key o has. version_kept _ _ (writes s h) key o has) (found_at s n version h right.1) (is_by n who && finds version call reply) refl is
@@ -169,11 +169,11 @@ cert_of : (c d : Certificate) → Cert c ≡ Cert d → c ≡ d
 cert_of c d e = cc e
 
 -- the pass has read this version of the Certificate
-pub read_stands : (s : Setting) (n : ℕ) (key : Key) (c : Certificate) (h : List Entry) → IsAnswered s h → HasVersion s h key (Cert c) → found n c.meta.version h ≡ true → Stands (IsLiveRead n c) h
+pub read_stands : (s : Setting) (n : ℕ) (key : Key) (c : Certificate) (h : List Entry) → IsAnswered s h → HasVersion s h key (Cert c) → has_found n c.meta.version h ≡ true → HasEntry (IsLiveRead n c) h
 read_stands s n key c h right has is =
     let f = found_at s n c.meta.version h right is in
     let same : f.certificate ≡ c = cert_of f.certificate c (one_version (writes s h) f.key key (Cert f.certificate) (Cert c) (lawful s h right) f.has has f.same) in
-    subst (λ (d : Certificate). Stands (IsLiveRead n d) h) same f.reads
+    subst (λ (d : Certificate). HasEntry (IsLiveRead n d) h) same f.reads
 
 number_itself : (n : ℕ) → (n == n) ≡ true
 number_itself n = grind (arith, nat_tests)
@@ -199,7 +199,7 @@ read_here n c who call reply is =
     and_from _ _ (pass_itself n who who_is)
     (subst (λ (x : Call). finds c.meta.version x reply ≡ true) (sym call_is) (subst (λ (r : Reply). finds c.meta.version (Get is.0) r ≡ true) (sym reply_is) (number_itself c.meta.version)))
 
-pub stands_read : (n : ℕ) (c : Certificate) (h : List Entry) → Stands (IsLiveRead n c) h → found n c.meta.version h ≡ true
+pub stands_read : (n : ℕ) (c : Certificate) (h : List Entry) → HasEntry (IsLiveRead n c) h → has_found n c.meta.version h ≡ true
 stands_read n c [] is = absurd is
 stands_read n c (Called who call reply ∷ h) (inl is) = or_here _ _ (read_here n c who call reply is)
 stands_read n c (Called who call reply ∷ h) (inr later) = or_there _ _ (stands_read n c h later)
@@ -318,7 +318,7 @@ only_by false f rs r is = absurd (cc is)
 
 only_among : (n : ℕ) (rs : List CertificateRequest) (r : CertificateRequest) → only_of n rs ≡ Some r → IsAmong r rs
 unfolding only_of
-only_among n rs r is = only_by (length (filter (λ q. is_of n q) rs) == 1) (λ q. is_of n q) rs r is
+only_among n rs r is = only_by (length (filter (λ q. is_of_revision n q) rs) == 1) (λ q. is_of_revision n q) rs r is
 
 request_owned : (c : Certificate) (o : Object) (r : CertificateRequest) → owned_in c o ≡ Some r → is_owned c r.meta ≡ true
 request_owned c (Cert d) r is = absurd (cc is)
@@ -352,14 +352,14 @@ DeniesNoMore s whole h = (uid : ℕ) → is_denied_uid uid (writes s whole) ≡ 
 
 -- what is kept of the pass
 abbrev pub KeptRow : Setting → List Entry → ℕ → Row → OpenPass → Type 0
-KeptRow s h pass row p = IsRow (writes s h) (λ v. found pass v h) (saved pass h) (asked pass h) (λ v. approved pass v h) row p
+KeptRow s h pass row p = IsRow (writes s h) (λ v. has_found pass v h) (saved pass h) (last_judged pass h) (λ v. approved pass v h) row p
 
 pub kept_good : (s : Setting) (whole h : List Entry) (pass : ℕ) (row : Row) (p : OpenPass) (written : SecretObject) → IsAnswered s h → DeniesNoMore s whole h → KeptRow s h pass row p → p.role ≡ roles.Issuing
     → IsKeptIssue (writes s h) row written → IsGoodIssue s whole h pass p written
 kept_good s whole h pass row p written right denied is issuing kept =
     let ws : List Write = writes s h in
     let law = lawful s h right in
-    let sees = saw ws (λ v. found pass v h) (saved pass h) (asked pass h) (λ v. approved pass v h) row p is issuing in
+    let sees = saw ws (λ v. has_found pass v h) (saved pass h) (last_judged pass h) (λ v. approved pass v h) row p is issuing in
     let c = there (certificate_at (cached kinds.Certificate ws row.reach.certificates) row.key) (IsIssueOf ws row written) kept.issue in
     let r = there (request_in_progress ws row c.0) (IsIssueFor ws row c.0 written) c.2 in
     let k = there (next_key_at (cached kinds.Secret ws row.reach.secrets) c.0) (IsIssueBy ws c.0 r.0 row.since written) r.2.key in
@@ -388,8 +388,8 @@ kept_good s whole h pass row p written right denied is issuing kept =
       fields = f.2.keyed.pair.0;
       pair = f.2.keyed.pair.1;
       requested = f.2.keyed.requested;
-      signed = signed_so (is_temporary written) (IsStandingIn c.0 r.0 f.0 row.since written) (IsIssuers ws r.0 written) (IsStandIn c.0 r.0 f.0 p.since written) (IsOfIssuer s whole r.0 written)
-          (λ x. let made = there (temporary r.0.spec.request f.0 row.since) (λ m. certificate_in written ≡ Some m) x.stand_in in
+      signed = signed_so (is_temporary written) (IsTemporaryWrite c.0 r.0 f.0 row.since written) (IsIssuers ws r.0 written) (IsTemporaryCertificate c.0 r.0 f.0 p.since written) (IsOfIssuer s whole r.0 written)
+          (λ x. let made = there (temporary r.0.spec.request f.0 row.since) (λ m. certificate_file_in written ≡ Some m) x.stand_in in
           record { asked_for = x.asked_for; not_denied = x.not_denied; stand_in = made.0; is_stand_in = ap (temporary r.0.spec.request f.0) (sym is.since) ∙ made.1; certificate = made.2; no_ca = x.no_ca })
           (λ x. record { approved = x.approved; never_denied = never_denied s whole r.0 (denied r.0.meta.uid ∙ x.never_denied); issued = x.issued; certificate = x.certificate }) f.2.signed;
     }
@@ -399,15 +399,15 @@ pub good_kept : (s : Setting) (whole h : List Entry) (pass : ℕ) (row : Row) (p
 good_kept s whole h pass row p written right denied is issuing g =
     let ws : List Write = writes s h in
     let law = lawful s h right in
-    let sees = saw ws (λ v. found pass v h) (saved pass h) (asked pass h) (λ v. approved pass v h) row p is issuing in
+    let sees = saw ws (λ v. has_found pass v h) (saved pass h) (last_judged pass h) (λ v. approved pass v h) row p is issuing in
     let at : certificate_at (cached kinds.Certificate ws row.reach.certificates) row.key ≡ Some g.certificate = sym sees.certificate ∙ g.sees in
     let requests : p.seen.requests ≡ requests_of (cached kinds.CertificateRequest ws row.reach.requests) g.certificate = sees.requests ∙ ap (of_certificate (requests_of (cached kinds.CertificateRequest ws row.reach.requests))) at in
     let keys : p.seen.next ≡ next_of (cached kinds.Secret ws row.reach.secrets) g.certificate = sees.next ∙ ap (of_certificate (next_of (cached kinds.Secret ws row.reach.secrets))) at in
     let next : request_in_progress ws row g.certificate ≡ Some g.request = ap (only_of (revision_of_uid g.certificate.meta.uid ws + 1)) (sym requests) ∙ g.next in
     let key : IsNextKey ws row g.certificate g.key = record { named = g.named; among = subst (λ (l : List SecretObject). IsAmong g.key l) keys g.among; labelled = g.labelled; owned = g.key_owned } in
-    let signed : IsSigned ws g.certificate g.request g.file row.since written =
-    signed_so (is_temporary written) (IsStandIn g.certificate g.request g.file p.since written) (IsOfIssuer s whole g.request written) (IsStandingIn g.certificate g.request g.file row.since written) (IsIssuers ws g.request written)
-    (λ x. record { asked_for = x.asked_for; not_denied = x.not_denied; stand_in = here (temporary g.request.spec.request g.file row.since) (λ m. certificate_in written ≡ Some m) x.stand_in (ap (temporary g.request.spec.request g.file) is.since ∙ x.is_stand_in) x.certificate; no_ca = x.no_ca })
+    let signed : IsSignedWrite ws g.certificate g.request g.file row.since written =
+    signed_so (is_temporary written) (IsTemporaryCertificate g.certificate g.request g.file p.since written) (IsOfIssuer s whole g.request written) (IsTemporaryWrite g.certificate g.request g.file row.since written) (IsIssuers ws g.request written)
+    (λ x. record { asked_for = x.asked_for; not_denied = x.not_denied; stand_in = here (temporary g.request.spec.request g.file row.since) (λ m. certificate_file_in written ≡ Some m) x.stand_in (ap (temporary g.request.spec.request g.file) is.since ∙ x.is_stand_in) x.certificate; no_ca = x.no_ca })
     (λ x. record { approved = x.approved; never_denied = sym (denied g.request.meta.uid) ∙ none_denied s whole g.request x.never_denied; issued = x.issued; certificate = x.certificate }) g.signed in
     let with_file : IsIssueWith ws g.certificate g.request g.file row.since written = record { keyed = record { has_key = g.has_key; pair = (g.fields, g.pair); requested = g.requested }; signed = signed } in
     let for_request : IsIssueFor ws row g.certificate written g.request =

@@ -34,23 +34,23 @@ use Rattle.cmc_rules.specs.Safety.{IsGoodAsk, IsGoodIssue, IsGoodRaise, IsStatus
 use Rattle.cmc_rules.specs.Viewing.{Caches, request_at, request_in, views_in, views_of}
 use Rattle.cmc_audit_state.specs.declared.row.Row.{Row}
 use Rattle.cmc_audit_state.specs.declared.row.Version.{Version}
-use Rattle.cmc_audit_state.specs.Heard.{approved, is_told}
+use Rattle.cmc_audit_state.specs.Heard.{approved, has_yes_on}
 use Rattle.cmc_audit_state.specs.Journaled.{cached, is_denied_uid}
 use Rattle.cmc_audit_ledger.specs.Following.{IsRow, reached}
 use Rattle.cmc_audit_clauses.specs.Clauses.{IsApproval, IsIssue, IsJudgedOn}
 use Rattle.cmc_audit_clauses.specs.Issuing.{Exists, IsKeptIssue}
-use Rattle.cmc_audit_clauses.specs.Kept.{IsAskFor, IsKeptApproval, IsKeptAsk, IsKeptRaise, IsKeptWrite, KeepsOrRaises, OnBoth, SameRevision, approves, is_approver, is_issuing, is_secret, is_status_update, secret_in}
+use Rattle.cmc_audit_clauses.specs.Kept.{IsAskFor, IsKeptApproval, IsKeptAsk, IsKeptRaise, IsKeptWrite, KeepsOrRaises, OnBoth, SameRevision, approves, is_approver, is_issuing_role, is_secret, is_status_update, secret_if_any}
 use Rattle.cmc_audit_clauses.proofs.Heeding.{approved_judged, judged_approved, never_denied, none_denied, saved_stands, stands_saved}
 use Rattle.cmc_audit_clauses.proofs.GoodIssues.{DeniesNoMore, KeptRow, cached_version, good_kept, here, kept_good, lawful, there}
 
 -- ---- tests
 
-issuing_so : (r : Role) → is_issuing r ≡ true → r ≡ roles.Issuing
+issuing_so : (r : Role) → is_issuing_role r ≡ true → r ≡ roles.Issuing
 issuing_so roles.Issuing is = refl
 issuing_so other is = absurd (cc is)
 
-issuing_by : (r : Role) → r ≡ roles.Issuing → is_issuing r ≡ true
-issuing_by r is = subst (λ (x : Role). is_issuing x ≡ true) (sym is) refl
+issuing_by : (r : Role) → r ≡ roles.Issuing → is_issuing_role r ≡ true
+issuing_by r is = subst (λ (x : Role). is_issuing_role x ≡ true) (sym is) refl
 
 approver_so : (r : Role) → is_approver r ≡ true → r ≡ roles.Approver
 approver_so roles.Approver is = refl
@@ -151,8 +151,8 @@ version o = record { key = key_of o; number = version_of o }
 approval_so : (s : Setting) (h : List Entry) (pass : ℕ) (row : Row) (p : OpenPass) (old new : CertificateRequest) → KeptRow s h pass row p → IsKeptApproval row (Request old) (Request new)
     → p.role ≡ roles.Approver → is_approved old ≡ false → is_approved new ≡ true → IsJudgedOn h pass (key_of (Request old)) old.meta.version
 approval_so s h pass row p old new is kept role off on =
-    let told : is_told row.yeses (version (Request old)) ≡ true =
-    on_true (is_approver row.role && approves (Request old) (Request new)) (is_told row.yeses (version (Request old)) ≡ true) kept
+    let told : has_yes_on row.yeses (version (Request old)) ≡ true =
+    on_true (is_approver row.role && approves (Request old) (Request new)) (has_yes_on row.yeses (version (Request old)) ≡ true) kept
     (and_from _ _ (approver_by row.role (is.role ∙ role)) (and_from _ _ (not_by (is_approved old) off) on)) in
     approved_judged pass (key_of (Request old)) old.meta.version h (sym (is.approved_is (version (Request old))) ∙ told)
 
@@ -166,7 +166,7 @@ not_both false on = cc on
 
 judged : (s : Setting) (h : List Entry) (pass : ℕ) (row : Row) (p : OpenPass) (old new : Object) → KeptRow s h pass row p → (is_approver row.role && approves old new) ≡ true
     → ((a b : CertificateRequest) → p.role ≡ roles.Approver → old ≡ Request a → new ≡ Request b → is_approved a ≡ false → is_approved b ≡ true → IsJudgedOn h pass (key_of (Request a)) a.meta.version)
-    → is_told row.yeses (version old) ≡ true
+    → has_yes_on row.yeses (version old) ≡ true
 judged s h pass row p (Request a) (Request b) is on all =
     let parts = and_parts _ _ on in
     let both = and_parts _ _ parts.1 in
@@ -181,13 +181,13 @@ pub pass_approves : (s : Setting) (h : List Entry) (pass : ℕ) (row : Row) (p :
 pass_approves s h pass row p call before after is = (
   λ kept old new role was now off on. approval_so s h pass row p old new is (both_so (IsKeptApproval row) before after kept (Request old) (Request new) was now) role off on,
   λ all. both_by (IsKeptApproval row) before after (λ old new was now.
-      if_true (is_approver row.role && approves old new) (is_told row.yeses (version old) ≡ true)
+      if_true (is_approver row.role && approves old new) (has_yes_on row.yeses (version old) ≡ true)
       (λ on. judged s h pass row p old new is on (λ a b role a_is b_is off yes. all a b role (was ∙ ap Some a_is) (now ∙ ap Some b_is) off yes))),
 )
 
 -- ---- issues
 
-secret_there : (x : Option Object) (k : SecretObject) → secret_in x ≡ Some k → x ≡ Some (Secret k)
+secret_there : (x : Option Object) (k : SecretObject) → secret_if_any x ≡ Some k → x ≡ Some (Secret k)
 secret_there None k e = absurd (cc e)
 secret_there (Some (Cert c)) k e = absurd (cc e)
 secret_there (Some (Request r)) k e = absurd (cc e)
@@ -196,8 +196,8 @@ secret_there (Some (Secret j)) k e = let one : j ≡ k = cc e in ap (λ (y : Sec
 write_so : (s : Setting) (whole h : List Entry) (pass : ℕ) (row : Row) (p : OpenPass) (call : Call) (before after : Option Object) → IsAnswered s h
     → ((k : SecretObject) → after ≡ Some (Secret k) → DeniesNoMore s whole h) → KeptRow s h pass row p → IsKeptWrite (writes s h) row (key_of_call call).kind after → IsIssue s whole h pass p call before after
 write_so s whole h pass row p call before after right denied is kept role kind =
-    let some = there (secret_in after) (IsKeptIssue (writes s h) row)
-    (on_true (is_issuing row.role && is_secret (key_of_call call).kind) (Exists (secret_in after) (IsKeptIssue (writes s h) row)) kept
+    let some = there (secret_if_any after) (IsKeptIssue (writes s h) row)
+    (on_true (is_issuing_role row.role && is_secret (key_of_call call).kind) (Exists (secret_if_any after) (IsKeptIssue (writes s h) row)) kept
     (and_from _ _ (issuing_by row.role (is.role ∙ role)) (secret_by (key_of_call call).kind kind))) in
     let stands = secret_there after some.0 some.1 in
     (some.0, stands, kept_good s whole h pass row p some.0 right (denied some.0 stands) is role some.2)
@@ -205,12 +205,12 @@ write_so s whole h pass row p call before after right denied is kept role kind =
 write_by : (s : Setting) (whole h : List Entry) (pass : ℕ) (row : Row) (p : OpenPass) (call : Call) (before after : Option Object) → IsAnswered s h
     → ((k : SecretObject) → after ≡ Some (Secret k) → DeniesNoMore s whole h) → KeptRow s h pass row p → IsIssue s whole h pass p call before after → IsKeptWrite (writes s h) row (key_of_call call).kind after
 write_by s whole h pass row p call before after right denied is issue =
-    if_true (is_issuing row.role && is_secret (key_of_call call).kind) (Exists (secret_in after) (IsKeptIssue (writes s h) row))
+    if_true (is_issuing_role row.role && is_secret (key_of_call call).kind) (Exists (secret_if_any after) (IsKeptIssue (writes s h) row))
     (λ on.
     let parts = and_parts _ _ on in
     let role = sym is.role ∙ issuing_so row.role parts.0 in
     let some = issue role (secret_so (key_of_call call).kind parts.1) in
-    here (secret_in after) (IsKeptIssue (writes s h) row) some.0 (ap secret_in some.1) (good_kept s whole h pass row p some.0 right (denied some.0 some.1) is role some.2))
+    here (secret_if_any after) (IsKeptIssue (writes s h) row) some.0 (ap secret_if_any some.1) (good_kept s whole h pass row p some.0 right (denied some.0 some.1) is role some.2))
 
 pub pass_issues : (s : Setting) (whole h : List Entry) (pass : ℕ) (row : Row) (p : OpenPass) (call : Call) (before after : Option Object) → IsAnswered s h
     → ((k : SecretObject) → after ≡ Some (Secret k) → DeniesNoMore s whole h) → KeptRow s h pass row p → IsKeptWrite (writes s h) row (key_of_call call).kind after ↔ IsIssue s whole h pass p call before after

@@ -29,9 +29,9 @@ use Rattle.cmc_model.specs.declared.write.Write.{Write}
 use Rattle.cmc_model.specs.Versions.{IsVersion}
 use Rattle.cmc_model.specs.Histories.{Setting}
 use Rattle.cmc_model.specs.Writes.{writes}
-use Rattle.cmc_rules.specs.Safety.{Stands, LastAsks, IsNeverDenied, IsSecretWrite, IsServed, IsSecretSaved}
+use Rattle.cmc_rules.specs.Safety.{HasEntry, LastAsks, IsNeverDenied, IsSecretWrite, IsServedReply, IsSecretSaved}
 use Rattle.cmc_audit_state.specs.declared.row.Version.{Version}
-use Rattle.cmc_audit_state.specs.Heard.{asked, approved, is_about, is_by, is_lasting, is_same_version, is_served, judged_version, saved, writes_lasting}
+use Rattle.cmc_audit_state.specs.Heard.{last_judged, approved, is_about, is_by, is_lasting, is_same_version, is_served, judged_version, saved, writes_lasting}
 use Rattle.cmc_audit_state.specs.Journaled.{denies, is_denied_uid}
 use Rattle.cmc_audit_clauses.specs.Clauses.{AsksAbout, IsJudgedOn}
 
@@ -78,7 +78,7 @@ secret_write (UpdateStatus o named) is = absurd (cc is)
 secret_write (Delete key named) is = absurd (cc is)
 secret_write (Get key) is = absurd (cc is)
 
-served : (reply : Reply) → is_served reply ≡ true → IsServed reply
+served : (reply : Reply) → is_served reply ≡ true → IsServedReply reply
 served (Ok version name) is = tt
 served (Unchanged version) is = tt
 served (Found object) is = absurd (cc is)
@@ -103,7 +103,7 @@ writes_secret (UpdateStatus o named) is = absurd is
 writes_secret (Delete key named) is = absurd is
 writes_secret (Get key) is = absurd is
 
-is_served_by : (reply : Reply) → IsServed reply → is_served reply ≡ true
+is_served_by : (reply : Reply) → IsServedReply reply → is_served reply ≡ true
 is_served_by (Ok version name) is = refl
 is_served_by (Unchanged version) is = refl
 is_served_by (Found object) is = absurd is
@@ -123,12 +123,12 @@ saved_here n who call reply is =
     let both = and_parts _ _ parts.1 in
     (call, reply, ap (λ (w : Who). Called w call reply) (by_pass n who parts.0), secret_write call both.0, served reply both.1)
 
-saved_or : (n : ℕ) (who : Who) (call : Call) (reply : Reply) (h : List Entry) → ((is_by n who && (writes_lasting call && is_served reply)) ≡ true) ⊎ (saved n h ≡ true) → (saved n h ≡ true → Stands (IsSecretSaved n) h)
-    → Stands (IsSecretSaved n) (Called who call reply ∷ h)
+saved_or : (n : ℕ) (who : Who) (call : Call) (reply : Reply) (h : List Entry) → ((is_by n who && (writes_lasting call && is_served reply)) ≡ true) ⊎ (saved n h ≡ true) → (saved n h ≡ true → HasEntry (IsSecretSaved n) h)
+    → HasEntry (IsSecretSaved n) (Called who call reply ∷ h)
 saved_or n who call reply h (inl here) below = inl (saved_here n who call reply here)
 saved_or n who call reply h (inr there) below = inr (below there)
 
-pub saved_stands : (n : ℕ) (h : List Entry) → saved n h ≡ true → Stands (IsSecretSaved n) h
+pub saved_stands : (n : ℕ) (h : List Entry) → saved n h ≡ true → HasEntry (IsSecretSaved n) h
 saved_stands n [] is = absurd (cc is)
 saved_stands n (Called who call reply ∷ h) is = saved_or n who call reply h (either _ _ is) (saved_stands n h)
 saved_stands n (other ∷ h) is = inr (saved_stands n h is)
@@ -146,9 +146,9 @@ not_saved n e before apart is = absurd (apart (Pass n) is.0 is.1 is.2)
 here_saved : (n : ℕ) (who : Who) (call : Call) (reply : Reply) → IsSecretSaved n (Called who call reply) → (is_by n who && (writes_lasting call && is_served reply)) ≡ true
 here_saved n who call reply is =
     let same = call_is n who call reply is.0 is.1 is.2 in
-    and_from _ _ (pass_itself n who same.0) (and_from _ _ (writes_secret call (subst IsSecretWrite (sym same.1) is.3)) (is_served_by reply (subst IsServed (sym same.2) is.4)))
+    and_from _ _ (pass_itself n who same.0) (and_from _ _ (writes_secret call (subst IsSecretWrite (sym same.1) is.3)) (is_served_by reply (subst IsServedReply (sym same.2) is.4)))
 
-pub stands_saved : (n : ℕ) (h : List Entry) → Stands (IsSecretSaved n) h → saved n h ≡ true
+pub stands_saved : (n : ℕ) (h : List Entry) → HasEntry (IsSecretSaved n) h → saved n h ≡ true
 stands_saved n [] is = absurd is
 stands_saved n (Called who call reply ∷ h) (inl here) = or_here _ _ (here_saved n who call reply here)
 stands_saved n (Called who call reply ∷ h) (inr there) = or_there _ _ (stands_saved n h there)
@@ -235,36 +235,36 @@ is_about_it key number (orders.Judge o) is = same_version (version (key_of (Requ
 number_differs : (n m : ℕ) → (n == m) ≡ false → m ≢ n
 number_differs n m e same = grind (arith, nat_tests, e, same)
 
-asks_by : (b : Bool) (n m : ℕ) (key : Key) (number : ℕ) (order : Order) (h : List Entry) → (n == m) ≡ b → (is_about (version key number) (asked n h) ≡ true → LastAsks n (AsksAbout key number) h)
-    → is_about (version key number) (if b then judged_version order else asked n h) ≡ true → LastAsks n (AsksAbout key number) (Ask m order ∷ h)
+asks_by : (b : Bool) (n m : ℕ) (key : Key) (number : ℕ) (order : Order) (h : List Entry) → (n == m) ≡ b → (is_about (version key number) (last_judged n h) ≡ true → LastAsks n (AsksAbout key number) h)
+    → is_about (version key number) (if b then judged_version order else last_judged n h) ≡ true → LastAsks n (AsksAbout key number) (Ask m order ∷ h)
 asks_by true n m key number order h e below is = inl (sym (same_number n m e), about key number order is)
 asks_by false n m key number order h e below is = inr (number_differs n m e, below is)
 
-last_asks : (n : ℕ) (key : Key) (number : ℕ) (h : List Entry) → is_about (version key number) (asked n h) ≡ true → LastAsks n (AsksAbout key number) h
+last_asks : (n : ℕ) (key : Key) (number : ℕ) (h : List Entry) → is_about (version key number) (last_judged n h) ≡ true → LastAsks n (AsksAbout key number) h
 last_asks n key number [] is = absurd (cc is)
 last_asks n key number (Ask m order ∷ h) is = asks_by (n == m) n m key number order h refl (last_asks n key number h) is
 last_asks n key number (other ∷ h) is = last_asks n key number h is
 
-asked_by : (b : Bool) (n m : ℕ) (key : Key) (number : ℕ) (order : Order) (h : List Entry) → (n == m) ≡ b → (LastAsks n (AsksAbout key number) h → is_about (version key number) (asked n h) ≡ true)
-    → LastAsks n (AsksAbout key number) (Ask m order ∷ h) → is_about (version key number) (if b then judged_version order else asked n h) ≡ true
+asked_by : (b : Bool) (n m : ℕ) (key : Key) (number : ℕ) (order : Order) (h : List Entry) → (n == m) ≡ b → (LastAsks n (AsksAbout key number) h → is_about (version key number) (last_judged n h) ≡ true)
+    → LastAsks n (AsksAbout key number) (Ask m order ∷ h) → is_about (version key number) (if b then judged_version order else last_judged n h) ≡ true
 asked_by true n m key number order h e below (inl here) = is_about_it key number order here.1
 asked_by true n m key number order h e below (inr there) = absurd (there.0 (sym (same_number n m e)))
 asked_by false n m key number order h e below (inl here) = absurd (number_differs n m e here.0)
 asked_by false n m key number order h e below (inr there) = below there.1
 
-asked_last : (n : ℕ) (key : Key) (number : ℕ) (h : List Entry) → LastAsks n (AsksAbout key number) h → is_about (version key number) (asked n h) ≡ true
+asked_last : (n : ℕ) (key : Key) (number : ℕ) (h : List Entry) → LastAsks n (AsksAbout key number) h → is_about (version key number) (last_judged n h) ≡ true
 asked_last n key number [] is = absurd is
 asked_last n key number (Ask m order ∷ h) is = asked_by (n == m) n m key number order h refl (asked_last n key number h) is
 asked_last n key number (other ∷ h) is = asked_last n key number h is
 
-judged_here : (n m : ℕ) (told : Bool) (key : Key) (number : ℕ) (h : List Entry) → (n == m && (told && is_about (version key number) (asked n h))) ≡ true
+judged_here : (n m : ℕ) (told : Bool) (key : Key) (number : ℕ) (h : List Entry) → (n == m && (told && is_about (version key number) (last_judged n h))) ≡ true
     → (Judged m told ≡ Judged n true) × LastAsks n (AsksAbout key number) h
 judged_here n m told key number h is =
     let parts = and_parts _ _ is in
     let both = and_parts _ _ parts.1 in
     (ap (λ k. Judged k told) (sym (same_number n m parts.0)) ∙ ap (Judged n) both.0, last_asks n key number h both.1)
 
-judged_or : (n m : ℕ) (told : Bool) (key : Key) (number : ℕ) (h : List Entry) → ((n == m && (told && is_about (version key number) (asked n h))) ≡ true) ⊎ (approved n (version key number) h ≡ true)
+judged_or : (n m : ℕ) (told : Bool) (key : Key) (number : ℕ) (h : List Entry) → ((n == m && (told && is_about (version key number) (last_judged n h))) ≡ true) ⊎ (approved n (version key number) h ≡ true)
     → (approved n (version key number) h ≡ true → IsJudgedOn h n key number) → IsJudgedOn (Judged m told ∷ h) n key number
 judged_or n m told key number h (inl here) below = inl (judged_here n m told key number h here)
 judged_or n m told key number h (inr there) below = inr (below there)

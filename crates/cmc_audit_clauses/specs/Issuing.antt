@@ -4,7 +4,7 @@ use Rattle.cmc_meta.specs.declared.key.Kind.TheVariants as kinds
 use Rattle.cmc_meta.specs.declared.conditions.Condition.{Condition}
 use Rattle.cmc_meta.specs.declared.conditions.ConditionKind.TheVariants as conditions
 use Rattle.cmc_meta.specs.declared.conditions.Tri.TheVariants as tri
-use Rattle.cmc_meta.specs.PairLists.{text_at}
+use Rattle.cmc_meta.specs.PairLists.{text_by_key}
 use Rattle.cmc_objects.specs.declared.certificate.Certificate.{Certificate}
 use Rattle.cmc_objects.specs.declared.request.CertificateRequest.{CertificateRequest}
 use Rattle.cmc_objects.specs.declared.secret.Secret.{Secret as SecretObject}
@@ -12,7 +12,7 @@ use Rattle.cmc_objects.specs.Requests.{is_approved, is_denied}
 use Rattle.cmc_der.specs.Keys.{CertificateFields}
 use Rattle.cmc_match.specs.Marks.{is_temporary, asks_for_temporary}
 use Rattle.cmc_match.specs.Matching.{Matches}
-use Rattle.cmc_match.specs.Facts.{IsPair, HasRequestedKey, key_in, certificate_in}
+use Rattle.cmc_match.specs.Facts.{IsPair, HasRequestedKey, key_in, certificate_file_in}
 use Rattle.cmc_match.specs.Revisions.{only_of}
 use Rattle.cmc_answers.specs.Temporary.{temporary}
 use Rattle.cmc_model.specs.declared.write.Write.{Write}
@@ -47,23 +47,23 @@ pub record IsIssuers (ws : List Write) (r : CertificateRequest) (written : Secre
   pub approved : is_approved r ≡ true
   pub never_denied : is_denied_uid r.meta.uid ws ≡ false
   pub issued : IsIssued r
-  pub certificate : certificate_in written ≡ Some r.status.certificate
+  pub certificate : certificate_file_in written ≡ Some r.status.certificate
 
 -- a stand-in certificate
-pub record IsStandingIn (c : Certificate) (r : CertificateRequest) (file : List ℕ) (since : ℤ) (written : SecretObject) : Type 0 where
+pub record IsTemporaryWrite (c : Certificate) (r : CertificateRequest) (file : List ℕ) (since : ℤ) (written : SecretObject) : Type 0 where
   pub asked_for : asks_for_temporary c ≡ true
   pub not_denied : is_denied r ≡ false
-  pub stand_in : Exists (temporary r.spec.request file since) (λ made. certificate_in written ≡ Some made)
-  pub no_ca : text_at written.parts (codes "ca.crt") ≡ None
+  pub stand_in : Exists (temporary r.spec.request file since) (λ made. certificate_file_in written ≡ Some made)
+  pub no_ca : text_by_key written.parts (codes "ca.crt") ≡ None
 
 -- what is written has the Certificate's namespace and the name that it gives
-pub record IsTarget (c : Certificate) (written : SecretObject) : Type 0 where
+pub record HasTargetName (c : Certificate) (written : SecretObject) : Type 0 where
   pub namespace : written.meta.namespace ≡ c.meta.namespace
   pub name : written.meta.name ≡ c.spec.secret_name
   pub unlabelled : has_next_label written.meta ≡ false
 
-abbrev pub IsSigned : List Write → Certificate → CertificateRequest → List ℕ → ℤ → SecretObject → Type 0
-IsSigned ws c r file since written = MatchBool (is_temporary written) (IsStandingIn c r file since written) (IsIssuers ws r written)
+abbrev pub IsSignedWrite : List Write → Certificate → CertificateRequest → List ℕ → ℤ → SecretObject → Type 0
+IsSignedWrite ws c r file since written = MatchBool (is_temporary written) (IsTemporaryWrite c r file since written) (IsIssuers ws r written)
 
 -- what is written has this key, which is a pair with its certificate, and of the request
 pub record IsKeyed (c : Certificate) (r : CertificateRequest) (file : List ℕ) (written : SecretObject) : Type 0 where
@@ -74,7 +74,7 @@ pub record IsKeyed (c : Certificate) (r : CertificateRequest) (file : List ℕ) 
 -- with this key file
 pub record IsIssueWith (ws : List Write) (c : Certificate) (r : CertificateRequest) (file : List ℕ) (since : ℤ) (written : SecretObject) : Type 0 where
   pub keyed : IsKeyed c r file written
-  pub signed : IsSigned ws c r file since written
+  pub signed : IsSignedWrite ws c r file since written
 
 -- with this Secret that holds the key
 abbrev pub IsIssueBy : List Write → Certificate → CertificateRequest → ℤ → SecretObject → SecretObject → Type 0
@@ -83,7 +83,7 @@ IsIssueBy ws c r since written key = Exists (key_in key) (λ file. IsIssueWith w
 -- for this request
 pub record IsIssueFor (ws : List Write) (row : Row) (c : Certificate) (written : SecretObject) (r : CertificateRequest) : Type 0 where
   pub matches : Matches c.spec r
-  pub target : IsTarget c written
+  pub target : HasTargetName c written
   pub key : Exists (next_key_at (cached kinds.Secret ws row.reach.secrets) c) (IsIssueBy ws c r row.since written)
 
 -- the one request of the revision in progress

@@ -18,7 +18,7 @@ use Rattle.cmc_model.specs.declared.write.Write.{Write}
 use Rattle.cmc_rules.specs.Raising.{stated_revision, RaisesRevision}
 use Rattle.cmc_rules.specs.Viewing.{request_at}
 use Rattle.cmc_audit_state.specs.declared.row.Row.{Row}
-use Rattle.cmc_audit_state.specs.Heard.{is_told}
+use Rattle.cmc_audit_state.specs.Heard.{has_yes_on}
 use Rattle.cmc_audit_state.specs.Journaled.{cached, is_denied_uid}
 use Rattle.cmc_audit_clauses.specs.Issuing.{Exists, IsKeptIssue}
 
@@ -30,21 +30,21 @@ OnBoth P (Some old) (Some new) = P old new
 
 -- ---- issues
 
-abbrev pub is_issuing : Role → Bool
-is_issuing roles.Issuing = true
-is_issuing other = false
+abbrev pub is_issuing_role : Role → Bool
+is_issuing_role roles.Issuing = true
+is_issuing_role other = false
 
 abbrev pub is_secret : Kind → Bool
 is_secret kinds.Secret = true
 is_secret other = false
 
-abbrev pub secret_in : Option Object → Option SecretObject
-secret_in (Some (Secret k)) = Some k
-secret_in other = None
+abbrev pub secret_if_any : Option Object → Option SecretObject
+secret_if_any (Some (Secret k)) = Some k
+secret_if_any other = None
 
 -- what issuing writes under a Secret's key is an issue
 abbrev pub IsKeptWrite : List Write → Row → Kind → Option Object → Type 0
-IsKeptWrite ws row kind after = MatchBool (is_issuing row.role && is_secret kind) (Exists (secret_in after) (IsKeptIssue ws row)) (Unit {0})
+IsKeptWrite ws row kind after = MatchBool (is_issuing_role row.role && is_secret kind) (Exists (secret_if_any after) (IsKeptIssue ws row)) (Unit {0})
 
 -- ---- revisions
 
@@ -56,7 +56,7 @@ abbrev pub SameRevision : Object → Object → Type 0
 SameRevision old new = stated_revision new ≡ stated_revision old
 
 pub record IsKeptRaise (row : Row) (call : Call) (old new : Object) : Type 0 where
-  pub issuing : is_issuing row.role ≡ true
+  pub issuing : is_issuing_role row.role ≡ true
   pub status : is_status_update call ≡ true
   pub by_one : RaisesRevision (Some old) (Some new)
   pub saved : row.saved ≡ true
@@ -77,7 +77,7 @@ approves old new = false
 
 -- the approver was told yes about the version that it approves
 abbrev pub IsKeptApproval : Row → Object → Object → Type 0
-IsKeptApproval row old new = MatchBool (is_approver row.role && approves old new) (is_told row.yeses (record { key = key_of old; number = version_of old }) ≡ true) (Unit {0})
+IsKeptApproval row old new = MatchBool (is_approver row.role && approves old new) (has_yes_on row.yeses (record { key = key_of old; number = version_of old }) ≡ true) (Unit {0})
 
 -- ---- questions
 

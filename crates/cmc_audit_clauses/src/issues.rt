@@ -4,14 +4,14 @@ ghost use Rattle.std.specs.Prelude.{◌≡◌, ◌↔◌, ℕ, List, IfOk, IsTru
 ghost use Rattle.cmc_meta.specs.declared.key.Kind.TheVariants as kinds;
 ghost use Rattle.cmc_der.specs.Keys.{CertificateFields};
 ghost use Rattle.cmc_objects.specs.Requests.{is_run_time};
-ghost use Rattle.cmc_meta.specs.PairLists.{text_at};
+ghost use Rattle.cmc_meta.specs.PairLists.{text_by_key};
 ghost use Rattle.cmc_answers.specs.Temporary as spec;
-ghost use Rattle.cmc_match.specs.Facts.{HasRequestedKey, IsPair, certificate_in, key_in};
+ghost use Rattle.cmc_match.specs.Facts.{HasRequestedKey, IsPair, certificate_file_in, key_in};
 ghost use Rattle.cmc_rules.specs.Safety.{IsIssued};
 ghost use Rattle.cmc_rules.specs.Viewing as seen;
 ghost use Rattle.cmc_audit_state.specs.Journaled.{cached};
 ghost use Rattle.cmc_audit_clauses.specs.Issuing as words;
-ghost use Rattle.cmc_audit_clauses.specs.Issuing.{Exists, IsIssueBy, IsIssueFor, IsIssueOf, IsIssueWith, IsIssuers, IsKeptIssue, IsKeyed, IsSigned, IsStandingIn, IsTarget, SaysIssued};
+ghost use Rattle.cmc_audit_clauses.specs.Issuing.{Exists, IsIssueBy, IsIssueFor, IsIssueOf, IsIssueWith, IsIssuers, IsKeptIssue, IsKeyed, IsSignedWrite, IsTemporaryWrite, HasTargetName, SaysIssued};
 
 use cmc_answers::temporary;
 use cmc_audit_ledger::certificate_seen;
@@ -31,13 +31,13 @@ fn key_of<'a>(secret: &'a Secret) -> Option<&'a Bytes>
 }
 
 fn certificate_of<'a>(secret: &'a Secret) -> Option<&'a Bytes>
-    ensures { option_copied result ≡ certificate_in secret.now }
+    ensures { option_copied result ≡ certificate_file_in secret.now }
 {
     part_under(&secret.parts, "tls.crt")
 }
 
 fn has_certificate(secret: &Secret, certificate: &Bytes) -> bool
-    ensures { IsTrue result ↔ (certificate_in secret.now ≡ Some certificate.now) }
+    ensures { IsTrue result ↔ (certificate_file_in secret.now ≡ Some certificate.now) }
 {
     match certificate_of(secret) {
         Some(found) => found.same(certificate),
@@ -55,7 +55,7 @@ fn has_key(secret: &Secret, file: &Bytes) -> bool
 }
 
 fn has_no_ca(secret: &Secret) -> bool
-    ensures { IsTrue result ↔ (text_at secret.now.parts (codes "ca.crt") ≡ None) }
+    ensures { IsTrue result ↔ (text_by_key secret.now.parts (codes "ca.crt") ≡ None) }
 {
     part_under(&secret.parts, "ca.crt").is_none()
 }
@@ -96,7 +96,7 @@ fn has_stand_in(
     written: &Secret,
 ) -> Result<bool, AllocError>
     requires { is_run_time since ≡ true }
-    ensures { IfOk result (λ has. IsTrue has ↔ Exists (spec.temporary request.now.spec.request file.now since) (λ made. certificate_in written.now ≡ Some made)) }
+    ensures { IfOk result (λ has. IsTrue has ↔ Exists (spec.temporary request.now.spec.request file.now since) (λ made. certificate_file_in written.now ≡ Some made)) }
 {
     match temporary(
         alloc,
@@ -119,7 +119,7 @@ fn is_standing_in(
     written: &Secret,
 ) -> Result<bool, AllocError>
     requires { is_run_time since ≡ true }
-    ensures { IfOk result (λ is. IsTrue is ↔ IsStandingIn certificate.now request.now file.now since written.now) }
+    ensures { IfOk result (λ is. IsTrue is ↔ IsTemporaryWrite certificate.now request.now file.now since written.now) }
 {
     if !asks_for_temporary(certificate) || is_denied(request) || !has_no_ca(written) {
         return Ok(false);
@@ -137,7 +137,7 @@ fn is_signed(
     written: &Secret,
 ) -> Result<bool, AllocError>
     requires { is_run_time since ≡ true }
-    ensures { IfOk result (λ is. IsTrue is ↔ IsSigned journal.now certificate.now request.now file.now since written.now) }
+    ensures { IfOk result (λ is. IsTrue is ↔ IsSignedWrite journal.now certificate.now request.now file.now since written.now) }
 {
     if is_temporary(written) {
         return is_standing_in(alloc, certificate, request, file, since, written);
@@ -217,7 +217,7 @@ fn is_issue_by(
 }
 
 fn is_target(certificate: &Certificate, written: &Secret) -> bool
-    ensures { IsTrue result ↔ IsTarget certificate.now written.now }
+    ensures { IsTrue result ↔ HasTargetName certificate.now written.now }
 {
     written.meta.namespace.same(&certificate.meta.namespace)
         && written.meta.name.same(&certificate.spec.secret_name)

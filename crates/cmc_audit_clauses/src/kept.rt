@@ -21,7 +21,7 @@ use cmc_objects::{Call, CertificateRequest, Object, Role, Secret, Shared, works_
 use std::alloc::{AllocError, Global};
 
 fn is_issuing(role: Role) -> bool
-    ensures { result ≡ words.is_issuing role }
+    ensures { result ≡ words.is_issuing_role role }
 {
     matches!(role, Role::Issuing)
 }
@@ -33,7 +33,7 @@ fn is_secret(kind: Kind) -> bool
 }
 
 fn secret_in<'a>(object: Option<&'a Object>) -> Option<&'a Shared<Secret>>
-    ensures { option_copied result ≡ words.secret_in (option_copied object.entry) }
+    ensures { option_copied result ≡ words.secret_if_any (option_copied object.entry) }
 {
     match object {
         Some(Object::Secret(secret)) => Some(secret),
@@ -151,7 +151,7 @@ fn number_of(object: &Object) -> u64
 }
 
 fn is_told(row: &Row, old: &Object) -> Result<bool, AllocError>
-    ensures { IfOk result (λ is. is ≡ heard.is_told row.now.yeses (record { key = key_of old.now; number = version_of old.now })) }
+    ensures { IfOk result (λ is. is ≡ heard.has_yes_on row.now.yeses (record { key = key_of old.now; number = version_of old.now })) }
 {
     let key = old.key()?;
     row.yeses.has(&key, number_of(old))

@@ -1,7 +1,7 @@
 //! What the accepted write of a role may change.
 ghost use Rattle.std.specs.Option.{option_copied};
 ghost use Rattle.std.specs.Prelude.{◌≡◌, ◌↔◌, IfOk, IsTrue, None, Some};
-ghost use Rattle.cmc_rules.specs.Rights.{ChangesAnswer, ChangesIssuance, ChangesIssuing, ChangesNextKey, ChangesReadiness, ChangesVerdict, Changes, IsLabelled, IsRequest, KeepsMeta, Makes, MayChange, OfCertificates, OfRequests, Takes};
+ghost use Rattle.cmc_rules.specs.Rights.{ChangesAnswer, ChangesIssuance, ChangesIssuing, ChangesNextKey, ChangesReadiness, ChangesVerdict, Changes, IsLabelled, IsRequestObject, KeepsMeta, Makes, MayChange, OfCertificates, OfRequests, DeletesWhere};
 
 use crate::kept_parts::{
     changes_answer, changes_issuance, changes_issuing, changes_next_key, changes_readiness,
@@ -105,7 +105,7 @@ fn gives_answer(alloc: Global, old: &Object, new: &Object) -> Result<bool, Alloc
 }
 
 fn is_request(object: &Object) -> bool
-    ensures { IsTrue result ↔ IsRequest object.now }
+    ensures { IsTrue result ↔ IsRequestObject object.now }
 {
     matches!(object, Object::Request(_))
 }

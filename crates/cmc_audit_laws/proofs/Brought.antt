@@ -118,7 +118,7 @@ answered seen r status sees = record { old = r; sees = sees; spec = refl }
 trigger_reason : (seen : Views) (now : ℤ) (c : Certificate) (reason : Option _) → seen.certificate ≡ Some c → Does seen (triggering.for_reason now seen.requests c reason)
 unfolding triggering.issue_call triggering.with_issuing
 trigger_reason seen now c None sees = nothing seen
-trigger_reason seen now c (Some reason) sees = by_test (Does seen) (triggering.is_held_back now seen.requests c) _ _ (λ on. nothing seen) (λ off. record { is = restated seen c _ sees })
+trigger_reason seen now c (Some reason) sees = by_test (Does seen) (triggering.is_in_back_off now seen.requests c) _ _ (λ on. nothing seen) (λ off. record { is = restated seen c _ sees })
 
 trigger_of : (seen : Views) (now : ℤ) (x : Option Certificate) → seen.certificate ≡ x → Does seen (triggering.for_option now seen.secret seen.requests x)
 unfolding triggering.for_certificate
@@ -199,7 +199,7 @@ by_stale_brings : (seen : Views) (c : Certificate) (file : List ℕ) (requests :
 by_stale_brings seen c file requests None = by_count_brings seen c file (next_requests c requests)
 by_stale_brings seen c file requests (Some stale) = delete_brings seen (Some stale)
 
-with_file_brings : (seen : Views) (c : Certificate) (requests : List CertificateRequest) (file : Option (List ℕ)) → Does seen (request_managing.with_file c requests file)
+with_file_brings : (seen : Views) (c : Certificate) (requests : List CertificateRequest) (file : Option (List ℕ)) → Does seen (request_managing.with_request_file c requests file)
 with_file_brings seen c requests None = nothing seen
 with_file_brings seen c requests (Some file) = by_test (Does seen) (fits c.spec.key file) _ _ (λ on. by_stale_brings seen c file requests (request_managing.stale_request c file requests)) (λ off. nothing seen)
 
@@ -243,7 +243,7 @@ judge_brings seen desk None = nothing seen
 judge_brings seen desk (Some r) = by_test (Does seen) (is_approved r || is_denied r) _ _ (λ on. nothing seen) (λ off. by_test (Does seen) (approving.is_covered desk.rules r.spec.issuer) _ _ (λ covered. record { is = tt }) (λ other. nothing seen))
 
 judged_by_brings : (seen : Views) (r : CertificateRequest) (verdict : Option Condition) → seen.request ≡ Some r → FollowBrings seen (approving.judged_by r verdict)
-unfolding approving.judge_call
+unfolding approving.verdict_call
 judged_by_brings seen r None sees = tt
 judged_by_brings seen r (Some verdict) sees = answered seen r _ sees
 
@@ -266,7 +266,7 @@ grant_brings seen now desk None sees = nothing seen
 grant_brings seen now desk (Some r) sees =
     by_test (Does seen) (is_denied r) _ _
     (λ denied. by_test (Does seen) (granting.has_reason (codes "Denied") r) _ _ (λ on. nothing seen) (λ off. calls seen _ (status_brings seen r (granting.denied_status r.status now) sees)))
-    (λ not_denied. by_test (Does seen) (granting.is_open r) _ _ (λ on. by_test (Does seen) (granting.is_waiting now r) _ _ (λ waits. nothing seen) (λ off. ask_issuer_brings seen now desk r)) (λ off. nothing seen))
+    (λ not_denied. by_test (Does seen) (granting.is_open r) _ _ (λ on. by_test (Does seen) (granting.is_request_waiting now r) _ _ (λ waits. nothing seen) (λ off. ask_issuer_brings seen now desk r)) (λ off. nothing seen))
 
 answered_with_brings : (seen : Views) (now : ℤ) (r : CertificateRequest) (value : Value) → seen.request ≡ Some r → FollowBrings seen (granting.answered_with now r value)
 answered_with_brings seen now r (values.Answered answer) sees = status_brings seen r _ sees
@@ -303,7 +303,7 @@ temporary_brings : (seen : Views) (c : Certificate) (file certificate : List ℕ
 unfolding issuing.temporary_plan
 temporary_brings seen c file certificate target = record { is = secret_brings seen true c file certificate [] target }
 
-stand_in_brings : (seen : Views) (c : Certificate) (file : List ℕ) (target : Option SecretObject) (made : Option (List ℕ)) → Does seen (issuing.stand_in_with c file target made)
+stand_in_brings : (seen : Views) (c : Certificate) (file : List ℕ) (target : Option SecretObject) (made : Option (List ℕ)) → Does seen (issuing.temporary_with c file target made)
 stand_in_brings seen c file target None = nothing seen
 stand_in_brings seen c file target (Some certificate) = by_test (Does seen) (nat_le (length certificate) 16777216) _ _ (λ on. temporary_brings seen c file certificate target) (λ off. nothing seen)
 

@@ -22,7 +22,7 @@ use Rattle.cmc_model.specs.Versions.{HasVersion, IsVersion}
 use Rattle.cmc_model.specs.Writes.{writes, write_of}
 use Rattle.cmc_rules.specs.declared.progress.OpenPass.{OpenPass}
 use Rattle.cmc_rules.specs.Rights.{MayChange}
-use Rattle.cmc_rules.specs.Safety.{IsNeverDenied, IsGoodIssue, IsStandIn, IsOfIssuer, AsksWell, WritesWell}
+use Rattle.cmc_rules.specs.Safety.{IsNeverDenied, IsGoodIssue, IsTemporaryCertificate, IsOfIssuer, AsksWell, WritesWell}
 use Rattle.cmc_audit_clauses.specs.Clauses.{IsIssue}
 
 -- ---- what is denied in no version is denied in none up to here
@@ -71,7 +71,7 @@ issue_here s whole part h pass p written earlier g = record {
   fields = g.fields;
   pair = g.pair;
   requested = g.requested;
-  signed = of_issuer (is_temporary written) (IsStandIn g.certificate g.request g.file p.since written) (IsOfIssuer s whole g.request written) (IsOfIssuer s part g.request written)
+  signed = of_issuer (is_temporary written) (IsTemporaryCertificate g.certificate g.request g.file p.since written) (IsOfIssuer s whole g.request written) (IsOfIssuer s part g.request written)
       (λ i. record { approved = i.approved; never_denied = undenied s whole part g.request earlier i.never_denied; issued = i.issued; certificate = i.certificate }) g.signed;
 }
 

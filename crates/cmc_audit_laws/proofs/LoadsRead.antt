@@ -16,7 +16,7 @@ use Rattle.cmc_objects.specs.declared.entry.Step.{Step}
 use Rattle.cmc_objects.specs.declared.entry.Step.TheVariants.{Apply, Tick, Settle}
 use Rattle.cmc_setup.specs.Forms.{is_step_form}
 use Rattle.cmc_setup.specs.Setups.{Setup}
-use Rattle.cmc_setup.specs.Stages.{Stage, first_stage, is_in_turn, stage_after}
+use Rattle.cmc_setup.specs.Stages.{Stage, first_stage, is_in_turn, stage_after_step}
 use Rattle.cmc_print.specs.Trees.{natural}
 use Rattle.cmc_print.specs.Puts.{put_option}
 use Rattle.cmc_print.specs.Words.{role_name}
@@ -27,7 +27,7 @@ use Rattle.cmc_scenario_print.specs.StepTrees.{step_members, step_tree, script_t
 use Rattle.cmc_scenario_print.specs.ScenarioTree.{put_world, put_run, scenario_tree, roles_tree, role_tree}
 use Rattle.cmc_scenario.specs.Loads.{load_name, load_secret, load_meta, load_spec, load_step, loads, rests, load_setup}
 use Rattle.cmc_scenario.specs.Scenarios.{size_at, scenario_at}
-use Rattle.cmc_scenario.specs.Scripts.{step_at, steps_from}
+use Rattle.cmc_scenario.specs.Scripts.{script_step_at, steps_from}
 use Rattle.cmc_scenario.proofs.LoadLaws.{name_is_name, secret_is_name, is_setup}
 use Rattle.cmc_scenario_laws.proofs.AppliedAgain.{certificate_whole}
 use Rattle.cmc_scenario_laws.proofs.StepsAgain.{apply_again, tick_again, settle_again}
@@ -76,7 +76,7 @@ load_meta_typed i low = record { namespace = namespace_is; name = name_is_name i
   namespace_is : is_subdomain (codes "load") ≡ true
   namespace_is = refl
 
-load_again : (i : ℕ) → i < 10000 → is_step_form (load_step i) ≡ true → step_at (step_tree (load_step i)) ≡ Ok (load_step i)
+load_again : (i : ℕ) → i < 10000 → is_step_form (load_step i) ≡ true → script_step_at (step_tree (load_step i)) ≡ Ok (load_step i)
 load_again i low form =
     apply_again (Cert (record { meta = load_meta i; spec = load_spec i; status = no_cert_status })) None
     (certificate_whole (load_meta i) None (load_spec i) (meta_given (load_meta i) (load_meta_typed i low)) tt (spec_given (load_spec i) (load_typed i low) form))
@@ -92,12 +92,12 @@ rests_again n low =
     rw (
       numbered_again n start Settle (early n (omega (arith, low))) settle_again refl,
       numbered_again (n + 1) start (Tick 5184000) (early (n + 1) (omega (arith, low))) (tick_again 5184000 refl) refl,
-      numbered_again (n + 1 + 1) (stage_after start (Tick 5184000)) Settle (early (n + 1 + 1) (omega (arith, low))) settle_again refl,
+      numbered_again (n + 1 + 1) (stage_after_step start (Tick 5184000)) Settle (early (n + 1 + 1) (omega (arith, low))) settle_again refl,
     ) refl
 
-again_as : (step : Step) → IsLoad step → (step_at (step_tree step) ≡ Ok step) × ((is_in_turn start step ≡ true) × (stage_after start step ≡ start))
+again_as : (step : Step) → IsLoad step → (script_step_at (step_tree step) ≡ Ok step) × ((is_in_turn start step ≡ true) × (stage_after_step start step ≡ start))
 again_as step is =
-    subst (λ (s : Step). (step_at (step_tree s) ≡ Ok s) × ((is_in_turn start s ≡ true) × (stage_after start s ≡ start))) (sym is.same) (load_again is.number is.low is.form, (refl, refl))
+    subst (λ (s : Step). (script_step_at (step_tree s) ≡ Ok s) × ((is_in_turn start s ≡ true) × (stage_after_step start s ≡ start))) (sym is.same) (load_again is.number is.low is.form, (refl, refl))
 
 steps_again : (n : ℕ) (steps : List Step) → AllByRecursion IsLoad steps → n + (length steps + 3) ≤ 10000 → steps_from n start (items_of (map step_tree (steps ++ rests))) ≡ Ok (steps ++ rests)
 steps_again n [] are low = rests_again n (omega (arith, low))

@@ -24,9 +24,9 @@ use Rattle.cmc_rules.proofs.Sights.{seen_request}
 use Rattle.cmc_rules.proofs.Versions.{version_keyed}
 use Rattle.cmc_rules.proofs.WellSeen.{SawAll, saw_all}
 use Rattle.cmc_safety.proofs.Course.{AreSound, question_of}
-use Rattle.cmc_lines.specs.Shown.{shown}
+use Rattle.cmc_lines.specs.Shown.{line_of_entry}
 use Rattle.cmc_audit_calls.proofs.OneReply.{one_reply}
-use Rattle.cmc_audit_steps.specs.Meant.{IsVersionNamed, IsNamedOrder, IsNamedEntry, AreNamed, IsMeant}
+use Rattle.cmc_audit_steps.specs.Meant.{IsVersionNamed, IsNamedOrder, IsNamedEntry, AreNamedEntries, IsMeant}
 use Rattle.cmc_audit_laws.specs.Passing.{NamesItsKey, NameTheirKeys}
 
 -- ---- what is seen is a version under its key
@@ -66,7 +66,7 @@ first_of P e h all = all 0 e (omega arith)
 rest_of : (P : Entry → Type 0) (e : Entry) (h : List Entry) → All P (e ∷ h) → All P h
 rest_of P e h all k d low = all (suc k) d (omega (arith, low))
 
-pub are_named : AreSound → (s : Setting) (h : List Entry) → IsLegal s h → IsCaused s h → NameTheirKeys h → AreNamed s h
-unfolding IsLegal IsCaused AreNamed
+pub are_named : AreSound → (s : Setting) (h : List Entry) → IsLegal s h → IsCaused s h → NameTheirKeys h → AreNamedEntries s h
+unfolding IsLegal IsCaused AreNamedEntries
 are_named sound s [] legal caused names = tt
 are_named sound s (e ∷ h) legal caused names = (entry_named sound s h e legal.1 legal.0 caused.0 (first_of NamesItsKey e h names), are_named sound s h legal.1 caused.1 (rest_of NamesItsKey e h names))

@@ -30,12 +30,12 @@ use Rattle.cmc_cursor.specs.Readers.{text_at, word_at, name_at, short_text_at, p
 use Rattle.cmc_print.specs.Trees.{natural}
 use Rattle.cmc_print.specs.Puts.{strings, base64_text, map_tree}
 use Rattle.cmc_print.specs.Printed.{duration_tree, meta_tree, spec_tree, request_tree, owner_tree, owners_tree, status_members, put_moments, request_status_members, head_members, object_tree}
-use Rattle.cmc_codec.specs.Given.{address_text_at, worded_at, list_from, list_at, clean_text_at, duration_at}
+use Rattle.cmc_codec.specs.Given.{address_text_at, worded_at, list_from, text_list_at, clean_text_at, duration_at}
 use Rattle.cmc_codec.specs.declared.given.Wording.{Wording}
 use Rattle.cmc_codec.specs.declared.given.Wording.TheVariants.{Any, Printable, Address}
-use Rattle.cmc_codec.specs.MetadataForm.{new_meta, owners_from, head_at}
+use Rattle.cmc_codec.specs.MetadataForm.{unstored_meta, owners_from, head_at}
 use Rattle.cmc_codec.specs.CertificateForm.{api_at, spec_at, api_request_spec_at}
-use Rattle.cmc_codec.specs.ObjectForm.{certificate_in, request_in, secret_in, applied_at, object_at}
+use Rattle.cmc_codec.specs.ObjectForm.{applied_certificate_in, applied_request_in, applied_secret_in, applied_at, object_read_at}
 use Rattle.cmc_codec.specs.Laws.{EachValue, IsOrdered, bare_meta, bare}
 use Rattle.cmc_codec.specs.declared.certificate_in.Api.TheVariants.{V1}
 use Rattle.cmc_codec.specs.declared.metadata_in.Head.{Head}
@@ -170,8 +170,8 @@ certificate_printed : (m : ObjectMeta) (s : CertSpec) → object_tree (new_certi
 unfolding object_tree head_members status_members put_moments
 certificate_printed m s = refl
 
-certificate_again : (m : ObjectMeta) (s : CertSpec) → IsMeta m → IsSpec s → certificate_in (fields_of (slots (certificate_places m s))) ≡ Ok (alone (new_certificate m s))
-unfolding certificate_in
+certificate_again : (m : ObjectMeta) (s : CertSpec) → IsMeta m → IsSpec s → applied_certificate_in (fields_of (slots (certificate_places m s))) ≡ Ok (alone (new_certificate m s))
+unfolding applied_certificate_in
 certificate_again m s is_meta is_spec =
     let ps = certificate_places m s in
     (bind _ _ _ _ (needed_is api_at (codes "apiVersion") (string (codes "cert-manager.io/v1")) (drop 1 ps) V1 refl refl)
@@ -179,7 +179,7 @@ certificate_again m s is_meta is_spec =
     (bind _ _ _ _ (needed_is head_at (codes "metadata") (meta_tree m) (drop 3 ps) (head_is m) refl (head_again m is_meta))
     (bind _ _ _ _ (needed_is (spec_at V1) (codes "spec") (spec_tree s) [] s refl (spec_again s is_spec)) refl))))
 
-certificate_read : (m : ObjectMeta) (s : CertSpec) → IsMeta m → IsSpec s → object_at (object_tree (new_certificate m s)) ≡ Ok (new_certificate m s)
+certificate_read : (m : ObjectMeta) (s : CertSpec) → IsMeta m → IsSpec s → object_read_at (object_tree (new_certificate m s)) ≡ Ok (new_certificate m s)
 unfolding applied_at
 certificate_read m s is_meta is_spec = rw (certificate_printed m s, certificate_again m s is_meta is_spec) refl
 
@@ -193,8 +193,8 @@ request_printed : (m : ObjectMeta) (s : RequestSpec) → object_tree (new_reques
 unfolding object_tree head_members request_status_members
 request_printed m s = refl
 
-request_in_again : (m : ObjectMeta) (s : RequestSpec) → IsMeta m → IsRequestSpec s → request_in (fields_of (slots (request_places m s))) ≡ Ok (alone (new_request m s))
-unfolding request_in
+request_in_again : (m : ObjectMeta) (s : RequestSpec) → IsMeta m → IsRequestSpec s → applied_request_in (fields_of (slots (request_places m s))) ≡ Ok (alone (new_request m s))
+unfolding applied_request_in
 request_in_again m s is_meta is_spec =
     let ps = request_places m s in
     (bind _ _ _ _ (needed_is api_at (codes "apiVersion") (string (codes "cert-manager.io/v1")) (drop 1 ps) V1 refl refl)
@@ -202,7 +202,7 @@ request_in_again m s is_meta is_spec =
     (bind _ _ _ _ (needed_is head_at (codes "metadata") (meta_tree m) (drop 3 ps) (head_is m) refl (head_again m is_meta))
     (bind _ _ _ _ (needed_is (api_request_spec_at V1) (codes "spec") (request_tree s) [] s refl (request_again s is_spec)) refl))))
 
-request_read : (m : ObjectMeta) (s : RequestSpec) → IsMeta m → IsRequestSpec s → object_at (object_tree (new_request m s)) ≡ Ok (new_request m s)
+request_read : (m : ObjectMeta) (s : RequestSpec) → IsMeta m → IsRequestSpec s → object_read_at (object_tree (new_request m s)) ≡ Ok (new_request m s)
 unfolding applied_at
 request_read m s is_meta is_spec = rw (request_printed m s, request_in_again m s is_meta is_spec) refl
 
@@ -212,8 +212,8 @@ Entries = List (List ℕ × List ℕ)
 abbrev new_secret : ObjectMeta → List ℕ → Entries → Object
 new_secret m t parts = Secret (record { meta = m; kind_text = t; parts = parts })
 
-secret_again : (m : ObjectMeta) (t : List ℕ) (parts : Entries) → IsMeta m → parts_at (map_tree base64_text parts) ≡ Ok parts → secret_in (fields_of (slots (places_of m t parts))) ≡ Ok (alone (new_secret m t parts))
-unfolding secret_in
+secret_again : (m : ObjectMeta) (t : List ℕ) (parts : Entries) → IsMeta m → parts_at (map_tree base64_text parts) ≡ Ok parts → applied_secret_in (fields_of (slots (places_of m t parts))) ≡ Ok (alone (new_secret m t parts))
+unfolding applied_secret_in
 secret_again m t parts is_meta are_parts =
     let ps = places_of m t parts in
     (bind _ _ _ _ (needed_is (word_at (codes "v1")) (codes "apiVersion") (string (codes "v1")) (drop 1 ps) tt refl refl)
@@ -221,11 +221,11 @@ secret_again m t parts is_meta are_parts =
     (bind _ _ _ _ (required_is (codes "kind") (string (codes "Secret")) (drop 3 ps) refl)
     (bind _ _ _ _ (needed_is head_at (codes "metadata") (meta_tree m) (drop 4 ps) (head_is m) refl (head_again m is_meta)) refl))))
 
-secret_read : (m : ObjectMeta) (t : List ℕ) (parts : Entries) → IsMeta m → parts_at (map_tree base64_text parts) ≡ Ok parts → object_at (object_tree (new_secret m t parts)) ≡ Ok (new_secret m t parts)
+secret_read : (m : ObjectMeta) (t : List ℕ) (parts : Entries) → IsMeta m → parts_at (map_tree base64_text parts) ≡ Ok parts → object_read_at (object_tree (new_secret m t parts)) ≡ Ok (new_secret m t parts)
 unfolding applied_at
 secret_read m t parts is_meta are_parts = rw (secret_printed m t parts, is_secret m t (some_list (map_tree base64_text) parts), secret_again m t parts is_meta are_parts) refl
 
-pub bare_read : (o : Object) → IsTypedObject o → is_object_form o ≡ true → object_at (object_tree (bare o)) ≡ Ok (bare o)
+pub bare_read : (o : Object) → IsTypedObject o → is_object_form o ≡ true → object_read_at (object_tree (bare o)) ≡ Ok (bare o)
 bare_read (Cert c) typed form = certificate_read (bare_meta c.meta) c.spec (meta_given c.meta typed.meta) (spec_given c.spec typed.spec form)
 bare_read (Request r) typed form = request_read (bare_meta r.meta) r.spec (meta_given r.meta typed.meta) (request_given r.spec typed.request form)
 bare_read (Secret k) typed form = secret_read (bare_meta k.meta) k.kind_text k.parts (meta_given k.meta typed.meta) (parts_again k.parts typed.order (parts_are k.parts typed.parts))

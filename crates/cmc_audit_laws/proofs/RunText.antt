@@ -13,17 +13,17 @@ use Rattle.cmc_objects.specs.declared.entry.Entry.{Entry}
 use Rattle.cmc_summary.specs.declared.summary.Summary.{Summary}
 use Rattle.cmc_setup.specs.Setups.{Setup}
 use Rattle.cmc_print.specs.Trees.{line_of}
-use Rattle.cmc_report.specs.Trees.{entry_tree, scenario_tree, summary_tree}
+use Rattle.cmc_report.specs.Trees.{entry_tree, scenario_line_tree, summary_tree}
 use Rattle.cmc_report.specs.Text.{joined, entry_lines, history_lines}
 use Rattle.cmc_lines.specs.declared.line.PrintedLine.{PrintedLine}
-use Rattle.cmc_lines.specs.Shown.{shown}
+use Rattle.cmc_lines.specs.Shown.{line_of_entry}
 use Rattle.cmc_entry_form.specs.Entries.{HasForm}
-use Rattle.cmc_line_reading.specs.Histories.{IsTextOf, IsLineOf, IsSummaryOf, IsScenarioOf, IsOneLine, IsRest, AreLinesOf, IsHistoryOf, counts_of, ended}
+use Rattle.cmc_line_reading.specs.Histories.{IsTextOf, IsLineOf, IsSummaryOf, IsScenarioOf, IsOneLine, IsRest, AreLinesOf, IsHistoryOf, counts_of, text_of_lines}
 use Rattle.cmc_line_reading.specs.Bodies.{AreEntries as AreLines}
 use Rattle.cmc_line_reading.proofs.Bodies.{more_entries, closed, all_more, ended_more}
 use Rattle.cmc_audit_laws.specs.Counted.{IsCount, IsCountedEntry}
 use Rattle.cmc_audit_laws.specs.Typed.{IsTypedEntry}
-use Rattle.cmc_audit_laws.specs.Printed.{IsValueOf, IsSummary, AreEntries, IsPrintedOf}
+use Rattle.cmc_audit_laws.specs.Printed.{IsValueOf, IsPrintableSummary, ArePrintableEntries, IsPrintedOf}
 use Rattle.cmc_audit_laws.proofs.TextsRead.{Fits, text_read}
 use Rattle.cmc_audit_laws.proofs.OneLines.{IsNoFeed, HasNoFeed, both, one_line}
 use Rattle.cmc_audit_laws.proofs.TreesFit.{entry_fits, summary_fits}
@@ -48,12 +48,12 @@ all_texts d h summary = scenario_line d ∷ rest_texts h summary
 
 -- ---- with them they are what is printed
 
-pub scenario_ended : (d : Data) → line_of (scenario_tree d) ≡ scenario_line d ++ 10 ∷ []
-unfolding line_of scenario_tree escape_byte
+pub scenario_ended : (d : Data) → line_of (scenario_line_tree d) ≡ scenario_line d ++ 10 ∷ []
+unfolding line_of scenario_line_tree escape_byte
 scenario_ended d =
     ap (λ t. codes "{\"scenario\":" ++ t) (append_assoc (compact_text d) (125 ∷ []) (10 ∷ [])) ∙ sym (ap (λ t. codes "{\"scenario\":" ++ t) (append_assoc (compact_text d) (codes "}") (10 ∷ [])))
 
-entries_ended : (h : List Entry) → joined (entry_lines h) ≡ ended (entry_texts h)
+entries_ended : (h : List Entry) → joined (entry_lines h) ≡ text_of_lines (entry_texts h)
 unfolding line_of
 entries_ended [] = refl
 entries_ended (e ∷ h) =
@@ -61,14 +61,14 @@ entries_ended (e ∷ h) =
     ∙ (ap (λ t. t ++ ((entry_text (length h + 1) e ++ 10 ∷ []) ++ [])) (entries_ended h)
     ∙ sym (flat_map-append (λ line. line ++ 10 ∷ []) (entry_texts h) (entry_text (length h + 1) e ∷ [])))
 
-rest_ended : (h : List Entry) (summary : Summary) → joined (entry_lines h ++ line_of (summary_tree summary) ∷ []) ≡ ended (rest_texts h summary)
+rest_ended : (h : List Entry) (summary : Summary) → joined (entry_lines h ++ line_of (summary_tree summary) ∷ []) ≡ text_of_lines (rest_texts h summary)
 unfolding line_of
 rest_ended h summary =
     flat_map-append (λ line. line) (entry_lines h) ((compact_text (summary_tree summary) ++ 10 ∷ []) ∷ [])
     ∙ (ap (λ t. t ++ ((compact_text (summary_tree summary) ++ 10 ∷ []) ++ [])) (entries_ended h)
     ∙ sym (flat_map-append (λ line. line ++ 10 ∷ []) (entry_texts h) (compact_text (summary_tree summary) ∷ [])))
 
-all_ended : (d : Data) (h : List Entry) (summary : Summary) → joined (history_lines d h summary) ≡ ended (all_texts d h summary)
+all_ended : (d : Data) (h : List Entry) (summary : Summary) → joined (history_lines d h summary) ≡ text_of_lines (all_texts d h summary)
 unfolding history_lines
 all_ended d h summary = ap (λ t. t ++ joined (entry_lines h ++ line_of (summary_tree summary) ∷ [])) (scenario_ended d) ∙ ap (λ t. (scenario_line d ++ 10 ∷ []) ++ t) (rest_ended h summary)
 
@@ -80,15 +80,15 @@ text_of n d low fits utf8 = ((utf8, text_read n d low fits), refl)
 five_levels : 5 ≤ max_depth
 five_levels = omega arith
 
-line_is : (n : ℕ) (e : Entry) → IsCount n → HasForm e → IsTypedEntry e → IsCountedEntry e → IsUtf8 (entry_text n e) → IsLineOf n (entry_text n e) (shown e)
+line_is : (n : ℕ) (e : Entry) → IsCount n → HasForm e → IsTypedEntry e → IsCountedEntry e → IsUtf8 (entry_text n e) → IsLineOf n (entry_text n e) (line_of_entry e)
 line_is n e numbered form typed counted utf8 =
     record { entry = e; form = form; shows = refl; is = text_of 5 (entry_tree n e) five_levels (entry_fits n e numbered typed counted) utf8 }
 
-shown_more : (e : Entry) (h : List Entry) → reverse (map shown h) ++ shown e ∷ [] ≡ reverse (map shown (e ∷ h))
-shown_more e h = sym (reverse-append (shown e ∷ []) (map shown h))
+shown_more : (e : Entry) (h : List Entry) → reverse (map line_of_entry h) ++ line_of_entry e ∷ [] ≡ reverse (map line_of_entry (e ∷ h))
+shown_more e h = sym (reverse-append (line_of_entry e ∷ []) (map line_of_entry h))
 
-shown_length : (h : List Entry) → 1 + length (reverse (map shown h)) ≡ length h + 1
-shown_length h = omega (arith, length-reverse (map shown h), length-map h shown)
+shown_length : (h : List Entry) → 1 + length (reverse (map line_of_entry h)) ≡ length h + 1
+shown_length h = omega (arith, length-reverse (map line_of_entry h), length-map h line_of_entry)
 
 -- each of the texts is UTF-8
 abbrev pub AreUtf8 : List (List ℕ) → Type 0
@@ -102,24 +102,24 @@ utf8_last : (xs : List (List ℕ)) (y : List ℕ) → AreUtf8 (xs ++ y ∷ []) �
 utf8_last [] y all = all.0
 utf8_last (x ∷ xs) y all = utf8_last xs y all.1
 
-entries_are : (h : List Entry) → AreEntries h → AreUtf8 (entry_texts h) → AreLines 1 (entry_texts h) (reverse (map shown h))
+entries_are : (h : List Entry) → ArePrintableEntries h → AreUtf8 (entry_texts h) → AreLines 1 (entry_texts h) (reverse (map line_of_entry h))
 entries_are [] are utf8 = tt
 entries_are (e ∷ h) are utf8 =
-    let below : AreEntries h = record { formed = are.formed.1; typed = are.typed.1; counted = are.counted.1; few = omega (arith, are.few) } in
+    let below : ArePrintableEntries h = record { formed = are.formed.1; typed = are.typed.1; counted = are.counted.1; few = omega (arith, are.few) } in
     let numbered : IsCount (length h + 1) = omega (arith, are.few) in
     let line = line_is (length h + 1) e numbered are.formed.0 are.typed.0 are.counted.0 (utf8_last (entry_texts h) (entry_text (length h + 1) e) utf8) in
     subst (AreLines 1 (entry_texts h ++ entry_text (length h + 1) e ∷ [])) (shown_more e h)
-    (more_entries 1 (entry_texts h) (reverse (map shown h)) (entry_text (length h + 1) e) (shown e) (entries_are h below (utf8_front (entry_texts h) (entry_text (length h + 1) e) utf8))
-    (subst (λ (n : ℕ). IsLineOf n (entry_text (length h + 1) e) (shown e)) (sym (shown_length h)) line))
+    (more_entries 1 (entry_texts h) (reverse (map line_of_entry h)) (entry_text (length h + 1) e) (line_of_entry e) (entries_are h below (utf8_front (entry_texts h) (entry_text (length h + 1) e) utf8))
+    (subst (λ (n : ℕ). IsLineOf n (entry_text (length h + 1) e) (line_of_entry e)) (sym (shown_length h)) line))
 
-one_each : (h : List Entry) → AreEntries h → AllByRecursion IsOneLine (entry_texts h)
+one_each : (h : List Entry) → ArePrintableEntries h → AllByRecursion IsOneLine (entry_texts h)
 one_each [] are = tt
 one_each (e ∷ h) are =
-    let below : AreEntries h = record { formed = are.formed.1; typed = are.typed.1; counted = are.counted.1; few = omega (arith, are.few) } in
+    let below : ArePrintableEntries h = record { formed = are.formed.1; typed = are.typed.1; counted = are.counted.1; few = omega (arith, are.few) } in
     let numbered : IsCount (length h + 1) = omega (arith, are.few) in
     all_more (entry_texts h) (entry_text (length h + 1) e) (one_each h below) (one_line 5 (entry_tree (length h + 1) e) (entry_fits (length h + 1) e numbered are.typed.0 are.counted.0))
 
-summary_is : (summary : Summary) → IsSummary summary → IsUtf8 (compact_text (summary_tree summary)) → IsSummaryOf (compact_text (summary_tree summary)) (counts_of summary)
+summary_is : (summary : Summary) → IsPrintableSummary summary → IsUtf8 (compact_text (summary_tree summary)) → IsSummaryOf (compact_text (summary_tree summary)) (counts_of summary)
 summary_is summary is utf8 = record { summary = summary; form = is.form; counted = refl; is = text_of 4 (summary_tree summary) (omega arith) (summary_fits summary is.certificates is.ready is.secrets) utf8 }
 
 -- the scenario's line is one line
@@ -143,7 +143,7 @@ scenario_one_line d one = no_feed_more (codes "{\"scenario\":") (compact_text d 
 
 -- ---- the whole
 
-pub text_is : (d : Data) (scenario : Setup) (h : List Entry) (summary : Summary) → IsValueOf d scenario → AreEntries h → IsSummary summary → IsUtf8 (compact_text d) → AreUtf8 (rest_texts h summary)
+pub text_is : (d : Data) (scenario : Setup) (h : List Entry) (summary : Summary) → IsValueOf d scenario → ArePrintableEntries h → IsPrintableSummary summary → IsUtf8 (compact_text d) → AreUtf8 (rest_texts h summary)
     → IsPrintedOf (joined (history_lines d h summary)) scenario h summary
 text_is d scenario h summary value are is utf8 rest = record {
   lines = all_texts d h summary;
@@ -156,7 +156,7 @@ text_is d scenario h summary value are is utf8 rest = record {
   };
   are = (
     record { text = compact_text d; value = d; around = refl; is = ((utf8, value.again), refl); read = value.is },
-    closed 1 (entry_texts h) (reverse (map shown h)) (compact_text (summary_tree summary)) (counts_of summary) (entries_are h are (utf8_front (entry_texts h) (compact_text (summary_tree summary)) rest))
+    closed 1 (entry_texts h) (reverse (map line_of_entry h)) (compact_text (summary_tree summary)) (counts_of summary) (entries_are h are (utf8_front (entry_texts h) (compact_text (summary_tree summary)) rest))
         (summary_is summary is (utf8_last (entry_texts h) (compact_text (summary_tree summary)) rest)),
   );
 }

@@ -10,19 +10,19 @@ use Rattle.cmc_objects.specs.declared.object.Object.{Object}
 use Rattle.cmc_setup.specs.Setups.{Setup}
 use Rattle.cmc_setup.specs.Stages.{Stage}
 use Rattle.cmc_cursor.specs.Reading.{Read, in_words, ◌>>=◌, under, Field, fields_at, optional_at, required_at, at_end}
-use Rattle.cmc_cursor.specs.Readers.{count_at, word_at, text_at, parts_at, passes as drops, floats_at, text_member as member_text}
-use Rattle.cmc_codec.specs.Given.{member_or as given_or, needed_at}
+use Rattle.cmc_cursor.specs.Readers.{count_at, word_at, text_at, parts_at, passes, floats_at, text_member}
+use Rattle.cmc_codec.specs.Given.{next_member_or as given_or, needed_at}
 use Rattle.cmc_codec.specs.MetadataForm.{head_at}
 use Rattle.cmc_codec.specs.CertificateForm.{api_at, spec_at, api_request_spec_at}
-use Rattle.cmc_codec.specs.ObjectForm.{status_last, certificate_in as certificate_form, request_in as request_form, secret_in as secret_form, any_version_at, stranger_in, object_in, applied_at as object_form_at}
+use Rattle.cmc_codec.specs.ObjectForm.{status_last, applied_certificate_in as certificate_form, applied_request_in as request_form, applied_secret_in as secret_form, any_version_at, stranger_in, object_in, applied_at as object_form_at}
 use Rattle.cmc_codec.specs.declared.object_in.Applied.{Applied}
 use Rattle.cmc_material.specs.Keys.{key_at}
 use Rattle.cmc_material.specs.Lists.{member_or, member_option, bounded_at}
-use Rattle.cmc_material.specs.MaterialRows.{certificate_at, reply_row_at}
-use Rattle.cmc_scenario.specs.Applied.{passes, applied_at, text_member}
+use Rattle.cmc_material.specs.MaterialRows.{certificate_key_at, reply_row_at}
+use Rattle.cmc_scenario.specs.Applied.{apply_step_at}
 use Rattle.cmc_scenario.specs.Roles.{role_at}
-use Rattle.cmc_scenario.specs.Scripts.{apply_in, delete_in, certificate_in, revision_in, approve_in, deny_in, answer_in, renew_in, tick_in, stop_in, start_in, informer_in, hold_in, release_in, until_in, settle_in, stray_in, waiting_in, running_in, step_in, step_at, in_turn, numbered_step_at, steps_from, steps_at, script_at}
-use Rattle.cmc_scenario.specs.Scenarios.{world_in, beginning_in, setup_in, setup_of, members_at, whole_at, size_at, scenario_at}
+use Rattle.cmc_scenario.specs.Scripts.{apply_in, delete_in, certificate_member_in, revision_in, approve_in, deny_in, answer_in, renew_in, tick_in, stop_in, start_in, informer_in, hold_in, release_in, until_in, settle_in, stray_in, waiting_step_in, running_in, step_in, script_step_at, in_turn, numbered_step_at, steps_from, steps_at, script_at}
+use Rattle.cmc_scenario.specs.Scenarios.{world_in, beginning_in, setup_in, setup_of, members_at, scenario_whole_at, size_at, scenario_at}
 use Rattle.cmc_cursor.proofs.Always.{Always, so, failed, next, after, below, either, where_true}
 use Rattle.cmc_rules.specs.Scripting.{step_at as step_of}
 use Rattle.cmc_audit_laws.specs.Given.{HasNoStatus, ApplyBare}
@@ -42,11 +42,11 @@ of_request fs = next IsApplied (needed_at api_at (codes "apiVersion") fs) _ (λ 
 
 of_secret : (fs : List Field) → Always IsApplied (secret_form fs)
 unfolding secret_form
-of_secret fs = next IsApplied (needed_at (word_at (codes "v1")) (codes "apiVersion") fs) _ (λ api. next IsApplied (given_or [] parts_at (codes "data") api.1) _ (λ parts. next IsApplied (required_at (codes "kind") parts.1) _ (λ kind. next IsApplied (needed_at head_at (codes "metadata") kind.1) _ (λ head. next IsApplied (optional_at (codes "status") head.1) _ (λ status. next IsApplied (drops (codes "status") status.0) _ (λ dropped. next IsApplied (given_or (codes "Opaque") text_at (codes "type") status.1) _ (λ kind_text. next IsApplied (at_end kind_text.1) _ (λ end. so tt))))))))
+of_secret fs = next IsApplied (needed_at (word_at (codes "v1")) (codes "apiVersion") fs) _ (λ api. next IsApplied (given_or [] parts_at (codes "data") api.1) _ (λ parts. next IsApplied (required_at (codes "kind") parts.1) _ (λ kind. next IsApplied (needed_at head_at (codes "metadata") kind.1) _ (λ head. next IsApplied (optional_at (codes "status") head.1) _ (λ status. next IsApplied (passes (codes "status") status.0) _ (λ dropped. next IsApplied (given_or (codes "Opaque") text_at (codes "type") status.1) _ (λ kind_text. next IsApplied (at_end kind_text.1) _ (λ end. so tt))))))))
 
 of_stranger : (fs : List Field) → Always IsApplied (stranger_in fs)
 unfolding stranger_in
-of_stranger fs = next IsApplied (needed_at any_version_at (codes "apiVersion") fs) _ (λ api. next IsApplied (optional_at (codes "data") api.1) _ (λ given. next IsApplied (drops (codes "data") given.0) _ (λ passed. next IsApplied (required_at (codes "kind") given.1) _ (λ kind. failed (codes "kind" ∷ [])))))
+of_stranger fs = next IsApplied (needed_at any_version_at (codes "apiVersion") fs) _ (λ api. next IsApplied (optional_at (codes "data") api.1) _ (λ given. next IsApplied (passes (codes "data") given.0) _ (λ passed. next IsApplied (required_at (codes "kind") given.1) _ (λ kind. failed (codes "kind" ∷ [])))))
 
 of_object : (kind : Option (List ℕ)) (fs : List Field) → Always IsApplied (object_in kind fs)
 of_object None fs = of_stranger fs
@@ -58,7 +58,7 @@ of_object (Some kind) fs =
 -- each object that is read
 of_object_form : (d : Data) → Always IsApplied (object_form_at d)
 unfolding object_form_at
-of_object_form d = next IsApplied (fields_at d) (object_in (member_text (codes "kind") d)) (λ fs. of_object (member_text (codes "kind") d) fs)
+of_object_form d = next IsApplied (fields_at d) (object_in (text_member (codes "kind") d)) (λ fs. of_object (text_member (codes "kind") d) fs)
 
 -- ---- steps
 
@@ -67,12 +67,12 @@ abbrev IsBareStep : Step → Type 0
 IsBareStep (Apply applied version) = HasNoStatus applied
 IsBareStep other = Unit {0}
 
-of_applied : (d : Data) → Always IsBareStep (applied_at d)
+of_applied : (d : Data) → Always IsBareStep (apply_step_at d)
 of_applied d = after IsApplied IsBareStep (object_form_at d) _ (of_object_form d) (λ applied is. so is)
 
 of_apply : (fs : List Field) → Always IsBareStep (apply_in fs)
 unfolding apply_in
-of_apply fs = next IsBareStep (required_at (codes "do") fs) _ (λ word. next IsBareStep (required_at (codes "object") word.1) _ (λ given. after IsBareStep IsBareStep (under (codes "object") (applied_at given.0)) _ (below IsBareStep (codes "object") (applied_at given.0) (of_applied given.0)) (λ step is. next IsBareStep (at_end given.1) _ (λ end. so is))))
+of_apply fs = next IsBareStep (required_at (codes "do") fs) _ (λ word. next IsBareStep (required_at (codes "object") word.1) _ (λ given. after IsBareStep IsBareStep (under (codes "object") (apply_step_at given.0)) _ (below IsBareStep (codes "object") (apply_step_at given.0) (of_applied given.0)) (λ step is. next IsBareStep (at_end given.1) _ (λ end. so is))))
 
 of_delete : (fs : List Field) → Always IsBareStep (delete_in fs)
 unfolding delete_in
@@ -92,7 +92,7 @@ of_answer fs = next IsBareStep (revision_in fs) _ (λ named. next IsBareStep (re
 
 of_renew : (fs : List Field) → Always IsBareStep (renew_in fs)
 unfolding renew_in
-of_renew fs = next IsBareStep (certificate_in fs) _ (λ named. next IsBareStep (at_end named.1) _ (λ end. so (tt)))
+of_renew fs = next IsBareStep (certificate_member_in fs) _ (λ named. next IsBareStep (at_end named.1) _ (λ end. so (tt)))
 
 -- ---- time, roles, informers and waits
 
@@ -128,19 +128,19 @@ of_stray : (fs : List Field) → Always IsBareStep (stray_in fs)
 unfolding stray_in
 of_stray fs = next IsBareStep (optional_at (codes "behind") fs) _ (λ behind. next IsBareStep (passes (codes "behind") behind.0) _ (λ first. next IsBareStep (optional_at (codes "certificate") behind.1) _ (λ certificate. next IsBareStep (passes (codes "certificate") certificate.0) _ (λ second. next IsBareStep (required_at (codes "do") certificate.1) _ (λ word. failed (codes "do" ∷ []))))))
 
-of_waiting : (word : List ℕ) (fs : List Field) → Always IsBareStep (waiting_in word fs)
+of_waiting : (word : List ℕ) (fs : List Field) → Always IsBareStep (waiting_step_in word fs)
 of_waiting word fs = either IsBareStep (bytes_eq word (codes "hold")) (hold_in fs) (if bytes_eq word (codes "release") then release_in fs else (if bytes_eq word (codes "until") then until_in fs else (if bytes_eq word (codes "settle") then settle_in fs else (stray_in fs)))) (of_hold fs) (either IsBareStep (bytes_eq word (codes "release")) (release_in fs) (if bytes_eq word (codes "until") then until_in fs else (if bytes_eq word (codes "settle") then settle_in fs else (stray_in fs))) (of_release fs) (either IsBareStep (bytes_eq word (codes "until")) (until_in fs) (if bytes_eq word (codes "settle") then settle_in fs else (stray_in fs)) (of_until fs) (either IsBareStep (bytes_eq word (codes "settle")) (settle_in fs) (stray_in fs) (of_settle fs) (of_stray fs))))
 
 of_running : (word : List ℕ) (fs : List Field) → Always IsBareStep (running_in word fs)
-of_running word fs = either IsBareStep (bytes_eq word (codes "tick")) (tick_in fs) (if bytes_eq word (codes "stop") then stop_in fs else (if bytes_eq word (codes "start") then start_in fs else (waiting_in word fs))) (of_tick fs) (either IsBareStep (bytes_eq word (codes "stop")) (stop_in fs) (if bytes_eq word (codes "start") then start_in fs else (waiting_in word fs)) (of_stop fs) (either IsBareStep (bytes_eq word (codes "start")) (start_in fs) (waiting_in word fs) (of_start fs) (of_waiting word fs)))
+of_running word fs = either IsBareStep (bytes_eq word (codes "tick")) (tick_in fs) (if bytes_eq word (codes "stop") then stop_in fs else (if bytes_eq word (codes "start") then start_in fs else (waiting_step_in word fs))) (of_tick fs) (either IsBareStep (bytes_eq word (codes "stop")) (stop_in fs) (if bytes_eq word (codes "start") then start_in fs else (waiting_step_in word fs)) (of_stop fs) (either IsBareStep (bytes_eq word (codes "start")) (start_in fs) (waiting_step_in word fs) (of_start fs) (of_waiting word fs)))
 
 of_step : (word : Option (List ℕ)) (fs : List Field) → Always IsBareStep (step_in word fs)
 of_step None fs = of_stray fs
 of_step (Some word) fs = either IsBareStep (bytes_eq word (codes "apply")) (apply_in fs) (if bytes_eq word (codes "delete") then delete_in fs else (if bytes_eq word (codes "approve") then approve_in fs else (if bytes_eq word (codes "deny") then deny_in fs else (if bytes_eq word (codes "answer") then answer_in fs else (if bytes_eq word (codes "renew") then renew_in fs else (running_in word fs)))))) (of_apply fs) (either IsBareStep (bytes_eq word (codes "delete")) (delete_in fs) (if bytes_eq word (codes "approve") then approve_in fs else (if bytes_eq word (codes "deny") then deny_in fs else (if bytes_eq word (codes "answer") then answer_in fs else (if bytes_eq word (codes "renew") then renew_in fs else (running_in word fs))))) (of_delete fs) (either IsBareStep (bytes_eq word (codes "approve")) (approve_in fs) (if bytes_eq word (codes "deny") then deny_in fs else (if bytes_eq word (codes "answer") then answer_in fs else (if bytes_eq word (codes "renew") then renew_in fs else (running_in word fs)))) (of_approve fs) (either IsBareStep (bytes_eq word (codes "deny")) (deny_in fs) (if bytes_eq word (codes "answer") then answer_in fs else (if bytes_eq word (codes "renew") then renew_in fs else (running_in word fs))) (of_deny fs) (either IsBareStep (bytes_eq word (codes "answer")) (answer_in fs) (if bytes_eq word (codes "renew") then renew_in fs else (running_in word fs)) (of_answer fs) (either IsBareStep (bytes_eq word (codes "renew")) (renew_in fs) (running_in word fs) (of_renew fs) (of_running word fs))))))
 
 -- each step that is read
-of_value : (d : Data) → Always IsBareStep (step_at d)
-unfolding step_at
+of_value : (d : Data) → Always IsBareStep (script_step_at d)
+unfolding script_step_at
 of_value d = next IsBareStep (fields_at d) (step_in (text_member (codes "do") d)) (λ fs. of_step (text_member (codes "do") d) fs)
 
 -- ---- scripts
@@ -152,8 +152,8 @@ AreBare (step ∷ rest) = IsBareStep step × AreBare rest
 of_numbered : (n : ℕ) (stage : Stage) (d : Data) → Always IsBareStep (numbered_step_at n stage d)
 unfolding numbered_step_at
 of_numbered n stage d =
-    where_true IsBareStep (nat_lt n 10000) (under (decimal n) (step_at d) >>= in_turn n stage) (decimal n ∷ [])
-    (λ e. after IsBareStep IsBareStep (under (decimal n) (step_at d)) (in_turn n stage) (below IsBareStep (decimal n) (step_at d) (of_value d)) (λ step is. where_true IsBareStep _ (Ok step) (decimal n ∷ []) (λ turn. so is)))
+    where_true IsBareStep (nat_lt n 10000) (under (decimal n) (script_step_at d) >>= in_turn n stage) (decimal n ∷ [])
+    (λ e. after IsBareStep IsBareStep (under (decimal n) (script_step_at d)) (in_turn n stage) (below IsBareStep (decimal n) (script_step_at d) (of_value d)) (λ step is. where_true IsBareStep _ (Ok step) (decimal n ∷ []) (λ turn. so is)))
 
 of_steps : (n : ℕ) (stage : Stage) (ds : Items) → Always AreBare (steps_from n stage ds)
 of_steps n stage no_items = so tt
@@ -190,8 +190,8 @@ of_members : (d : Data) → Always IsBareSetup (members_at d)
 unfolding members_at
 of_members d = next IsBareSetup (fields_at d) setup_in of_setup
 
-of_whole : (d : Data) → Always IsBareSetup (whole_at d)
-unfolding whole_at
+of_whole : (d : Data) → Always IsBareSetup (scenario_whole_at d)
+unfolding scenario_whole_at
 of_whole d = after IsBareSetup IsBareSetup (members_at d) _ (of_members d) (λ scenario bare. next IsBareSetup (floats_at d) _ (λ none. so bare))
 
 bare_as : (step : Step) (applied : Object) (version : Option ℕ) → IsBareStep step → step ≡ Apply applied version → HasNoStatus applied
@@ -208,4 +208,4 @@ bare_result (Err path) scenario always is = absurd (cc is)
 
 pub applies_bare : (d : Data) (scenario : Setup) → scenario_at d ≡ Ok scenario → ApplyBare scenario.script
 unfolding scenario_at
-applies_bare d scenario is n applied version there = in_script scenario.script (n - 1) applied version (bare_result (whole_at d) scenario (of_whole d) is) there
+applies_bare d scenario is n applied version there = in_script scenario.script (n - 1) applied version (bare_result (scenario_whole_at d) scenario (of_whole d) is) there

@@ -23,11 +23,11 @@ use Rattle.cmc_rules.proofs.Versions.{stands_is_version, version_keyed}
 use Rattle.cmc_summary.specs.declared.summary.Summary.{Summary}
 use Rattle.cmc_summary.specs.declared.summary.Waiting.{Waiting}
 use Rattle.cmc_summary.specs.declared.summary.WaitName.{WaitName}
-use Rattle.cmc_summary_form.specs.SummaryForm.{HasNames, IsOfCertificate, HasSummaryForm}
+use Rattle.cmc_summary_form.specs.SummaryForm.{HasNames, NamesCertificate, HasSummaryForm}
 use Rattle.cmc_plain.specs.Waits.{wait_at, with_wait, waits_among, summary_at}
 use Rattle.cmc_audit.specs.Verdicts.{counted}
 use Rattle.cmc_line_reading.specs.Histories.{counts_of}
-use Rattle.cmc_audit_laws.specs.Printed.{IsSummary, IsTypedSummary}
+use Rattle.cmc_audit_laws.specs.Printed.{IsPrintableSummary, IsTypedSummary}
 
 abbrev keys_of : List Waiting → List Key
 keys_of ws = map (λ w. w.certificate) ws
@@ -99,13 +99,13 @@ stands_under s h e legal among waits =
     let key : key_of e.1 ≡ e.0 = version_keyed s h e.0 e.1 legal (stands_is_version s h e.0 e.1 (stands_among (objects s h) e among)) in
     sym (ap (λ (k : Key). k.kind) key) ∙ kind_of_waiting e.1 waits
 
-both : (ws : List Waiting) → AreCertificates ws → AllByRecursion (λ w. HasNames w.certificate) ws → AllByRecursion IsOfCertificate ws
+both : (ws : List Waiting) → AreCertificates ws → AllByRecursion (λ w. HasNames w.certificate) ws → AllByRecursion NamesCertificate ws
 both [] kinds names = tt
 both (w ∷ ws) kinds names = ((kinds.0, names.0), both ws kinds.1 names.1)
 
 -- ---- the summary
 
-pub summary_formed : (s : Setting) (h : List Entry) (summary : Summary) → IsLegal s h → summary ≡ summary_at s h → IsTypedSummary summary → IsSummary summary
+pub summary_formed : (s : Setting) (h : List Entry) (summary : Summary) → IsLegal s h → summary ≡ summary_at s h → IsTypedSummary summary → IsPrintableSummary summary
 summary_formed s h summary legal same typed = record {
   form = record {
     order = subst (λ (t : Summary). IsStrictlySortedBy key_cmp (keys_of t.waiting)) (sym same) (in_order s h (finite.entries (objects s h)) (finite.entries_sorted (objects s h)));

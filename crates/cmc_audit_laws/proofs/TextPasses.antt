@@ -17,7 +17,7 @@ use Rattle.cmc_plain.specs.Waits.{summary_at}
 use Rattle.cmc_report.specs.Text.{joined, history_lines}
 use Rattle.cmc_lines.specs.declared.line.PrintedLine.{PrintedLine}
 use Rattle.cmc_lines.specs.declared.printed.Printed.{Printed}
-use Rattle.cmc_lines.specs.Shown.{shown}
+use Rattle.cmc_lines.specs.Shown.{line_of_entry}
 use Rattle.cmc_line_reading.specs.declared.history.BadHistory.{BadHistory}
 use Rattle.cmc_line_reading.specs.declared.history.BadHistory.TheVariants as bad
 use Rattle.cmc_line_reading.specs.Histories.{IsHistoryOf, IsReading, counts_of}
@@ -28,7 +28,7 @@ use Rattle.cmc_audit_clauses.specs.declared.clause.Verdict.TheVariants.{Yes}
 use Rattle.cmc_audit.specs.Verdicts.{IsVerdict, counted}
 use Rattle.cmc_audit_laws.specs.Counted.{EachCounted}
 use Rattle.cmc_audit_laws.specs.Passing.{NameTheirKeys, IsAuditedYes}
-use Rattle.cmc_audit_laws.specs.Printed.{IsValueOf, AreEntries, IsPrintedOf, IsTypedSummary, IsRunPrinted, ReadsYes, IsTextAuditedYes}
+use Rattle.cmc_audit_laws.specs.Printed.{IsValueOf, ArePrintableEntries, IsPrintedOf, IsTypedSummary, IsRunPrinted, ReadsYes, IsTextAuditedYes}
 use Rattle.cmc_audit_laws.specs.Typed.{AreTyped}
 use Rattle.cmc_audit_laws.proofs.EntriesFormed.{are_formed}
 use Rattle.cmc_audit_laws.proofs.Given.{are_given}
@@ -47,7 +47,7 @@ pub record AreOfTypes (h : List Entry) (summary : Summary) : Type 0 where
 
 -- ---- the text is that of a history
 
-entries_are : AreSound → (value : Data) (u : Setup) (h : List Entry) (summary : Summary) (lines : List (List ℕ)) → IsSetup u → AreOfTypes h summary → IsRunPrinted value u h summary lines → AreEntries h
+entries_are : AreSound → (value : Data) (u : Setup) (h : List Entry) (summary : Summary) (lines : List (List ℕ)) → IsSetup u → AreOfTypes h summary → IsRunPrinted value u h summary lines → ArePrintableEntries h
 entries_are sound value u h summary lines setup types printed =
     let given = are_given sound (setting_of u) h (formed u setup) (applies_bare value u printed.value_is.is) (record { legal = printed.run.legal; caused = printed.run.caused; follows = printed.run.follows }) in
     record { formed = are_formed h types.types given; typed = types.types; counted = types.numbers; few = omega (arith, printed.run.short, setup.most_events) }
@@ -62,10 +62,10 @@ is_printed sound value u h summary lines setup types utf8 printed =
 
 -- ---- and whatever is read of it
 
-read_yes : (u : Setup) (h : List Entry) (summary : Summary) (printed : Printed) → IsAuditedYes (setting_of u) h → counts_of summary ≡ counted (objects (setting_of u) h) → IsOneHistory u printed.scenario (reverse (map shown h)) printed.entries (counts_of summary) printed.counts
+read_yes : (u : Setup) (h : List Entry) (summary : Summary) (printed : Printed) → IsAuditedYes (setting_of u) h → counts_of summary ≡ counted (objects (setting_of u) h) → IsOneHistory u printed.scenario (reverse (map line_of_entry h)) printed.entries (counts_of summary) printed.counts
     → ReadsYes (length h) (Ok printed)
 read_yes u h summary printed passes right one verdict is =
-    let lines : reverse printed.entries ≡ map shown h = ap reverse (sym one.entries) ∙ reverse-reverse (map shown h) in
+    let lines : reverse printed.entries ≡ map line_of_entry h = ap reverse (sym one.entries) ∙ reverse-reverse (map line_of_entry h) in
     let at_scenario = subst (λ (v : Setup). IsVerdict (setting_of v) (reverse printed.entries) printed.counts verdict) (sym one.scenario) is in
     let at_lines = subst (λ (ls : List PrintedLine). IsVerdict (setting_of u) ls printed.counts verdict) lines at_scenario in
     passes printed.counts verdict (sym one.counts ∙ right) at_lines
@@ -84,8 +84,8 @@ text_passes sound value u h summary lines setup types utf8 printed r reading = b
 
   by : (r : Result Printed BadHistory) → IsReading text r → ReadsYes (length h) r
   by (Ok given) is =
-      read_yes u h summary given passes (summary_counts (setting_of u) h summary printed.summary_is) (one_history text u given.scenario (reverse (map shown h)) given.entries (counts_of summary) given.counts history is)
-  by (Err (bad.Line number)) is = is.0 (u, reverse (map shown h), counts_of summary, history)
+      read_yes u h summary given passes (summary_counts (setting_of u) h summary printed.summary_is) (one_history text u given.scenario (reverse (map line_of_entry h)) given.entries (counts_of summary) given.counts history is)
+  by (Err (bad.Line number)) is = is.0 (u, reverse (map line_of_entry h), counts_of summary, history)
   by (Err bad.NoMemory) is = tt
 
 -- ---- of a world, whose scenario and history are these

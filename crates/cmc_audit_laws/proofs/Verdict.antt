@@ -3,12 +3,12 @@ use Rattle.std.proofs.Common.{◌≡◌, ◌⊎◌, ℕ, List, [], ◌∷◌, �
 use Rattle.cmc_objects.specs.declared.entry.Entry.{Entry}
 use Rattle.cmc_model.specs.Histories.{Setting, objects}
 use Rattle.cmc_lines.specs.declared.line.PrintedLine.{PrintedLine}
-use Rattle.cmc_lines.specs.Shown.{shown}
+use Rattle.cmc_lines.specs.Shown.{line_of_entry}
 use Rattle.cmc_audit_clauses.specs.declared.clause.Clause.{Clause}
 use Rattle.cmc_audit_clauses.specs.declared.clause.Verdict.{Verdict}
 use Rattle.cmc_audit_clauses.specs.declared.clause.Verdict.TheVariants.{Yes, No}
 use Rattle.cmc_audit_clauses.specs.Clauses.{Holds}
-use Rattle.cmc_audit_steps.specs.Meant.{AreNamed, IsNamedEntry, IsMeant}
+use Rattle.cmc_audit_steps.specs.Meant.{AreNamedEntries, IsNamedEntry, IsMeant}
 use Rattle.cmc_audit_steps.specs.Stepping.{IsClean}
 use Rattle.cmc_audit.specs.Verdicts.{counted, FailsFirst, IsVerdict}
 use Rattle.cmc_audit_laws.specs.Passing.{IsAuditedYes}
@@ -18,7 +18,7 @@ record IsPlace (s : Setting) (line : PrintedLine) (before : List PrintedLine) : 
   h : List Entry
   e : Entry
   meant : IsMeant s before h
-  shows : shown e ≡ line
+  shows : line_of_entry e ≡ line
   named : IsNamedEntry s h e
   clean : (clause : Clause) → Holds clause s h e
 
@@ -28,27 +28,27 @@ tail_same l m ls ms e = cc e
 head_same : (l m : PrintedLine) (ls ms : List PrintedLine) → (l ∷ ls) ≡ (m ∷ ms) → l ≡ m
 head_same l m ls ms e = cc e
 
-place_of : (s : Setting) (h : List Entry) (later : List PrintedLine) (line : PrintedLine) (before : List PrintedLine) → AreNamed s h → IsClean s h → map shown h ≡ later ++ (line ∷ before) → IsPlace s line before
-unfolding AreNamed IsClean
+place_of : (s : Setting) (h : List Entry) (later : List PrintedLine) (line : PrintedLine) (before : List PrintedLine) → AreNamedEntries s h → IsClean s h → map line_of_entry h ≡ later ++ (line ∷ before) → IsPlace s line before
+unfolding AreNamedEntries IsClean
 place_of s [] [] line before named clean parts = absurd (cc parts)
 place_of s [] (l ∷ later) line before named clean parts = absurd (cc parts)
 place_of s (e ∷ h) [] line before named clean parts = record {
   h = h;
   e = e;
-  meant = record { shows = tail_same (shown e) line (map shown h) before parts; named = named.1 };
-  shows = head_same (shown e) line (map shown h) before parts;
+  meant = record { shows = tail_same (line_of_entry e) line (map line_of_entry h) before parts; named = named.1 };
+  shows = head_same (line_of_entry e) line (map line_of_entry h) before parts;
   named = named.0;
   clean = clean.0;
 }
 place_of s (e ∷ h) (l ∷ later) line before named clean parts =
-    place_of s h later line before named.1 clean.1 (tail_same (shown e) l (map shown h) (later ++ (line ∷ before)) parts)
+    place_of s h later line before named.1 clean.1 (tail_same (line_of_entry e) l (map line_of_entry h) (later ++ (line ∷ before)) parts)
 
 -- the lines of a history are as many as its entries
-shown_length : (h : List Entry) → length (map shown h) ≡ length h
+shown_length : (h : List Entry) → length (map line_of_entry h) ≡ length h
 shown_length [] = refl
 shown_length (e ∷ h) = ap (λ (n : ℕ). suc n) (shown_length h)
 
-pub audited_yes : (s : Setting) (h : List Entry) → AreNamed s h → IsClean s h → IsAuditedYes s h
+pub audited_yes : (s : Setting) (h : List Entry) → AreNamedEntries s h → IsClean s h → IsAuditedYes s h
 audited_yes s h named clean counts (Yes entries) right is = ap Yes (is.all ∙ shown_length h)
 audited_yes s h named clean counts (No entry clause) right (inl fails) =
     absurd (let p = place_of s h fails.later fails.line fails.before named clean fails.parts in (fails.fails p.h p.e p.meant p.shows p.named).1 (p.clean clause))

@@ -13,7 +13,7 @@ use Rattle.cmc_setup.specs.Setups.{Setup}
 use Rattle.cmc_scenario.specs.Scenarios.{scenario_at}
 use Rattle.cmc_print.specs.Trees.{line_of}
 use Rattle.cmc_report.specs.Text.{joined, history_lines}
-use Rattle.cmc_lines.specs.Shown.{shown}
+use Rattle.cmc_lines.specs.Shown.{line_of_entry}
 use Rattle.cmc_entry_form.specs.Entries.{HasForm}
 use Rattle.cmc_line_reading.specs.Histories.{IsHistoryOf, IsOneLine, IsReading, counts_of}
 use Rattle.cmc_line_reading.specs.declared.history.BadHistory.{BadHistory}
@@ -35,14 +35,14 @@ pub record IsValueOf (value : Data) (scenario : Setup) : Type 0 where
   pub one_line : IsOneLine (compact_text value)
 
 -- The summary has the form of one, and its counts fit 64 bits.
-pub record IsSummary (summary : Summary) : Type 0 where
+pub record IsPrintableSummary (summary : Summary) : Type 0 where
   pub form : HasSummaryForm summary
   pub certificates : IsCount summary.certificates
   pub ready : IsCount summary.ready
   pub secrets : IsCount summary.secrets
 
 -- Each entry has the form of one, and its numbers fit 64 bits.
-pub record AreEntries (h : List Entry) : Type 0 where
+pub record ArePrintableEntries (h : List Entry) : Type 0 where
   pub formed : AllByRecursion HasForm h
   pub typed : AreTyped h
   pub counted : EachCounted h
@@ -50,7 +50,7 @@ pub record AreEntries (h : List Entry) : Type 0 where
 
 -- The text is that of a history with this scenario, whose entries show those of the history, and with the counts of the summary.
 abbrev pub IsPrintedOf : List ℕ → Setup → List Entry → Summary → Type 0
-IsPrintedOf text scenario h summary = IsHistoryOf text scenario (reverse (map shown h)) (counts_of summary)
+IsPrintedOf text scenario h summary = IsHistoryOf text scenario (reverse (map line_of_entry h)) (counts_of summary)
 
 -- What the type of a summary says of it: names are names, and counts fit 64 bits.
 pub record IsTypedSummary (summary : Summary) : Type 0 where

@@ -1,6 +1,6 @@
 // What the types of a history's entries say of the keys of its calls.
 ghost use Rattle.std.specs.Prelude.{All};
-ghost use Rattle.cmc_audit_calls.specs.Reading.{HasNames, IsOfNames};
+ghost use Rattle.cmc_audit_calls.specs.Reading.{HasCallNames, IsOfNames};
 ghost use Rattle.cmc_audit_laws.specs.Passing.{NamesItsKey, NameTheirKeys};
 
 use cmc_history::History;
@@ -16,7 +16,7 @@ pub(crate) fn key_has_names(key: &Key)
 }
 
 fn call_has_names(call: &Call)
-    ensures { HasNames call.now }
+    ensures { HasCallNames call.now }
 {
     match call {
         Call::Delete { key, .. } => key_has_names(key),

@@ -14,9 +14,9 @@ use Rattle.cmc_setup.specs.Setups.{Setup, IsSetup}
 use Rattle.cmc_audit_state.specs.declared.row.Row.{Row}
 use Rattle.cmc_audit_state.specs.declared.standings.Standing.{Standing}
 use Rattle.cmc_audit_state.specs.Standing.{first_standing, standing_of}
-use Rattle.cmc_audit_state.specs.OpenRows.{row_at}
+use Rattle.cmc_audit_state.specs.OpenRows.{open_row_at}
 use Rattle.cmc_audit_ledger.specs.declared.ledger.Ledger.{Ledger}
-use Rattle.cmc_audit_ledger.specs.Following.{Follows, IsRowOf, setting_of}
+use Rattle.cmc_audit_ledger.specs.Following.{IsLedgerOf, IsRowOf, setting_of}
 use borrow.Author.Differences.{le-false}
 
 at_most : (a b : ℤ) (t : Bool) → int_le a b ≡ t → a ≤ℤ b → t ≡ true
@@ -32,7 +32,7 @@ told_none CertificateRequest running = refl
 told_none Secret running = refl
 
 pub follows_none : (u : Setup) (l : Ledger) → IsSetup u → l.store ≡ record { faults = u.faults; state = empty_store } → l.journal ≡ [] → l.moment ≡ u.moment → l.window ≡ u.window
-    → ((r : Role) → standing_of l.standings r ≡ first_standing (list_any (λ role. role_eq role r) u.roles)) → l.passes.begun ≡ 0 → ((n : ℕ) → row_at l.passes n ≡ None) → Follows (setting_of u) [] l
+    → ((r : Role) → standing_of l.standings r ≡ first_standing (list_any (λ role. role_eq role r) u.roles)) → l.passes.begun ≡ 0 → ((n : ℕ) → open_row_at l.passes n ≡ None) → IsLedgerOf (setting_of u) [] l
 follows_none u l setup store journal moment window standings begun rows = record {
   faults = λ i. (store i).faults;
   state = λ i. (store i).state;

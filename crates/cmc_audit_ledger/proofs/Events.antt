@@ -37,17 +37,17 @@ use Rattle.cmc_audit_state.specs.declared.standings.Standing.{Standing}
 use Rattle.cmc_audit_state.specs.Standing.{standing_of}
 use Rattle.cmc_audit_state.specs.Heard.{is_by, finds, writes_lasting, is_served, judged_version, is_about}
 use Rattle.cmc_audit_state.specs.Journaled.{cached}
-use Rattle.cmc_audit_state.specs.OpenRows.{Opened, row_at, unless_role, with_asked, IsToldAt}
+use Rattle.cmc_audit_state.specs.OpenRows.{Opened, open_row_at, unless_role, with_asked, IsToldAt}
 use Rattle.cmc_audit_ledger.specs.declared.ledger.Ledger.{Ledger}
-use Rattle.cmc_audit_ledger.specs.Counting.{counted}
-use Rattle.cmc_audit_ledger.specs.Starting.{Tells, Starts, Stops, IsFirst}
+use Rattle.cmc_audit_ledger.specs.Counting.{entry_counted}
+use Rattle.cmc_audit_ledger.specs.Starting.{MovesPosition, Starts, Stops, IsFirst}
 use Rattle.cmc_audit_ledger.specs.Calling.{HasBegun, ReadsSeen, ReadsBy, RowsAfter, saved_if, read_if}
-use Rattle.cmc_audit_ledger.specs.Following.{said, IsRow, IsRowOf, reached, Follows}
+use Rattle.cmc_audit_ledger.specs.Following.{said, IsRow, IsRowOf, reached, IsLedgerOf}
 use Rattle.cmc_audit_ledger.proofs.Rows.{gone_on, closed, stopped, asked_at, told_at, grown, saved_at, read_at, FindsWhat}
 
 -- ---- entries that change nothing that is kept, but their count
 
-pub scripted : (s : Setting) (h : List Entry) (l : Ledger) (step : ℕ) → Follows s h l → Follows s (entries.Script step ∷ h) (counted l)
+pub scripted : (s : Setting) (h : List Entry) (l : Ledger) (step : ℕ) → IsLedgerOf s h l → IsLedgerOf s (entries.Script step ∷ h) (entry_counted l)
 scripted s h l step is = record {
   faults = is.faults;
   state = is.state;
@@ -64,7 +64,7 @@ scripted s h l step is = record {
   begun_low = omega (arith, is.begun_low);
 }
 
-pub made : (s : Setting) (h : List Entry) (l : Ledger) (pass : ℕ) (key : List ℕ) → Follows s h l → Follows s (entries.Made pass key ∷ h) (counted l)
+pub made : (s : Setting) (h : List Entry) (l : Ledger) (pass : ℕ) (key : List ℕ) → IsLedgerOf s h l → IsLedgerOf s (entries.Made pass key ∷ h) (entry_counted l)
 made s h l pass key is = record {
   faults = is.faults;
   state = is.state;
@@ -75,13 +75,13 @@ made s h l pass key is = record {
   runs = is.runs;
   told = is.told;
   begun = is.begun;
-  rows = λ n. gone_on (n == pass) (writes s h) (λ v. (said s h).found n v) ((said s h).saved n) ((said s h).asked n) (λ v. (said s h).approved n v) (λ q. stage_given (values.Made key) q.stage) (row_at l.passes n) ((said s h).opened n) (is.rows n);
+  rows = λ n. gone_on (n == pass) (writes s h) (λ v. (said s h).found n v) ((said s h).saved n) ((said s h).asked n) (λ v. (said s h).approved n v) (λ q. stage_given (values.Made key) q.stage) (open_row_at l.passes n) ((said s h).opened n) (is.rows n);
   unheard = is.unheard;
   calls_low = omega (arith, is.calls_low);
   begun_low = omega (arith, is.begun_low);
 }
 
-pub signed : (s : Setting) (h : List Entry) (l : Ledger) (pass : ℕ) (signature : List ℕ) → Follows s h l → Follows s (entries.Signed pass signature ∷ h) (counted l)
+pub signed : (s : Setting) (h : List Entry) (l : Ledger) (pass : ℕ) (signature : List ℕ) → IsLedgerOf s h l → IsLedgerOf s (entries.Signed pass signature ∷ h) (entry_counted l)
 signed s h l pass signature is = record {
   faults = is.faults;
   state = is.state;
@@ -92,13 +92,13 @@ signed s h l pass signature is = record {
   runs = is.runs;
   told = is.told;
   begun = is.begun;
-  rows = λ n. gone_on (n == pass) (writes s h) (λ v. (said s h).found n v) ((said s h).saved n) ((said s h).asked n) (λ v. (said s h).approved n v) (λ q. stage_given (values.Signed signature) q.stage) (row_at l.passes n) ((said s h).opened n) (is.rows n);
+  rows = λ n. gone_on (n == pass) (writes s h) (λ v. (said s h).found n v) ((said s h).saved n) ((said s h).asked n) (λ v. (said s h).approved n v) (λ q. stage_given (values.Signed signature) q.stage) (open_row_at l.passes n) ((said s h).opened n) (is.rows n);
   unheard = is.unheard;
   calls_low = omega (arith, is.calls_low);
   begun_low = omega (arith, is.begun_low);
 }
 
-pub answered : (s : Setting) (h : List Entry) (l : Ledger) (pass : ℕ) (answer : Signing) → Follows s h l → Follows s (entries.Answered pass answer ∷ h) (counted l)
+pub answered : (s : Setting) (h : List Entry) (l : Ledger) (pass : ℕ) (answer : Signing) → IsLedgerOf s h l → IsLedgerOf s (entries.Answered pass answer ∷ h) (entry_counted l)
 answered s h l pass answer is = record {
   faults = is.faults;
   state = is.state;
@@ -109,7 +109,7 @@ answered s h l pass answer is = record {
   runs = is.runs;
   told = is.told;
   begun = is.begun;
-  rows = λ n. gone_on (n == pass) (writes s h) (λ v. (said s h).found n v) ((said s h).saved n) ((said s h).asked n) (λ v. (said s h).approved n v) (λ q. stage_given (values.Answered answer) q.stage) (row_at l.passes n) ((said s h).opened n) (is.rows n);
+  rows = λ n. gone_on (n == pass) (writes s h) (λ v. (said s h).found n v) ((said s h).saved n) ((said s h).asked n) (λ v. (said s h).approved n v) (λ q. stage_given (values.Answered answer) q.stage) (open_row_at l.passes n) ((said s h).opened n) (is.rows n);
   unheard = is.unheard;
   calls_low = omega (arith, is.calls_low);
   begun_low = omega (arith, is.begun_low);
@@ -117,7 +117,7 @@ answered s h l pass answer is = record {
 
 -- ---- moments, and what roles are told
 
-pub ticked : (s : Setting) (h : List Entry) (l : Ledger) (now : ℤ) → is_run_time now ≡ true → Follows s h l → Follows s (entries.Tick now ∷ h) (record (counted l) { moment = now })
+pub ticked : (s : Setting) (h : List Entry) (l : Ledger) (now : ℤ) → is_run_time now ≡ true → IsLedgerOf s h l → IsLedgerOf s (entries.Tick now ∷ h) (record (entry_counted l) { moment = now })
 ticked s h l now run is = record {
   faults = is.faults;
   state = is.state;
@@ -138,8 +138,8 @@ told_as : (b : Bool) (to old p : ℕ) → old ≡ p → (if b then to else old) 
 told_as true to old p same = refl
 told_as false to old p same = same
 
-pub delivered : (s : Setting) (h : List Entry) (l : Ledger) (new : List Standing) (role : Role) (kind : Kind) (to : ℕ) → Tells role kind to l.standings new → Follows s h l
-    → Follows s (entries.Deliver role kind to ∷ h) (record (counted l) { standings = new })
+pub delivered : (s : Setting) (h : List Entry) (l : Ledger) (new : List Standing) (role : Role) (kind : Kind) (to : ℕ) → MovesPosition role kind to l.standings new → IsLedgerOf s h l
+    → IsLedgerOf s (entries.Deliver role kind to ∷ h) (record (entry_counted l) { standings = new })
 delivered s h l new role kind to tells is = record {
   faults = is.faults;
   state = is.state;
@@ -156,8 +156,8 @@ delivered s h l new role kind to tells is = record {
   begun_low = omega (arith, is.begun_low);
 }
 
-pub listed : (s : Setting) (h : List Entry) (l : Ledger) (new : List Standing) (role : Role) (kind : Kind) (to : ℕ) → Tells role kind to l.standings new → Follows s h l
-    → Follows s (entries.List role kind to ∷ h) (record (counted l) { standings = new })
+pub listed : (s : Setting) (h : List Entry) (l : Ledger) (new : List Standing) (role : Role) (kind : Kind) (to : ℕ) → MovesPosition role kind to l.standings new → IsLedgerOf s h l
+    → IsLedgerOf s (entries.List role kind to ∷ h) (record (entry_counted l) { standings = new })
 listed s h l new role kind to tells is = record {
   faults = is.faults;
   state = is.state;
@@ -178,8 +178,8 @@ run_as : (b : Bool) (to old p : Bool) → old ≡ p → (if b then to else old) 
 run_as true to old p same = refl
 run_as false to old p same = same
 
-pub started : (s : Setting) (h : List Entry) (l : Ledger) (new : List Standing) (role : Role) (at : ℕ) → Starts role at l.standings new → Follows s h l
-    → Follows s (entries.Start role at ∷ h) (record (counted l) { standings = new })
+pub started : (s : Setting) (h : List Entry) (l : Ledger) (new : List Standing) (role : Role) (at : ℕ) → Starts role at l.standings new → IsLedgerOf s h l
+    → IsLedgerOf s (entries.Start role at ∷ h) (record (entry_counted l) { standings = new })
 started s h l new role at starts is = record {
   faults = is.faults;
   state = is.state;
@@ -197,8 +197,8 @@ started s h l new role at starts is = record {
 }
 
 pub halted : (s : Setting) (h : List Entry) (l : Ledger) (new : List Standing) (passes : Opened) (role : Role) → Stops role l.standings new
-    → passes.begun ≡ l.passes.begun → ((n : ℕ) → row_at passes n ≡ unless_role role (row_at l.passes n)) → Follows s h l
-    → Follows s (entries.Stop role ∷ h) (record (counted l) { standings = new; passes = passes })
+    → passes.begun ≡ l.passes.begun → ((n : ℕ) → open_row_at passes n ≡ unless_role role (open_row_at l.passes n)) → IsLedgerOf s h l
+    → IsLedgerOf s (entries.Stop role ∷ h) (record (entry_counted l) { standings = new; passes = passes })
 halted s h l new passes role stops begun rows is = record {
   faults = is.faults;
   state = is.state;
@@ -209,7 +209,7 @@ halted s h l new passes role stops begun rows is = record {
   runs = λ r. (stops r).0 ∙ run_as (role_eq role r) false (standing_of l.standings r).running ((said s h).runs r) (is.runs r);
   told = λ r k. (stops r).1 k ∙ is.told r k;
   begun = begun ∙ is.begun;
-  rows = λ n. subst (λ (x : Option Row). IsRowOf (writes s h) (λ v. (said s h).found n v) ((said s h).saved n) ((said s h).asked n) (λ v. (said s h).approved n v) x ((said s (entries.Stop role ∷ h)).opened n)) (sym (rows n)) (stopped role (writes s h) (λ v. (said s h).found n v) ((said s h).saved n) ((said s h).asked n) (λ v. (said s h).approved n v) (row_at l.passes n) ((said s h).opened n) (is.rows n));
+  rows = λ n. subst (λ (x : Option Row). IsRowOf (writes s h) (λ v. (said s h).found n v) ((said s h).saved n) ((said s h).asked n) (λ v. (said s h).approved n v) x ((said s (entries.Stop role ∷ h)).opened n)) (sym (rows n)) (stopped role (writes s h) (λ v. (said s h).found n v) ((said s h).saved n) ((said s h).asked n) (λ v. (said s h).approved n v) (open_row_at l.passes n) ((said s h).opened n) (is.rows n));
   unheard = is.unheard;
   calls_low = omega (arith, is.calls_low);
   begun_low = omega (arith, is.begun_low);
@@ -218,7 +218,7 @@ halted s h l new passes role stops begun rows is = record {
 -- ---- passes
 
 pub ended : (s : Setting) (h : List Entry) (l : Ledger) (passes : Opened) (pass : ℕ) (cause : Cause) → passes.begun ≡ l.passes.begun
-    → ((n : ℕ) → row_at passes n ≡ (if n == pass then None else row_at l.passes n)) → Follows s h l → Follows s (entries.End pass cause ∷ h) (record (counted l) { passes = passes })
+    → ((n : ℕ) → open_row_at passes n ≡ (if n == pass then None else open_row_at l.passes n)) → IsLedgerOf s h l → IsLedgerOf s (entries.End pass cause ∷ h) (record (entry_counted l) { passes = passes })
 ended s h l passes pass cause begun rows is = record {
   faults = is.faults;
   state = is.state;
@@ -229,7 +229,7 @@ ended s h l passes pass cause begun rows is = record {
   runs = is.runs;
   told = is.told;
   begun = begun ∙ is.begun;
-  rows = λ n. subst (λ (x : Option Row). IsRowOf (writes s h) (λ v. (said s (entries.End pass cause ∷ h)).found n v) ((said s (entries.End pass cause ∷ h)).saved n) ((said s (entries.End pass cause ∷ h)).asked n) (λ v. (said s (entries.End pass cause ∷ h)).approved n v) x ((said s (entries.End pass cause ∷ h)).opened n)) (sym (rows n)) (closed (n == pass) (writes s h) (λ v. (said s h).found n v) ((said s h).saved n) ((said s h).asked n) (λ v. (said s h).approved n v) (row_at l.passes n) ((said s h).opened n) (is.rows n));
+  rows = λ n. subst (λ (x : Option Row). IsRowOf (writes s h) (λ v. (said s (entries.End pass cause ∷ h)).found n v) ((said s (entries.End pass cause ∷ h)).saved n) ((said s (entries.End pass cause ∷ h)).asked n) (λ v. (said s (entries.End pass cause ∷ h)).approved n v) x ((said s (entries.End pass cause ∷ h)).opened n)) (sym (rows n)) (closed (n == pass) (writes s h) (λ v. (said s h).found n v) ((said s h).saved n) ((said s h).asked n) (λ v. (said s h).approved n v) (open_row_at l.passes n) ((said s h).opened n) (is.rows n));
   unheard = is.unheard;
   calls_low = omega (arith, is.calls_low);
   begun_low = omega (arith, is.begun_low);
@@ -244,8 +244,8 @@ unasked true x y off none = absurd (cc off)
 unasked false x y off none = none
 
 pub asked_on : (s : Setting) (h : List Entry) (l : Ledger) (passes : Opened) (pass : ℕ) (order : Order) → pass ≤ l.passes.begun → passes.begun ≡ l.passes.begun
-    → ((n : ℕ) → row_at passes n ≡ (if n == pass then option_map (with_asked (judged_version order)) (row_at l.passes n) else row_at l.passes n)) → Follows s h l
-    → Follows s (entries.Ask pass order ∷ h) (record (counted l) { passes = passes })
+    → ((n : ℕ) → open_row_at passes n ≡ (if n == pass then option_map (with_asked (judged_version order)) (open_row_at l.passes n) else open_row_at l.passes n)) → IsLedgerOf s h l
+    → IsLedgerOf s (entries.Ask pass order ∷ h) (record (entry_counted l) { passes = passes })
 asked_on s h l passes pass order low begun rows is = record {
   faults = is.faults;
   state = is.state;
@@ -256,7 +256,7 @@ asked_on s h l passes pass order low begun rows is = record {
   runs = is.runs;
   told = is.told;
   begun = begun ∙ is.begun;
-  rows = λ n. subst (λ (x : Option Row). IsRowOf (writes s h) (λ v. (said s (entries.Ask pass order ∷ h)).found n v) ((said s (entries.Ask pass order ∷ h)).saved n) ((said s (entries.Ask pass order ∷ h)).asked n) (λ v. (said s (entries.Ask pass order ∷ h)).approved n v) x ((said s (entries.Ask pass order ∷ h)).opened n)) (sym (rows n)) (asked_at (n == pass) (writes s h) (λ v. (said s h).found n v) ((said s h).saved n) ((said s h).asked n) (judged_version order) (λ v. (said s h).approved n v) (row_at l.passes n) ((said s (entries.Ask pass order ∷ h)).opened n) (gone_on (n == pass) (writes s h) (λ v. (said s h).found n v) ((said s h).saved n) ((said s h).asked n) (λ v. (said s h).approved n v) (λ q. Asked order) (row_at l.passes n) ((said s h).opened n) (is.rows n)));
+  rows = λ n. subst (λ (x : Option Row). IsRowOf (writes s h) (λ v. (said s (entries.Ask pass order ∷ h)).found n v) ((said s (entries.Ask pass order ∷ h)).saved n) ((said s (entries.Ask pass order ∷ h)).asked n) (λ v. (said s (entries.Ask pass order ∷ h)).approved n v) x ((said s (entries.Ask pass order ∷ h)).opened n)) (sym (rows n)) (asked_at (n == pass) (writes s h) (λ v. (said s h).found n v) ((said s h).saved n) ((said s h).asked n) (judged_version order) (λ v. (said s h).approved n v) (open_row_at l.passes n) ((said s (entries.Ask pass order ∷ h)).opened n) (gone_on (n == pass) (writes s h) (λ v. (said s h).found n v) ((said s h).saved n) ((said s h).asked n) (λ v. (said s h).approved n v) (λ q. Asked order) (open_row_at l.passes n) ((said s h).opened n) (is.rows n)));
   unheard = λ n above. let u = is.unheard n above in record { not_found = u.not_found; not_saved = u.not_saved; not_asked = unasked (n == pass) (judged_version order) ((said s h).asked n) (apart n pass (said s h).begun (omega (arith, low, is.begun)) above) u.not_asked; not_approved = u.not_approved };
   calls_low = omega (arith, is.calls_low);
   begun_low = omega (arith, is.begun_low);
@@ -268,8 +268,8 @@ unapproved false c y off none = none
 
 -- told: the pass is told yes
 pub judged_on : (s : Setting) (h : List Entry) (l : Ledger) (passes : Opened) (pass : ℕ) → pass ≤ l.passes.begun → passes.begun ≡ l.passes.begun
-    → ((n : ℕ) → IsToldAt (n == pass) (row_at l.passes n) (row_at passes n)) → Follows s h l
-    → Follows s (entries.Judged pass true ∷ h) (record (counted l) { passes = passes })
+    → ((n : ℕ) → IsToldAt (n == pass) (open_row_at l.passes n) (open_row_at passes n)) → IsLedgerOf s h l
+    → IsLedgerOf s (entries.Judged pass true ∷ h) (record (entry_counted l) { passes = passes })
 judged_on s h l passes pass low begun told is = record {
   faults = is.faults;
   state = is.state;
@@ -280,7 +280,7 @@ judged_on s h l passes pass low begun told is = record {
   runs = is.runs;
   told = is.told;
   begun = begun ∙ is.begun;
-  rows = λ n. told_at (n == pass) (writes s h) (λ v. (said s h).found n v) ((said s h).saved n) ((said s h).asked n) (λ v. (said s h).approved n v) (row_at l.passes n) (row_at passes n) ((said s (entries.Judged pass true ∷ h)).opened n) (told n) (gone_on (n == pass) (writes s h) (λ v. (said s h).found n v) ((said s h).saved n) ((said s h).asked n) (λ v. (said s h).approved n v) (λ q. stage_given (values.Judged true) q.stage) (row_at l.passes n) ((said s h).opened n) (is.rows n));
+  rows = λ n. told_at (n == pass) (writes s h) (λ v. (said s h).found n v) ((said s h).saved n) ((said s h).asked n) (λ v. (said s h).approved n v) (open_row_at l.passes n) (open_row_at passes n) ((said s (entries.Judged pass true ∷ h)).opened n) (told n) (gone_on (n == pass) (writes s h) (λ v. (said s h).found n v) ((said s h).saved n) ((said s h).asked n) (λ v. (said s h).approved n v) (λ q. stage_given (values.Judged true) q.stage) (open_row_at l.passes n) ((said s h).opened n) (is.rows n));
   unheard = λ n above. let u = is.unheard n above in record { not_found = u.not_found; not_saved = u.not_saved; not_asked = u.not_asked; not_approved = λ v. unapproved (n == pass) (is_about v ((said s h).asked n)) ((said s h).approved n v) (apart n pass (said s h).begun (omega (arith, low, is.begun)) above) (u.not_approved v) };
   calls_low = omega (arith, is.calls_low);
   begun_low = omega (arith, is.begun_low);
@@ -290,7 +290,7 @@ none_told : (a b y : Bool) → y ≡ ((a && (false && b)) || y)
 none_told true b y = refl
 none_told false b y = refl
 
-pub refused : (s : Setting) (h : List Entry) (l : Ledger) (pass : ℕ) → Follows s h l → Follows s (entries.Judged pass false ∷ h) (counted l)
+pub refused : (s : Setting) (h : List Entry) (l : Ledger) (pass : ℕ) → IsLedgerOf s h l → IsLedgerOf s (entries.Judged pass false ∷ h) (entry_counted l)
 refused s h l pass is = record {
   faults = is.faults;
   state = is.state;
@@ -301,7 +301,7 @@ refused s h l pass is = record {
   runs = is.runs;
   told = is.told;
   begun = is.begun;
-  rows = λ n. subst (λ (y : Version → Bool). IsRowOf (writes s h) (λ v. (said s h).found n v) ((said s h).saved n) ((said s h).asked n) y (row_at l.passes n) ((said s (entries.Judged pass false ∷ h)).opened n)) (λ i v. none_told (n == pass) (is_about v ((said s h).asked n)) ((said s h).approved n v) i) (gone_on (n == pass) (writes s h) (λ v. (said s h).found n v) ((said s h).saved n) ((said s h).asked n) (λ v. (said s h).approved n v) (λ q. stage_given (values.Judged false) q.stage) (row_at l.passes n) ((said s h).opened n) (is.rows n));
+  rows = λ n. subst (λ (y : Version → Bool). IsRowOf (writes s h) (λ v. (said s h).found n v) ((said s h).saved n) ((said s h).asked n) y (open_row_at l.passes n) ((said s (entries.Judged pass false ∷ h)).opened n)) (λ i v. none_told (n == pass) (is_about v ((said s h).asked n)) ((said s h).approved n v) i) (gone_on (n == pass) (writes s h) (λ v. (said s h).found n v) ((said s h).saved n) ((said s h).asked n) (λ v. (said s h).approved n v) (λ q. stage_given (values.Judged false) q.stage) (open_row_at l.passes n) ((said s h).opened n) (is.rows n));
   unheard = λ n above. let u = is.unheard n above in record { not_found = u.not_found; not_saved = u.not_saved; not_asked = u.not_asked; not_approved = λ v. sym (none_told (n == pass) (is_about v ((said s h).asked n)) ((said s h).approved n v)) ∙ u.not_approved v };
   calls_low = omega (arith, is.calls_low);
   begun_low = omega (arith, is.begun_low);
@@ -341,7 +341,7 @@ caches_by a b c x y z e f g = λ i. caches_with (e i) (f i) (g i)
 abbrev pub IsFirstRow : Ledger → Role → Key → Row → Type 0
 IsFirstRow l role key row = IsFirst (standing_of l.standings role) (length l.journal) l.moment role key row
 
-seen_first : (s : Setting) (h : List Entry) (l : Ledger) (role : Role) (key : Key) (row : Row) → IsFirstRow l role key row → Follows s h l → views s h role key ≡ views_in row.role (reached (writes s h) row.reach) row.key
+seen_first : (s : Setting) (h : List Entry) (l : Ledger) (role : Role) (key : Key) (row : Row) → IsFirstRow l role key row → IsLedgerOf s h l → views s h role key ≡ views_in row.role (reached (writes s h) row.reach) row.key
 seen_first s h l role key row first is =
     let at : (kind : Kind) → cached kind (writes s h) (position h role kind) ≡ cached kind (writes s h) (position_of kind row.reach) =
     λ kind. reach_same kind (writes s h) (position_of kind (standing_of l.standings role).told) (position_of kind row.reach) (position h role kind)
@@ -350,12 +350,12 @@ seen_first s h l role key row first is =
     ap (λ (c : Caches). views_in role c key) (caches_by _ _ _ _ _ _ (at kinds.Certificate) (at kinds.CertificateRequest) (at kinds.Secret))
     ∙ ap (λ r. views_in r (reached (writes s h) row.reach) key) (sym first.role_is) ∙ ap (views_in row.role (reached (writes s h) row.reach)) (sym first.key_is)
 
-first_low : (s : Setting) (h : List Entry) (l : Ledger) (role : Role) (key : Key) (row : Row) (kind : Kind) → IsFirstRow l role key row → Follows s h l → position_of kind row.reach ≤ length (writes s h)
+first_low : (s : Setting) (h : List Entry) (l : Ledger) (role : Role) (key : Key) (row : Row) (kind : Kind) → IsFirstRow l role key row → IsLedgerOf s h l → position_of kind row.reach ≤ length (writes s h)
 first_low s h l role key row kind first is =
     reach_low (writes s h) (position_of kind (standing_of l.standings role).told) (position_of kind row.reach)
     (subst (λ (ws : List Write). position_of kind row.reach ≡ (if nat_le (position_of kind (standing_of l.standings role).told) (length ws) then position_of kind (standing_of l.standings role).told else length ws)) is.writes (first.reach_is kind))
 
-first_row : (s : Setting) (h : List Entry) (l : Ledger) (n : ℕ) (role : Role) (key : Key) (now : ℤ) (row : Row) → now ≡ moment s h → (said s h).begun < n → IsFirstRow l role key row → Follows s h l
+first_row : (s : Setting) (h : List Entry) (l : Ledger) (n : ℕ) (role : Role) (key : Key) (now : ℤ) (row : Row) → now ≡ moment s h → (said s h).begun < n → IsFirstRow l role key row → IsLedgerOf s h l
     → IsRow (writes s h) (λ v. (said s h).found n v) ((said s h).saved n) ((said s h).asked n) (λ v. (said s h).approved n v) row (new_pass role key (views s h role key) now)
 first_row s h l n role key now row present above first is =
     let u = is.unheard n above in
@@ -384,8 +384,8 @@ same_number n m e = grind (arith, nat_tests)
 
 pub begun_on : (s : Setting) (h : List Entry) (l : Ledger) (passes : Opened) (pass : ℕ) (role : Role) (key : Key) (at : Positions) (now : ℤ) (row : Row)
     → pass ≡ l.passes.begun + 1 → now ≡ l.moment → IsFirstRow l role key row → passes.begun ≡ l.passes.begun + 1
-    → ((n : ℕ) → row_at passes n ≡ (if n == l.passes.begun + 1 then Some row else row_at l.passes n)) → Follows s h l
-    → Follows s (entries.Begin pass role key at now ∷ h) (record (counted l) { passes = passes })
+    → ((n : ℕ) → open_row_at passes n ≡ (if n == l.passes.begun + 1 then Some row else open_row_at l.passes n)) → IsLedgerOf s h l
+    → IsLedgerOf s (entries.Begin pass role key at now ∷ h) (record (entry_counted l) { passes = passes })
 begun_on s h l passes pass role key at now row numbered present first begun rows is = record {
   faults = is.faults;
   state = is.state;
@@ -396,7 +396,7 @@ begun_on s h l passes pass role key at now row numbered present first begun rows
   runs = is.runs;
   told = is.told;
   begun = let e : l.passes.begun ≡ (said s h).begun = is.begun in omega (arith, begun, e);
-  rows = λ n. subst (λ (x : Option Row). IsRowOf (writes s h) (λ v. (said s h).found n v) ((said s h).saved n) ((said s h).asked n) (λ v. (said s h).approved n v) x ((said s (entries.Begin pass role key at now ∷ h)).opened n)) (sym (rows n ∙ ap (λ m. if n == m then Some row else row_at l.passes n) (sym numbered))) (begun_at (n == pass) (writes s h) (λ v. (said s h).found n v) ((said s h).saved n) ((said s h).asked n) (λ v. (said s h).approved n v) row (new_pass role key (views s h role key) now) (row_at l.passes n) ((said s h).opened n) (λ e. first_row s h l n role key now row (present ∙ is.moment) (let m = same_number n pass e in omega (arith, m, numbered, is.begun)) first is) (is.rows n));
+  rows = λ n. subst (λ (x : Option Row). IsRowOf (writes s h) (λ v. (said s h).found n v) ((said s h).saved n) ((said s h).asked n) (λ v. (said s h).approved n v) x ((said s (entries.Begin pass role key at now ∷ h)).opened n)) (sym (rows n ∙ ap (λ m. if n == m then Some row else open_row_at l.passes n) (sym numbered))) (begun_at (n == pass) (writes s h) (λ v. (said s h).found n v) ((said s h).saved n) ((said s h).asked n) (λ v. (said s h).approved n v) row (new_pass role key (views s h role key) now) (open_row_at l.passes n) ((said s h).opened n) (λ e. first_row s h l n role key now row (present ∙ is.moment) (let m = same_number n pass e in omega (arith, m, numbered, is.begun)) first is) (is.rows n));
   unheard = λ n above. is.unheard n (omega (arith, above));
   calls_low = omega (arith, is.calls_low);
   begun_low = omega (arith, is.begun_low);
@@ -424,9 +424,9 @@ over_who : (n : ℕ) (who : Who) (ws : List Write) (f : ℕ → Bool) (s : Bool)
 over_who n User ws f s a y stage x p is = is
 over_who n (Pass pass) ws f s a y stage x p is = gone_on (n == pass) ws f s a y stage x p is
 
-reads_own : (l : Ledger) (who : Who) (n : ℕ) (call : Call) (reply : Reply) (reads : Bool) → ReadsBy l.journal l.passes who call reply reads → is_by n who ≡ true → ReadsSeen l.journal (row_at l.passes n) call reply reads
+reads_own : (l : Ledger) (who : Who) (n : ℕ) (call : Call) (reply : Reply) (reads : Bool) → ReadsBy l.journal l.passes who call reply reads → is_by n who ≡ true → ReadsSeen l.journal (open_row_at l.passes n) call reply reads
 reads_own l User n call reply reads seen on = absurd (cc on)
-reads_own l (Pass pass) n call reply reads seen on = subst (λ m. ReadsSeen l.journal (row_at l.passes m) call reply reads) (sym (same_number n pass on)) seen
+reads_own l (Pass pass) n call reply reads seen on = subst (λ m. ReadsSeen l.journal (open_row_at l.passes m) call reply reads) (sym (same_number n pass on)) seen
 
 abbrev writes_after : ℤ → State → List Write → Call → Reply → List Write
 writes_after now st ws call reply = if is_accepted reply then write_of now st (settled call reply) ∷ ws else ws
@@ -435,8 +435,8 @@ pub called_on : (s : Setting) (h : List Entry) (l : Ledger) (store : Kept) (ws :
     → HasBegun l.passes.begun who → ReadsBy l.journal l.passes who call reply reads
     → store ≡ record { faults = l.store.faults; state = state_after l.moment l.store.state call reply }
     → ws ≡ (if is_accepted reply then write_of l.moment l.store.state (settled call reply) ∷ l.journal else l.journal)
-    → passes.begun ≡ l.passes.begun → RowsAfter l.passes passes who call reply reads → Follows s h l
-    → Follows s (entries.Call who call reply ∷ h) (record (counted l) { store = store; journal = ws; passes = passes })
+    → passes.begun ≡ l.passes.begun → RowsAfter l.passes passes who call reply reads → IsLedgerOf s h l
+    → IsLedgerOf s (entries.Call who call reply ∷ h) (record (entry_counted l) { store = store; journal = ws; passes = passes })
 called_on s h l store ws passes who call reply reads has seen stored wrote begun rows is = record {
   faults = ap (λ (k : Kept). k.faults) stored ∙ is.faults;
   state = ap (λ (k : Kept). k.state) stored ∙ ap (λ m. state_after m l.store.state call reply) is.moment ∙ ap (λ (x : State). state_after (moment s h) x call reply) is.state;
@@ -454,7 +454,7 @@ called_on s h l store ws passes who call reply reads has seen stored wrote begun
       let f : ℕ → Bool = λ v. (said s h).found n v in
       let g : ℕ → Bool = λ v. (own && finds v call reply) || f v in
       let y : Version → Bool = λ v. (said s h).approved n v in
-      let x : Option Row = row_at l.passes n in
+      let x : Option Row = open_row_at l.passes n in
       let here : FindsWhat ws' f g (own && reads) x = subst (λ (q : List Write). FindsWhat q f g (own && reads) x) is.writes (reads_by own l.journal f x call reply reads (reads_own l who n call reply reads seen)) in
       let read = read_at (own && reads) ws' f g ((said s h).saved n) ((said s h).asked n) y x ((said s h).opened n) here (is.rows n) in
       let save = saved_at own saves ws' g ((said s h).saved n) ((said s h).asked n) y (read_if (own && reads) x) ((said s h).opened n) read in

@@ -16,7 +16,7 @@ use Rattle.cmc_rules.specs.Viewing.{Caches, certificate_at, views_in}
 use Rattle.cmc_rules.specs.Passes.{with_stage, unless_of}
 use Rattle.cmc_audit_state.specs.declared.row.Row.{Row}
 use Rattle.cmc_audit_state.specs.declared.row.Version.{Version}
-use Rattle.cmc_audit_state.specs.Heard.{is_told, is_about}
+use Rattle.cmc_audit_state.specs.Heard.{has_yes_on, is_about}
 use Rattle.cmc_audit_state.specs.Journaled.{cached}
 use Rattle.cmc_audit_state.specs.OpenRows.{unless_role, with_asked, with_read, with_saved, IsToldRow, IsToldAt}
 use Rattle.cmc_audit_ledger.specs.Calling.{read_if}
@@ -117,7 +117,7 @@ told_row ws f s a y (Some row) (Some z) (Some p) told is =
       read = is.read;
       saved_is = is.saved_is;
       asked_is = is.asked_is;
-      approved_is = λ v. told.more v ∙ ap (λ q. is_about v q || is_told row.yeses v) is.asked_is ∙ ap (λ b. is_about v a || b) (is.approved_is v);
+      approved_is = λ v. told.more v ∙ ap (λ q. is_about v q || has_yes_on row.yeses v) is.asked_is ∙ ap (λ b. is_about v a || b) (is.approved_is v);
     })
 
 -- own: it is the pass that is told; yes: it is told yes

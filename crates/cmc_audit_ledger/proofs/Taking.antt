@@ -15,8 +15,8 @@ use Rattle.cmc_audit_state.specs.Heard.{writes_lasting, is_served}
 use Rattle.cmc_audit_state.specs.OpenRows.{Opened}
 use Rattle.cmc_audit_ledger.specs.declared.ledger.Ledger.{Ledger}
 use Rattle.cmc_audit_ledger.specs.Calling.{HasBegun, ReadsBy, RowsNoted, IsServedBy, writes_over}
-use Rattle.cmc_audit_ledger.specs.Counting.{counted}
-use Rattle.cmc_audit_ledger.specs.Following.{Follows}
+use Rattle.cmc_audit_ledger.specs.Counting.{entry_counted}
+use Rattle.cmc_audit_ledger.specs.Following.{IsLedgerOf}
 use Rattle.cmc_audit_ledger.proofs.Events.{called_on}
 
 written_by : (b : Bool) (key : Key) (object : Option Object) (ws : List Write) → writes_over ws (if b then Some key else None) (if b then object else None) ≡ (if b then record { key = key; object = object } ∷ ws else ws)
@@ -25,8 +25,8 @@ written_by false key object ws = refl
 
 pub taken_in : (s : Setting) (h : List Entry) (before now : Ledger) (ws : List Write) (passes : Opened) (who : Who) (call : Call) (reply : Reply) (key : Option Key) (object : Option Object) (reads saves : Bool)
     → IsServedBy before now call reply key object → HasBegun before.passes.begun who → ReadsBy now.journal now.passes who call reply reads → ws ≡ writes_over now.journal key object
-    → passes.begun ≡ now.passes.begun → saves ≡ (writes_lasting call && is_served reply) → RowsNoted now.passes passes who reads saves → Follows s h before
-    → Follows s (entries.Call who call reply ∷ h) (record (counted now) { journal = ws; passes = passes })
+    → passes.begun ≡ now.passes.begun → saves ≡ (writes_lasting call && is_served reply) → RowsNoted now.passes passes who reads saves → IsLedgerOf s h before
+    → IsLedgerOf s (entries.Call who call reply ∷ h) (record (entry_counted now) { journal = ws; passes = passes })
 taken_in s h before now ws passes who call reply key object reads saves served has seen wrote begun saving rows is =
     let journal : now.journal ≡ before.journal = ap (λ (l : Ledger). l.journal) served.rest in
     let opened : now.passes ≡ before.passes = ap (λ (l : Ledger). l.passes) served.rest in
@@ -34,7 +34,7 @@ taken_in s h before now ws passes who call reply key object reads saves served h
     wrote ∙ ap (λ (us : List Write). writes_over us key object) journal ∙ ap (λ (k : Option Key). writes_over before.journal k object) served.key_is
     ∙ ap (λ (o : Option Object). writes_over before.journal (if is_accepted reply then Some (key_of_call (settled call reply)) else None) o) served.object_is
     ∙ written_by (is_accepted reply) (key_of_call (settled call reply)) (stored _ before.moment before.store.state.objects (settled call reply)) before.journal in
-    subst (λ (l : Ledger). Follows s (entries.Call who call reply ∷ h) (record (counted l) { journal = ws; passes = passes })) (sym served.rest)
+    subst (λ (l : Ledger). IsLedgerOf s (entries.Call who call reply ∷ h) (record (entry_counted l) { journal = ws; passes = passes })) (sym served.rest)
     (called_on s h before now.store ws passes who call reply reads has
     (subst (λ (q : Opened). ReadsBy before.journal q who call reply reads) opened (subst (λ (us : List Write). ReadsBy us now.passes who call reply reads) journal seen))
     served.store write (begun ∙ ap (λ (q : Opened). q.begun) opened)

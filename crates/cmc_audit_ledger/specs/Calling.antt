@@ -14,7 +14,7 @@ use Rattle.cmc_rules.specs.Viewing.{certificate_at}
 use Rattle.cmc_audit_state.specs.declared.row.Row.{Row}
 use Rattle.cmc_audit_state.specs.Heard.{is_by, finds, writes_lasting, is_served}
 use Rattle.cmc_audit_state.specs.Journaled.{cached}
-use Rattle.cmc_audit_state.specs.OpenRows.{Opened, row_at, with_read, with_saved}
+use Rattle.cmc_audit_state.specs.OpenRows.{Opened, open_row_at, with_read, with_saved}
 use Rattle.cmc_audit_ledger.specs.declared.ledger.Ledger.{Ledger}
 
 -- the caller is a user, or a pass that has begun
@@ -30,7 +30,7 @@ ReadsSeen ws (Some row) call reply reads = (c : Certificate) → certificate_at 
 -- the same of the pass that calls
 abbrev pub ReadsBy : List Write → Opened → Who → Call → Reply → Bool → Type 0
 ReadsBy ws passes User call reply reads = Unit {0}
-ReadsBy ws passes (Pass pass) call reply reads = ReadsSeen ws (row_at passes pass) call reply reads
+ReadsBy ws passes (Pass pass) call reply reads = ReadsSeen ws (open_row_at passes pass) call reply reads
 
 abbrev pub read_if : Bool → Option Row → Option Row
 read_if b x = if b then option_map with_read x else x
@@ -41,11 +41,11 @@ saved_if b x = if b then option_map with_saved x else x
 -- the rows after the call: the pass that calls has read what it saw, or saved a Secret
 abbrev pub RowsAfter : Opened → Opened → Who → Call → Reply → Bool → Type 0
 RowsAfter old new who call reply reads =
-    (n : ℕ) → row_at new n ≡ saved_if (is_by n who && (writes_lasting call && is_served reply)) (read_if (is_by n who && reads) (row_at old n))
+    (n : ℕ) → open_row_at new n ≡ saved_if (is_by n who && (writes_lasting call && is_served reply)) (read_if (is_by n who && reads) (open_row_at old n))
 
 -- the same by tests
 abbrev pub RowsNoted : Opened → Opened → Who → Bool → Bool → Type 0
-RowsNoted old new who reads saves = (n : ℕ) → row_at new n ≡ saved_if (is_by n who && saves) (read_if (is_by n who && reads) (row_at old n))
+RowsNoted old new who reads saves = (n : ℕ) → open_row_at new n ≡ saved_if (is_by n who && saves) (read_if (is_by n who && reads) (open_row_at old n))
 
 -- the writes with one more under the key, if a key was written
 abbrev pub writes_over : List Write → Option Key → Option Object → List Write

@@ -2,5 +2,5 @@
 use Rattle.std.specs.Prelude.{◌+◌}
 use Rattle.cmc_audit_ledger.specs.declared.ledger.Ledger.{Ledger}
 
-abbrev pub counted : Ledger → Ledger
-counted l = record l { entries = l.entries + 1 }
+abbrev pub entry_counted : Ledger → Ledger
+entry_counted l = record l { entries = l.entries + 1 }

@@ -21,9 +21,9 @@ use Rattle.cmc_audit_ledger.specs.declared.ledger.Ledger.{Ledger}
 use Rattle.cmc_audit_state.specs.declared.row.Row.{Row}
 use Rattle.cmc_audit_state.specs.declared.row.Version.{Version}
 use Rattle.cmc_audit_state.specs.Standing.{standing_of}
-use Rattle.cmc_audit_state.specs.Heard.{found, saved, asked, approved, is_told}
+use Rattle.cmc_audit_state.specs.Heard.{has_found, saved, last_judged, approved, has_yes_on}
 use Rattle.cmc_audit_state.specs.Journaled.{cached}
-use Rattle.cmc_audit_state.specs.OpenRows.{row_at}
+use Rattle.cmc_audit_state.specs.OpenRows.{open_row_at}
 
 -- what the scenario gives a run to begin with
 abbrev pub setting_of : Setup → Setting
@@ -63,9 +63,9 @@ said s h = record {
   position = λ role kind. position h role kind;
   begun = begun s h;
   opened = λ n. open_pass s h n;
-  found = λ n version. found n version h;
+  found = λ n version. has_found n version h;
   saved = λ n. saved n h;
-  asked = λ n. asked n h;
+  asked = λ n. last_judged n h;
   approved = λ n v. approved n v h;
 }
 
@@ -88,7 +88,7 @@ pub record IsRow (ws : List Write) (found : ℕ → Bool) (saved : Bool) (asked 
   pub read : (c : Certificate) → certificate_at (cached kinds.Certificate ws row.reach.certificates) row.key ≡ Some c → row.read ≡ found c.meta.version
   pub saved_is : row.saved ≡ saved
   pub asked_is : row.asked ≡ asked
-  pub approved_is : (v : Version) → is_told row.yeses v ≡ approved v
+  pub approved_is : (v : Version) → has_yes_on row.yeses v ≡ approved v
 
 abbrev pub IsRowOf : List Write → (ℕ → Bool) → Bool → Option Version → (Version → Bool) → Option Row → Option OpenPass → Type 0
 IsRowOf ws found saved asked approved None None = Unit {0}
@@ -104,7 +104,7 @@ pub record IsUnheard (found : ℕ → Bool) (saved : Bool) (asked : Option Versi
   pub not_approved : (v : Version) → approved v ≡ false
 
 -- each part is what is said
-pub record IsFollowed (s : Setting) (t : Said) (l : Ledger) : Type 0 where
+pub record IsLedgerOfSaid (s : Setting) (t : Said) (l : Ledger) : Type 0 where
   pub faults : l.store.faults ≡ s.faults
   pub state : l.store.state ≡ t.state
   pub writes : l.journal ≡ t.writes
@@ -114,11 +114,11 @@ pub record IsFollowed (s : Setting) (t : Said) (l : Ledger) : Type 0 where
   pub runs : (role : Role) → (standing_of l.standings role).running ≡ t.runs role
   pub told : (role : Role) (kind : Kind) → position_of kind (standing_of l.standings role).told ≡ t.position role kind
   pub begun : l.passes.begun ≡ t.begun
-  pub rows : (n : ℕ) → IsRowOf t.writes (t.found n) (t.saved n) (t.asked n) (t.approved n) (row_at l.passes n) (t.opened n)
+  pub rows : (n : ℕ) → IsRowOf t.writes (t.found n) (t.saved n) (t.asked n) (t.approved n) (open_row_at l.passes n) (t.opened n)
   pub unheard : (n : ℕ) → t.begun < n → IsUnheard (t.found n) (t.saved n) (t.asked n) (t.approved n)
   pub calls_low : t.state.calls ≤ l.entries
   pub begun_low : t.begun ≤ l.entries
 
 -- what is kept is what the history says
-abbrev pub Follows : Setting → List Entry → Ledger → Type 0
-Follows s h l = IsFollowed s (said s h) l
+abbrev pub IsLedgerOf : Setting → List Entry → Ledger → Type 0
+IsLedgerOf s h l = IsLedgerOfSaid s (said s h) l

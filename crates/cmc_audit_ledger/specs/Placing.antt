@@ -21,23 +21,23 @@ pub record IsTick (s : Setting) (h : List Entry) (now : ℤ) : Type 0 where
   pub in_run : is_run_time now ≡ true
 
 -- the role runs, and is told of the kind
-pub record IsToldOf (l : Ledger) (role : Role) (kind : Kind) : Type 0 where
+pub record HasRunningInformer (l : Ledger) (role : Role) (kind : Kind) : Type 0 where
   pub running : (standing_of l.standings role).running ≡ true
   pub informed : has_informer role kind ≡ true
 
 -- how many writes there are beyond the position of the role
-abbrev pub behind : Ledger → Role → Kind → ℕ
-behind l role kind = length l.journal - position_of kind (standing_of l.standings role).told
+abbrev pub writes_beyond : Ledger → Role → Kind → ℕ
+writes_beyond l role kind = length l.journal - position_of kind (standing_of l.standings role).told
 
 -- the version is one of the kind above the position, and the watch reaches back to the position
-pub record IsWithin (l : Ledger) (role : Role) (kind : Kind) (to : ℕ) : Type 0 where
+pub record IsInWindow (l : Ledger) (role : Role) (kind : Kind) (to : ℕ) : Type 0 where
   pub further : position_of kind (standing_of l.standings role).told < to
   pub written : IsOfKind kind (write_at to l.journal)
-  pub within : behind l role kind ≤ l.window
+  pub within : writes_beyond l role kind ≤ l.window
 
 -- the watch no longer reaches back to the position, and the version is the newest
 pub record IsBeyond (l : Ledger) (role : Role) (kind : Kind) (to : ℕ) : Type 0 where
-  pub beyond : l.window < behind l role kind
+  pub beyond : l.window < writes_beyond l role kind
   pub newest : to ≡ length l.journal
 
 -- the positions of the kinds that the role is told of, and 0 of each other kind

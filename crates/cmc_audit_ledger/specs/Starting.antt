@@ -9,11 +9,11 @@ use Rattle.cmc_audit_state.specs.declared.row.Row.{Row}
 use Rattle.cmc_audit_state.specs.declared.row.Version.{Version}
 use Rattle.cmc_audit_state.specs.declared.standings.Standing.{Standing}
 use Rattle.cmc_audit_state.specs.Standing.{standing_of}
-use Rattle.cmc_audit_state.specs.Heard.{is_told}
+use Rattle.cmc_audit_state.specs.Heard.{has_yes_on}
 
 -- the role's standing with this position for the kind, and no other changed
-abbrev pub Tells : Role → Kind → ℕ → List Standing → List Standing → Type 0
-Tells role kind to old new =
+abbrev pub MovesPosition : Role → Kind → ℕ → List Standing → List Standing → Type 0
+MovesPosition role kind to old new =
     (r : Role) → ((standing_of new r).running ≡ (standing_of old r).running)
     × ((k : Kind) → position_of k (standing_of new r).told ≡ (if is_informer role kind r k then to else position_of k (standing_of old r).told))
 
@@ -38,4 +38,4 @@ pub record IsFirst (standing : Standing) (accepted : ℕ) (moment : ℤ) (role :
   pub not_read : row.read ≡ false
   pub not_saved : row.saved ≡ false
   pub not_asked : row.asked ≡ None
-  pub not_approved : (v : Version) → is_told row.yeses v ≡ false
+  pub not_approved : (v : Version) → has_yes_on row.yeses v ≡ false

@@ -8,10 +8,10 @@ ghost use Rattle.cmc_model.specs.Histories.{Setting};
 ghost use Rattle.cmc_rules.specs.Viewing as seen;
 ghost use Rattle.cmc_audit_state.specs.Heard as heard;
 ghost use Rattle.cmc_audit_state.specs.Journaled.{cached};
-ghost use Rattle.cmc_audit_state.specs.OpenRows.{row_at};
+ghost use Rattle.cmc_audit_state.specs.OpenRows.{open_row_at};
 ghost use Rattle.cmc_audit_ledger.specs.declared.ledger.Ledger.{Ledger as LedgerValue};
 ghost use Rattle.cmc_audit_ledger.specs.Calling.{HasBegun, IsServedBy, ReadsBy, ReadsSeen, RowsNoted, writes_over};
-ghost use Rattle.cmc_audit_ledger.specs.Following.{Follows};
+ghost use Rattle.cmc_audit_ledger.specs.Following.{IsLedgerOf};
 
 use crate::ledger::Ledger;
 use cmc_audit_state::{Journal, Passes, Row};
@@ -160,7 +160,7 @@ impl Ledger {
         object: Option<Object>,
     ) -> Result<(), AllocError>
         requires { self.old.entries < 2 ^ 64 - 1 }
-        ensures follows { OnOk result ((s : Setting) (h : List EntryValue) (before : LedgerValue) → IsServedBy before self.old call.now reply.now key object → HasBegun before.passes.begun who → Follows s h before → Follows s (entries.Call who call.now reply.now ∷ h) self.new) }
+        ensures follows { OnOk result ((s : Setting) (h : List EntryValue) (before : LedgerValue) → IsServedBy before self.old call.now reply.now key object → HasBegun before.passes.begun who → IsLedgerOf s h before → IsLedgerOf s (entries.Call who call.now reply.now ∷ h) self.new) }
         ensures count { OnOk result (self.new.entries ≡ self.old.entries + 1) }
     {
         let reads = reads(&self.journal, &self.passes, who, call, reply);

@@ -10,8 +10,8 @@ ghost use Rattle.cmc_objects.specs.Requests.{is_run_time};
 ghost use Rattle.cmc_model.specs.Histories.{Setting};
 ghost use Rattle.cmc_audit_state.specs.Heard.{judged_version};
 ghost use Rattle.cmc_audit_state.specs.OpenRows.{IsOn};
-ghost use Rattle.cmc_audit_ledger.specs.Following.{Follows};
-ghost use Rattle.cmc_audit_ledger.specs.Counting.{counted};
+ghost use Rattle.cmc_audit_ledger.specs.Following.{IsLedgerOf};
+ghost use Rattle.cmc_audit_ledger.specs.Counting.{entry_counted};
 
 use crate::starting::{first_row, started, stopped, told};
 use cmc_audit_state::{Journal, Passes, Standings, Version};
@@ -52,7 +52,7 @@ impl Ledger {
     /// An entry of which nothing is kept but that there was one. It takes no memory.
     pub fn count(&mut self)
         requires { self.old.entries < 2 ^ 64 - 1 }
-        ensures { self.new ≡ counted self.old }
+        ensures { self.new ≡ entry_counted self.old }
     {
         self.entries += 1;
     }
@@ -61,7 +61,7 @@ impl Ledger {
     pub fn tick(&mut self, now: i64)
         requires room { self.old.entries < 2 ^ 64 - 1 }
         requires in_run { is_run_time now ≡ true }
-        ensures follows { (s : Setting) (h : List EntryValue) → Follows s h self.old → Follows s (entries.Tick now ∷ h) self.new }
+        ensures follows { (s : Setting) (h : List EntryValue) → IsLedgerOf s h self.old → IsLedgerOf s (entries.Tick now ∷ h) self.new }
         ensures count { self.new.entries ≡ self.old.entries + 1 }
     {
         self.moment = now;
@@ -71,8 +71,8 @@ impl Ledger {
     /// The role is told of the kind up to this version, by a delivery or by a list. It takes no memory.
     pub fn tell(&mut self, role: Role, kind: Kind, to: u64)
         requires room { self.old.entries < 2 ^ 64 - 1 }
-        ensures delivered { (s : Setting) (h : List EntryValue) → Follows s h self.old → Follows s (entries.Deliver role kind to ∷ h) self.new }
-        ensures listed { (s : Setting) (h : List EntryValue) → Follows s h self.old → Follows s (entries.List role kind to ∷ h) self.new }
+        ensures delivered { (s : Setting) (h : List EntryValue) → IsLedgerOf s h self.old → IsLedgerOf s (entries.Deliver role kind to ∷ h) self.new }
+        ensures listed { (s : Setting) (h : List EntryValue) → IsLedgerOf s h self.old → IsLedgerOf s (entries.List role kind to ∷ h) self.new }
         ensures count { self.new.entries ≡ self.old.entries + 1 }
     {
         told(&mut self.standings, role, kind, to);
@@ -82,7 +82,7 @@ impl Ledger {
     /// The role starts anew, told of all kinds up to this version. It takes no memory.
     pub fn start(&mut self, role: Role, at: u64)
         requires room { self.old.entries < 2 ^ 64 - 1 }
-        ensures follows { (s : Setting) (h : List EntryValue) → Follows s h self.old → Follows s (entries.Start role at ∷ h) self.new }
+        ensures follows { (s : Setting) (h : List EntryValue) → IsLedgerOf s h self.old → IsLedgerOf s (entries.Start role at ∷ h) self.new }
         ensures count { self.new.entries ≡ self.old.entries + 1 }
     {
         started(&mut self.standings, role, at);
@@ -92,7 +92,7 @@ impl Ledger {
     /// The role stops, and its open passes end with it. It takes no memory.
     pub fn stop(&mut self, role: Role)
         requires room { self.old.entries < 2 ^ 64 - 1 }
-        ensures follows { (s : Setting) (h : List EntryValue) → Follows s h self.old → Follows s (entries.Stop role ∷ h) self.new }
+        ensures follows { (s : Setting) (h : List EntryValue) → IsLedgerOf s h self.old → IsLedgerOf s (entries.Stop role ∷ h) self.new }
         ensures count { self.new.entries ≡ self.old.entries + 1 }
     {
         stopped(&mut self.standings, role);
@@ -105,7 +105,7 @@ impl Ledger {
         requires room { self.old.entries < 2 ^ 64 - 1 }
         requires begun { self.old.passes.begun ≤ self.old.entries }
         requires free { IsOn self.old.passes role key.now → ⊥ }
-        ensures follows { OnOk result ((s : Setting) (h : List EntryValue) (pass : ℕ) (at : PositionsValue) (now : ℤ) → pass ≡ self.old.passes.begun + 1 → now ≡ self.old.moment → Follows s h self.old → Follows s (entries.Begin pass role key.now at now ∷ h) self.new) }
+        ensures follows { OnOk result ((s : Setting) (h : List EntryValue) (pass : ℕ) (at : PositionsValue) (now : ℤ) → pass ≡ self.old.passes.begun + 1 → now ≡ self.old.moment → IsLedgerOf s h self.old → IsLedgerOf s (entries.Begin pass role key.now at now ∷ h) self.new) }
         ensures count { OnOk result (self.new.entries ≡ self.old.entries + 1) }
     {
         let row = first_row(
@@ -124,7 +124,7 @@ impl Ledger {
     /// The pass asks this, whether to approve a version or something else. It takes no memory.
     pub fn ask(&mut self, pass: u64, asked: Option<Version>)
         requires room { self.old.entries < 2 ^ 64 - 1 }
-        ensures follows { (s : Setting) (h : List EntryValue) (order : OrderValue) → judged_version order ≡ asked → pass ≤ self.old.passes.begun → Follows s h self.old → Follows s (entries.Ask pass order ∷ h) self.new }
+        ensures follows { (s : Setting) (h : List EntryValue) (order : OrderValue) → judged_version order ≡ asked → pass ≤ self.old.passes.begun → IsLedgerOf s h self.old → IsLedgerOf s (entries.Ask pass order ∷ h) self.new }
         ensures count { self.new.entries ≡ self.old.entries + 1 }
     {
         self.passes.note_asked(pass, asked);
@@ -134,7 +134,7 @@ impl Ledger {
     /// The pass is told yes. An error is one of memory.
     pub fn approve(&mut self, pass: u64) -> Result<(), AllocError>
         requires { self.old.entries < 2 ^ 64 - 1 }
-        ensures follows { OnOk result ((s : Setting) (h : List EntryValue) → pass ≤ self.old.passes.begun → Follows s h self.old → Follows s (entries.Judged pass true ∷ h) self.new) }
+        ensures follows { OnOk result ((s : Setting) (h : List EntryValue) → pass ≤ self.old.passes.begun → IsLedgerOf s h self.old → IsLedgerOf s (entries.Judged pass true ∷ h) self.new) }
         ensures count { OnOk result (self.new.entries ≡ self.old.entries + 1) }
     {
         self.passes.note_yes(pass)?;
@@ -145,7 +145,7 @@ impl Ledger {
     /// The pass ends. It takes no memory.
     pub fn end(&mut self, pass: u64)
         requires room { self.old.entries < 2 ^ 64 - 1 }
-        ensures follows { (s : Setting) (h : List EntryValue) (cause : CauseValue) → Follows s h self.old → Follows s (entries.End pass cause ∷ h) self.new }
+        ensures follows { (s : Setting) (h : List EntryValue) (cause : CauseValue) → IsLedgerOf s h self.old → IsLedgerOf s (entries.End pass cause ∷ h) self.new }
         ensures count { self.new.entries ≡ self.old.entries + 1 }
     {
         self.passes.close(pass);

@@ -1,6 +1,6 @@
 //! What is kept before any entry.
 ghost use Rattle.std.specs.Prelude.{◌≡◌, [], IfOk};
-ghost use Rattle.cmc_audit_ledger.specs.Following.{Follows, setting_of};
+ghost use Rattle.cmc_audit_ledger.specs.Following.{IsLedgerOf, setting_of};
 
 use crate::ledger::Ledger;
 use cmc_audit_state::{Journal, Passes, Standings};
@@ -24,7 +24,7 @@ impl Ledger {
     /// What is kept before any entry: no object stands, nothing was done, and the scenario's roles run, told of nothing. An
     /// error is one of memory.
     pub fn new(alloc: Global, seed: HashSeed, scenario: &Scenario) -> Result<Ledger, AllocError>
-        ensures follows { IfOk result (λ l. Follows (setting_of scenario.now) [] l) }
+        ensures follows { IfOk result (λ l. IsLedgerOf (setting_of scenario.now) [] l) }
         ensures count { IfOk result (λ l. l.entries ≡ 0) }
     {
         let faults = numbers_of(alloc, scenario.faults())?;

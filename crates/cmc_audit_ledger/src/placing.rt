@@ -10,9 +10,9 @@ ghost use Rattle.cmc_rules.specs.Positions.{position_of};
 ghost use Rattle.cmc_audit_state.specs.OpenRows.{IsOn};
 ghost use Rattle.cmc_audit_state.specs.Standing.{standing_of};
 ghost use Rattle.cmc_audit_ledger.specs.Calling.{HasBegun};
-ghost use Rattle.cmc_audit_ledger.specs.Following.{Follows};
+ghost use Rattle.cmc_audit_ledger.specs.Following.{IsLedgerOf};
 ghost use Rattle.cmc_audit_ledger.specs.Placing as words;
-ghost use Rattle.cmc_audit_ledger.specs.Placing.{IsBeyond, IsNext, IsTick, IsToldOf, IsWithin};
+ghost use Rattle.cmc_audit_ledger.specs.Placing.{IsBeyond, IsNext, IsTick, HasRunningInformer, IsInWindow};
 
 use crate::ledger::Ledger;
 use cmc_audit_state::at_kind;
@@ -23,7 +23,7 @@ use std::alloc::AllocError;
 impl Ledger {
     /// Whether the pass is open.
     pub fn is_open(&self, pass: u64) -> bool
-        ensures means { (s : Setting) (h : List EntryValue) → Follows s h self.now → IsTrue result ↔ IsOpen (open_pass s h pass) }
+        ensures means { (s : Setting) (h : List EntryValue) → IsLedgerOf s h self.now → IsTrue result ↔ IsOpen (open_pass s h pass) }
         ensures begun { IsTrue result → pass ≤ self.now.passes.begun }
     {
         self.passes.get(pass).is_some()
@@ -31,7 +31,7 @@ impl Ledger {
 
     /// Whether a call may be made: by a user at any time, by a pass while it is open.
     pub fn may_call(&self, who: Who) -> bool
-        ensures means { (s : Setting) (h : List EntryValue) → Follows s h self.now → IsTrue result ↔ IsCaller s h who }
+        ensures means { (s : Setting) (h : List EntryValue) → IsLedgerOf s h self.now → IsTrue result ↔ IsCaller s h who }
         ensures begun { IsTrue result → HasBegun self.now.passes.begun who }
     {
         match who {
@@ -41,7 +41,7 @@ impl Ledger {
     }
 
     fn is_told_of(&self, role: Role, kind: Kind) -> bool
-        ensures { IsTrue result ↔ IsToldOf self.now role kind }
+        ensures { IsTrue result ↔ HasRunningInformer self.now role kind }
     {
         self.standings.get(role).running && has_informer(role, kind)
     }
@@ -62,7 +62,7 @@ impl Ledger {
     }
 
     fn is_within(&self, role: Role, kind: Kind, to: u64) -> bool
-        ensures { IsTrue result ↔ IsWithin self.now role kind to }
+        ensures { IsTrue result ↔ IsInWindow self.now role kind to }
     {
         self.position(role, kind) < to
             && self.journal.is_of_kind(to, kind)
@@ -77,21 +77,21 @@ impl Ledger {
 
     /// Whether the role may be told of the kind up to this version by a delivery.
     pub fn may_deliver(&self, role: Role, kind: Kind, to: u64) -> bool
-        ensures { (s : Setting) (h : List EntryValue) → Follows s h self.now → IsTrue result ↔ IsDelivery s h role kind to }
+        ensures { (s : Setting) (h : List EntryValue) → IsLedgerOf s h self.now → IsTrue result ↔ IsDelivery s h role kind to }
     {
         self.is_told_of(role, kind) && self.is_within(role, kind, to)
     }
 
     /// Whether the role may list the kind as it stands after this version.
     pub fn may_list(&self, role: Role, kind: Kind, to: u64) -> bool
-        ensures { (s : Setting) (h : List EntryValue) → Follows s h self.now → IsTrue result ↔ IsListing s h role kind to }
+        ensures { (s : Setting) (h : List EntryValue) → IsLedgerOf s h self.now → IsTrue result ↔ IsListing s h role kind to }
     {
         self.is_told_of(role, kind) && self.is_beyond(role, kind, to)
     }
 
     /// Whether the moment may rise to this one.
     pub fn may_tick(&self, now: i64) -> bool
-        ensures means { (s : Setting) (h : List EntryValue) → Follows s h self.now → IsTrue result ↔ IsTick s h now }
+        ensures means { (s : Setting) (h : List EntryValue) → IsLedgerOf s h self.now → IsTrue result ↔ IsTick s h now }
         ensures in_run { IsTrue result → requests.is_run_time now ≡ true }
     {
         self.moment < now && is_run_time(now)
@@ -107,7 +107,7 @@ impl Ledger {
         now: i64,
     ) -> Result<bool, AllocError>
         requires { self.now.passes.begun + 1 < 2 ^ 64 }
-        ensures means { IfOk result (λ may. (s : Setting) (h : List EntryValue) → Follows s h self.now → IsTrue may ↔ IsBegin s h pass role key.now at now) }
+        ensures means { IfOk result (λ may. (s : Setting) (h : List EntryValue) → IsLedgerOf s h self.now → IsTrue may ↔ IsBegin s h pass role key.now at now) }
         ensures free { IfOk result (λ may. IsTrue may → IsOn self.now.passes role key.now → ⊥) }
     {
         if !self.is_first(pass, role, key, at, now) {

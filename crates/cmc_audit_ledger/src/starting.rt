@@ -1,7 +1,7 @@
 //! How the standings of roles change, and the row of a pass that begins.
 ghost use Rattle.std.specs.Prelude.{◌≡◌, IfOk, nat_le, if◌then◌else◌};
 ghost use Rattle.cmc_rules.specs.Positions.{position_of};
-ghost use Rattle.cmc_audit_ledger.specs.Starting.{IsFirst, Starts, Stops, Tells};
+ghost use Rattle.cmc_audit_ledger.specs.Starting.{IsFirst, Starts, Stops, MovesPosition};
 
 use cmc_audit_state::{Row, Standing, Standings, Yeses, put_at_kind};
 use cmc_meta::{Key, Kind};
@@ -10,7 +10,7 @@ use std::alloc::{AllocError, Global};
 
 /// The role is told of the kind up to this version.
 pub(crate) fn told(standings: &mut Standings, role: Role, kind: Kind, to: u64)
-    ensures { Tells role kind to standings.old standings.new }
+    ensures { MovesPosition role kind to standings.old standings.new }
 {
     let standing = standings.get(role);
     let told = put_at_kind(standing.told, kind, to);

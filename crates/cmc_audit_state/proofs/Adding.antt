@@ -8,7 +8,7 @@ use Rattle.std.proofs.lemmas.List.Folds.{list_any_more}
 use Rattle.cmc_meta.specs.declared.key.Key.{Key}
 use Rattle.cmc_meta.specs.declared.owners.OwnerRef.{OwnerRef}
 use Rattle.cmc_meta.specs.Keys.{key_cmp, key_eq}
-use Rattle.cmc_audit_state.specs.Journaled.{has_key, is_named, is_kept}
+use Rattle.cmc_audit_state.specs.Journaled.{is_key_among, has_owner_uid, is_kept}
 
 -- ---- keys
 
@@ -19,18 +19,18 @@ more : (t b : Bool) → cond t true b ≡ (t || b)
 more true b = refl
 more false b = refl
 
-pub key_more : (old new : List Key) (key : Key) → ((k : Key) → has_key new k ≡ cond (is_at (key_cmp key) k) true (has_key old k)) → (k : Key) → has_key new k ≡ (key_eq key k || has_key old k)
-key_more old new key put k = put k ∙ ap (λ (t : Bool). cond t true (has_key old k)) (one_test key k) ∙ more (key_eq key k) (has_key old k)
+pub key_more : (old new : List Key) (key : Key) → ((k : Key) → is_key_among new k ≡ cond (is_at (key_cmp key) k) true (is_key_among old k)) → (k : Key) → is_key_among new k ≡ (key_eq key k || is_key_among old k)
+key_more old new key put k = put k ∙ ap (λ (t : Bool). cond t true (is_key_among old k)) (one_test key k) ∙ more (key_eq key k) (is_key_among old k)
 
-none_of : (keys : List Key) (k : Key) → keys ≡ [] → has_key keys k ≡ false
-none_of keys k none = ap (λ (ks : List Key). has_key ks k) none
+none_of : (keys : List Key) (k : Key) → keys ≡ [] → is_key_among keys k ≡ false
+none_of keys k none = ap (λ (ks : List Key). is_key_among ks k) none
 
 only_left : (t b : Bool) → b ≡ false → (t || b) ≡ t
 only_left true b none = refl
 only_left false b none = none
 
-pub key_only : (old new : List Key) (key : Key) → old ≡ [] → ((k : Key) → has_key new k ≡ cond (is_at (key_cmp key) k) true (has_key old k)) → (k : Key) → has_key new k ≡ key_eq key k
-key_only old new key none put k = key_more old new key put k ∙ only_left (key_eq key k) (has_key old k) (none_of old k none)
+pub key_only : (old new : List Key) (key : Key) → old ≡ [] → ((k : Key) → is_key_among new k ≡ cond (is_at (key_cmp key) k) true (is_key_among old k)) → (k : Key) → is_key_among new k ≡ key_eq key k
+key_only old new key none put k = key_more old new key put k ∙ only_left (key_eq key k) (is_key_among old k) (none_of old k none)
 
 -- ---- under the uids of owners
 
@@ -56,10 +56,10 @@ named_by b old new uid u key same put false before names = put u key ∙ here (u
 
 pub named_more : (old new : List (ℕ × List Key)) (owners : List OwnerRef) (i : ℕ) (owner : OwnerRef) (key : Key) (u : ℕ) → i < length owners → owner ≡ get_or owners i owner
     → ((v : ℕ) (q : Key) → is_kept new v q ≡ ((owner.uid == v && key_eq key q) || is_kept old v q))
-    → (is_named u (take i owners) ≡ true → is_kept old u key ≡ true) → is_named u (take (i + 1) owners) ≡ true → is_kept new u key ≡ true
+    → (has_owner_uid u (take i owners) ≡ true → is_kept old u key ≡ true) → has_owner_uid u (take (i + 1) owners) ≡ true → is_kept new u key ≡ true
 named_more old new owners i owner key u low is put before names =
-    named_by (owner.uid == u) old new owner.uid u key refl put (is_named u (take i owners)) before
-    (ap (λ (o : OwnerRef). is_named u (take i owners) || (o.uid == u)) is ∙ sym (list_any_more (λ (o : OwnerRef). o.uid == u) owners i owner low) ∙ names)
+    named_by (owner.uid == u) old new owner.uid u key refl put (has_owner_uid u (take i owners)) before
+    (ap (λ (o : OwnerRef). has_owner_uid u (take i owners) || (o.uid == u)) is ∙ sym (list_any_more (λ (o : OwnerRef). o.uid == u) owners i owner low) ∙ names)
 
 -- ---- versions that are told
 

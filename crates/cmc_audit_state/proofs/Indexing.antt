@@ -17,13 +17,13 @@ use Rattle.cmc_model.proofs.Versions.{standing, version_of_kind, version_of_olde
 use Rattle.cmc_rules.specs.Raising.{stated_in, stated_revision, newer_of, last_version, revision_of_uid}
 use Rattle.cmc_rules.specs.Viewing.{is_owned, owned_in, requests_of}
 use Rattle.cmc_audit_state.specs.declared.indexes.Indexes.{Indexes}
-use Rattle.cmc_audit_state.specs.Journaled.{cached, versions_in, versions_under, is_kept, keys_under, is_request_of, revised, revision_in, is_noted, denies, IsIndexed}
+use Rattle.cmc_audit_state.specs.Journaled.{cached, versions_in, versions_under, is_kept, keys_under, is_request_of, revision_noted, revision_under_uid, has_noted_uid, denies, IsIndexOfWrites}
 use Rattle.cmc_audit_state.proofs.Picking.{picked_by_keys}
 
 -- ---- no writes
 
-pub indexed_none : (i : Indexes) → ((k : Key) → versions_in i.versions k ≡ []) → ((u : ℕ) → revision_in i.revisions u ≡ 0) → ((u : ℕ) → is_noted i.denied u ≡ false) → IsIndexed [] i
-unfolding IsIndexed versions_under last_version
+pub indexed_none : (i : Indexes) → ((k : Key) → versions_in i.versions k ≡ []) → ((u : ℕ) → revision_under_uid i.revisions u ≡ 0) → ((u : ℕ) → has_noted_uid i.denied u ≡ false) → IsIndexOfWrites [] i
+unfolding IsIndexOfWrites versions_under last_version
 indexed_none i versions revisions denied = record { versions = versions; owned = λ uid key o has. absurd has; revisions = revisions; denied = denied }
 
 -- ---- one write more
@@ -34,11 +34,11 @@ revised_by : (b : Bool) (uid : ℕ) (o : Object) (older : Option Object)
 revised_by true uid o older = refl
 revised_by false uid o older = refl
 
-revised_here : (uid : ℕ) (x older : Option Object) → revised uid x (unwrap_or (stated_in older) 0) ≡ unwrap_or (stated_in (newer_of uid x older)) 0
+revised_here : (uid : ℕ) (x older : Option Object) → revision_noted uid x (unwrap_or (stated_in older) 0) ≡ unwrap_or (stated_in (newer_of uid x older)) 0
 revised_here uid None older = refl
 revised_here uid (Some o) older = revised_by (uid_of o == uid) uid o older
 
-pub revision_more : (uid : ℕ) (w : Write) (ws : List Write) → revised uid w.object (revision_of_uid uid ws) ≡ revision_of_uid uid (w ∷ ws)
+pub revision_more : (uid : ℕ) (w : Write) (ws : List Write) → revision_noted uid w.object (revision_of_uid uid ws) ≡ revision_of_uid uid (w ∷ ws)
 unfolding last_version
 revision_more uid w ws = revised_here uid w.object (last_version uid ws)
 
@@ -54,16 +54,16 @@ owned_more w ws old new uid key o added keeps below (inr there) names = keeps (b
 pub indexed_more : (ws : List Write) (w : Write) (n : ℕ) (old new : Indexes)
     → ((k : Key) → versions_in new.versions k ≡ (if key_eq w.key k then n ∷ versions_in old.versions k else versions_in old.versions k))
     → ((u : ℕ) → is_request_of u w.object ≡ true → is_kept new.owned u w.key ≡ true) → ((u : ℕ) (k : Key) → is_kept old.owned u k ≡ true → is_kept new.owned u k ≡ true)
-    → ((u : ℕ) → revision_in new.revisions u ≡ revised u w.object (revision_in old.revisions u))
-    → ((u : ℕ) → is_noted new.denied u ≡ (denies u w.object || is_noted old.denied u))
-    → n ≡ length ws + 1 → IsIndexed ws old → IsIndexed (w ∷ ws) new
-unfolding IsIndexed versions_under
+    → ((u : ℕ) → revision_under_uid new.revisions u ≡ revision_noted u w.object (revision_under_uid old.revisions u))
+    → ((u : ℕ) → has_noted_uid new.denied u ≡ (denies u w.object || has_noted_uid old.denied u))
+    → n ≡ length ws + 1 → IsIndexOfWrites ws old → IsIndexOfWrites (w ∷ ws) new
+unfolding IsIndexOfWrites versions_under
 indexed_more ws w n old new versions added keeps revisions denied count is = record {
   versions = λ k.
       let m : n ≡ length (w ∷ ws) = omega (arith, count) in
       versions k ∙ ap (λ (vs : List ℕ). if key_eq w.key k then n ∷ vs else vs) (is.versions k) ∙ ap (λ v. if key_eq w.key k then v ∷ versions_under k ws else versions_under k ws) m;
   owned = λ uid key o has names. owned_more w ws old.owned new.owned uid key o (added uid) (keeps uid key) (is.owned uid key o) has names;
-  revisions = λ u. revisions u ∙ ap (revised u w.object) (is.revisions u) ∙ revision_more u w ws;
+  revisions = λ u. revisions u ∙ ap (revision_noted u w.object) (is.revisions u) ∙ revision_more u w ws;
   denied = λ u. denied u ∙ ap (λ b. denies u w.object || b) (is.denied u);
 }
 
@@ -85,9 +85,9 @@ found_key ws c p owned k None version led is = absurd (cc is)
 found_key ws c p owned k (Some o) version led is = led o (version o refl) (names_of c o is)
 
 -- going over the keys under its uid finds all that it owned
-pub requests_found : (ws : List Write) (i : Indexes) (c : Certificate) (p : ℕ) → IsIndexed ws i → IsStrictlySortedBy key_cmp (keys_under i.owned c.meta.uid)
+pub requests_found : (ws : List Write) (i : Indexes) (c : Certificate) (p : ℕ) → IsIndexOfWrites ws i → IsStrictlySortedBy key_cmp (keys_under i.owned c.meta.uid)
     → filter_map (λ k. option_and_then (owned_in c) (object_at (cached kinds.CertificateRequest ws p) k)) (keys_under i.owned c.meta.uid) ≡ requests_of (cached kinds.CertificateRequest ws p) c
-unfolding IsIndexed
+unfolding IsIndexOfWrites
 requests_found ws i c p is sorted =
     picked_by_keys (owned_in c) (cached kinds.CertificateRequest ws p) (keys_under i.owned c.meta.uid) sorted
     (λ k some. found_key ws c p i.owned k (object_at (cached kinds.CertificateRequest ws p) k)

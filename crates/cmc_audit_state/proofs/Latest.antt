@@ -17,7 +17,7 @@ use Rattle.cmc_model.specs.Objects.{no_objects, object_at}
 use Rattle.cmc_model.specs.Writes.{contents, oldest, of_kind, kind_eq, write_at, is_known}
 use Rattle.cmc_model.proofs.Versions.{object_at-put}
 use Rattle.cmc_model.proofs.Writes.{oldest-beyond}
-use Rattle.cmc_audit_state.specs.Journaled.{cached, versions_under, latest_in, is_listed, FallFrom, written}
+use Rattle.cmc_audit_state.specs.Journaled.{cached, versions_under, latest_in, has_any_version, FallFrom, object_left}
 
 pub key_test : (a b : Key) → key_eq a b ≡ eq_by_cmp key_cmp b a
 key_test a b = search (comparing, rules)
@@ -70,27 +70,27 @@ write_at-newest w ws = itself (length (w ∷ ws) == length (w ∷ ws)) w ws refl
 -- ---- what stands
 
 abbrev IsFoundBy : ℕ → Key → List Write → Type 0
-IsFoundBy p key ws = object_at (contents (oldest p ws)) key ≡ written (write_at (latest_in p (versions_under key ws)) ws)
+IsFoundBy p key ws = object_at (contents (oldest p ws)) key ≡ object_left (write_at (latest_in p (versions_under key ws)) ws)
 
 -- what was found of the older writes is found of one more
-still : (p : ℕ) (key : Key) (w : Write) (ws : List Write) → IsFoundBy p key ws → object_at (contents (oldest p ws)) key ≡ written (write_at (latest_in p (versions_under key ws)) (w ∷ ws))
+still : (p : ℕ) (key : Key) (w : Write) (ws : List Write) → IsFoundBy p key ws → object_at (contents (oldest p ws)) key ≡ object_left (write_at (latest_in p (versions_under key ws)) (w ∷ ws))
 still p key w ws below =
     let low = latest_below p (length ws + 1) (versions_under key ws) (omega arith) (versions_fall key ws) in
-    below ∙ ap written (sym (write_at-older w ws (latest_in p (versions_under key ws)) (omega (arith, low))))
+    below ∙ ap object_left (sym (write_at-older w ws (latest_in p (versions_under key ws)) (omega (arith, low))))
 
 -- b: the write counts; k: it names the key
 found_in : (b k : Bool) (p : ℕ) (key : Key) (w : Write) (ws : List Write) → nat_le (length (w ∷ ws)) p ≡ b → key_eq w.key key ≡ k → IsFoundBy p key ws
-    → object_at (contents (if b then w ∷ ws else oldest p ws)) key ≡ written (write_at (latest_in p (if k then length (w ∷ ws) ∷ versions_under key ws else versions_under key ws)) (w ∷ ws))
+    → object_at (contents (if b then w ∷ ws else oldest p ws)) key ≡ object_left (write_at (latest_in p (if k then length (w ∷ ws) ∷ versions_under key ws else versions_under key ws)) (w ∷ ws))
 unfolding contents
 found_in true true p key w ws counts names below =
     object_at-put (contents ws) w.key w.object key ∙ ap (λ t. cond t w.object (object_at (contents ws) key)) (sym (key_test w.key key) ∙ names)
-    ∙ ap written (sym (write_at-newest w ws) ∙ ap (λ v. write_at (unwrap_or v 0) (w ∷ ws)) (ap (λ t. if t then Some (length (w ∷ ws)) else find (λ v. nat_le v p) (versions_under key ws)) (sym counts)))
+    ∙ ap object_left (sym (write_at-newest w ws) ∙ ap (λ v. write_at (unwrap_or v 0) (w ∷ ws)) (ap (λ t. if t then Some (length (w ∷ ws)) else find (λ v. nat_le v p) (versions_under key ws)) (sym counts)))
 found_in true false p key w ws counts names below =
     let all : oldest p ws ≡ ws = oldest-beyond p ws (grind (arith, nat_tests, counts)) in
     object_at-put (contents ws) w.key w.object key ∙ ap (λ t. cond t w.object (object_at (contents ws) key)) (sym (key_test w.key key) ∙ names)
     ∙ ap (λ (l : List Write). object_at (contents l) key) (sym all) ∙ still p key w ws below
 found_in false true p key w ws counts names below =
-    still p key w ws below ∙ ap (λ t. written (write_at (unwrap_or (if t then Some (length (w ∷ ws)) else find (λ v. nat_le v p) (versions_under key ws)) 0) (w ∷ ws))) (sym counts)
+    still p key w ws below ∙ ap (λ t. object_left (write_at (unwrap_or (if t then Some (length (w ∷ ws)) else find (λ v. nat_le v p) (versions_under key ws)) 0) (w ∷ ws))) (sym counts)
 found_in false false p key w ws counts names below = still p key w ws below
 
 none_standing : (key : Key) → object_at no_objects key ≡ None
@@ -103,20 +103,20 @@ latest_stands p key (w ∷ ws) = found_in (nat_le (length (w ∷ ws)) p) (key_eq
 
 -- ---- whether a key is known
 
-known_by : (k b : Bool) (n : ℕ) (vs : List ℕ) → b ≡ is_listed vs → (k || b) ≡ is_listed (if k then n ∷ vs else vs)
+known_by : (k b : Bool) (n : ℕ) (vs : List ℕ) → b ≡ has_any_version vs → (k || b) ≡ has_any_version (if k then n ∷ vs else vs)
 known_by true b n vs same = refl
 known_by false b n vs same = same
 
-pub known_listed : (key : Key) (ws : List Write) → is_known key ws ≡ is_listed (versions_under key ws)
+pub known_listed : (key : Key) (ws : List Write) → is_known key ws ≡ has_any_version (versions_under key ws)
 unfolding versions_under
 known_listed key [] = refl
 known_listed key (w ∷ ws) = known_by (key_eq w.key key) (is_known key ws) (length (w ∷ ws)) (versions_under key ws) (known_listed key ws)
 
-listed_some : (vs : List ℕ) (n : ℕ) → length vs ≡ n + 1 → is_listed vs ≡ true
+listed_some : (vs : List ℕ) (n : ℕ) → length vs ≡ n + 1 → has_any_version vs ≡ true
 listed_some [] n e = absurd (omega (arith, e))
 listed_some (v ∷ vs) n e = refl
 
-pub listed_reverse : (vs : List ℕ) → not (length vs == 0) ≡ is_listed (reverse vs)
+pub listed_reverse : (vs : List ℕ) → not (length vs == 0) ≡ has_any_version (reverse vs)
 listed_reverse [] = refl
 listed_reverse (v ∷ vs) =
     let n = length-reverse (v ∷ vs) in

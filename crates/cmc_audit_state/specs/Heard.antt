@@ -40,9 +40,9 @@ abbrev pub found_with : ℕ → ℕ → Bool → Entry → Bool
 found_with n version before (Called who call reply) = (is_by n who && finds version call reply) || before
 found_with n version before other = before
 
-abbrev pub found : ℕ → ℕ → List Entry → Bool
-found n version [] = false
-found n version (e ∷ h) = found_with n version (found n version h) e
+abbrev pub has_found : ℕ → ℕ → List Entry → Bool
+has_found n version [] = false
+has_found n version (e ∷ h) = found_with n version (has_found n version h) e
 
 -- ---- a Secret that is not marked as temporary, and was answered Ok or Unchanged
 
@@ -84,13 +84,13 @@ judged_version (orders.Csr order) = None
 judged_version (orders.Sign order) = None
 judged_version (orders.Judge order) = Some (record { key = key_of (Request order.request); number = order.request.meta.version })
 
-abbrev pub asked_with : ℕ → Option Version → Entry → Option Version
-asked_with n before (Ask pass order) = if n == pass then judged_version order else before
-asked_with n before other = before
+abbrev pub last_judged_with : ℕ → Option Version → Entry → Option Version
+last_judged_with n before (Ask pass order) = if n == pass then judged_version order else before
+last_judged_with n before other = before
 
-abbrev pub asked : ℕ → List Entry → Option Version
-asked n [] = None
-asked n (e ∷ h) = asked_with n (asked n h) e
+abbrev pub last_judged : ℕ → List Entry → Option Version
+last_judged n [] = None
+last_judged n (e ∷ h) = last_judged_with n (last_judged n h) e
 
 -- ---- a yes on a question about this version
 
@@ -107,9 +107,9 @@ approved_with n v asked before other = before
 
 abbrev pub approved : ℕ → Version → List Entry → Bool
 approved n v [] = false
-approved n v (e ∷ h) = approved_with n v (asked n h) (approved n v h) e
+approved n v (e ∷ h) = approved_with n v (last_judged n h) (approved n v h) e
 
 -- ---- versions that were told, as they are kept
 
-unfoldable pub is_told : List (ℕ × Key) → Version → Bool
-is_told told v = list_any (λ q. is_eq (ordering_then (nat_cmp v.number q.0) (key_cmp v.key q.1))) told
+unfoldable pub has_yes_on : List (ℕ × Key) → Version → Bool
+has_yes_on told v = list_any (λ q. is_eq (ordering_then (nat_cmp v.number q.0) (key_cmp v.key q.1))) told

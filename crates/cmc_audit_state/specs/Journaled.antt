@@ -33,17 +33,17 @@ abbrev pub latest_in : ℕ → List ℕ → ℕ
 latest_in p versions = unwrap_or (find (λ v. nat_le v p) versions) 0
 
 -- what a write left, if there is one
-abbrev pub written : Option Write → Option Object
-written None = None
-written (Some w) = w.object
+abbrev pub object_left : Option Write → Option Object
+object_left None = None
+object_left (Some w) = w.object
 
 -- what is kept of them: of each key its versions, the oldest first
 unfoldable pub versions_in : List (Key × List ℕ) → Key → List ℕ
 versions_in rows key = reverse (unwrap_or (lookup (key_eq key) rows) [])
 
-abbrev pub is_listed : List ℕ → Bool
-is_listed [] = false
-is_listed (v ∷ vs) = true
+abbrev pub has_any_version : List ℕ → Bool
+has_any_version [] = false
+has_any_version (v ∷ vs) = true
 
 -- each is below the one before, and the first below n
 abbrev pub FallFrom : ℕ → List ℕ → Type 0
@@ -53,40 +53,40 @@ FallFrom n (v ∷ vs) = (v < n) × FallFrom v vs
 -- ---- the keys of requests by their owners
 
 -- one of the owners has the uid
-abbrev pub is_named : ℕ → List OwnerRef → Bool
-is_named uid owners = list_any (λ owner. owner.uid == uid) owners
+abbrev pub has_owner_uid : ℕ → List OwnerRef → Bool
+has_owner_uid uid owners = list_any (λ owner. owner.uid == uid) owners
 
-abbrev pub keys_of : Option (List Key) → List Key
-keys_of None = []
-keys_of (Some keys) = keys
+abbrev pub keys_or_none : Option (List Key) → List Key
+keys_or_none None = []
+keys_or_none (Some keys) = keys
 
 -- the keys that are kept under the uid, in their order
 unfoldable pub keys_under : List (ℕ × List Key) → ℕ → List Key
-keys_under owned uid = keys_of (lookup (nat_eq uid) owned)
+keys_under owned uid = keys_or_none (lookup (nat_eq uid) owned)
 
 -- the key is one of these
-abbrev pub has_key : List Key → Key → Bool
-has_key keys key = list_any (is_at (key_cmp key)) keys
+abbrev pub is_key_among : List Key → Key → Bool
+is_key_among keys key = list_any (is_at (key_cmp key)) keys
 
 abbrev pub is_kept : List (ℕ × List Key) → ℕ → Key → Bool
-is_kept owned uid key = has_key (keys_under owned uid) key
+is_kept owned uid key = is_key_among (keys_under owned uid) key
 
 -- the object is a request, and one of its owners has the uid
 abbrev pub is_request_of : ℕ → Option Object → Bool
 is_request_of uid None = false
 is_request_of uid (Some (Cert c)) = false
-is_request_of uid (Some (Request r)) = is_named uid r.meta.owners
+is_request_of uid (Some (Request r)) = has_owner_uid uid r.meta.owners
 is_request_of uid (Some (Secret k)) = false
 
 -- ---- revisions and denials by uid
 
-unfoldable pub revision_in : List (ℕ × ℕ) → ℕ → ℕ
-revision_in revisions uid = unwrap_or (lookup (nat_eq uid) revisions) 0
+unfoldable pub revision_under_uid : List (ℕ × ℕ) → ℕ → ℕ
+revision_under_uid revisions uid = unwrap_or (lookup (nat_eq uid) revisions) 0
 
 -- the revision of a uid, where a write left this
-abbrev pub revised : ℕ → Option Object → ℕ → ℕ
-revised uid None before = before
-revised uid (Some o) before = if uid_of o == uid then unwrap_or (stated_revision o) 0 else before
+abbrev pub revision_noted : ℕ → Option Object → ℕ → ℕ
+revision_noted uid None before = before
+revision_noted uid (Some o) before = if uid_of o == uid then unwrap_or (stated_revision o) 0 else before
 
 -- the write left a request of this uid that is denied
 abbrev pub denies : ℕ → Option Object → Bool
@@ -98,8 +98,8 @@ denies uid (Some (Secret k)) = false
 abbrev pub is_denied_uid : ℕ → List Write → Bool
 is_denied_uid uid ws = list_any (λ w. denies uid w.object) ws
 
-unfoldable pub is_noted : List ℕ → ℕ → Bool
-is_noted uids uid = list_any (nat_eq uid) uids
+unfoldable pub has_noted_uid : List ℕ → ℕ → Bool
+has_noted_uid uids uid = list_any (nat_eq uid) uids
 
 -- ---- all of them
 
@@ -107,9 +107,9 @@ is_noted uids uid = list_any (nat_eq uid) uids
 pub record AreIndexed (ws : List Write) (i : Indexes) : Type 0 where
   pub versions : (key : Key) → versions_in i.versions key ≡ versions_under key ws
   pub owned : (uid : ℕ) (key : Key) (o : Object) → IsVersion key o ws → is_request_of uid (Some o) ≡ true → is_kept i.owned uid key ≡ true
-  pub revisions : (uid : ℕ) → revision_in i.revisions uid ≡ revision_of_uid uid ws
-  pub denied : (uid : ℕ) → is_noted i.denied uid ≡ is_denied_uid uid ws
+  pub revisions : (uid : ℕ) → revision_under_uid i.revisions uid ≡ revision_of_uid uid ws
+  pub denied : (uid : ℕ) → has_noted_uid i.denied uid ≡ is_denied_uid uid ws
 
 -- the same as a closed word
-unfoldable pub IsIndexed : List Write → Indexes → Type 0
-IsIndexed ws i = AreIndexed ws i
+unfoldable pub IsIndexOfWrites : List Write → Indexes → Type 0
+IsIndexOfWrites ws i = AreIndexed ws i

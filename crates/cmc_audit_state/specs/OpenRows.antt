@@ -10,7 +10,7 @@ use Rattle.cmc_objects.specs.Roles.{role_rank}
 use Rattle.cmc_model.specs.Histories.{role_eq}
 use Rattle.cmc_audit_state.specs.declared.row.Row.{Row}
 use Rattle.cmc_audit_state.specs.declared.row.Version.{Version}
-use Rattle.cmc_audit_state.specs.Heard.{is_about, is_told}
+use Rattle.cmc_audit_state.specs.Heard.{is_about, has_yes_on}
 
 -- what contracts see of the passes
 pub record Opened : Type 0 where
@@ -19,12 +19,12 @@ pub record Opened : Type 0 where
   -- those that are open, in order of number
   pub rows : List (ℕ × Row)
 
-unfoldable pub rows_at : List (ℕ × Row) → ℕ → Option Row
-rows_at rows n = lookup (is_at (nat_cmp n)) rows
+unfoldable pub row_numbered : List (ℕ × Row) → ℕ → Option Row
+row_numbered rows n = lookup (is_at (nat_cmp n)) rows
 
 -- the pass of this number, where it is open
-abbrev pub row_at : Opened → ℕ → Option Row
-row_at p n = rows_at p.rows n
+abbrev pub open_row_at : Opened → ℕ → Option Row
+open_row_at p n = row_numbered p.rows n
 
 -- whether this is a pass of the role on the key
 abbrev pub is_row_of : Role → Key → Option Row → Bool
@@ -33,7 +33,7 @@ is_row_of role key (Some row) = role_eq row.role role && key_eq row.key key
 
 -- the role has an open pass on the key
 abbrev pub IsOn : Opened → Role → Key → Type 0
-IsOn p role key = (n : ℕ) × (is_row_of role key (row_at p n) ≡ true)
+IsOn p role key = (n : ℕ) × (is_row_of role key (open_row_at p n) ≡ true)
 
 abbrev pub unless_role : Role → Option Row → Option Row
 unless_role role None = None
@@ -53,7 +53,7 @@ with_asked asked row = record row { asked = asked }
 -- what it asked about may be approved besides
 pub record IsToldMore (old new : Row) : Type 0 where
   pub rest : new ≡ record old { yeses = new.yeses }
-  pub more : (v : Version) → is_told new.yeses v ≡ (is_about v old.asked || is_told old.yeses v)
+  pub more : (v : Version) → has_yes_on new.yeses v ≡ (is_about v old.asked || has_yes_on old.yeses v)
 
 abbrev pub IsToldRow : Option Row → Option Row → Type 0
 IsToldRow None None = Unit {0}
@@ -70,13 +70,13 @@ abbrev pub Task : Type 0
 Task = ℕ × Key
 
 -- the number of the last pass of the role on the key
-unfoldable pub number_at : List (Task × ℕ) → Role → Key → Option ℕ
-number_at numbers role key = lookup (λ q. is_eq (ordering_then (nat_cmp (role_rank role) q.0) (key_cmp key q.1))) numbers
+unfoldable pub last_number_at : List (Task × ℕ) → Role → Key → Option ℕ
+last_number_at numbers role key = lookup (λ q. is_eq (ordering_then (nat_cmp (role_rank role) q.0) (key_cmp key q.1))) numbers
 
 -- each open pass is the last of its role on its key, and has begun
 pub record AreFiled (begun : ℕ) (rows : List (ℕ × Row)) (numbers : List (Task × ℕ)) : Type 0 where
-  pub last : (n : ℕ) (row : Row) → rows_at rows n ≡ Some row → number_at numbers row.role row.key ≡ Some n
-  pub low : (n : ℕ) (row : Row) → rows_at rows n ≡ Some row → n ≤ begun
+  pub last : (n : ℕ) (row : Row) → row_numbered rows n ≡ Some row → last_number_at numbers row.role row.key ≡ Some n
+  pub low : (n : ℕ) (row : Row) → row_numbered rows n ≡ Some row → n ≤ begun
 
 -- the same as a closed word
 unfoldable pub IsFiled : ℕ → List (ℕ × Row) → List (Task × ℕ) → Type 0

@@ -1,6 +1,6 @@
 //! The uids of requests that were denied.
 ghost use Rattle.std.specs.Prelude.{◌≡◌, ◌==◌, ◌||◌, ℕ, OnErr, OnOk, false};
-ghost use Rattle.cmc_audit_state.specs.Journaled.{is_noted};
+ghost use Rattle.cmc_audit_state.specs.Journaled.{has_noted_uid};
 
 use cmc_seed::HashSeed;
 use std::alloc::{AllocError, Global};
@@ -28,9 +28,9 @@ impl Model for Denied {
 
 impl Denied {
     /// No uid, and uids are hashed by the seed. It takes no memory.
-    #[tactic(auto, unfolding(crate::specs::Journaled::is_noted))]
+    #[tactic(auto, unfolding(crate::specs::Journaled::has_noted_uid))]
     pub fn new(alloc: Global, seed: HashSeed) -> Denied
-        ensures { (uid : ℕ) → is_noted result uid ≡ false }
+        ensures { (uid : ℕ) → has_noted_uid result uid ≡ false }
     {
         Denied {
             set: HashSet::with_hasher(alloc, seed),
@@ -38,17 +38,17 @@ impl Denied {
     }
 
     /// Whether the uid is one of these.
-    #[tactic(auto, unfolding(crate::specs::Journaled::is_noted))]
+    #[tactic(auto, unfolding(crate::specs::Journaled::has_noted_uid))]
     pub fn has(&self, uid: u64) -> bool
-        ensures { result ≡ is_noted self.now uid }
+        ensures { result ≡ has_noted_uid self.now uid }
     {
         self.set.contains(&uid)
     }
 
     /// Adds the uid. An error is one of memory, and leaves all as it was.
-    #[tactic(auto, unfolding(crate::specs::Journaled::is_noted))]
+    #[tactic(auto, unfolding(crate::specs::Journaled::has_noted_uid))]
     pub fn add(&mut self, uid: u64) -> Result<(), AllocError>
-        ensures ok { OnOk result ((u : ℕ) → is_noted self.new u ≡ ((uid == u) || is_noted self.old u)) }
+        ensures ok { OnOk result ((u : ℕ) → has_noted_uid self.new u ≡ ((uid == u) || has_noted_uid self.old u)) }
         ensures err { OnErr result (self.new ≡ self.old) }
     {
         self.set.insert(uid)?;

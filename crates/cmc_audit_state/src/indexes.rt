@@ -4,7 +4,7 @@ ghost use Rattle.cmc_meta.specs.declared.key.Key.{Key as KeyValue};
 ghost use Rattle.cmc_objects.specs.Requests as requests;
 ghost use Rattle.cmc_model.specs.declared.write.Write.{Write as WriteValue};
 ghost use Rattle.cmc_rules.specs.Raising as raising;
-ghost use Rattle.cmc_audit_state.specs.Journaled.{IsIndexed, denies, is_kept, is_noted, is_request_of, revised, revision_in};
+ghost use Rattle.cmc_audit_state.specs.Journaled.{IsIndexOfWrites, denies, is_kept, has_noted_uid, is_request_of, revision_noted, revision_under_uid};
 
 use crate::denied::Denied;
 use crate::owned::Owned;
@@ -42,7 +42,7 @@ impl Drop for Indexes {
 impl Indexes {
     /// The indexes of no writes, where all is hashed by the seed. It takes no memory.
     pub fn new(alloc: Global, seed: HashSeed) -> Indexes
-        ensures { IsIndexed [] result }
+        ensures { IsIndexOfWrites [] result }
     {
         Indexes {
             versions: Versions::new(alloc, seed),
@@ -54,7 +54,7 @@ impl Indexes {
 
     /// Takes in one write more, of this version. An error is one of memory.
     pub fn add(&mut self, alloc: Global, write: &Write, version: u64) -> Result<(), AllocError>
-        ensures { OnOk result ((ws : List WriteValue) → IsIndexed ws self.old → version ≡ length ws + 1 → IsIndexed (write.now ∷ ws) self.new) }
+        ensures { OnOk result ((ws : List WriteValue) → IsIndexOfWrites ws self.old → version ≡ length ws + 1 → IsIndexOfWrites (write.now ∷ ws) self.new) }
     {
         self.versions.add(alloc, &write.key, version)?;
         own(alloc, &mut self.owned, &write.key, &write.object)?;
@@ -83,7 +83,7 @@ fn own(
 
 /// The revision that an object states is the last of its uid.
 fn revise(revisions: &mut Revisions, object: &Option<Object>) -> Result<(), AllocError>
-    ensures { OnOk result ((u : ℕ) → revision_in revisions.new u ≡ revised u object.now (revision_in revisions.old u)) }
+    ensures { OnOk result ((u : ℕ) → revision_under_uid revisions.new u ≡ revision_noted u object.now (revision_under_uid revisions.old u)) }
 {
     match object {
         Some(object) => revisions.put(object.meta().uid, stated_revision(object)),
@@ -103,7 +103,7 @@ fn stated_revision(object: &Object) -> u64
 
 /// The uid of a request that is denied is noted.
 fn deny(denied: &mut Denied, object: &Option<Object>) -> Result<(), AllocError>
-    ensures { OnOk result ((u : ℕ) → is_noted denied.new u ≡ (denies u object.now || is_noted denied.old u)) }
+    ensures { OnOk result ((u : ℕ) → has_noted_uid denied.new u ≡ (denies u object.now || has_noted_uid denied.old u)) }
 {
     match object {
         Some(Object::Request(request)) => {

@@ -7,7 +7,7 @@ ghost use Rattle.cmc_model.specs.Writes as spec;
 ghost use Rattle.cmc_rules.specs.Legality.{IsOfKind};
 ghost use Rattle.cmc_rules.specs.Raising.{revision_of_uid};
 ghost use Rattle.cmc_rules.specs.Viewing as seen;
-ghost use Rattle.cmc_audit_state.specs.Journaled.{cached, is_denied_uid, is_named, written};
+ghost use Rattle.cmc_audit_state.specs.Journaled.{cached, is_denied_uid, has_owner_uid, object_left};
 
 use crate::indexes::Indexes;
 use cmc_meta::{Key, Kind, ObjectMeta, OwnerRef};
@@ -40,13 +40,13 @@ impl Drop for Journal {
 impl Model for Journal {
     ghost use Rattle.std.specs.Prelude.{List, reverse};
     ghost use Rattle.cmc_model.specs.declared.write.Write.{Write};
-    ghost use Rattle.cmc_audit_state.specs.Journaled.{IsIndexed};
+    ghost use Rattle.cmc_audit_state.specs.Journaled.{IsIndexOfWrites};
 
     ghost Value = { List Write };
 
     ghost view = { λ j. reverse j.items.items };
 
-    ghost invariant = { λ j. IsIndexed (reverse j.items.items) j.indexes };
+    ghost invariant = { λ j. IsIndexOfWrites (reverse j.items.items) j.indexes };
 }
 
 impl Journal {
@@ -176,7 +176,7 @@ fn is_of_kind(writes: &[Write], version: u64, kind: Kind) -> bool
 
 /// What the write of this version left.
 fn written_by(writes: &[Write], version: u64) -> Option<&Object>
-    ensures { option_copied result ≡ written (spec.write_at version (reverse writes.now)) }
+    ensures { option_copied result ≡ object_left (spec.write_at version (reverse writes.now)) }
 {
     match write_of(writes, version) {
         Some(write) => write.object.as_ref(),
@@ -185,7 +185,7 @@ fn written_by(writes: &[Write], version: u64) -> Option<&Object>
 }
 
 fn has_owner(owners: &[OwnerRef], uid: u64) -> bool
-    ensures { result ≡ is_named uid owners.now }
+    ensures { result ≡ has_owner_uid uid owners.now }
 {
     owners.iter().any(|owner| owner.uid == uid)
 }

@@ -4,7 +4,7 @@ ghost use Rattle.std.specs.Option.{option_copied};
 ghost use Rattle.std.specs.Prelude.{◌≡◌, ◌==◌, ◌&&◌, ◌||◌, ℕ, IfOk, OnOk, false, true};
 ghost use Rattle.cmc_meta.specs.declared.key.Key.{Key as KeyValue};
 ghost use Rattle.cmc_meta.specs.Keys.{key_cmp, key_eq};
-ghost use Rattle.cmc_audit_state.specs.Journaled.{has_key, is_kept, is_named, keys_of, keys_under};
+ghost use Rattle.cmc_audit_state.specs.Journaled.{is_key_among, is_kept, has_owner_uid, keys_or_none, keys_under};
 
 use cmc_meta::{Key, OwnerRef};
 use cmc_seed::HashSeed;
@@ -35,7 +35,7 @@ impl Model for KeySet {
 impl KeySet {
     /// This key alone. An error is one of memory.
     fn only(alloc: Global, key: Key) -> Result<KeySet, AllocError>
-        ensures { IfOk result (λ s. (k : KeyValue) → has_key s k ≡ key_eq key k) }
+        ensures { IfOk result (λ s. (k : KeyValue) → is_key_among s k ≡ key_eq key k) }
     {
         let mut set = BTreeSet::new(alloc);
         set.insert(key)?;
@@ -44,7 +44,7 @@ impl KeySet {
 
     /// Adds the key. An error is one of memory, and leaves all as it was.
     fn add(&mut self, key: Key) -> Result<(), AllocError>
-        ensures { OnOk result ((k : KeyValue) → has_key self.new k ≡ (key_eq key k || has_key self.old k)) }
+        ensures { OnOk result ((k : KeyValue) → is_key_among self.new k ≡ (key_eq key k || is_key_among self.old k)) }
     {
         self.set.insert(key)?;
         Ok(())
@@ -94,7 +94,7 @@ impl Owned {
     /// The keys under the uid.
     #[tactic(auto, unfolding(crate::specs::Journaled::keys_under))]
     pub fn get(&self, uid: u64) -> Option<&KeySet>
-        ensures { keys_of (option_copied result) ≡ keys_under self.now uid }
+        ensures { keys_or_none (option_copied result) ≡ keys_under self.now uid }
     {
         self.map.get(&uid)
     }
@@ -119,7 +119,7 @@ impl Owned {
         owners: &[OwnerRef],
         key: &Key,
     ) -> Result<(), AllocError>
-        ensures added { OnOk result ((u : ℕ) → is_named u owners.now ≡ true → is_kept self.new u key.now ≡ true) }
+        ensures added { OnOk result ((u : ℕ) → has_owner_uid u owners.now ≡ true → is_kept self.new u key.now ≡ true) }
         ensures keeps { OnOk result ((u : ℕ) → (k : KeyValue) → is_kept self.old u k ≡ true → is_kept self.new u k ≡ true) }
     {
         add_under(alloc, self, owners, key)
@@ -132,7 +132,7 @@ fn add_under(
     owners: &[OwnerRef],
     key: &Key,
 ) -> Result<(), AllocError>
-    ensures added { OnOk result ((u : ℕ) → is_named u owners.now ≡ true → is_kept owned.new u key.now ≡ true) }
+    ensures added { OnOk result ((u : ℕ) → has_owner_uid u owners.now ≡ true → is_kept owned.new u key.now ≡ true) }
     ensures keeps { OnOk result ((u : ℕ) → (k : KeyValue) → is_kept owned.old u k ≡ true → is_kept owned.new u k ≡ true) }
 {
     for owner in owners {

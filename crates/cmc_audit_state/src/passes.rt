@@ -1,7 +1,7 @@
 //! The passes that are open.
 ghost use Rattle.std.specs.Option.{option_copied};
 ghost use Rattle.std.specs.Prelude.{◌≡◌, ◌==◌, ◌+◌, ◌<◌, ◌≤◌, ◌^◌, ◌↔◌, ℕ, IfOk, IfSome, IsTrue, None, OnErr, OnOk, Some, if◌then◌else◌, option_map};
-ghost use Rattle.cmc_audit_state.specs.OpenRows.{IsOn, IsToldAt, IsToldMore, is_row_of, row_at, rows_at, unless_role, with_asked, with_read, with_saved};
+ghost use Rattle.cmc_audit_state.specs.OpenRows.{IsOn, IsToldAt, IsToldMore, is_row_of, open_row_at, row_numbered, unless_role, with_asked, with_read, with_saved};
 
 use crate::row::{Row, Version};
 use cmc_meta::Key;
@@ -41,10 +41,10 @@ impl Model for Passes {
 
 impl Passes {
     /// No pass. It takes no memory.
-    #[tactic(auto, unfolding(crate::specs::OpenRows::rows_at))]
+    #[tactic(auto, unfolding(crate::specs::OpenRows::row_numbered))]
     pub fn new(alloc: Global) -> Passes
         ensures begun { result.begun ≡ 0 }
-        ensures none { (n : ℕ) → row_at result n ≡ None }
+        ensures none { (n : ℕ) → open_row_at result n ≡ None }
     {
         Passes {
             begun: 0,
@@ -61,16 +61,16 @@ impl Passes {
     }
 
     /// The pass of this number; `None` exactly where it is not open.
-    #[tactic(auto, unfolding(crate::specs::OpenRows::rows_at))]
+    #[tactic(auto, unfolding(crate::specs::OpenRows::row_numbered))]
     pub fn get(&self, number: u64) -> Option<&Row>
-        ensures row { option_copied result ≡ row_at self.now number }
+        ensures row { option_copied result ≡ open_row_at self.now number }
         ensures low { IfSome result (λ row. number ≤ self.now.begun) }
     {
         self.rows.get(&number)
     }
 
     /// Whether a pass of the role on the key is open. An error is one of memory.
-    #[tactic(auto, unfolding(crate::specs::OpenRows::rows_at))]
+    #[tactic(auto, unfolding(crate::specs::OpenRows::row_numbered))]
     pub fn is_on(&self, role: Role, key: &Key) -> Result<bool, AllocError>
         ensures { IfOk result (λ is. IsTrue is ↔ IsOn self.now role key.now) }
     {
@@ -83,12 +83,12 @@ impl Passes {
 
     /// Opens a pass under the next number, and changes no other. An error is one of memory, and leaves all passes as they
     /// were.
-    #[tactic(auto, unfolding(crate::specs::OpenRows::rows_at))]
+    #[tactic(auto, unfolding(crate::specs::OpenRows::row_numbered))]
     pub fn begin(&mut self, row: Row) -> Result<(), AllocError>
         requires free { IsOn self.old row.role row.key → ⊥ }
         requires room { self.old.begun + 1 < 2 ^ 64 }
         ensures begun { OnOk result (self.new.begun ≡ self.old.begun + 1) }
-        ensures rows { OnOk result ((n : ℕ) → row_at self.new n ≡ (if n == self.old.begun + 1 then Some row else row_at self.old n)) }
+        ensures rows { OnOk result ((n : ℕ) → open_row_at self.new n ≡ (if n == self.old.begun + 1 then Some row else open_row_at self.old n)) }
         ensures err { OnErr result (self.new ≡ self.old) }
     {
         let number = self.begun + 1;
@@ -100,29 +100,29 @@ impl Passes {
     }
 
     /// The pass of this number is open no more. It takes no memory.
-    #[tactic(auto, unfolding(crate::specs::OpenRows::rows_at))]
+    #[tactic(auto, unfolding(crate::specs::OpenRows::row_numbered))]
     pub fn close(&mut self, number: u64)
         ensures begun { self.new.begun ≡ self.old.begun }
-        ensures rows { (n : ℕ) → row_at self.new n ≡ (if n == number then None else row_at self.old n) }
+        ensures rows { (n : ℕ) → open_row_at self.new n ≡ (if n == number then None else open_row_at self.old n) }
     {
         let _ = self.rows.remove(&number);
     }
 
     /// No pass of the role is open any more. It takes no memory.
-    #[tactic(auto, unfolding(crate::specs::OpenRows::rows_at))]
+    #[tactic(auto, unfolding(crate::specs::OpenRows::row_numbered))]
     pub fn stop(&mut self, role: Role)
         ensures begun { self.new.begun ≡ self.old.begun }
-        ensures rows { (n : ℕ) → row_at self.new n ≡ unless_role role (row_at self.old n) }
+        ensures rows { (n : ℕ) → open_row_at self.new n ≡ unless_role role (open_row_at self.old n) }
     {
         self.rows
             .retain(|_number, row| role.rank() != row.role.rank());
     }
 
     /// The pass of this number, where it is open, has read its Certificate. It takes no memory.
-    #[tactic(auto, unfolding(crate::specs::OpenRows::rows_at))]
+    #[tactic(auto, unfolding(crate::specs::OpenRows::row_numbered))]
     pub fn note_read(&mut self, number: u64)
         ensures begun { self.new.begun ≡ self.old.begun }
-        ensures rows { (n : ℕ) → row_at self.new n ≡ (if n == number then option_map with_read (row_at self.old n) else row_at self.old n) }
+        ensures rows { (n : ℕ) → open_row_at self.new n ≡ (if n == number then option_map with_read (open_row_at self.old n) else open_row_at self.old n) }
     {
         if let Some(row) = self.rows.get_mut(&number) {
             read(row);
@@ -130,10 +130,10 @@ impl Passes {
     }
 
     /// The pass of this number, where it is open, has saved a Secret. It takes no memory.
-    #[tactic(auto, unfolding(crate::specs::OpenRows::rows_at))]
+    #[tactic(auto, unfolding(crate::specs::OpenRows::row_numbered))]
     pub fn note_saved(&mut self, number: u64)
         ensures begun { self.new.begun ≡ self.old.begun }
-        ensures rows { (n : ℕ) → row_at self.new n ≡ (if n == number then option_map with_saved (row_at self.old n) else row_at self.old n) }
+        ensures rows { (n : ℕ) → open_row_at self.new n ≡ (if n == number then option_map with_saved (open_row_at self.old n) else open_row_at self.old n) }
     {
         if let Some(row) = self.rows.get_mut(&number) {
             save(row);
@@ -141,10 +141,10 @@ impl Passes {
     }
 
     /// The pass of this number, where it is open, has asked this last. It takes no memory.
-    #[tactic(auto, unfolding(crate::specs::OpenRows::rows_at))]
+    #[tactic(auto, unfolding(crate::specs::OpenRows::row_numbered))]
     pub fn note_asked(&mut self, number: u64, asked: Option<Version>)
         ensures begun { self.new.begun ≡ self.old.begun }
-        ensures rows { (n : ℕ) → row_at self.new n ≡ (if n == number then option_map (with_asked asked) (row_at self.old n) else row_at self.old n) }
+        ensures rows { (n : ℕ) → open_row_at self.new n ≡ (if n == number then option_map (with_asked asked) (open_row_at self.old n) else open_row_at self.old n) }
     {
         if let Some(row) = self.rows.get_mut(&number) {
             ask(row, asked);
@@ -152,10 +152,10 @@ impl Passes {
     }
 
     /// The pass of this number, where it is open, was told yes. An error is one of memory.
-    #[tactic(auto, unfolding(crate::specs::OpenRows::rows_at))]
+    #[tactic(auto, unfolding(crate::specs::OpenRows::row_numbered))]
     pub fn note_yes(&mut self, number: u64) -> Result<(), AllocError>
         ensures begun { OnOk result (self.new.begun ≡ self.old.begun) }
-        ensures rows { OnOk result ((n : ℕ) → IsToldAt (n == number) (row_at self.old n) (row_at self.new n)) }
+        ensures rows { OnOk result ((n : ℕ) → IsToldAt (n == number) (open_row_at self.old n) (open_row_at self.new n)) }
     {
         if let Some(row) = self.rows.get_mut(&number) {
             return approve(row);
@@ -164,9 +164,9 @@ impl Passes {
     }
 }
 
-#[tactic(auto, unfolding(crate::specs::OpenRows::rows_at))]
+#[tactic(auto, unfolding(crate::specs::OpenRows::row_numbered))]
 fn is_number_on(rows: &BTreeMap<u64, Row>, number: u64, role: Role, key: &Key) -> bool
-    ensures { result ≡ is_row_of role key.now (rows_at rows.now.entries number) }
+    ensures { result ≡ is_row_of role key.now (row_numbered rows.now.entries number) }
 {
     match rows.get(&number) {
         Some(row) => row.role.rank() == role.rank() && row.key == *key,

@@ -3,7 +3,7 @@ ghost use Rattle.std.specs.List.Sorted.{IsNonDecreasingBy};
 ghost use Rattle.std.specs.Prelude.{◌≡◌, ◌∷◌, [], IfOk, OnOk, reverse, if◌then◌else◌};
 ghost use Rattle.cmc_meta.specs.declared.key.Key.{Key as KeyValue};
 ghost use Rattle.cmc_meta.specs.Keys.{key_eq};
-ghost use Rattle.cmc_audit_state.specs.Journaled.{is_listed, latest_in, versions_in};
+ghost use Rattle.cmc_audit_state.specs.Journaled.{has_any_version, latest_in, versions_in};
 
 use cmc_meta::{Key, Numbers};
 use cmc_seed::HashSeed;
@@ -59,7 +59,7 @@ impl Versions {
     /// Whether there is a version under the key.
     #[tactic(auto, unfolding(crate::specs::Journaled::versions_in))]
     pub fn knows(&self, key: &Key) -> bool
-        ensures { result ≡ is_listed (versions_in self.now key.now) }
+        ensures { result ≡ has_any_version (versions_in self.now key.now) }
     {
         match self.map.get(key) {
             Some(versions) => !versions.as_slice().is_empty(),

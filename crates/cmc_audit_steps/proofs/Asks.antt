@@ -16,20 +16,20 @@ use Rattle.cmc_rules.specs.Safety.{AsksWell}
 use Rattle.cmc_lines.specs.declared.line.PrintedLine.{PrintedLine}
 use Rattle.cmc_lines.specs.declared.line.PrintedLine.TheVariants as lines
 use Rattle.cmc_lines.specs.declared.line.PrintedOrder.{PrintedOrder}
-use Rattle.cmc_lines.specs.Shown.{shown, shown_order}
+use Rattle.cmc_lines.specs.Shown.{line_of_entry, shown_order}
 use Rattle.cmc_audit_state.specs.declared.row.Row.{Row}
 use Rattle.cmc_audit_state.specs.declared.row.Version.{Version}
-use Rattle.cmc_audit_state.specs.Heard.{approved, asked, found, judged_version, saved}
-use Rattle.cmc_audit_state.specs.OpenRows.{row_at}
+use Rattle.cmc_audit_state.specs.Heard.{approved, last_judged, has_found, judged_version, saved}
+use Rattle.cmc_audit_state.specs.OpenRows.{open_row_at}
 use Rattle.cmc_audit_ledger.specs.declared.ledger.Ledger.{Ledger}
-use Rattle.cmc_audit_ledger.specs.Following.{Follows, IsRowOf}
+use Rattle.cmc_audit_ledger.specs.Following.{IsLedgerOf, IsRowOf}
 use Rattle.cmc_audit_clauses.specs.declared.clause.Clause.{Clause}
 use Rattle.cmc_audit_clauses.specs.declared.clause.Clause.TheVariants as clauses
 use Rattle.cmc_audit_clauses.specs.Clauses.{Holds, rank}
 use Rattle.cmc_audit_clauses.proofs.GoodWrites.{pass_asks}
 use Rattle.cmc_audit_steps.specs.Failing.{IsOfRequest, MayOrder, asked_version}
 use Rattle.cmc_audit_steps.specs.Meant.{IsNamedEntry, IsNamedOrder}
-use Rattle.cmc_audit_steps.specs.Stepping.{AreKept, FailsAt, IsKept, Judges}
+use Rattle.cmc_audit_steps.specs.Stepping.{AreKept, FailsAt, IsCleanLedger, FindsClause}
 use Rattle.cmc_audit_steps.proofs.Going.{answered, goes}
 use Rattle.cmc_audit_steps.proofs.Naming.{named_order}
 
@@ -45,13 +45,13 @@ record IsAsk (e : Entry) (pass : ℕ) (printed : PrintedOrder) : Type 0 where
   is : e ≡ Ask pass order
   shows : shown_order order ≡ printed
 
-is_ask : (pass : ℕ) (printed : PrintedOrder) (e : Entry) → shown e ≡ lines.Ask pass printed → IsAsk e pass printed
+is_ask : (pass : ℕ) (printed : PrintedOrder) (e : Entry) → line_of_entry e ≡ lines.Ask pass printed → IsAsk e pass printed
 is_ask pass printed (Ask n order) is = let same : n ≡ pass = cc is in record { order = order; is = ap (λ m. Ask m order) same; shows = cc is }
 is_ask pass printed other is = absurd (cc is)
 
 -- by what is kept of the pass
 row_case : (s : Setting) (h : List Entry) (pass : ℕ) (order : Order) (row : Option Row) (o : Option OpenPass)
-    → IsRowOf (writes s h) (λ v. found pass v h) (saved pass h) (asked pass h) (λ v. approved pass v h) row o → IsOpen o → IsAnswered s h → IsNamedOrder s h order
+    → IsRowOf (writes s h) (λ v. has_found pass v h) (saved pass h) (last_judged pass h) (λ v. approved pass v h) row o → IsOpen o → IsAnswered s h → IsNamedOrder s h order
     → MayOrder (writes s h) row (shown_order order) ↔ AsksWell s (Ask pass order ∷ h) o order
 row_case s h pass order row None is live right named = absurd live
 row_case s h pass order None (Some p) is live right named = absurd is
@@ -61,13 +61,13 @@ row_case s h pass (orders.Judge order) (Some row) (Some p) is live right named =
 row_case s h pass (orders.Sign order) (Some row) (Some p) is live right named =
     pass_asks s (Ask pass (orders.Sign order) ∷ h) h pass row p order.request right (λ uid. refl) is named
 
-ask_case : (s : Setting) (h : List Entry) (pass : ℕ) (order : Order) (l : Ledger) → Follows s h l → IsOpen (open_pass s h pass) → IsAnswered s h → IsNamedOrder s h order
-    → MayOrder l.journal (row_at l.passes pass) (shown_order order) ↔ AsksWell s (Ask pass order ∷ h) (open_pass s h pass) order
+ask_case : (s : Setting) (h : List Entry) (pass : ℕ) (order : Order) (l : Ledger) → IsLedgerOf s h l → IsOpen (open_pass s h pass) → IsAnswered s h → IsNamedOrder s h order
+    → MayOrder l.journal (open_row_at l.passes pass) (shown_order order) ↔ AsksWell s (Ask pass order ∷ h) (open_pass s h pass) order
 ask_case s h pass order l is live right named =
-    subst (λ (ws : List Write). MayOrder ws (row_at l.passes pass) (shown_order order) ↔ AsksWell s (Ask pass order ∷ h) (open_pass s h pass) order) (sym is.writes)
-    (row_case s h pass order (row_at l.passes pass) (open_pass s h pass) (is.rows pass) live right named)
+    subst (λ (ws : List Write). MayOrder ws (open_row_at l.passes pass) (shown_order order) ↔ AsksWell s (Ask pass order ∷ h) (open_pass s h pass) order) (sym is.writes)
+    (row_case s h pass order (open_row_at l.passes pass) (open_pass s h pass) (is.rows pass) live right named)
 
-ask_holds : (s : Setting) (h : List Entry) (pass : ℕ) (order : Order) → IsOpen (open_pass s h pass) → AsksWell s (Ask pass order ∷ h) (open_pass s h pass) order → Judges s h (Ask pass order) None
+ask_holds : (s : Setting) (h : List Entry) (pass : ℕ) (order : Order) → IsOpen (open_pass s h pass) → AsksWell s (Ask pass order ∷ h) (open_pass s h pass) order → FindsClause s h (Ask pass order) None
 ask_holds s h pass order live well clauses.Place = live
 ask_holds s h pass order live well clauses.Reply = tt
 ask_holds s h pass order live well clauses.Issue = tt
@@ -88,17 +88,17 @@ before_ask s h pass order live clauses.Approval low = tt
 before_ask s h pass order live clauses.Counts low = tt
 
 abbrev Opens : Ledger → ℕ → Type 0
-Opens l pass = (s : Setting) (h : List Entry) → Follows s h l → IsOpen (open_pass s h pass)
+Opens l pass = (s : Setting) (h : List Entry) → IsLedgerOf s h l → IsOpen (open_pass s h pass)
 
-ill : (s : Setting) (h : List Entry) (l : Ledger) (pass : ℕ) (printed : PrintedOrder) (e : Entry) → IsKept s h l → IsAsk e pass printed → IsNamedEntry s h e → IsOpen (open_pass s h pass)
-    → (MayOrder l.journal (row_at l.passes pass) printed → ⊥) → Judges s h e (Some clauses.Ask)
+ill : (s : Setting) (h : List Entry) (l : Ledger) (pass : ℕ) (printed : PrintedOrder) (e : Entry) → IsCleanLedger s h l → IsAsk e pass printed → IsNamedEntry s h e → IsOpen (open_pass s h pass)
+    → (MayOrder l.journal (open_row_at l.passes pass) printed → ⊥) → FindsClause s h e (Some clauses.Ask)
 ill s h l pass printed e kept a named live off =
-    subst (λ x. Judges s h x (Some clauses.Ask)) (sym a.is) (
+    subst (λ x. FindsClause s h x (Some clauses.Ask)) (sym a.is) (
       before_ask s h pass a.order live,
-      λ well. off (subst (MayOrder l.journal (row_at l.passes pass)) a.shows ((ask_case s h pass a.order l kept.follows live (answered s h kept.clean) (subst (IsNamedEntry s h) a.is named)).1 well)),
+      λ well. off (subst (MayOrder l.journal (open_row_at l.passes pass)) a.shows ((ask_case s h pass a.order l kept.follows live (answered s h kept.clean) (subst (IsNamedEntry s h) a.is named)).1 well)),
     )
 
-pub asks_ill : (old : Ledger) (pass : ℕ) (printed : PrintedOrder) → Opens old pass → (MayOrder old.journal (row_at old.passes pass) printed → ⊥)
+pub asks_ill : (old : Ledger) (pass : ℕ) (printed : PrintedOrder) → Opens old pass → (MayOrder old.journal (open_row_at old.passes pass) printed → ⊥)
     → (s : Setting) (before : List PrintedLine) → AreKept s before old → FailsAt s before (lines.Ask pass printed) clauses.Ask
 asks_ill old pass printed opens off s before kept h e meant shows named =
     let is = kept.all h meant in
@@ -106,16 +106,16 @@ asks_ill old pass printed opens off s before kept h e meant shows named =
 
 -- what is kept goes on with each question that shows so
 abbrev GoesWith : Ledger → Ledger → ℕ → Option Version → Type 0
-GoesWith old new pass version = (s : Setting) (h : List Entry) (order : Order) → judged_version order ≡ version → Follows s h old → Follows s (Ask pass order ∷ h) new
+GoesWith old new pass version = (s : Setting) (h : List Entry) (order : Order) → judged_version order ≡ version → IsLedgerOf s h old → IsLedgerOf s (Ask pass order ∷ h) new
 
-well : (s : Setting) (h : List Entry) (old new : Ledger) (pass : ℕ) (printed : PrintedOrder) (e : Entry) → IsKept s h old → IsAsk e pass printed → IsNamedEntry s h e → IsOpen (open_pass s h pass)
-    → MayOrder old.journal (row_at old.passes pass) printed → GoesWith old new pass (asked_version printed) → Follows s (e ∷ h) new × Judges s h e None
+well : (s : Setting) (h : List Entry) (old new : Ledger) (pass : ℕ) (printed : PrintedOrder) (e : Entry) → IsCleanLedger s h old → IsAsk e pass printed → IsNamedEntry s h e → IsOpen (open_pass s h pass)
+    → MayOrder old.journal (open_row_at old.passes pass) printed → GoesWith old new pass (asked_version printed) → IsLedgerOf s (e ∷ h) new × FindsClause s h e None
 well s h old new pass printed e kept a named live may with =
-    let asks = (ask_case s h pass a.order old kept.follows live (answered s h kept.clean) (subst (IsNamedEntry s h) a.is named)).0 (subst (MayOrder old.journal (row_at old.passes pass)) (sym a.shows) may) in
-    subst (λ x. Follows s (x ∷ h) new × Judges s h x None) (sym a.is)
+    let asks = (ask_case s h pass a.order old kept.follows live (answered s h kept.clean) (subst (IsNamedEntry s h) a.is named)).0 (subst (MayOrder old.journal (open_row_at old.passes pass)) (sym a.shows) may) in
+    subst (λ x. IsLedgerOf s (x ∷ h) new × FindsClause s h x None) (sym a.is)
     (with s h a.order (same_asked a.order ∙ ap asked_version a.shows) kept.follows, ask_holds s h pass a.order live asks)
 
-pub asks_on : (old new : Ledger) (pass : ℕ) (printed : PrintedOrder) → IsOfRequest printed → Opens old pass → MayOrder old.journal (row_at old.passes pass) printed → GoesWith old new pass (asked_version printed)
+pub asks_on : (old new : Ledger) (pass : ℕ) (printed : PrintedOrder) → IsOfRequest printed → Opens old pass → MayOrder old.journal (open_row_at old.passes pass) printed → GoesWith old new pass (asked_version printed)
     → (s : Setting) (before : List PrintedLine) → AreKept s before old → AreKept s (lines.Ask pass printed ∷ before) new
 asks_on old new pass printed of opens may with s before kept =
     goes s before (lines.Ask pass printed) old new kept

@@ -12,15 +12,15 @@ use Rattle.cmc_lines.specs.declared.line.CallName.{CallName}
 use Rattle.cmc_lines.specs.declared.line.PrintedLine.{PrintedLine}
 use Rattle.cmc_lines.specs.declared.line.PrintedLine.TheVariants as lines
 use Rattle.cmc_lines.specs.declared.line.PrintedReply.{PrintedReply}
-use Rattle.cmc_lines.specs.Shown.{shown, shown_given, shown_name, shown_reply}
+use Rattle.cmc_lines.specs.Shown.{line_of_entry, shown_given, shown_name, shown_reply}
 use Rattle.cmc_audit_ledger.specs.declared.ledger.Ledger.{Ledger}
-use Rattle.cmc_audit_ledger.specs.Following.{Follows}
+use Rattle.cmc_audit_ledger.specs.Following.{IsLedgerOf}
 use Rattle.cmc_audit_clauses.specs.declared.clause.Clause.{Clause}
-use Rattle.cmc_audit_calls.specs.Reading.{HasNames, IsRead, Shows, bare_call}
+use Rattle.cmc_audit_calls.specs.Reading.{HasCallNames, IsRead, Shows, bare_call}
 use Rattle.cmc_audit_calls.proofs.OneReply.{one_reply}
 use Rattle.cmc_audit_calls.proofs.ReadAgain.{read_again, read_so}
 use Rattle.cmc_audit_steps.specs.Meant.{IsNamedEntry, IsStoresReply}
-use Rattle.cmc_audit_steps.specs.Stepping.{AreKept, Calls, CallsOn, FailsAt, Judges, Steps}
+use Rattle.cmc_audit_steps.specs.Stepping.{AreKept, Calls, CallsOn, FailsAt, FindsClause, Steps}
 use Rattle.cmc_audit_steps.proofs.Going.{answered, goes}
 
 -- what a line says of a call
@@ -41,7 +41,7 @@ record IsCall (e : Entry) (t : Parts) (printed : PrintedReply) (who : Who) : Typ
   shows : Shows call t.name t.key t.object t.version
   replied : shown_reply call reply ≡ printed
 
-is_call : (t : Parts) (printed : PrintedReply) (who : Who) (e : Entry) → shown e ≡ line_of t printed who → IsCall e t printed who
+is_call : (t : Parts) (printed : PrintedReply) (who : Who) (e : Entry) → line_of_entry e ≡ line_of t printed who → IsCall e t printed who
 is_call t printed who (Called w q r) is =
     let same : w ≡ who = cc is in
     record {
@@ -54,7 +54,7 @@ is_call t printed who (Called w q r) is =
 is_call t printed who other is = absurd (cc is)
 
 -- what is read of the parts is what is read of what the call shows
-read_same : (t : Parts) (q : Call) (read : Option Call) → Shows q t.name t.key t.object t.version → HasNames q → IsRead t.name t.key t.object t.version read → read ≡ Some (bare_call q)
+read_same : (t : Parts) (q : Call) (read : Option Call) → Shows q t.name t.key t.object t.version → HasCallNames q → IsRead t.name t.key t.object t.version read → read ≡ Some (bare_call q)
 read_same t q read shows names is =
     let one = subst (λ (n : CallName). IsRead n t.key t.object t.version read) (sym shows.name_is) is in
     let two = subst (λ (k : List ℕ). IsRead (shown_name q) k t.object t.version read) (sym shows.key_is) one in
@@ -79,7 +79,7 @@ fails_so t printed who c old new clause read calls s before kept h e meant shows
     let a = is_call t printed who e shows in
     let named_call : IsNamedEntry s h (Called who a.call a.reply) = subst (IsNamedEntry s h) a.is named in
     let bare = bare_is c (bare_call a.call) (read_same t a.call (Some c) a.shows named_call.1 read) in
-    subst (λ x. Judges s h x (Some clause)) (sym a.is) (calls s h a.call a.reply is.follows (answered s h is.clean) bare named_call.0 a.replied)
+    subst (λ x. FindsClause s h x (Some clause)) (sym a.is) (calls s h a.call a.reply is.follows (answered s h is.clean) bare named_call.0 a.replied)
 
 goes_so : (t : Parts) (printed : PrintedReply) (who : Who) (c : Call) (old new : Ledger) → IsRead t.name t.key t.object t.version (Some c) → CallsOn old c who printed new
     → (s : Setting) (before : List PrintedLine) → AreKept s before old → AreKept s (line_of t printed who ∷ before) new
@@ -94,7 +94,7 @@ goes_so t printed who c old new read calls s before kept =
     let a = is_call t printed who e shows in
     let named_call : IsNamedEntry s h (Called who a.call a.reply) = subst (IsNamedEntry s h) a.is named in
     let bare = bare_is c (bare_call a.call) (read_same t a.call (Some c) a.shows named_call.1 read) in
-    subst (λ x. Follows s (x ∷ h) new × Judges s h x None) (sym a.is) (calls.on s h a.call a.reply is.follows (answered s h is.clean) bare named_call.0 a.replied))
+    subst (λ x. IsLedgerOf s (x ∷ h) new × FindsClause s h x None) (sym a.is) (calls.on s h a.call a.reply is.follows (answered s h is.clean) bare named_call.0 a.replied))
 
 pub steps_so : (t : Parts) (printed : PrintedReply) (who : Who) (c : Call) (old new : Ledger) (failed : Option Clause) → IsRead t.name t.key t.object t.version (Some c) → Calls old c who printed new failed
     → Steps old (line_of t printed who) new failed

@@ -29,12 +29,12 @@ use Rattle.cmc_rules.specs.Safety.{RaisesWell}
 use Rattle.cmc_lines.specs.declared.line.PrintedReply.{PrintedReply}
 use Rattle.cmc_lines.specs.Shown.{shown_reply}
 use Rattle.cmc_audit_state.specs.declared.row.Row.{Row}
-use Rattle.cmc_audit_state.specs.Heard.{approved, asked, found, saved}
+use Rattle.cmc_audit_state.specs.Heard.{approved, last_judged, has_found, saved}
 use Rattle.cmc_audit_state.specs.Journaled.{is_denied_uid}
-use Rattle.cmc_audit_state.specs.OpenRows.{Opened, row_at}
+use Rattle.cmc_audit_state.specs.OpenRows.{Opened, open_row_at}
 use Rattle.cmc_audit_ledger.specs.declared.ledger.Ledger.{Ledger}
 use Rattle.cmc_audit_ledger.specs.Calling.{IsServedBy}
-use Rattle.cmc_audit_ledger.specs.Following.{Follows, IsRowOf}
+use Rattle.cmc_audit_ledger.specs.Following.{IsLedgerOf, IsRowOf}
 use Rattle.cmc_audit_clauses.specs.declared.clause.Clause.{Clause}
 use Rattle.cmc_audit_clauses.specs.declared.clause.Clause.TheVariants as clauses
 use Rattle.cmc_audit_clauses.specs.Clauses.{Holds, IsApproval, IsIssue, rank}
@@ -46,13 +46,13 @@ use Rattle.cmc_audit_calls.proofs.Bare.{call_key_same, replied, replied_back, se
 use Rattle.cmc_audit_calls.proofs.OneReply.{one_reply}
 use Rattle.cmc_audit_steps.specs.Failing.{CallFails, PassFails, RowFails, UserFails, WriteFails}
 use Rattle.cmc_audit_steps.specs.Meant.{IsStoresReply}
-use Rattle.cmc_audit_steps.specs.Stepping.{Calls, CallsOn, Judges}
+use Rattle.cmc_audit_steps.specs.Stepping.{Calls, CallsOn, FindsClause}
 use Rattle.cmc_audit_steps.proofs.SameCall.{follows_bare, reply_same}
 
 -- ---- the reply
 
 -- what the store answers to what is shown of the call is what it answers to the call
-right_of : (s : Setting) (h : List Entry) (l : Ledger) (c : Call) (r : Reply) → Follows s h l → IsReply l.store.faults l.store.state c r → IsReply s.faults (state s h) c r
+right_of : (s : Setting) (h : List Entry) (l : Ledger) (c : Call) (r : Reply) → IsLedgerOf s h l → IsReply l.store.faults l.store.state c r → IsReply s.faults (state s h) c r
 right_of s h l c r is right = subst (λ (st : State). IsReply s.faults st c r) is.state (subst (λ (f : List ℕ). IsReply f l.store.state c r) is.faults right)
 
 right_call : (s : Setting) (h : List Entry) (q c : Call) (r : Reply) → bare_call q ≡ c → IsReply s.faults (state s h) c r → IsReply s.faults (state s h) q r
@@ -94,7 +94,7 @@ if_false false A off = tt
 off_on : (b : Bool) → b ≡ false → b ≡ true → ⊥
 off_on b off on = cc (off, on)
 
-nothing : (s : Setting) (h : List Entry) (who : Who) (q : Call) (r : Reply) → IsCaller s h who → IsReply s.faults (state s h) q r → is_accepted r ≡ false → Judges s h (Called who q r) None
+nothing : (s : Setting) (h : List Entry) (who : Who) (q : Call) (r : Reply) → IsCaller s h who → IsReply s.faults (state s h) q r → is_accepted r ≡ false → FindsClause s h (Called who q r) None
 nothing s h who q r caller right off clauses.Place = caller
 nothing s h who q r caller right off clauses.Reply = right
 nothing s h who q r caller right off clauses.Issue = λ on. absurd (off_on (is_accepted r) off on)
@@ -114,7 +114,7 @@ abbrev after_of : Setting → List Entry → Call → Option Object
 after_of s h d = stored (accepted s h + 1) (moment s h) (objects s h) d
 
 user_holds : (s : Setting) (h : List Entry) (q : Call) (r : Reply) → IsReply s.faults (state s h) q r
-    → OnBoth SameRevision (before_of s h (settled q r)) (after_of s h (settled q r)) → Judges s h (Called User q r) None
+    → OnBoth SameRevision (before_of s h (settled q r)) (after_of s h (settled q r)) → FindsClause s h (Called User q r) None
 user_holds s h q r right same clauses.Place = tt
 user_holds s h q r right same clauses.Reply = right
 user_holds s h q r right same clauses.Issue = λ on. tt
@@ -135,7 +135,7 @@ user_before s h q r right clauses.Approval low = λ on. tt
 user_before s h q r right clauses.Counts low = tt
 
 user_judged : (s : Setting) (h : List Entry) (q : Call) (r : Reply) (failed : Option Clause) → IsReply s.faults (state s h) q r → is_accepted r ≡ true
-    → UserFails (before_of s h (settled q r)) (after_of s h (settled q r)) failed → Judges s h (Called User q r) failed
+    → UserFails (before_of s h (settled q r)) (after_of s h (settled q r)) failed → FindsClause s h (Called User q r) failed
 user_judged s h q r None right on is = user_holds s h q r right is
 user_judged s h q r (Some clauses.Raise) right on is = (user_before s h q r right, λ holds. is ((user_leaves (before_of s h (settled q r)) (after_of s h (settled q r))).1 (holds on)))
 user_judged s h q r (Some clauses.Place) right on is = absurd is
@@ -158,7 +158,7 @@ record Tested (s : Setting) (h : List Entry) (e : Entry) (I R M A : Type 0) : Ty
   rights : M ↔ Holds clauses.Rights s h e
   approval : A ↔ Holds clauses.Approval s h e
 
-all_hold : (s : Setting) (h : List Entry) (e : Entry) (I R M A : Type 0) → Tested s h e I R M A → I → R → M → A → Judges s h e None
+all_hold : (s : Setting) (h : List Entry) (e : Entry) (I R M A : Type 0) → Tested s h e I R M A → I → R → M → A → FindsClause s h e None
 all_hold s h e I R M A t i r m a clauses.Place = t.place
 all_hold s h e I R M A t i r m a clauses.Reply = t.reply
 all_hold s h e I R M A t i r m a clauses.Issue = t.issue.0 i
@@ -214,7 +214,7 @@ Rows s h e ws row c kind before after =
     Tested s h e (IsKeptWrite ws row kind after) (OnBoth (KeepsOrRaises row c) before after) (MayChange row.role before after) (OnBoth (IsKeptApproval row) before after)
 
 row_judged : (s : Setting) (h : List Entry) (e : Entry) (ws : List Write) (row : Row) (c : Call) (kind : Kind) (before after : Option Object) (failed : Option Clause)
-    → Rows s h e ws row c kind before after → RowFails ws row c kind before after failed → Judges s h e failed
+    → Rows s h e ws row c kind before after → RowFails ws row c kind before after failed → FindsClause s h e failed
 row_judged s h e ws row c kind before after None t is = all_hold s h e _ _ _ _ t is.issue is.raise is.rights is.approval
 row_judged s h e ws row c kind before after (Some clauses.Issue) t is = (before_issue s h e _ _ _ _ t, λ holds. is (t.issue.1 holds))
 row_judged s h e ws row c kind before after (Some clauses.Raise) t is = (before_raise s h e _ _ _ _ t is.0, λ holds. is.1 (t.raise.1 holds))
@@ -289,8 +289,8 @@ rows_tested s h n q r row p answers right on caller at is =
     }
 
 pass_judged : (s : Setting) (h : List Entry) (n : ℕ) (q : Call) (r : Reply) (x : Option Row) (o : Option OpenPass) (failed : Option Clause) → IsAnswered s h → IsReply s.faults (state s h) q r → is_accepted r ≡ true
-    → IsCaller s h (Pass n) → open_pass s h n ≡ o → IsRowOf (writes s h) (λ v. found n v h) (saved n h) (asked n h) (λ v. approved n v h) x o
-    → PassFails (writes s h) x (bare_call q) (key_of_call (settled q r)).kind (before_of s h (settled q r)) (after_of s h (settled q r)) failed → Judges s h (Called (Pass n) q r) failed
+    → IsCaller s h (Pass n) → open_pass s h n ≡ o → IsRowOf (writes s h) (λ v. has_found n v h) (saved n h) (last_judged n h) (λ v. approved n v h) x o
+    → PassFails (writes s h) x (bare_call q) (key_of_call (settled q r)).kind (before_of s h (settled q r)) (after_of s h (settled q r)) failed → FindsClause s h (Called (Pass n) q r) failed
 pass_judged s h n q r x None failed answers right on caller at is fails = absurd (subst (λ (y : Option OpenPass). IsOpen y) at caller)
 pass_judged s h n q r None (Some p) failed answers right on caller at is fails = absurd is
 pass_judged s h n q r (Some row) (Some p) failed answers right on caller at is fails =
@@ -303,13 +303,13 @@ pass_judged s h n q r (Some row) (Some p) failed answers right on caller at is f
 stood : (s : Setting) (h : List Entry) (key : Key) → object_at (contents (writes s h)) key ≡ object_at (objects s h) key
 stood s h key = ap (λ (m : Objects). object_at m key) (writes_leave s h)
 
-write_judged : (s : Setting) (h : List Entry) (l : Ledger) (who : Who) (q : Call) (r : Reply) (failed : Option Clause) → Follows s h l → IsAnswered s h → IsReply s.faults (state s h) q r → is_accepted r ≡ true → IsCaller s h who
-    → WriteFails (writes s h) l.passes who (bare_call q) (key_of_call (settled q r)) (after_of s h (settled q r)) failed → Judges s h (Called who q r) failed
+write_judged : (s : Setting) (h : List Entry) (l : Ledger) (who : Who) (q : Call) (r : Reply) (failed : Option Clause) → IsLedgerOf s h l → IsAnswered s h → IsReply s.faults (state s h) q r → is_accepted r ≡ true → IsCaller s h who
+    → WriteFails (writes s h) l.passes who (bare_call q) (key_of_call (settled q r)) (after_of s h (settled q r)) failed → FindsClause s h (Called who q r) failed
 write_judged s h l User q r failed is answers right on caller fails =
     user_judged s h q r failed right on (subst (λ (b : Option Object). UserFails b (after_of s h (settled q r)) failed) (stood s h (key_of_call (settled q r))) fails)
 write_judged s h l (Pass n) q r failed is answers right on caller fails =
-    pass_judged s h n q r (row_at l.passes n) (open_pass s h n) failed answers right on caller refl (is.rows n)
-    (subst (λ (b : Option Object). PassFails (writes s h) (row_at l.passes n) (bare_call q) (key_of_call (settled q r)).kind b (after_of s h (settled q r)) failed) (stood s h (key_of_call (settled q r))) fails)
+    pass_judged s h n q r (open_row_at l.passes n) (open_pass s h n) failed answers right on caller refl (is.rows n)
+    (subst (λ (b : Option Object). PassFails (writes s h) (open_row_at l.passes n) (bare_call q) (key_of_call (settled q r)).kind b (after_of s h (settled q r)) failed) (stood s h (key_of_call (settled q r))) fails)
 
 -- what is written of the call as it is shown is what is written of the call
 key_same : (q : Call) (r : Reply) → key_of_call (settled (bare_call q) r) ≡ key_of_call (settled q r)
@@ -318,15 +318,15 @@ key_same q r = ap key_of_call (settled_same q r) ∙ call_key_same (settled q r)
 after_same : (v : ℕ) (now : ℤ) (m : Objects) (q : Call) (r : Reply) → stored v now m (settled (bare_call q) r) ≡ stored v now m (settled q r)
 after_same v now m q r = ap (stored v now m) (settled_same q r) ∙ stored_same v now m (settled q r)
 
-written_judged : (s : Setting) (h : List Entry) (l : Ledger) (who : Who) (q : Call) (r : Reply) (failed : Option Clause) (b : Bool) → Follows s h l → IsAnswered s h → IsReply s.faults (state s h) q r → is_accepted r ≡ b → IsCaller s h who
-    → CallFails (writes s h) l.passes who (bare_call q) (if b then Some (key_of_call (settled q r)) else None) (if b then after_of s h (settled q r) else None) failed → Judges s h (Called who q r) failed
+written_judged : (s : Setting) (h : List Entry) (l : Ledger) (who : Who) (q : Call) (r : Reply) (failed : Option Clause) (b : Bool) → IsLedgerOf s h l → IsAnswered s h → IsReply s.faults (state s h) q r → is_accepted r ≡ b → IsCaller s h who
+    → CallFails (writes s h) l.passes who (bare_call q) (if b then Some (key_of_call (settled q r)) else None) (if b then after_of s h (settled q r) else None) failed → FindsClause s h (Called who q r) failed
 written_judged s h l who q r failed true is answers right on caller fails = write_judged s h l who q r failed is answers right on caller fails
-written_judged s h l who q r failed false is answers right off caller fails = subst (Judges s h (Called who q r)) (sym fails) (nothing s h who q r caller right off)
+written_judged s h l who q r failed false is answers right off caller fails = subst (FindsClause s h (Called who q r)) (sym fails) (nothing s h who q r caller right off)
 
 abbrev CallFailsOf : List Write → Opened → Who → Call → Reply → ℤ → State → Option Clause → Type 0
 CallFailsOf ws passes who c r now st failed = CallFails ws passes who c (key_written c r) (object_written now st c r) failed
 
-by_history : (s : Setting) (h : List Entry) (l : Ledger) (who : Who) (q : Call) (r : Reply) (failed : Option Clause) → Follows s h l
+by_history : (s : Setting) (h : List Entry) (l : Ledger) (who : Who) (q : Call) (r : Reply) (failed : Option Clause) → IsLedgerOf s h l
     → CallFailsOf l.journal l.passes who (bare_call q) r l.moment l.store.state failed
     → CallFails (writes s h) l.passes who (bare_call q) (if is_accepted r then Some (key_of_call (settled q r)) else None) (if is_accepted r then after_of s h (settled q r) else None) failed
 by_history s h l who q r failed is fails =
@@ -337,14 +337,14 @@ by_history s h l who q r failed is fails =
     subst (λ (o : Option Object). CallFails (writes s h) l.passes who (bare_call q) (if is_accepted r then Some (key_of_call (settled q r)) else None) (if is_accepted r then o else None) failed)
     (after_same (accepted s h + 1) (moment s h) (objects s h) q r) four
 
-pub judged : (s : Setting) (h : List Entry) (l : Ledger) (who : Who) (q c : Call) (r right : Reply) (printed : PrintedReply) (failed : Option Clause) → Follows s h l → IsAnswered s h → IsCaller s h who
+pub judged : (s : Setting) (h : List Entry) (l : Ledger) (who : Who) (q c : Call) (r right : Reply) (printed : PrintedReply) (failed : Option Clause) → IsLedgerOf s h l → IsAnswered s h → IsCaller s h who
     → bare_call q ≡ c → IsReply l.store.faults l.store.state c right → shown_reply c right ≡ printed → IsStoresReply s h q r → shown_reply q r ≡ printed
-    → CallFailsOf l.journal l.passes who c right l.moment l.store.state failed → Judges s h (Called who q r) failed
+    → CallFailsOf l.journal l.passes who c right l.moment l.store.state failed → FindsClause s h (Called who q r) failed
 judged s h l who q c r right printed failed is answers caller bare answer shows stores same fails =
     let of_c = right_of s h l c right is answer in
     let one : right ≡ r = sym (is_right s h q c r right printed bare of_c shows stores same) in
     let of_q = right_call s h q c right bare of_c in
-    subst (λ (x : Reply). Judges s h (Called who q x) failed) one
+    subst (λ (x : Reply). FindsClause s h (Called who q x) failed) one
     (written_judged s h l who q right failed (is_accepted right) is answers of_q refl caller
     (by_history s h l who q right failed is (subst (λ (x : Call). CallFailsOf l.journal l.passes who x right l.moment l.store.state failed) (sym bare) fails)))
 
@@ -360,7 +360,7 @@ served_fails old now who c r key object failed served fails =
     subst (λ (o : Option Object). CallFails old.journal old.passes who c (key_written c r) o failed) served.object_is three
 
 abbrev Permits : Ledger → Who → Type 0
-Permits l who = (s : Setting) (h : List Entry) → Follows s h l → IsCaller s h who
+Permits l who = (s : Setting) (h : List Entry) → IsLedgerOf s h l → IsCaller s h who
 
 pub misreplied : (old new : Ledger) (who : Who) (c : Call) (right : Reply) (printed : PrintedReply) → Permits old who → IsReply old.store.faults old.store.state c right → (shown_reply c right ≡ printed → ⊥)
     → Calls old c who printed new (Some clauses.Reply)
@@ -375,12 +375,12 @@ called_ill old now new who c right printed key object clause permits answer show
 
 pub called_on : (old now new : Ledger) (who : Who) (c : Call) (right : Reply) (printed : PrintedReply) (key : Option Key) (object : Option Object) → Permits old who
     → IsReply old.store.faults old.store.state c right → shown_reply c right ≡ printed → IsServedBy old now c right key object → CallFails now.journal now.passes who c key object None
-    → ((s : Setting) (h : List Entry) → Follows s h old → Follows s (Called who c right ∷ h) new) → CallsOn old c who printed new
+    → ((s : Setting) (h : List Entry) → IsLedgerOf s h old → IsLedgerOf s (Called who c right ∷ h) new) → CallsOn old c who printed new
 called_on old now new who c right printed key object permits answer shows served fails follows = record {
   some = λ s h is. (right, right_of s h old c right is answer, shows);
   on = λ s h q r is answers bare stores same.
       let one : right ≡ r = sym (is_right s h q c r right printed bare (right_of s h old c right is answer) shows stores same) in (
-        subst (λ (x : Reply). Follows s (Called who q x ∷ h) new) one (follows_bare s h who q c right new bare (follows s h is)),
+        subst (λ (x : Reply). IsLedgerOf s (Called who q x ∷ h) new) one (follows_bare s h who q c right new bare (follows s h is)),
         judged s h old who q c r right printed None is answers (permits s h is) bare answer shows stores same (served_fails old now who c right key object None served fails),
       );
 }

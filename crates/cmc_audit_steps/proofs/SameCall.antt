@@ -15,11 +15,11 @@ use Rattle.cmc_model.specs.Replies.{State, is_accepted, settled}
 use Rattle.cmc_model.specs.Histories.{Setting, moment, state}
 use Rattle.cmc_model.specs.Writes.{last_under, write_of, writes}
 use Rattle.cmc_rules.specs.Issuing.{issuing}
-use Rattle.cmc_rules.specs.Passes.{called, open_pass, stage_by, stands_in}
+use Rattle.cmc_rules.specs.Passes.{called, open_pass, stage_by, is_temporary_act}
 use Rattle.cmc_lines.specs.Shown.{shown_object, shown_reply}
-use Rattle.cmc_audit_state.specs.Heard.{finds, found, is_by, is_lasting, is_served, saved, writes_lasting}
+use Rattle.cmc_audit_state.specs.Heard.{finds, has_found, is_by, is_lasting, is_served, saved, writes_lasting}
 use Rattle.cmc_audit_ledger.specs.declared.ledger.Ledger.{Ledger}
-use Rattle.cmc_audit_ledger.specs.Following.{Follows, IsFollowed, said}
+use Rattle.cmc_audit_ledger.specs.Following.{IsLedgerOf, IsLedgerOfSaid, said}
 use Rattle.cmc_audit_calls.specs.Reading.{bare_call}
 use Rattle.cmc_audit_calls.proofs.Bare.{after_same, call_key_same, settled_same, stored_same}
 
@@ -60,16 +60,16 @@ said_same s h who q r = λ i. record {
   runs = λ role. (said s h).runs role;
   position = λ role kind. (said s h).position role kind;
   begun = (said s h).begun;
-  opened = λ n. called n who (λ p. stage_by p.seen.certificate (stands_in (issuing p.seen p.since)) p.stage (length h + 1) (call_key_same q i).kind (last_under (call_key_same q i) (writes s h)) r) (open_pass s h n);
-  found = λ n version. (is_by n who && finds_same version q r i) || found n version h;
+  opened = λ n. called n who (λ p. stage_by p.seen.certificate (is_temporary_act (issuing p.seen p.since)) p.stage (length h + 1) (call_key_same q i).kind (last_under (call_key_same q i) (writes s h)) r) (open_pass s h n);
+  found = λ n version. (is_by n who && finds_same version q r i) || has_found n version h;
   saved = λ n. (is_by n who && (saves_same q i && is_served r)) || saved n h;
   asked = λ n. (said s h).asked n;
   approved = λ n v. (said s h).approved n v;
 }
 
-pub follows_bare : (s : Setting) (h : List Entry) (who : Who) (q c : Call) (r : Reply) (l : Ledger) → bare_call q ≡ c → Follows s (Called who c r ∷ h) l → Follows s (Called who q r ∷ h) l
+pub follows_bare : (s : Setting) (h : List Entry) (who : Who) (q c : Call) (r : Reply) (l : Ledger) → bare_call q ≡ c → IsLedgerOf s (Called who c r ∷ h) l → IsLedgerOf s (Called who q r ∷ h) l
 follows_bare s h who q c r l bare is =
-    subst (λ t. IsFollowed s t l) (said_same s h who q r) (subst (λ (x : Call). Follows s (Called who x r ∷ h) l) (sym bare) is)
+    subst (λ t. IsLedgerOfSaid s t l) (said_same s h who q r) (subst (λ (x : Call). IsLedgerOf s (Called who x r ∷ h) l) (sym bare) is)
 
 -- a line shows the same of a reply
 pub reply_same : (q : Call) (r : Reply) → shown_reply (bare_call q) r ≡ shown_reply q r

@@ -15,7 +15,7 @@ use Rattle.cmc_lines.specs.declared.line.PrintedOrder.{PrintedOrder}
 use Rattle.cmc_lines.specs.declared.line.PrintedOrder.TheVariants as asked
 use Rattle.cmc_audit_state.specs.declared.row.Row.{Row}
 use Rattle.cmc_audit_state.specs.declared.row.Version.{Version}
-use Rattle.cmc_audit_state.specs.OpenRows.{Opened, row_at}
+use Rattle.cmc_audit_state.specs.OpenRows.{Opened, open_row_at}
 use Rattle.cmc_audit_clauses.specs.declared.clause.Clause.{Clause}
 use Rattle.cmc_audit_clauses.specs.declared.clause.Clause.TheVariants as clauses
 use Rattle.cmc_audit_clauses.specs.Issuing.{Exists}
@@ -24,7 +24,7 @@ use Rattle.cmc_audit_clauses.specs.Kept.{IsKeptApproval, IsKeptAsk, IsKeptWrite,
 -- ---- an accepted call
 
 -- all tests of a call of a pass
-pub record IsRight (ws : List Write) (row : Row) (call : Call) (kind : Kind) (before after : Option Object) : Type 0 where
+pub record IsRightCall (ws : List Write) (row : Row) (call : Call) (kind : Kind) (before after : Option Object) : Type 0 where
   pub issue : IsKeptWrite ws row kind after
   pub raise : OnBoth (KeepsOrRaises row call) before after
   pub rights : MayChange row.role before after
@@ -32,7 +32,7 @@ pub record IsRight (ws : List Write) (row : Row) (call : Call) (kind : Kind) (be
 
 -- which test fails first
 abbrev pub RowFails : List Write → Row → Call → Kind → Option Object → Option Object → Option Clause → Type 0
-RowFails ws row call kind before after None = IsRight ws row call kind before after
+RowFails ws row call kind before after None = IsRightCall ws row call kind before after
 RowFails ws row call kind before after (Some clauses.Issue) = IsKeptWrite ws row kind after → ⊥
 RowFails ws row call kind before after (Some clauses.Raise) = IsKeptWrite ws row kind after × (OnBoth (KeepsOrRaises row call) before after → ⊥)
 RowFails ws row call kind before after (Some clauses.Rights) = IsKeptWrite ws row kind after × (OnBoth (KeepsOrRaises row call) before after × (MayChange row.role before after → ⊥))
@@ -53,7 +53,7 @@ UserFails before after (Some other) = ⊥
 
 abbrev pub WriteFails : List Write → Opened → Who → Call → Key → Option Object → Option Clause → Type 0
 WriteFails ws passes User call key after failed = UserFails (object_at (contents ws) key) after failed
-WriteFails ws passes (Pass pass) call key after failed = PassFails ws (row_at passes pass) call key.kind (object_at (contents ws) key) after failed
+WriteFails ws passes (Pass pass) call key after failed = PassFails ws (open_row_at passes pass) call key.kind (object_at (contents ws) key) after failed
 
 -- where a key was written
 abbrev pub CallFails : List Write → Opened → Who → Call → Option Key → Option Object → Option Clause → Type 0

@@ -13,8 +13,8 @@ use Rattle.cmc_model.specs.Histories.{Setting, state}
 use Rattle.cmc_model.specs.Replies.{IsReply}
 use Rattle.cmc_model.specs.Versions.{HasVersion}
 use Rattle.cmc_lines.specs.declared.line.PrintedLine.{PrintedLine}
-use Rattle.cmc_lines.specs.Shown.{shown, shown_reply}
-use Rattle.cmc_audit_calls.specs.Reading.{HasNames}
+use Rattle.cmc_lines.specs.Shown.{line_of_entry, shown_reply}
+use Rattle.cmc_audit_calls.specs.Reading.{HasCallNames}
 
 -- A reply that shows as the store's does is the store's: what is found is the object that stands there.
 abbrev pub IsStoresReply : Setting → List Entry → Call → Reply → Type 0
@@ -31,16 +31,16 @@ IsNamedOrder s h (orders.Sign order) = IsVersionNamed s h order.request
 IsNamedOrder s h (orders.Judge order) = IsVersionNamed s h order.request
 
 abbrev pub IsNamedEntry : Setting → List Entry → Entry → Type 0
-IsNamedEntry s h (Called who call reply) = IsStoresReply s h call reply × HasNames call
+IsNamedEntry s h (Called who call reply) = IsStoresReply s h call reply × HasCallNames call
 IsNamedEntry s h (Ask pass order) = IsNamedOrder s h order
 IsNamedEntry s h other = Unit {0}
 
-unfoldable pub AreNamed : Setting → List Entry → Type 0
-AreNamed s [] = Unit {0}
-AreNamed s (e ∷ h) = IsNamedEntry s h e × AreNamed s h
+unfoldable pub AreNamedEntries : Setting → List Entry → Type 0
+AreNamedEntries s [] = Unit {0}
+AreNamedEntries s (e ∷ h) = IsNamedEntry s h e × AreNamedEntries s h
 
 -- The lines, the newest first, show this history. What no line says (rows of questions, what the store owns of an object that is
 -- called with) may be anything: no clause reads it.
 pub record IsMeant (s : Setting) (lines : List PrintedLine) (h : List Entry) : Type 0 where
-  pub shows : map shown h ≡ lines
-  pub named : AreNamed s h
+  pub shows : map line_of_entry h ≡ lines
+  pub named : AreNamedEntries s h

@@ -2,7 +2,7 @@
 ghost use Rattle.std.specs.Prelude.{◌≡◌, ◌↔◌, ◌-◌, ◌<◌, ◌^◌, IfOk, IsTrue};
 ghost use Rattle.cmc_meta.specs.declared.key.Kind.TheVariants as kinds;
 ghost use Rattle.cmc_lines.specs.declared.line.PrintedLine.TheVariants as lines;
-ghost use Rattle.cmc_audit_state.specs.OpenRows.{row_at};
+ghost use Rattle.cmc_audit_state.specs.OpenRows.{open_row_at};
 ghost use Rattle.cmc_audit_clauses.specs.Issuing.{Exists};
 ghost use Rattle.cmc_audit_clauses.specs.Kept.{IsKeptAsk};
 ghost use Rattle.cmc_audit_steps.specs.Failing.{IsOfRequest, MayOrder, asked_version};
@@ -33,7 +33,7 @@ fn is_of_request(order: &PrintedOrder) -> bool
 }
 
 fn may_sign(journal: &Journal, passes: &Passes, pass: u64, request: &Key, version: u64) -> bool
-    ensures { IsTrue result ↔ Exists (row_at passes.now pass) (λ row. IsKeptAsk journal.now row request.now version) }
+    ensures { IsTrue result ↔ Exists (open_row_at passes.now pass) (λ row. IsKeptAsk journal.now row request.now version) }
 {
     match passes.get(pass) {
         Some(row) => may_ask(journal, row, request, version),
@@ -42,7 +42,7 @@ fn may_sign(journal: &Journal, passes: &Passes, pass: u64, request: &Key, versio
 }
 
 fn may_order(journal: &Journal, passes: &Passes, pass: u64, order: &PrintedOrder) -> bool
-    ensures { IsTrue result ↔ MayOrder journal.now (row_at passes.now pass) order.now }
+    ensures { IsTrue result ↔ MayOrder journal.now (open_row_at passes.now pass) order.now }
 {
     match order {
         PrintedOrder::Sign {

@@ -4,7 +4,7 @@ ghost use Rattle.cmc_objects.specs.Requests.{is_run_time};
 ghost use Rattle.cmc_model.specs.Replies.{IsReply};
 ghost use Rattle.cmc_lines.specs.declared.line.PrintedLine.TheVariants as lines;
 ghost use Rattle.cmc_audit_state.specs.declared.row.Row.{Row as RowValue};
-ghost use Rattle.cmc_audit_state.specs.OpenRows.{row_at};
+ghost use Rattle.cmc_audit_state.specs.OpenRows.{open_row_at};
 ghost use Rattle.cmc_audit_ledger.specs.Calling.{IsServedBy};
 ghost use Rattle.cmc_audit_steps.specs.Stepping.{Calls, Steps};
 
@@ -37,7 +37,7 @@ fn make(
 ) -> Result<Option<Clause>, AllocError>
     requires room { ledger.old.entries < 2 ^ 64 - 1 }
     requires calls { ledger.old.store.state.calls ≤ ledger.old.entries }
-    requires in_run { (pass : ℕ) (row : RowValue) → row_at ledger.old.passes pass ≡ Some row → is_run_time row.since ≡ true }
+    requires in_run { (pass : ℕ) (row : RowValue) → open_row_at ledger.old.passes pass ≡ Some row → is_run_time row.since ≡ true }
     ensures { IfOk result (λ failed. Calls ledger.old call.now who printed.now ledger.new failed) }
 {
     if !ledger.may_call(who) {
@@ -76,7 +76,7 @@ pub(crate) fn called(
 ) -> Result<Option<Clause>, AllocError>
     requires room { ledger.old.entries < 2 ^ 64 - 1 }
     requires calls { ledger.old.store.state.calls ≤ ledger.old.entries }
-    requires in_run { (pass : ℕ) (row : RowValue) → row_at ledger.old.passes pass ≡ Some row → is_run_time row.since ≡ true }
+    requires in_run { (pass : ℕ) (row : RowValue) → open_row_at ledger.old.passes pass ≡ Some row → is_run_time row.since ≡ true }
     ensures { IfOk result (λ failed. Steps ledger.old (lines.Call name key.now object.now version printed.now who) ledger.new failed) }
 {
     match read_call(alloc, name, key, object, version)? {

@@ -3,7 +3,7 @@ ghost use Rattle.std.specs.Option.{option_copied};
 ghost use Rattle.std.specs.Prelude.{◌≡◌, IfOk, ℕ, Some, true};
 ghost use Rattle.cmc_objects.specs.Requests.{is_run_time};
 ghost use Rattle.cmc_audit_state.specs.declared.row.Row.{Row as RowValue};
-ghost use Rattle.cmc_audit_state.specs.OpenRows.{row_at};
+ghost use Rattle.cmc_audit_state.specs.OpenRows.{open_row_at};
 ghost use Rattle.cmc_audit_steps.specs.Failing.{CallFails, RowFails, UserFails, WriteFails};
 
 use cmc_audit_clauses::{
@@ -60,7 +60,7 @@ fn write_fails(
     key: &Key,
     after: Option<&Object>,
 ) -> Result<Option<Clause>, AllocError>
-    requires { (pass : ℕ) (row : RowValue) → row_at passes.now pass ≡ Some row → is_run_time row.since ≡ true }
+    requires { (pass : ℕ) (row : RowValue) → open_row_at passes.now pass ≡ Some row → is_run_time row.since ≡ true }
     ensures { IfOk result (λ failed. WriteFails journal.now passes.now who call.now key.now (option_copied after.entry) failed) }
 {
     let before = journal.standing(key);
@@ -83,7 +83,7 @@ pub(crate) fn call_fails(
     key: &Option<Key>,
     after: &Option<Object>,
 ) -> Result<Option<Clause>, AllocError>
-    requires { (pass : ℕ) (row : RowValue) → row_at passes.now pass ≡ Some row → is_run_time row.since ≡ true }
+    requires { (pass : ℕ) (row : RowValue) → open_row_at passes.now pass ≡ Some row → is_run_time row.since ≡ true }
     ensures { IfOk result (λ failed. CallFails journal.now passes.now who call.now key.now after.now failed) }
 {
     match key {

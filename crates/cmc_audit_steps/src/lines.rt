@@ -2,7 +2,7 @@
 ghost use Rattle.std.specs.Prelude.{◌≡◌, ◌-◌, ◌<◌, ◌≤◌, ◌^◌, ℕ, IfOk, Some, true};
 ghost use Rattle.cmc_objects.specs.Requests.{is_run_time};
 ghost use Rattle.cmc_audit_state.specs.declared.row.Row.{Row as RowValue};
-ghost use Rattle.cmc_audit_state.specs.OpenRows.{row_at};
+ghost use Rattle.cmc_audit_state.specs.OpenRows.{open_row_at};
 ghost use Rattle.cmc_audit_steps.specs.Stepping.{Steps};
 
 use crate::asking::ask;
@@ -24,7 +24,7 @@ pub fn step(
     requires room { ledger.old.entries < 2 ^ 64 - 1 }
     requires begun { ledger.old.passes.begun ≤ ledger.old.entries }
     requires calls { ledger.old.store.state.calls ≤ ledger.old.entries }
-    requires in_run { (pass : ℕ) (row : RowValue) → row_at ledger.old.passes pass ≡ Some row → is_run_time row.since ≡ true }
+    requires in_run { (pass : ℕ) (row : RowValue) → open_row_at ledger.old.passes pass ≡ Some row → is_run_time row.since ≡ true }
     ensures { IfOk result (λ failed. Steps ledger.old line.now ledger.new failed) }
 {
     match line {

@@ -9,11 +9,11 @@ use Rattle.cmc_objects.specs.declared.role.Role.TheVariants.{Trigger, KeyManager
 use Rattle.cmc_objects.specs.Roles.{role_rank}
 use Rattle.cmc_model.specs.Histories.{role_eq}
 use Rattle.cmc_rules.specs.Viewing.{Caches}
-use Rattle.cmc_caches.specs.Told.{caches_of, nothing_told}
+use Rattle.cmc_caches.specs.Told.{caches_of, empty_caches}
 
 -- where eight rows are those of roles that were told nothing
-pub told_nothing : (rows : List Caches) (a b c d e f g h : Caches) → rows ≡ a ∷ b ∷ c ∷ d ∷ e ∷ f ∷ g ∷ h ∷ [] → a ≡ nothing_told → b ≡ nothing_told → c ≡ nothing_told → d ≡ nothing_told → e ≡ nothing_told → f ≡ nothing_told
-    → g ≡ nothing_told → h ≡ nothing_told → (role : Role) → caches_of rows role ≡ nothing_told
+pub told_nothing : (rows : List Caches) (a b c d e f g h : Caches) → rows ≡ a ∷ b ∷ c ∷ d ∷ e ∷ f ∷ g ∷ h ∷ [] → a ≡ empty_caches → b ≡ empty_caches → c ≡ empty_caches → d ≡ empty_caches → e ≡ empty_caches → f ≡ empty_caches
+    → g ≡ empty_caches → h ≡ empty_caches → (role : Role) → caches_of rows role ≡ empty_caches
 unfolding caches_of
 told_nothing rows a b c d e f g h is p q r s t u v w Trigger = ap (λ (l : List Caches). caches_of l Trigger) is ∙ p
 told_nothing rows a b c d e f g h is p q r s t u v w KeyManager = ap (λ (l : List Caches). caches_of l KeyManager) is ∙ q
@@ -29,6 +29,6 @@ pub row_put : (rows : List Caches) (role r : Role) (i : ℕ) (new : Caches) → 
 unfolding caches_of
 row_put rows role r i new low is =
     elim (cases_Bool (role_rank role == role_rank r)) [
-      | inl same ↦ rw (same) (get_or-set_at rows i (role_rank r) new nothing_told (sym (is ∙ eqb-true (role_rank role) (role_rank r) same)) low)
-      | inr other ↦ rw (other) (get_or-set_other rows i (role_rank r) new nothing_told (λ e. true≢false (sym (eq-eqb (role_rank role) (role_rank r) (sym is ∙ sym e)) ∙ other)))
+      | inl same ↦ rw (same) (get_or-set_at rows i (role_rank r) new empty_caches (sym (is ∙ eqb-true (role_rank role) (role_rank r) same)) low)
+      | inr other ↦ rw (other) (get_or-set_other rows i (role_rank r) new empty_caches (λ e. true≢false (sym (eq-eqb (role_rank role) (role_rank r) (sym is ∙ sym e)) ∙ other)))
     ]

@@ -24,7 +24,7 @@ use Rattle.cmc_model.proofs.Versions.{standing}
 use Rattle.cmc_objects.specs.Watching.{kind_of_work, looks_at_next, looks_at_requests, looks_at_secret, works_on_requests}
 use Rattle.cmc_informer.specs.Caches.{has_uid}
 use Rattle.cmc_informer.proofs.OneMark.{key_tie, same_key}
-use Rattle.cmc_caches.specs.Affected.{AddsStanding, AreLeft, AreNamed, StandUnderNamed, is_among}
+use Rattle.cmc_caches.specs.Affected.{AddsExisting, AreLeft, AreNamed, ExistUnderNamed, is_among}
 use Rattle.cmc_model.proofs.Versions.{version_of_kind, version_of_oldest}
 
 same_kind : (a b : Kind) → kind_eq a b ≡ true → a ≡ b
@@ -84,7 +84,7 @@ object_of None is = absurd (cc is)
 object_of (Some x) is = (x, refl)
 
 -- what some first writes leave stands under keys that they name
-pub stand_under_named : (kind : Kind) (ws : List Write) (m : Objects) → AreLeft kind ws m → StandUnderNamed kind (reverse ws) m
+pub stand_under_named : (kind : Kind) (ws : List Write) (m : Objects) → AreLeft kind ws m → ExistUnderNamed kind (reverse ws) m
 stand_under_named kind ws m left key is =
     let some = object_of (object_at m key) is in
     let first : List Write = oldest left.0 (reverse ws) in
@@ -93,10 +93,10 @@ stand_under_named kind ws m left key is =
 
 -- ---- keys that are added
 
-pub adds_on : (m : Objects) (one two three : List Key) → AddsStanding m one two → AddsStanding m two three → AddsStanding m one three
+pub adds_on : (m : Objects) (one two three : List Key) → AddsExisting m one two → AddsExisting m two three → AddsExisting m one three
 adds_on m one two three first then_more k among = elim (then_more k among) [ inl old ↦ first k old | inr stands ↦ inr stands ]
 
-pub adds_last : (m : Objects) (old new : List Key) (last : Key) → new ≡ old ++ last ∷ [] → is_some (object_at m last) ≡ true → AddsStanding m old new
+pub adds_last : (m : Objects) (old new : List Key) (last : Key) → new ≡ old ++ last ∷ [] → is_some (object_at m last) ≡ true → AddsExisting m old new
 adds_last m old new last is stands k among =
     elim (or_cases (is_among old k) (is_eq (key_cmp k last) || false) (sym (list_any-append (is_at (key_cmp k)) old (last ∷ [])) ∙ ap (λ (l : List Key). is_among l k) (sym is) ∙ among)) [
       | inl had ↦ inl had
@@ -109,7 +109,7 @@ stands_with_uid uid (Some x) is = refl
 
 -- ---- the role's work
 
-pub named_with : (kind : Kind) (ws : List Write) (m : Objects) (old new : List Key) → Certificate ≡ kind → StandUnderNamed Certificate ws m → AddsStanding m old new → AreNamed kind ws old → AreNamed kind ws new
+pub named_with : (kind : Kind) (ws : List Write) (m : Objects) (old new : List Key) → Certificate ≡ kind → ExistUnderNamed Certificate ws m → AddsExisting m old new → AreNamed kind ws old → AreNamed kind ws new
 named_with kind ws m old new work stand adds named k among =
     elim (adds k among) [ inl had ↦ named k had | inr stands ↦ subst (λ (x : Kind). (k.kind ≡ x) × (is_known k ws ≡ true)) work (stand k stands) ]
 

@@ -15,7 +15,7 @@ use Rattle.cmc_objects.specs.Watching.{works_on_requests, looks_at_secret, looks
 use Rattle.cmc_rules.specs.Viewing.{Caches, certificate_in, certificate_at, request_in, request_at, secret_in, target_at, next_in, owned_in, next_of, requests_of, has_next_label, of_certificate, views_of, views_in}
 use Rattle.cmc_informer.specs.Caches.{has_uid, is_owned_by, is_targeting}
 use Rattle.cmc_caches.proofs.Picking.{picked_alike}
-use Rattle.cmc_caches.specs.Affected.{AreListedBySecret, AreListedByUid, AreSameBut, AreSameButOf, IsForeign, SeesSame, SeesSameNext, SeesSameRequests, SeesSameTarget, is_among, is_one_of}
+use Rattle.cmc_caches.specs.Affected.{AreListedBySecret, AreListedByUid, AreSameBut, AreSameButOf, IsForeign, SeesSame, SeesSameNext, SeesSameRequests, SeesSameTarget, is_among, is_uid_among}
 
 -- ---- what a Certificate owns stays, where nothing that differs was or is its own
 
@@ -71,7 +71,7 @@ module _ (role : Role) (certificates m n : Objects) (keys : List Key) where
   foreign_to : (uids : List ℕ) → AreSameButOf uids m n → AreListedByUid certificates uids keys → (key : Key) (c : Certificate) → certificate_at certificates key ≡ Some c → is_among keys key ≡ false
       → (q : Key) → IsForeign c.meta.uid m n q
   foreign_to uids so listed key c at off =
-      so c.meta.uid (unlisted (is_one_of uids c.meta.uid) (is_among keys key) (λ on. listed c.meta.uid on key (has_its_uid (object_at certificates key) c at)) off)
+      so c.meta.uid (unlisted (is_uid_among uids c.meta.uid) (is_among keys key) (λ on. listed c.meta.uid on key (has_its_uid (object_at certificates key) c at)) off)
 
   pub sees_next : (uids : List ℕ) → AreSameButOf uids m n → AreListedByUid certificates uids keys → SeesSameNext role certificates keys m n
   sees_next uids so listed key c at off looks = picked_alike (next_in c) m n (λ q. next_alike c m n q (foreign_to uids so listed key c at off q))

@@ -15,7 +15,7 @@ use Rattle.cmc_model.specs.Replies.{put_at}
 use Rattle.cmc_model.proofs.Versions.{object_at-put}
 use Rattle.cmc_informer.specs.Caches.{is_owned_by, names}
 use Rattle.cmc_informer.proofs.OneMark.{same_key}
-use Rattle.cmc_caches.specs.Affected.{AddsOwners, AreSameBut, AreSameButOf, IsForeign, is_among, is_one_of, owners_of}
+use Rattle.cmc_caches.specs.Affected.{AddsOwners, AreSameBut, AreSameButOf, IsForeign, is_among, is_uid_among, owner_uids_of}
 
 -- ---- keys
 
@@ -30,11 +30,11 @@ same_more false m n next keys more key o is are so q off = so q (ap (λ (l : Lis
 
 -- ---- owners
 
-named_uids : (owners : List OwnerRef) (u : ℕ) → is_one_of (map (λ owner. owner.uid) owners) u ≡ names u owners
+named_uids : (owners : List OwnerRef) (u : ℕ) → is_uid_among (map (λ owner. owner.uid) owners) u ≡ names u owners
 named_uids [] u = refl
 named_uids (o ∷ os) u = ap (λ b. (o.uid == u) || b) (named_uids os u)
 
-owner_uids : (o : Option Object) (u : ℕ) → is_one_of (owners_of o) u ≡ is_owned_by u o
+owner_uids : (o : Option Object) (u : ℕ) → is_uid_among (owner_uids_of o) u ≡ is_owned_by u o
 owner_uids None u = refl
 owner_uids (Some o) u = named_uids (meta_of o).owners u
 
@@ -46,8 +46,8 @@ foreign_by false m n next key o u q e at before after (inr off) = inr (off.0, ap
 
 foreign_on : (m n : Objects) (uids more : List ℕ) (key : Key) (o : Option Object) → AddsOwners (object_at m key) o uids more → AreSameButOf uids m n → AreSameButOf more m (put_at n key o)
 foreign_on m n uids more key o adds so u off q =
-    let parts = or_parts (is_one_of uids u) (is_one_of (owners_of (object_at m key)) u || is_one_of (owners_of o) u) (sym (adds u) ∙ off) in
-    let both = or_parts (is_one_of (owners_of (object_at m key)) u) (is_one_of (owners_of o) u) parts.1 in
+    let parts = or_parts (is_uid_among uids u) (is_uid_among (owner_uids_of (object_at m key)) u || is_uid_among (owner_uids_of o) u) (sym (adds u) ∙ off) in
+    let both = or_parts (is_uid_among (owner_uids_of (object_at m key)) u) (is_uid_among (owner_uids_of o) u) parts.1 in
     foreign_by (is_eq (key_cmp q key)) m n (put_at n key o) key o u q refl (object_at-put n key o q) (sym (owner_uids (object_at m key) u) ∙ both.0) (sym (owner_uids o u) ∙ both.1) (so u parts.0 q)
 
 -- One write more: the owners of what it leaves are listed, and those of what stood at first. What stood just before it was left by one of the

@@ -39,8 +39,8 @@ abbrev pub AreLeft : Kind → List Write → Objects → Type 0
 AreLeft kind ws objects = (p : ℕ) × (objects ≡ left_by ws kind p)
 
 -- each key under which something stands is one of the kind, and one of the writes names it
-abbrev pub StandUnderNamed : Kind → List Write → Objects → Type 0
-StandUnderNamed kind ws objects = (key : Key) → is_some (object_at objects key) ≡ true → (key.kind ≡ kind) × (is_known key ws ≡ true)
+abbrev pub ExistUnderNamed : Kind → List Write → Objects → Type 0
+ExistUnderNamed kind ws objects = (key : Key) → is_some (object_at objects key) ≡ true → (key.kind ≡ kind) × (is_known key ws ≡ true)
 
 -- no uid was ever given under two keys
 abbrev pub HaveOwnUids : List Write → Type 0
@@ -56,17 +56,17 @@ IsEachUidOfOneKey objects = (uid : ℕ) (j k : Key) → has_uid uid (object_at o
 abbrev pub AreSameBut : List Key → Objects → Objects → Type 0
 AreSameBut keys m n = (key : Key) → is_among keys key ≡ false → object_at m key ≡ object_at n key
 
-abbrev pub is_one_of : List ℕ → ℕ → Bool
-is_one_of uids uid = list_any (λ u. u == uid) uids
+abbrev pub is_uid_among : List ℕ → ℕ → Bool
+is_uid_among uids uid = list_any (λ u. u == uid) uids
 
 -- the uids that an object names as its owners
-abbrev pub owners_of : Option Object → List ℕ
-owners_of None = []
-owners_of (Some o) = map (λ owner. owner.uid) (meta_of o).owners
+abbrev pub owner_uids_of : Option Object → List ℕ
+owner_uids_of None = []
+owner_uids_of (Some o) = map (λ owner. owner.uid) (meta_of o).owners
 
 -- the owners of both are added to these uids, and no other
 abbrev pub AddsOwners : Option Object → Option Object → List ℕ → List ℕ → Type 0
-AddsOwners before after old new = (uid : ℕ) → is_one_of new uid ≡ (is_one_of old uid || (is_one_of (owners_of before) uid || is_one_of (owners_of after) uid))
+AddsOwners before after old new = (uid : ℕ) → is_uid_among new uid ≡ (is_uid_among old uid || (is_uid_among (owner_uids_of before) uid || is_uid_among (owner_uids_of after) uid))
 
 -- what stands under the key is the same, or belongs to the uid in neither
 abbrev pub IsForeign : ℕ → Objects → Objects → Key → Type 0
@@ -74,7 +74,7 @@ IsForeign uid m n key = (object_at m key ≡ object_at n key) ⊎ ((is_owned_by 
 
 -- what differs belongs, before or after, to none but these uids
 abbrev pub AreSameButOf : List ℕ → Objects → Objects → Type 0
-AreSameButOf uids m n = (uid : ℕ) → is_one_of uids uid ≡ false → (key : Key) → IsForeign uid m n key
+AreSameButOf uids m n = (uid : ℕ) → is_uid_among uids uid ≡ false → (key : Key) → IsForeign uid m n key
 
 -- ---- which Certificates are listed
 
@@ -83,13 +83,13 @@ abbrev pub KeepsKeys : List Key → List Key → Type 0
 KeepsKeys old new = (key : Key) → is_among old key ≡ true → is_among new key ≡ true
 
 -- what is added are keys under which something stands
-abbrev pub AddsStanding : Objects → List Key → List Key → Type 0
-AddsStanding certificates old new = (key : Key) → is_among new key ≡ true → (is_among old key ≡ true) ⊎ (is_some (object_at certificates key) ≡ true)
+abbrev pub AddsExisting : Objects → List Key → List Key → Type 0
+AddsExisting certificates old new = (key : Key) → is_among new key ≡ true → (is_among old key ≡ true) ⊎ (is_some (object_at certificates key) ≡ true)
 
 -- the keys of all objects that have one of the uids are
 abbrev pub AreListedByUid : Objects → List ℕ → List Key → Type 0
 AreListedByUid certificates uids keys =
-    (uid : ℕ) → is_one_of uids uid ≡ true → (key : Key) → has_uid uid (object_at certificates key) ≡ true → is_among keys key ≡ true
+    (uid : ℕ) → is_uid_among uids uid ≡ true → (key : Key) → has_uid uid (object_at certificates key) ≡ true → is_among keys key ≡ true
 
 -- the keys of all Certificates that name one of the Secrets are
 abbrev pub AreListedBySecret : Objects → List Key → List Key → Type 0

@@ -10,18 +10,18 @@ use Rattle.cmc_model.specs.Objects.{Objects, no_objects}
 use Rattle.cmc_model.specs.Writes.{contents, oldest, of_kind}
 use Rattle.cmc_rules.specs.Viewing.{Caches}
 
-abbrev pub nothing_told : Caches
-nothing_told = record { certificates = no_objects; requests = no_objects; secrets = no_objects }
+abbrev pub empty_caches : Caches
+empty_caches = record { certificates = no_objects; requests = no_objects; secrets = no_objects }
 
 -- the rows stand in the order of roles
 unfoldable pub caches_of : List Caches → Role → Caches
-caches_of rows role = slice_index_or rows (role_rank role) nothing_told
+caches_of rows role = slice_index_or rows (role_rank role) empty_caches
 
 -- the objects of the kind
-abbrev pub cached : Kind → Caches → Objects
-cached Certificate c = c.certificates
-cached CertificateRequest c = c.requests
-cached Secret c = c.secrets
+abbrev pub cache_of : Kind → Caches → Objects
+cache_of Certificate c = c.certificates
+cache_of CertificateRequest c = c.requests
+cache_of Secret c = c.secrets
 
 -- the same, with these objects of the kind
 abbrev pub with_cached : Kind → Objects → Caches → Caches

@@ -3,8 +3,8 @@ ghost use Rattle.std.specs.Prelude.{◌≡◌, ◌≤◌, IfOk, OnOk, length, re
 ghost use Rattle.cmc_meta.specs.declared.key.Kind.TheVariants as kinds;
 ghost use Rattle.cmc_model.specs.Objects.{Objects};
 ghost use Rattle.cmc_objects.specs.Watching.{kind_of_work};
-ghost use Rattle.cmc_caches.specs.Told.{cached, with_cached};
-ghost use Rattle.cmc_caches.specs.Affected.{AreNamed, IsEachUidOfOneKey, KeepsKeys, SeesSame, SeesSameNext, SeesSameRequests, SeesSameTarget, StandUnderNamed, left_by};
+ghost use Rattle.cmc_caches.specs.Told.{cache_of, with_cached};
+ghost use Rattle.cmc_caches.specs.Affected.{AreNamed, IsEachUidOfOneKey, KeepsKeys, SeesSame, SeesSameNext, SeesSameRequests, SeesSameTarget, ExistUnderNamed, left_by};
 
 use crate::listed::{add_naming_all, add_with_uids};
 use crate::touched::{touched_owners, written_keys};
@@ -47,7 +47,7 @@ fn by_owned_requests(
     requires above { from ≤ to }
     requires within { to ≤ length writes.now }
     requires holds { requests.now ≡ left_by writes.now kinds.CertificateRequest from }
-    requires named { StandUnderNamed kinds.Certificate (reverse writes.now) certificates.now }
+    requires named { ExistUnderNamed kinds.Certificate (reverse writes.now) certificates.now }
     requires uids { IsEachUidOfOneKey certificates.now }
     ensures work { IfOk result (λ keys. AreNamed (kind_of_work role) (reverse writes.now) keys.items) }
     ensures sees { IfOk result (λ keys. SeesSameRequests role certificates.now keys.items (left_by writes.now kinds.CertificateRequest from) (left_by writes.now kinds.CertificateRequest to)) }
@@ -74,7 +74,7 @@ fn by_requests(
     requires above { from ≤ to }
     requires within { to ≤ length writes.now }
     requires holds { requests.now ≡ left_by writes.now kinds.CertificateRequest from }
-    requires named { StandUnderNamed kinds.Certificate (reverse writes.now) certificates.now }
+    requires named { ExistUnderNamed kinds.Certificate (reverse writes.now) certificates.now }
     requires uids { IsEachUidOfOneKey certificates.now }
     ensures work { IfOk result (λ keys. AreNamed (kind_of_work role) (reverse writes.now) keys.items) }
     ensures sees { IfOk result (λ keys. (secrets : Objects) → SeesSame role keys.items (record { certificates = certificates.now; requests = left_by writes.now kinds.CertificateRequest from; secrets = secrets }) (record { certificates = certificates.now; requests = left_by writes.now kinds.CertificateRequest to; secrets = secrets })) }
@@ -99,7 +99,7 @@ fn by_next_keys(
     requires above { from ≤ to }
     requires within { to ≤ length writes.now }
     requires holds { secrets.now ≡ left_by writes.now kinds.Secret from }
-    requires named { StandUnderNamed kinds.Certificate (reverse writes.now) certificates.now }
+    requires named { ExistUnderNamed kinds.Certificate (reverse writes.now) certificates.now }
     requires uids { IsEachUidOfOneKey certificates.now }
     ensures work { IfOk result (λ keys. AreNamed (kind_of_work role) (reverse writes.now) keys.items) }
     ensures sees { IfOk result (λ keys. SeesSameNext role certificates.now keys.items (left_by writes.now kinds.Secret from) (left_by writes.now kinds.Secret to)) }
@@ -126,7 +126,7 @@ fn add_by_targets(
 ) -> Result<(), AllocError>
     requires above { from ≤ to }
     requires within { to ≤ length writes.now }
-    requires named { StandUnderNamed kinds.Certificate (reverse writes.now) certificates.now }
+    requires named { ExistUnderNamed kinds.Certificate (reverse writes.now) certificates.now }
     ensures work { OnOk result (AreNamed (kind_of_work role) (reverse writes.now) keys.old.items → AreNamed (kind_of_work role) (reverse writes.now) keys.new.items) }
     ensures sees { OnOk result (SeesSameTarget role certificates.now keys.new.items (left_by writes.now kinds.Secret from) (left_by writes.now kinds.Secret to)) }
     ensures keeps { OnOk result (KeepsKeys keys.old.items keys.new.items) }
@@ -151,7 +151,7 @@ fn by_secrets(
     requires above { from ≤ to }
     requires within { to ≤ length writes.now }
     requires holds { secrets.now ≡ left_by writes.now kinds.Secret from }
-    requires named { StandUnderNamed kinds.Certificate (reverse writes.now) certificates.now }
+    requires named { ExistUnderNamed kinds.Certificate (reverse writes.now) certificates.now }
     requires uids { IsEachUidOfOneKey certificates.now }
     ensures work { IfOk result (λ keys. AreNamed (kind_of_work role) (reverse writes.now) keys.items) }
     ensures sees { IfOk result (λ keys. (requests : Objects) → SeesSame role keys.items (record { certificates = certificates.now; requests = requests; secrets = left_by writes.now kinds.Secret from }) (record { certificates = certificates.now; requests = requests; secrets = left_by writes.now kinds.Secret to })) }
@@ -176,8 +176,8 @@ pub(crate) fn affected_on(
 ) -> Result<Vec<Key>, AllocError>
     requires above { from ≤ to }
     requires within { to ≤ length writes.now }
-    requires holds { cached kind (record { certificates = certificates.now; requests = requests.now; secrets = secrets.now }) ≡ left_by writes.now kind from }
-    requires named { StandUnderNamed kinds.Certificate (reverse writes.now) certificates.now }
+    requires holds { cache_of kind (record { certificates = certificates.now; requests = requests.now; secrets = secrets.now }) ≡ left_by writes.now kind from }
+    requires named { ExistUnderNamed kinds.Certificate (reverse writes.now) certificates.now }
     requires uids { IsEachUidOfOneKey certificates.now }
     ensures work { IfOk result (λ keys. AreNamed (kind_of_work role) (reverse writes.now) keys.items) }
     ensures sees { IfOk result (λ keys. SeesSame role keys.items (record { certificates = certificates.now; requests = requests.now; secrets = secrets.now }) (with_cached kind (left_by writes.now kind to) (record { certificates = certificates.now; requests = requests.now; secrets = secrets.now }))) }

@@ -5,7 +5,7 @@ ghost use Rattle.cmc_model.specs.Histories.{role_eq};
 ghost use Rattle.cmc_model.specs.Writes as spec;
 ghost use Rattle.cmc_objects.specs.Watching.{kind_of_work};
 ghost use Rattle.cmc_rules.specs.Viewing.{views_in};
-ghost use Rattle.cmc_caches.specs.Told.{cached, caches_of, nothing_told, with_cached};
+ghost use Rattle.cmc_caches.specs.Told.{cache_of, caches_of, empty_caches, with_cached};
 ghost use Rattle.cmc_meta.specs.declared.key.Kind.TheVariants as kinds;
 ghost use Rattle.cmc_caches.specs.Affected.{AreLeft, AreNamed, HaveOwnUids, SeesSame};
 
@@ -57,7 +57,7 @@ fn put_row<T: Drop>(rows: &mut Vec<T>, place: usize, row: T)
 impl Caches {
     /// No role was told of anything. An `Err` is want of memory.
     pub fn new(alloc: Global) -> Result<Caches, AllocError>
-        ensures { IfOk result (λ c. (r : RoleValue) → caches_of c r ≡ nothing_told) }
+        ensures { IfOk result (λ c. (r : RoleValue) → caches_of c r ≡ empty_caches) }
     {
         Caches::seeded(alloc, HashSeed::fixed())
     }
@@ -65,7 +65,7 @@ impl Caches {
     /// The same, where keys and uids are hashed by the seed.
     #[tactic(auto, unfolding(crate::specs::Told::caches_of))]
     pub fn seeded(alloc: Global, seed: HashSeed) -> Result<Caches, AllocError>
-        ensures { IfOk result (λ c. (r : RoleValue) → caches_of c r ≡ nothing_told) }
+        ensures { IfOk result (λ c. (r : RoleValue) → caches_of c r ≡ empty_caches) }
     {
         let rows = vec![in alloc;
             RoleCaches::new(alloc, seed),
@@ -99,7 +99,7 @@ impl Caches {
     ) -> Result<(), AllocError>
         requires above { from ≤ to }
         requires within { to ≤ length writes.now }
-        requires holds { cached kind (caches_of self.old role) ≡ spec.contents (spec.of_kind kind (spec.oldest from (reverse writes.now))) }
+        requires holds { cache_of kind (caches_of self.old role) ≡ spec.contents (spec.of_kind kind (spec.oldest from (reverse writes.now))) }
         ensures ok { OnOk result ((r : RoleValue) → caches_of self.new r ≡ (if role_eq role r then with_cached kind (spec.contents (spec.of_kind kind (spec.oldest to (reverse writes.now)))) (caches_of self.old role) else caches_of self.old r)) }
         ensures err { OnErr result (self.new ≡ self.old) }
     {
@@ -143,8 +143,8 @@ impl Caches {
     ) -> Result<Vec<Key>, AllocError>
         requires above { from ≤ to }
         requires within { to ≤ length writes.now }
-        requires holds { cached kind (caches_of self.now role) ≡ spec.contents (spec.of_kind kind (spec.oldest from (reverse writes.now))) }
-        requires certificates { AreLeft kinds.Certificate writes.now (cached kinds.Certificate (caches_of self.now role)) }
+        requires holds { cache_of kind (caches_of self.now role) ≡ spec.contents (spec.of_kind kind (spec.oldest from (reverse writes.now))) }
+        requires certificates { AreLeft kinds.Certificate writes.now (cache_of kinds.Certificate (caches_of self.now role)) }
         requires uids { HaveOwnUids (reverse writes.now) }
         ensures work { IfOk result (λ keys. AreNamed (kind_of_work role) (reverse writes.now) keys.items) }
         ensures sees { IfOk result (λ keys. SeesSame role keys.items (caches_of self.now role) (with_cached kind (spec.contents (spec.of_kind kind (spec.oldest to (reverse writes.now)))) (caches_of self.now role))) }

@@ -4,8 +4,8 @@ ghost use Rattle.cmc_meta.specs.declared.key.Kind.TheVariants as kinds;
 ghost use Rattle.cmc_model.specs.Writes as spec;
 ghost use Rattle.cmc_objects.specs.Watching.{kind_of_work};
 ghost use Rattle.cmc_rules.specs.Viewing.{views_in};
-ghost use Rattle.cmc_caches.specs.Told.{cached, caches_at, nothing_told, with_cached};
-ghost use Rattle.cmc_caches.specs.Affected.{AreNamed, IsEachUidOfOneKey, SeesSame, StandUnderNamed};
+ghost use Rattle.cmc_caches.specs.Told.{cache_of, caches_at, empty_caches, with_cached};
+ghost use Rattle.cmc_caches.specs.Affected.{AreNamed, IsEachUidOfOneKey, SeesSame, ExistUnderNamed};
 
 use crate::affected::affected_on;
 use crate::viewing::views_on;
@@ -66,7 +66,7 @@ fn listed(
 impl RoleCaches {
     /// Nothing was told of any kind, and keys and uids are hashed by the seed. It takes no memory.
     pub fn new(alloc: Global, seed: HashSeed) -> RoleCaches
-        ensures { result ≡ nothing_told }
+        ensures { result ≡ empty_caches }
     {
         RoleCaches {
             certificates: Cache::seeded(alloc, seed),
@@ -113,7 +113,7 @@ impl RoleCaches {
     ) -> Result<(), AllocError>
         requires above { from ≤ to }
         requires within { to ≤ length writes.now }
-        requires holds { cached kind self.old ≡ spec.contents (spec.of_kind kind (spec.oldest from (reverse writes.now))) }
+        requires holds { cache_of kind self.old ≡ spec.contents (spec.of_kind kind (spec.oldest from (reverse writes.now))) }
         ensures ok { OnOk result (self.new ≡ with_cached kind (spec.contents (spec.of_kind kind (spec.oldest to (reverse writes.now)))) self.old) }
         ensures err { OnErr result (self.new ≡ self.old) }
     {
@@ -152,8 +152,8 @@ impl RoleCaches {
     ) -> Result<Vec<Key>, AllocError>
         requires above { from ≤ to }
         requires within { to ≤ length writes.now }
-        requires holds { cached kind self.now ≡ spec.contents (spec.of_kind kind (spec.oldest from (reverse writes.now))) }
-        requires named { StandUnderNamed kinds.Certificate (reverse writes.now) self.now.certificates }
+        requires holds { cache_of kind self.now ≡ spec.contents (spec.of_kind kind (spec.oldest from (reverse writes.now))) }
+        requires named { ExistUnderNamed kinds.Certificate (reverse writes.now) self.now.certificates }
         requires uids { IsEachUidOfOneKey self.now.certificates }
         ensures work { IfOk result (λ keys. AreNamed (kind_of_work role) (reverse writes.now) keys.items) }
         ensures sees { IfOk result (λ keys. SeesSame role keys.items self.now (with_cached kind (spec.contents (spec.of_kind kind (spec.oldest to (reverse writes.now)))) self.now)) }

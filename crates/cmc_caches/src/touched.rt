@@ -3,7 +3,7 @@ ghost use Rattle.std.specs.Option.{option_copied};
 ghost use Rattle.std.specs.Prelude.{◌≡◌, ◌≤◌, ◌++◌, ◌∷◌, [], IfOk, OnOk, length, map, reverse, true, false, if◌then◌else◌};
 ghost use Rattle.cmc_model.specs.Objects.{object_at};
 ghost use Rattle.cmc_model.specs.Writes as spec;
-ghost use Rattle.cmc_caches.specs.Affected.{AddsOwners, AreNamed, AreSameBut, AreSameButOf, left_by, owners_of};
+ghost use Rattle.cmc_caches.specs.Affected.{AddsOwners, AreNamed, AreSameBut, AreSameButOf, left_by, owner_uids_of};
 
 use cmc_informer::Cache;
 use cmc_meta::{Key, Kind, Numbers, OwnerRef};
@@ -51,7 +51,7 @@ fn add_uids(uids: &mut Numbers, owners: &[OwnerRef]) -> Result<(), AllocError>
 }
 
 fn add_owners(uids: &mut Numbers, object: Option<&Object>) -> Result<(), AllocError>
-    ensures { OnOk result (uids.new ≡ uids.old ++ owners_of (option_copied object.entry)) }
+    ensures { OnOk result (uids.new ≡ uids.old ++ owner_uids_of (option_copied object.entry)) }
 {
     match object {
         Some(object) => add_uids(uids, object.meta().owners.as_slice()),
@@ -61,7 +61,7 @@ fn add_owners(uids: &mut Numbers, object: Option<&Object>) -> Result<(), AllocEr
 
 /// Whether both stand and have the same owners.
 fn have_same_owners(before: Option<&Object>, after: Option<&Object>) -> bool
-    ensures { result ≡ true → owners_of (option_copied before.entry) ≡ owners_of (option_copied after.entry) }
+    ensures { result ≡ true → owner_uids_of (option_copied before.entry) ≡ owner_uids_of (option_copied after.entry) }
 {
     match (before, after) {
         (Some(before), Some(after)) => before.meta().owners.same(&after.meta().owners),

@@ -15,7 +15,7 @@ use Rattle.cmc_print.specs.Puts.{base64_text, map_tree, put_all}
 use Rattle.cmc_print.specs.Printed.{owner_tree, owners_tree, meta_members, meta_tree}
 use Rattle.cmc_print.specs.Words.{uid_text}
 use Rattle.cmc_codec.specs.Given.{given_or}
-use Rattle.cmc_codec.specs.MetadataForm.{sought_member, sought_or, sought_needed, uid_in, owner_kind, owner_uid, kept_owner, owner_in, owner_at, with_owner, owners_from, owners_at, new_meta, labelled_in, placed_in, head_at}
+use Rattle.cmc_codec.specs.MetadataForm.{sought_member, sought_or, sought_needed, uid_in, owner_kind, owner_uid, kept_owner, owner_in, owner_at, with_owner, owners_from, owners_at, unstored_meta, labelled_in, placed_in, head_at}
 use Rattle.cmc_codec.specs.declared.metadata_in.Head.{Head}
 use Rattle.cmc_codec.specs.declared.metadata_in.Labelled.{Labelled}
 use Rattle.cmc_codec.specs.declared.metadata_in.Placed.{Placed}
@@ -149,7 +149,7 @@ pub record IsMeta (m : ObjectMeta) : Type 0 where
   pub labels : IsOrdered m.labels
   pub annotations : IsOrdered m.annotations
   pub owners : AreListed m.owners
-  pub new : new_meta m.namespace m.name m.labels m.annotations m.owners ≡ m
+  pub new : unstored_meta m.namespace m.name m.labels m.annotations m.owners ≡ m
 
 abbrev pub meta_places : Option Data → Option Data → Option Data → Option Data → Option Data → List (List ℕ × Option Data)
 meta_places annotations labels name namespace owners = (codes "annotations", annotations) ∷ (codes "labels", labels) ∷ (codes "name", name) ∷ (codes "namespace", namespace) ∷ (codes "ownerReferences", owners) ∷ []

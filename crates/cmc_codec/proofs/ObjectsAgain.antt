@@ -16,10 +16,10 @@ use Rattle.cmc_cursor.specs.Reading.{Read, Field, fields_at, fields_of, optional
 use Rattle.cmc_cursor.specs.Readers.{text_at, word_at, bytes_at, parts_at, passes, text_member}
 use Rattle.cmc_print.specs.Puts.{base64_text, map_tree}
 use Rattle.cmc_print.specs.Printed.{meta_tree, spec_tree, request_tree, status_members, put_moments, request_status_members, head_members, object_tree}
-use Rattle.cmc_codec.specs.Given.{member_or, needed_at}
+use Rattle.cmc_codec.specs.Given.{next_member_or, needed_at}
 use Rattle.cmc_codec.specs.MetadataForm.{head_at}
 use Rattle.cmc_codec.specs.CertificateForm.{api_at, spec_at, api_request_spec_at}
-use Rattle.cmc_codec.specs.ObjectForm.{status_last, certificate_in, request_in, secret_in, any_version_at, stranger_in, object_in, applied_at, object_at}
+use Rattle.cmc_codec.specs.ObjectForm.{status_last, applied_certificate_in, applied_request_in, applied_secret_in, any_version_at, stranger_in, object_in, applied_at, object_read_at}
 use Rattle.cmc_codec.specs.Laws.{EachValue, HasBytes}
 use Rattle.cmc_codec.specs.declared.certificate_in.Api.TheVariants.{V1}
 use Rattle.cmc_codec.specs.declared.object_in.Applied.{Applied}
@@ -60,8 +60,8 @@ certificate_printed : (m : ObjectMeta) (s : CertSpec) → object_tree (new_certi
 unfolding object_tree head_members status_members put_moments
 certificate_printed m s = refl
 
-certificate_again : (m : ObjectMeta) (s : CertSpec) → IsMeta m → IsSpec s → certificate_in (fields_of (slots (certificate_places m s))) ≡ Ok (bare (new_certificate m s))
-unfolding certificate_in
+certificate_again : (m : ObjectMeta) (s : CertSpec) → IsMeta m → IsSpec s → applied_certificate_in (fields_of (slots (certificate_places m s))) ≡ Ok (bare (new_certificate m s))
+unfolding applied_certificate_in
 certificate_again m s is_meta is_spec =
     let ps = certificate_places m s in
     (bind _ _ _ _ (needed_is api_at (codes "apiVersion") (string (codes "cert-manager.io/v1")) (drop 1 ps) V1 refl refl)
@@ -82,8 +82,8 @@ request_printed : (m : ObjectMeta) (s : RequestSpec) → object_tree (new_reques
 unfolding object_tree head_members request_status_members
 request_printed m s = refl
 
-request_in_again : (m : ObjectMeta) (s : RequestSpec) → IsMeta m → IsRequestSpec s → request_in (fields_of (slots (request_places m s))) ≡ Ok (bare (new_request m s))
-unfolding request_in
+request_in_again : (m : ObjectMeta) (s : RequestSpec) → IsMeta m → IsRequestSpec s → applied_request_in (fields_of (slots (request_places m s))) ≡ Ok (bare (new_request m s))
+unfolding applied_request_in
 request_in_again m s is_meta is_spec =
     let ps = request_places m s in
     (bind _ _ _ _ (needed_is api_at (codes "apiVersion") (string (codes "cert-manager.io/v1")) (drop 1 ps) V1 refl refl)
@@ -112,8 +112,8 @@ pub is_secret : (m : ObjectMeta) (t : List ℕ) (given : Option Data) → text_m
 is_secret m t None = refl
 is_secret m t (Some d) = refl
 
-secret_again : (m : ObjectMeta) (t : List ℕ) (parts : Entries) → IsMeta m → parts_at (map_tree base64_text parts) ≡ Ok parts → secret_in (fields_of (slots (places_of m t parts))) ≡ Ok (bare (new_secret m t parts))
-unfolding secret_in
+secret_again : (m : ObjectMeta) (t : List ℕ) (parts : Entries) → IsMeta m → parts_at (map_tree base64_text parts) ≡ Ok parts → applied_secret_in (fields_of (slots (places_of m t parts))) ≡ Ok (bare (new_secret m t parts))
+unfolding applied_secret_in
 secret_again m t parts is_meta are_parts =
     let ps = places_of m t parts in
     (bind _ _ _ _ (needed_is (word_at (codes "v1")) (codes "apiVersion") (string (codes "v1")) (drop 1 ps) tt refl refl)
@@ -139,30 +139,30 @@ parts_are (e ∷ es) are = (bytes_again e.1 are.0, parts_are es are.1)
 abbrev IsAgain : Applied → Type 0
 IsAgain a = HasBytes a.object → applied_at (object_tree a.object) ≡ Ok (bare a.object)
 
-certificate_so : (fs : List Field) → Always IsAgain (certificate_in fs)
-unfolding certificate_in
+certificate_so : (fs : List Field) → Always IsAgain (applied_certificate_in fs)
+unfolding applied_certificate_in
 certificate_so fs =
     next IsAgain (needed_at api_at (codes "apiVersion") fs) _ (λ api. next IsAgain (required_at (codes "kind") api.1) _
     (λ kind. after _ IsAgain (needed_at head_at (codes "metadata") kind.1) _ (needed_so (λ h. IsMeta h.meta) head_at (codes "metadata") kind.1 head_so)
     (λ head is_head. after _ IsAgain (needed_at (spec_at api.0) (codes "spec") head.1) _ (needed_so IsSpec (spec_at api.0) (codes "spec") head.1 (spec_so api.0))
     (λ spec is_spec. next IsAgain (status_last spec.1) _ (λ end. so (λ bytes. certificate_whole _ _ is_head is_spec))))))
 
-request_so : (fs : List Field) → Always IsAgain (request_in fs)
-unfolding request_in
+request_so : (fs : List Field) → Always IsAgain (applied_request_in fs)
+unfolding applied_request_in
 request_so fs =
     next IsAgain (needed_at api_at (codes "apiVersion") fs) _ (λ api. next IsAgain (required_at (codes "kind") api.1) _
     (λ kind. after _ IsAgain (needed_at head_at (codes "metadata") kind.1) _ (needed_so (λ h. IsMeta h.meta) head_at (codes "metadata") kind.1 head_so)
     (λ head is_head. after _ IsAgain (needed_at (api_request_spec_at api.0) (codes "spec") head.1) _ (needed_so IsRequest (api_request_spec_at api.0) (codes "spec") head.1 (api_request_so api.0))
     (λ spec is_spec. next IsAgain (status_last spec.1) _ (λ end. so (λ bytes. request_whole _ _ is_head (is_spec (bytes_again _ bytes))))))))
 
-secret_so : (fs : List Field) → Always IsAgain (secret_in fs)
-unfolding secret_in
+secret_so : (fs : List Field) → Always IsAgain (applied_secret_in fs)
+unfolding applied_secret_in
 secret_so fs =
-    next IsAgain (needed_at (word_at (codes "v1")) (codes "apiVersion") fs) _ (λ api. after _ IsAgain (member_or [] parts_at (codes "data") api.1) _ (member_or_so IsOrdered [] parts_at (codes "data") api.1 tt parts_in_order)
+    next IsAgain (needed_at (word_at (codes "v1")) (codes "apiVersion") fs) _ (λ api. after _ IsAgain (next_member_or [] parts_at (codes "data") api.1) _ (member_or_so IsOrdered [] parts_at (codes "data") api.1 tt parts_in_order)
     (λ parts are_parts. next IsAgain (required_at (codes "kind") parts.1) _
     (λ kind. after _ IsAgain (needed_at head_at (codes "metadata") kind.1) _ (needed_so (λ h. IsMeta h.meta) head_at (codes "metadata") kind.1 head_so)
     (λ head is_head. next IsAgain (optional_at (codes "status") head.1) _ (λ status. next IsAgain (passes (codes "status") status.0) _
-    (λ _. next IsAgain (member_or (codes "Opaque") text_at (codes "type") status.1) _
+    (λ _. next IsAgain (next_member_or (codes "Opaque") text_at (codes "type") status.1) _
     (λ type. next IsAgain (at_end type.1) _ (λ end. so (λ bytes. secret_whole _ _ _ is_head (parts_again _ are_parts (parts_are _ bytes)))))))))))
 
 stranger_so : (fs : List Field) → Always IsAgain (stranger_in fs)
@@ -178,20 +178,20 @@ either false x y first second = second
 object_so : (kind : Option (List ℕ)) (fs : List Field) → Always IsAgain (object_in kind fs)
 object_so None fs = stranger_so fs
 object_so (Some kind) fs =
-    either (bytes_eq kind (codes "Certificate")) (certificate_in fs) (if bytes_eq kind (codes "CertificateRequest") then request_in fs else (if bytes_eq kind (codes "Secret") then secret_in fs else stranger_in fs)) (certificate_so fs)
-    (either (bytes_eq kind (codes "CertificateRequest")) (request_in fs) (if bytes_eq kind (codes "Secret") then secret_in fs else stranger_in fs) (request_so fs)
-    (either (bytes_eq kind (codes "Secret")) (secret_in fs) (stranger_in fs) (secret_so fs) (stranger_so fs)))
+    either (bytes_eq kind (codes "Certificate")) (applied_certificate_in fs) (if bytes_eq kind (codes "CertificateRequest") then applied_request_in fs else (if bytes_eq kind (codes "Secret") then applied_secret_in fs else stranger_in fs)) (certificate_so fs)
+    (either (bytes_eq kind (codes "CertificateRequest")) (applied_request_in fs) (if bytes_eq kind (codes "Secret") then applied_secret_in fs else stranger_in fs) (request_so fs)
+    (either (bytes_eq kind (codes "Secret")) (applied_secret_in fs) (stranger_in fs) (secret_so fs) (stranger_so fs)))
 
 applied_so : (d : Data) → Always IsAgain (applied_at d)
 unfolding applied_at
 applied_so d = next IsAgain (fields_at d) (object_in (text_member (codes "kind") d)) (λ fs. object_so (text_member (codes "kind") d) fs)
 
 abbrev IsWholeAgain : Object → Type 0
-IsWholeAgain o = HasBytes o → object_at (object_tree o) ≡ Ok o
+IsWholeAgain o = HasBytes o → object_read_at (object_tree o) ≡ Ok o
 
 applied_alone : (a : Applied) → IsAgain a → IsWholeAgain a.object
 applied_alone a is bytes = rw (is bytes) refl
 
 -- what is printed of an object that was read is read again
-pub object_again : (d : Data) (o : Object) → object_at d ≡ Ok o → HasBytes o → object_at (object_tree o) ≡ Ok o
+pub object_again : (d : Data) (o : Object) → object_read_at d ≡ Ok o → HasBytes o → object_read_at (object_tree o) ≡ Ok o
 object_again d o e = (after IsAgain IsWholeAgain (applied_at d) (λ applied. Ok applied.object) (applied_so d) (λ a is. so (applied_alone a is))).each o e

@@ -10,7 +10,7 @@ use Rattle.cmc_cursor.specs.Readers.{found, name_at, short_text_at, small_count_
 use Rattle.cmc_print.specs.Trees.{natural}
 use Rattle.cmc_print.specs.Puts.{strings}
 use Rattle.cmc_print.specs.Printed.{duration_tree}
-use Rattle.cmc_codec.specs.Given.{worded_at, list_from, list_at, clean_text_at, duration_at, given_at, given_or, member_at, member_or, needed_at}
+use Rattle.cmc_codec.specs.Given.{worded_at, list_from, text_list_at, clean_text_at, duration_at, given_at, given_or, member_at, next_member_or, needed_at}
 use Rattle.cmc_codec.specs.MetadataForm.{sought_or, sought_needed}
 use Rattle.cmc_codec.specs.declared.given.Wording.{Wording}
 use Rattle.cmc_codec.specs.declared.given.Wording.TheVariants.{Any, Printable, Address}
@@ -64,7 +64,7 @@ list_from_only wording n (t ∷ ts) =
     only_then (under (decimal n) (worded_at wording (string t))) t _ (t ∷ ts) (only_below (decimal n) t (worded_at wording (string t)) (worded_only wording t))
     (only_then (list_from wording (n + 1) (items_of (map string ts))) ts _ (t ∷ ts) (list_from_only wording (n + 1) ts) (so refl))
 
-pub list_only : (wording : Wording) (ts : List (List ℕ)) → Only ts (list_at wording (strings ts))
+pub list_only : (wording : Wording) (ts : List (List ℕ)) → Only ts (text_list_at wording (strings ts))
 list_only wording ts = list_from_only wording 0 ts
 
 pub small_count_only : (n : ℕ) → Only n (small_count_at (natural n))
@@ -95,11 +95,11 @@ pub option_is : {A : Type 0} (read : Data → Read A) (tree : A → Data) (n : L
 option_is read tree n o back h only = rw (next_is n (some_option tree o) back h) (only_then _ o _ _ (option_given read tree n o only) (so refl))
 
 pub member_or_is : {A : Type 0} (absent : A) (read : Data → Read A) (n : List ℕ) (o : Option Data) (back : List (List ℕ × Option Data)) (x : A)
-    → is_next n back ≡ true → Only x (given_or absent read n o) → Only (x, fields_of (slots back)) (member_or absent read n (fields_of (slots ((n, o) ∷ back))))
+    → is_next n back ≡ true → Only x (given_or absent read n o) → Only (x, fields_of (slots back)) (next_member_or absent read n (fields_of (slots ((n, o) ∷ back))))
 member_or_is absent read n o back x h only = rw (next_is n o back h) (only_then _ x _ _ only (so refl))
 
 pub list_is : {A : Type 0} (read : Data → Read (List A)) (tree : List A → Data) (n : List ℕ) (xs : List A) (back : List (List ℕ × Option Data))
-    → is_next n back ≡ true → Only xs (read (tree xs)) → Only (xs, fields_of (slots back)) (member_or [] read n (fields_of (slots ((n, some_list tree xs) ∷ back))))
+    → is_next n back ≡ true → Only xs (read (tree xs)) → Only (xs, fields_of (slots back)) (next_member_or [] read n (fields_of (slots ((n, some_list tree xs) ∷ back))))
 list_is read tree n xs back h only = member_or_is [] read n (some_list tree xs) back xs h (list_given read tree n xs only)
 
 true_given : (n : List ℕ) (b : Bool) → Only b (given_or false flag_at n (some_true b))
@@ -107,7 +107,7 @@ true_given n false = so refl
 true_given n true = so refl
 
 pub true_is : (n : List ℕ) (b : Bool) (back : List (List ℕ × Option Data))
-    → is_next n back ≡ true → Only (b, fields_of (slots back)) (member_or false flag_at n (fields_of (slots ((n, some_true b) ∷ back))))
+    → is_next n back ≡ true → Only (b, fields_of (slots back)) (next_member_or false flag_at n (fields_of (slots ((n, some_true b) ∷ back))))
 true_is n b back h = member_or_is false flag_at n (some_true b) back b h (true_given n b)
 
 pub needed_is : {A : Type 0} (read : Data → Read A) (n : List ℕ) (d : Data) (back : List (List ℕ × Option Data)) (x : A)

@@ -24,7 +24,7 @@ use Rattle.cmc_print.specs.Printed.{owner_tree, owners_tree, meta_tree, spec_tre
 use Rattle.cmc_print.specs.Words.{uid_text}
 use Rattle.cmc_codec.specs.MetadataForm.{uid_in, kept_owner, owner_at, owners_from, owners_at, labelled_in, placed_in, head_at}
 use Rattle.cmc_codec.specs.CertificateForm.{api_at, spec_at, api_request_spec_at}
-use Rattle.cmc_codec.specs.ObjectForm.{status_last, certificate_in, request_in, secret_in, applied_at}
+use Rattle.cmc_codec.specs.ObjectForm.{status_last, applied_certificate_in, applied_request_in, applied_secret_in, applied_at}
 use Rattle.cmc_codec.specs.declared.certificate_in.Api.TheVariants.{V1}
 use Rattle.cmc_codec.specs.declared.object_in.Applied.{Applied}
 use Rattle.cmc_codec.specs.declared.metadata_in.Head.{Head}
@@ -118,8 +118,8 @@ certificate_printed c = ap object (certificate_with c.meta c.spec (status_member
 abbrev bare_certificate : CertificateObject → Object
 bare_certificate c = objects.Cert (record { meta = bare_meta c.meta; spec = c.spec; status = no_cert_status })
 
-certificate_in_only : (c : CertificateObject) (status : Option Data) → IsMetadata c.meta → IsLastingSpec c.spec → Only (alone (bare_certificate c)) (certificate_in (fields_of (slots (certificate_places c.meta c.spec status))))
-unfolding certificate_in
+certificate_in_only : (c : CertificateObject) (status : Option Data) → IsMetadata c.meta → IsLastingSpec c.spec → Only (alone (bare_certificate c)) (applied_certificate_in (fields_of (slots (certificate_places c.meta c.spec status))))
+unfolding applied_certificate_in
 certificate_in_only c status is_meta is_spec =
     let ps = certificate_places c.meta c.spec status in
     (only_then _ _ _ _ (needed_is api_at (codes "apiVersion") (string (codes "cert-manager.io/v1")) (drop 1 ps) V1 refl (so refl))
@@ -148,8 +148,8 @@ request_printed r = ap object (request_with r.meta r.spec (request_status_member
 abbrev bare_request : RequestObject → Object
 bare_request r = objects.Request (record { meta = bare_meta r.meta; spec = r.spec; status = no_request_status })
 
-request_in_only : (r : RequestObject) (status : Option Data) → IsMetadata r.meta → FitsSeconds r.spec.duration → IsBytes r.spec.request → Only (alone (bare_request r)) (request_in (fields_of (slots (request_places r.meta r.spec status))))
-unfolding request_in
+request_in_only : (r : RequestObject) (status : Option Data) → IsMetadata r.meta → FitsSeconds r.spec.duration → IsBytes r.spec.request → Only (alone (bare_request r)) (applied_request_in (fields_of (slots (request_places r.meta r.spec status))))
+unfolding applied_request_in
 request_in_only r status is_meta lasts bytes =
     let ps = request_places r.meta r.spec status in
     (only_then _ _ _ _ (needed_is api_at (codes "apiVersion") (string (codes "cert-manager.io/v1")) (drop 1 ps) V1 refl (so refl))
@@ -167,8 +167,8 @@ request_object_only r is_meta lasts bytes = rw (request_printed r) (request_in_o
 abbrev bare_secret : SecretObject → Object
 bare_secret s = objects.Secret (record { meta = bare_meta s.meta; kind_text = s.kind_text; parts = s.parts })
 
-secret_in_only : (s : SecretObject) → IsMetadata s.meta → parts_at (map_tree base64_text s.parts) ≡ Ok s.parts → Only (alone (bare_secret s)) (secret_in (fields_of (slots (whole.places_of s.meta s.kind_text s.parts))))
-unfolding secret_in
+secret_in_only : (s : SecretObject) → IsMetadata s.meta → parts_at (map_tree base64_text s.parts) ≡ Ok s.parts → Only (alone (bare_secret s)) (applied_secret_in (fields_of (slots (whole.places_of s.meta s.kind_text s.parts))))
+unfolding applied_secret_in
 secret_in_only s is_meta are_parts =
     let ps = whole.places_of s.meta s.kind_text s.parts in
     (only_then _ _ _ _ (needed_is (word_at (codes "v1")) (codes "apiVersion") (string (codes "v1")) (drop 1 ps) tt refl (so refl))

@@ -18,9 +18,9 @@ use Rattle.cmc_print.specs.Trees.{natural}
 use Rattle.cmc_print.specs.Words.{algorithm_name, encoding_name, rotation_name}
 use Rattle.cmc_print.specs.Puts.{strings, base64_text}
 use Rattle.cmc_print.specs.Printed.{duration_tree, issuer_tree, key_members, put_references, put_names, put_terms, spec_tree, request_tree}
-use Rattle.cmc_codec.specs.Given.{list_at, clean_text_at, duration_at, choice_at, given_or}
+use Rattle.cmc_codec.specs.Given.{text_list_at, clean_text_at, duration_at, choice_at, given_or}
 use Rattle.cmc_codec.specs.declared.given.Wording.TheVariants.{Any, Printable, Address}
-use Rattle.cmc_codec.specs.CertificateForm.{issuer_at, no_key, key_at, subject_in, signing_in, terms_in, target_in, spec_at, request_spec_at}
+use Rattle.cmc_codec.specs.CertificateForm.{issuer_at, no_key, key_spec_at, subject_in, signing_in, terms_in, target_in, spec_at, request_spec_at}
 use Rattle.cmc_codec.specs.declared.certificate_in.Api.TheVariants.{V1}
 use Rattle.cmc_codec.specs.declared.certificate_in.Subject.{Subject}
 use Rattle.cmc_codec.specs.declared.certificate_in.Signing.{Signing}
@@ -99,8 +99,8 @@ key_printed k =
 abbrev pub IsSize : Option ℕ → Type 0
 IsSize o = IfSome o (λ n. small_count_at (natural n) ≡ Ok n)
 
-key_again : (k : KeySpec) → IsSize k.size → key_at (object (key_members k)) ≡ Ok k
-unfolding key_at
+key_again : (k : KeySpec) → IsSize k.size → key_spec_at (object (key_members k)) ≡ Ok k
+unfolding key_spec_at
 key_again k size =
     let ps = places_of_key k in
     rw (key_printed k)
@@ -109,7 +109,7 @@ key_again k size =
     (bind _ _ _ _ (option_next (choice_at (codes "Always") Always (codes "Never") Never) (λ r. string (rotation_name r)) (codes "rotationPolicy") k.rotation (drop 3 ps) refl (always_some _ k.rotation rotation_again))
     (bind _ _ _ _ (option_next small_count_at natural (codes "size") k.size [] refl size) refl))))
 
-bare_key : (ms : Members) (k : KeySpec) → key_at (object ms) ≡ Ok k → (ms ≡ no_members → k ≡ no_key) → given_or no_key key_at (codes "privateKey") (some_object ms) ≡ Ok k
+bare_key : (ms : Members) (k : KeySpec) → key_spec_at (object ms) ≡ Ok k → (ms ≡ no_members → k ≡ no_key) → given_or no_key key_spec_at (codes "privateKey") (some_object ms) ≡ Ok k
 bare_key no_members k e none = ap (λ x. Ok x) (sym (none refl))
 bare_key (member n d ms) k e none = rw e refl
 
@@ -128,7 +128,7 @@ empty_key None s (Some e) r h = absurd_empty h
 empty_key None s None (Some r) h = absurd_empty h
 empty_key None (Some s) None None h = absurd_empty h
 
-key_given : (k : KeySpec) → IsSize k.size → given_or no_key key_at (codes "privateKey") (some_object (key_members k)) ≡ Ok k
+key_given : (k : KeySpec) → IsSize k.size → given_or no_key key_spec_at (codes "privateKey") (some_object (key_members k)) ≡ Ok k
 key_given k size = bare_key (key_members k) k (key_again k size) (λ h. empty_key k.algorithm k.size k.encoding k.rotation (sym (key_printed k) ∙ h))
 
 -- ---- the spec of a Certificate
@@ -139,18 +139,18 @@ IsDurationText o = IfSome o (λ n. duration_at (duration_tree n) ≡ Ok n)
 -- what is printed of a spec is of its form
 pub record IsSpec (s : CertSpec) : Type 0 where
   pub common : clean_text_at (string s.common_name) ≡ Ok s.common_name
-  pub dns : list_at Printable (strings s.dns_names) ≡ Ok s.dns_names
+  pub dns : text_list_at Printable (strings s.dns_names) ≡ Ok s.dns_names
   pub duration : IsDurationText s.duration
-  pub emails : list_at Printable (strings s.emails) ≡ Ok s.emails
-  pub addresses : list_at Address (strings s.ip_addresses) ≡ Ok s.ip_addresses
+  pub emails : text_list_at Printable (strings s.emails) ≡ Ok s.emails
+  pub addresses : text_list_at Address (strings s.ip_addresses) ≡ Ok s.ip_addresses
   pub issuer : IsIssuer s.issuer
   pub size : IsSize s.key.size
   pub before : IsDurationText s.renew_before
   pub percent : IsSize s.renew_percent
   pub limit : IsSize s.history_limit
   pub secret : name_at (string s.secret_name) ≡ Ok s.secret_name
-  pub uris : list_at Printable (strings s.uris) ≡ Ok s.uris
-  pub usages : list_at Any (strings s.usages) ≡ Ok s.usages
+  pub uris : text_list_at Printable (strings s.uris) ≡ Ok s.uris
+  pub usages : text_list_at Any (strings s.usages) ≡ Ok s.usages
 
 -- the places of a spec from its references, names and terms
 pub record Placed : Type 0 where
@@ -252,10 +252,10 @@ unfolding subject_in
 subject_again s is =
     let ps = spec_places (places_of s) in
     (bind _ _ _ _ (list_next clean_text_at string (codes "commonName") s.common_name (drop 1 ps) refl is.common)
-    (bind _ _ _ _ (list_next (list_at Printable) strings (codes "dnsNames") s.dns_names (drop 2 ps) refl is.dns)
+    (bind _ _ _ _ (list_next (text_list_at Printable) strings (codes "dnsNames") s.dns_names (drop 2 ps) refl is.dns)
     (bind _ _ _ _ (option_next duration_at duration_tree (codes "duration") s.duration (drop 3 ps) refl is.duration)
-    (bind _ _ _ _ (list_next (list_at Printable) strings (codes "emailAddresses") s.emails (drop 4 ps) refl is.emails)
-    (bind _ _ _ _ (list_next (list_at Address) strings (codes "ipAddresses") s.ip_addresses (drop 5 ps) refl is.addresses) refl)))))
+    (bind _ _ _ _ (list_next (text_list_at Printable) strings (codes "emailAddresses") s.emails (drop 4 ps) refl is.emails)
+    (bind _ _ _ _ (list_next (text_list_at Address) strings (codes "ipAddresses") s.ip_addresses (drop 5 ps) refl is.addresses) refl)))))
 
 signing_again : (s : CertSpec) → IsSpec s → signing_in (behind 5 s) ≡ Ok (signing_of s, behind 7 s)
 unfolding signing_in
@@ -268,7 +268,7 @@ terms_again : (s : CertSpec) → IsSpec s → terms_in (behind 7 s) ≡ Ok (term
 unfolding terms_in
 terms_again s is =
     let ps = spec_places (places_of s) in
-    (bind _ _ _ _ (member_or_is no_key key_at (codes "privateKey") (some_object (key_members s.key)) (drop 8 ps) s.key refl (key_given s.key is.size))
+    (bind _ _ _ _ (member_or_is no_key key_spec_at (codes "privateKey") (some_object (key_members s.key)) (drop 8 ps) s.key refl (key_given s.key is.size))
     (bind _ _ _ _ (option_next duration_at duration_tree (codes "renewBefore") s.renew_before (drop 9 ps) refl is.before)
     (bind _ _ _ _ (option_next small_count_at natural (codes "renewBeforePercentage") s.renew_percent (drop 10 ps) refl is.percent)
     (bind _ _ _ _ (option_next small_count_at natural (codes "revisionHistoryLimit") s.history_limit (drop 11 ps) refl is.limit) refl))))
@@ -278,8 +278,8 @@ unfolding target_in
 target_again s is =
     let ps = spec_places (places_of s) in
     (bind _ _ _ _ (needed_is name_at (codes "secretName") (string s.secret_name) (drop 12 ps) s.secret_name refl is.secret)
-    (bind _ _ _ _ (list_next (list_at Printable) strings (codes "uris") s.uris (drop 13 ps) refl is.uris)
-    (bind _ _ _ _ (list_next (list_at Any) strings (codes "usages") s.usages [] refl is.usages) refl)))
+    (bind _ _ _ _ (list_next (text_list_at Printable) strings (codes "uris") s.uris (drop 13 ps) refl is.uris)
+    (bind _ _ _ _ (list_next (text_list_at Any) strings (codes "usages") s.usages [] refl is.usages) refl)))
 
 pub spec_again : (s : CertSpec) → IsSpec s → spec_at V1 (spec_tree s) ≡ Ok s
 unfolding spec_at
@@ -296,7 +296,7 @@ pub record IsRequestSpec (s : RequestSpec) : Type 0 where
   pub duration : IsDurationText s.duration
   pub issuer : IsIssuer s.issuer
   pub request : bytes_at (base64_text s.request) ≡ Ok s.request
-  pub usages : list_at Any (strings s.usages) ≡ Ok s.usages
+  pub usages : text_list_at Any (strings s.usages) ≡ Ok s.usages
 
 abbrev pub request_places : Option Data → Option Data → Option Data → Option Data → Option Data → Places
 request_places duration is_ca issuer request usages = (codes "duration", duration) ∷ (codes "isCA", is_ca) ∷ (codes "issuerRef", issuer) ∷ (codes "request", request) ∷ (codes "usages", usages) ∷ []
@@ -329,4 +329,4 @@ request_again s is =
     (bind _ _ _ _ (option_next duration_at duration_tree (codes "duration") s.duration (drop 1 ps) refl is.duration)
     (bind _ _ _ _ (request_signing s is)
     (bind _ _ _ _ (needed_is bytes_at (codes "request") (base64_text s.request) (drop 4 ps) s.request refl is.request)
-    (bind _ _ _ _ (list_next (list_at Any) strings (codes "usages") s.usages [] refl is.usages) refl))))
+    (bind _ _ _ _ (list_next (text_list_at Any) strings (codes "usages") s.usages [] refl is.usages) refl))))

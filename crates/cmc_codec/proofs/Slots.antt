@@ -10,7 +10,7 @@ use Rattle.serde_json.specs.Data.{Data, boolean, object, Members, no_members, me
 use Rattle.cmc_cursor.specs.Reading.{Read, ◌>>=◌, under, fields_of, optional_at, required_at}
 use Rattle.cmc_cursor.specs.Readers.{flag_at, sought_at}
 use Rattle.cmc_print.specs.Puts.{put_option, put_list, put_true, put_object}
-use Rattle.cmc_codec.specs.Given.{given_at, given_or, member_at, member_or, needed_at}
+use Rattle.cmc_codec.specs.Given.{given_at, given_or, member_at, next_member_or, needed_at}
 
 abbrev pub slot : List ℕ → Option Data → Members → Members
 slot n None ms = ms
@@ -91,7 +91,7 @@ pub member_is : {A : Type 0} (read : Data → Read A) (n : List ℕ) (o : Option
 member_is read n o back x h e = rw (next_is n o back h, e) refl
 
 pub member_or_is : {A : Type 0} (absent : A) (read : Data → Read A) (n : List ℕ) (o : Option Data) (back : List (List ℕ × Option Data)) (x : A)
-    → is_next n back ≡ true → given_or absent read n o ≡ Ok x → member_or absent read n (fields_of (slots ((n, o) ∷ back))) ≡ Ok (x, fields_of (slots back))
+    → is_next n back ≡ true → given_or absent read n o ≡ Ok x → next_member_or absent read n (fields_of (slots ((n, o) ∷ back))) ≡ Ok (x, fields_of (slots back))
 member_or_is absent read n o back x h e = rw (next_is n o back h, e) refl
 
 pub required_is : (n : List ℕ) (d : Data) (back : List (List ℕ × Option Data)) → is_next n back ≡ true
@@ -224,7 +224,7 @@ pub option_next : {A : Type 0} (read : Data → Read A) (tree : A → Data) (n :
 option_next read tree n o back h again = member_is read n (some_option tree o) back o h (option_given read tree n o again)
 
 pub list_next : {A : Type 0} (read : Data → Read (List A)) (tree : List A → Data) (n : List ℕ) (xs : List A) (back : List (List ℕ × Option Data))
-    → is_next n back ≡ true → read (tree xs) ≡ Ok xs → member_or [] read n (fields_of (slots ((n, some_list tree xs) ∷ back))) ≡ Ok (xs, fields_of (slots back))
+    → is_next n back ≡ true → read (tree xs) ≡ Ok xs → next_member_or [] read n (fields_of (slots ((n, some_list tree xs) ∷ back))) ≡ Ok (xs, fields_of (slots back))
 list_next read tree n xs back h again = member_or_is [] read n (some_list tree xs) back xs h (list_given read tree n xs again)
 
 true_given : (n : List ℕ) (b : Bool) → given_or false flag_at n (some_true b) ≡ Ok b
@@ -232,7 +232,7 @@ true_given n false = refl
 true_given n true = refl
 
 pub true_next : (n : List ℕ) (b : Bool) (back : List (List ℕ × Option Data))
-    → is_next n back ≡ true → member_or false flag_at n (fields_of (slots ((n, some_true b) ∷ back))) ≡ Ok (b, fields_of (slots back))
+    → is_next n back ≡ true → next_member_or false flag_at n (fields_of (slots ((n, some_true b) ∷ back))) ≡ Ok (b, fields_of (slots back))
 true_next n b back h = member_or_is false flag_at n (some_true b) back b h (true_given n b)
 
 -- ---- places among members that are dropped

@@ -13,7 +13,7 @@ use Rattle.cmc_cursor.specs.Readers.{name_at, short_text_at, small_count_at, fla
 use Rattle.cmc_print.specs.Trees.{natural}
 use Rattle.cmc_print.specs.Puts.{strings, base64_text}
 use Rattle.cmc_print.specs.Printed.{duration_tree}
-use Rattle.cmc_codec.specs.Given.{list_at, clean_text_at, duration_at, choice_at, member_at, member_or, needed_at}
+use Rattle.cmc_codec.specs.Given.{text_list_at, clean_text_at, duration_at, choice_at, member_at, next_member_or, needed_at}
 use Rattle.cmc_codec.specs.declared.given.Wording.{Wording}
 use Rattle.cmc_codec.specs.declared.given.Wording.TheVariants.{Any, Printable, Address}
 use Rattle.cmc_codec.specs.declared.certificate_in.Api.{Api}
@@ -22,7 +22,7 @@ use Rattle.cmc_codec.specs.declared.certificate_in.Subject.{Subject}
 use Rattle.cmc_codec.specs.declared.certificate_in.Signing.{Signing}
 use Rattle.cmc_codec.specs.declared.certificate_in.Terms.{Terms}
 use Rattle.cmc_codec.specs.declared.certificate_in.Target.{Target}
-use Rattle.cmc_codec.specs.CertificateForm.{issuer_at, no_key, key_at, subject_in, signing_in, terms_in, old_terms_in, api_terms_in, target_in, spec_at, emails_name, uris_name, request_spec_at, old_request_spec_at, api_request_spec_at}
+use Rattle.cmc_codec.specs.CertificateForm.{issuer_at, no_key, key_spec_at, subject_in, signing_in, terms_in, old_terms_in, api_terms_in, target_in, spec_at, emails_name, uris_name, request_spec_at, old_request_spec_at, api_request_spec_at}
 use Rattle.cmc_codec.proofs.ValuesAgain as values
 use Rattle.cmc_cursor.proofs.Always as readings
 use Rattle.cmc_cursor.proofs.Always.{so, next, after}
@@ -39,7 +39,7 @@ abbrev IsSeconds : ℕ → Type 0
 IsSeconds n = duration_at (duration_tree n) ≡ Ok n
 
 abbrev IsListOf : Wording → List (List ℕ) → Type 0
-IsListOf wording ts = list_at wording (strings ts) ≡ Ok ts
+IsListOf wording ts = text_list_at wording (strings ts) ≡ Ok ts
 
 issuer_so : (d : Data) → readings.Always IsIssuer (issuer_at d)
 unfolding issuer_at
@@ -52,8 +52,8 @@ issuer_so d =
 abbrev HasSize : KeySpec → Type 0
 HasSize k = IsSize k.size
 
-key_so : (d : Data) → readings.Always HasSize (key_at d)
-unfolding key_at
+key_so : (d : Data) → readings.Always HasSize (key_spec_at d)
+unfolding key_spec_at
 key_so d =
     next HasSize (fields_at d) _ (λ fs. next HasSize (member_at (choice_at (codes "RSA") Rsa (codes "ECDSA") Ecdsa) (codes "algorithm") fs) _
     (λ algorithm. next HasSize (member_at (choice_at (codes "PKCS1") Pkcs1 (codes "PKCS8") Pkcs8) (codes "encoding") algorithm.1) _
@@ -74,11 +74,11 @@ record IsSubject (p : Subject × List Field) : Type 0 where
 subject_so : (n : List ℕ) (fs : List Field) → readings.Always IsSubject (subject_in n fs)
 unfolding subject_in
 subject_so n fs =
-    after _ IsSubject (member_or [] clean_text_at (codes "commonName") fs) _ (member_or_so (λ t. clean_text_at (string t) ≡ Ok t) [] clean_text_at (codes "commonName") fs empty_again values.clean_text_again)
-    (λ common is_common. after _ IsSubject (member_or [] (list_at Printable) (codes "dnsNames") common.1) _ (member_or_so (IsListOf Printable) [] (list_at Printable) (codes "dnsNames") common.1 refl (values.list_again Printable))
+    after _ IsSubject (next_member_or [] clean_text_at (codes "commonName") fs) _ (member_or_so (λ t. clean_text_at (string t) ≡ Ok t) [] clean_text_at (codes "commonName") fs empty_again values.clean_text_again)
+    (λ common is_common. after _ IsSubject (next_member_or [] (text_list_at Printable) (codes "dnsNames") common.1) _ (member_or_so (IsListOf Printable) [] (text_list_at Printable) (codes "dnsNames") common.1 refl (values.list_again Printable))
     (λ dns is_dns. after _ IsSubject (member_at duration_at (codes "duration") dns.1) _ (member_so IsSeconds duration_at (codes "duration") dns.1 values.duration_is_again)
-    (λ duration is_duration. after _ IsSubject (member_or [] (list_at Printable) n duration.1) _ (member_or_so (IsListOf Printable) [] (list_at Printable) n duration.1 refl (values.list_again Printable))
-    (λ emails is_emails. after _ IsSubject (member_or [] (list_at Address) (codes "ipAddresses") emails.1) _ (member_or_so (IsListOf Address) [] (list_at Address) (codes "ipAddresses") emails.1 refl (values.list_again Address))
+    (λ duration is_duration. after _ IsSubject (next_member_or [] (text_list_at Printable) n duration.1) _ (member_or_so (IsListOf Printable) [] (text_list_at Printable) n duration.1 refl (values.list_again Printable))
+    (λ emails is_emails. after _ IsSubject (next_member_or [] (text_list_at Address) (codes "ipAddresses") emails.1) _ (member_or_so (IsListOf Address) [] (text_list_at Address) (codes "ipAddresses") emails.1 refl (values.list_again Address))
     (λ addresses is_addresses. so (record { common = is_common; dns = is_dns; duration = is_duration; emails = is_emails; addresses = is_addresses }))))))
 
 abbrev IsSigning : Signing × List Field → Type 0
@@ -86,7 +86,7 @@ IsSigning p = IsIssuer p.0.issuer
 
 pub signing_so : (fs : List Field) → readings.Always IsSigning (signing_in fs)
 unfolding signing_in
-signing_so fs = next IsSigning (member_or false flag_at (codes "isCA") fs) _
+signing_so fs = next IsSigning (next_member_or false flag_at (codes "isCA") fs) _
     (λ is_ca. after _ IsSigning (needed_at issuer_at (codes "issuerRef") is_ca.1) _ (needed_so IsIssuer issuer_at (codes "issuerRef") is_ca.1 issuer_so) (λ issuer is_issuer. so is_issuer))
 
 record IsTerms (p : Terms × List Field) : Type 0 where
@@ -98,7 +98,7 @@ record IsTerms (p : Terms × List Field) : Type 0 where
 terms_so : (fs : List Field) → readings.Always IsTerms (terms_in fs)
 unfolding terms_in
 terms_so fs =
-    after _ IsTerms (member_or no_key key_at (codes "privateKey") fs) _ (member_or_so HasSize no_key key_at (codes "privateKey") fs tt key_so)
+    after _ IsTerms (next_member_or no_key key_spec_at (codes "privateKey") fs) _ (member_or_so HasSize no_key key_spec_at (codes "privateKey") fs tt key_so)
     (λ key is_key. after _ IsTerms (member_at duration_at (codes "renewBefore") key.1) _ (member_so IsSeconds duration_at (codes "renewBefore") key.1 values.duration_is_again)
     (λ before is_before. after _ IsTerms (member_at small_count_at (codes "renewBeforePercentage") before.1) _ (member_so IsNumber small_count_at (codes "renewBeforePercentage") before.1 values.small_count_again)
     (λ percent is_percent. after _ IsTerms (member_at small_count_at (codes "revisionHistoryLimit") percent.1) _ (member_so IsNumber small_count_at (codes "revisionHistoryLimit") percent.1 values.small_count_again)
@@ -126,8 +126,8 @@ target_so : (n : List ℕ) (fs : List Field) → readings.Always IsTarget (targe
 unfolding target_in
 target_so n fs =
     after _ IsTarget (needed_at name_at (codes "secretName") fs) _ (needed_so (λ t. name_at (string t) ≡ Ok t) name_at (codes "secretName") fs values.name_again)
-    (λ secret is_secret. after _ IsTarget (member_or [] (list_at Printable) n secret.1) _ (member_or_so (IsListOf Printable) [] (list_at Printable) n secret.1 refl (values.list_again Printable))
-    (λ uris is_uris. after _ IsTarget (member_or [] (list_at Any) (codes "usages") uris.1) _ (member_or_so (IsListOf Any) [] (list_at Any) (codes "usages") uris.1 refl (values.list_again Any))
+    (λ secret is_secret. after _ IsTarget (next_member_or [] (text_list_at Printable) n secret.1) _ (member_or_so (IsListOf Printable) [] (text_list_at Printable) n secret.1 refl (values.list_again Printable))
+    (λ uris is_uris. after _ IsTarget (next_member_or [] (text_list_at Any) (codes "usages") uris.1) _ (member_or_so (IsListOf Any) [] (text_list_at Any) (codes "usages") uris.1 refl (values.list_again Any))
     (λ usages is_usages. so (record { secret = is_secret; uris = is_uris; usages = is_usages }))))
 
 pub spec_so : (api : Api) (d : Data) → readings.Always IsSpec (spec_at api d)
@@ -165,7 +165,7 @@ request_so d =
     next IsRequest (fields_at d) _ (λ fs. after _ IsRequest (member_at duration_at (codes "duration") fs) _ (member_so IsSeconds duration_at (codes "duration") fs values.duration_is_again)
     (λ duration is_duration. after _ IsRequest (signing_in duration.1) _ (signing_so duration.1)
     (λ signing is_signing. next IsRequest (needed_at bytes_at (codes "request") signing.1) _
-    (λ request. after _ IsRequest (member_or [] (list_at Any) (codes "usages") request.1) _ (member_or_so (IsListOf Any) [] (list_at Any) (codes "usages") request.1 refl (values.list_again Any))
+    (λ request. after _ IsRequest (next_member_or [] (text_list_at Any) (codes "usages") request.1) _ (member_or_so (IsListOf Any) [] (text_list_at Any) (codes "usages") request.1 refl (values.list_again Any))
     (λ usages is_usages. next IsRequest (at_end usages.1) _ (λ end. so (λ bytes. record { duration = is_duration; issuer = is_signing; request = bytes; usages = is_usages })))))))
 
 old_request_so : (d : Data) → readings.Always IsRequest (old_request_spec_at d)
@@ -174,7 +174,7 @@ old_request_so d =
     next IsRequest (fields_at d) _ (λ fs. next IsRequest (needed_at bytes_at (codes "csr") fs) _
     (λ request. after _ IsRequest (member_at duration_at (codes "duration") request.1) _ (member_so IsSeconds duration_at (codes "duration") request.1 values.duration_is_again)
     (λ duration is_duration. after _ IsRequest (signing_in duration.1) _ (signing_so duration.1)
-    (λ signing is_signing. after _ IsRequest (member_or [] (list_at Any) (codes "usages") signing.1) _ (member_or_so (IsListOf Any) [] (list_at Any) (codes "usages") signing.1 refl (values.list_again Any))
+    (λ signing is_signing. after _ IsRequest (next_member_or [] (text_list_at Any) (codes "usages") signing.1) _ (member_or_so (IsListOf Any) [] (text_list_at Any) (codes "usages") signing.1 refl (values.list_again Any))
     (λ usages is_usages. next IsRequest (at_end usages.1) _ (λ end. so (λ bytes. record { duration = is_duration; issuer = is_signing; request = bytes; usages = is_usages })))))))
 
 pub api_request_so : (api : Api) (d : Data) → readings.Always IsRequest (api_request_spec_at api d)

@@ -6,13 +6,13 @@ use Rattle.serde_json.specs.View.{items_of}
 use Rattle.cmc_time.specs.Durations.{IsDuration, longest, go_duration}
 use Rattle.cmc_time.specs.DurationReading.{duration_seconds}
 use Rattle.cmc_time.proofs.DurationLaws.{duration_again, duration_found, go_duration_is}
-use Rattle.cmc_cursor.specs.Reading.{Read, ◌>>=◌, under, Field, optional_at, required_at, must_stand}
+use Rattle.cmc_cursor.specs.Reading.{Read, ◌>>=◌, under, Field, optional_at, required_at, must_exist}
 use Rattle.cmc_cursor.specs.Readers.{found, text_at, name_at, short_text_at, printable_at, count_at, small_count_at, sought_at}
 use Rattle.cmc_cursor.proofs.Always.{Always, so, failed, next, after, below}
 use Rattle.cmc_print.specs.Trees.{natural}
 use Rattle.cmc_print.specs.Puts.{strings}
 use Rattle.cmc_print.specs.Printed.{duration_tree}
-use Rattle.cmc_codec.specs.Given.{address_text_at, worded_at, list_from, list_at, clean_text_at, duration_at, given_at, given_or, member_at, member_or, needed_at}
+use Rattle.cmc_codec.specs.Given.{address_text_at, worded_at, list_from, text_list_at, clean_text_at, duration_at, given_at, given_or, member_at, next_member_or, needed_at}
 use Rattle.cmc_codec.specs.MetadataForm.{sought_or, sought_needed}
 use Rattle.cmc_codec.specs.declared.given.Wording.{Wording}
 use Rattle.cmc_codec.specs.declared.given.Wording.TheVariants.{Any, Printable, Address}
@@ -54,7 +54,7 @@ list_from_again wording n (item d ds) =
     (λ t again. after (λ ts. list_from wording (n + 1) (items_of (map string ts)) ≡ Ok ts) (λ ts. list_from wording n (items_of (map string ts)) ≡ Ok ts)
     (list_from wording (n + 1) ds) (λ ts. Ok (t ∷ ts)) (list_from_again wording (n + 1) ds) (λ ts rest. so (rw (again, rest) refl)))
 
-pub list_again : (wording : Wording) (d : Data) → Always (λ ts. list_at wording (strings ts) ≡ Ok ts) (list_at wording d)
+pub list_again : (wording : Wording) (d : Data) → Always (λ ts. text_list_at wording (strings ts) ≡ Ok ts) (text_list_at wording d)
 list_again wording (array ds) = list_from_again wording 0 ds
 list_again wording null = failed []
 list_again wording (boolean b) = failed []
@@ -95,7 +95,7 @@ given_at_is : {A : Type 0} (P : A → Type 0) (read : Data → Read A) (n : List
 given_at_is P read n None each = so tt
 given_at_is P read n (Some d) each = after P (λ o. IfSome o P) (under n (read d)) (λ x. Ok (Some x)) (below P n (read d) (each d)) (λ x is. so is)
 
-pub member_or_so : {A : Type 0} (P : A → Type 0) (absent : A) (read : Data → Read A) (n : List ℕ) (fs : List Field) → P absent → ((d : Data) → Always P (read d)) → Always (First P) (member_or absent read n fs)
+pub member_or_so : {A : Type 0} (P : A → Type 0) (absent : A) (read : Data → Read A) (n : List ℕ) (fs : List Field) → P absent → ((d : Data) → Always P (read d)) → Always (First P) (next_member_or absent read n fs)
 member_or_so P absent read n fs none each = next (First P) (optional_at n fs) _ (λ p. after P (First P) (given_or absent read n p.0) (λ x. Ok (x, p.1)) (given_or_is P absent read n p.0 none each) (λ x is. so is))
 
 pub member_so : {A : Type 0} (P : A → Type 0) (read : Data → Read A) (n : List ℕ) (fs : List Field) → ((d : Data) → Always P (read d)) → Always (First (λ o. IfSome o P)) (member_at read n fs)
@@ -108,4 +108,4 @@ pub sought_or_so : {A : Type 0} (P : A → Type 0) (absent : A) (read : Data →
 sought_or_so P absent read n fs none each = next (First P) (sought_at n fs) _ (λ p. after P (First P) (given_or absent read n p.0) (λ x. Ok (x, p.1)) (given_or_is P absent read n p.0 none each) (λ x is. so is))
 
 pub sought_needed_so : {A : Type 0} (P : A → Type 0) (read : Data → Read A) (n : List ℕ) (fs : List Field) → ((d : Data) → Always P (read d)) → Always (First P) (sought_needed read n fs)
-sought_needed_so P read n fs each = next (First P) (sought_at n fs >>= must_stand n) _ (λ p. after P (First P) (under n (read p.0)) (λ x. Ok (x, p.1)) (below P n (read p.0) (each p.0)) (λ x is. so is))
+sought_needed_so P read n fs each = next (First P) (sought_at n fs >>= must_exist n) _ (λ p. after P (First P) (under n (read p.0)) (λ x. Ok (x, p.1)) (below P n (read p.0) (each p.0)) (λ x is. so is))

@@ -10,7 +10,7 @@ use Rattle.cmc_objects.specs.declared.certificate.CertSpec.{CertSpec}
 use Rattle.cmc_objects.specs.declared.request.RequestSpec.{RequestSpec}
 use Rattle.cmc_cursor.specs.Reading.{Read, ◌>>=◌, Field, fields_at, at_end}
 use Rattle.cmc_cursor.specs.Readers.{name_at, short_text_at, small_count_at, flag_at, bytes_at}
-use Rattle.cmc_codec.specs.Given.{list_at, clean_text_at, duration_at, choice_at, member_at, member_or, needed_at}
+use Rattle.cmc_codec.specs.Given.{text_list_at, clean_text_at, duration_at, choice_at, member_at, next_member_or, needed_at}
 use Rattle.cmc_codec.specs.declared.given.Wording.TheVariants.{Any, Printable, Address}
 use Rattle.cmc_codec.specs.declared.certificate_in.Api.{Api}
 use Rattle.cmc_codec.specs.declared.certificate_in.Api.TheVariants.{V1, V1Alpha2}
@@ -37,8 +37,8 @@ abbrev pub no_key : KeySpec
 no_key = record { algorithm = None; size = None; encoding = None; rotation = None }
 
 -- The private key that is asked for; an empty one equals an absent one.
-unfoldable pub key_at : Data → Read KeySpec
-key_at d = do
+unfoldable pub key_spec_at : Data → Read KeySpec
+key_spec_at d = do
   fs ← fields_at d
   algorithm ← member_at (choice_at (codes "RSA") Rsa (codes "ECDSA") Ecdsa) (codes "algorithm") fs
   encoding ← member_at (choice_at (codes "PKCS1") Pkcs1 (codes "PKCS8") Pkcs8) (codes "encoding") algorithm.1
@@ -52,24 +52,24 @@ key_at d = do
 -- What the certificate is asked for. The member with the email addresses has this name.
 unfoldable pub subject_in : List ℕ → List Field → Read (Subject × List Field)
 subject_in emails_name fs = do
-  common ← member_or [] clean_text_at (codes "commonName") fs
-  dns ← member_or [] (list_at Printable) (codes "dnsNames") common.1
+  common ← next_member_or [] clean_text_at (codes "commonName") fs
+  dns ← next_member_or [] (text_list_at Printable) (codes "dnsNames") common.1
   duration ← member_at duration_at (codes "duration") dns.1
-  emails ← member_or [] (list_at Printable) emails_name duration.1
-  addresses ← member_or [] (list_at Address) (codes "ipAddresses") emails.1
+  emails ← next_member_or [] (text_list_at Printable) emails_name duration.1
+  addresses ← next_member_or [] (text_list_at Address) (codes "ipAddresses") emails.1
   Ok (record { common_name = common.0; dns_names = dns.0; duration = duration.0; emails = emails.0; ip_addresses = addresses.0 }, addresses.1)
 
 -- Who signs it, and whether it is a CA's.
 unfoldable pub signing_in : List Field → Read (Signing × List Field)
 signing_in fs = do
-  is_ca ← member_or false flag_at (codes "isCA") fs
+  is_ca ← next_member_or false flag_at (codes "isCA") fs
   issuer ← needed_at issuer_at (codes "issuerRef") is_ca.1
   Ok (record { is_ca = is_ca.0; issuer = issuer.0 }, issuer.1)
 
 -- Its key, when it is renewed, and how many requests are kept.
 unfoldable pub terms_in : List Field → Read (Terms × List Field)
 terms_in fs = do
-  key ← member_or no_key key_at (codes "privateKey") fs
+  key ← next_member_or no_key key_spec_at (codes "privateKey") fs
   before ← member_at duration_at (codes "renewBefore") key.1
   percent ← member_at small_count_at (codes "renewBeforePercentage") before.1
   limit ← member_at small_count_at (codes "revisionHistoryLimit") percent.1
@@ -96,8 +96,8 @@ old_terms_in fs = do
 unfoldable pub target_in : List ℕ → List Field → Read (Target × List Field)
 target_in uris_name fs = do
   secret ← needed_at name_at (codes "secretName") fs
-  uris ← member_or [] (list_at Printable) uris_name secret.1
-  usages ← member_or [] (list_at Any) (codes "usages") uris.1
+  uris ← next_member_or [] (text_list_at Printable) uris_name secret.1
+  usages ← next_member_or [] (text_list_at Any) (codes "usages") uris.1
   Ok (record { secret_name = secret.0; uris = uris.0; usages = usages.0 }, usages.1)
 
 abbrev pub spec_of : Subject → Signing → Terms → Target → CertSpec
@@ -149,7 +149,7 @@ request_spec_at d = do
   duration ← member_at duration_at (codes "duration") fs
   signing ← signing_in duration.1
   request ← needed_at bytes_at (codes "request") signing.1
-  usages ← member_or [] (list_at Any) (codes "usages") request.1
+  usages ← next_member_or [] (text_list_at Any) (codes "usages") request.1
   end ← at_end usages.1
   Ok (record { issuer = signing.0.issuer; duration = duration.0; is_ca = signing.0.is_ca; usages = usages.0; request = request.0 })
 
@@ -160,7 +160,7 @@ old_request_spec_at d = do
   request ← needed_at bytes_at (codes "csr") fs
   duration ← member_at duration_at (codes "duration") request.1
   signing ← signing_in duration.1
-  usages ← member_or [] (list_at Any) (codes "usages") signing.1
+  usages ← next_member_or [] (text_list_at Any) (codes "usages") signing.1
   end ← at_end usages.1
   Ok (record { issuer = signing.0.issuer; duration = duration.0; is_ca = signing.0.is_ca; usages = usages.0; request = request.0 })
 

@@ -28,13 +28,13 @@ abbrev pub list_from : Wording → ℕ → Items → Read (List (List ℕ))
 list_from wording n no_items = Ok []
 list_from wording n (item d ds) = under (decimal n) (worded_at wording d) >>= (λ t. list_from wording (n + 1) ds >>= (λ ts. Ok (t ∷ ts)))
 
-abbrev pub list_at : Wording → Data → Read (List (List ℕ))
-list_at wording (array ds) = list_from wording 0 ds
-list_at wording null = Err []
-list_at wording (boolean b) = Err []
-list_at wording (number n) = Err []
-list_at wording (string s) = Err []
-list_at wording (object ms) = Err []
+abbrev pub text_list_at : Wording → Data → Read (List (List ℕ))
+text_list_at wording (array ds) = list_from wording 0 ds
+text_list_at wording null = Err []
+text_list_at wording (boolean b) = Err []
+text_list_at wording (number n) = Err []
+text_list_at wording (string s) = Err []
+text_list_at wording (object ms) = Err []
 
 -- A text without a control character.
 abbrev pub clean_text_at : Data → Read (List ℕ)
@@ -64,8 +64,8 @@ given_or absent read name (Some d) = under name (read d)
 abbrev pub member_at : {A : Type 0} → (Data → Read A) → List ℕ → List Field → Read (Option A × List Field)
 member_at read name fs = optional_at name fs >>= (λ p. given_at read name p.0 >>= (λ x. Ok (x, p.1)))
 
-abbrev pub member_or : {A : Type 0} → A → (Data → Read A) → List ℕ → List Field → Read (A × List Field)
-member_or absent read name fs = optional_at name fs >>= (λ p. given_or absent read name p.0 >>= (λ x. Ok (x, p.1)))
+abbrev pub next_member_or : {A : Type 0} → A → (Data → Read A) → List ℕ → List Field → Read (A × List Field)
+next_member_or absent read name fs = optional_at name fs >>= (λ p. given_or absent read name p.0 >>= (λ x. Ok (x, p.1)))
 
 -- The same of a member that has to stand.
 abbrev pub needed_at : {A : Type 0} → (Data → Read A) → List ℕ → List Field → Read (A × List Field)

@@ -11,18 +11,18 @@ use Rattle.cmc_objects.specs.Objects.{no_cert_status, no_request_status}
 use Rattle.cmc_objects.specs.declared.object.Object.{Object}
 use Rattle.cmc_objects.specs.declared.object.Object.TheVariants.{Cert, Request, Secret}
 use Rattle.cmc_print.specs.Printed.{object_tree}
-use Rattle.cmc_codec.specs.MetadataForm.{new_meta}
-use Rattle.cmc_codec.specs.ObjectForm.{object_at}
+use Rattle.cmc_codec.specs.MetadataForm.{unstored_meta}
+use Rattle.cmc_codec.specs.ObjectForm.{object_read_at}
 
 -- ---- the laws
 
 -- Where the object was read of some value, what is printed of it is read as the same object.
 abbrev pub IsReadAgain : Object → Type 0
-IsReadAgain object = (d : Data) → object_at d ≡ Ok object → object_at (object_tree object) ≡ Ok object
+IsReadAgain object = (d : Data) → object_read_at d ≡ Ok object → object_read_at (object_tree object) ≡ Ok object
 
 -- The metadata without what the store owns.
 abbrev pub bare_meta : ObjectMeta → ObjectMeta
-bare_meta m = new_meta m.namespace m.name m.labels m.annotations m.owners
+bare_meta m = unstored_meta m.namespace m.name m.labels m.annotations m.owners
 
 -- The object without its status and without what the store owns.
 abbrev pub bare : Object → Object
@@ -32,7 +32,7 @@ bare (Secret s) = Secret (record { meta = bare_meta s.meta; kind_text = s.kind_t
 
 -- What is read of the print of an object, if it is read, is the object without its status and without what the store owns.
 abbrev pub GivesBack : Object → Type 0
-GivesBack object = (given : Object) → object_at (object_tree object) ≡ Ok given → given ≡ bare object
+GivesBack object = (given : Object) → object_read_at (object_tree object) ≡ Ok given → given ≡ bare object
 
 -- ---- what is so of each object
 

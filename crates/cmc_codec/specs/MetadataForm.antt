@@ -9,7 +9,7 @@ use Rattle.cmc_meta.specs.declared.key.Kind.{Kind}
 use Rattle.cmc_meta.specs.declared.key.Kind.TheVariants.{Certificate, CertificateRequest, Secret}
 use Rattle.cmc_meta.specs.declared.owners.OwnerRef.{OwnerRef}
 use Rattle.cmc_meta.specs.declared.object_meta.ObjectMeta.{ObjectMeta}
-use Rattle.cmc_cursor.specs.Reading.{Read, ◌>>=◌, under, Field, fields_at, must_stand}
+use Rattle.cmc_cursor.specs.Reading.{Read, ◌>>=◌, under, Field, fields_at, must_exist}
 use Rattle.cmc_cursor.specs.Readers.{name_at, decimal_at, flag_at, pairs_at, text_member, sought_at, dropped_at}
 use Rattle.cmc_codec.specs.Given.{given_at, given_or}
 use Rattle.cmc_codec.specs.declared.metadata_in.Labelled.{Labelled}
@@ -26,7 +26,7 @@ abbrev pub sought_or : {A : Type 0} → A → (Data → Read A) → List ℕ →
 sought_or absent read name fs = sought_at name fs >>= (λ p. given_or absent read name p.0 >>= (λ x. Ok (x, p.1)))
 
 abbrev pub sought_needed : {A : Type 0} → (Data → Read A) → List ℕ → List Field → Read (A × List Field)
-sought_needed read name fs = sought_at name fs >>= must_stand name >>= (λ p. under name (read p.0) >>= (λ x. Ok (x, p.1)))
+sought_needed read name fs = sought_at name fs >>= must_exist name >>= (λ p. under name (read p.0) >>= (λ x. Ok (x, p.1)))
 
 -- ---- owner references
 
@@ -82,8 +82,8 @@ owners_at (object ms) = Err []
 -- ---- metadata
 
 -- Metadata that no store has touched.
-abbrev pub new_meta : List ℕ → List ℕ → List (List ℕ × List ℕ) → List (List ℕ × List ℕ) → List OwnerRef → ObjectMeta
-new_meta namespace name labels annotations owners = record {
+abbrev pub unstored_meta : List ℕ → List ℕ → List (List ℕ × List ℕ) → List (List ℕ × List ℕ) → List OwnerRef → ObjectMeta
+unstored_meta namespace name labels annotations owners = record {
   namespace = namespace;
   name = name;
   uid = 0;
@@ -112,7 +112,7 @@ placed_in fs = do
 
 abbrev pub head_of : Labelled → Placed → Head
 head_of labelled placed = record {
-  meta = new_meta placed.namespace labelled.name labelled.labels labelled.annotations placed.owners;
+  meta = unstored_meta placed.namespace labelled.name labelled.labels labelled.annotations placed.owners;
   version = placed.version;
 }
 

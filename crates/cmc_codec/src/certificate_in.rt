@@ -3,7 +3,7 @@ ghost use Rattle.std.specs.Prelude.{◌≡◌, codes, map};
 ghost use Rattle.serde_json.specs.View.{view};
 ghost use Rattle.cmc_cursor.specs.Reading.{Gives};
 ghost use Rattle.cmc_cursor.specs.Seen.{shown};
-ghost use Rattle.cmc_codec.specs.Given.{member_or, needed_at};
+ghost use Rattle.cmc_codec.specs.Given.{next_member_or, needed_at};
 ghost use Rattle.cmc_codec.specs.CertificateForm as forms;
 
 use crate::given::{
@@ -96,9 +96,9 @@ fn needed_issuer<'a, 'b>(
     Ok((at(alloc, "issuerRef", issuer(alloc, value))?, rest))
 }
 
-#[tactic(auto, unfolding(crate::specs::CertificateForm::key_at))]
+#[tactic(auto, unfolding(crate::specs::CertificateForm::key_spec_at))]
 fn key(alloc: Global, value: &Value) -> Result<KeySpec, BadField>
-    ensures { Gives (λ t. t) result (forms.key_at (view value.now)) }
+    ensures { Gives (λ t. t) result (forms.key_spec_at (view value.now)) }
 {
     let members = fields(alloc, value)?;
     let (algorithm, rest) = given_choice(
@@ -136,7 +136,7 @@ fn given_key<'a, 'b>(
     alloc: Global,
     rest: Fields<'a, 'b>,
 ) -> Result<(KeySpec, Fields<'a, 'b>), BadField>
-    ensures { Gives (λ p. (p.0, map shown p.1.now)) result (member_or forms.no_key forms.key_at (codes "privateKey") (map shown rest.now)) }
+    ensures { Gives (λ p. (p.0, map shown p.1.now)) result (next_member_or forms.no_key forms.key_spec_at (codes "privateKey") (map shown rest.now)) }
 {
     match optional(alloc, rest, "privateKey")? {
         (None, rest) => {

@@ -5,7 +5,7 @@ ghost use Rattle.cmc_x509_build.specs.Addresses as addresses;
 ghost use Rattle.cmc_cursor.specs.Reading.{Gives, under};
 ghost use Rattle.cmc_cursor.specs.Readers.{bytes_at, flag_at, name_at, short_text_at, small_count_at};
 ghost use Rattle.cmc_cursor.specs.Seen.{shown};
-ghost use Rattle.cmc_codec.specs.Given.{address_text_at, worded_at, list_from, list_at, clean_text_at, duration_at, choice_at, member_at, member_or, needed_at};
+ghost use Rattle.cmc_codec.specs.Given.{address_text_at, worded_at, list_from, text_list_at, clean_text_at, duration_at, choice_at, member_at, next_member_or, needed_at};
 
 use cmc_cursor::{
     BadField, Fields, at, at_place, bytes, flag, name, optional, printable, required, short_text,
@@ -78,7 +78,7 @@ fn list_of(alloc: Global, wording: Wording, items: &[Value]) -> Result<Texts, Ba
 }
 
 fn list(alloc: Global, wording: Wording, value: &Value) -> Result<Texts, BadField>
-    ensures { Gives (λ t. t) result (list_at wording (view value.now)) }
+    ensures { Gives (λ t. t) result (text_list_at wording (view value.now)) }
 {
     match value {
         Value::Array(items) => list_of(alloc, wording, items.as_slice()),
@@ -130,7 +130,7 @@ pub fn given_list<'a, 'b>(
     name: &str,
     wording: Wording,
 ) -> Result<(Texts, Fields<'a, 'b>), BadField>
-    ensures { Gives (λ p. (p.0, map shown p.1.now)) result (member_or [] (list_at wording) name.now (map shown rest.now)) }
+    ensures { Gives (λ p. (p.0, map shown p.1.now)) result (next_member_or [] (text_list_at wording) name.now (map shown rest.now)) }
 {
     match optional(alloc, rest, name)? {
         (None, rest) => Ok((Texts::new(alloc), rest)),
@@ -144,7 +144,7 @@ pub fn given_clean_text<'a, 'b>(
     rest: Fields<'a, 'b>,
     name: &str,
 ) -> Result<(Text, Fields<'a, 'b>), BadField>
-    ensures { Gives (λ p. (p.0, map shown p.1.now)) result (member_or [] clean_text_at name.now (map shown rest.now)) }
+    ensures { Gives (λ p. (p.0, map shown p.1.now)) result (next_member_or [] clean_text_at name.now (map shown rest.now)) }
 {
     match optional(alloc, rest, name)? {
         (None, rest) => Ok((Text::new(alloc), rest)),
@@ -158,7 +158,7 @@ pub fn given_flag<'a, 'b>(
     rest: Fields<'a, 'b>,
     name: &str,
 ) -> Result<(bool, Fields<'a, 'b>), BadField>
-    ensures { Gives (λ p. (p.0, map shown p.1.now)) result (member_or false flag_at name.now (map shown rest.now)) }
+    ensures { Gives (λ p. (p.0, map shown p.1.now)) result (next_member_or false flag_at name.now (map shown rest.now)) }
 {
     match optional(alloc, rest, name)? {
         (None, rest) => Ok((false, rest)),

@@ -4,7 +4,7 @@ ghost use Rattle.serde_json.specs.View.{view};
 ghost use Rattle.cmc_cursor.specs.Reading.{Gives};
 ghost use Rattle.cmc_cursor.specs.Readers.{parts_at, text_at, word_at};
 ghost use Rattle.cmc_cursor.specs.Seen.{shown};
-ghost use Rattle.cmc_codec.specs.Given.{member_or, needed_at};
+ghost use Rattle.cmc_codec.specs.Given.{next_member_or, needed_at};
 ghost use Rattle.cmc_codec.specs.MetadataForm.{head_at};
 ghost use Rattle.cmc_codec.specs.ObjectForm as forms;
 
@@ -47,9 +47,9 @@ fn check_status_last(alloc: Global, rest: Fields<'_, '_>) -> Result<(), BadField
     check_end(alloc, rest)
 }
 
-#[tactic(auto, unfolding(crate::specs::ObjectForm::certificate_in))]
+#[tactic(auto, unfolding(crate::specs::ObjectForm::applied_certificate_in))]
 fn certificate(alloc: Global, rest: Fields<'_, '_>) -> Result<Applied, BadField>
-    ensures { Gives (λ t. t) result (forms.certificate_in (map shown rest.now)) }
+    ensures { Gives (λ t. t) result (forms.applied_certificate_in (map shown rest.now)) }
 {
     let (api, rest) = needed_api(alloc, rest)?;
     let (_, rest) = required(alloc, rest, "kind")?;
@@ -71,9 +71,9 @@ fn certificate(alloc: Global, rest: Fields<'_, '_>) -> Result<Applied, BadField>
     })
 }
 
-#[tactic(auto, unfolding(crate::specs::ObjectForm::request_in))]
+#[tactic(auto, unfolding(crate::specs::ObjectForm::applied_request_in))]
 fn request(alloc: Global, rest: Fields<'_, '_>) -> Result<Applied, BadField>
-    ensures { Gives (λ t. t) result (forms.request_in (map shown rest.now)) }
+    ensures { Gives (λ t. t) result (forms.applied_request_in (map shown rest.now)) }
 {
     let (api, rest) = needed_api(alloc, rest)?;
     let (_, rest) = required(alloc, rest, "kind")?;
@@ -99,7 +99,7 @@ fn given_parts<'a, 'b>(
     alloc: Global,
     rest: Fields<'a, 'b>,
 ) -> Result<(Parts, Fields<'a, 'b>), BadField>
-    ensures { Gives (λ p. (p.0, map shown p.1.now)) result (member_or [] parts_at (codes "data") (map shown rest.now)) }
+    ensures { Gives (λ p. (p.0, map shown p.1.now)) result (next_member_or [] parts_at (codes "data") (map shown rest.now)) }
 {
     match optional(alloc, rest, "data")? {
         (None, rest) => Ok((Parts::new(alloc), rest)),
@@ -111,7 +111,7 @@ fn given_type<'a, 'b>(
     alloc: Global,
     rest: Fields<'a, 'b>,
 ) -> Result<(Text, Fields<'a, 'b>), BadField>
-    ensures { Gives (λ p. (p.0, map shown p.1.now)) result (member_or (codes "Opaque") text_at (codes "type") (map shown rest.now)) }
+    ensures { Gives (λ p. (p.0, map shown p.1.now)) result (next_member_or (codes "Opaque") text_at (codes "type") (map shown rest.now)) }
 {
     match optional(alloc, rest, "type")? {
         (None, rest) => Ok((Text::from_str(alloc, "Opaque")?, rest)),
@@ -119,9 +119,9 @@ fn given_type<'a, 'b>(
     }
 }
 
-#[tactic(auto, unfolding(crate::specs::ObjectForm::secret_in))]
+#[tactic(auto, unfolding(crate::specs::ObjectForm::applied_secret_in))]
 fn secret(alloc: Global, rest: Fields<'_, '_>) -> Result<Applied, BadField>
-    ensures { Gives (λ t. t) result (forms.secret_in (map shown rest.now)) }
+    ensures { Gives (λ t. t) result (forms.applied_secret_in (map shown rest.now)) }
 {
     let (value, rest) = required(alloc, rest, "apiVersion")?;
     at(alloc, "apiVersion", word(alloc, value, "v1"))?;
@@ -202,7 +202,7 @@ pub fn applied_of(alloc: Global, value: &Value) -> Result<Applied, BadField>
 
 /// The object alone: [`applied_of`] without the resource version.
 pub fn object_of(alloc: Global, value: &Value) -> Result<Object, BadField>
-    ensures { Gives (λ t. t) result (forms.object_at (view value.now)) }
+    ensures { Gives (λ t. t) result (forms.object_read_at (view value.now)) }
 {
     let Applied { object, .. } = applied_of(alloc, value)?;
     Ok(object)

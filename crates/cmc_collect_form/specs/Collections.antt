@@ -5,7 +5,7 @@ use Rattle.serde_json.specs.Data.{Data}
 use Rattle.cmc_cursor.specs.Reading.{Path, Read, text_of, in_words, ◌>>=◌, Field, fields_at, optional_at, at_end}
 use Rattle.cmc_cursor.specs.Readers.{floats_at}
 use Rattle.cmc_material.specs.Lists.{member_or}
-use Rattle.cmc_scenario.specs.Scenarios.{faults_at, moment_at, size_at, usual_moment}
+use Rattle.cmc_scenario.specs.Scenarios.{faults_at, start_moment_at, size_at, usual_moment}
 use Rattle.cmc_collect_form.specs.declared.script.CollectScript.{CollectScript}
 use Rattle.cmc_collect_form.specs.declared.reading.BadCollection.{BadCollection}
 use Rattle.cmc_collect_form.specs.declared.reading.BadCollection.TheVariants as bad
@@ -19,7 +19,7 @@ collection_in fs = do
   second ← optional_at (codes "faults") first.1
   faults ← member_or [] (codes "faults") faults_at second.0
   third ← optional_at (codes "now") second.1
-  now ← member_or usual_moment (codes "now") moment_at third.0
+  now ← member_or usual_moment (codes "now") start_moment_at third.0
   fourth ← optional_at (codes "script") third.1
   steps ← script_at now fourth.0
   fifth ← optional_at (codes "window") fourth.1
@@ -31,20 +31,20 @@ unfoldable pub members_at : Data → Read CollectScript
 members_at d = fields_at d >>= collection_in
 
 -- The same, where no number in the whole value is kept as a float.
-unfoldable pub whole_at : Data → Read CollectScript
-whole_at d = do
+unfoldable pub collection_whole_at : Data → Read CollectScript
+collection_whole_at d = do
   script ← members_at d
   none ← floats_at d
   Ok script
 
 -- The script of a value, or the text of the first path that fails.
 unfoldable pub collect_at : Data → Result CollectScript (List ℕ)
-collect_at d = in_words (whole_at d)
+collect_at d = in_words (collection_whole_at d)
 
 -- The text of a path, or memory ran out.
-abbrev pub FailsAt : Path → BadCollection → Type 0
-FailsAt path (bad.Path text) = text ≡ text_of path
-FailsAt path bad.NoMemory = Unit {0}
+abbrev pub CollectionFailsAt : Path → BadCollection → Type 0
+CollectionFailsAt path (bad.Path text) = text ≡ text_of path
+CollectionFailsAt path bad.NoMemory = Unit {0}
 
 -- The script keeps within the time of runs.
 abbrev pub IsInTime : CollectScript → Type 0

@@ -14,15 +14,15 @@ use Rattle.cmc_collect_form.specs.declared.script.CollectStep.{CollectStep}
 use Rattle.cmc_collect_form.specs.declared.script.CollectStep.TheVariants.{Apply, Delete, Tick, Deliver, Examine, Settle}
 
 -- The object, at the resource version that it names.
-abbrev pub applied_at : Data → Read CollectStep
-applied_at d = objects.applied_at d >>= (λ applied. Ok (Apply applied.object applied.version))
+abbrev pub collect_apply_at : Data → Read CollectStep
+collect_apply_at d = objects.applied_at d >>= (λ applied. Ok (Apply applied.object applied.version))
 
 -- `apply` has an object.
 unfoldable pub apply_in : List Field → Read CollectStep
 apply_in fs = do
   word ← required_at (codes "do") fs
   given ← required_at (codes "object") word.1
-  step ← under (codes "object") (applied_at given.0)
+  step ← under (codes "object") (collect_apply_at given.0)
   end ← at_end given.1
   Ok step
 
@@ -89,17 +89,17 @@ step_in (Some word) fs = if bytes_eq word (codes "apply") then apply_in fs
     else (if bytes_eq word (codes "examine") then examine_in fs
     else (if bytes_eq word (codes "settle") then settle_in fs else stray_in fs)))))
 
-unfoldable pub step_at : Data → Read CollectStep
-step_at d = fields_at d >>= step_in (text_member (codes "do") d)
+unfoldable pub collect_step_at : Data → Read CollectStep
+collect_step_at d = fields_at d >>= step_in (text_member (codes "do") d)
 
 -- ---- the script
 
-abbrev pub seconds_of : CollectStep → ℕ
-seconds_of (Tick seconds) = seconds
-seconds_of other = 0
+abbrev pub collect_step_seconds : CollectStep → ℕ
+collect_step_seconds (Tick seconds) = seconds
+collect_step_seconds other = 0
 
 abbrev pub moment_after : ℤ → CollectStep → ℤ
-moment_after now step = now +ℤ pos (seconds_of step)
+moment_after now step = now +ℤ pos (collect_step_seconds step)
 
 -- The seconds of each step end in time.
 abbrev pub AreInTime : ℤ → List CollectStep → Type 0
@@ -112,7 +112,7 @@ in_time n now step = if int_le (moment_after now step) last_moment then Ok step 
 
 -- The step at place n of a list. A list has at most 10,000: the first one past that fails.
 unfoldable pub numbered_step_at : ℕ → ℤ → Data → Read CollectStep
-numbered_step_at n now d = if nat_lt n 10000 then under (decimal n) (step_at d) >>= in_time n now else Err (decimal n ∷ [])
+numbered_step_at n now d = if nat_lt n 10000 then under (decimal n) (collect_step_at d) >>= in_time n now else Err (decimal n ∷ [])
 
 -- The steps of a list, whose places count from n, from this moment on.
 abbrev pub steps_from : ℕ → ℤ → Items → Read (List CollectStep)

@@ -4,7 +4,7 @@ ghost use Rattle.serde_json.specs.View.{view};
 ghost use Rattle.serde_json.specs.Written.{has_float};
 ghost use Rattle.cmc_cursor.specs.Reading.{Gives};
 ghost use Rattle.cmc_cursor.specs.Seen.{shown};
-ghost use Rattle.cmc_collect_form.specs.Collections.{FailsAt, IsInTime, IsReading, collect_at, collection_in, members_at, whole_at};
+ghost use Rattle.cmc_collect_form.specs.Collections.{CollectionFailsAt, IsInTime, IsReading, collect_at, collection_in, members_at, collection_whole_at};
 
 use crate::script::CollectScript;
 use crate::steps::script;
@@ -59,9 +59,9 @@ fn members(alloc: Global, value: &Value) -> Result<CollectScript, BadField>
     collection(alloc, &members)
 }
 
-#[tactic(auto, unfolding(crate::specs::Collections::whole_at))]
+#[tactic(auto, unfolding(crate::specs::Collections::collection_whole_at))]
 fn whole(alloc: Global, value: &Value) -> Result<CollectScript, BadField>
-    ensures script { Gives (λ t. t) result (whole_at (view value.now)) }
+    ensures script { Gives (λ t. t) result (collection_whole_at (view value.now)) }
     ensures in_time { IfOk result IsInTime }
     ensures none { OnOk result (has_float (view value.now) ≡ false) }
 {
@@ -71,7 +71,7 @@ fn whole(alloc: Global, value: &Value) -> Result<CollectScript, BadField>
 }
 
 fn failing_at(alloc: Global, path: &Texts) -> BadCollection
-    ensures { FailsAt path.now result }
+    ensures { CollectionFailsAt path.now result }
 {
     match path_text(alloc, path) {
         Ok(text) => BadCollection::Path(text),

@@ -1,7 +1,7 @@
 //! What a script of owner collection is.
 ghost use Rattle.std.specs.Prelude.{◌≡◌, ◌++◌, ◌∷◌, [], OnOk, OnErr, MatchOption, false, int_le, true};
 ghost use Rattle.cmc_setup.specs.Setups.{last_moment};
-ghost use Rattle.cmc_collect_form.specs.Steps.{moment_after, seconds_of};
+ghost use Rattle.cmc_collect_form.specs.Steps.{moment_after, collect_step_seconds};
 
 use cmc_meta::{Key, Kind, Numbers};
 use cmc_objects::Object;
@@ -44,7 +44,7 @@ const LAST_MOMENT: i64 = 250_246_627_200;
 impl CollectStep {
     /// How many seconds the step lets pass.
     fn seconds(&self) -> u64
-        ensures { result ≡ seconds_of self.now }
+        ensures { result ≡ collect_step_seconds self.now }
     {
         match self {
             CollectStep::Tick { seconds } => *seconds,

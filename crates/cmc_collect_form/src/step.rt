@@ -3,7 +3,7 @@ ghost use Rattle.std.specs.Prelude.{◌≡◌, map, option_map};
 ghost use Rattle.serde_json.specs.View.{view};
 ghost use Rattle.cmc_cursor.specs.Reading.{Gives};
 ghost use Rattle.cmc_cursor.specs.Seen.{shown};
-ghost use Rattle.cmc_collect_form.specs.Steps.{applied_at, apply_in, delete_in, deliver_in, examine_in, settle_in, step_at, step_in, stray_in, tick_in};
+ghost use Rattle.cmc_collect_form.specs.Steps.{collect_apply_at, apply_in, delete_in, deliver_in, examine_in, settle_in, collect_step_at, step_in, stray_in, tick_in};
 
 use crate::script::CollectStep;
 use cmc_codec::{Applied, applied_of};
@@ -18,7 +18,7 @@ use std::alloc::Global;
 const LONGEST_TICK: u64 = 1_000_000_000;
 
 fn applied(alloc: Global, value: &Value) -> Result<CollectStep, BadField>
-    ensures { Gives (λ t. t) result (applied_at (view value.now)) }
+    ensures { Gives (λ t. t) result (collect_apply_at (view value.now)) }
 {
     let Applied { object, version } = applied_of(alloc, value)?;
     Ok(CollectStep::Apply { object, version })
@@ -115,9 +115,9 @@ fn form(alloc: Global, word: Option<&str>, rest: Fields<'_, '_>) -> Result<Colle
 }
 
 /// One step.
-#[tactic(auto, unfolding(crate::specs::Steps::step_at))]
+#[tactic(auto, unfolding(crate::specs::Steps::collect_step_at))]
 pub(crate) fn step(alloc: Global, value: &Value) -> Result<CollectStep, BadField>
-    ensures { Gives (λ t. t) result (step_at (view value.now)) }
+    ensures { Gives (λ t. t) result (collect_step_at (view value.now)) }
 {
     let members = fields(alloc, value)?;
     form(alloc, member(value, "do"), &members)

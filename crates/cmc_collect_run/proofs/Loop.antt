@@ -8,12 +8,12 @@ use Rattle.cmc_collect_form.specs.Steps.{AreInTime, moment_after}
 use Rattle.cmc_collect_form.specs.declared.script.CollectScript.{CollectScript}
 use Rattle.cmc_collect_form.specs.declared.script.CollectStep.{CollectStep}
 use Rattle.cmc_collect_run.specs.Answers.{IsMadeBy, IsSpentBy}
-use Rattle.cmc_collect_run.specs.Running.{Made, Spends, Stepped, Stops}
+use Rattle.cmc_collect_run.specs.Running.{Made, SpendsEntries, Stepped, StopsAtLimit}
 
 -- what the steps that are left make of the collection, the whole script makes
 pub record IsRunSoFar (script : CollectScript) (steps : List CollectStep) (now : ℤ) (c : Collecting) : Type 0 where
   pub made : (new : Collecting) → Made steps now c new → IsMadeBy script new
-  pub spent : Spends steps now c → IsSpentBy script
+  pub spent : SpendsEntries steps now c → IsSpentBy script
   pub in_time : AreInTime now steps
 
 at_place : (steps : List CollectStep) (n : ℕ) (step : CollectStep) → n < length steps → step ≡ get_or steps n step → drop n steps ≡ step ∷ drop (n + 1) steps
@@ -40,7 +40,7 @@ one_more script steps n step now next c new within is then stepped before =
     })
 
 pub stops_here : (script : CollectScript) (steps : List CollectStep) (n : ℕ) (step : CollectStep) (now : ℤ) (c : Collecting) → n < length steps → step ≡ get_or steps n step
-    → Stops now step c → IsRunSoFar script (drop n steps) now c → IsSpentBy script
+    → StopsAtLimit now step c → IsRunSoFar script (drop n steps) now c → IsSpentBy script
 stops_here script steps n step now c within is stops before = (opened script steps n step now c within is before).spent (inl stops)
 
 pub all_made : (script : CollectScript) (steps : List CollectStep) (n : ℕ) (now : ℤ) (c : Collecting) → length steps ≤ n → IsRunSoFar script (drop n steps) now c → IsMadeBy script c

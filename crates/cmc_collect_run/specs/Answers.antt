@@ -7,7 +7,7 @@ use Rattle.cmc_collector.specs.Playing.{Collecting, on}
 use Rattle.cmc_collect_form.specs.Collections.{collect_at}
 use Rattle.cmc_collect_form.specs.declared.script.CollectScript.{CollectScript}
 use Rattle.cmc_collect_run.specs.Printed.{collect_lines}
-use Rattle.cmc_collect_run.specs.Running.{Made, Spends, begun}
+use Rattle.cmc_collect_run.specs.Running.{Made, SpendsEntries, first_collecting}
 use Rattle.cmc_collect_run.specs.declared.answering.NotCollected.{NotCollected}
 use Rattle.cmc_collect_run.specs.declared.answering.NotCollected.TheVariants as refusals
 use Rattle.cmc_collect_run.specs.declared.running.Ran.{Ran}
@@ -15,19 +15,19 @@ use Rattle.cmc_collect_run.specs.declared.running.Ran.TheVariants as ends
 
 -- the collection is what the script's steps make in order
 abbrev pub IsMadeBy : CollectScript → Collecting → Type 0
-IsMadeBy script c = Made script.steps script.now (begun script) c
+IsMadeBy script c = Made script.steps script.now (first_collecting script) c
 
 -- the script comes to a step whose next entry has no room
 abbrev pub IsSpentBy : CollectScript → Type 0
-IsSpentBy script = Spends script.steps script.now (begun script)
+IsSpentBy script = SpendsEntries script.steps script.now (first_collecting script)
 
-abbrev pub IsRunOf : CollectScript → Ran → Type 0
-IsRunOf script (ends.Finished c) = IsMadeBy script c
-IsRunOf script ends.Spent = IsSpentBy script
+abbrev pub IsCollectionOf : CollectScript → Ran → Type 0
+IsCollectionOf script (ends.Finished c) = IsMadeBy script c
+IsCollectionOf script ends.Spent = IsSpentBy script
 
 -- the value is that of a script, and the text that of what its steps make; every reply in it is the store's, and what the
 -- collector deletes has dead owners alone
-pub record Answers (value : Data) (text : List ℕ) : Type 0 where
+pub record AnswersCollect (value : Data) (text : List ℕ) : Type 0 where
   pub script : CollectScript
   pub form : collect_at value ≡ Ok script
   pub collection : Collecting

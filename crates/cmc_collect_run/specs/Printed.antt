@@ -7,12 +7,12 @@ use Rattle.cmc_objects.specs.declared.call.Call.TheVariants as calls
 use Rattle.cmc_model.specs.Replies.{is_accepted}
 use Rattle.cmc_print.specs.Trees.{line_of, natural}
 use Rattle.cmc_print.specs.Words.{kind_name}
-use Rattle.cmc_report.specs.Trees.{call_tree, scenario_tree}
+use Rattle.cmc_report.specs.Trees.{call_tree, scenario_line_tree}
 use Rattle.cmc_writer.specs.Adding.{Row}
 use Rattle.cmc_collector.specs.declared.entry.CollectEntry.{CollectEntry}
 use Rattle.cmc_collector.specs.declared.entry.CollectEntry.TheVariants.{User, Deliver, List as Listed, Look, Delete}
 use Rattle.cmc_collector.specs.declared.entry.Moment.{Moment}
-use Rattle.cmc_collector.specs.Playing.{Collecting, on, owner_key, stored}
+use Rattle.cmc_collector.specs.Playing.{Collecting, on, owner_key, stored_objects}
 
 -- what the cache of the kind is told, under the word for it
 unfoldable pub told_tree : List ℕ → ℕ → Kind → ℕ → Data
@@ -49,8 +49,8 @@ is_deletion m = deletes m.entry
 abbrev pub deleted : List Moment → ℕ
 deleted ms = count_by is_deletion ms
 
-abbrev pub objects : Collecting → ℕ
-objects c = length (finite.entries (on stored c))
+abbrev pub object_count : Collecting → ℕ
+object_count c = length (finite.entries (on stored_objects c))
 
 unfoldable pub counts_tree : ℕ → ℕ → Data
 counts_tree deleted objects = object (put (codes "objects") (natural objects) (put (codes "deleted") (natural deleted) no_members))
@@ -59,7 +59,7 @@ unfoldable pub collect_tree : ℕ → ℕ → Data
 collect_tree deleted objects = object (put (codes "collect") (counts_tree deleted objects) no_members)
 
 unfoldable pub collect_lines : Data → Collecting → List (List ℕ)
-collect_lines value c = line_of (scenario_tree value) ∷ (entry_lines c.moments ++ line_of (collect_tree (deleted c.moments) (objects c)) ∷ [])
+collect_lines value c = line_of (scenario_line_tree value) ∷ (entry_lines c.moments ++ line_of (collect_tree (deleted c.moments) (object_count c)) ∷ [])
 
 -- the rows of what the cache of the kind is told, and of the counts
 abbrev pub told_rows : List ℕ → ℕ → Kind → ℕ → List Row

@@ -14,7 +14,7 @@ use Rattle.cmc_collector.specs.declared.moves.CollectMove.TheVariants as moves
 use Rattle.cmc_collector.specs.declared.moves.Collected.{Collected}
 use Rattle.cmc_collector.specs.declared.moves.Collected.TheVariants.{Done, NotNow, Spent}
 use Rattle.cmc_collector.specs.Moving.{IsEntry, lack, with_entry}
-use Rattle.cmc_collector.specs.Playing.{Collecting, on, stored}
+use Rattle.cmc_collector.specs.Playing.{Collecting, on, stored_objects}
 use Rattle.cmc_collector.specs.Settling.{IsSettled, Settles}
 use Rattle.cmc_collect_form.specs.Steps.{moment_after}
 use Rattle.cmc_collect_form.specs.declared.script.CollectScript.{CollectScript}
@@ -22,12 +22,12 @@ use Rattle.cmc_collect_form.specs.declared.script.CollectStep.{CollectStep}
 use Rattle.cmc_collect_form.specs.declared.script.CollectStep.TheVariants.{Apply, Delete, Tick, Deliver, Examine, Settle}
 
 -- the collection before the first step
-abbrev pub begun : CollectScript → Collecting
-begun script = record { window = script.window; faults = script.faults; events = script.events; moments = [] }
+abbrev pub first_collecting : CollectScript → Collecting
+first_collecting script = record { window = script.window; faults = script.faults; events = script.events; moments = [] }
 
 -- a user applies the object to what stands: it is created where its key is free, and else updated
 abbrev pub applying : Object → Option ℕ → Setting → List Moment → CollectMove
-applying object version s ms = moves.User (apply_call object version (object_at (stored s ms) (key_of object)))
+applying object version s ms = moves.User (apply_call object version (object_at (stored_objects s ms) (key_of object)))
 
 -- a move that is not possible now makes nothing, any other one entry, for which there is room
 abbrev pub MovedWith : Option CollectLack → ℤ → CollectMove → Collecting → Collecting → Type 0
@@ -55,13 +55,13 @@ Stepped now (Examine key) old new = Moved now (moves.Examine key) old new
 Stepped now Settle old new = Settling now old new × on IsSettled new
 
 -- the step comes to an entry for which there is no room
-abbrev pub Stops : ℤ → CollectStep → Collecting → Type 0
-Stops now (Apply object version) c = LacksRoom (on (applying object version) c) c
-Stops now (Delete key version) c = LacksRoom (moves.User (calls.Delete key version)) c
-Stops now (Tick seconds) c = ⊥
-Stops now (Deliver kind to) c = LacksRoom (moves.Deliver kind to) c
-Stops now (Examine key) c = LacksRoom (moves.Examine key) c
-Stops now Settle c = (full : Collecting) × Settling now c full × (on IsSettled full → ⊥) × (full.events ≤ length full.moments)
+abbrev pub StopsAtLimit : ℤ → CollectStep → Collecting → Type 0
+StopsAtLimit now (Apply object version) c = LacksRoom (on (applying object version) c) c
+StopsAtLimit now (Delete key version) c = LacksRoom (moves.User (calls.Delete key version)) c
+StopsAtLimit now (Tick seconds) c = ⊥
+StopsAtLimit now (Deliver kind to) c = LacksRoom (moves.Deliver kind to) c
+StopsAtLimit now (Examine key) c = LacksRoom (moves.Examine key) c
+StopsAtLimit now Settle c = (full : Collecting) × Settling now c full × (on IsSettled full → ⊥) × (full.events ≤ length full.moments)
 
 -- the steps, of which the first comes at this moment, make the new collection of the old one
 abbrev pub Made : List CollectStep → ℤ → Collecting → Collecting → Type 0
@@ -69,20 +69,20 @@ Made [] now old new = new ≡ old
 Made (step ∷ steps) now old new = (middle : Collecting) × Stepped now step old middle × Made steps (moment_after now step) middle new
 
 -- one of the steps comes to an entry for which there is no room, once those before it were made
-abbrev pub Spends : List CollectStep → ℤ → Collecting → Type 0
-Spends [] now c = ⊥
-Spends (step ∷ steps) now c = Stops now step c ⊎ ((middle : Collecting) × Stepped now step c middle × Spends steps (moment_after now step) middle)
+abbrev pub SpendsEntries : List CollectStep → ℤ → Collecting → Type 0
+SpendsEntries [] now c = ⊥
+SpendsEntries (step ∷ steps) now c = StopsAtLimit now step c ⊎ ((middle : Collecting) × Stepped now step c middle × SpendsEntries steps (moment_after now step) middle)
 
 -- after this answer the script goes on: there was room for the entry, where there is one
-abbrev pub goes_on : Collected → Bool
-goes_on Done = true
-goes_on (NotNow why) = true
-goes_on (Spent entries) = false
+abbrev pub collect_goes_on : Collected → Bool
+collect_goes_on Done = true
+collect_goes_on (NotNow why) = true
+collect_goes_on (Spent entries) = false
 
 -- whether the step was made, or stops
 abbrev pub IsStepped : Bool → ℤ → CollectStep → Collecting → Collecting → Type 0
 IsStepped true now step old new = Stepped now step old new
-IsStepped false now step old new = Stops now step old
+IsStepped false now step old new = StopsAtLimit now step old
 
 -- the same of a move
 abbrev pub IsMoved : Bool → ℤ → CollectMove → Collecting → Collecting → Type 0

@@ -2,7 +2,7 @@
 ghost use Rattle.std.specs.Prelude.{◌≡◌, IfErr, IfOk};
 ghost use Rattle.serde_json.specs.View.{view};
 ghost use Rattle.cmc_report.specs.Text.{joined};
-ghost use Rattle.cmc_collect_run.specs.Answers.{Answers, Refuses};
+ghost use Rattle.cmc_collect_run.specs.Answers.{AnswersCollect, Refuses};
 
 use crate::running::{Ran, run_script};
 use crate::text::collect_text;
@@ -42,7 +42,7 @@ impl From<AllocError> for NotCollected {
 /// `Path` exactly where the value is no such script, with the first failing path; `Spent` where a step comes to an entry for
 /// which there is no room.
 pub fn collect(alloc: Global, seed: HashSeed, value: &Value) -> Result<Lines, NotCollected>
-    ensures ok { IfOk result (λ lines. Answers (view value.now) (joined lines)) }
+    ensures ok { IfOk result (λ lines. AnswersCollect (view value.now) (joined lines)) }
     ensures err { IfErr result (λ why. Refuses (view value.now) why) }
 {
     let script = match read(alloc, value) {

@@ -4,8 +4,8 @@ ghost use Rattle.cmc_objects.specs.Objects.{key_of};
 ghost use Rattle.cmc_model.specs.Objects.{object_at};
 ghost use Rattle.cmc_rules.specs.Following.{apply_call};
 ghost use Rattle.cmc_collect_form.specs.Collections.{IsInTime};
-ghost use Rattle.cmc_collect_run.specs.Answers.{IsRunOf};
-ghost use Rattle.cmc_collect_run.specs.Running.{IsMoved, IsStepped, goes_on};
+ghost use Rattle.cmc_collect_run.specs.Answers.{IsCollectionOf};
+ghost use Rattle.cmc_collect_run.specs.Running.{IsMoved, IsStepped, collect_goes_on};
 ghost use Rattle.cmc_collect_form.specs.declared.script.CollectStep.TheVariants.{Settle};
 
 use cmc_collect_form::{CollectScript, CollectStep};
@@ -47,7 +47,7 @@ fn call_of_apply(store: &Store, object: &Object, version: Option<u64>) -> Result
 
 /// Whether the script goes on after this answer: there was room for the entry, where there is one.
 fn goes_on(answer: Collected) -> bool
-    ensures { result ≡ goes_on answer }
+    ensures { result ≡ collect_goes_on answer }
 {
     match answer {
         Collected::Done | Collected::NotNow(_) => true,
@@ -119,7 +119,7 @@ fn make_step(
 /// entry. It ends at the first entry for which there is no room.
 pub fn run_script(alloc: Global, seed: HashSeed, script: CollectScript) -> Result<Ran, AllocError>
     requires { IsInTime script }
-    ensures { IfOk result (IsRunOf script) }
+    ensures { IfOk result (IsCollectionOf script) }
 {
     let CollectScript {
         events,

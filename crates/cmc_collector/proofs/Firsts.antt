@@ -13,11 +13,11 @@ use Rattle.cmc_meta.specs.Keys.{key_cmp}
 use Rattle.cmc_objects.specs.declared.object.Object.{Object}
 use Rattle.cmc_collector.specs.declared.examination.Examination.{Examination}
 use Rattle.cmc_collector.specs.declared.rows.Row.{Row}
-use Rattle.cmc_collector.specs.Caching.{are_gone, has_owners, is_orphan_in, is_owned}
+use Rattle.cmc_collector.specs.Caching.{are_gone, has_owners, is_orphan_in, has_any_owner}
 use Rattle.cmc_collector.specs.Examining.{current_of}
 use Rattle.cmc_collector.specs.Owning.{owners_of}
-use Rattle.cmc_collector.specs.Rows.{Rowed, has_row, held_in, row_in}
-use Rattle.cmc_collector.specs.Settling.{FindsFirst}
+use Rattle.cmc_collector.specs.Rows.{Rowed, has_examine_row, examination_of, examination_under}
+use Rattle.cmc_collector.specs.Settling.{FindsLeast}
 use Rattle.cmc_meta.proofs.KeyOrder.{key_cmp-total}
 use Rattle.cmc_informer.proofs.OneMark.{same_key}
 use Rattle.std.proofs.lemmas.Bool.{and_parts}
@@ -29,12 +29,12 @@ stands k es = list_any (λ e. is_at (key_cmp k) e.0) es
 -- what is left to look at, after keys that the test does not hold of
 pub record RowsLeft (rows : Rowed) (test : Key → Bool) (rest : Rowed) : Type 0 where
   pub ordered : IsStrictlySortedBy key_cmp (keys_of rest)
-  pub each : AllByRecursion (λ e. row_in rows e.0 ≡ e.1.examination) rest
+  pub each : AllByRecursion (λ e. examination_under rows e.0 ≡ e.1.examination) rest
   pub left : (k : Key) → test k ≡ true → stands k rest ≡ true
 
 -- the test holds of keys with a row alone
 abbrev pub IsOfRows : Rowed → (Key → Bool) → Type 0
-IsOfRows rows test = (k : Key) → test k ≡ true → has_row rows k ≡ true
+IsOfRows rows test = (k : Key) → test k ≡ true → has_examine_row rows k ≡ true
 
 found_stands : (b : Bool) (k : Key) (row : Row) (es : Rowed) → is_some (cond b (Some row) (lookup (is_at (key_cmp k)) es)) ≡ true → (is_some (lookup (is_at (key_cmp k)) es) ≡ true → stands k es ≡ true)
     → (b || stands k es) ≡ true
@@ -45,15 +45,15 @@ lookup_stands : (k : Key) (es : Rowed) → is_some (lookup (is_at (key_cmp k)) e
 lookup_stands k [] some = absurd (cc some)
 lookup_stands k (e ∷ es) some = found_stands (is_at (key_cmp k) e.0) k e.1 es some (lookup_stands k es)
 
-row_stands : (k : Key) (es : Rowed) → has_row es k ≡ true → stands k es ≡ true
-unfolding has_row
+row_stands : (k : Key) (es : Rowed) → has_examine_row es k ≡ true → stands k es ≡ true
+unfolding has_examine_row
 row_stands k es has = lookup_stands k es has
 
-own_row : (es : Rowed) (key : Key) (row : Row) → lookup (is_at (key_cmp key)) es ≡ Some row → row_in es key ≡ row.examination
-unfolding row_in
-own_row es key row found = ap held_in found
+own_row : (es : Rowed) (key : Key) (row : Row) → lookup (is_at (key_cmp key)) es ≡ Some row → examination_under es key ≡ row.examination
+unfolding examination_under
+own_row es key row found = ap examination_of found
 
-own_rows : (es rest : Rowed) → All (λ e. lookup (is_at (key_cmp e.0)) es ≡ Some e.1) rest → AllByRecursion (λ e. row_in es e.0 ≡ e.1.examination) rest
+own_rows : (es rest : Rowed) → All (λ e. lookup (is_at (key_cmp e.0)) es ≡ Some e.1) rest → AllByRecursion (λ e. examination_under es e.0 ≡ e.1.examination) rest
 own_rows es [] all = tt
 own_rows es (e ∷ rest) all = (own_row es e.0 e.1 (All-head (λ p. lookup (is_at (key_cmp p.0)) es ≡ Some p.1) e rest all), own_rows es rest (All-tail (λ p. lookup (is_at (key_cmp p.0)) es ≡ Some p.1) e rest all))
 
@@ -86,7 +86,7 @@ by_test true off = absurd (off refl)
 by_test false off = refl
 
 -- the first key that the test holds of
-pub first_found : (rows : Rowed) (test : Key → Bool) (key : Key) (row : Row) (rest : Rowed) → test key ≡ true → RowsLeft rows test ((key, row) ∷ rest) → FindsFirst test (Some key)
+pub first_found : (rows : Rowed) (test : Key → Bool) (key : Key) (row : Row) (rest : Rowed) → test key ≡ true → RowsLeft rows test ((key, row) ∷ rest) → FindsLeast test (Some key)
 first_found rows test key row rest on l = (on, λ k low. by_test (test k) (below k low)) where
   below : (k : Key) → key_cmp k key ≡ Less → test k ≡ true → ⊥
   below k low is =
@@ -95,20 +95,20 @@ first_found rows test key row rest on l = (on, λ k low. by_test (test k) (below
       absurd (cc (some, none))
 
 -- where no key is left, the test holds of none
-pub none_found : (rows : Rowed) (test : Key → Bool) → RowsLeft rows test [] → FindsFirst test None
+pub none_found : (rows : Rowed) (test : Key → Bool) → RowsLeft rows test [] → FindsLeast test None
 none_found rows test l k = by_test (test k) (λ on. let some = l.left k on in absurd (cc some))
 
-pub first_row : (rows : Rowed) (test : Key → Bool) (key : Key) (row : Row) (rest : Rowed) → RowsLeft rows test ((key, row) ∷ rest) → row_in rows key ≡ row.examination
+pub first_row : (rows : Rowed) (test : Key → Bool) (key : Key) (row : Row) (rest : Rowed) → RowsLeft rows test ((key, row) ∷ rest) → examination_under rows key ≡ row.examination
 first_row rows test key row rest l = l.each.0
 
 -- ---- what is due has a row
 
-row_some : (o : Option Row) → is_some (held_in o) ≡ true → is_some o ≡ true
+row_some : (o : Option Row) → is_some (examination_of o) ≡ true → is_some o ≡ true
 row_some None some = some
 row_some (Some row) some = refl
 
-examined_row : (rows : Rowed) (key : Key) → is_some (row_in rows key) ≡ true → has_row rows key ≡ true
-unfolding row_in has_row
+examined_row : (rows : Rowed) (key : Key) → is_some (examination_under rows key) ≡ true → has_examine_row rows key ≡ true
+unfolding examination_under has_examine_row
 examined_row rows key some = row_some (lookup (is_at (key_cmp key)) rows) some
 
 due_row : (x : Option Examination) (orphan : Bool) (held : Option Object) (has : Bool) → is_some (current_of x orphan held) ≡ true → (is_some x ≡ true → has ≡ true) → (orphan ≡ true → has ≡ true) → has ≡ true
@@ -116,14 +116,14 @@ due_row (Some x) orphan held has due going begins = going refl
 due_row None true held has due going begins = begins refl
 due_row None false held has due going begins = absurd (cc due)
 
-orphan_owned : (found : Key → Option Object) (given : ℕ) (namespace : List ℕ) (held : Option Object) → is_orphan_in found given namespace held ≡ true → is_owned held ≡ true
+orphan_owned : (found : Key → Option Object) (given : ℕ) (namespace : List ℕ) (held : Option Object) → is_orphan_in found given namespace held ≡ true → has_any_owner held ≡ true
 orphan_owned found given namespace None orphan = absurd (cc orphan)
 orphan_owned found given namespace (Some o) orphan = (and_parts (has_owners (owners_of o)) (are_gone found given namespace (owners_of o)) orphan).0
 
 abbrev pub due_test : Rowed → (Key → Option Object) → ℕ → Key → Bool
-due_test rows found given k = is_some (current_of (row_in rows k) (is_orphan_in found given k.namespace (found k)) (found k))
+due_test rows found given k = is_some (current_of (examination_under rows k) (is_orphan_in found given k.namespace (found k)) (found k))
 
-pub due_has_row : (rows : Rowed) (found : Key → Option Object) (given : ℕ) → ((k : Key) → is_owned (found k) ≡ true → has_row rows k ≡ true)
+pub due_has_row : (rows : Rowed) (found : Key → Option Object) (given : ℕ) → ((k : Key) → has_any_owner (found k) ≡ true → has_examine_row rows k ≡ true)
     → IsOfRows rows (due_test rows found given)
 due_has_row rows found given covered k due =
-    due_row (row_in rows k) (is_orphan_in found given k.namespace (found k)) (found k) (has_row rows k) due (examined_row rows k) (λ orphan. covered k (orphan_owned found given k.namespace (found k) orphan))
+    due_row (examination_under rows k) (is_orphan_in found given k.namespace (found k)) (found k) (has_examine_row rows k) due (examined_row rows k) (λ orphan. covered k (orphan_owned found given k.namespace (found k) orphan))

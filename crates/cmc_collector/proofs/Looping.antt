@@ -14,7 +14,7 @@ use Rattle.cmc_model.specs.Objects.{no_objects}
 use Rattle.cmc_model.specs.Writes.{contents, oldest}
 use Rattle.cmc_informer.specs.Informing.{Informed}
 use Rattle.cmc_informer.proofs.OneMark.{equal_key, same_key}
-use Rattle.cmc_collector.specs.Caches.{IsToldOf}
+use Rattle.cmc_collector.specs.Caches.{IsInformerOf}
 use Rattle.cmc_collector.specs.Caching.{are_gone, is_gone}
 use Rattle.cmc_collector.specs.Playing.{owner_key}
 
@@ -73,6 +73,6 @@ given_up false owned key k old new same off on is has = is ∙ has
 
 -- ---- an informer that was told nothing
 
-pub untold : (kind : Kind) (i : Informed) → i ≡ record { kind = kind; position = 0; objects = no_objects } → IsToldOf kind i []
+pub untold : (kind : Kind) (i : Informed) → i ≡ record { kind = kind; position = 0; objects = no_objects } → IsInformerOf kind i []
 unfolding contents oldest
-untold kind i is = subst (λ (j : Informed). IsToldOf kind j []) (sym is) (record { kind_is = refl; within = omega arith; told = refl })
+untold kind i is = subst (λ (j : Informed). IsInformerOf kind j []) (sym is) (record { kind_is = refl; within = omega arith; told = refl })

@@ -36,11 +36,11 @@ use Rattle.cmc_collector.specs.declared.moves.CollectMove.{CollectMove}
 use Rattle.cmc_collector.specs.declared.moves.CollectMove.TheVariants.{User, Deliver, Examine}
 use Rattle.cmc_collector.specs.declared.moves.CollectLack.{CollectLack}
 use Rattle.cmc_collector.specs.declared.moves.CollectLack.TheVariants.{Current, NotAWrite}
-use Rattle.cmc_collector.specs.Caching.{are_gone, cached, has_owners, is_gone, is_orphan, is_orphan_in, position}
-use Rattle.cmc_collector.specs.Examining.{IsExamined, current, current_of, examination, finds, is_unavailable, looked, looked_from, next_owner}
-use Rattle.cmc_collector.specs.Moving.{IsAnswer, IsCollected, IsDelete, IsEntry, IsExamineOf, IsLook, is_news, is_of_kind, lack, lack_of_delivery, newest}
+use Rattle.cmc_collector.specs.Caching.{are_gone, cached_object, has_owners, is_gone, is_orphan, is_orphan_in, position}
+use Rattle.cmc_collector.specs.Examining.{IsExamined, current, current_of, examination, finds_owner, is_unavailable, examined_after, looked_from, next_owner}
+use Rattle.cmc_collector.specs.Moving.{IsStoreReply, IsCollected, IsDelete, IsEntry, IsExamineOf, IsOwnerLook, is_watch_event, is_of_kind, lack, lack_of_delivery, newest}
 use Rattle.cmc_collector.specs.Owning.{AreGood, CollectsWell, owners_of}
-use Rattle.cmc_collector.specs.Playing.{called, owner_key, played}
+use Rattle.cmc_collector.specs.Playing.{with_call_at, owner_key, played}
 use Rattle.cmc_collector.proofs.Examined.{counts_on, examined_on, good_delete, looked_on}
 
 pub record Laws (s : Setting) (ms : List Moment) : Type 0 where
@@ -52,12 +52,12 @@ pub record Laws (s : Setting) (ms : List Moment) : Type 0 where
 
 -- ---- one call more
 
-call_examined : (s : Setting) (ms : List Moment) (now : ℤ) (call : Call) (reply : Reply) (key : Key) (x : Examination) → IsAnswered s (played ms) → IsAnswer call reply s ms
-    → IsExamined s (played ms) key x → IsExamined s (called now call reply (played ms)) key x
+call_examined : (s : Setting) (ms : List Moment) (now : ℤ) (call : Call) (reply : Reply) (key : Key) (x : Examination) → IsAnswered s (played ms) → IsStoreReply call reply s ms
+    → IsExamined s (played ms) key x → IsExamined s (with_call_at now call reply (played ms)) key x
 call_examined s ms now call reply key x right answer is =
     examined_on s (Called ByUser call reply) (Tick now ∷ played ms) key x (answer, right) (examined_on s (Tick now) (played ms) key x right is)
 
-call_low : (s : Setting) (ms : List Moment) (now : ℤ) (call : Call) (reply : Reply) (n : ℕ) → n ≤ accepted s (played ms) → n ≤ accepted s (called now call reply (played ms))
+call_low : (s : Setting) (ms : List Moment) (now : ℤ) (call : Call) (reply : Reply) (n : ℕ) → n ≤ accepted s (played ms) → n ≤ accepted s (with_call_at now call reply (played ms))
 call_low s ms now call reply n low = let more = counts_on s (Called ByUser call reply) (Tick now ∷ played ms) in omega (arith, low, more)
 
 -- ---- deliveries
@@ -71,8 +71,8 @@ news_by false true why other none = refl
 news_by false false why other none = absurd (cc none)
 
 -- what is told is a write above the position
-pub is_told_news : (s : Setting) (ms : List Moment) (kind : Kind) (to : ℕ) → lack_of_delivery kind to s ms ≡ None → is_news kind to s ms ≡ true
-is_told_news s ms kind to none = news_by (nat_le (newest kind s ms) (position kind ms)) (is_news kind to s ms) (Current (position kind ms)) (NotAWrite to) none
+pub is_told_news : (s : Setting) (ms : List Moment) (kind : Kind) (to : ℕ) → lack_of_delivery kind to s ms ≡ None → is_watch_event kind to s ms ≡ true
+is_told_news s ms kind to none = news_by (nat_le (newest kind s ms) (position kind ms)) (is_watch_event kind to s ms) (Current (position kind ms)) (NotAWrite to) none
 
 found_low : (b : Bool) (kind : Kind) (to : ℕ) (w : Write) (ws : List Write) → (length (w ∷ ws) == to) ≡ b → (is_of_kind kind (write_at to ws) ≡ true → to ≤ length ws)
     → is_of_kind kind (if b then Some w else write_at to ws) ≡ true → to ≤ length (w ∷ ws)
@@ -84,7 +84,7 @@ unfolding write_at
 write_low kind to [] is = absurd (cc is)
 write_low kind to (w ∷ ws) is = found_low (length (w ∷ ws) == to) kind to w ws refl (write_low kind to ws) is
 
-pub news_within : (s : Setting) (ms : List Moment) (kind : Kind) (to : ℕ) → is_news kind to s ms ≡ true → to ≤ accepted s (played ms)
+pub news_within : (s : Setting) (ms : List Moment) (kind : Kind) (to : ℕ) → is_watch_event kind to s ms ≡ true → to ≤ accepted s (played ms)
 news_within s ms kind to news =
     let parts = and_parts (nat_lt (position kind ms) to) (is_of_kind kind (write_at to (writes s (played ms)))) news in
     let low = write_low kind to (writes s (played ms)) parts.1 in
@@ -132,21 +132,21 @@ some_owners [] has none = absurd (cc has)
 some_owners (o ∷ os) has none = cc none
 
 -- an examination that begins with an orphan
-begun : (s : Setting) (ms : List Moment) (key : Key) (o : Object) → cached s ms key ≡ Some o → is_orphan_in (cached s ms) (accepted s (played ms)) key.namespace (Some o) ≡ true
+begun : (s : Setting) (ms : List Moment) (key : Key) (o : Object) → cached_object s ms key ≡ Some o → is_orphan_in (cached_object s ms) (accepted s (played ms)) key.namespace (Some o) ≡ true
     → IsExamined s (played ms) key (record { object = o; next = 0 })
 begun s ms key o held orphan =
-    let parts = and_parts (has_owners (owners_of o)) (are_gone (cached s ms) (accepted s (played ms)) key.namespace (owners_of o)) orphan in
+    let parts = and_parts (has_owners (owners_of o)) (are_gone (cached_object s ms) (accepted s (played ms)) key.namespace (owners_of o)) orphan in
     let ws = writes s (played ms) in
     let p = position key.kind ms in
     record {
       was = version_of_oldest p key o ws (version_of_kind key.kind key o (oldest p ws) (standing (of_kind key.kind (oldest p ws)) key o held));
       owned = some_owners (owners_of o) parts.0;
-      given = each_given (cached s ms) (accepted s (played ms)) key.namespace (owners_of o) parts.1;
+      given = each_given (cached_object s ms) (accepted s (played ms)) key.namespace (owners_of o) parts.1;
       dead = tt;
     }
 
 current_by : (x : Option Examination) (orphan : Bool) (held : Option Object) (s : Setting) (ms : List Moment) (key : Key) (y : Examination)
-    → ((z : Examination) → x ≡ Some z → IsExamined s (played ms) key z) → cached s ms key ≡ held → is_orphan_in (cached s ms) (accepted s (played ms)) key.namespace held ≡ orphan
+    → ((z : Examination) → x ≡ Some z → IsExamined s (played ms) key z) → cached_object s ms key ≡ held → is_orphan_in (cached_object s ms) (accepted s (played ms)) key.namespace held ≡ orphan
     → current_of x orphan held ≡ Some y → IsExamined s (played ms) key y
 current_by (Some z) orphan held s ms key y going at is some = subst (λ (w : Examination). IsExamined s (played ms) key w) (cc some) (going z refl)
 current_by None false held s ms key y going at is some = absurd (cc some)
@@ -154,35 +154,35 @@ current_by None true None s ms key y going at is some = absurd (cc some)
 current_by None true (Some o) s ms key y going at is some = subst (λ (w : Examination). IsExamined s (played ms) key w) (cc some) (begun s ms key o at is)
 
 pub current_examined : (s : Setting) (ms : List Moment) (key : Key) (x : Examination) → Laws s ms → current s ms key ≡ Some x → IsExamined s (played ms) key x
-current_examined s ms key x laws is = current_by (examination s ms key) (is_orphan s ms key) (cached s ms key) s ms key x (laws.examined key) refl refl is
+current_examined s ms key x laws is = current_by (examination s ms key) (is_orphan s ms key) (cached_object s ms key) s ms key x (laws.examined key) refl refl is
 
 -- ---- looks
 
 same_some : (q p : Object) → Some q ≡ Some p → q ≡ p
 same_some q p e = cc e
 
-got_none : (n : ℕ) (old : Option Object) (o : OwnerRef) (reply : Reply) → IsGot n old reply → finds o reply ≡ false → (p : Object) → old ≡ Some p → uid_of p ≡ o.uid → ⊥
+got_none : (n : ℕ) (old : Option Object) (o : OwnerRef) (reply : Reply) → IsGot n old reply → finds_owner o reply ≡ false → (p : Object) → old ≡ Some p → uid_of p ≡ o.uid → ⊥
 got_none n None o reply got off p is same = cc is
 got_none n (Some q) o reply got off p is same =
-    let here : (uid_of q == o.uid) ≡ false = sym (ap (finds o) got) ∙ off in
+    let here : (uid_of q == o.uid) ≡ false = sym (ap (finds_owner o) got) ∙ off in
     let one : uid_of q ≡ o.uid = ap uid_of (same_some q p is) ∙ same in
     absurd (grind (arith, nat_tests))
 
 got_by : (fails : Bool) (st : State) (key : Key) (o : OwnerRef) (reply : Reply) → MatchBool fails (reply ≡ Unavailable (st.calls + 1)) (IsGot st.accepted (object_at st.objects key) reply)
-    → finds o reply ≡ false → is_unavailable reply ≡ false → (p : Object) → object_at st.objects key ≡ Some p → uid_of p ≡ o.uid → ⊥
+    → finds_owner o reply ≡ false → is_unavailable reply ≡ false → (p : Object) → object_at st.objects key ≡ Some p → uid_of p ≡ o.uid → ⊥
 got_by true st key o reply right off available p is same = absurd (let u = ap is_unavailable right in cc (u, available))
 got_by false st key o reply right off available p is same = got_none st.accepted (object_at st.objects key) o reply right off p is same
 
 -- a look that is answered and does not find the owner: no object has its key and its uid
-not_there : (s : Setting) (ms : List Moment) (namespace : List ℕ) (o : OwnerRef) (reply : Reply) → IsAnswer (calls.Get (owner_key namespace o)) reply s ms → (finds o reply || is_unavailable reply) ≡ false
+not_there : (s : Setting) (ms : List Moment) (namespace : List ℕ) (o : OwnerRef) (reply : Reply) → IsStoreReply (calls.Get (owner_key namespace o)) reply s ms → (finds_owner o reply || is_unavailable reply) ≡ false
     → (p : Object) → object_at (objects s (played ms)) (owner_key namespace o) ≡ Some p → uid_of p ≡ o.uid → ⊥
 not_there s ms namespace o reply answer off =
-    let parts = or_parts (finds o reply) (is_unavailable reply) off in
+    let parts = or_parts (finds_owner o reply) (is_unavailable reply) off in
     got_by (list_any (λ n. n == (state s (played ms)).calls + 1) s.faults) (state s (played ms)) (owner_key namespace o) o reply answer parts.0 parts.1
 
 -- what is found of the next examination, under the key and under any other
 looked_by : (b : Bool) (s : Setting) (ms : List Moment) (h : List Entry) (key k : Key) (o : OwnerRef) (reply : Reply) (x y : Examination) → key_eq key k ≡ b → current s ms key ≡ Some x
-    → (looked o reply x ≡ Some y → IsExamined s h key y) → (examination s ms k ≡ Some y → IsExamined s h k y)
+    → (examined_after o reply x ≡ Some y → IsExamined s h key y) → (examination s ms k ≡ Some y → IsExamined s h k y)
     → (if b then looked_from o reply (current s ms k) else examination s ms k) ≡ Some y → IsExamined s h k y
 looked_by true s ms h key k o reply x y same is new old some =
     let one : key ≡ k = equal_key key k same in
@@ -195,18 +195,18 @@ look_goes true s h key x y going some = absurd (cc some)
 look_goes false s h key x y going some = subst (λ (w : Examination). IsExamined s h key w) (cc some) (going refl)
 
 looked_laws : (s : Setting) (ms : List Moment) (now : ℤ) (key : Key) (x : Examination) (o : OwnerRef) (reply : Reply) → Laws s ms → current s ms key ≡ Some x → next_owner x ≡ Some o
-    → IsAnswer (calls.Get (owner_key key.namespace o)) reply s ms → Laws s (record { now = now; entry = entries.Look key o reply } ∷ ms)
+    → IsStoreReply (calls.Get (owner_key key.namespace o)) reply s ms → Laws s (record { now = now; entry = entries.Look key o reply } ∷ ms)
 looked_laws s ms now key x o reply laws is at answer =
     let get : Call = calls.Get (owner_key key.namespace o) in
-    let h : List Entry = called now get reply (played ms) in
-    let going = λ (ends : (finds o reply || is_unavailable reply) ≡ false).
+    let h : List Entry = with_call_at now get reply (played ms) in
+    let going = λ (ends : (finds_owner o reply || is_unavailable reply) ≡ false).
     call_examined s ms now get reply key (record x { next = x.next + 1 }) laws.answered answer
     (looked_on s (played ms) key x o (current_examined s ms key x laws is) at (not_there s ms key.namespace o reply answer ends)) in
     record {
       answered = (answer, laws.answered);
       good = (tt, laws.good);
       examined = λ k y some.
-          looked_by (key_eq key k) s ms h key k o reply x y refl is (look_goes (finds o reply || is_unavailable reply) s h key x y going)
+          looked_by (key_eq key k) s ms h key k o reply x y refl is (look_goes (finds_owner o reply || is_unavailable reply) s h key x y going)
           (λ old. call_examined s ms now get reply k y laws.answered answer (laws.examined k y old)) some;
       low = λ k. call_low s ms now get reply (position k ms) (laws.low k);
     }
@@ -219,10 +219,10 @@ deleted_by true s ms h k y old some = absurd (cc some)
 deleted_by false s ms h k y old some = old some
 
 deleted_laws : (s : Setting) (ms : List Moment) (now : ℤ) (key : Key) (x : Examination) (reply : Reply) → Laws s ms → current s ms key ≡ Some x → next_owner x ≡ None
-    → IsAnswer (calls.Delete key (Some (version_of x.object))) reply s ms → Laws s (record { now = now; entry = entries.Delete key (version_of x.object) reply } ∷ ms)
+    → IsStoreReply (calls.Delete key (Some (version_of x.object))) reply s ms → Laws s (record { now = now; entry = entries.Delete key (version_of x.object) reply } ∷ ms)
 deleted_laws s ms now key x reply laws is none answer =
     let delete : Call = calls.Delete key (Some (version_of x.object)) in
-    let h : List Entry = called now delete reply (played ms) in
+    let h : List Entry = with_call_at now delete reply (played ms) in
     record {
       answered = (answer, laws.answered);
       good = (good_delete s (played ms) key x reply laws.answered (current_examined s ms key x laws is) none answer, laws.good);
@@ -230,9 +230,9 @@ deleted_laws s ms now key x reply laws is none answer =
       low = λ k. call_low s ms now delete reply (position k ms) (laws.low k);
     }
 
-called_laws : (s : Setting) (ms : List Moment) (now : ℤ) (call : Call) (reply : Reply) → Laws s ms → IsAnswer call reply s ms → Laws s (record { now = now; entry = entries.User call reply } ∷ ms)
+called_laws : (s : Setting) (ms : List Moment) (now : ℤ) (call : Call) (reply : Reply) → Laws s ms → IsStoreReply call reply s ms → Laws s (record { now = now; entry = entries.User call reply } ∷ ms)
 called_laws s ms now call reply laws answer =
-    let h : List Entry = called now call reply (played ms) in
+    let h : List Entry = with_call_at now call reply (played ms) in
     record {
       answered = (answer, laws.answered);
       good = (tt, laws.good);
@@ -243,7 +243,7 @@ called_laws s ms now call reply laws answer =
 -- ---- every move
 
 examined_by : (owner : Option OwnerRef) (s : Setting) (ms : List Moment) (now : ℤ) (key : Key) (e : CollectEntry) (x : Examination) → next_owner x ≡ owner → Laws s ms → current s ms key ≡ Some x
-    → MatchOption owner (IsDelete key x e s ms) (λ o. IsLook key o e s ms) → Laws s (record { now = now; entry = e } ∷ ms)
+    → MatchOption owner (IsDelete key x e s ms) (λ o. IsOwnerLook key o e s ms) → Laws s (record { now = now; entry = e } ∷ ms)
 examined_by None s ms now key e x at laws is (reply, answer, made) =
     subst (λ (f : CollectEntry). Laws s (record { now = now; entry = f } ∷ ms)) (sym made) (deleted_laws s ms now key x reply laws is at answer)
 examined_by (Some o) s ms now key e x at laws is (reply, answer, made) =

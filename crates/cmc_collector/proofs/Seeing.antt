@@ -15,13 +15,13 @@ use Rattle.cmc_collector.specs.declared.entry.CollectEntry.{CollectEntry}
 use Rattle.cmc_collector.specs.declared.entry.CollectEntry.TheVariants as entries
 use Rattle.cmc_collector.specs.declared.entry.Moment.{Moment}
 use Rattle.cmc_collector.specs.declared.examination.Examination.{Examination}
-use Rattle.cmc_collector.specs.Caches.{AreTold, Informers, Moves, held}
-use Rattle.cmc_collector.specs.Caching.{is_owned, position}
-use Rattle.cmc_collector.specs.Examining.{current, looked, next_owner}
-use Rattle.cmc_collector.specs.Kept.{IsKept}
-use Rattle.cmc_collector.specs.Moving.{IsAnswer, lack_of_delivery, told, with_entry}
-use Rattle.cmc_collector.specs.Playing.{Collecting, given, on, owner_key, played, setting}
-use Rattle.cmc_collector.specs.Rows.{Rowed, has_row, row_in}
+use Rattle.cmc_collector.specs.Caches.{AreCachesAt, Informers, Moves, informer_object}
+use Rattle.cmc_collector.specs.Caching.{has_any_owner, position}
+use Rattle.cmc_collector.specs.Examining.{current, examined_after, next_owner}
+use Rattle.cmc_collector.specs.Kept.{IsCollectorOf}
+use Rattle.cmc_collector.specs.Moving.{IsStoreReply, lack_of_delivery, delivery_entry, with_entry}
+use Rattle.cmc_collector.specs.Playing.{Collecting, given_uids, on, owner_key, played, setting}
+use Rattle.cmc_collector.specs.Rows.{Rowed, has_examine_row, examination_under}
 use Rattle.cmc_collector.specs.Watched.{Served, after_call}
 use Rattle.std.proofs.lemmas.Bool.{and_parts}
 use Rattle.std.proofs.lemmas.Bool.Decides.{nat_tests}
@@ -31,7 +31,7 @@ use Rattle.cmc_meta.specs.Keys.{key_cmp}
 use Rattle.cmc_model.specs.Writes.{write_at, writes}
 use Rattle.cmc_informer.specs.Indexes.{AreKeys}
 use Rattle.cmc_informer.specs.Watching.{is_changed}
-use Rattle.cmc_collector.specs.Caches.{position_in, told_to}
+use Rattle.cmc_collector.specs.Caches.{position_in, position_after}
 use Rattle.cmc_collector.specs.Moving.{is_of_kind}
 use Rattle.cmc_collector.proofs.Keeping.{called_kept, deleted_kept, delivered_kept, looked_kept, still_covered}
 use Rattle.cmc_collector.proofs.Promise.{is_told_news, news_within}
@@ -39,8 +39,8 @@ use Rattle.std.specs.Prelude.{is_some}
 use Rattle.cmc_model.specs.declared.write.Write.{Write}
 use Rattle.cmc_informer.specs.Watching.{Watched, start_of}
 use Rattle.cmc_collector.specs.Caching.{is_orphan_in}
-use Rattle.cmc_collector.specs.Examining.{current_of, is_due}
-use Rattle.cmc_collector.specs.Settling.{FindsDue, FindsFirst}
+use Rattle.cmc_collector.specs.Examining.{current_of, is_to_examine}
+use Rattle.cmc_collector.specs.Settling.{FindsDue, FindsLeast}
 use Rattle.cmc_collector.proofs.Firsts.{due_has_row, due_test}
 use Rattle.cmc_collector.proofs.Reading.{count_is, current_is, due_is, held_covered}
 
@@ -48,38 +48,38 @@ use Rattle.cmc_collector.proofs.Reading.{count_is, current_is, due_is, held_cove
 abbrev pub seen : Served → ℕ → List Moment → Collecting
 seen server events ms = record { window = server.window; faults = server.faults; events = events; moments = ms }
 
-pub answered : (events : ℕ) (server : Served) (i : Informers) (rows : Rowed) (ms : List Moment) (call : Call) (reply : Reply) → IsKept (seen server events ms) server i rows
-    → IsReply server.faults server.state call reply → on (IsAnswer call reply) (seen server events ms)
+pub answered : (events : ℕ) (server : Served) (i : Informers) (rows : Rowed) (ms : List Moment) (call : Call) (reply : Reply) → IsCollectorOf (seen server events ms) server i rows
+    → IsReply server.faults server.state call reply → on (IsStoreReply call reply) (seen server events ms)
 answered events server i rows ms call reply kept right = subst (λ (st : State). IsReply server.faults st call reply) kept.state_is right
 
 -- the parts after the change are these
-put : (events : ℕ) (was new : Served) (i : Informers) (rows : Rowed) (ms more : List Moment) → new ≡ was → more ≡ ms → IsKept (seen was events ms) was i rows → IsKept (seen new events more) new i rows
+put : (events : ℕ) (was new : Served) (i : Informers) (rows : Rowed) (ms more : List Moment) → new ≡ was → more ≡ ms → IsCollectorOf (seen was events ms) was i rows → IsCollectorOf (seen new events more) new i rows
 put events was new i rows ms more is are kept =
-    subst (λ (ns : List Moment). IsKept (seen new events ns) new i rows) (sym are) (subst (λ (n : Served). IsKept (seen n events ms) n i rows) (sym is) kept)
+    subst (λ (ns : List Moment). IsCollectorOf (seen new events ns) new i rows) (sym are) (subst (λ (n : Served). IsCollectorOf (seen n events ms) n i rows) (sym is) kept)
 
-pub called_seen : (events : ℕ) (server new : Served) (i : Informers) (rows : Rowed) (ms more : List Moment) (now : ℤ) (call : Call) (reply : Reply) → IsKept (seen server events ms) server i rows
+pub called_seen : (events : ℕ) (server new : Served) (i : Informers) (rows : Rowed) (ms more : List Moment) (now : ℤ) (call : Call) (reply : Reply) → IsCollectorOf (seen server events ms) server i rows
     → IsReply server.faults server.state call reply → new ≡ after_call now call reply server → more ≡ record { now = now; entry = entries.User call reply } ∷ ms → length ms < events
-    → IsKept (seen new events more) new i rows
+    → IsCollectorOf (seen new events more) new i rows
 called_seen events server new i rows ms more now call reply kept right is are room =
     put events (after_call now call reply server) new i rows (record { now = now; entry = entries.User call reply } ∷ ms) more is are
     (called_kept (seen server events ms) server i rows now call reply kept (answered events server i rows ms call reply kept right) room)
 
-pub looked_seen : (events : ℕ) (server new : Served) (i : Informers) (rows next : Rowed) (ms more : List Moment) (now : ℤ) (key : Key) (x : Examination) (owner : OwnerRef) (reply : Reply) → IsKept (seen server events ms) server i rows
+pub looked_seen : (events : ℕ) (server new : Served) (i : Informers) (rows next : Rowed) (ms more : List Moment) (now : ℤ) (key : Key) (x : Examination) (owner : OwnerRef) (reply : Reply) → IsCollectorOf (seen server events ms) server i rows
     → on current (seen server events ms) key ≡ Some x → next_owner x ≡ Some owner
     → IsReply server.faults server.state (calls.Get (owner_key key.namespace owner)) reply → new ≡ after_call now (calls.Get (owner_key key.namespace owner)) reply server
     → more ≡ record { now = now; entry = entries.Look key owner reply } ∷ ms → length ms < events
-    → ((k : Key) → row_in next k ≡ (if key_eq key k then looked owner reply x else row_in rows k)) → ((k : Key) → has_row next k ≡ has_row rows k)
-    → IsKept (seen new events more) new i next
+    → ((k : Key) → examination_under next k ≡ (if key_eq key k then examined_after owner reply x else examination_under rows k)) → ((k : Key) → has_examine_row next k ≡ has_examine_row rows k)
+    → IsCollectorOf (seen new events more) new i next
 looked_seen events server new i rows next ms more now key x owner reply kept going at right is are room changed same =
     put events (after_call now (calls.Get (owner_key key.namespace owner)) reply server) new i next (record { now = now; entry = entries.Look key owner reply } ∷ ms) more is are
     (looked_kept (seen server events ms) server i rows next now key x owner reply kept going at (answered events server i rows ms (calls.Get (owner_key key.namespace owner)) reply kept right) room changed same)
 
-pub deleted_seen : (events : ℕ) (server new : Served) (i : Informers) (rows next : Rowed) (ms more : List Moment) (now : ℤ) (key : Key) (x : Examination) (reply : Reply) → IsKept (seen server events ms) server i rows
+pub deleted_seen : (events : ℕ) (server new : Served) (i : Informers) (rows next : Rowed) (ms more : List Moment) (now : ℤ) (key : Key) (x : Examination) (reply : Reply) → IsCollectorOf (seen server events ms) server i rows
     → on current (seen server events ms) key ≡ Some x → next_owner x ≡ None
     → IsReply server.faults server.state (calls.Delete key (Some (version_of x.object))) reply → new ≡ after_call now (calls.Delete key (Some (version_of x.object))) reply server
     → more ≡ record { now = now; entry = entries.Delete key (version_of x.object) reply } ∷ ms → length ms < events
-    → ((k : Key) → row_in next k ≡ (if key_eq key k then None else row_in rows k)) → ((k : Key) → has_row next k ≡ has_row rows k)
-    → IsKept (seen new events more) new i next
+    → ((k : Key) → examination_under next k ≡ (if key_eq key k then None else examination_under rows k)) → ((k : Key) → has_examine_row next k ≡ has_examine_row rows k)
+    → IsCollectorOf (seen new events more) new i next
 deleted_seen events server new i rows next ms more now key x reply kept going at right is are room changed same =
     put events (after_call now (calls.Delete key (Some (version_of x.object))) reply server) new i next (record { now = now; entry = entries.Delete key (version_of x.object) reply } ∷ ms) more is are
     (deleted_kept (seen server events ms) server i rows next now key x reply kept going at (answered events server i rows ms (calls.Delete key (Some (version_of x.object))) reply kept right) room changed same)
@@ -99,7 +99,7 @@ pub calls_low : (s : Setting) (ms : List Moment) → (state s (played ms)).calls
 calls_low s [] = omega arith
 calls_low s (m ∷ ms) = more_calls s m ms (calls_low s ms)
 
-pub calls_fit : (events : ℕ) (server : Served) (i : Informers) (rows : Rowed) (ms : List Moment) → IsKept (seen server events ms) server i rows → server.state.calls ≤ length ms
+pub calls_fit : (events : ℕ) (server : Served) (i : Informers) (rows : Rowed) (ms : List Moment) → IsCollectorOf (seen server events ms) server i rows → server.state.calls ≤ length ms
 calls_fit events server i rows ms kept = subst (λ (st : State). st.calls ≤ length ms) (sym kept.state_is) (calls_low (setting (seen server events ms)) ms)
 
 -- ---- deliveries
@@ -109,7 +109,7 @@ ahead_by true p to n low within = omega (arith, low, within)
 ahead_by false p to n low within = omega (arith, low)
 
 -- what may be told lies above the position and within the writes
-pub may_tell : (c : Collecting) (kind : Kind) (to : ℕ) → on (lack_of_delivery kind to) c ≡ None → (position kind c.moments < to) × (to ≤ on given c)
+pub may_tell : (c : Collecting) (kind : Kind) (to : ℕ) → on (lack_of_delivery kind to) c ≡ None → (position kind c.moments < to) × (to ≤ on given_uids c)
 may_tell c kind to may =
     let news = is_told_news (setting c) c.moments kind to may in
     let parts = and_parts (nat_lt (position kind c.moments) to) (is_of_kind kind (write_at to (writes (setting c) (played c.moments)))) news in
@@ -117,79 +117,79 @@ may_tell c kind to may =
     (above, news_within (setting c) c.moments kind to news)
 
 pub delivered_seen : (events : ℕ) (server : Served) (i new : Informers) (rows made next : Rowed) (ms more : List Moment) (now : ℤ) (kind : Kind) (to from at : ℕ) (e : CollectEntry) (keys : List Key)
-    → IsKept (seen server events ms) server i rows → on (lack_of_delivery kind to) (seen server events ms) ≡ None → e ≡ on (told kind to) (seen server events ms) → from ≡ position_in kind i
-    → at ≡ (if nat_lt from (on given (seen server events ms) - server.window) then on given (seen server events ms) else to) → more ≡ record { now = now; entry = e } ∷ ms → length ms < events
-    → AreTold new server.writes → Moves kind at i new
+    → IsCollectorOf (seen server events ms) server i rows → on (lack_of_delivery kind to) (seen server events ms) ≡ None → e ≡ on (delivery_entry kind to) (seen server events ms) → from ≡ position_in kind i
+    → at ≡ (if nat_lt from (on given_uids (seen server events ms) - server.window) then on given_uids (seen server events ms) else to) → more ≡ record { now = now; entry = e } ∷ ms → length ms < events
+    → AreCachesAt new server.writes → Moves kind at i new
     → AreKeys keys (λ k. is_changed kind from at server.writes k)
-    → ((k : Key) → list_any (is_at (key_cmp k)) keys ≡ true → has_row made k ≡ true) → ((k : Key) → row_in made k ≡ row_in rows k) → ((k : Key) → has_row rows k ≡ true → has_row made k ≡ true)
-    → ((k : Key) → row_in next k ≡ row_in made k) → ((k : Key) → is_owned (held new k) ≡ true → has_row made k ≡ true → has_row next k ≡ true)
-    → IsKept (seen server events more) server new next
+    → ((k : Key) → list_any (is_at (key_cmp k)) keys ≡ true → has_examine_row made k ≡ true) → ((k : Key) → examination_under made k ≡ examination_under rows k) → ((k : Key) → has_examine_row rows k ≡ true → has_examine_row made k ≡ true)
+    → ((k : Key) → examination_under next k ≡ examination_under made k) → ((k : Key) → has_any_owner (informer_object new k) ≡ true → has_examine_row made k ≡ true → has_examine_row next k ≡ true)
+    → IsCollectorOf (seen server events more) server new next
 delivered_seen events server i new rows made next ms more now kind to from at e keys kept may entry start place are room after moves changed roomy same keeps still stays =
     let c : Collecting = seen server events ms in
     let told_facts = may_tell c kind to may in
     let begins : from ≡ position kind ms = start ∙ kept.position_is kind in
     let ahead : position_in kind i ≤ at =
-    subst (λ (n : ℕ). n ≤ at) start (subst (λ (n : ℕ). from ≤ n) (sym place) (ahead_by (nat_lt from (on given c - server.window)) from to (on given c) (subst (λ (n : ℕ). n < to) (sym begins) told_facts.0) told_facts.1)) in
+    subst (λ (n : ℕ). n ≤ at) start (subst (λ (n : ℕ). from ≤ n) (sym place) (ahead_by (nat_lt from (on given_uids c - server.window)) from to (on given_uids c) (subst (λ (n : ℕ). n < to) (sym begins) told_facts.0) told_facts.1)) in
     let covered = still_covered i new server.writes kind at rows made keys kept.told after ahead moves (subst (λ (n : ℕ). AreKeys keys (λ k. is_changed kind n at server.writes k)) start changed)
     (held_covered c server i rows kept) keeps roomy in
-    subst (λ (ns : List Moment). IsKept (seen server events ns) server new next) (sym are)
-    (delivered_kept c server i new rows next now kind to at e kept may entry (place ∙ ap (λ (n : ℕ). if nat_lt n (on given c - server.window) then on given c else to) begins) room after moves
+    subst (λ (ns : List Moment). IsCollectorOf (seen server events ns) server new next) (sym are)
+    (delivered_kept c server i new rows next now kind to at e kept may entry (place ∙ ap (λ (n : ℕ). if nat_lt n (on given_uids c - server.window) then on given_uids c else to) begins) room after moves
     (λ k. still k ∙ same k) (λ k owned. stays k owned (covered k owned)))
 
 -- ---- what is due
 
-pub found_due : (events : ℕ) (server : Served) (i : Informers) (rows es : Rowed) (ms : List Moment) (n : ℕ) (v : Collecting) (key : Option Key) → IsKept (seen server events ms) server i rows
-    → es ≡ rows → n ≡ server.state.accepted → seen server events ms ≡ v → FindsFirst (due_test es (held i) n) key → on (FindsDue key) v
+pub found_due : (events : ℕ) (server : Served) (i : Informers) (rows es : Rowed) (ms : List Moment) (n : ℕ) (v : Collecting) (key : Option Key) → IsCollectorOf (seen server events ms) server i rows
+    → es ≡ rows → n ≡ server.state.accepted → seen server events ms ≡ v → FindsLeast (due_test es (informer_object i) n) key → on (FindsDue key) v
 found_due events server i rows es ms n v key kept same count view finds =
-    let mine : FindsFirst (due_test rows (held i) server.state.accepted) key =
-    subst (λ (m : ℕ). FindsFirst (due_test rows (held i) m) key) count (subst (λ (r : Rowed). FindsFirst (due_test r (held i) n) key) same finds) in
-    subst (λ (c : Collecting). on (FindsDue key) c) view (subst (λ (t : Key → Bool). FindsFirst t key) (due_is (seen server events ms) server i rows kept) mine)
+    let mine : FindsLeast (due_test rows (informer_object i) server.state.accepted) key =
+    subst (λ (m : ℕ). FindsLeast (due_test rows (informer_object i) m) key) count (subst (λ (r : Rowed). FindsLeast (due_test r (informer_object i) n) key) same finds) in
+    subst (λ (c : Collecting). on (FindsDue key) c) view (subst (λ (t : Key → Bool). FindsLeast t key) (due_is (seen server events ms) server i rows kept) mine)
 
-pub found_current : (events : ℕ) (server : Served) (i : Informers) (rows : Rowed) (ms : List Moment) (n : ℕ) (v : Collecting) (key : Key) (row x : Option Examination) → IsKept (seen server events ms) server i rows
-    → row ≡ row_in rows key → n ≡ server.state.accepted → seen server events ms ≡ v → x ≡ current_of row (is_orphan_in (held i) n key.namespace (held i key)) (held i key) → x ≡ on current v key
+pub found_current : (events : ℕ) (server : Served) (i : Informers) (rows : Rowed) (ms : List Moment) (n : ℕ) (v : Collecting) (key : Key) (row x : Option Examination) → IsCollectorOf (seen server events ms) server i rows
+    → row ≡ examination_under rows key → n ≡ server.state.accepted → seen server events ms ≡ v → x ≡ current_of row (is_orphan_in (informer_object i) n key.namespace (informer_object i key)) (informer_object i key) → x ≡ on current v key
 found_current events server i rows ms n v key row x kept same count view is =
     is
-    ∙ ap (λ (r : Option Examination). current_of r (is_orphan_in (held i) n key.namespace (held i key)) (held i key)) same
-    ∙ ap (λ (m : ℕ). current_of (row_in rows key) (is_orphan_in (held i) m key.namespace (held i key)) (held i key)) count
+    ∙ ap (λ (r : Option Examination). current_of r (is_orphan_in (informer_object i) n key.namespace (informer_object i key)) (informer_object i key)) same
+    ∙ ap (λ (m : ℕ). current_of (examination_under rows key) (is_orphan_in (informer_object i) m key.namespace (informer_object i key)) (informer_object i key)) count
     ∙ current_is (seen server events ms) server i rows key kept
     ∙ ap (λ (c : Collecting). on current c key) view
 
-pub found_is_due : (events : ℕ) (server : Served) (i : Informers) (rows : Rowed) (ms : List Moment) (n : ℕ) (v : Collecting) (key : Key) (row : Option Examination) (due : Bool) → IsKept (seen server events ms) server i rows
-    → row ≡ row_in rows key → n ≡ server.state.accepted → seen server events ms ≡ v → due ≡ is_some (current_of row (is_orphan_in (held i) n key.namespace (held i key)) (held i key)) → due ≡ on is_due v key
+pub found_is_due : (events : ℕ) (server : Served) (i : Informers) (rows : Rowed) (ms : List Moment) (n : ℕ) (v : Collecting) (key : Key) (row : Option Examination) (due : Bool) → IsCollectorOf (seen server events ms) server i rows
+    → row ≡ examination_under rows key → n ≡ server.state.accepted → seen server events ms ≡ v → due ≡ is_some (current_of row (is_orphan_in (informer_object i) n key.namespace (informer_object i key)) (informer_object i key)) → due ≡ on is_to_examine v key
 found_is_due events server i rows ms n v key row due kept same count view is = is ∙ ap is_some (found_current events server i rows ms n v key row _ kept same count view refl)
 
 -- the key of an examination that goes on or begins has a row
-pub current_row : (events : ℕ) (server : Served) (i : Informers) (rows : Rowed) (ms : List Moment) (key : Key) (x : Examination) → IsKept (seen server events ms) server i rows → on current (seen server events ms) key ≡ Some x
-    → has_row rows key ≡ true
+pub current_row : (events : ℕ) (server : Served) (i : Informers) (rows : Rowed) (ms : List Moment) (key : Key) (x : Examination) → IsCollectorOf (seen server events ms) server i rows → on current (seen server events ms) key ≡ Some x
+    → has_examine_row rows key ≡ true
 current_row events server i rows ms key x kept is =
-    due_has_row rows (held i) server.state.accepted (held_covered (seen server events ms) server i rows kept) key
+    due_has_row rows (informer_object i) server.state.accepted (held_covered (seen server events ms) server i rows kept) key
     (ap (λ (t : Key → Bool). t key) (due_is (seen server events ms) server i rows kept) ∙ ap is_some is)
 
 -- ---- what a cache is told
 
-start_is : (events : ℕ) (server : Served) (i : Informers) (rows : Rowed) (ms : List Moment) (watch : Watched) → IsKept (seen server events ms) server i rows → watch.writes ≡ server.writes → watch.window ≡ server.window
-    → start_of watch ≡ on given (seen server events ms) - server.window
+start_is : (events : ℕ) (server : Served) (i : Informers) (rows : Rowed) (ms : List Moment) (watch : Watched) → IsCollectorOf (seen server events ms) server i rows → watch.writes ≡ server.writes → watch.window ≡ server.window
+    → start_of watch ≡ on given_uids (seen server events ms) - server.window
 start_is events server i rows ms watch kept writes_are window_is =
     ap (λ (ws : List Write). length ws - watch.window) writes_are ∙ ap (λ (n : ℕ). length server.writes - n) window_is ∙ ap (λ (n : ℕ). n - server.window) (count_is (seen server events ms) server i rows kept)
 
-pub tells_list : (events : ℕ) (server : Served) (i : Informers) (rows : Rowed) (ms : List Moment) (watch : Watched) (v : Collecting) (position start : ℕ) → IsKept (seen server events ms) server i rows
-    → watch.writes ≡ server.writes → watch.window ≡ server.window → start ≡ start_of watch → seen server events ms ≡ v → position < start → nat_lt position (on given v - v.window) ≡ true
+pub tells_list : (events : ℕ) (server : Served) (i : Informers) (rows : Rowed) (ms : List Moment) (watch : Watched) (v : Collecting) (position start : ℕ) → IsCollectorOf (seen server events ms) server i rows
+    → watch.writes ≡ server.writes → watch.window ≡ server.window → start ≡ start_of watch → seen server events ms ≡ v → position < start → nat_lt position (on given_uids v - v.window) ≡ true
 tells_list events server i rows ms watch v position start kept writes_are window_is from view below =
-    let is : start ≡ on given (seen server events ms) - server.window = from ∙ start_is events server i rows ms watch kept writes_are window_is in
-    let low : position < on given (seen server events ms) - server.window = subst (λ (n : ℕ). position < n) is below in
-    subst (λ (c : Collecting). nat_lt position (on given c - c.window) ≡ true) view (grind (arith, nat_tests))
+    let is : start ≡ on given_uids (seen server events ms) - server.window = from ∙ start_is events server i rows ms watch kept writes_are window_is in
+    let low : position < on given_uids (seen server events ms) - server.window = subst (λ (n : ℕ). position < n) is below in
+    subst (λ (c : Collecting). nat_lt position (on given_uids c - c.window) ≡ true) view (grind (arith, nat_tests))
 
-pub tells_on : (events : ℕ) (server : Served) (i : Informers) (rows : Rowed) (ms : List Moment) (watch : Watched) (v : Collecting) (position start : ℕ) → IsKept (seen server events ms) server i rows
-    → watch.writes ≡ server.writes → watch.window ≡ server.window → start ≡ start_of watch → seen server events ms ≡ v → start ≤ position → nat_lt position (on given v - v.window) ≡ false
+pub tells_on : (events : ℕ) (server : Served) (i : Informers) (rows : Rowed) (ms : List Moment) (watch : Watched) (v : Collecting) (position start : ℕ) → IsCollectorOf (seen server events ms) server i rows
+    → watch.writes ≡ server.writes → watch.window ≡ server.window → start ≡ start_of watch → seen server events ms ≡ v → start ≤ position → nat_lt position (on given_uids v - v.window) ≡ false
 tells_on events server i rows ms watch v position start kept writes_are window_is from view above =
-    let is : start ≡ on given (seen server events ms) - server.window = from ∙ start_is events server i rows ms watch kept writes_are window_is in
-    let high : on given (seen server events ms) - server.window ≤ position = subst (λ (n : ℕ). n ≤ position) is above in
-    subst (λ (c : Collecting). nat_lt position (on given c - c.window) ≡ false) view (grind (arith, nat_tests))
+    let is : start ≡ on given_uids (seen server events ms) - server.window = from ∙ start_is events server i rows ms watch kept writes_are window_is in
+    let high : on given_uids (seen server events ms) - server.window ≤ position = subst (λ (n : ℕ). n ≤ position) is above in
+    subst (λ (c : Collecting). nat_lt position (on given_uids c - c.window) ≡ false) view (grind (arith, nat_tests))
 
-pub accepted_is : (events : ℕ) (server : Served) (i : Informers) (rows : Rowed) (ms : List Moment) (watch : Watched) (v : Collecting) (n : ℕ) → IsKept (seen server events ms) server i rows
-    → watch.writes ≡ server.writes → n ≡ length watch.writes → seen server events ms ≡ v → n ≡ on given v
+pub accepted_is : (events : ℕ) (server : Served) (i : Informers) (rows : Rowed) (ms : List Moment) (watch : Watched) (v : Collecting) (n : ℕ) → IsCollectorOf (seen server events ms) server i rows
+    → watch.writes ≡ server.writes → n ≡ length watch.writes → seen server events ms ≡ v → n ≡ on given_uids v
 accepted_is events server i rows ms watch v n kept writes_are count view =
-    count ∙ ap (λ (ws : List Write). length ws) writes_are ∙ count_is (seen server events ms) server i rows kept ∙ ap (λ (c : Collecting). on given c) view
+    count ∙ ap (λ (ws : List Write). length ws) writes_are ∙ count_is (seen server events ms) server i rows kept ∙ ap (λ (c : Collecting). on given_uids c) view
 
 pub then_is : {A : Type 0} (b : Bool) (a x y : A) → b ≡ true → a ≡ x → a ≡ (if b then x else y)
 then_is true a x y on_it is = is
@@ -209,12 +209,12 @@ pub room_in : (events : ℕ) (server : Served) (ms : List Moment) (v : Collectin
 room_in events server ms v view room = subst (λ (c : Collecting). length c.moments < c.events) (sym view) room
 
 -- a delete at a version that is the one that was seen
-pub deleted_at : (events : ℕ) (server new : Served) (i : Informers) (rows next : Rowed) (ms more : List Moment) (now : ℤ) (key : Key) (x : Examination) (n : ℕ) (reply : Reply) → n ≡ version_of x.object → IsKept (seen server events ms) server i rows
+pub deleted_at : (events : ℕ) (server new : Served) (i : Informers) (rows next : Rowed) (ms more : List Moment) (now : ℤ) (key : Key) (x : Examination) (n : ℕ) (reply : Reply) → n ≡ version_of x.object → IsCollectorOf (seen server events ms) server i rows
     → on current (seen server events ms) key ≡ Some x → next_owner x ≡ None
     → IsReply server.faults server.state (calls.Delete key (Some n)) reply → new ≡ after_call now (calls.Delete key (Some n)) reply server
     → more ≡ record { now = now; entry = entries.Delete key n reply } ∷ ms → length ms < events
-    → ((k : Key) → row_in next k ≡ (if key_eq key k then None else row_in rows k)) → ((k : Key) → has_row next k ≡ has_row rows k)
-    → IsKept (seen new events more) new i next
+    → ((k : Key) → examination_under next k ≡ (if key_eq key k then None else examination_under rows k)) → ((k : Key) → has_examine_row next k ≡ has_examine_row rows k)
+    → IsCollectorOf (seen new events more) new i next
 deleted_at events server new i rows next ms more now key x n reply version kept going at right is are room changed same =
     deleted_seen events server new i rows next ms more now key x reply kept going at (subst (λ (v : ℕ). IsReply server.faults server.state (calls.Delete key (Some v)) reply) version right)
     (is ∙ ap (λ (v : ℕ). after_call now (calls.Delete key (Some v)) reply server) version) (are ∙ ap (λ (v : ℕ). record { now = now; entry = entries.Delete key v reply } ∷ ms) version) room changed same
@@ -223,10 +223,10 @@ pub going_in : (events : ℕ) (server : Served) (ms : List Moment) (v : Collecti
 going_in events server ms v key x view going = subst (λ (c : Collecting). on current c key ≡ Some x) (sym view) going
 
 -- where the informer comes to, in the words of the moments
-pub place_is : (events : ℕ) (server : Served) (i : Informers) (rows : Rowed) (ms : List Moment) (watch : Watched) (p from at to : ℕ) → IsKept (seen server events ms) server i rows → watch.writes ≡ server.writes
-    → watch.window ≡ server.window → from ≡ p → at ≡ (if nat_lt from (on given (seen server events ms) - server.window) then on given (seen server events ms) else to) → told_to p to watch ≡ at
+pub place_is : (events : ℕ) (server : Served) (i : Informers) (rows : Rowed) (ms : List Moment) (watch : Watched) (p from at to : ℕ) → IsCollectorOf (seen server events ms) server i rows → watch.writes ≡ server.writes
+    → watch.window ≡ server.window → from ≡ p → at ≡ (if nat_lt from (on given_uids (seen server events ms) - server.window) then on given_uids (seen server events ms) else to) → position_after p to watch ≡ at
 place_is events server i rows ms watch p from at to kept writes_are window_is start place =
     ap (λ (n : ℕ). if nat_lt p n then length watch.writes else to) (start_is events server i rows ms watch kept writes_are window_is)
-    ∙ ap (λ (n : ℕ). if nat_lt p (on given (seen server events ms) - server.window) then n else to) (ap (λ (ws : List Write). length ws) writes_are ∙ count_is (seen server events ms) server i rows kept)
-    ∙ ap (λ (n : ℕ). if nat_lt n (on given (seen server events ms) - server.window) then on given (seen server events ms) else to) (sym start)
+    ∙ ap (λ (n : ℕ). if nat_lt p (on given_uids (seen server events ms) - server.window) then n else to) (ap (λ (ws : List Write). length ws) writes_are ∙ count_is (seen server events ms) server i rows kept)
+    ∙ ap (λ (n : ℕ). if nat_lt n (on given_uids (seen server events ms) - server.window) then on given_uids (seen server events ms) else to) (sym start)
     ∙ sym place

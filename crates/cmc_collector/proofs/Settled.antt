@@ -17,12 +17,12 @@ use Rattle.cmc_model.proofs.Writes.{writes_leave}
 use Rattle.cmc_informer.specs.Caches.{has_uid}
 use Rattle.cmc_collector.specs.declared.entry.Moment.{Moment}
 use Rattle.cmc_collector.specs.declared.examination.Examination.{Examination}
-use Rattle.cmc_collector.specs.Caching.{are_gone, cached, has_owners, is_orphan, is_orphan_in, position}
-use Rattle.cmc_collector.specs.Examining.{current_of, examination, is_due}
+use Rattle.cmc_collector.specs.Caching.{are_gone, cached_object, has_owners, is_orphan, is_orphan_in, position}
+use Rattle.cmc_collector.specs.Examining.{current_of, examination, is_to_examine}
 use Rattle.cmc_collector.specs.Moving.{newest}
 use Rattle.cmc_collector.specs.Owning.{AreDead, IsGoodCollect, owners_of}
 use Rattle.cmc_collector.specs.Playing.{owner_key, played}
-use Rattle.cmc_collector.specs.Settling.{IsSettled, behind, is_behind}
+use Rattle.cmc_collector.specs.Settling.{IsSettled, first_kind_behind, is_behind}
 use Rattle.cmc_collector.proofs.OneKind.{object_at-of_kind, of_kind-oldest}
 use Rattle.cmc_collector.proofs.Unchanged.{kind_self}
 
@@ -34,13 +34,13 @@ none_by false true c none = absurd (cc none)
 none_by false false true none = absurd (cc none)
 none_by false false false none = (refl, (refl, refl))
 
-not_behind : (kind : Kind) (s : Setting) (ms : List Moment) → behind s ms ≡ None → is_behind kind s ms ≡ false
+not_behind : (kind : Kind) (s : Setting) (ms : List Moment) → first_kind_behind s ms ≡ None → is_behind kind s ms ≡ false
 not_behind Certificate s ms none = (none_by (is_behind Certificate s ms) (is_behind CertificateRequest s ms) (is_behind Secret s ms) none).0
 not_behind CertificateRequest s ms none = (none_by (is_behind Certificate s ms) (is_behind CertificateRequest s ms) (is_behind Secret s ms) none).1.0
 not_behind Secret s ms none = (none_by (is_behind Certificate s ms) (is_behind CertificateRequest s ms) (is_behind Secret s ms) none).1.1
 
 -- so the caches hold what stands
-pub cached_current : (s : Setting) (ms : List Moment) → behind s ms ≡ None → (key : Key) → cached s ms key ≡ object_at (objects s (played ms)) key
+pub cached_current : (s : Setting) (ms : List Moment) → first_kind_behind s ms ≡ None → (key : Key) → cached_object s ms key ≡ object_at (objects s (played ms)) key
 cached_current s ms none key =
     let ws : List Write = writes s (played ms) in
     let off : nat_lt (position key.kind ms) (newest key.kind s ms) ≡ false = not_behind key.kind s ms none in
@@ -64,13 +64,13 @@ gone_by (Some o) uid none = differs (uid == uid_of o) refl where
   differs true e = absurd (none o refl (grind (arith, nat_tests)))
   differs false e = refl
 
-gone_in : (s : Setting) (ms : List Moment) (namespace : List ℕ) (os : List OwnerRef) → ((key : Key) → cached s ms key ≡ object_at (objects s (played ms)) key)
-    → AreDead namespace os s (played ms) → are_gone (cached s ms) (accepted s (played ms)) namespace os ≡ true
+gone_in : (s : Setting) (ms : List Moment) (namespace : List ℕ) (os : List OwnerRef) → ((key : Key) → cached_object s ms key ≡ object_at (objects s (played ms)) key)
+    → AreDead namespace os s (played ms) → are_gone (cached_object s ms) (accepted s (played ms)) namespace os ≡ true
 gone_in s ms namespace [] current dead = refl
 gone_in s ms namespace (o ∷ os) current dead =
     let low : o.uid ≤ accepted s (played ms) = dead.0.0 in
     let given : nat_le o.uid (accepted s (played ms)) ≡ true = grind (arith, nat_tests) in
-    let gone = gone_by (cached s ms (owner_key namespace o)) o.uid (λ p is same. dead.0.1 p (sym (current (owner_key namespace o)) ∙ is) same) in
+    let gone = gone_by (cached_object s ms (owner_key namespace o)) o.uid (λ p is same. dead.0.1 p (sym (current (owner_key namespace o)) ∙ is) same) in
     and_from _ _ (and_from _ _ given gone) (gone_in s ms namespace os current dead.1)
 
 has_some : (os : List OwnerRef) → os ≢ [] → has_owners os ≡ true
@@ -80,11 +80,11 @@ has_some (o ∷ os) some = refl
 pub none_left : (s : Setting) (ms : List Moment) → IsSettled s ms → (key : Key) → IsGoodCollect s (played ms) key → ⊥
 none_left s ms settled key good =
     let current = cached_current s ms settled.0 in
-    let held : cached s ms key ≡ Some good.object = current key ∙ good.stands in
+    let held : cached_object s ms key ≡ Some good.object = current key ∙ good.stands in
     let orphan : is_orphan s ms key ≡ true =
-    ap (is_orphan_in (cached s ms) (accepted s (played ms)) key.namespace) held
+    ap (is_orphan_in (cached_object s ms) (accepted s (played ms)) key.namespace) held
     ∙ and_from _ _ (has_some (owners_of good.object) good.owned) (gone_in s ms key.namespace (owners_of good.object) current good.dead) in
-    let due : is_due s ms key ≡ true =
+    let due : is_to_examine s ms key ≡ true =
     ap (λ (o : Option Object). is_some (current_of (examination s ms key) (is_orphan s ms key) o)) held ∙ due_by (examination s ms key) (is_orphan s ms key) good.object orphan in
     let none = settled.1 key in
     cc (due, none)

@@ -5,21 +5,21 @@ use Rattle.cmc_meta.specs.declared.key.Key.{Key}
 use Rattle.cmc_collector.specs.declared.moves.CollectMove.{CollectMove}
 use Rattle.cmc_collector.specs.declared.moves.Collected.{Collected}
 use Rattle.cmc_collector.specs.declared.moves.Collected.TheVariants.{Done, NotNow, Spent}
-use Rattle.cmc_collector.specs.Moving.{Leaves}
+use Rattle.cmc_collector.specs.Moving.{LeavesCollected}
 use Rattle.cmc_collector.specs.Owning.{IsGoodCollect}
 use Rattle.cmc_collector.specs.Playing.{Collecting, on, played, setting}
 use Rattle.cmc_collector.specs.Settling.{EndsAs, IsSettled, IsTurned}
 use Rattle.cmc_collector.proofs.Settled.{none_left}
 
-pub leaves_on : (n now : ℤ) (move of : CollectMove) (old mid new : Collecting) → n ≡ now → move ≡ of → new ≡ mid → Leaves n of old Done mid → Leaves now move old Done new
+pub leaves_on : (n now : ℤ) (move of : CollectMove) (old mid new : Collecting) → n ≡ now → move ≡ of → new ≡ mid → LeavesCollected n of old Done mid → LeavesCollected now move old Done new
 leaves_on n now move of old mid new same is here left =
-    subst (λ (m : ℤ). Leaves m move old Done new) same (subst (λ (v : CollectMove). Leaves n v old Done new) (sym is) (subst (λ (c : Collecting). Leaves n of old Done c) (sym here) left))
+    subst (λ (m : ℤ). LeavesCollected m move old Done new) same (subst (λ (v : CollectMove). LeavesCollected n v old Done new) (sym is) (subst (λ (c : Collecting). LeavesCollected n of old Done c) (sym here) left))
 
 pub not_done : (b : Bool) (answer : Collected) → IsTrue b ↔ (answer ≡ Done) → b ≡ false → answer ≡ Done → ⊥
 not_done true answer means off is = cc off
 not_done false answer means off is = let told = means.1 is in cc told
 
-pub unmade : (now : ℤ) (move : CollectMove) (old new : Collecting) (answer : Collected) → (answer ≡ Done → ⊥) → Leaves now move old answer new → new ≡ old
+pub unmade : (now : ℤ) (move : CollectMove) (old new : Collecting) (answer : Collected) → (answer ≡ Done → ⊥) → LeavesCollected now move old answer new → new ≡ old
 unmade now move old new Done off left = absurd (off refl)
 unmade now move old new (NotNow why) off left = left
 unmade now move old new (Spent entries) off left = left

@@ -16,10 +16,10 @@ use Rattle.cmc_collector.specs.declared.moves.CollectLack.TheVariants.{NoOrphan,
 use Rattle.cmc_collector.specs.declared.moves.Collected.{Collected}
 use Rattle.cmc_collector.specs.declared.moves.Collected.TheVariants.{Done, Spent}
 use Rattle.cmc_collector.specs.Caching.{position}
-use Rattle.cmc_collector.specs.Examining.{is_due}
-use Rattle.cmc_collector.specs.Moving.{answer, answer_of, is_news, is_of_kind, lack, lack_of_delivery, newest}
+use Rattle.cmc_collector.specs.Examining.{is_to_examine}
+use Rattle.cmc_collector.specs.Moving.{answer, answer_of, is_watch_event, is_of_kind, lack, lack_of_delivery, newest}
 use Rattle.cmc_collector.specs.Playing.{played}
-use Rattle.cmc_collector.specs.Settling.{EndsAs, IsSettled, IsTurn, Settles, behind, is_behind}
+use Rattle.cmc_collector.specs.Settling.{EndsAs, IsSettled, IsSettlingMove, Settles, first_kind_behind, is_behind}
 
 -- ---- the newest write of a kind is one of it
 
@@ -63,7 +63,7 @@ by_not_false : (b : Bool) → (b ≡ false → ⊥) → b ≡ true
 by_not_false true off = refl
 by_not_false false off = absurd (off refl)
 
-first_behind : (s : Setting) (ms : List Moment) (kind : Kind) → behind s ms ≡ Some kind → is_behind kind s ms ≡ true
+first_behind : (s : Setting) (ms : List Moment) (kind : Kind) → first_kind_behind s ms ≡ Some kind → is_behind kind s ms ≡ true
 first_behind s ms kind is = by_not_false (is_behind kind s ms) (λ off.
     let differs = λ (k : Kind) (same : k ≡ kind) (on_it : is_behind k s ms ≡ true). bad (is_behind kind s ms) (sym (ap (λ (q : Kind). is_behind q s ms) same) ∙ on_it) off in
     first_by (is_behind Certificate s ms) (is_behind CertificateRequest s ms) (is_behind Secret s ms) kind is (differs Certificate) (differs CertificateRequest) (differs Secret)) where
@@ -83,15 +83,15 @@ delivery_goes : (s : Setting) (ms : List Moment) (kind : Kind) → is_behind kin
 delivery_goes s ms kind late =
     let below : position kind ms < newest kind s ms = grind (arith, nat_tests) in
     let off : nat_le (newest kind s ms) (position kind ms) ≡ false = grind (arith, nat_tests) in
-    news_goes (nat_le (newest kind s ms) (position kind ms)) (is_news kind (newest kind s ms) s ms) (Current (position kind ms)) (NotAWrite (newest kind s ms)) off
+    news_goes (nat_le (newest kind s ms) (position kind ms)) (is_watch_event kind (newest kind s ms) s ms) (Current (position kind ms)) (NotAWrite (newest kind s ms)) off
     (and_from (nat_lt (position kind ms) (newest kind s ms)) (is_of_kind kind (write_at (newest kind s ms) (writes s (played ms)))) late (newest_of_kind kind (writes s (played ms)) (omega (arith, below))))
 
-pub turn_goes : (move : CollectMove) (s : Setting) (ms : List Moment) → IsTurn move s ms → lack move s ms ≡ None
+pub turn_goes : (move : CollectMove) (s : Setting) (ms : List Moment) → IsSettlingMove move s ms → lack move s ms ≡ None
 turn_goes (User call) s ms turn = absurd turn
 turn_goes (Deliver kind to) s ms turn = ap (λ (n : ℕ). lack_of_delivery kind n s ms) turn.1 ∙ delivery_goes s ms kind (first_behind s ms kind turn.0)
-turn_goes (Examine key) s ms turn = not_lacking (is_due s ms key) turn.1.0
+turn_goes (Examine key) s ms turn = not_lacking (is_to_examine s ms key) turn.1.0
 
-unsettled : (move : CollectMove) (s : Setting) (ms : List Moment) → IsTurn move s ms → IsSettled s ms → ⊥
+unsettled : (move : CollectMove) (s : Setting) (ms : List Moment) → IsSettlingMove move s ms → IsSettled s ms → ⊥
 unsettled (User call) s ms turn settled = turn
 unsettled (Deliver kind to) s ms turn settled = let some = turn.0 in let none = settled.0 in cc (some, none)
 unsettled (Examine key) s ms turn settled = let due = turn.1.0 in let none = settled.1 key in cc (due, none)
@@ -102,7 +102,7 @@ full_by : (fits : Bool) (n events : ℕ) (result : Collected) → nat_lt n event
 full_by true n events result e is off = absurd (off is)
 full_by false n events result e is off = (is, grind (arith, nat_tests))
 
-pub turn_full : (move : CollectMove) (s : Setting) (ms : List Moment) (result : Collected) → IsTurn move s ms → result ≡ answer move s ms → (result ≡ Done → ⊥) → EndsAs s ms result
+pub turn_full : (move : CollectMove) (s : Setting) (ms : List Moment) (result : Collected) → IsSettlingMove move s ms → result ≡ answer move s ms → (result ≡ Done → ⊥) → EndsAs s ms result
 turn_full move s ms result turn is off =
     let full = full_by (nat_lt (length ms) s.events) (length ms) s.events result refl (is ∙ ap (λ (why : Option CollectLack). answer_of why (length ms) s.events) (turn_goes move s ms turn)) off in
     subst (λ (r : Collected). EndsAs s ms r) (sym full.0) (refl, full.1, unsettled move s ms turn)

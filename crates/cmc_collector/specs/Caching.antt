@@ -25,8 +25,8 @@ position kind [] = 0
 position kind (m ∷ ms) = position_with kind (position kind ms) m.entry
 
 -- what the cache of its kind holds under the key
-abbrev pub cached : Setting → List Moment → Key → Option Object
-cached s ms key = object_at (objects_of key.kind s (played ms) (position key.kind ms)) key
+abbrev pub cached_object : Setting → List Moment → Key → Option Object
+cached_object s ms key = object_at (objects_of key.kind s (played ms) (position key.kind ms)) key
 
 -- of `given` uids that were given out this is one, and the object that is found does not have it
 abbrev pub is_gone : ℕ → ℕ → Option Object → Bool
@@ -41,9 +41,9 @@ abbrev pub has_owners : List OwnerRef → Bool
 has_owners [] = false
 has_owners (o ∷ os) = true
 
-abbrev pub is_owned : Option Object → Bool
-is_owned None = false
-is_owned (Some o) = has_owners (owners_of o)
+abbrev pub has_any_owner : Option Object → Bool
+has_any_owner None = false
+has_any_owner (Some o) = has_owners (owners_of o)
 
 -- there is an object with owners, none of which is found
 abbrev pub is_orphan_in : (Key → Option Object) → ℕ → List ℕ → Option Object → Bool
@@ -52,4 +52,4 @@ is_orphan_in found given namespace (Some o) = has_owners (owners_of o) && are_go
 
 -- by the caches there is an object under the key that has owners, and all of them are dead
 abbrev pub is_orphan : Setting → List Moment → Key → Bool
-is_orphan s ms key = is_orphan_in (cached s ms) (accepted s (played ms)) key.namespace (cached s ms key)
+is_orphan s ms key = is_orphan_in (cached_object s ms) (accepted s (played ms)) key.namespace (cached_object s ms key)

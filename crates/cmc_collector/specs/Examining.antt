@@ -13,7 +13,7 @@ use Rattle.cmc_collector.specs.declared.entry.CollectEntry.{CollectEntry}
 use Rattle.cmc_collector.specs.declared.entry.CollectEntry.TheVariants.{Look, Delete}
 use Rattle.cmc_collector.specs.declared.entry.Moment.{Moment}
 use Rattle.cmc_collector.specs.declared.examination.Examination.{Examination}
-use Rattle.cmc_collector.specs.Caching.{cached, is_orphan}
+use Rattle.cmc_collector.specs.Caching.{cached_object, is_orphan}
 use Rattle.cmc_collector.specs.Owning.{AreDead, owners_of}
 
 -- the owner that is looked for next; none where each was looked for
@@ -21,17 +21,17 @@ abbrev pub next_owner : Examination → Option OwnerRef
 next_owner x = slice_get (owners_of x.object) x.next
 
 -- a look finds the owner where the object that it finds has the owner's uid
-abbrev pub finds : OwnerRef → Reply → Bool
-finds owner (Found o) = uid_of o == owner.uid
-finds owner other = false
+abbrev pub finds_owner : OwnerRef → Reply → Bool
+finds_owner owner (Found o) = uid_of o == owner.uid
+finds_owner owner other = false
 
 abbrev pub is_unavailable : Reply → Bool
 is_unavailable (Unavailable number) = true
 is_unavailable other = false
 
 -- the examination after a look for its next owner: it ends where the owner is found, or nothing was answered
-abbrev pub looked : OwnerRef → Reply → Examination → Option Examination
-looked owner reply x = if finds owner reply || is_unavailable reply then None else Some (record x { next = x.next + 1 })
+abbrev pub examined_after : OwnerRef → Reply → Examination → Option Examination
+examined_after owner reply x = if finds_owner owner reply || is_unavailable reply then None else Some (record x { next = x.next + 1 })
 
 -- the examination that goes on, or the one that begins with an orphan
 abbrev pub current_of : Option Examination → Bool → Option Object → Option Examination
@@ -42,7 +42,7 @@ current_of None true (Some o) = Some (record { object = o; next = 0 })
 
 abbrev pub looked_from : OwnerRef → Reply → Option Examination → Option Examination
 looked_from owner reply None = None
-looked_from owner reply (Some x) = looked owner reply x
+looked_from owner reply (Some x) = examined_after owner reply x
 
 -- a look takes the examination of its key one owner further, a delete ends it
 abbrev pub examined_with : Key → Option Examination → Option Examination → CollectEntry → Option Examination
@@ -53,15 +53,15 @@ examined_with key before current other = before
 -- the examination of the key that has not ended
 abbrev pub examination : Setting → List Moment → Key → Option Examination
 examination s [] key = None
-examination s (m ∷ ms) key = examined_with key (examination s ms key) (current_of (examination s ms key) (is_orphan s ms key) (cached s ms key)) m.entry
+examination s (m ∷ ms) key = examined_with key (examination s ms key) (current_of (examination s ms key) (is_orphan s ms key) (cached_object s ms key)) m.entry
 
 -- the examination with which Examine goes on, or which it begins
 abbrev pub current : Setting → List Moment → Key → Option Examination
-current s ms key = current_of (examination s ms key) (is_orphan s ms key) (cached s ms key)
+current s ms key = current_of (examination s ms key) (is_orphan s ms key) (cached_object s ms key)
 
 -- there is something to examine under the key
-abbrev pub is_due : Setting → List Moment → Key → Bool
-is_due s ms key = is_some (current s ms key)
+abbrev pub is_to_examine : Setting → List Moment → Key → Bool
+is_to_examine s ms key = is_some (current s ms key)
 
 -- What holds of an examination: its object was a version under the key, has owners, each of whose uids was given out, and those that were
 -- looked for are dead.

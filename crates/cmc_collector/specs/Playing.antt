@@ -48,14 +48,14 @@ abbrev pub owner_key : List ℕ → OwnerRef → Key
 owner_key namespace owner = record { kind = owner.kind; namespace = namespace; name = owner.name }
 
 -- a call at its moment
-abbrev pub called : ℤ → Call → Reply → List Entry → List Entry
-called now call reply h = Called ByUser call reply ∷ Tick now ∷ h
+abbrev pub with_call_at : ℤ → Call → Reply → List Entry → List Entry
+with_call_at now call reply h = Called ByUser call reply ∷ Tick now ∷ h
 
 -- a look is a Get of the owner, a delete names the version; what the caches are told calls nothing
 abbrev pub played_with : ℤ → CollectEntry → List Entry → List Entry
-played_with now (User call reply) h = called now call reply h
-played_with now (Look key owner reply) h = called now (calls.Get (owner_key key.namespace owner)) reply h
-played_with now (Delete key version reply) h = called now (calls.Delete key (Some version)) reply h
+played_with now (User call reply) h = with_call_at now call reply h
+played_with now (Look key owner reply) h = with_call_at now (calls.Get (owner_key key.namespace owner)) reply h
+played_with now (Delete key version reply) h = with_call_at now (calls.Delete key (Some version)) reply h
 played_with now other h = h
 
 abbrev pub played : List Moment → List Entry
@@ -66,9 +66,9 @@ played (m ∷ ms) = played_with m.now m.entry (played ms)
 abbrev pub store_state : Setting → List Moment → State
 store_state s ms = state s (played ms)
 
-abbrev pub stored : Setting → List Moment → Objects
-stored s ms = objects s (played ms)
+abbrev pub stored_objects : Setting → List Moment → Objects
+stored_objects s ms = objects s (played ms)
 
 -- how many writes were accepted, each of which may have given out its number as a uid
-abbrev pub given : Setting → List Moment → ℕ
-given s ms = accepted s (played ms)
+abbrev pub given_uids : Setting → List Moment → ℕ
+given_uids s ms = accepted s (played ms)

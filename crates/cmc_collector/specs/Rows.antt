@@ -11,12 +11,12 @@ use Rattle.cmc_collector.specs.declared.rows.Row.{Row}
 abbrev pub Rowed : Type 0
 Rowed = List (Key × Row)
 
-abbrev pub held_in : Option Row → Option Examination
-held_in None = None
-held_in (Some row) = row.examination
+abbrev pub examination_of : Option Row → Option Examination
+examination_of None = None
+examination_of (Some row) = row.examination
 
-unfoldable pub row_in : Rowed → Key → Option Examination
-row_in rows key = held_in (lookup (is_at (key_cmp key)) rows)
+unfoldable pub examination_under : Rowed → Key → Option Examination
+examination_under rows key = examination_of (lookup (is_at (key_cmp key)) rows)
 
-unfoldable pub has_row : Rowed → Key → Bool
-has_row rows key = is_some (lookup (is_at (key_cmp key)) rows)
+unfoldable pub has_examine_row : Rowed → Key → Bool
+has_examine_row rows key = is_some (lookup (is_at (key_cmp key)) rows)

@@ -4,7 +4,7 @@ ghost use Rattle.std.specs.Prelude.{◌≡◌, ◌<◌, ◌≤◌, OnOk, OnErr, 
 ghost use Rattle.cmc_meta.specs.declared.key.Kind.{Kind as KindValue};
 ghost use Rattle.cmc_meta.specs.declared.key.Key.{Key as KeyValue};
 ghost use Rattle.cmc_model.specs.Writes.{kind_eq};
-ghost use Rattle.cmc_collector.specs.Caches.{AreTold, IsToldOf, Moves, held, informer_of, position_in, told_to};
+ghost use Rattle.cmc_collector.specs.Caches.{AreCachesAt, IsInformerOf, Moves, informer_object, informer_of, position_in, position_after};
 
 use cmc_informer::{Informer, Watch};
 use cmc_meta::{Key, Kind};
@@ -47,7 +47,7 @@ impl Caches {
 
     /// Caches that were told nothing yet, where all is hashed by the seed. It takes no memory.
     pub(crate) fn new(alloc: Global, seed: HashSeed) -> Caches
-        ensures told { AreTold result [] }
+        ensures told { AreCachesAt result [] }
         ensures position { (k : KindValue) → position_in k result ≡ 0 }
     {
         Caches {
@@ -76,7 +76,7 @@ impl Caches {
 
     /// What the cache of its kind holds under the key.
     pub(crate) fn get(&self, key: &Key) -> Option<&Object>
-        ensures { option_copied result ≡ held self.now key.now }
+        ensures { option_copied result ≡ informer_object self.now key.now }
     {
         self.informer(key.kind).get(key)
     }
@@ -90,11 +90,11 @@ impl Caches {
         kind: Kind,
         to: u64,
     ) -> Result<(), AllocError>
-        requires told { AreTold self.old watch.now.writes }
+        requires told { AreCachesAt self.old watch.now.writes }
         requires above { position_in kind self.old < to }
         requires within { to ≤ length watch.now.writes }
-        ensures told { OnOk result (AreTold self.new watch.now.writes) }
-        ensures moved { OnOk result (Moves kind (told_to (position_in kind self.old) to watch.now) self.old self.new) }
+        ensures told { OnOk result (AreCachesAt self.new watch.now.writes) }
+        ensures moved { OnOk result (Moves kind (position_after (position_in kind self.old) to watch.now) self.old self.new) }
         ensures err { OnErr result (self.new ≡ self.old) }
     {
         match kind {
@@ -112,11 +112,11 @@ fn tell_one(
     kind: Kind,
     to: u64,
 ) -> Result<(), AllocError>
-    requires told { IsToldOf kind informer.old watch.now.writes }
+    requires told { IsInformerOf kind informer.old watch.now.writes }
     requires above { informer.old.position < to }
     requires within { to ≤ length watch.now.writes }
-    ensures told { OnOk result (IsToldOf kind informer.new watch.now.writes) }
-    ensures moved { OnOk result (informer.new.position ≡ told_to informer.old.position to watch.now) }
+    ensures told { OnOk result (IsInformerOf kind informer.new watch.now.writes) }
+    ensures moved { OnOk result (informer.new.position ≡ position_after informer.old.position to watch.now) }
     ensures err { OnErr result (informer.new ≡ informer.old) }
 {
     if informer.position() < watch.start() {

@@ -6,7 +6,7 @@ ghost use Rattle.cmc_collector.specs.Caching as caching;
 ghost use Rattle.cmc_collector.specs.Examining as examining;
 ghost use Rattle.cmc_collector.specs.Moving as spec;
 ghost use Rattle.cmc_collector.specs.Owning.{CollectsWell};
-ghost use Rattle.cmc_collector.specs.Playing.{given, on, store_state, stored};
+ghost use Rattle.cmc_collector.specs.Playing.{given_uids, on, store_state, stored_objects};
 ghost use Rattle.cmc_collector.specs.Settling.{FindsDue};
 ghost use Rattle.cmc_collector.specs.declared.moves.Collected.TheVariants as answers;
 ghost use Rattle.cmc_collector.specs.declared.moves.CollectMove.TheVariants as moves;
@@ -48,14 +48,14 @@ impl Drop for Collection {
 }
 
 impl Model for Collection {
-    ghost use Rattle.cmc_collector.specs.Kept.{IsKept};
+    ghost use Rattle.cmc_collector.specs.Kept.{IsCollectorOf};
     ghost use Rattle.cmc_collector.specs.Playing.{Collecting};
 
     ghost Value = { Collecting };
 
     ghost view = { λ c. record { window = c.server.window; faults = c.server.faults; events = c.events; moments = c.entries.moments } };
 
-    ghost invariant = { λ c. IsKept (record { window = c.server.window; faults = c.server.faults; events = c.events; moments = c.entries.moments }) c.server c.caches c.rows };
+    ghost invariant = { λ c. IsCollectorOf (record { window = c.server.window; faults = c.server.faults; events = c.events; moments = c.entries.moments }) c.server c.caches c.rows };
 }
 
 impl Collection {
@@ -109,7 +109,7 @@ impl Collection {
 
     /// How many objects are stored.
     pub fn stored(&self) -> u64
-        ensures { result ≡ length (finite.entries (on stored self.now)) }
+        ensures { result ≡ length (finite.entries (on stored_objects self.now)) }
     {
         self.server.store().objects().len() as u64
     }
@@ -145,7 +145,7 @@ impl Collection {
     }
 
     fn is_due(&self, key: &Key) -> Result<bool, AllocError>
-        ensures { IfOk result (λ due. due ≡ on examining.is_due self.now key.now) }
+        ensures { IfOk result (λ due. due ≡ on examining.is_to_examine self.now key.now) }
     {
         is_due(
             &self.caches,
@@ -235,7 +235,7 @@ impl Collection {
         step: CollectMove,
     ) -> Result<Collected, AllocError>
         ensures answer { IfOk result (λ answer. answer ≡ on (spec.answer step) self.old) }
-        ensures leaves { IfOk result (λ answer. spec.Leaves now step self.old answer self.new) }
+        ensures leaves { IfOk result (λ answer. spec.LeavesCollected now step self.old answer self.new) }
         ensures promise { IfOk result (λ answer. on CollectsWell self.new) }
         ensures err { OnErr result (self.new ≡ self.old) }
     {
@@ -255,7 +255,7 @@ impl Collection {
 
     fn make_call(&mut self, alloc: Global, now: i64, call: Call) -> Result<(), AllocError>
         requires { length self.old.moments < self.old.events }
-        ensures ok { OnOk result (spec.Leaves now (moves.User call) self.old answers.Done self.new) }
+        ensures ok { OnOk result (spec.LeavesCollected now (moves.User call) self.old answers.Done self.new) }
         ensures err { OnErr result (self.new ≡ self.old) }
     {
         self.entries.reserve()?;
@@ -267,7 +267,7 @@ impl Collection {
     fn deliver(&mut self, alloc: Global, now: i64, kind: Kind, to: u64) -> Result<(), AllocError>
         requires room { length self.old.moments < self.old.events }
         requires may { on (spec.lack_of_delivery kind to) self.old ≡ None }
-        ensures ok { OnOk result (spec.Leaves now (moves.Deliver kind to) self.old answers.Done self.new) }
+        ensures ok { OnOk result (spec.LeavesCollected now (moves.Deliver kind to) self.old answers.Done self.new) }
         ensures err { OnErr result (self.new ≡ self.old) }
     {
         self.entries.reserve()?;
@@ -284,7 +284,7 @@ impl Collection {
 
     /// Where a cache at this position comes to that is told up to this write.
     fn told_to(&self, position: u64, to: u64) -> u64
-        ensures { result ≡ (if nat_lt position (on given self.now - self.now.window) then on given self.now else to) }
+        ensures { result ≡ (if nat_lt position (on given_uids self.now - self.now.window) then on given_uids self.now else to) }
     {
         let watch = self.server.watch();
         if position < watch.start() {
@@ -296,7 +296,7 @@ impl Collection {
     /// The entry for a cache at this position that is told up to this write.
     fn told(&self, position: u64, kind: Kind, to: u64) -> CollectEntry
         requires { position ≡ caching.position kind self.now.moments }
-        ensures { result ≡ on (spec.told kind to) self.now }
+        ensures { result ≡ on (spec.delivery_entry kind to) self.now }
     {
         let watch = self.server.watch();
         if position < watch.start() {
@@ -310,8 +310,8 @@ impl Collection {
 
     fn examine(&mut self, alloc: Global, now: i64, key: Key) -> Result<(), AllocError>
         requires room { length self.old.moments < self.old.events }
-        requires due { on examining.is_due self.old key ≡ true }
-        ensures ok { OnOk result (spec.Leaves now (moves.Examine key) self.old answers.Done self.new) }
+        requires due { on examining.is_to_examine self.old key ≡ true }
+        ensures ok { OnOk result (spec.LeavesCollected now (moves.Examine key) self.old answers.Done self.new) }
         ensures err { OnErr result (self.new ≡ self.old) }
     {
         let Some(examination) = self.current(&key)? else {
@@ -334,7 +334,7 @@ impl Collection {
         requires room { length self.old.moments < self.old.events }
         requires going { on examining.current self.old key ≡ Some examination }
         requires next { examining.next_owner examination ≡ Some owner }
-        ensures ok { OnOk result (spec.Leaves now (moves.Examine key) self.old answers.Done self.new) }
+        ensures ok { OnOk result (spec.LeavesCollected now (moves.Examine key) self.old answers.Done self.new) }
         ensures err { OnErr result (self.new ≡ self.old) }
     {
         self.entries.reserve()?;
@@ -357,7 +357,7 @@ impl Collection {
         requires room { length self.old.moments < self.old.events }
         requires going { on examining.current self.old key ≡ Some examination.now }
         requires last { examining.next_owner examination.now ≡ None }
-        ensures ok { OnOk result (spec.Leaves now (moves.Examine key) self.old answers.Done self.new) }
+        ensures ok { OnOk result (spec.LeavesCollected now (moves.Examine key) self.old answers.Done self.new) }
         ensures err { OnErr result (self.new ≡ self.old) }
     {
         let version = examination.version();

@@ -59,7 +59,7 @@ impl Examination {
     /// The examination after a look for its next owner that was answered with `reply`.
     pub(crate) fn after(self, owner: &OwnerRef, reply: &Reply) -> Option<Examination>
         requires { spec.next_owner self ≡ Some owner.now }
-        ensures { result ≡ spec.looked owner.now reply.now self }
+        ensures { result ≡ spec.examined_after owner.now reply.now self }
     {
         if finds(owner, reply) || is_unavailable(reply) {
             return None;
@@ -74,7 +74,7 @@ impl Examination {
 }
 
 fn finds(owner: &OwnerRef, reply: &Reply) -> bool
-    ensures { result ≡ spec.finds owner.now reply.now }
+    ensures { result ≡ spec.finds_owner owner.now reply.now }
 {
     match reply {
         Reply::Found { object } => object.meta().uid == owner.uid,

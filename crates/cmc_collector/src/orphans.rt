@@ -4,12 +4,12 @@ ghost use Rattle.std.specs.Prelude.{◌≡◌, IfOk, None, Some, is_some, true};
 ghost use Rattle.cmc_informer.specs.Caches.{has_uid};
 ghost use Rattle.cmc_meta.specs.declared.key.Key.{Key as KeyValue};
 ghost use Rattle.cmc_objects.specs.declared.call.Call.TheVariants as calls;
-ghost use Rattle.cmc_collector.specs.Caches.{held};
+ghost use Rattle.cmc_collector.specs.Caches.{informer_object};
 ghost use Rattle.cmc_collector.specs.Caching as spec;
 ghost use Rattle.cmc_collector.specs.Examining.{current_of};
 ghost use Rattle.cmc_collector.specs.Playing as playing;
-ghost use Rattle.cmc_collector.specs.Rows.{has_row, row_in};
-ghost use Rattle.cmc_collector.specs.Settling.{FindsFirst};
+ghost use Rattle.cmc_collector.specs.Rows.{has_examine_row, examination_under};
+ghost use Rattle.cmc_collector.specs.Settling.{FindsLeast};
 
 use crate::caches::Caches;
 use crate::examination::Examination;
@@ -51,7 +51,7 @@ pub(crate) fn delete_of(key: &Key, version: u64) -> Result<Call, AllocError>
 
 /// Whether there is an object that has owners.
 pub(crate) fn is_owned(object: Option<&Object>) -> bool
-    ensures { result ≡ spec.is_owned (option_copied object.entry) }
+    ensures { result ≡ spec.has_any_owner (option_copied object.entry) }
 {
     match object {
         Some(object) => !object.meta().owners.as_slice().is_empty(),
@@ -75,7 +75,7 @@ fn is_gone(
     namespace: &Name,
     owner: &OwnerRef,
 ) -> Result<bool, AllocError>
-    ensures { IfOk result (λ gone. gone ≡ spec.is_gone given owner.now.uid (held caches.now (playing.owner_key namespace.now owner.now))) }
+    ensures { IfOk result (λ gone. gone ≡ spec.is_gone given owner.now.uid (informer_object caches.now (playing.owner_key namespace.now owner.now))) }
 {
     let key = owner_key(namespace, owner)?;
     Ok(owner.uid <= given && !has_uid(caches.get(&key), owner.uid))
@@ -87,7 +87,7 @@ fn are_gone(
     namespace: &Name,
     owners: &[OwnerRef],
 ) -> Result<bool, AllocError>
-    ensures { IfOk result (λ gone. gone ≡ spec.are_gone (held caches.now) given namespace.now owners.now) }
+    ensures { IfOk result (λ gone. gone ≡ spec.are_gone (informer_object caches.now) given namespace.now owners.now) }
 {
     for owner in owners {
         if !is_gone(caches, given, namespace, owner)? {
@@ -104,7 +104,7 @@ fn is_orphan(
     namespace: &Name,
     object: Option<&Object>,
 ) -> Result<bool, AllocError>
-    ensures { IfOk result (λ orphan. orphan ≡ spec.is_orphan_in (held caches.now) given namespace.now (option_copied object.entry)) }
+    ensures { IfOk result (λ orphan. orphan ≡ spec.is_orphan_in (informer_object caches.now) given namespace.now (option_copied object.entry)) }
 {
     match object {
         Some(object) => {
@@ -125,7 +125,7 @@ pub(crate) fn is_due(
     key: &Key,
     row: Option<&Examination>,
 ) -> Result<bool, AllocError>
-    ensures { IfOk result (λ due. due ≡ is_some (current_of (option_copied row.entry) (spec.is_orphan_in (held caches.now) given key.now.namespace (held caches.now key.now)) (held caches.now key.now))) }
+    ensures { IfOk result (λ due. due ≡ is_some (current_of (option_copied row.entry) (spec.is_orphan_in (informer_object caches.now) given key.now.namespace (informer_object caches.now key.now)) (informer_object caches.now key.now))) }
 {
     if row.is_some() {
         return Ok(true);
@@ -140,7 +140,7 @@ pub(crate) fn current(
     key: &Key,
     row: Option<&Examination>,
 ) -> Result<Option<Examination>, AllocError>
-    ensures { IfOk result (λ x. x ≡ current_of (option_copied row.entry) (spec.is_orphan_in (held caches.now) given key.now.namespace (held caches.now key.now)) (held caches.now key.now)) }
+    ensures { IfOk result (λ x. x ≡ current_of (option_copied row.entry) (spec.is_orphan_in (informer_object caches.now) given key.now.namespace (informer_object caches.now key.now)) (informer_object caches.now key.now)) }
 {
     if let Some(examination) = row {
         return Ok(Some(examination.copy()?));
@@ -170,8 +170,8 @@ pub(crate) fn first_due<'a>(
     caches: &Caches,
     given: u64,
 ) -> Result<Option<&'a Key>, AllocError>
-    requires { (k : KeyValue) → spec.is_owned (held caches.now k) ≡ true → has_row rows.now.entries k ≡ true }
-    ensures { IfOk result (λ key. FindsFirst (λ k. is_some (current_of (row_in rows.now.entries k) (spec.is_orphan_in (held caches.now) given k.namespace (held caches.now k)) (held caches.now k))) (option_copied key)) }
+    requires { (k : KeyValue) → spec.has_any_owner (informer_object caches.now k) ≡ true → has_examine_row rows.now.entries k ≡ true }
+    ensures { IfOk result (λ key. FindsLeast (λ k. is_some (current_of (examination_under rows.now.entries k) (spec.is_orphan_in (informer_object caches.now) given k.namespace (informer_object caches.now k)) (informer_object caches.now k))) (option_copied key)) }
 {
     for (key, row) in rows.iter() {
         if is_due(caches, given, key, row.examination.as_ref())? {

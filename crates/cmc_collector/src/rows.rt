@@ -5,9 +5,9 @@ ghost use Rattle.cmc_meta.specs.declared.key.Key.{Key as KeyValue};
 ghost use Rattle.cmc_meta.specs.Keys.{key_cmp, key_eq};
 ghost use Rattle.std.specs.BTreeMap.{is_at};
 ghost use Rattle.std.specs.List.{list_any};
-ghost use Rattle.cmc_collector.specs.Caches.{held};
-ghost use Rattle.cmc_collector.specs.Caching.{is_owned};
-ghost use Rattle.cmc_collector.specs.Rows.{has_row, row_in};
+ghost use Rattle.cmc_collector.specs.Caches.{informer_object};
+ghost use Rattle.cmc_collector.specs.Caching.{has_any_owner};
+ghost use Rattle.cmc_collector.specs.Rows.{has_examine_row, examination_under};
 
 use crate::caches::Caches;
 use crate::examination::Examination;
@@ -52,9 +52,9 @@ impl Model for Rows {
 
 impl Rows {
     /// No rows. It takes no memory.
-    #[tactic(auto, unfolding(crate::specs::Rows::row_in))]
+    #[tactic(auto, unfolding(crate::specs::Rows::examination_under))]
     pub(crate) fn new(alloc: Global) -> Rows
-        ensures { (k : KeyValue) → row_in result k ≡ None }
+        ensures { (k : KeyValue) → examination_under result k ≡ None }
     {
         Rows {
             map: BTreeMap::new(alloc),
@@ -62,9 +62,9 @@ impl Rows {
     }
 
     /// The examination of the key.
-    #[tactic(auto, unfolding(crate::specs::Rows::row_in))]
+    #[tactic(auto, unfolding(crate::specs::Rows::examination_under))]
     pub(crate) fn get(&self, key: &Key) -> Option<&Examination>
-        ensures { option_copied result ≡ row_in self.now key.now }
+        ensures { option_copied result ≡ examination_under self.now key.now }
     {
         match self.map.get(key) {
             Some(row) => row.examination.as_ref(),
@@ -73,11 +73,11 @@ impl Rows {
     }
 
     /// Makes a row for the key, where it has none.
-    #[tactic(auto, unfolding(crate::specs::Rows::row_in, crate::specs::Rows::has_row))]
+    #[tactic(auto, unfolding(crate::specs::Rows::examination_under, crate::specs::Rows::has_examine_row))]
     pub(crate) fn room(&mut self, key: &Key) -> Result<(), AllocError>
-        ensures room { OnOk result (has_row self.new key.now ≡ true) }
-        ensures same { (k : KeyValue) → row_in self.new k ≡ row_in self.old k }
-        ensures keeps { (k : KeyValue) → has_row self.old k ≡ true → has_row self.new k ≡ true }
+        ensures room { OnOk result (has_examine_row self.new key.now ≡ true) }
+        ensures same { (k : KeyValue) → examination_under self.new k ≡ examination_under self.old k }
+        ensures keeps { (k : KeyValue) → has_examine_row self.old k ≡ true → has_examine_row self.new k ≡ true }
     {
         if self.map.contains_key(key) {
             return Ok(());
@@ -88,11 +88,11 @@ impl Rows {
     }
 
     /// Writes the row of the key, which has one. It takes no memory.
-    #[tactic(auto, unfolding(crate::specs::Rows::row_in, crate::specs::Rows::has_row))]
+    #[tactic(auto, unfolding(crate::specs::Rows::examination_under, crate::specs::Rows::has_examine_row))]
     pub(crate) fn set(&mut self, key: &Key, row: Row)
-        requires { has_row self.old key.now ≡ true }
-        ensures rows { (k : KeyValue) → row_in self.new k ≡ (if key_eq key.now k then row.examination else row_in self.old k) }
-        ensures room { (k : KeyValue) → has_row self.new k ≡ has_row self.old k }
+        requires { has_examine_row self.old key.now ≡ true }
+        ensures rows { (k : KeyValue) → examination_under self.new k ≡ (if key_eq key.now k then row.examination else examination_under self.old k) }
+        ensures room { (k : KeyValue) → has_examine_row self.new k ≡ has_examine_row self.old k }
     {
         if let Some(place) = self.map.get_mut(key) {
             *place = row;
@@ -100,11 +100,11 @@ impl Rows {
     }
 
     /// Gives up the row of the key, which has no examination. It takes no memory.
-    #[tactic(auto, unfolding(crate::specs::Rows::row_in, crate::specs::Rows::has_row))]
+    #[tactic(auto, unfolding(crate::specs::Rows::examination_under, crate::specs::Rows::has_examine_row))]
     pub(crate) fn remove(&mut self, key: &Key)
-        requires { row_in self.old key.now ≡ None }
-        ensures same { (k : KeyValue) → row_in self.new k ≡ row_in self.old k }
-        ensures keeps { (k : KeyValue) → has_row self.new k ≡ (if key_eq key.now k then false else has_row self.old k) }
+        requires { examination_under self.old key.now ≡ None }
+        ensures same { (k : KeyValue) → examination_under self.new k ≡ examination_under self.old k }
+        ensures keeps { (k : KeyValue) → has_examine_row self.new k ≡ (if key_eq key.now k then false else has_examine_row self.old k) }
     {
         let _ = self.map.remove(key);
     }
@@ -119,9 +119,9 @@ impl Rows {
 
 /// Makes a row for each of the keys.
 pub(crate) fn make_rows(rows: &mut Rows, keys: &[Key]) -> Result<(), AllocError>
-    ensures room { OnOk result ((k : KeyValue) → list_any (is_at (key_cmp k)) keys.now ≡ true → has_row rows.new k ≡ true) }
-    ensures same { (k : KeyValue) → row_in rows.new k ≡ row_in rows.old k }
-    ensures keeps { (k : KeyValue) → has_row rows.old k ≡ true → has_row rows.new k ≡ true }
+    ensures room { OnOk result ((k : KeyValue) → list_any (is_at (key_cmp k)) keys.now ≡ true → has_examine_row rows.new k ≡ true) }
+    ensures same { (k : KeyValue) → examination_under rows.new k ≡ examination_under rows.old k }
+    ensures keeps { (k : KeyValue) → has_examine_row rows.old k ≡ true → has_examine_row rows.new k ≡ true }
 {
     for key in keys {
         rows.room(key)?;
@@ -131,8 +131,8 @@ pub(crate) fn make_rows(rows: &mut Rows, keys: &[Key]) -> Result<(), AllocError>
 
 /// Gives up the row of the key, where it has no examination and its cache no object with owners. It takes no memory.
 fn give_up_row(rows: &mut Rows, caches: &Caches, key: &Key)
-    ensures same { (k : KeyValue) → row_in rows.new k ≡ row_in rows.old k }
-    ensures keeps { (k : KeyValue) → is_owned (held caches.now k) ≡ true → has_row rows.old k ≡ true → has_row rows.new k ≡ true }
+    ensures same { (k : KeyValue) → examination_under rows.new k ≡ examination_under rows.old k }
+    ensures keeps { (k : KeyValue) → has_any_owner (informer_object caches.now k) ≡ true → has_examine_row rows.old k ≡ true → has_examine_row rows.new k ≡ true }
 {
     if rows.get(key).is_some() {
         return;
@@ -145,8 +145,8 @@ fn give_up_row(rows: &mut Rows, caches: &Caches, key: &Key)
 
 /// Gives up the rows of those of the keys that need none. It takes no memory.
 pub(crate) fn give_up_rows(rows: &mut Rows, caches: &Caches, keys: &[Key])
-    ensures same { (k : KeyValue) → row_in rows.new k ≡ row_in rows.old k }
-    ensures keeps { (k : KeyValue) → is_owned (held caches.now k) ≡ true → has_row rows.old k ≡ true → has_row rows.new k ≡ true }
+    ensures same { (k : KeyValue) → examination_under rows.new k ≡ examination_under rows.old k }
+    ensures keeps { (k : KeyValue) → has_any_owner (informer_object caches.now k) ≡ true → has_examine_row rows.old k ≡ true → has_examine_row rows.new k ≡ true }
 {
     for key in keys {
         give_up_row(rows, caches, key);

@@ -20,7 +20,7 @@ impl Collection {
 
     /// The first kind, in the order of kinds, whose cache was not told of the newest write.
     fn behind(&self) -> Option<Kind>
-        ensures { result ≡ on spec.behind self.now }
+        ensures { result ≡ on spec.first_kind_behind self.now }
     {
         if self.is_behind(Kind::Certificate) {
             return Some(Kind::Certificate);
@@ -36,7 +36,7 @@ impl Collection {
 
     /// The next move of settling; `None` where nothing is left to do.
     fn next_turn(&self) -> Result<Option<CollectMove>, AllocError>
-        ensures { IfOk result (λ turn. MatchOption turn (on spec.IsSettled self.now) (λ step. on (spec.IsTurn step) self.now)) }
+        ensures { IfOk result (λ turn. MatchOption turn (on spec.IsSettled self.now) (λ step. on (spec.IsSettlingMove step) self.now)) }
     {
         if let Some(kind) = self.behind() {
             let to = self.newest(kind);
@@ -65,7 +65,7 @@ impl Collection {
         now: i64,
         step: CollectMove,
     ) -> Result<Option<Collected>, AllocError>
-        requires { on (spec.IsTurn step) self.old }
+        requires { on (spec.IsSettlingMove step) self.old }
         ensures ok { IfOk result (λ end. spec.IsTurned now self.old end self.new) }
         ensures err { OnErr result (self.new ≡ self.old) }
     {

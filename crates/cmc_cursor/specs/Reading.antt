@@ -69,13 +69,13 @@ abbrev pub optional_at : List ℕ → List Field → Read (Option Data × List F
 optional_at name [] = Ok (None, [])
 optional_at name (f ∷ fs) = match_ordering (slice_cmp nat_cmp f.0 name) (Err (f.0 ∷ [])) (Ok (Some f.1, fs)) (Ok (None, f ∷ fs))
 
-abbrev pub must_stand : List ℕ → Option Data × List Field → Read (Data × List Field)
-must_stand name (None, fs) = Err (name ∷ [])
-must_stand name (Some d, fs) = Ok (d, fs)
+abbrev pub must_exist : List ℕ → Option Data × List Field → Read (Data × List Field)
+must_exist name (None, fs) = Err (name ∷ [])
+must_exist name (Some d, fs) = Ok (d, fs)
 
 -- The same, where the member has to stand: it fails at its name.
 unfoldable pub required_at : List ℕ → List Field → Read (Data × List Field)
-required_at name fs = optional_at name fs >>= must_stand name
+required_at name fs = optional_at name fs >>= must_exist name
 
 -- No member is left: one that is left is not known, and fails.
 abbrev pub at_end : List Field → Check

@@ -6,11 +6,11 @@ use Rattle.std.proofs.lemmas.Bool.{cases_lt, cases_order, lt-ltb, le-ltb, ltb-tr
 use Rattle.std.proofs.lemmas.List.{append-nil, take-take, take-append-drop, length-take, length-drop, length-append, length-replicate, nil_from_length, take_at, drop_at, take-append-le, drop-append-le}
 use Rattle.cmc_der.specs.declared.reading.DerFault.{DerFault}
 use Rattle.cmc_der.specs.declared.reading.DerFault.TheVariants.{Cut, NotDer}
-use Rattle.cmc_der.specs.Values.{IsValue, BeginsWith, IsPrefix, IsCut, IsNotDerAt}
+use Rattle.cmc_der.specs.Values.{IsDerValue, BeginsWith, IsPrefix, IsCutShort, IsNotDerAt}
 use Rattle.std.specs.Prelude.{IfOk}
 use Rattle.std.specs.Borrow.{Bor}
 use Rattle.cmc_der.specs.declared.reading.Tlv.{Tlv}
-use Rattle.cmc_der.specs.Reading.{◌>>=◌, shown, Gives, Found, number_at, long_at, length_at, body_at, read_at}
+use Rattle.cmc_der.specs.Reading.{◌>>=◌, tlv_shown, Gives, Found, number_at, long_at, length_at, body_at, read_at}
 use Rattle.cmc_der.proofs.Steps.{chosen, bind_ok, bind_err, Goes, Goes-bind, Goes-cond}
 use Rattle.cmc_der.proofs.Lengths.{length_spelled, length_again}
 
@@ -50,7 +50,7 @@ read_spelled (tag ∷ bs) x e =
           ]
     ]
 
-pub read_again : (whole : List ℕ) (tag : ℕ) (body rest : List ℕ) → IsValue whole tag body → read_at (whole ++ rest) ≡ Ok (tag, body, rest)
+pub read_again : (whole : List ℕ) (tag : ℕ) (body rest : List ℕ) → IsDerValue whole tag body → read_at (whole ++ rest) ≡ Ok (tag, body, rest)
 unfolding read_at
 read_again whole tag body rest v =
     let regrouped : (v.lead ++ body) ++ rest ≡ v.lead ++ (body ++ rest) = append_assoc v.lead body rest in
@@ -190,7 +190,7 @@ not_done : (x : Found) (d : DerFault) → answer x ≡ broken d → ⊥
 not_done x d e = cc
 
 -- a value is not a proper prefix of another
-pub one_value : (a c : List ℕ) (tag other : ℕ) (body inner : List ℕ) (rest : List ℕ) → IsValue a tag body → IsValue c other inner → a ++ rest ≡ c → (tag ≡ other) × (body ≡ inner) × (rest ≡ [])
+pub one_value : (a c : List ℕ) (tag other : ℕ) (body inner : List ℕ) (rest : List ℕ) → IsDerValue a tag body → IsDerValue c other inner → a ++ rest ≡ c → (tag ≡ other) × (body ≡ inner) × (rest ≡ [])
 one_value a c tag other body inner rest v w e =
     let x : read_at c ≡ answer (tag, body, rest) = rw e at (read_again a tag body rest v) in
     let y : read_at c ≡ answer (other, inner, []) = rw append-nil at (read_again c other inner [] w) in
@@ -201,11 +201,11 @@ more_stand : (bs more : List ℕ) (x : Found) → read_at bs ≡ Err Cut → rea
 more_stand bs [] x e f = absurd (not_done x Cut (sym f ∙ (rw append-nil e)))
 more_stand bs (b ∷ more) x e f = omega arith
 
-pub cut_from_read : (bs : List ℕ) → read_at bs ≡ Err Cut → IsCut bs
+pub cut_from_read : (bs : List ℕ) → read_at bs ≡ Err Cut → IsCutShort bs
 cut_from_read bs e =
     let d = read_done bs e in
     let s = read_spelled (bs ++ d.more) d.found d.reads in
-    let v : IsValue (bs ++ d.more) d.found.0 d.found.1 = rw (s.2, d.whole, append-nil) (s.1) in
+    let v : IsDerValue (bs ++ d.more) d.found.0 d.found.1 = rw (s.2, d.whole, append-nil) (s.1) in
     (d.more, more_stand bs d.more d.found e d.reads, d.found.0, d.found.1, v)
 
 -- the octets of a longer input that reads as one value are cut, or that value
@@ -216,7 +216,7 @@ cut_by_cases bs more tag body long (Ok x) e g f =
 cut_by_cases bs more tag body long (Err Cut) e g f = e
 cut_by_cases bs more tag body long (Err (NotDer p)) e g f = absurd (not_done (tag, body, []) (NotDer p) (sym f ∙ g))
 
-cut_to_read : (bs : List ℕ) → IsCut bs → read_at bs ≡ Err Cut
+cut_to_read : (bs : List ℕ) → IsCutShort bs → read_at bs ≡ Err Cut
 cut_to_read bs h =
     let x : read_at (bs ++ h.0) ≡ answer (h.2, h.3, []) = rw append-nil at (read_again (bs ++ h.0) h.2 h.3 [] h.4) in
     cut_by_cases bs h.0 h.2 h.3 h.1 (read_at bs) refl (read_goes h.0 bs) x
@@ -296,7 +296,7 @@ no_prefix_from_bad bs p e h =
     let y : read_at (bs ++ h.0) ≡ broken (NotDer p) = rw e at (read_goes h.0 bs) in
     not_done (h.1, h.2, []) (NotDer p) (sym x ∙ y)
 
-prefix_from_cut : (bs : List ℕ) → IsCut bs → IsPrefix bs
+prefix_from_cut : (bs : List ℕ) → IsCutShort bs → IsPrefix bs
 prefix_from_cut bs h = (h.0, h.2, h.3, h.4)
 
 pub not_der_from_read : (bs : List ℕ) (p : ℕ) → read_at bs ≡ Err (NotDer p) → IsNotDerAt bs p
@@ -335,11 +335,11 @@ not_der_to_read bs p h (Err (NotDer q)) e =
 Ok-is : {X Y : Type 0} (view : X → Y) (x : X) (read : Result Y DerFault) → Gives view (Ok x) read → read ≡ Ok (view x)
 Ok-is view x read e = e
 
-pub answer_spelled : (r : Result (Tlv × Bor (List ℕ)) DerFault) (bs : List ℕ) → Gives shown r (read_at bs) → IfOk r (λ x. BeginsWith bs x.0.tag x.0.body.now x.1.now)
-answer_spelled (Ok x) bs e = read_spelled bs (shown x) e
+pub answer_spelled : (r : Result (Tlv × Bor (List ℕ)) DerFault) (bs : List ℕ) → Gives tlv_shown r (read_at bs) → IfOk r (λ x. BeginsWith bs x.0.tag x.0.body.now x.1.now)
+answer_spelled (Ok x) bs e = read_spelled bs (tlv_shown x) e
 answer_spelled (Err d) bs e = tt
 
-pub answer_only : (r : Result (Tlv × Bor (List ℕ)) DerFault) (bs : List ℕ) → Gives shown r (read_at bs) → (tag : ℕ) (body rest : List ℕ) → BeginsWith bs tag body rest → Gives shown r (Ok (tag, body, rest))
+pub answer_only : (r : Result (Tlv × Bor (List ℕ)) DerFault) (bs : List ℕ) → Gives tlv_shown r (read_at bs) → (tag : ℕ) (body rest : List ℕ) → BeginsWith bs tag body rest → Gives tlv_shown r (Ok (tag, body, rest))
 answer_only r bs e tag body rest h = let x : read_at bs ≡ answer (tag, body, rest) = rw (h.2) (read_again h.0 tag body rest h.1) in rw x at e
 
 abbrev outcome : DerFault → Result (Tlv × Bor (List ℕ)) DerFault
@@ -352,16 +352,16 @@ fault_was : (c d : DerFault) → outcome c ≡ outcome d → broken c ≡ broken
 fault_was c d e = cc
 
 -- a fault is answered exactly where it is read
-fault_from_read : (r : Result (Tlv × Bor (List ℕ)) DerFault) (d : DerFault) (bs : List ℕ) → Gives shown r (read_at bs) → read_at bs ≡ broken d → r ≡ outcome d
-fault_from_read (Ok x) d bs e f = absurd (not_done (shown x) d (sym e ∙ f))
+fault_from_read : (r : Result (Tlv × Bor (List ℕ)) DerFault) (d : DerFault) (bs : List ℕ) → Gives tlv_shown r (read_at bs) → read_at bs ≡ broken d → r ≡ outcome d
+fault_from_read (Ok x) d bs e f = absurd (not_done (tlv_shown x) d (sym e ∙ f))
 fault_from_read (Err c) d bs e f = fault_is c d (sym e ∙ f)
 
-fault_to_read : (r : Result (Tlv × Bor (List ℕ)) DerFault) (d : DerFault) (bs : List ℕ) → Gives shown r (read_at bs) → r ≡ outcome d → read_at bs ≡ broken d
+fault_to_read : (r : Result (Tlv × Bor (List ℕ)) DerFault) (d : DerFault) (bs : List ℕ) → Gives tlv_shown r (read_at bs) → r ≡ outcome d → read_at bs ≡ broken d
 fault_to_read (Ok x) d bs e f = absurd cc
 fault_to_read (Err c) d bs e f = e ∙ fault_was c d f
 
-pub answer_cut : (r : Result (Tlv × Bor (List ℕ)) DerFault) (bs : List ℕ) → Gives shown r (read_at bs) → (r ≡ outcome Cut) ↔ IsCut bs
+pub answer_cut : (r : Result (Tlv × Bor (List ℕ)) DerFault) (bs : List ℕ) → Gives tlv_shown r (read_at bs) → (r ≡ outcome Cut) ↔ IsCutShort bs
 answer_cut r bs e = (λ f. cut_from_read bs (fault_to_read r Cut bs e f), λ h. fault_from_read r Cut bs e (cut_to_read bs h))
 
-pub answer_not_der : (r : Result (Tlv × Bor (List ℕ)) DerFault) (bs : List ℕ) → Gives shown r (read_at bs) → (p : ℕ) → (r ≡ outcome (NotDer p)) ↔ IsNotDerAt bs p
+pub answer_not_der : (r : Result (Tlv × Bor (List ℕ)) DerFault) (bs : List ℕ) → Gives tlv_shown r (read_at bs) → (p : ℕ) → (r ≡ outcome (NotDer p)) ↔ IsNotDerAt bs p
 answer_not_der r bs e p = (λ f. not_der_from_read bs p (fault_to_read r (NotDer p) bs e f), λ h. fault_from_read r (NotDer p) bs e (not_der_to_read bs p h (read_at bs) refl))

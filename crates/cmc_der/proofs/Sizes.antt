@@ -2,7 +2,7 @@
 use Rattle.std.proofs.Common.{◌≡◌, ℕ, ◌+◌, ◌/◌, ◌%◌, reverse, ◌∙◌, ap, subst, ◌≤◌, Bool, true, false, cond, ltb, List, [], ◌∷◌, ◌++◌, length, arith}
 use Rattle.std.proofs.lemmas.List.{length-append}
 use Rattle.std.proofs.lemmas.List.{reverse-append}
-use Rattle.cmc_der.specs.Building.{length_octets, value, Begun, held, Closes}
+use Rattle.cmc_der.specs.Building.{length_octets, value, Begun, held_octets, Closes}
 use Rattle.cmc_der.specs.Integers.{trimmed, signed, integer_of}
 
 short : (a b c d : Bool) (v w x y z : List ℕ) → length v ≤ 5 → length w ≤ 5 → length x ≤ 5 → length y ≤ 5 → length z ≤ 5 → length (cond a v (cond b w (cond c x (cond d y z)))) ≤ 5
@@ -21,15 +21,15 @@ unfolding value
 value_size tag body = omega (arith, length-append (length_octets (length body)) body, length_short (length body))
 
 -- one value more is within the share of its call
-pub added_fits : (tag : ℕ) (levels : List Begun) (octets body : List ℕ) (len share : ℕ) → length body ≤ share + 1 → held levels + length octets ≤ len → held levels + length (octets ++ value tag body) ≤ len + (share + 8)
+pub added_fits : (tag : ℕ) (levels : List Begun) (octets body : List ℕ) (len share : ℕ) → length body ≤ share + 1 → held_octets levels + length octets ≤ len → held_octets levels + length (octets ++ value tag body) ≤ len + (share + 8)
 added_fits tag levels octets body len share s h = omega (arith, length-append octets (value tag body), value_size tag body)
 
-pub closed_fits : (levels after : List Begun) (body octets : List ℕ) (len : ℕ) → Closes levels after body octets → held (reverse levels) + length body ≤ len → held (reverse after) + length octets ≤ len
+pub closed_fits : (levels after : List Begun) (body octets : List ℕ) (len : ℕ) → Closes levels after body octets → held_octets (reverse levels) + length body ≤ len → held_octets (reverse after) + length octets ≤ len
 closed_fits levels after body octets len c h =
     let b = c.0 in
     let turned : reverse levels ≡ b ∷ reverse after = ap reverse (c.1) ∙ reverse-append after (b ∷ []) in
-    let P : List Begun → Type 0 = λ l. held l + length body ≤ len in
-    let before : held (b ∷ reverse after) + length body ≤ len = subst P turned h in
+    let P : List Begun → Type 0 = λ l. held_octets l + length body ≤ len in
+    let before : held_octets (b ∷ reverse after) + length body ≤ len = subst P turned h in
     rw (c.2) (omega (arith, before, length-append (b.1) (value b.0 body), value_size b.0 body))
 
 pub trimmed_size : (bytes : List ℕ) → length (trimmed bytes) ≤ length bytes

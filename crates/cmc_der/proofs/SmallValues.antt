@@ -1,6 +1,6 @@
 -- Values that are written, within the size that is read, are values of the grammar.
 use Rattle.std.proofs.Common.{◌≢◌, ℕ, ◌%◌, ◌≤◌, List, [], ◌++◌, length, sym, arith, append-nil, length-append}
-use Rattle.cmc_der.specs.Values.{IsValue, BeginsWith}
+use Rattle.cmc_der.specs.Values.{IsDerValue, BeginsWith}
 use Rattle.cmc_der.specs.Building.{value, length_octets}
 use Rattle.cmc_der.proofs.Spelled.{value_spelled, value_begins}
 
@@ -20,7 +20,7 @@ pub back_small : (a b : List ℕ) → IsSmall (a ++ b) → IsSmall b
 back_small a b small = omega (arith, length-append a b)
 
 -- the octets of a value are that value
-pub value_is : (tag : ℕ) (body : List ℕ) → tag % 32 ≢ 31 → IsSmall (value tag body) → IsValue (value tag body) tag body
+pub value_is : (tag : ℕ) (body : List ℕ) → tag % 32 ≢ 31 → IsSmall (value tag body) → IsDerValue (value tag body) tag body
 value_is tag body low small = value_spelled tag body low (omega (arith, contents_small tag body small))
 
 -- also where others stand behind them

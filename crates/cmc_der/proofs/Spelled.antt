@@ -1,7 +1,7 @@
 -- What is written is a value.
 use Rattle.std.proofs.Common.{ℕ, ◌%◌, ◌^◌, ◌<◌, ◌≢◌, List, ◌++◌, length, refl, arith, inl, inr}
 use Rattle.std.proofs.lemmas.Bool.{cases_lt, lt-ltb, le-ltb}
-use Rattle.cmc_der.specs.Values.{IsLength, IsValue, BeginsWith}
+use Rattle.cmc_der.specs.Values.{IsLength, IsDerValue, BeginsWith}
 use Rattle.cmc_der.specs.Building.{length_octets, value}
 
 length_spelled : (n : ℕ) → n < 2 ^ 32 → IsLength (length_octets n) n
@@ -21,7 +21,7 @@ length_spelled n fits =
       ]
     ]
 
-pub value_spelled : (tag : ℕ) (body : List ℕ) → tag % 32 ≢ 31 → length body < 2 ^ 32 → IsValue (value tag body) tag body
+pub value_spelled : (tag : ℕ) (body : List ℕ) → tag % 32 ≢ 31 → length body < 2 ^ 32 → IsDerValue (value tag body) tag body
 unfolding value
 value_spelled tag body t fits = record { tag_is_low = t; lead = length_octets (length body); length_is = length_spelled (length body) fits; spelled = refl }
 

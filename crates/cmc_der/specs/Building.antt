@@ -26,25 +26,25 @@ pub record Building : Type 0 where
   pub len : ℕ
 
 -- a value is begun, and what stood there waits before it
-abbrev pub begun : ℕ → Building → Building
-begun tag b = record { outer = (tag, b.octets) ∷ b.outer; octets = []; len = b.len + 8 }
+abbrev pub value_begun : ℕ → Building → Building
+value_begun tag b = record { outer = (tag, b.octets) ∷ b.outer; octets = []; len = b.len + 8 }
 
 abbrev pub closed_with : List Begun → List ℕ → ℕ → Building
 closed_with [] body len = record { outer = []; octets = body; len = len }
 closed_with (b ∷ bs) body len = record { outer = bs; octets = b.1 ++ value b.0 body; len = len }
 
 -- the innermost begun value ends, and stands behind what stood before it
-abbrev pub closed : Building → Building
-closed b = closed_with b.outer b.octets b.len
+abbrev pub value_closed : Building → Building
+value_closed b = closed_with b.outer b.octets b.len
 
 -- one value more, for which a call was handed so many octets
-abbrev pub added : ℕ → List ℕ → ℕ → Building → Building
-added tag body share b = record { outer = b.outer; octets = b.octets ++ value tag body; len = b.len + share + 8 }
+abbrev pub value_added : ℕ → List ℕ → ℕ → Building → Building
+value_added tag body share b = record { outer = b.outer; octets = b.octets ++ value tag body; len = b.len + share + 8 }
 
 -- the octets that begun values hold, and will need
-abbrev pub held : List Begun → ℕ
-held [] = 0
-held (b ∷ bs) = 8 + length b.1 + held bs
+abbrev pub held_octets : List Begun → ℕ
+held_octets [] = 0
+held_octets (b ∷ bs) = 8 + length b.1 + held_octets bs
 
 -- the last of the levels ends, and stands behind what stood before it
 abbrev pub Closes : List Begun → List Begun → List ℕ → List ℕ → Type 0

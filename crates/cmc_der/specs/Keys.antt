@@ -42,10 +42,10 @@ same_kind kinds.P521 kinds.P521 = true
 same_kind _ _ = false
 
 -- algorithm and size of a key: none for one of another algorithm
-abbrev pub kind_of : PublicKey → Option KeyKind
-kind_of (RsaKey m e) = Some (kinds.Rsa (min (bit_length m) (2 ^ 32 - 1)))
-kind_of (EcKey c p) = Some c
-kind_of (OtherKey w) = None
+abbrev pub key_kind_of : PublicKey → Option KeyKind
+key_kind_of (RsaKey m e) = Some (kinds.Rsa (min (bit_length m) (2 ^ 32 - 1)))
+key_kind_of (EcKey c p) = Some c
+key_kind_of (OtherKey w) = None
 
 -- what is read of a certificate
 pub record CertificateFields : Type 0 where

@@ -40,8 +40,8 @@ length_at (n ∷ bs) = cond (nat_lt n 128) (Ok (n, bs)) (cond ((n == 128) || nat
 abbrev pub Found : Type 0
 Found = ℕ × List ℕ × List ℕ
 
-abbrev pub shown : (Tlv × Bor (List ℕ)) → Found
-shown p = (p.0.tag, p.0.body.now, p.1.now)
+abbrev pub tlv_shown : (Tlv × Bor (List ℕ)) → Found
+tlv_shown p = (p.0.tag, p.0.body.now, p.1.now)
 
 abbrev pub body_at : ℕ → ℕ × List ℕ → Result Found DerFault
 body_at tag p = cond (nat_lt (length p.1) p.0) (Err Cut) (Ok (tag, take p.0 p.1, drop p.0 p.1))

@@ -16,7 +16,7 @@ IsLength (b ∷ c ∷ cs) n = (b ≡ 128 + length (c ∷ cs)) × (length (c ∷ 
 
 -- The octets are one value: an identifier octet of a low tag number (8.1.2.3), length octets, and as
 -- many contents octets.
-pub record IsValue (whole : List ℕ) (tag : ℕ) (body : List ℕ) : Type 0 where
+pub record IsDerValue (whole : List ℕ) (tag : ℕ) (body : List ℕ) : Type 0 where
   pub tag_is_low : tag % 32 ≢ 31
   pub lead : List ℕ
   pub length_is : IsLength lead (length body)
@@ -24,15 +24,15 @@ pub record IsValue (whole : List ℕ) (tag : ℕ) (body : List ℕ) : Type 0 whe
 
 -- the octets begin with this value, and the rest stands behind it
 abbrev pub BeginsWith : List ℕ → ℕ → List ℕ → List ℕ → Type 0
-BeginsWith octets tag body rest = (whole : List ℕ) × IsValue whole tag body × (octets ≡ whole ++ rest)
+BeginsWith octets tag body rest = (whole : List ℕ) × IsDerValue whole tag body × (octets ≡ whole ++ rest)
 
 -- Some value begins with the octets. What completes them may be any numbers: where some do, octets do too.
 abbrev pub IsPrefix : List ℕ → Type 0
-IsPrefix octets = (more : List ℕ) × (tag : ℕ) × (body : List ℕ) × IsValue (octets ++ more) tag body
+IsPrefix octets = (more : List ℕ) × (tag : ℕ) × (body : List ℕ) × IsDerValue (octets ++ more) tag body
 
 -- some value begins with the octets, and is longer
-abbrev pub IsCut : List ℕ → Type 0
-IsCut octets = (more : List ℕ) × (0 < length more) × (tag : ℕ) × (body : List ℕ) × IsValue (octets ++ more) tag body
+abbrev pub IsCutShort : List ℕ → Type 0
+IsCutShort octets = (more : List ℕ) × (0 < length more) × (tag : ℕ) × (body : List ℕ) × IsDerValue (octets ++ more) tag body
 
 -- The octets neither begin with a value nor begin one, and the one at the place is the first behind
 -- which no value goes on.

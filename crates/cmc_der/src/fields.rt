@@ -2,7 +2,7 @@
 ghost use Rattle.std.specs.Prelude.{◌≡◌, ◌↔◌, ◌-◌, ◌^◌, ◌≤◌, ℕ, List, min, IsTrue};
 ghost use Rattle.cmc_der.specs.Integers.{trimmed, octet_bits, bit_length, AreOctets, IsBitLength};
 ghost use Rattle.cmc_der.specs.Values.{number_after};
-ghost use Rattle.cmc_der.specs.Keys.{key_shown, kind_of, same_kind};
+ghost use Rattle.cmc_der.specs.Keys.{key_shown, key_kind_of, same_kind};
 
 /// Algorithm and size of a public key.
 #[derive(Clone, Copy)]
@@ -148,7 +148,7 @@ impl<'a> Spki<'a> {
     /// Algorithm and size of the key, and `None` exactly for a key of another algorithm. An RSA key
     /// has as many bits as its modulus; more than a `u32` holds are answered as `u32::MAX`.
     pub fn kind(&self) -> Option<KeyKind>
-        ensures { result ≡ kind_of (key_shown self.now) }
+        ensures { result ≡ key_kind_of (key_shown self.now) }
     {
         match self {
             Spki::Rsa {

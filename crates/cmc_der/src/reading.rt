@@ -1,8 +1,8 @@
 //! Reading one value from the left.
 ghost use Rattle.std.specs.Prelude.{◌≡◌, ℕ, List, [], ◌++◌, ◌+◌, ◌*◌, ◌^◌, ◌<◌, ◌↔◌, IfOk, Ok, Err};
 ghost use Rattle.cmc_der.specs.declared.reading.DerFault.TheVariants.{Cut, NotDer};
-ghost use Rattle.cmc_der.specs.Values.{IsValue, BeginsWith, IsCut, IsNotDerAt};
-ghost use Rattle.cmc_der.specs.Reading.{shown, Gives, more_at, long_at, length_at, read_at};
+ghost use Rattle.cmc_der.specs.Values.{IsDerValue, BeginsWith, IsCutShort, IsNotDerAt};
+ghost use Rattle.cmc_der.specs.Reading.{tlv_shown, Gives, more_at, long_at, length_at, read_at};
 
 /// Why no value was read.
 #[derive(Clone, Copy, Debug, PartialEq, Eq)]
@@ -85,7 +85,7 @@ fn length_of(rest: &[u8]) -> Result<(usize, &[u8]), DerFault>
 /// The value at the front, and the octets behind it.
 #[tactic(auto, unfolding(crate::specs::Reading::read_at))]
 fn read<'a>(input: &'a [u8]) -> Result<(Tlv<'a>, &'a [u8]), DerFault>
-    ensures { Gives shown result (read_at input.now) }
+    ensures { Gives tlv_shown result (read_at input.now) }
 {
     match input {
         [] => Err(DerFault::Cut),
@@ -117,12 +117,12 @@ fn read<'a>(input: &'a [u8]) -> Result<(Tlv<'a>, &'a [u8]), DerFault>
 pub fn read_one<'a>(input: &'a [u8]) -> Result<(Tlv<'a>, &'a [u8]), DerFault>
     ensures found { IfOk result (λ r. BeginsWith input.now r.0.tag r.0.body.now r.1.now) }
     ensures only { (tag : ℕ) (body rest : List ℕ) → BeginsWith input.now tag body rest →
-        Gives shown result (Ok (tag, body, rest)) }
-    ensures cut { (result ≡ Err Cut) ↔ IsCut input.now }
+        Gives tlv_shown result (Ok (tag, body, rest)) }
+    ensures cut { (result ≡ Err Cut) ↔ IsCutShort input.now }
     ensures not_der { (place : ℕ) → (result ≡ Err (NotDer place)) ↔ IsNotDerAt input.now place }
 
     // The same as a function of the octets, from which the crates above compute what they read.
-    ensures exact { Gives shown result (read_at input.now) }
+    ensures exact { Gives tlv_shown result (read_at input.now) }
 {
     read(input)
 }
@@ -130,6 +130,6 @@ pub fn read_one<'a>(input: &'a [u8]) -> Result<(Tlv<'a>, &'a [u8]), DerFault>
 /// A law: no value is a proper prefix of another, and one value has one tag and one body.
 pub fn no_proper_prefix()
     ensures { (first second rest : List ℕ) (tag other_tag : ℕ) (body other_body : List ℕ) →
-        IsValue first tag body → IsValue second other_tag other_body → first ++ rest ≡ second →
+        IsDerValue first tag body → IsDerValue second other_tag other_body → first ++ rest ≡ second →
         (tag ≡ other_tag) × (body ≡ other_body) × (rest ≡ []) }
 {}

@@ -2,7 +2,7 @@
 ghost use Rattle.std.specs.Prelude.{◌≡◌, ◌≢◌, ℕ, List, [], ◌∷◌, ◌+◌, ◌^◌, ◌%◌, ◌<◌, ◌≤◌, ◌++◌, length, reverse, IfOk, OnOk, OnErr, vec_len};
 ghost use Rattle.cmc_der.specs.Values.{BeginsWith, number_after};
 ghost use Rattle.cmc_der.specs.Integers.{trimmed, signed, integer_of, IsIntegerOf};
-ghost use Rattle.cmc_der.specs.Building.{Building, Begun, length_octets, value, begun, closed, added, held, Closes};
+ghost use Rattle.cmc_der.specs.Building.{Building, Begun, length_octets, value, value_begun, value_closed, value_added, held_octets, Closes};
 
 use crate::fields::without_zeros;
 use std::alloc::{AllocError, Global};
@@ -193,7 +193,7 @@ impl Model for Writer {
 
     ghost view = { λ w. record { outer = reverse w.levels.items; octets = w.octets.items; len = w.len } };
 
-    ghost invariant = { λ w. (held (reverse w.levels.items) + length w.octets.items ≤ w.len) × (w.len < 2 ^ 31) };
+    ghost invariant = { λ w. (held_octets (reverse w.levels.items) + length w.octets.items ≤ w.len) × (w.len < 2 ^ 31) };
 }
 
 impl Writer {
@@ -224,7 +224,7 @@ impl Writer {
     pub fn begin(&mut self, alloc: Global, tag: u8) -> Result<(), AllocError>
         requires tag { tag % 32 ≢ 31 }
         requires fits { self.old.len + 8 < 2 ^ 31 }
-        ensures ok { OnOk result (self.new ≡ begun tag self.old) }
+        ensures ok { OnOk result (self.new ≡ value_begun tag self.old) }
         ensures err { OnErr result (self.new ≡ self.old) }
     {
         open_level(&mut self.levels, &mut self.octets, alloc, tag)?;
@@ -239,7 +239,7 @@ impl Writer {
     /// Only where there is no memory.
     pub fn end(&mut self, _alloc: Global) -> Result<(), AllocError>
         requires { 0 < length self.old.outer }
-        ensures ok { OnOk result (self.new ≡ closed self.old) }
+        ensures ok { OnOk result (self.new ≡ value_closed self.old) }
         ensures err { OnErr result (self.new ≡ self.old) }
     {
         close_level(&mut self.levels, &mut self.octets)?;
@@ -254,7 +254,7 @@ impl Writer {
     /// Only where there is no memory.
     pub fn integer(&mut self, _alloc: Global, bytes: &[u8]) -> Result<(), AllocError>
         requires { self.old.len + length bytes.now + 8 < 2 ^ 31 }
-        ensures ok { OnOk result (self.new ≡ added 2 (integer_of bytes.now) (length bytes.now) self.old) }
+        ensures ok { OnOk result (self.new ≡ value_added 2 (integer_of bytes.now) (length bytes.now) self.old) }
         ensures err { OnErr result (self.new ≡ self.old) }
     {
         put_integer(&mut self.octets, bytes)?;
@@ -269,7 +269,7 @@ impl Writer {
     /// Only where there is no memory.
     pub fn oid(&mut self, alloc: Global, body: &[u8]) -> Result<(), AllocError>
         requires { self.old.len + length body.now + 8 < 2 ^ 31 }
-        ensures ok { OnOk result (self.new ≡ added 6 body.now (length body.now) self.old) }
+        ensures ok { OnOk result (self.new ≡ value_added 6 body.now (length body.now) self.old) }
         ensures err { OnErr result (self.new ≡ self.old) }
     {
         self.octets(alloc, 6, body)
@@ -282,7 +282,7 @@ impl Writer {
     /// Only where there is no memory.
     pub fn bits(&mut self, _alloc: Global, bytes: &[u8]) -> Result<(), AllocError>
         requires { self.old.len + length bytes.now + 8 < 2 ^ 31 }
-        ensures ok { OnOk result (self.new ≡ added 3 (0 ∷ bytes.now) (length bytes.now) self.old) }
+        ensures ok { OnOk result (self.new ≡ value_added 3 (0 ∷ bytes.now) (length bytes.now) self.old) }
         ensures err { OnErr result (self.new ≡ self.old) }
     {
         put(&mut self.octets, 3, &[0], bytes)?;
@@ -298,7 +298,7 @@ impl Writer {
     pub fn octets(&mut self, _alloc: Global, tag: u8, bytes: &[u8]) -> Result<(), AllocError>
         requires tag { tag % 32 ≢ 31 }
         requires fits { self.old.len + length bytes.now + 8 < 2 ^ 31 }
-        ensures ok { OnOk result (self.new ≡ added tag bytes.now (length bytes.now) self.old) }
+        ensures ok { OnOk result (self.new ≡ value_added tag bytes.now (length bytes.now) self.old) }
         ensures err { OnErr result (self.new ≡ self.old) }
     {
         put(&mut self.octets, tag, &[], bytes)?;

@@ -18,7 +18,7 @@ use Rattle.cmc_status_form.specs.WholeForm.{whole_object_at}
 use Rattle.cmc_status_form.specs.Laws.{HasWholeForm, as_printed}
 use Rattle.cmc_status_form.proofs.Moments.{moment_again}
 use Rattle.cmc_status_form.proofs.WholeAgain.{whole_again}
-use Rattle.cmc_lines.specs.Shown.{shown, shown_object, shown_reply}
+use Rattle.cmc_lines.specs.Shown.{line_of_entry, shown_object, shown_reply}
 use Rattle.cmc_lines.specs.LineTree.{line_tree}
 use Rattle.cmc_lines.proofs.LineLaws.{object_same}
 use Rattle.cmc_lines.specs.declared.line.CallName.{CallName}
@@ -28,7 +28,7 @@ use Rattle.cmc_lines.specs.declared.line.PrintedLine.{PrintedLine}
 use Rattle.cmc_lines.specs.declared.line.PrintedLine.TheVariants as lines
 use Rattle.cmc_cursor.specs.Reading.{Read}
 use Rattle.cmc_print.specs.Words.{key_text}
-use Rattle.cmc_entry_form.specs.LineForm.{line_at, script_in, deliver_in, list_in, stop_in, start_in, tick_in, begin_in, ask_in, made_in, signed_in, told_answer_in, judged_in, end_in, call_at, create_in, generate_in, update_in, delete_in, get_in, said_in, answered_in, answers_create, answers_other}
+use Rattle.cmc_entry_form.specs.LineForm.{line_at, script_in, deliver_line_in, list_in, stop_line_in, start_line_in, tick_line_in, begin_in, ask_in, made_in, signed_line_in, told_answer_in, judged_in, end_in, call_at, create_in, generate_in, update_in, delete_line_in, get_in, said_in, answered_in, answers_create, answers_other}
 use Rattle.cmc_entry_form.specs.Entries.{HasForm, HasReplyForm, HasCallForm}
 use Rattle.cmc_entry_form.proofs.NamesAgain.{named_again, key_again}
 use Rattle.cmc_entry_form.proofs.PartsAgain.{role_again, kind_again, reply_again, who_again, order_again, answer_again, positions_again, cause_again}
@@ -81,8 +81,8 @@ called name key given version reply who = Ok (lines.Call name key given version 
 object_again : (o : Object) → HasWholeForm o → whole_object_at (object_tree (shown_object o)) ≡ Ok (shown_object o)
 object_again o is = ap whole_object_at (object_same o) ∙ whole_again o is ∙ ap (λ x. Ok x) (shown_is o)
 
-call_again : (n : ℕ) (who : Who) (call : Call) (reply : Reply) → HasCallForm call → HasReplyForm call reply → line_at (line_tree n (shown (entries.Call who call reply))) ≡ Ok (shown (entries.Call who call reply))
-unfolding line_at line_tree call_at create_in generate_in update_in delete_in get_in said_in answered_in
+call_again : (n : ℕ) (who : Who) (call : Call) (reply : Reply) → HasCallForm call → HasReplyForm call reply → line_at (line_tree n (line_of_entry (entries.Call who call reply))) ≡ Ok (line_of_entry (entries.Call who call reply))
+unfolding line_at line_tree call_at create_in generate_in update_in delete_line_in get_in said_in answered_in
 call_again n who (Create o false) reply is said = rw (object_again o is, reply_again (Create o false) reply said, who_again who, fits_create o false reply) (ap (λ k. called names.Create k (Some (shown_object o)) None (shown_reply (Create o false) reply) who) (key_shown o))
 call_again n who (Create o true) reply is said = rw (object_again o is, reply_again (Create o true) reply said, who_again who, fits_create o true reply) (ap (λ k. called names.Generate k (Some (shown_object o)) None (shown_reply (Create o true) reply) who) (prefix_shown o))
 call_again n who (Update o v) reply is said = rw (object_again o is, reply_again (Update o v) reply said, who_again who, fits_other (Update o v) reply (λ version name. refl)) (ap (λ k. called names.Update k (Some (shown_object o)) (Some v) (shown_reply (Update o v) reply) who) (key_shown o))
@@ -93,8 +93,8 @@ call_again n who (Get key) reply is said = rw (key_again key is, reply_again (Ge
 
 -- ---- all entries
 
-pub line_again : (n : ℕ) (e : Entry) → HasForm e → line_at (line_tree n (shown e)) ≡ Ok (shown e)
-unfolding line_at line_tree put_told put_begin script_in deliver_in list_in stop_in start_in tick_in begin_in ask_in made_in signed_in told_answer_in judged_in end_in
+pub line_again : (n : ℕ) (e : Entry) → HasForm e → line_at (line_tree n (line_of_entry e)) ≡ Ok (line_of_entry e)
+unfolding line_at line_tree put_told put_begin script_in deliver_line_in list_in stop_line_in start_line_in tick_line_in begin_in ask_in made_in signed_line_in told_answer_in judged_in end_in
 line_again n (entries.Script step) is = refl
 line_again n (entries.Call who call reply) is = call_again n who call reply is.0 is.1
 line_again n (entries.Deliver role kind to) is = rw (role_again role, kind_again kind) refl

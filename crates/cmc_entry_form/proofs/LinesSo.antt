@@ -23,7 +23,7 @@ use Rattle.cmc_print.specs.Words.{key_text}
 use Rattle.cmc_cursor.specs.Reading.{Read, ◌>>=◌, Field}
 use Rattle.cmc_cursor.specs.Readers.{found, text_at, name_in, name_at, count_at, small_count_at, flag_at, bytes_at}
 use Rattle.cmc_cursor.proofs.Always.{Always, so, failed, next, after, further}
-use Rattle.cmc_material.specs.Keys.{split_slash, kind_in, key_of_kind, key_in, key_at}
+use Rattle.cmc_material.specs.Keys.{split_slash, kind_in, key_of_kind, key_of_text, key_at}
 use Rattle.cmc_scenario.specs.Roles.{role_at, kind_at}
 use Rattle.cmc_status_form.specs.ConditionForm.{moment_at}
 use Rattle.cmc_status_form.specs.WholeForm.{whole_object_at}
@@ -40,11 +40,11 @@ use Rattle.cmc_lines.specs.declared.line.PrintedOrder.{PrintedOrder}
 use Rattle.cmc_lines.specs.declared.line.PrintedOrder.TheVariants as asked
 use Rattle.cmc_lines.specs.declared.line.PrintedLine.{PrintedLine}
 use Rattle.cmc_lines.specs.declared.line.PrintedLine.TheVariants as lines
-use Rattle.cmc_entry_form.specs.LineForm.{member_as, optional_as, named_at, first_at, created_in, conflict_at, numbered, refused_in, reply_in, reply_at, answers_create, answers_other, who_at, said_in, answered_in, create_in, generate_in, update_in, delete_in, get_in, call_in, call_at, key_order_in, csr_order_in, sign_order_in, judge_order_in, order_in, order_at, answer_at, positions_at, cause_at, begin_in, ask_in, made_in, signed_in, told_answer_in, judged_in, end_in, pass_in, script_in, deliver_in, list_in, stop_in, start_in, tick_in, line_in, line_at}
-use Rattle.cmc_summary_form.specs.SummaryForm.{HasNames, IsKeyOf}
+use Rattle.cmc_entry_form.specs.LineForm.{member_as, optional_as, named_at, first_member_at, created_in, conflict_at, numbered_reply, refused_in, reply_in, reply_at, answers_create, answers_other, who_at, said_in, answered_in, create_in, generate_in, update_in, delete_line_in, get_in, call_in, call_at, key_order_in, csr_order_in, sign_order_in, judge_order_in, order_in, order_at, answer_at, positions_at, cause_at, begin_in, ask_in, made_in, signed_line_in, told_answer_in, judged_in, end_in, pass_in, script_in, deliver_line_in, list_in, stop_line_in, start_line_in, tick_line_in, line_in, line_at}
+use Rattle.cmc_summary_form.specs.SummaryForm.{HasNames, IsKeyOfKind}
 use Rattle.cmc_summary_form.proofs.NamesAgain.{key_so as key_text_so}
 use Rattle.cmc_entry_form.specs.Entries.{HasReplyForm, HasOrderForm}
-use Rattle.cmc_entry_form.specs.Lines.{IsFormed, IsFormedRead, HasOctets, OrderHasOctets}
+use Rattle.cmc_entry_form.specs.Lines.{IsFormedLine, IsFormedRead, HasOctets, OrderHasOctets}
 use Rattle.cmc_entry_form.proofs.LinesAgain.{shown_is}
 
 -- ---- members
@@ -71,17 +71,17 @@ choose false first second = second
 name_so : (t : List ℕ) → Always (λ n. is_subdomain n ≡ true) (name_in t)
 name_so t = tested (λ n. is_subdomain n ≡ true) (is_subdomain t) t (λ h. h)
 
-named_so : (kind : Kind) (d : Data) → Always (IsKeyOf kind) (named_at kind d)
-named_so kind d = next (IsKeyOf kind) (text_at d) (key_of_kind kind) (key_text_so kind)
+named_so : (kind : Kind) (d : Data) → Always (IsKeyOfKind kind) (named_at kind d)
+named_so kind d = next (IsKeyOfKind kind) (text_at d) (key_of_kind kind) (key_text_so kind)
 
-whole_so : (t : List ℕ) → Always HasNames (key_in t)
-unfolding key_in
+whole_so : (t : List ℕ) → Always HasNames (key_of_text t)
+unfolding key_of_text
 whole_so t =
     next HasNames (split_slash t) _ (λ parts. next HasNames (kind_in parts.0) _
-    (λ kind. further (IsKeyOf kind) HasNames (key_of_kind kind parts.1) (λ key is. is.1) (key_text_so kind parts.1)))
+    (λ kind. further (IsKeyOfKind kind) HasNames (key_of_kind kind parts.1) (λ key is. is.1) (key_text_so kind parts.1)))
 
 key_so : (d : Data) → Always HasNames (key_at d)
-key_so d = next HasNames (text_at d) key_in whole_so
+key_so d = next HasNames (text_at d) key_of_text whole_so
 
 -- ---- replies
 
@@ -91,7 +91,7 @@ IsReplyForm (printed.Created name version) = is_subdomain name ≡ true
 IsReplyForm (printed.Invalid rule) = rule < 2 ^ 32
 IsReplyForm other = Unit {0}
 
-numbered_so : (reply : ℕ → PrintedReply) (d : Data) → ((n : ℕ) → IsReplyForm (reply n)) → Always IsReplyForm (numbered reply d)
+numbered_so : (reply : ℕ → PrintedReply) (d : Data) → ((n : ℕ) → IsReplyForm (reply n)) → Always IsReplyForm (numbered_reply reply d)
 numbered_so reply d each = next IsReplyForm (count_at d) _ (λ n. so (each n))
 
 below : (n m : ℕ) → nat_lt n m ≡ true → n < m
@@ -128,7 +128,7 @@ first_so d f =
 
 reply_so : (d : Data) → Always IsReplyForm (reply_at d)
 unfolding reply_at
-reply_so d = next IsReplyForm (first_at d) (reply_in d) (first_so d)
+reply_so d = next IsReplyForm (first_member_at d) (reply_in d) (first_so d)
 
 -- a reply like it is of its form, and shows as it
 abbrev IsLike : Call → PrintedReply → Type 0
@@ -173,7 +173,7 @@ answered_so fits d = after (λ p. IsReplyForm p.0) (IsAnswer fits) (said_in d) _
 
 -- what is read, if its octets are bytes, is shown by an entry of its form
 abbrev Shows : PrintedLine → Type 0
-Shows line = HasOctets line → IsFormed line
+Shows line = HasOctets line → IsFormedLine line
 
 -- a value that is read as the object
 abbrev IsWhole : Object → Type 0
@@ -261,8 +261,8 @@ get_shows key r who is answer octets =
 named_key_so : (d : Data) → Always HasNames (member_as key_at (codes "key") d)
 named_key_so d = member_so HasNames key_at (codes "key") d key_so
 
-delete_so : (d : Data) → Always Shows (delete_in d)
-unfolding delete_in
+delete_so : (d : Data) → Always Shows (delete_line_in d)
+unfolding delete_line_in
 delete_so d =
     after HasNames Shows (member_as key_at (codes "key") d) _ (named_key_so d)
     (λ key is. next Shows (optional_as count_at (codes "version") d) _
@@ -289,19 +289,19 @@ call_so d = next Shows (member_as text_at (codes "call") d) (call_in d)
 abbrev OrderShows : PrintedOrder → Type 0
 OrderShows o = OrderHasOctets o → HasOrderForm (order_like o) × (shown_order (order_like o) ≡ o)
 
-sign_shows : (number : ℕ) (request : Key) (version : ℕ) → IsKeyOf CertificateRequest request → OrderShows (asked.Sign number request version)
+sign_shows : (number : ℕ) (request : Key) (version : ℕ) → IsKeyOfKind CertificateRequest request → OrderShows (asked.Sign number request version)
 sign_shows number request version is octets = (is.1, ap (λ k. asked.Sign number k version) (request_named request version is.0))
 
-judge_shows : (request : Key) (version : ℕ) → IsKeyOf CertificateRequest request → OrderShows (asked.Judge request version)
+judge_shows : (request : Key) (version : ℕ) → IsKeyOfKind CertificateRequest request → OrderShows (asked.Judge request version)
 judge_shows request version is octets = (is.1, ap (λ k. asked.Judge k version) (request_named request version is.0))
 
-request_so : (d : Data) → Always (IsKeyOf CertificateRequest) (member_as (named_at CertificateRequest) (codes "request") d)
-request_so d = member_so (IsKeyOf CertificateRequest) (named_at CertificateRequest) (codes "request") d (named_so CertificateRequest)
+request_so : (d : Data) → Always (IsKeyOfKind CertificateRequest) (member_as (named_at CertificateRequest) (codes "request") d)
+request_so d = member_so (IsKeyOfKind CertificateRequest) (named_at CertificateRequest) (codes "request") d (named_so CertificateRequest)
 
 key_order_so : (d : Data) → Always OrderShows (key_order_in d)
 unfolding key_order_in
 key_order_so d =
-    after (IsKeyOf Certificate) OrderShows (member_as (named_at Certificate) (codes "certificate") d) _ (member_so (IsKeyOf Certificate) (named_at Certificate) (codes "certificate") d (named_so Certificate))
+    after (IsKeyOfKind Certificate) OrderShows (member_as (named_at Certificate) (codes "certificate") d) _ (member_so (IsKeyOfKind Certificate) (named_at Certificate) (codes "certificate") d (named_so Certificate))
     (λ certificate is. next OrderShows (member_as count_at (codes "number") d) _ (λ number. so (λ octets. (is, refl))))
 
 csr_order_so : (d : Data) → Always OrderShows (csr_order_in d)
@@ -312,13 +312,13 @@ sign_order_so : (d : Data) → Always OrderShows (sign_order_in d)
 unfolding sign_order_in
 sign_order_so d =
     next OrderShows (member_as count_at (codes "number") d) _
-    (λ number. after (IsKeyOf CertificateRequest) OrderShows (member_as (named_at CertificateRequest) (codes "request") d) _ (request_so d)
+    (λ number. after (IsKeyOfKind CertificateRequest) OrderShows (member_as (named_at CertificateRequest) (codes "request") d) _ (request_so d)
     (λ request is. next OrderShows (member_as count_at (codes "version") d) _ (λ version. so (sign_shows number request version is))))
 
 judge_order_so : (d : Data) → Always OrderShows (judge_order_in d)
 unfolding judge_order_in
 judge_order_so d =
-    after (IsKeyOf CertificateRequest) OrderShows (member_as (named_at CertificateRequest) (codes "request") d) _ (request_so d)
+    after (IsKeyOfKind CertificateRequest) OrderShows (member_as (named_at CertificateRequest) (codes "request") d) _ (request_so d)
     (λ request is. next OrderShows (member_as count_at (codes "version") d) _ (λ version. so (judge_shows request version is)))
 
 order_so : (d : Data) → Always OrderShows (order_at d)
@@ -333,7 +333,7 @@ begin_so : (d : Data) → Always Shows (begin_in d)
 unfolding begin_in
 begin_so d =
     next Shows (member_as count_at (codes "pass") d) _ (λ pass. next Shows (member_as role_at (codes "role") d) _
-    (λ role. after (IsKeyOf (kind_of_work role)) Shows (member_as (named_at (kind_of_work role)) (codes "key") d) _ (member_so (IsKeyOf (kind_of_work role)) (named_at (kind_of_work role)) (codes "key") d (named_so (kind_of_work role)))
+    (λ role. after (IsKeyOfKind (kind_of_work role)) Shows (member_as (named_at (kind_of_work role)) (codes "key") d) _ (member_so (IsKeyOfKind (kind_of_work role)) (named_at (kind_of_work role)) (codes "key") d (named_so (kind_of_work role)))
     (λ key is. next Shows (member_as positions_at (codes "at") d) _
     (λ at. after IsPrintable Shows (member_as moment_at (codes "now") d) _ (member_so IsPrintable moment_at (codes "now") d moment_so)
     (λ now dated. so (λ octets. (entries.Begin pass role key at now, (is, dated), refl)))))))
@@ -351,8 +351,8 @@ made_so : (d : Data) → Always Shows (made_in d)
 unfolding made_in
 made_so d = next Shows (member_as count_at (codes "pass") d) _ (λ pass. next Shows (member_as bytes_at (codes "key") d) _ (λ key. so (λ octets. (entries.Made pass key, octets, refl))))
 
-signed_so : (d : Data) → Always Shows (signed_in d)
-unfolding signed_in
+signed_so : (d : Data) → Always Shows (signed_line_in d)
+unfolding signed_line_in
 signed_so d = next Shows (member_as count_at (codes "pass") d) _ (λ pass. next Shows (member_as bytes_at (codes "signature") d) _ (λ signature. so (λ octets. (entries.Signed pass signature, octets, refl))))
 
 answer_shows : (pass : ℕ) (answer : Signing) → Shows (lines.Answered pass answer)
@@ -384,8 +384,8 @@ script_so : (d : Data) → Always Shows (script_in d)
 unfolding script_in
 script_so d = next Shows (member_as count_at (codes "step") d) _ (λ step. so (λ octets. (entries.Script step, tt, refl)))
 
-deliver_so : (d : Data) → Always Shows (deliver_in d)
-unfolding deliver_in
+deliver_so : (d : Data) → Always Shows (deliver_line_in d)
+unfolding deliver_line_in
 deliver_so d =
     next Shows (member_as role_at (codes "role") d) _ (λ role. next Shows (member_as kind_at (codes "kind") d) _
     (λ kind. next Shows (member_as count_at (codes "to") d) _ (λ to. so (λ octets. (entries.Deliver role kind to, tt, refl)))))
@@ -396,16 +396,16 @@ list_so d =
     next Shows (member_as role_at (codes "role") d) _ (λ role. next Shows (member_as kind_at (codes "kind") d) _
     (λ kind. next Shows (member_as count_at (codes "to") d) _ (λ to. so (λ octets. (entries.List role kind to, tt, refl)))))
 
-stop_so : (d : Data) → Always Shows (stop_in d)
-unfolding stop_in
+stop_so : (d : Data) → Always Shows (stop_line_in d)
+unfolding stop_line_in
 stop_so d = next Shows (member_as role_at (codes "role") d) _ (λ role. so (λ octets. (entries.Stop role, tt, refl)))
 
-start_so : (d : Data) → Always Shows (start_in d)
-unfolding start_in
+start_so : (d : Data) → Always Shows (start_line_in d)
+unfolding start_line_in
 start_so d = next Shows (member_as role_at (codes "role") d) _ (λ role. next Shows (member_as count_at (codes "at") d) _ (λ at. so (λ octets. (entries.Start role at, tt, refl))))
 
-tick_so : (d : Data) → Always Shows (tick_in d)
-unfolding tick_in
+tick_so : (d : Data) → Always Shows (tick_line_in d)
+unfolding tick_line_in
 tick_so d = after IsPrintable Shows (member_as moment_at (codes "now") d) _ (member_so IsPrintable moment_at (codes "now") d moment_so) (λ now dated. so (λ octets. (entries.Tick now, dated, refl)))
 
 line_so : (d : Data) → Always Shows (line_at d)

@@ -18,7 +18,7 @@ use Rattle.cmc_objects.specs.declared.entry.Entry.TheVariants as entries
 use Rattle.cmc_objects.specs.Objects.{key_of}
 use Rattle.cmc_objects.specs.Watching.{kind_of_work}
 use Rattle.cmc_status_form.specs.Laws.{HasWholeForm}
-use Rattle.cmc_summary_form.specs.SummaryForm.{HasNames, IsKeyOf}
+use Rattle.cmc_summary_form.specs.SummaryForm.{HasNames, IsKeyOfKind}
 
 abbrev pub HasCallForm : Call → Type 0
 HasCallForm (Create object generate) = HasWholeForm object
@@ -38,7 +38,7 @@ HasReplyForm call (replies.Invalid rule) = rule < 2 ^ 32
 HasReplyForm call other = Unit {0}
 
 abbrev pub HasOrderForm : Order → Type 0
-HasOrderForm (orders.Key o) = IsKeyOf Certificate o.certificate
+HasOrderForm (orders.Key o) = IsKeyOfKind Certificate o.certificate
 HasOrderForm (orders.Csr o) = IsBytes o.key × IsBytes o.body
 HasOrderForm (orders.Sign o) = HasNames (key_of (Request o.request))
 HasOrderForm (orders.Judge o) = HasNames (key_of (Request o.request))
@@ -55,7 +55,7 @@ HasForm (entries.Script step) = Unit {0}
 HasForm (entries.Call who call reply) = HasCallForm call × HasReplyForm call reply
 HasForm (entries.Deliver role kind to) = Unit {0}
 HasForm (entries.List role kind to) = Unit {0}
-HasForm (entries.Begin pass role key at now) = IsKeyOf (kind_of_work role) key × IsPrintable now
+HasForm (entries.Begin pass role key at now) = IsKeyOfKind (kind_of_work role) key × IsPrintable now
 HasForm (entries.Ask pass order) = HasOrderForm order
 HasForm (entries.Made pass key) = IsBytes key
 HasForm (entries.Signed pass signature) = IsBytes signature

@@ -58,8 +58,8 @@ first_in [] = Err []
 first_in (f ∷ fs) = Ok f
 
 -- The first member of an object.
-abbrev pub first_at : Data → Read Field
-first_at d = fields_at d >>= first_in
+abbrev pub first_member_at : Data → Read Field
+first_member_at d = fields_at d >>= first_in
 
 unfoldable pub created_in : Data → Read PrintedReply
 created_in d = do
@@ -74,26 +74,26 @@ conflict_at d = do
   Ok (printed.Conflict named have)
 
 -- A reply of one number.
-abbrev pub numbered : (ℕ → PrintedReply) → Data → Read PrintedReply
-numbered reply d = count_at d >>= (λ n. Ok (reply n))
+abbrev pub numbered_reply : (ℕ → PrintedReply) → Data → Read PrintedReply
+numbered_reply reply d = count_at d >>= (λ n. Ok (reply n))
 
 abbrev pub refused_in : List ℕ → Data → Read PrintedReply
 refused_in name value = if bytes_eq name (codes "conflict") then conflict_at value
-    else (if bytes_eq name (codes "notFound") then numbered (λ at. printed.NotFound at) value
-    else (if bytes_eq name (codes "alreadyExists") then numbered (λ have. printed.AlreadyExists have) value
+    else (if bytes_eq name (codes "notFound") then numbered_reply (λ at. printed.NotFound at) value
+    else (if bytes_eq name (codes "alreadyExists") then numbered_reply (λ have. printed.AlreadyExists have) value
     else (if bytes_eq name (codes "invalid") then small_count_at value >>= (λ rule. Ok (printed.Invalid rule))
-    else (if bytes_eq name (codes "unavailable") then numbered (λ number. printed.Unavailable number) value else Err []))))
+    else (if bytes_eq name (codes "unavailable") then numbered_reply (λ number. printed.Unavailable number) value else Err []))))
 
 -- The name of the first member decides.
 abbrev pub reply_in : Data → Field → Read PrintedReply
 reply_in d first = if bytes_eq first.0 (codes "name") then created_in d
-    else (if bytes_eq first.0 (codes "ok") then numbered (λ version. printed.Ok version) first.1
-    else (if bytes_eq first.0 (codes "unchanged") then numbered (λ version. printed.Unchanged version) first.1
-    else (if bytes_eq first.0 (codes "found") then numbered (λ version. printed.Found version) first.1
+    else (if bytes_eq first.0 (codes "ok") then numbered_reply (λ version. printed.Ok version) first.1
+    else (if bytes_eq first.0 (codes "unchanged") then numbered_reply (λ version. printed.Unchanged version) first.1
+    else (if bytes_eq first.0 (codes "found") then numbered_reply (λ version. printed.Found version) first.1
     else refused_in first.0 first.1)))
 
 unfoldable pub reply_at : Data → Read PrintedReply
-reply_at d = first_at d >>= reply_in d
+reply_at d = first_member_at d >>= reply_in d
 
 -- An accepted create is answered with a name, and no other call is.
 abbrev pub answers_create : PrintedReply → Bool
@@ -147,8 +147,8 @@ update_in call d = do
   answered ← answered_in answers_other d
   Ok (lines.Call call (key_text (key_of object)) (Some object) (Some version) answered.0 answered.1)
 
-unfoldable pub delete_in : Data → Read PrintedLine
-delete_in d = do
+unfoldable pub delete_line_in : Data → Read PrintedLine
+delete_line_in d = do
   key ← member_as key_at (codes "key") d
   version ← optional_as count_at (codes "version") d
   answered ← answered_in answers_other d
@@ -165,7 +165,7 @@ call_in d word = if bytes_eq word (codes "create") then create_in d
     else (if bytes_eq word (codes "generate") then generate_in d
     else (if bytes_eq word (codes "update") then update_in names.Update d
     else (if bytes_eq word (codes "updateStatus") then update_in names.UpdateStatus d
-    else (if bytes_eq word (codes "delete") then delete_in d
+    else (if bytes_eq word (codes "delete") then delete_line_in d
     else (if bytes_eq word (codes "get") then get_in d else Err [])))))
 
 unfoldable pub call_at : Data → Read PrintedLine
@@ -223,13 +223,13 @@ failed_in d = do
   message ← member_as text_at (codes "message") d
   Ok (answers.Failed message)
 
-abbrev pub answer_in : Data → List ℕ → Read Signing
-answer_in d word = if bytes_eq word (codes "issued") then issued_in d
+abbrev pub answer_read_in : Data → List ℕ → Read Signing
+answer_read_in d word = if bytes_eq word (codes "issued") then issued_in d
     else (if bytes_eq word (codes "pending") then Ok answers.Pending
     else (if bytes_eq word (codes "failed") then failed_in d else Err []))
 
 unfoldable pub answer_at : Data → Read Signing
-answer_at d = member_as text_at (codes "is") d >>= answer_in d
+answer_at d = member_as text_at (codes "is") d >>= answer_read_in d
 
 -- ---- passes
 
@@ -273,8 +273,8 @@ made_in d = do
   key ← member_as bytes_at (codes "key") d
   Ok (lines.Made pass key)
 
-unfoldable pub signed_in : Data → Read PrintedLine
-signed_in d = do
+unfoldable pub signed_line_in : Data → Read PrintedLine
+signed_line_in d = do
   pass ← member_as count_at (codes "pass") d
   signature ← member_as bytes_at (codes "signature") d
   Ok (lines.Signed pass signature)
@@ -301,7 +301,7 @@ abbrev pub pass_in : Data → List ℕ → Read PrintedLine
 pass_in d word = if bytes_eq word (codes "begin") then begin_in d
     else (if bytes_eq word (codes "ask") then ask_in d
     else (if bytes_eq word (codes "made") then made_in d
-    else (if bytes_eq word (codes "signed") then signed_in d
+    else (if bytes_eq word (codes "signed") then signed_line_in d
     else (if bytes_eq word (codes "answered") then told_answer_in d
     else (if bytes_eq word (codes "judged") then judged_in d
     else (if bytes_eq word (codes "end") then end_in d else Err []))))))
@@ -313,8 +313,8 @@ script_in d = do
   step ← member_as count_at (codes "step") d
   Ok (lines.Script step)
 
-unfoldable pub deliver_in : Data → Read PrintedLine
-deliver_in d = do
+unfoldable pub deliver_line_in : Data → Read PrintedLine
+deliver_line_in d = do
   role ← member_as role_at (codes "role") d
   kind ← member_as kind_at (codes "kind") d
   to ← member_as count_at (codes "to") d
@@ -327,19 +327,19 @@ list_in d = do
   to ← member_as count_at (codes "to") d
   Ok (lines.List role kind to)
 
-unfoldable pub stop_in : Data → Read PrintedLine
-stop_in d = do
+unfoldable pub stop_line_in : Data → Read PrintedLine
+stop_line_in d = do
   role ← member_as role_at (codes "role") d
   Ok (lines.Stop role)
 
-unfoldable pub start_in : Data → Read PrintedLine
-start_in d = do
+unfoldable pub start_line_in : Data → Read PrintedLine
+start_line_in d = do
   role ← member_as role_at (codes "role") d
   at ← member_as count_at (codes "at") d
   Ok (lines.Start role at)
 
-unfoldable pub tick_in : Data → Read PrintedLine
-tick_in d = do
+unfoldable pub tick_line_in : Data → Read PrintedLine
+tick_line_in d = do
   now ← member_as moment_at (codes "now") d
   Ok (lines.Tick now)
 
@@ -347,11 +347,11 @@ tick_in d = do
 abbrev pub line_in : Data → List ℕ → Read PrintedLine
 line_in d word = if bytes_eq word (codes "script") then script_in d
     else (if bytes_eq word (codes "call") then call_at d
-    else (if bytes_eq word (codes "deliver") then deliver_in d
+    else (if bytes_eq word (codes "deliver") then deliver_line_in d
     else (if bytes_eq word (codes "list") then list_in d
-    else (if bytes_eq word (codes "stop") then stop_in d
-    else (if bytes_eq word (codes "start") then start_in d
-    else (if bytes_eq word (codes "tick") then tick_in d else pass_in d word))))))
+    else (if bytes_eq word (codes "stop") then stop_line_in d
+    else (if bytes_eq word (codes "start") then start_line_in d
+    else (if bytes_eq word (codes "tick") then tick_line_in d else pass_in d word))))))
 
 unfoldable pub line_at : Data → Read PrintedLine
 line_at d = member_as text_at (codes "is") d >>= line_in d

@@ -7,7 +7,7 @@ use Rattle.cmc_objects.specs.declared.orders.Signing.{Signing}
 use Rattle.cmc_objects.specs.declared.orders.Signing.TheVariants as answers
 use Rattle.cmc_objects.specs.declared.entry.Entry.{Entry}
 use Rattle.cmc_status_form.specs.Laws.{HasFormRead}
-use Rattle.cmc_lines.specs.Shown.{shown}
+use Rattle.cmc_lines.specs.Shown.{line_of_entry}
 use Rattle.cmc_lines.specs.declared.line.PrintedOrder.{PrintedOrder}
 use Rattle.cmc_lines.specs.declared.line.PrintedOrder.TheVariants as asked
 use Rattle.cmc_lines.specs.declared.line.PrintedLine.{PrintedLine}
@@ -16,8 +16,8 @@ use Rattle.cmc_entry_form.specs.Entries.{HasForm}
 use Rattle.cmc_entry_form.specs.LineForm.{line_at}
 
 -- Some entry of its form shows this.
-abbrev pub IsFormed : PrintedLine → Type 0
-IsFormed line = (entry : Entry) × HasForm entry × (shown entry ≡ line)
+abbrev pub IsFormedLine : PrintedLine → Type 0
+IsFormedLine line = (entry : Entry) × HasForm entry × (line_of_entry entry ≡ line)
 
 -- ---- what the types of a line say
 
@@ -47,4 +47,4 @@ HasOctets other = Unit {0}
 
 -- What is read is shown by some entry of its form.
 abbrev pub IsFormedRead : PrintedLine → Type 0
-IsFormedRead line = (d : Data) → line_at d ≡ Ok line → IsFormed line
+IsFormedRead line = (d : Data) → line_at d ≡ Ok line → IsFormedLine line

@@ -6,7 +6,7 @@ ghost use Rattle.cmc_material.specs.Keys.{key_at};
 ghost use Rattle.cmc_status_form.specs.WholeForm.{whole_object_at};
 ghost use Rattle.cmc_objects.specs.Objects as objects;
 ghost use Rattle.cmc_print.specs.Words as words;
-ghost use Rattle.cmc_entry_form.specs.LineForm.{call_at, call_in, create_in, delete_in, generate_in, get_in, member_as, update_in};
+ghost use Rattle.cmc_entry_form.specs.LineForm.{call_at, call_in, create_in, delete_line_in, generate_in, get_in, member_as, update_in};
 
 use crate::members::{count_of, count_option, member_of, text_of};
 use crate::replies::{said_of_create, said_of_other};
@@ -108,9 +108,9 @@ fn update(alloc: Global, value: &Value, call: CallName) -> Result<PrintedLine, B
     })
 }
 
-#[tactic(auto, unfolding(crate::specs::LineForm::delete_in))]
+#[tactic(auto, unfolding(crate::specs::LineForm::delete_line_in))]
 fn delete(alloc: Global, value: &Value) -> Result<PrintedLine, BadField>
-    ensures { Gives (λ t. t) result (delete_in (view value.now)) }
+    ensures { Gives (λ t. t) result (delete_line_in (view value.now)) }
 {
     let key = key_of(alloc, value)?;
     let version = count_option(alloc, value, "version")?;

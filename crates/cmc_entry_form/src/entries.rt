@@ -2,7 +2,7 @@
 ghost use Rattle.std.specs.Prelude.{◌≡◌};
 ghost use Rattle.serde_json.specs.View.{view};
 ghost use Rattle.cmc_cursor.specs.Reading.{Gives};
-ghost use Rattle.cmc_entry_form.specs.LineForm.{deliver_in, line_at, line_in, list_in, script_in, start_in, stop_in, tick_in};
+ghost use Rattle.cmc_entry_form.specs.LineForm.{deliver_line_in, line_at, line_in, list_in, script_in, start_line_in, stop_line_in, tick_line_in};
 
 use crate::calls::call;
 use crate::members::{count_of, kind_of, moment_of, role_of, text_of};
@@ -20,9 +20,9 @@ fn script(alloc: Global, value: &Value) -> Result<PrintedLine, BadField>
     Ok(PrintedLine::Script { step })
 }
 
-#[tactic(auto, unfolding(crate::specs::LineForm::deliver_in))]
+#[tactic(auto, unfolding(crate::specs::LineForm::deliver_line_in))]
 fn deliver(alloc: Global, value: &Value) -> Result<PrintedLine, BadField>
-    ensures { Gives (λ t. t) result (deliver_in (view value.now)) }
+    ensures { Gives (λ t. t) result (deliver_line_in (view value.now)) }
 {
     let role = role_of(alloc, value, "role")?;
     let kind = kind_of(alloc, value, "kind")?;
@@ -40,26 +40,26 @@ fn list(alloc: Global, value: &Value) -> Result<PrintedLine, BadField>
     Ok(PrintedLine::List { role, kind, to })
 }
 
-#[tactic(auto, unfolding(crate::specs::LineForm::stop_in))]
+#[tactic(auto, unfolding(crate::specs::LineForm::stop_line_in))]
 fn stop(alloc: Global, value: &Value) -> Result<PrintedLine, BadField>
-    ensures { Gives (λ t. t) result (stop_in (view value.now)) }
+    ensures { Gives (λ t. t) result (stop_line_in (view value.now)) }
 {
     let role = role_of(alloc, value, "role")?;
     Ok(PrintedLine::Stop { role })
 }
 
-#[tactic(auto, unfolding(crate::specs::LineForm::start_in))]
+#[tactic(auto, unfolding(crate::specs::LineForm::start_line_in))]
 fn start(alloc: Global, value: &Value) -> Result<PrintedLine, BadField>
-    ensures { Gives (λ t. t) result (start_in (view value.now)) }
+    ensures { Gives (λ t. t) result (start_line_in (view value.now)) }
 {
     let role = role_of(alloc, value, "role")?;
     let at = count_of(alloc, value, "at")?;
     Ok(PrintedLine::Start { role, at })
 }
 
-#[tactic(auto, unfolding(crate::specs::LineForm::tick_in))]
+#[tactic(auto, unfolding(crate::specs::LineForm::tick_line_in))]
 fn tick(alloc: Global, value: &Value) -> Result<PrintedLine, BadField>
-    ensures { Gives (λ t. t) result (tick_in (view value.now)) }
+    ensures { Gives (λ t. t) result (tick_line_in (view value.now)) }
 {
     let now = moment_of(alloc, value, "now")?;
     Ok(PrintedLine::Tick { now })

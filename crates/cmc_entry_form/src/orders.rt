@@ -3,7 +3,7 @@ ghost use Rattle.std.specs.Prelude.{◌≡◌};
 ghost use Rattle.serde_json.specs.View.{view};
 ghost use Rattle.cmc_cursor.specs.Reading.{Gives};
 ghost use Rattle.cmc_entry_form.specs.LineForm as spec;
-ghost use Rattle.cmc_entry_form.specs.LineForm.{answer_at, answer_in, csr_order_in, failed_in, issued_in, judge_order_in, key_order_in, order_at, order_in, sign_order_in};
+ghost use Rattle.cmc_entry_form.specs.LineForm.{answer_at, answer_read_in, csr_order_in, failed_in, issued_in, judge_order_in, key_order_in, order_at, order_in, sign_order_in};
 
 use crate::members::{bytes_of, bytes_option, count_of, named_key, text_of};
 use cmc_cursor::BadField;
@@ -109,7 +109,7 @@ fn failed(alloc: Global, value: &Value) -> Result<Signing, BadField>
 }
 
 fn answer_named(alloc: Global, value: &Value, word: &str) -> Result<Signing, BadField>
-    ensures { Gives (λ t. t) result (answer_in (view value.now) word.now) }
+    ensures { Gives (λ t. t) result (answer_read_in (view value.now) word.now) }
 {
     match word {
         "issued" => issued(alloc, value),

@@ -3,7 +3,7 @@ ghost use Rattle.std.specs.Prelude.{◌≡◌, codes};
 ghost use Rattle.serde_json.specs.View.{view};
 ghost use Rattle.cmc_cursor.specs.Reading.{Gives};
 ghost use Rattle.cmc_cursor.specs.Readers.{flag_at};
-ghost use Rattle.cmc_entry_form.specs.LineForm.{answer_at, ask_in, begin_in, cause_at, cause_named as named_cause, end_in, judged_in, made_in, member_as, order_at, pass_in, positions_at, signed_in, told_answer_in};
+ghost use Rattle.cmc_entry_form.specs.LineForm.{answer_at, ask_in, begin_in, cause_at, cause_named as named_cause, end_in, judged_in, made_in, member_as, order_at, pass_in, positions_at, signed_line_in, told_answer_in};
 
 use crate::members::{bytes_of, count_of, member_of, moment_of, named_key, role_of};
 use crate::orders::{answer, order};
@@ -78,9 +78,9 @@ fn made(alloc: Global, value: &Value) -> Result<PrintedLine, BadField>
     Ok(PrintedLine::Made { pass, key })
 }
 
-#[tactic(auto, unfolding(crate::specs::LineForm::signed_in))]
+#[tactic(auto, unfolding(crate::specs::LineForm::signed_line_in))]
 fn signed(alloc: Global, value: &Value) -> Result<PrintedLine, BadField>
-    ensures { Gives (λ t. t) result (signed_in (view value.now)) }
+    ensures { Gives (λ t. t) result (signed_line_in (view value.now)) }
 {
     let pass = count_of(alloc, value, "pass")?;
     let signature = bytes_of(alloc, value, "signature")?;

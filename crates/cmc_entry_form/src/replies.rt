@@ -17,7 +17,7 @@ use std::alloc::Global;
 // ---- replies
 
 fn first_member(alloc: Global, value: &Value) -> Result<(&str, &Value), BadField>
-    ensures { Gives (λ p. (p.0.now, view p.1.now)) result (spec.first_at (view value.now)) }
+    ensures { Gives (λ p. (p.0.now, view p.1.now)) result (spec.first_member_at (view value.now)) }
 {
     let members = fields(alloc, value)?;
     match members.as_slice() {

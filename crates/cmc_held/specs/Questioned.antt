@@ -21,35 +21,35 @@ abbrev pub Counts : Type 0
 Counts = List (Subject × ℕ)
 
 -- how many were counted under the name
-unfoldable pub count_at : Counts → Subject → ℕ
-count_at counts subject = unwrap_or (lookup (subject_eq subject) counts) 0
+unfoldable pub count_under : Counts → Subject → ℕ
+count_under counts subject = unwrap_or (lookup (subject_eq subject) counts) 0
 
 -- the questions for keys, and those to issuers
 pub record Questioned : Type 0 where
   pub keys : Counts
   pub answers : Counts
 
-abbrev pub named : List ℕ → List ℕ → Subject
-named namespace name = record { namespace = namespace; name = name }
+abbrev pub subject_named : List ℕ → List ℕ → Subject
+subject_named namespace name = record { namespace = namespace; name = name }
 
 -- whether the question is for a key of this name, and whether it is one to the issuer for a request that names it
 abbrev pub asks_key_at : Subject → Order → Bool
-asks_key_at subject (KeyOrder order) = subject_eq (named order.certificate.namespace order.certificate.name) subject
+asks_key_at subject (KeyOrder order) = subject_eq (subject_named order.certificate.namespace order.certificate.name) subject
 asks_key_at subject other = false
 
 abbrev pub asks_issuer_at : Subject → Order → Bool
-asks_issuer_at subject (Sign order) = subject_eq (named order.request.meta.namespace (certificate_named order.request)) subject
+asks_issuer_at subject (Sign order) = subject_eq (subject_named order.request.meta.namespace (certificate_named order.request)) subject
 asks_issuer_at subject other = false
 
 -- how many keys were asked for the Certificate's name
 abbrev pub keys_asked : Questioned → Option Certificate → ℕ
 keys_asked q None = 0
-keys_asked q (Some c) = count_at q.keys (named c.meta.namespace c.meta.name)
+keys_asked q (Some c) = count_under q.keys (subject_named c.meta.namespace c.meta.name)
 
 -- how many questions to issuers were asked for the name of the Certificate that the request is for
 abbrev pub answers_asked : Questioned → Option CertificateRequest → ℕ
 answers_asked q None = 0
-answers_asked q (Some r) = count_at q.answers (named r.meta.namespace (certificate_named r))
+answers_asked q (Some r) = count_under q.answers (subject_named r.meta.namespace (certificate_named r))
 
 -- how many questions the role asked before, by what it sees; a role whose questions have no numbers needs none
 abbrev pub asked_for : Questioned → Role → Views → ℕ

@@ -15,17 +15,17 @@ abbrev pub no_flags : Flags
 no_flags = record { certificates = false; requests = false; secrets = false }
 
 -- a role at the beginning: it has begun once, or is stopped
-abbrev pub first_standing : Bool → RoleState
-first_standing running = record { running = running; incarnation = if running then 1 else 0; told = no_positions; held = no_flags; written = no_positions }
+abbrev pub first_role_state : Bool → RoleState
+first_role_state running = record { running = running; incarnation = if running then 1 else 0; told = no_positions; held = no_flags; written = no_positions }
 
 -- the rows stand in the order of roles
 unfoldable pub role_state_of : List RoleState → Role → RoleState
-role_state_of rows role = slice_index_or rows (role_rank role) (first_standing false)
+role_state_of rows role = slice_index_or rows (role_rank role) (first_role_state false)
 
-abbrev pub flag_of : Kind → Flags → Bool
-flag_of Certificate flags = flags.certificates
-flag_of CertificateRequest flags = flags.requests
-flag_of Secret flags = flags.secrets
+abbrev pub kind_flag_of : Kind → Flags → Bool
+kind_flag_of Certificate flags = flags.certificates
+kind_flag_of CertificateRequest flags = flags.requests
+kind_flag_of Secret flags = flags.secrets
 
 abbrev pub with_flag : Kind → Bool → Flags → Flags
 with_flag Certificate held flags = record flags { certificates = held }

@@ -69,18 +69,18 @@ impl Model for Counts {
 }
 
 impl Counts {
-    #[tactic(auto, unfolding(crate::specs::Questioned::count_at))]
+    #[tactic(auto, unfolding(crate::specs::Questioned::count_under))]
     fn new(alloc: Global, seed: HashSeed) -> Counts
-        ensures { (k : SubjectValue) → spec.count_at result k ≡ 0 }
+        ensures { (k : SubjectValue) → spec.count_under result k ≡ 0 }
     {
         Counts {
             map: HashMap::with_hasher(alloc, seed),
         }
     }
 
-    #[tactic(auto, unfolding(crate::specs::Questioned::count_at))]
+    #[tactic(auto, unfolding(crate::specs::Questioned::count_under))]
     fn get(&self, subject: &Subject) -> u64
-        ensures { result ≡ spec.count_at self.now subject.now }
+        ensures { result ≡ spec.count_under self.now subject.now }
     {
         match self.map.get(subject) {
             Some(count) => *count,
@@ -89,10 +89,10 @@ impl Counts {
     }
 
     /// Counts one more under the name. An error is one of memory, and leaves all counts as they were.
-    #[tactic(auto, unfolding(crate::specs::Questioned::count_at))]
+    #[tactic(auto, unfolding(crate::specs::Questioned::count_under))]
     fn add(&mut self, subject: Subject) -> Result<(), AllocError>
-        requires { spec.count_at self.old subject < 2 ^ 64 - 1 }
-        ensures ok { OnOk result ((k : SubjectValue) → spec.count_at self.new k ≡ (if subject_eq subject k then spec.count_at self.old k + 1 else spec.count_at self.old k)) }
+        requires { spec.count_under self.old subject < 2 ^ 64 - 1 }
+        ensures ok { OnOk result ((k : SubjectValue) → spec.count_under self.new k ≡ (if subject_eq subject k then spec.count_under self.old k + 1 else spec.count_under self.old k)) }
         ensures err { OnErr result (self.new ≡ self.old) }
     {
         if let Some(count) = self.map.get_mut(&subject) {
@@ -132,7 +132,7 @@ impl Model for Questions {
 }
 
 fn subject_of(alloc: Global, namespace: &Name, name: &Name) -> Result<Subject, AllocError>
-    ensures { IfOk result (λ s. s ≡ spec.named namespace.now name.now) }
+    ensures { IfOk result (λ s. s ≡ spec.subject_named namespace.now name.now) }
 {
     Ok(Subject {
         namespace: namespace.copy()?,
@@ -153,7 +153,7 @@ fn name_in(alloc: Global, request: &CertificateRequest) -> Result<Text, AllocErr
 }
 
 fn subject_in(alloc: Global, request: &CertificateRequest) -> Result<Subject, AllocError>
-    ensures { IfOk result (λ s. s ≡ spec.named request.now.meta.namespace (desks.certificate_named request.now)) }
+    ensures { IfOk result (λ s. s ≡ spec.subject_named request.now.meta.namespace (desks.certificate_named request.now)) }
 {
     let name = name_in(alloc, request)?;
     Ok(Subject {
@@ -165,8 +165,8 @@ fn subject_in(alloc: Global, request: &CertificateRequest) -> Result<Subject, Al
 impl Questions {
     /// None was asked, and names are hashed by the seed. It takes no memory.
     pub fn new(alloc: Global, seed: HashSeed) -> Questions
-        ensures keys { (s : SubjectValue) → spec.count_at result.keys s ≡ 0 }
-        ensures answers { (s : SubjectValue) → spec.count_at result.answers s ≡ 0 }
+        ensures keys { (s : SubjectValue) → spec.count_under result.keys s ≡ 0 }
+        ensures answers { (s : SubjectValue) → spec.count_under result.answers s ≡ 0 }
     {
         Questions {
             alloc,
@@ -225,10 +225,10 @@ impl Questions {
     ///
     /// Want of memory alone, which leaves all counts as they were.
     pub fn note(&mut self, order: &Order) -> Result<(), AllocError>
-        requires keys { (s : SubjectValue) → spec.count_at self.old.keys s < 2 ^ 64 - 1 }
-        requires answers { (s : SubjectValue) → spec.count_at self.old.answers s < 2 ^ 64 - 1 }
-        ensures keys { OnOk result ((s : SubjectValue) → spec.count_at self.new.keys s ≡ (if spec.asks_key_at s order.now then spec.count_at self.old.keys s + 1 else spec.count_at self.old.keys s)) }
-        ensures answers { OnOk result ((s : SubjectValue) → spec.count_at self.new.answers s ≡ (if spec.asks_issuer_at s order.now then spec.count_at self.old.answers s + 1 else spec.count_at self.old.answers s)) }
+        requires keys { (s : SubjectValue) → spec.count_under self.old.keys s < 2 ^ 64 - 1 }
+        requires answers { (s : SubjectValue) → spec.count_under self.old.answers s < 2 ^ 64 - 1 }
+        ensures keys { OnOk result ((s : SubjectValue) → spec.count_under self.new.keys s ≡ (if spec.asks_key_at s order.now then spec.count_under self.old.keys s + 1 else spec.count_under self.old.keys s)) }
+        ensures answers { OnOk result ((s : SubjectValue) → spec.count_under self.new.answers s ≡ (if spec.asks_issuer_at s order.now then spec.count_under self.old.answers s + 1 else spec.count_under self.old.answers s)) }
         ensures err { OnErr result (self.new ≡ self.old) }
     {
         match order {

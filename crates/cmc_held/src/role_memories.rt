@@ -6,7 +6,7 @@ ghost use Rattle.cmc_meta.specs.Keys.{key_eq};
 ghost use Rattle.cmc_objects.specs.declared.role.Role.{Role as RoleValue};
 ghost use Rattle.cmc_model.specs.Histories.{role_eq};
 ghost use Rattle.cmc_rules.specs.Memory.{no_past, with_begin, with_ending, with_own};
-ghost use Rattle.cmc_held.specs.Remembered.{is_noted, is_ready, memory_at, past_at, past_or_new, KeepsNoted, KeepsReady, KeepsReadyOfOthers};
+ghost use Rattle.cmc_held.specs.Remembered.{is_noted, has_past_row, memory_at, past_at, past_or_new, KeepsNoted, KeepsReady, KeepsReadyOfOthers};
 
 use crate::role_states::put_at_kind;
 use cmc_meta::{Key, Kind};
@@ -26,9 +26,9 @@ struct RoleMemory {
 }
 
 impl Model for RoleMemory {
-    ghost use Rattle.cmc_held.specs.Remembered.{Kept};
+    ghost use Rattle.cmc_held.specs.Remembered.{PastRows};
 
-    ghost Value = { Kept };
+    ghost Value = { PastRows };
 
     ghost view = { λ m. m.map.entries };
 }
@@ -125,9 +125,9 @@ impl Drop for RoleMemories {
 
 impl Model for RoleMemories {
     ghost use Rattle.std.specs.Prelude.{◌≡◌, List, length};
-    ghost use Rattle.cmc_held.specs.Remembered.{Kept};
+    ghost use Rattle.cmc_held.specs.Remembered.{PastRows};
 
-    ghost Value = { List Kept };
+    ghost Value = { List PastRows };
 
     ghost view = { λ p. p.rows.items };
 
@@ -162,7 +162,7 @@ impl RoleMemories {
     /// Makes room for what the role will remember of the key, and changes nothing of what it
     /// remembers; room that stands is kept. An error is one of memory.
     pub fn ready(&mut self, role: Role, key: &Key) -> Result<(), AllocError>
-        ensures room { OnOk result (is_ready self.new role key.now ≡ true) }
+        ensures room { OnOk result (has_past_row self.new role key.now ≡ true) }
         ensures same { (r : RoleValue) → (k : KeyValue) → past_at self.new r k ≡ past_at self.old r k }
         ensures keeps { KeepsReady self.old self.new }
     {
@@ -171,7 +171,7 @@ impl RoleMemories {
 
     /// The role begins a pass on the key, of which it saw this at this moment. It takes no memory.
     pub fn begin(&mut self, role: Role, key: &Key, seen: Views, since: i64)
-        requires { is_ready self.old role key.now ≡ true }
+        requires { has_past_row self.old role key.now ≡ true }
         ensures past { (r : RoleValue) → (k : KeyValue) → past_at self.new r k ≡ (if role_eq role r && key_eq key.now k then with_begin seen since (past_at self.old r k) else past_at self.old r k) }
         ensures room { KeepsReady self.old self.new }
     {
@@ -180,7 +180,7 @@ impl RoleMemories {
 
     /// A pass of the role on the key made this accepted write. It takes no memory.
     pub fn wrote(&mut self, role: Role, key: &Key, kind: Kind, version: u64)
-        requires { is_ready self.old role key.now ≡ true }
+        requires { has_past_row self.old role key.now ≡ true }
         ensures past { (r : RoleValue) → (k : KeyValue) → past_at self.new r k ≡ (if role_eq role r && key_eq key.now k then with_own kind version (past_at self.old r k) else past_at self.old r k) }
         ensures room { KeepsReady self.old self.new }
     {

@@ -5,7 +5,7 @@ ghost use Rattle.cmc_objects.specs.declared.role.Role.{Role as RoleValue};
 ghost use Rattle.cmc_model.specs.Histories.{role_eq};
 ghost use Rattle.cmc_rules.specs.Memory.{with_position};
 ghost use Rattle.cmc_rules.specs.Positions.{position_of};
-ghost use Rattle.cmc_held.specs.RoleStates.{first_standing, flag_of, role_state_of, with_flag};
+ghost use Rattle.cmc_held.specs.RoleStates.{first_role_state, kind_flag_of, role_state_of, with_flag};
 
 use cmc_meta::Kind;
 use cmc_objects::{Positions, Role};
@@ -63,7 +63,7 @@ impl RoleStates {
     /// stopped, and nobody was told of anything. An error is one of memory.
     #[tactic(auto, unfolding(crate::specs::RoleStates::role_state_of))]
     pub fn new(alloc: Global, running: &[Role]) -> Result<RoleStates, AllocError>
-        ensures { IfOk result (λ t. (r : RoleValue) → role_state_of t r ≡ first_standing (list_any (λ role. role_eq role r) running.now)) }
+        ensures { IfOk result (λ t. (r : RoleValue) → role_state_of t r ≡ first_role_state (list_any (λ role. role_eq role r) running.now)) }
     {
         let rows = vec![in alloc;
             first_of(running, Role::Trigger),
@@ -102,13 +102,13 @@ fn is_among(running: &[Role], role: Role) -> bool
 }
 
 fn first_of(running: &[Role], role: Role) -> RoleState
-    ensures { result ≡ first_standing (list_any (λ other. role_eq other role) running.now) }
+    ensures { result ≡ first_role_state (list_any (λ other. role_eq other role) running.now) }
 {
     first(is_among(running, role))
 }
 
 fn first(running: bool) -> RoleState
-    ensures { result ≡ first_standing running }
+    ensures { result ≡ first_role_state running }
 {
     let none = Positions {
         certificates: 0,
@@ -148,7 +148,7 @@ pub fn with_told(standing: RoleState, kind: Kind, to: u64) -> RoleState
 
 /// Whether deliveries of the kind are held back from the role.
 pub fn is_held(standing: RoleState, kind: Kind) -> bool
-    ensures { result ≡ flag_of kind standing.held }
+    ensures { result ≡ kind_flag_of kind standing.held }
 {
     match kind {
         Kind::Certificate => standing.held.certificates,

@@ -12,11 +12,11 @@ use Rattle.cmc_model.specs.Objects.{object_at}
 use Rattle.cmc_model.specs.Replies.{put_at}
 use Rattle.cmc_meta.proofs.KeyOrder.{key_cmp-total, key_cmp-IsAntisymmetric}
 use Rattle.cmc_model.proofs.Versions.{object_at-put}
-use Rattle.cmc_informer.specs.Caches.{Slotted, held_in, slot_at, objects_in}
+use Rattle.cmc_informer.specs.Caches.{Slotted, object_in_slot, slot_at, objects_in}
 use Rattle.cmc_informer.specs.Indexes.{AreKeys, Finds}
 use Rattle.cmc_informer.proofs.OneMark.{key_tie}
 
-held_by : (b : Bool) (o : Option Object) (rest : Option (Option Object)) → cond b o (held_in rest) ≡ held_in (cond b (Some o) rest)
+held_by : (b : Bool) (o : Option Object) (rest : Option (Option Object)) → cond b o (object_in_slot rest) ≡ object_in_slot (cond b (Some o) rest)
 held_by true o rest = refl
 held_by false o rest = refl
 

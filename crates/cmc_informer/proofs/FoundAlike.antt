@@ -8,10 +8,10 @@ use Rattle.cmc_meta.specs.Keys.{key_cmp}
 use Rattle.cmc_objects.specs.declared.object.Object.{Object}
 use Rattle.cmc_informer.specs.Caches.{Slotted, has_slot, has_uid, is_owned_by, is_targeting, slot_at}
 use Rattle.cmc_informer.specs.Indexed.{AreFoundAlike, HasRoom, IsIndexed}
-use Rattle.cmc_informer.specs.Indexes.{Index, Marked, has_place, has_room, is_on, mark_in, mark_of, place_of, stands}
+use Rattle.cmc_informer.specs.Indexes.{Index, Marked, has_place, has_room, is_marked_key, mark_in, mark_of, place_of, is_key_under}
 use Rattle.cmc_informer.specs.declared.rows.Rows.{Rows}
 
-on_some : (mark : Option Bool) → is_on mark ≡ true → is_some mark ≡ true
+on_some : (mark : Option Bool) → is_marked_key mark ≡ true → is_some mark ≡ true
 on_some None is = absurd (cc is)
 on_some (Some on) is = refl
 
@@ -21,8 +21,8 @@ place_of_mark None key is = absurd (cc is)
 place_of_mark (Some marks) key is = on_some (lookup (is_at (key_cmp key)) marks) is
 
 -- where a key stands, there is room for it
-room_of_mark : (index : Index) (uid : ℕ) (key : Key) → stands index uid key ≡ true → has_room index uid key ≡ true
-unfolding stands has_room
+room_of_mark : (index : Index) (uid : ℕ) (key : Key) → is_key_under index uid key ≡ true → has_room index uid key ≡ true
+unfolding is_key_under has_room
 room_of_mark index uid key is = place_of_mark (lookup (nat_eq uid) index) key is
 
 -- there is room for an object that is found as the one that stands there

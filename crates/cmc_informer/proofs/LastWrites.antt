@@ -14,7 +14,7 @@ use Rattle.cmc_model.specs.Writes.{contents, is_known, kind_eq, of_kind, oldest}
 use Rattle.cmc_meta.proofs.KeyOrder.{key_cmp-total, key_cmp-IsAntisymmetric}
 use Rattle.cmc_model.proofs.Versions.{object_at-put}
 use Rattle.cmc_model.proofs.Writes.{contents_of-next}
-use Rattle.cmc_informer.specs.Caches.{written}
+use Rattle.cmc_informer.specs.Caches.{after_writes}
 use Rattle.std.specs.Borrow.{Bor}
 use Rattle.cmc_informer.specs.declared.latest.Change.{Change}
 use Rattle.cmc_informer.specs.Superseding.{has_seen, with_first, with_older, writes_of}
@@ -50,43 +50,43 @@ put_apart m j k o p differ = same_map key_cmp-total key_cmp-IsAntisymmetric (put
     ∙ sym (object_at-put (put_at m j p) k o q ∙ ap (cond (eq_by_cmp key_cmp q k) o) (object_at-put m j p q)))
 
 overwritten_by : (b : Bool) (m : Objects) (k : Key) (o : Option Object) (w : Write) (ws : List Write) → key_eq w.key k ≡ b → (b || is_known k ws) ≡ true
-    → ((n : Objects) → is_known k ws ≡ true → written (put_at n k o) ws ≡ written n ws) → written (put_at (put_at m k o) w.key w.object) ws ≡ written (put_at m w.key w.object) ws
+    → ((n : Objects) → is_known k ws ≡ true → after_writes (put_at n k o) ws ≡ after_writes n ws) → after_writes (put_at (put_at m k o) w.key w.object) ws ≡ after_writes (put_at m w.key w.object) ws
 overwritten_by true m k o w ws e known below =
-    ap (λ (n : Objects). written n ws) (subst (λ (j : Key). put_at (put_at m k o) j w.object ≡ put_at m j w.object) (sym (equal_key w.key k e)) (put_again m k o w.object))
-overwritten_by false m k o w ws e known below = ap (λ (n : Objects). written n ws) (put_apart m w.key k o w.object e) ∙ below (put_at m w.key w.object) known
+    ap (λ (n : Objects). after_writes n ws) (subst (λ (j : Key). put_at (put_at m k o) j w.object ≡ put_at m j w.object) (sym (equal_key w.key k e)) (put_again m k o w.object))
+overwritten_by false m k o w ws e known below = ap (λ (n : Objects). after_writes n ws) (put_apart m w.key k o w.object e) ∙ below (put_at m w.key w.object) known
 
 -- what is written again might as well not have been put there
-overwritten : (m : Objects) (k : Key) (o : Option Object) (ws : List Write) → is_known k ws ≡ true → written (put_at m k o) ws ≡ written m ws
+overwritten : (m : Objects) (k : Key) (o : Option Object) (ws : List Write) → is_known k ws ≡ true → after_writes (put_at m k o) ws ≡ after_writes m ws
 overwritten m k o [] known = absurd (cc known)
 overwritten m k o (w ∷ ws) known = overwritten_by (key_eq w.key k) m k o w ws refl known (λ n later. overwritten n k o ws later)
 
 delayed_by : (b : Bool) (m : Objects) (k : Key) (o : Option Object) (w : Write) (ws : List Write) → key_eq w.key k ≡ b → (b || is_known k ws) ≡ false
-    → ((n : Objects) → is_known k ws ≡ false → written (put_at n k o) ws ≡ put_at (written n ws) k o) → written (put_at (put_at m k o) w.key w.object) ws ≡ put_at (written (put_at m w.key w.object) ws) k o
+    → ((n : Objects) → is_known k ws ≡ false → after_writes (put_at n k o) ws ≡ put_at (after_writes n ws) k o) → after_writes (put_at (put_at m k o) w.key w.object) ws ≡ put_at (after_writes (put_at m w.key w.object) ws) k o
 delayed_by true m k o w ws e known below = absurd (cc known)
-delayed_by false m k o w ws e known below = ap (λ (n : Objects). written n ws) (put_apart m w.key k o w.object e) ∙ below (put_at m w.key w.object) known
+delayed_by false m k o w ws e known below = ap (λ (n : Objects). after_writes n ws) (put_apart m w.key k o w.object e) ∙ below (put_at m w.key w.object) known
 
 -- and what is not written again can be put there at the end
-delayed : (m : Objects) (k : Key) (o : Option Object) (ws : List Write) → is_known k ws ≡ false → written (put_at m k o) ws ≡ put_at (written m ws) k o
+delayed : (m : Objects) (k : Key) (o : Option Object) (ws : List Write) → is_known k ws ≡ false → after_writes (put_at m k o) ws ≡ put_at (after_writes m ws) k o
 delayed m k o [] known = refl
 delayed m k o (w ∷ ws) known = delayed_by (key_eq w.key k) m k o w ws refl known (λ n later. delayed n k o ws later)
 
-written_more : (m : Objects) (ws : List Write) (w : Write) → written m (ws ++ w ∷ []) ≡ put_at (written m ws) w.key w.object
+written_more : (m : Objects) (ws : List Write) (w : Write) → after_writes m (ws ++ w ∷ []) ≡ put_at (after_writes m ws) w.key w.object
 written_more m [] w = refl
 written_more m (v ∷ ws) w = written_more (put_at m v.key v.object) ws w
 
 older_by : (a b : Bool) (base : Objects) (w : Write) (ws : List Write) → is_known w.key ws ≡ b
-    → written base (if a && not b then ws ++ w ∷ [] else ws) ≡ written (if a then put_at base w.key w.object else base) ws
+    → after_writes base (if a && not b then ws ++ w ∷ [] else ws) ≡ after_writes (if a then put_at base w.key w.object else base) ws
 older_by true true base w ws e = sym (overwritten base w.key w.object ws e)
 older_by true false base w ws e = written_more base ws w ∙ sym (delayed base w.key w.object ws e)
 older_by false b base w ws e = refl
 
 -- one write more, before those that were looked at
 pub last_next : (kind : Kind) (all : List Write) (i : ℕ) (w : Write) (ws new : List Write) (left : Objects) → i < length all → get_or all i w ≡ w → new ≡ with_older kind w ws
-    → written (contents (of_kind kind (oldest (i + 1) (reverse all)))) ws ≡ left → written (contents (of_kind kind (oldest i (reverse all)))) new ≡ left
+    → after_writes (contents (of_kind kind (oldest (i + 1) (reverse all)))) ws ≡ left → after_writes (contents (of_kind kind (oldest i (reverse all)))) new ≡ left
 last_next kind all i w ws new left within is set so_far =
     let base : Objects = contents (of_kind kind (oldest i (reverse all))) in
-    ap (written base) set ∙ older_by (kind_eq w.key.kind kind) (is_known w.key ws) base w ws refl
-    ∙ sym (ap (λ (m : Objects). written m ws) (contents_of-next kind all i w within ∙ ap (λ (v : Write). if kind_eq v.key.kind kind then put_at base v.key v.object else base) is))
+    ap (after_writes base) set ∙ older_by (kind_eq w.key.kind kind) (is_known w.key ws) base w ws refl
+    ∙ sym (ap (λ (m : Objects). after_writes m ws) (contents_of-next kind all i w within ∙ ap (λ (v : Write). if kind_eq v.key.kind kind then put_at base v.key v.object else base) is))
     ∙ so_far
 
 swapped : (a b r : Bool) → (a || (b || r)) ≡ (b || (a || r))

@@ -9,14 +9,14 @@ use Rattle.cmc_meta.specs.declared.key.Key.{Key}
 use Rattle.cmc_meta.specs.Keys.{key_cmp, key_eq}
 use Rattle.cmc_meta.proofs.KeyOrder.{key_cmp-total}
 use Rattle.cmc_informer.specs.declared.marks.Mark.{Mark}
-use Rattle.cmc_informer.specs.Indexes.{AreKeys, has_place, is_on, mark_in, on_keys}
+use Rattle.cmc_informer.specs.Indexes.{AreKeys, has_place, is_marked_key, mark_in, on_keys}
 use Rattle.cmc_informer.specs.Marking.{marked_by}
 use Rattle.cmc_informer.proofs.OneMark.{key_eq_self, key_tie, keys_are, mark_missing, same_key}
 
 turned_tie : (key k : Key) → is_at (key_cmp k) key ≡ key_eq key k
 turned_tie key k = (eq_by_cmp_equiv key_cmp-total).symm k key ∙ key_tie key k
 
-on_by : (b on : Bool) → is_on (cond b (Some on) None) ≡ (if b then on else false)
+on_by : (b on : Bool) → is_marked_key (cond b (Some on) None) ≡ (if b then on else false)
 on_by true on = refl
 on_by false on = refl
 

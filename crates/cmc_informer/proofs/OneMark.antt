@@ -11,7 +11,7 @@ use Rattle.std.specs.Prelude.{IsSome, if◌then◌else◌, is_some, ◌||◌}
 use Rattle.cmc_meta.specs.declared.key.Key.{Key}
 use Rattle.cmc_meta.specs.Keys.{key_cmp, key_eq}
 use Rattle.cmc_meta.proofs.KeyOrder.{key_cmp-total, key_cmp-IsAntisymmetric}
-use Rattle.cmc_informer.specs.Indexes.{Marked, is_on, mark_in, has_place, on_keys, AreKeys}
+use Rattle.cmc_informer.specs.Indexes.{Marked, is_marked_key, mark_in, has_place, on_keys, AreKeys}
 
 -- keys that tie in the order are those that the test finds equal
 pub key_tie : (a b : Key) → is_eq (key_cmp a b) ≡ key_eq a b
@@ -24,16 +24,16 @@ pub equal_key : (a b : Key) → key_eq a b ≡ true → a ≡ b
 equal_key a b h = same_key a b (key_tie a b ∙ h)
 
 moved : (b : Bool) (on : Option Bool) (es new : Marked) (key k : Key) → is_eq (key_cmp key k) ≡ b
-    → lookup (is_at (key_cmp k)) new ≡ cond b on (lookup (is_at (key_cmp k)) es) → mark_in new k ≡ (if b then is_on on else mark_in es k)
+    → lookup (is_at (key_cmp k)) new ≡ cond b on (lookup (is_at (key_cmp k)) es) → mark_in new k ≡ (if b then is_marked_key on else mark_in es k)
 unfolding mark_in
-moved true on es new key k e at = ap is_on at
-moved false on es new key k e at = ap is_on at
+moved true on es new key k e at = ap is_marked_key at
+moved false on es new key k e at = ap is_marked_key at
 
 -- a map that is changed at the key alone
 pub mark_changed : (on : Option Bool) (es new : Marked) (key : Key) → ((q : Key) → lookup (is_at (key_cmp q)) new ≡ cond (is_eq (key_cmp key q)) on (lookup (is_at (key_cmp q)) es))
-    → (k : Key) → mark_in new k ≡ (if key_eq key k then is_on on else mark_in es k)
+    → (k : Key) → mark_in new k ≡ (if key_eq key k then is_marked_key on else mark_in es k)
 mark_changed on es new key each k =
-    subst (λ b. mark_in new k ≡ (if b then is_on on else mark_in es k)) (key_tie key k) (moved (is_eq (key_cmp key k)) on es new key k refl (each k))
+    subst (λ b. mark_in new k ≡ (if b then is_marked_key on else mark_in es k)) (key_tie key k) (moved (is_eq (key_cmp key k)) on es new key k refl (each k))
 
 -- a map that is written through
 pub mark_written : (m n : BTreeMap Key Bool) (key : Key) (old on : Bool) → get_by (key_cmp key) m ≡ Some old → WritesThrough key_cmp (key_cmp key) m on n
@@ -56,7 +56,7 @@ none_from_test (Some on) h = absurd (cc)
 
 off_before : (b : Bool) (es : Marked) (key k : Key) → is_eq (key_cmp key k) ≡ b → lookup (is_at (key_cmp key)) es ≡ None → (if b then false else mark_in es k) ≡ mark_in es k
 unfolding mark_in
-off_before true es key k e none = sym (ap is_on (ap (λ q. lookup (is_at (key_cmp q)) es) (sym (same_key key k e)) ∙ none))
+off_before true es key k e none = sym (ap is_marked_key (ap (λ q. lookup (is_at (key_cmp q)) es) (sym (same_key key k e)) ∙ none))
 off_before false es key k e none = refl
 
 -- a map to which the key is added, not counting
@@ -93,8 +93,8 @@ none_on x q (k ∷ ks) tie all =
     let lower : key_cmp q k ≡ Less = sym (key_cmp-total.congr x q k tie) ∙ all.0 in
     ap (λ r. is_eq r || list_any (is_at (key_cmp q)) ks) lower ∙ none_on x q ks tie all.1
 
-among : (tied on : Bool) (q k : Key) (rest : List Key) (below : Option Bool) → is_eq (key_cmp q k) ≡ tied → (tied ≡ true → list_any (is_at (key_cmp q)) rest ≡ false) → list_any (is_at (key_cmp q)) rest ≡ is_on below
-    → list_any (is_at (key_cmp q)) (if on then k ∷ rest else rest) ≡ is_on (cond tied (Some on) below)
+among : (tied on : Bool) (q k : Key) (rest : List Key) (below : Option Bool) → is_eq (key_cmp q k) ≡ tied → (tied ≡ true → list_any (is_at (key_cmp q)) rest ≡ false) → list_any (is_at (key_cmp q)) rest ≡ is_marked_key below
+    → list_any (is_at (key_cmp q)) (if on then k ∷ rest else rest) ≡ is_marked_key (cond tied (Some on) below)
 among true true q k rest below e none is = ap (λ b. b || list_any (is_at (key_cmp q)) rest) e
 among true false q k rest below e none is = none refl
 among false true q k rest below e none is = ap (λ b. b || list_any (is_at (key_cmp q)) rest) e ∙ is
@@ -103,7 +103,7 @@ among false false q k rest below e none is = is
 tied_back : (q k : Key) → is_eq (key_cmp q k) ≡ true → key_cmp k q ≡ Equal
 tied_back q k e = let same = same_key q k e in subst (λ (x : Key). key_cmp x q ≡ Equal) same (subst (λ (x : Key). key_cmp q x ≡ Equal) (sym same) ((Equal-is (key_cmp q k)).0 e))
 
-exact : (q : Key) (es : Marked) → IsStrictlySortedBy key_cmp (keys_of es) → list_any (is_at (key_cmp q)) (on_keys es) ≡ is_on (lookup (is_at (key_cmp q)) es)
+exact : (q : Key) (es : Marked) → IsStrictlySortedBy key_cmp (keys_of es) → list_any (is_at (key_cmp q)) (on_keys es) ≡ is_marked_key (lookup (is_at (key_cmp q)) es)
 unfolding IsStrictlySortedBy
 exact q [] h = refl
 exact q (e ∷ es) h = among (is_eq (key_cmp q e.0)) e.1 q e.0 (on_keys es) (lookup (is_at (key_cmp q)) es) refl (λ tie. none_on e.0 q (on_keys es) (tied_back q e.0 tie) (above e.0 es h.0)) (exact q es h.1)

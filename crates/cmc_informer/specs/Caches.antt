@@ -19,13 +19,13 @@ use Rattle.cmc_informer.specs.Indexes.{Index, Targeted, has_room, points}
 abbrev pub Slotted : Type 0
 Slotted = List (Key × Option Object)
 
-abbrev pub held_in : Option (Option Object) → Option Object
-held_in None = None
-held_in (Some held) = held
+abbrev pub object_in_slot : Option (Option Object) → Option Object
+object_in_slot None = None
+object_in_slot (Some held) = held
 
 -- the object in the slot of the key
 unfoldable pub slot_at : Slotted → Key → Option Object
-slot_at slots key = held_in (lookup (key_eq key) slots)
+slot_at slots key = object_in_slot (lookup (key_eq key) slots)
 
 unfoldable pub has_slot : Slotted → Key → Bool
 has_slot slots key = is_some (lookup (key_eq key) slots)
@@ -36,9 +36,9 @@ objects_in [] = no_objects
 objects_in (e ∷ es) = put_at (objects_in es) e.0 e.1
 
 -- the objects after these writes, the oldest of which comes first
-abbrev pub written : Objects → List Write → Objects
-written objects [] = objects
-written objects (w ∷ ws) = written (put_at objects w.key w.object) ws
+abbrev pub after_writes : Objects → List Write → Objects
+after_writes objects [] = objects
+after_writes objects (w ∷ ws) = after_writes (put_at objects w.key w.object) ws
 
 -- ---- whom objects belong to
 
@@ -66,8 +66,8 @@ abbrev pub secret_key : List ℕ → List ℕ → Key
 secret_key namespace name = record { kind = Secret; namespace = namespace; name = name }
 
 -- under each uid that the object is to be found by, there is room for the key
-abbrev pub HasRooms : (ℕ → Option Object → Bool) → Index → Option Object → Key → Type 0
-HasRooms finds index object key = (uid : ℕ) → finds uid object ≡ true → has_room index uid key ≡ true
+abbrev pub HasRoomsByUid : (ℕ → Option Object → Bool) → Index → Option Object → Key → Type 0
+HasRoomsByUid finds index object key = (uid : ℕ) → finds uid object ≡ true → has_room index uid key ≡ true
 
 -- the Secret that the object names, where it names one, leads to the key
 abbrev pub IsLedTo : Targeted → Option Object → Key → Type 0

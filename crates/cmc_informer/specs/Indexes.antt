@@ -11,12 +11,12 @@ use Rattle.cmc_meta.specs.Keys.{key_cmp, key_eq}
 abbrev pub Marked : Type 0
 Marked = List (Key × Bool)
 
-abbrev pub is_on : Option Bool → Bool
-is_on None = false
-is_on (Some on) = on
+abbrev pub is_marked_key : Option Bool → Bool
+is_marked_key None = false
+is_marked_key (Some on) = on
 
 unfoldable pub mark_in : Marked → Key → Bool
-mark_in marks key = is_on (lookup (is_at (key_cmp key)) marks)
+mark_in marks key = is_marked_key (lookup (is_at (key_cmp key)) marks)
 
 unfoldable pub has_place : Marked → Key → Bool
 has_place marks key = is_some (lookup (is_at (key_cmp key)) marks)
@@ -39,8 +39,8 @@ place_of None key = false
 place_of (Some marks) key = has_place marks key
 
 -- whether the key stands under the uid, and whether it can without memory
-unfoldable pub stands : Index → ℕ → Key → Bool
-stands index uid key = mark_of (lookup (nat_eq uid) index) key
+unfoldable pub is_key_under : Index → ℕ → Key → Bool
+is_key_under index uid key = mark_of (lookup (nat_eq uid) index) key
 
 unfoldable pub has_room : Index → ℕ → Key → Bool
 has_room index uid key = place_of (lookup (nat_eq uid) index) key

@@ -12,5 +12,5 @@ pub record Informed : Type 0 where
   pub objects : Objects
 
 -- it holds the objects of its kind as they stood after the first `position` of these writes
-abbrev pub IsTold : Informed → List Write → Type 0
-IsTold informer writes = informer.objects ≡ contents (of_kind informer.kind (oldest informer.position writes))
+abbrev pub IsCacheAt : Informed → List Write → Type 0
+IsCacheAt informer writes = informer.objects ≡ contents (of_kind informer.kind (oldest informer.position writes))

@@ -4,7 +4,7 @@ ghost use Rattle.std.specs.Option.{option_copied};
 ghost use Rattle.std.specs.Prelude.{◌≡◌, ◌&&◌, ◌==◌, ℕ, None, nat_eq, IfOk, OnOk, if◌then◌else◌, true, false};
 ghost use Rattle.cmc_meta.specs.declared.key.Key.{Key as KeyValue};
 ghost use Rattle.cmc_meta.specs.Keys.{key_eq};
-ghost use Rattle.cmc_informer.specs.Indexes.{AreKeys, Finds, KeepsRooms, has_room, stands};
+ghost use Rattle.cmc_informer.specs.Indexes.{AreKeys, Finds, KeepsRooms, has_room, is_key_under};
 
 use crate::keys::Keys;
 use crate::marks::Marks;
@@ -36,9 +36,9 @@ impl Model for Index {
 
 impl Index {
     /// No key stands, and uids are hashed by the seed. It takes no memory.
-    #[tactic(auto, unfolding(crate::specs::Indexes::stands))]
+    #[tactic(auto, unfolding(crate::specs::Indexes::is_key_under))]
     pub(crate) fn new(alloc: Global, seed: HashSeed) -> Index
-        ensures { (u : ℕ) → (k : KeyValue) → stands result u k ≡ false }
+        ensures { (u : ℕ) → (k : KeyValue) → is_key_under result u k ≡ false }
     {
         Index {
             map: HashMap::with_hasher(alloc, seed),
@@ -46,9 +46,9 @@ impl Index {
     }
 
     /// The keys that stand under the uid, in order. An error is one of memory.
-    #[tactic(auto, unfolding(crate::specs::Indexes::stands))]
+    #[tactic(auto, unfolding(crate::specs::Indexes::is_key_under))]
     pub(crate) fn keys(&self, alloc: Global, uid: u64) -> Result<Keys, AllocError>
-        ensures { IfOk result (λ keys. AreKeys keys (λ k. stands self.now uid k)) }
+        ensures { IfOk result (λ keys. AreKeys keys (λ k. is_key_under self.now uid k)) }
     {
         match self.map.get(&uid) {
             Some(marks) => marks.keys(alloc),
@@ -58,11 +58,11 @@ impl Index {
 
     /// Makes a row for the uid, with room for the key, and changes nothing else. The room is made before the row
     /// goes in, and there must be no row of the uid yet, for it would be lost. An error is one of memory.
-    #[tactic(auto, unfolding(crate::specs::Indexes::stands, crate::specs::Indexes::has_room))]
+    #[tactic(auto, unfolding(crate::specs::Indexes::is_key_under, crate::specs::Indexes::has_room))]
     fn row(&mut self, alloc: Global, uid: u64, key: &Key) -> Result<(), AllocError>
         requires { lookup (nat_eq uid) self.old ≡ None }
         ensures room { OnOk result (has_room self.new uid key.now ≡ true) }
-        ensures same { (u : ℕ) → (k : KeyValue) → stands self.new u k ≡ stands self.old u k }
+        ensures same { (u : ℕ) → (k : KeyValue) → is_key_under self.new u k ≡ is_key_under self.old u k }
         ensures keeps { KeepsRooms self.old self.new }
     {
         let mut marks = Marks::new();
@@ -72,10 +72,10 @@ impl Index {
     }
 
     /// Makes room for the key under the uid, and changes nothing else. An error is one of memory.
-    #[tactic(auto, unfolding(crate::specs::Indexes::stands, crate::specs::Indexes::has_room))]
+    #[tactic(auto, unfolding(crate::specs::Indexes::is_key_under, crate::specs::Indexes::has_room))]
     pub(crate) fn room(&mut self, alloc: Global, uid: u64, key: &Key) -> Result<(), AllocError>
         ensures room { OnOk result (has_room self.new uid key.now ≡ true) }
-        ensures same { (u : ℕ) → (k : KeyValue) → stands self.new u k ≡ stands self.old u k }
+        ensures same { (u : ℕ) → (k : KeyValue) → is_key_under self.new u k ≡ is_key_under self.old u k }
         ensures keeps { KeepsRooms self.old self.new }
     {
         match self.map.get_mut(&uid) {
@@ -85,10 +85,10 @@ impl Index {
     }
 
     /// The key stands under the uid. It takes no memory.
-    #[tactic(auto, unfolding(crate::specs::Indexes::stands, crate::specs::Indexes::has_room))]
+    #[tactic(auto, unfolding(crate::specs::Indexes::is_key_under, crate::specs::Indexes::has_room))]
     pub(crate) fn put(&mut self, uid: u64, key: &Key)
         requires { has_room self.old uid key.now ≡ true }
-        ensures stands { (u : ℕ) → (k : KeyValue) → stands self.new u k ≡ (if u == uid && key_eq key.now k then true else stands self.old u k) }
+        ensures stands { (u : ℕ) → (k : KeyValue) → is_key_under self.new u k ≡ (if u == uid && key_eq key.now k then true else is_key_under self.old u k) }
         ensures keeps { KeepsRooms self.old self.new }
     {
         if let Some(marks) = self.map.get_mut(&uid) {
@@ -97,9 +97,9 @@ impl Index {
     }
 
     /// The key no longer stands under the uid, and its room is kept. It takes no memory.
-    #[tactic(auto, unfolding(crate::specs::Indexes::stands, crate::specs::Indexes::has_room))]
+    #[tactic(auto, unfolding(crate::specs::Indexes::is_key_under, crate::specs::Indexes::has_room))]
     pub(crate) fn clear(&mut self, uid: u64, key: &Key)
-        ensures stands { (u : ℕ) → (k : KeyValue) → stands self.new u k ≡ (if u == uid && key_eq key.now k then false else stands self.old u k) }
+        ensures stands { (u : ℕ) → (k : KeyValue) → is_key_under self.new u k ≡ (if u == uid && key_eq key.now k then false else is_key_under self.old u k) }
         ensures keeps { KeepsRooms self.old self.new }
     {
         if let Some(marks) = self.map.get_mut(&uid) {
@@ -108,9 +108,9 @@ impl Index {
     }
 
     /// The first key that stands under the uid; `None` exactly where none does.
-    #[tactic(auto, unfolding(crate::specs::Indexes::stands))]
+    #[tactic(auto, unfolding(crate::specs::Indexes::is_key_under))]
     pub(crate) fn first(&self, uid: u64) -> Option<&Key>
-        ensures { Finds (λ k. stands self.now uid k) (option_copied result) }
+        ensures { Finds (λ k. is_key_under self.now uid k) (option_copied result) }
     {
         match self.map.get(&uid) {
             Some(marks) => marks.first(),

@@ -5,7 +5,7 @@ ghost use Rattle.cmc_model.specs.Objects.{no_objects, object_at};
 ghost use Rattle.cmc_informer.specs.Caches.{has_uid, is_owned_by, is_targeting};
 ghost use Rattle.cmc_informer.specs.Indexes.{AreKeys, Finds};
 ghost use Rattle.cmc_informer.specs.Watching.{start_of};
-ghost use Rattle.cmc_informer.specs.Informing.{IsTold};
+ghost use Rattle.cmc_informer.specs.Informing.{IsCacheAt};
 ghost use Rattle.cmc_informer.specs.declared.informer.Undelivered.TheVariants.{Gone, NoMemory};
 
 use crate::cache::Cache;
@@ -144,8 +144,8 @@ impl Informer {
     pub fn deliver(&mut self, alloc: Global, watch: &Watch, to: u64) -> Result<(), Undelivered>
         requires above { self.old.position < to }
         requires within { to ≤ length watch.now.writes }
-        requires holds { IsTold self.old watch.now.writes }
-        ensures told { OnOk result (IsTold self.new watch.now.writes) }
+        requires holds { IsCacheAt self.old watch.now.writes }
+        ensures told { OnOk result (IsCacheAt self.new watch.now.writes) }
         ensures position { OnOk result (self.new.position ≡ to) }
         ensures kind { OnOk result (self.new.kind ≡ self.old.kind) }
         ensures in_window { OnOk result (start_of watch.now ≤ self.old.position) }

@@ -2,8 +2,8 @@
 ghost use Rattle.std.specs.Prelude.{◌≡◌, ◌&&◌, ℕ, OnOk, if◌then◌else◌, true, false};
 ghost use Rattle.cmc_meta.specs.declared.key.Key.{Key as KeyValue};
 ghost use Rattle.cmc_meta.specs.Keys.{key_eq};
-ghost use Rattle.cmc_informer.specs.Caches.{HasRooms, is_owned_by, names};
-ghost use Rattle.cmc_informer.specs.Indexes.{KeepsRooms, has_room, stands};
+ghost use Rattle.cmc_informer.specs.Caches.{HasRoomsByUid, is_owned_by, names};
+ghost use Rattle.cmc_informer.specs.Indexes.{KeepsRooms, has_room, is_key_under};
 
 use crate::index::Index;
 use cmc_meta::{Key, OwnerRef};
@@ -17,7 +17,7 @@ fn room_under(
     key: &Key,
 ) -> Result<(), AllocError>
     ensures room { OnOk result ((u : ℕ) → names u owners.now ≡ true → has_room index.new u key.now ≡ true) }
-    ensures same { (u : ℕ) → (k : KeyValue) → stands index.new u k ≡ stands index.old u k }
+    ensures same { (u : ℕ) → (k : KeyValue) → is_key_under index.new u k ≡ is_key_under index.old u k }
     ensures keeps { KeepsRooms index.old index.new }
 {
     for owner in owners {
@@ -28,7 +28,7 @@ fn room_under(
 
 fn put_under(index: &mut Index, owners: &[OwnerRef], key: &Key)
     requires { (u : ℕ) → names u owners.now ≡ true → has_room index.old u key.now ≡ true }
-    ensures stands { (u : ℕ) → (k : KeyValue) → stands index.new u k ≡ (if names u owners.now && key_eq key.now k then true else stands index.old u k) }
+    ensures stands { (u : ℕ) → (k : KeyValue) → is_key_under index.new u k ≡ (if names u owners.now && key_eq key.now k then true else is_key_under index.old u k) }
     ensures keeps { KeepsRooms index.old index.new }
 {
     for owner in owners {
@@ -37,7 +37,7 @@ fn put_under(index: &mut Index, owners: &[OwnerRef], key: &Key)
 }
 
 fn clear_under(index: &mut Index, owners: &[OwnerRef], key: &Key)
-    ensures stands { (u : ℕ) → (k : KeyValue) → stands index.new u k ≡ (if names u owners.now && key_eq key.now k then false else stands index.old u k) }
+    ensures stands { (u : ℕ) → (k : KeyValue) → is_key_under index.new u k ≡ (if names u owners.now && key_eq key.now k then false else is_key_under index.old u k) }
     ensures keeps { KeepsRooms index.old index.new }
 {
     for owner in owners {
@@ -52,8 +52,8 @@ pub(crate) fn room_for_owners(
     object: &Option<Object>,
     key: &Key,
 ) -> Result<(), AllocError>
-    ensures room { OnOk result (HasRooms is_owned_by index.new object.now key.now) }
-    ensures same { (u : ℕ) → (k : KeyValue) → stands index.new u k ≡ stands index.old u k }
+    ensures room { OnOk result (HasRoomsByUid is_owned_by index.new object.now key.now) }
+    ensures same { (u : ℕ) → (k : KeyValue) → is_key_under index.new u k ≡ is_key_under index.old u k }
     ensures keeps { KeepsRooms index.old index.new }
 {
     if let Some(object) = object {
@@ -63,8 +63,8 @@ pub(crate) fn room_for_owners(
 }
 
 fn enter(index: &mut Index, object: &Option<Object>, key: &Key)
-    requires { HasRooms is_owned_by index.old object.now key.now }
-    ensures stands { (u : ℕ) → (k : KeyValue) → stands index.new u k ≡ (if is_owned_by u object.now && key_eq key.now k then true else stands index.old u k) }
+    requires { HasRoomsByUid is_owned_by index.old object.now key.now }
+    ensures stands { (u : ℕ) → (k : KeyValue) → is_key_under index.new u k ≡ (if is_owned_by u object.now && key_eq key.now k then true else is_key_under index.old u k) }
     ensures keeps { KeepsRooms index.old index.new }
 {
     if let Some(object) = object {
@@ -73,7 +73,7 @@ fn enter(index: &mut Index, object: &Option<Object>, key: &Key)
 }
 
 fn leave(index: &mut Index, object: &Option<Object>, key: &Key)
-    ensures stands { (u : ℕ) → (k : KeyValue) → stands index.new u k ≡ (if is_owned_by u object.now && key_eq key.now k then false else stands index.old u k) }
+    ensures stands { (u : ℕ) → (k : KeyValue) → is_key_under index.new u k ≡ (if is_owned_by u object.now && key_eq key.now k then false else is_key_under index.old u k) }
     ensures keeps { KeepsRooms index.old index.new }
 {
     if let Some(object) = object {
@@ -89,9 +89,9 @@ pub(crate) fn move_owners(
     new: &Option<Object>,
     key: &Key,
 )
-    requires rooms { HasRooms is_owned_by index.old new.now key.now }
-    requires stood { (u : ℕ) → stands index.old u key.now ≡ is_owned_by u before.now }
-    ensures stands { (u : ℕ) → (k : KeyValue) → stands index.new u k ≡ (if key_eq key.now k then is_owned_by u new.now else stands index.old u k) }
+    requires rooms { HasRoomsByUid is_owned_by index.old new.now key.now }
+    requires stood { (u : ℕ) → is_key_under index.old u key.now ≡ is_owned_by u before.now }
+    ensures stands { (u : ℕ) → (k : KeyValue) → is_key_under index.new u k ≡ (if key_eq key.now k then is_owned_by u new.now else is_key_under index.old u k) }
     ensures keeps { KeepsRooms index.old index.new }
 {
     leave(index, before, key);

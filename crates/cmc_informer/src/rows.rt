@@ -5,7 +5,7 @@ ghost use Rattle.cmc_model.specs.Objects.{no_objects};
 ghost use Rattle.cmc_model.specs.Writes as spec;
 ghost use Rattle.cmc_model.specs.Writes.{is_known};
 ghost use Rattle.cmc_meta.specs.declared.key.Key.{Key as KeyValue};
-ghost use Rattle.cmc_informer.specs.Caches.{objects_in, written};
+ghost use Rattle.cmc_informer.specs.Caches.{objects_in, after_writes};
 ghost use Rattle.cmc_informer.specs.Indexed.{HasRoom, HasRoomFor, IsIndexed, KeepsRoom};
 ghost use Rattle.cmc_informer.specs.Superseding.{has_seen, with_older, writes_of};
 
@@ -148,7 +148,7 @@ pub(crate) fn prepare<'a>(
     requires above { from ≤ to }
     requires within { to ≤ length writes.now }
     requires indexed { IsIndexed rows.old }
-    ensures changes { IfOk result (λ cs. written (spec.contents (spec.of_kind kind (spec.oldest from (reverse writes.now)))) (writes_of cs.items) ≡ spec.contents (spec.of_kind kind (spec.oldest to (reverse writes.now)))) }
+    ensures changes { IfOk result (λ cs. after_writes (spec.contents (spec.of_kind kind (spec.oldest from (reverse writes.now)))) (writes_of cs.items) ≡ spec.contents (spec.of_kind kind (spec.oldest to (reverse writes.now)))) }
     ensures room { IfOk result (λ cs. HasRoomFor rows.new (writes_of cs.items)) }
     ensures same { objects_in rows.new.slots ≡ objects_in rows.old.slots }
     ensures indexed { IsIndexed rows.new }
@@ -167,7 +167,7 @@ pub(crate) fn prepare<'a>(
 pub(crate) fn make(rows: &mut Rows, changes: Vec<Change<'_>>)
     requires room { HasRoomFor rows.old (writes_of changes.items) }
     requires indexed { IsIndexed rows.old }
-    ensures objects { objects_in rows.new.slots ≡ written (objects_in rows.old.slots) (writes_of changes.entry.items) }
+    ensures objects { objects_in rows.new.slots ≡ after_writes (objects_in rows.old.slots) (writes_of changes.entry.items) }
     ensures indexed { IsIndexed rows.new }
 {
     for it in changes {

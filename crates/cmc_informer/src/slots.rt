@@ -4,9 +4,9 @@ ghost use Rattle.std.specs.Option.{option_copied};
 ghost use Rattle.std.specs.Prelude.{◌≡◌, ℕ, None, IfOk, OnOk, if◌then◌else◌, true};
 ghost use Rattle.cmc_meta.specs.declared.key.Key.{Key as KeyValue};
 ghost use Rattle.cmc_meta.specs.Keys.{key_eq};
-ghost use Rattle.cmc_informer.specs.Caches.{HasRooms, has_slot, has_uid, is_owned_by, is_targeting, slot_at};
+ghost use Rattle.cmc_informer.specs.Caches.{HasRoomsByUid, has_slot, has_uid, is_owned_by, is_targeting, slot_at};
 ghost use Rattle.cmc_informer.specs.Indexed.{AreFoundAlike};
-ghost use Rattle.cmc_informer.specs.Indexes.{KeepsRooms, stands};
+ghost use Rattle.cmc_informer.specs.Indexes.{KeepsRooms, is_key_under};
 
 use crate::alike::are_alike;
 use crate::index::Index;
@@ -91,14 +91,14 @@ impl Slots {
         object: Option<Object>,
     )
         requires slot { has_slot self.old key.now ≡ true }
-        requires owners_room { HasRooms is_owned_by owners.old object key.now }
-        requires uids_room { HasRooms has_uid uids.old object key.now }
-        requires owned { (u : ℕ) → stands owners.old u key.now ≡ is_owned_by u (slot_at self.old key.now) }
-        requires had { (u : ℕ) → stands uids.old u key.now ≡ has_uid u (slot_at self.old key.now) }
+        requires owners_room { HasRoomsByUid is_owned_by owners.old object key.now }
+        requires uids_room { HasRoomsByUid has_uid uids.old object key.now }
+        requires owned { (u : ℕ) → is_key_under owners.old u key.now ≡ is_owned_by u (slot_at self.old key.now) }
+        requires had { (u : ℕ) → is_key_under uids.old u key.now ≡ has_uid u (slot_at self.old key.now) }
         ensures slots { (k : KeyValue) → slot_at self.new k ≡ (if key_eq key.now k then object else slot_at self.old k) }
         ensures keeps { (k : KeyValue) → has_slot self.old k ≡ true → has_slot self.new k ≡ true }
-        ensures owners { (u : ℕ) → (k : KeyValue) → stands owners.new u k ≡ (if key_eq key.now k then is_owned_by u object else stands owners.old u k) }
-        ensures uids { (u : ℕ) → (k : KeyValue) → stands uids.new u k ≡ (if key_eq key.now k then has_uid u object else stands uids.old u k) }
+        ensures owners { (u : ℕ) → (k : KeyValue) → is_key_under owners.new u k ≡ (if key_eq key.now k then is_owned_by u object else is_key_under owners.old u k) }
+        ensures uids { (u : ℕ) → (k : KeyValue) → is_key_under uids.new u k ≡ (if key_eq key.now k then has_uid u object else is_key_under uids.old u k) }
         ensures owners_keep { KeepsRooms owners.old owners.new }
         ensures uids_keep { KeepsRooms uids.old uids.new }
     {
@@ -147,12 +147,12 @@ fn reindex(
     new: &Option<Object>,
     key: &Key,
 )
-    requires owners_room { HasRooms is_owned_by owners.old new.now key.now }
-    requires uids_room { HasRooms has_uid uids.old new.now key.now }
-    requires owned { (u : ℕ) → stands owners.old u key.now ≡ is_owned_by u before.now }
-    requires had { (u : ℕ) → stands uids.old u key.now ≡ has_uid u before.now }
-    ensures owners { (u : ℕ) → (k : KeyValue) → stands owners.new u k ≡ (if key_eq key.now k then is_owned_by u new.now else stands owners.old u k) }
-    ensures uids { (u : ℕ) → (k : KeyValue) → stands uids.new u k ≡ (if key_eq key.now k then has_uid u new.now else stands uids.old u k) }
+    requires owners_room { HasRoomsByUid is_owned_by owners.old new.now key.now }
+    requires uids_room { HasRoomsByUid has_uid uids.old new.now key.now }
+    requires owned { (u : ℕ) → is_key_under owners.old u key.now ≡ is_owned_by u before.now }
+    requires had { (u : ℕ) → is_key_under uids.old u key.now ≡ has_uid u before.now }
+    ensures owners { (u : ℕ) → (k : KeyValue) → is_key_under owners.new u k ≡ (if key_eq key.now k then is_owned_by u new.now else is_key_under owners.old u k) }
+    ensures uids { (u : ℕ) → (k : KeyValue) → is_key_under uids.new u k ≡ (if key_eq key.now k then has_uid u new.now else is_key_under uids.old u k) }
     ensures owners_keep { KeepsRooms owners.old owners.new }
     ensures uids_keep { KeepsRooms uids.old uids.new }
 {
@@ -171,13 +171,13 @@ fn exchange(
     key: &Key,
     object: Option<Object>,
 )
-    requires owners_room { HasRooms is_owned_by owners.old object key.now }
-    requires uids_room { HasRooms has_uid uids.old object key.now }
-    requires owned { (u : ℕ) → stands owners.old u key.now ≡ is_owned_by u slot.old }
-    requires had { (u : ℕ) → stands uids.old u key.now ≡ has_uid u slot.old }
+    requires owners_room { HasRoomsByUid is_owned_by owners.old object key.now }
+    requires uids_room { HasRoomsByUid has_uid uids.old object key.now }
+    requires owned { (u : ℕ) → is_key_under owners.old u key.now ≡ is_owned_by u slot.old }
+    requires had { (u : ℕ) → is_key_under uids.old u key.now ≡ has_uid u slot.old }
     ensures slot { slot.new ≡ object }
-    ensures owners { (u : ℕ) → (k : KeyValue) → stands owners.new u k ≡ (if key_eq key.now k then is_owned_by u object else stands owners.old u k) }
-    ensures uids { (u : ℕ) → (k : KeyValue) → stands uids.new u k ≡ (if key_eq key.now k then has_uid u object else stands uids.old u k) }
+    ensures owners { (u : ℕ) → (k : KeyValue) → is_key_under owners.new u k ≡ (if key_eq key.now k then is_owned_by u object else is_key_under owners.old u k) }
+    ensures uids { (u : ℕ) → (k : KeyValue) → is_key_under uids.new u k ≡ (if key_eq key.now k then has_uid u object else is_key_under uids.old u k) }
     ensures owners_keep { KeepsRooms owners.old owners.new }
     ensures uids_keep { KeepsRooms uids.old uids.new }
 {

@@ -2,8 +2,8 @@
 ghost use Rattle.std.specs.Prelude.{◌≡◌, ◌&&◌, ℕ, OnOk, if◌then◌else◌, true, false};
 ghost use Rattle.cmc_meta.specs.declared.key.Key.{Key as KeyValue};
 ghost use Rattle.cmc_meta.specs.Keys.{key_eq};
-ghost use Rattle.cmc_informer.specs.Caches.{HasRooms, has_uid};
-ghost use Rattle.cmc_informer.specs.Indexes.{KeepsRooms, stands};
+ghost use Rattle.cmc_informer.specs.Caches.{HasRoomsByUid, has_uid};
+ghost use Rattle.cmc_informer.specs.Indexes.{KeepsRooms, is_key_under};
 
 use crate::index::Index;
 use cmc_meta::Key;
@@ -17,8 +17,8 @@ pub(crate) fn room_for_uid(
     object: &Option<Object>,
     key: &Key,
 ) -> Result<(), AllocError>
-    ensures room { OnOk result (HasRooms has_uid index.new object.now key.now) }
-    ensures same { (u : ℕ) → (k : KeyValue) → stands index.new u k ≡ stands index.old u k }
+    ensures room { OnOk result (HasRoomsByUid has_uid index.new object.now key.now) }
+    ensures same { (u : ℕ) → (k : KeyValue) → is_key_under index.new u k ≡ is_key_under index.old u k }
     ensures keeps { KeepsRooms index.old index.new }
 {
     if let Some(object) = object {
@@ -28,8 +28,8 @@ pub(crate) fn room_for_uid(
 }
 
 fn enter(index: &mut Index, object: &Option<Object>, key: &Key)
-    requires { HasRooms has_uid index.old object.now key.now }
-    ensures stands { (u : ℕ) → (k : KeyValue) → stands index.new u k ≡ (if has_uid u object.now && key_eq key.now k then true else stands index.old u k) }
+    requires { HasRoomsByUid has_uid index.old object.now key.now }
+    ensures stands { (u : ℕ) → (k : KeyValue) → is_key_under index.new u k ≡ (if has_uid u object.now && key_eq key.now k then true else is_key_under index.old u k) }
     ensures keeps { KeepsRooms index.old index.new }
 {
     if let Some(object) = object {
@@ -38,7 +38,7 @@ fn enter(index: &mut Index, object: &Option<Object>, key: &Key)
 }
 
 fn leave(index: &mut Index, object: &Option<Object>, key: &Key)
-    ensures stands { (u : ℕ) → (k : KeyValue) → stands index.new u k ≡ (if has_uid u object.now && key_eq key.now k then false else stands index.old u k) }
+    ensures stands { (u : ℕ) → (k : KeyValue) → is_key_under index.new u k ≡ (if has_uid u object.now && key_eq key.now k then false else is_key_under index.old u k) }
     ensures keeps { KeepsRooms index.old index.new }
 {
     if let Some(object) = object {
@@ -49,9 +49,9 @@ fn leave(index: &mut Index, object: &Option<Object>, key: &Key)
 /// The key comes to stand under the uid of the new object, and no longer under that of the one before. It takes no
 /// memory.
 pub(crate) fn move_uid(index: &mut Index, before: &Option<Object>, new: &Option<Object>, key: &Key)
-    requires rooms { HasRooms has_uid index.old new.now key.now }
-    requires stood { (u : ℕ) → stands index.old u key.now ≡ has_uid u before.now }
-    ensures stands { (u : ℕ) → (k : KeyValue) → stands index.new u k ≡ (if key_eq key.now k then has_uid u new.now else stands index.old u k) }
+    requires rooms { HasRoomsByUid has_uid index.old new.now key.now }
+    requires stood { (u : ℕ) → is_key_under index.old u key.now ≡ has_uid u before.now }
+    ensures stands { (u : ℕ) → (k : KeyValue) → is_key_under index.new u k ≡ (if key_eq key.now k then has_uid u new.now else is_key_under index.old u k) }
     ensures keeps { KeepsRooms index.old index.new }
 {
     leave(index, before, key);

@@ -6,21 +6,21 @@ use Rattle.cmc_meta.specs.Keys.{key_cmp}
 use Rattle.cmc_meta.specs.declared.key.Key.{Key}
 use Rattle.cmc_objects.specs.declared.rows.Rows.{Rows}
 use Rattle.cmc_objects.specs.declared.rows.SignRow.{SignRow}
-use Rattle.cmc_objects.specs.Materials.{rows_at}
+use Rattle.cmc_objects.specs.Materials.{rows_under}
 use Rattle.cmc_rules.specs.Orders.{last_or}
 
-first : (b : Bool) (sought key : Key) (rows : Rows) (rest : List (Key × Rows)) → is_at (key_cmp sought) key ≡ b → rows_at ((key, rows) ∷ rest) sought ≡ cond b (Some rows) (rows_at rest sought)
-first b sought key rows rest is = ap (λ (x : Bool). cond x (Some rows) (rows_at rest sought)) is
+first : (b : Bool) (sought key : Key) (rows : Rows) (rest : List (Key × Rows)) → is_at (key_cmp sought) key ≡ b → rows_under ((key, rows) ∷ rest) sought ≡ cond b (Some rows) (rows_under rest sought)
+first b sought key rows rest is = ap (λ (x : Bool). cond x (Some rows) (rows_under rest sought)) is
 
 -- the next rows are those of the Certificate
-pub found_here : (sought key : Key) (rows : Rows) (left rest whole : List (Key × Rows)) → is_at (key_cmp sought) key ≡ true → left ≡ (key, rows) ∷ rest → rows_at left sought ≡ rows_at whole sought → Some rows ≡ rows_at whole sought
+pub found_here : (sought key : Key) (rows : Rows) (left rest whole : List (Key × Rows)) → is_at (key_cmp sought) key ≡ true → left ≡ (key, rows) ∷ rest → rows_under left sought ≡ rows_under whole sought → Some rows ≡ rows_under whole sought
 found_here sought key rows left rest whole is steps kept =
-    sym (first true sought key rows rest is) ∙ ap (λ (l : List (Key × Rows)). rows_at l sought) (sym steps) ∙ kept
+    sym (first true sought key rows rest is) ∙ ap (λ (l : List (Key × Rows)). rows_under l sought) (sym steps) ∙ kept
 
 -- and where they are not, later ones are, or none
-pub found_later : (sought key : Key) (rows : Rows) (left rest whole : List (Key × Rows)) → is_at (key_cmp sought) key ≡ false → left ≡ (key, rows) ∷ rest → rows_at left sought ≡ rows_at whole sought → rows_at rest sought ≡ rows_at whole sought
+pub found_later : (sought key : Key) (rows : Rows) (left rest whole : List (Key × Rows)) → is_at (key_cmp sought) key ≡ false → left ≡ (key, rows) ∷ rest → rows_under left sought ≡ rows_under whole sought → rows_under rest sought ≡ rows_under whole sought
 found_later sought key rows left rest whole is steps kept =
-    sym (first false sought key rows rest is) ∙ ap (λ (l : List (Key × Rows)). rows_at l sought) (sym steps) ∙ kept
+    sym (first false sought key rows rest is) ∙ ap (λ (l : List (Key × Rows)). rows_under l sought) (sym steps) ∙ kept
 
 -- ---- the last row
 

@@ -4,10 +4,10 @@ use Rattle.cmc_objects.specs.declared.role.Role.TheVariants.{Issuer}
 use Rattle.cmc_pass.specs.declared.pass.Views.{Views}
 use Rattle.cmc_pass.specs.declared.pass.Desk.{Desk}
 use Rattle.cmc_rules.specs.Granting.{issuer, answered_after}
-use Rattle.cmc_rules.specs.Sound.{shown, IsSoundTable}
+use Rattle.cmc_rules.specs.Sound.{views_shown, IsSoundTable}
 use Rattle.cmc_issuer.proofs.Table.{within, stays, none}
 
-told : (seen : Views) (now : ℤ) (desk : Desk) → issuer seen now desk ≡ issuer (shown Issuer seen) now desk
+told : (seen : Views) (now : ℤ) (desk : Desk) → issuer seen now desk ≡ issuer (views_shown Issuer seen) now desk
 unfolding issuer
 told seen now desk = refl
 

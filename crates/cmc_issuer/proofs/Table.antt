@@ -20,7 +20,7 @@ use Rattle.cmc_pass.specs.declared.value.Value.{Value}
 use Rattle.cmc_pass.specs.declared.value.Value.TheVariants.{Made, Signed, Answered, Judged}
 use Rattle.cmc_pass.specs.Values.{IsValue}
 use Rattle.cmc_rules.specs.Answering.{answered}
-use Rattle.cmc_rules.specs.Granting.{has_reason, is_open, is_waiting_on, is_waiting, status_call, denied_status, deny, sign_order, ask_issuer, grant, grant_of, issuer, answered_for, answered_after}
+use Rattle.cmc_rules.specs.Granting.{has_reason, is_open, is_waiting_on, is_request_waiting, status_call, denied_status, deny, sign_order, ask_issuer, grant, grant_of, issuer, answered_for, answered_after}
 use Rattle.cmc_rules.specs.Sighting.{IsWellSeen}
 use Rattle.cmc_rules.specs.Sound.{IsFollowed, IsWithin, IsMinuteAfter, IsRetry}
 use Rattle.cmc_rules.proofs.Sights.{seen_request}
@@ -59,7 +59,7 @@ denied_is seen now r sees settled =
 granted_is : (seen : Views) (now : ℤ) (desk : Desk) (r : CertificateRequest) → seen.request ≡ Some r → AreSettled r.status.conditions → is_denied r ≡ false → Is seen now (grant now desk r)
 granted_is seen now desk r sees settled undenied =
     by_test (Is seen now) (is_open r) _ _
-    (λ on. by_test (Is seen now) (is_waiting now r) _ _ (λ waits. tt) (λ due. asked seen now desk r sees settled (and_parts (is_approved r) _ on).0 undenied)) (λ off. tt)
+    (λ on. by_test (Is seen now) (is_request_waiting now r) _ _ (λ waits. tt) (λ due. asked seen now desk r sees settled (and_parts (is_approved r) _ on).0 undenied)) (λ off. tt)
 
 settled_by : (seen : Views) (r : CertificateRequest) → IsWellSeen seen → seen.request ≡ Some r → AreSettled r.status.conditions
 settled_by seen r well sees = let admitted = well.admitted (Request r) (seen_request seen r sees) in are_settled r.status.conditions admitted.0 admitted.1
@@ -94,14 +94,14 @@ asks : (t : ℤ) (d : Desk) (r : CertificateRequest) → ask_issuer t d r ≡ No
 unfolding ask_issuer
 asks t d r is = absurd (cc is)
 
-by_waiting : (b : Bool) (r : CertificateRequest) (t u : ℤ) (d e : Desk) → is_waiting t r ≡ b → Quiet (IsRetry (Some r)) t u
-    → (if b then Nothing else ask_issuer t d r) ≡ Nothing → (if is_waiting u r then Nothing else ask_issuer u e r) ≡ Nothing
-by_waiting true r t u d e on quiet is = let later : is_waiting u r ≡ true = waits_on (condition_at r.status.conditions kinds.Ready) t u quiet on in rw later refl
+by_waiting : (b : Bool) (r : CertificateRequest) (t u : ℤ) (d e : Desk) → is_request_waiting t r ≡ b → Quiet (IsRetry (Some r)) t u
+    → (if b then Nothing else ask_issuer t d r) ≡ Nothing → (if is_request_waiting u r then Nothing else ask_issuer u e r) ≡ Nothing
+by_waiting true r t u d e on quiet is = let later : is_request_waiting u r ≡ true = waits_on (condition_at r.status.conditions kinds.Ready) t u quiet on in rw later refl
 by_waiting false r t u d e off quiet is = absurd (asks t d r is)
 
 by_open : (b : Bool) (r : CertificateRequest) (t u : ℤ) (d e : Desk) → Quiet (IsRetry (Some r)) t u
-    → (if b then (if is_waiting t r then Nothing else ask_issuer t d r) else Nothing) ≡ Nothing → (if b then (if is_waiting u r then Nothing else ask_issuer u e r) else Nothing) ≡ Nothing
-by_open true r t u d e quiet is = by_waiting (is_waiting t r) r t u d e refl quiet is
+    → (if b then (if is_request_waiting t r then Nothing else ask_issuer t d r) else Nothing) ≡ Nothing → (if b then (if is_request_waiting u r then Nothing else ask_issuer u e r) else Nothing) ≡ Nothing
+by_open true r t u d e quiet is = by_waiting (is_request_waiting t r) r t u d e refl quiet is
 by_open false r t u d e quiet is = refl
 
 by_marked : (b : Bool) (r : CertificateRequest) (t u : ℤ) → (if b then Nothing else Calls (status_call (denied_status r.status t) r)) ≡ Nothing

@@ -17,7 +17,7 @@ use Rattle.cmc_rules.specs.Dates.{StaysDated}
 use Rattle.cmc_rules.specs.Granting.{denied_condition, denied_status, status_call}
 use Rattle.cmc_rules.specs.Rights.{ChangesAnswer}
 use Rattle.cmc_rules.specs.Sighting.{OnSeen}
-use Rattle.cmc_rules.specs.Sound.{IsOrdinary, IsAnswer}
+use Rattle.cmc_rules.specs.Sound.{IsOrdinary, IsWriteAfterValue}
 use Rattle.cmc_rules.proofs.Sights.{seen_request}
 use Rattle.cmc_rules.proofs.Conditions.{others-renewed, others-transitioned}
 use Rattle.cmc_rules.proofs.Dating.{dated_transitioned}
@@ -69,7 +69,7 @@ marking seen now r status sees settled changes dates = record {
 
 pub answering : (seen : Views) (now : ℤ) (value : Value) (r : CertificateRequest) (status : RequestStatus) → seen.request ≡ Some r → AreSettled r.status.conditions → ChangesAnswer r.status status
     → StaysDated now (Some (Request r)) (Some (Request (record r { status = status })))
-    → OnSeen (IsAnswer Issuer seen now value) seen (status_call status r)
+    → OnSeen (IsWriteAfterValue Issuer seen now value) seen (status_call status r)
 unfolding status_call OnSeen numbered with_status
 answering seen now value r status sees settled changes dates = record {
   old = Request r;

@@ -64,7 +64,7 @@ fn is_waiting_on(moment: i64, ready: Option<&Condition>) -> bool
 
 fn is_waiting(moment: i64, request: &CertificateRequest) -> bool
     requires { is_run_time moment ≡ true }
-    ensures { result ≡ table.is_waiting moment request.now }
+    ensures { result ≡ table.is_request_waiting moment request.now }
 {
     is_waiting_on(moment, request.status.conditions.get(ConditionKind::Ready))
 }
@@ -133,8 +133,8 @@ fn grant_one(
 pub fn act(alloc: Global, views: &Views, now: i64, desk: &Desk) -> Result<Act, AllocError>
     requires in_run { is_run_time now ≡ true }
     requires few { desk.now.asked < 2 ^ 63 }
-    requires form { table.HasForm views.now.request }
-    requires reply_form { table.HasReplyForm views.now.request desk.now }
+    requires form { table.HasRequestForm views.now.request }
+    requires reply_form { table.HasReplyRowForm views.now.request desk.now }
     ensures { IfOk result (λ a. a ≡ table.issuer views.now now desk.now) }
 {
     match &views.request {

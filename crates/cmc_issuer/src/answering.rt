@@ -14,7 +14,7 @@ fn ready(
     message: &str,
     moment: i64,
 ) -> Result<Condition, AllocError>
-    ensures { IfOk result (λ c. c ≡ spec.ready_condition status reason.now message.now moment) }
+    ensures { IfOk result (λ c. c ≡ spec.answer_condition status reason.now message.now moment) }
 {
     Ok(Condition {
         kind: ConditionKind::Ready,

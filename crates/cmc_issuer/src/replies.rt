@@ -4,7 +4,7 @@ ghost use Rattle.std.specs.Option.{option_copied};
 ghost use Rattle.std.specs.Prelude.{◌≡◌, IfOk, slice_get, unwrap_or};
 ghost use Rattle.cmc_meta.specs.Keys.{key_cmp};
 ghost use Rattle.cmc_meta.specs.declared.key.Kind.TheVariants.{Certificate};
-ghost use Rattle.cmc_objects.specs.Materials.{rows_at};
+ghost use Rattle.cmc_objects.specs.Materials.{rows_under};
 ghost use Rattle.cmc_rules.specs.Desks as desks;
 ghost use Rattle.cmc_rules.specs.Granting as table;
 ghost use Rattle.cmc_rules.specs.Orders as orders;
@@ -39,7 +39,7 @@ fn is_key_of(namespace: &Name, name: &[u8], key: &Key) -> bool
 }
 
 fn rows_of<'a>(material: &'a Material, namespace: &Name, name: &[u8]) -> Option<&'a Rows>
-    ensures { option_copied result ≡ rows_at material.now (record { kind = Certificate; namespace = namespace.now; name = name.now }) }
+    ensures { option_copied result ≡ rows_under material.now (record { kind = Certificate; namespace = namespace.now; name = name.now }) }
 {
     for (key, rows) in material.as_map().iter() {
         if is_key_of(namespace, name, key) {

@@ -11,7 +11,7 @@ use Rattle.std.specs.BTreeMap.{is_at}
 use Rattle.std.specs.Map.{keys_of}
 use Rattle.std.specs.List.{AllByRecursion}
 use Rattle.std.specs.List.Sorted.{IsStrictlySortedBy}
-use Rattle.cmc_meta.specs.PairLists.{text_at, with_text, without_text}
+use Rattle.cmc_meta.specs.PairLists.{text_by_key, with_text, without_text}
 use Rattle.cmc_rules.specs.Issuing.{without}
 
 abbrev Entries : Type 0
@@ -29,27 +29,27 @@ equal_names left right is = slice_cmp-IsAntisymmetric nat_cmp-IsAntisymmetric le
 
 -- ---- put under this name
 
-put_by : (name text : List ℕ) (e : List ℕ × List ℕ) (es later : Entries) (o : Ordering) → slice_cmp nat_cmp name e.0 ≡ o → text_at later name ≡ Some text
-    → text_at (match_ordering o ((name, text) ∷ e ∷ es) ((e.0, text) ∷ es) (e ∷ later)) name ≡ Some text
-put_by name text e es later Less is below = ap (λ (b : Bool). cond b (Some text) (text_at (e ∷ es) name)) (itself name)
-put_by name text e es later Equal is below = ap (λ (o : Ordering). cond (is_eq o) (Some text) (text_at es name)) is
-put_by name text e es later Greater is below = ap (λ (o : Ordering). cond (is_eq o) (Some e.1) (text_at later name)) is ∙ below
+put_by : (name text : List ℕ) (e : List ℕ × List ℕ) (es later : Entries) (o : Ordering) → slice_cmp nat_cmp name e.0 ≡ o → text_by_key later name ≡ Some text
+    → text_by_key (match_ordering o ((name, text) ∷ e ∷ es) ((e.0, text) ∷ es) (e ∷ later)) name ≡ Some text
+put_by name text e es later Less is below = ap (λ (b : Bool). cond b (Some text) (text_by_key (e ∷ es) name)) (itself name)
+put_by name text e es later Equal is below = ap (λ (o : Ordering). cond (is_eq o) (Some text) (text_by_key es name)) is
+put_by name text e es later Greater is below = ap (λ (o : Ordering). cond (is_eq o) (Some e.1) (text_by_key later name)) is ∙ below
 
-pub put_stands : (pairs : Entries) (name text : List ℕ) → text_at (with_text pairs name text) name ≡ Some text
+pub put_stands : (pairs : Entries) (name text : List ℕ) → text_by_key (with_text pairs name text) name ≡ Some text
 put_stands [] name text = ap (λ (b : Bool). cond b (Some text) None) (itself name)
 put_stands (e ∷ es) name text = put_by name text e es (with_text es name text) (slice_cmp nat_cmp name e.0) refl (put_stands es name text)
 
 -- ---- put under another name
 
-beside_by : (name text other : List ℕ) (e : List ℕ × List ℕ) (es later : Entries) (o : Ordering) → slice_cmp nat_cmp name e.0 ≡ o → is_name other name ≡ false → text_at later other ≡ text_at es other
-    → text_at (match_ordering o ((name, text) ∷ e ∷ es) ((e.0, text) ∷ es) (e ∷ later)) other ≡ text_at (e ∷ es) other
-beside_by name text other e es later Less is apart below = ap (λ (b : Bool). cond b (Some text) (text_at (e ∷ es) other)) apart
+beside_by : (name text other : List ℕ) (e : List ℕ × List ℕ) (es later : Entries) (o : Ordering) → slice_cmp nat_cmp name e.0 ≡ o → is_name other name ≡ false → text_by_key later other ≡ text_by_key es other
+    → text_by_key (match_ordering o ((name, text) ∷ e ∷ es) ((e.0, text) ∷ es) (e ∷ later)) other ≡ text_by_key (e ∷ es) other
+beside_by name text other e es later Less is apart below = ap (λ (b : Bool). cond b (Some text) (text_by_key (e ∷ es) other)) apart
 beside_by name text other e es later Equal is apart below =
     let first : is_name other e.0 ≡ false = subst (λ (x : List ℕ). is_name other x ≡ false) (equal_names name e.0 is) apart in
-    ap (λ (b : Bool). cond b (Some text) (text_at es other)) first ∙ sym (ap (λ (b : Bool). cond b (Some e.1) (text_at es other)) first)
+    ap (λ (b : Bool). cond b (Some text) (text_by_key es other)) first ∙ sym (ap (λ (b : Bool). cond b (Some e.1) (text_by_key es other)) first)
 beside_by name text other e es later Greater is apart below = ap (λ (x : Option (List ℕ)). cond (is_name other e.0) (Some e.1) x) below
 
-pub put_beside : (pairs : Entries) (name text other : List ℕ) → is_name other name ≡ false → text_at (with_text pairs name text) other ≡ text_at pairs other
+pub put_beside : (pairs : Entries) (name text other : List ℕ) → is_name other name ≡ false → text_by_key (with_text pairs name text) other ≡ text_by_key pairs other
 put_beside [] name text other apart = ap (λ (b : Bool). cond b (Some text) None) apart
 put_beside (e ∷ es) name text other apart =
     beside_by name text other e es (with_text es name text) (slice_cmp nat_cmp name e.0) refl apart (put_beside es name text other apart)
@@ -63,22 +63,22 @@ differs name other is =
       | inr apart ↦ is_eq-slice_cmp name other ∙ apart
     ]
 
-none_by : (b : Bool) (name : List ℕ) (e : List ℕ × List ℕ) (left : Entries) → bytes_eq e.0 name ≡ b → text_at left name ≡ None → text_at (cond (not b) (e ∷ left) left) name ≡ None
+none_by : (b : Bool) (name : List ℕ) (e : List ℕ × List ℕ) (left : Entries) → bytes_eq e.0 name ≡ b → text_by_key left name ≡ None → text_by_key (cond (not b) (e ∷ left) left) name ≡ None
 none_by true name e left is none = none
-none_by false name e left is none = ap (λ (b : Bool). cond b (Some e.1) (text_at left name)) (differs name e.0 is) ∙ none
+none_by false name e left is none = ap (λ (b : Bool). cond b (Some e.1) (text_by_key left name)) (differs name e.0 is) ∙ none
 
-pub out_of : (pairs : Entries) (name : List ℕ) → text_at (without name pairs) name ≡ None
+pub out_of : (pairs : Entries) (name : List ℕ) → text_by_key (without name pairs) name ≡ None
 out_of [] name = refl
 out_of (e ∷ es) name = none_by (bytes_eq e.0 name) name e (without name es) refl (out_of es name)
 
-left_by : (b : Bool) (name other : List ℕ) (e : List ℕ × List ℕ) (left es : Entries) → bytes_eq e.0 name ≡ b → is_name other name ≡ false → text_at left other ≡ text_at es other
-    → text_at (cond (not b) (e ∷ left) left) other ≡ text_at (e ∷ es) other
+left_by : (b : Bool) (name other : List ℕ) (e : List ℕ × List ℕ) (left es : Entries) → bytes_eq e.0 name ≡ b → is_name other name ≡ false → text_by_key left other ≡ text_by_key es other
+    → text_by_key (cond (not b) (e ∷ left) left) other ≡ text_by_key (e ∷ es) other
 left_by true name other e left es is apart below =
     let first : is_name other e.0 ≡ false = subst (λ (x : List ℕ). is_name other x ≡ false) (sym ((bytes_eq-Decides e.0 name).0 is)) apart in
-    below ∙ sym (ap (λ (b : Bool). cond b (Some e.1) (text_at es other)) first)
+    below ∙ sym (ap (λ (b : Bool). cond b (Some e.1) (text_by_key es other)) first)
 left_by false name other e left es is apart below = ap (λ (x : Option (List ℕ)). cond (is_name other e.0) (Some e.1) x) below
 
-pub out_beside : (pairs : Entries) (name other : List ℕ) → is_name other name ≡ false → text_at (without name pairs) other ≡ text_at pairs other
+pub out_beside : (pairs : Entries) (name other : List ℕ) → is_name other name ≡ false → text_by_key (without name pairs) other ≡ text_by_key pairs other
 out_beside [] name other apart = refl
 out_beside (e ∷ es) name other apart = left_by (bytes_eq e.0 name) name other e (without name es) es refl apart (out_beside es name other apart)
 

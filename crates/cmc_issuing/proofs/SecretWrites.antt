@@ -4,19 +4,19 @@ use Rattle.std.specs.Prelude.{codes, if◌then◌else◌}
 use Rattle.std.specs.Option.{is_some}
 use Rattle.std.specs.Str.{bytes_eq}
 use Rattle.std.proofs.lemmas.Slice.Eq.{bytes_eq-Decides}
-use Rattle.cmc_meta.specs.PairLists.{text_at, with_text}
+use Rattle.cmc_meta.specs.PairLists.{text_by_key, with_text}
 use Rattle.cmc_objects.specs.declared.certificate.Certificate.{Certificate}
 use Rattle.cmc_objects.specs.declared.secret.Secret.{Secret as SecretObject}
 use Rattle.cmc_objects.specs.declared.object.Object.{Object}
 use Rattle.cmc_objects.specs.declared.object.Object.TheVariants.{Secret}
 use Rattle.cmc_objects.specs.declared.role.Role.TheVariants.{Issuing}
-use Rattle.cmc_match.specs.Facts.{key_in, certificate_in}
+use Rattle.cmc_match.specs.Facts.{key_in, certificate_file_in}
 use Rattle.cmc_match.specs.Marks.{is_text, is_next_key, is_temporary}
 use Rattle.cmc_pass.specs.declared.pass.Views.{Views}
 use Rattle.cmc_model.specs.Admission.{changes_type, lacks, is_tls_incomplete, refusing_rule}
 use Rattle.cmc_objects.specs.Objects.{numbered}
 use Rattle.cmc_model.specs.Stored.{created, updated, revised}
-use Rattle.cmc_rules.specs.Passes.{writes_stand_in}
+use Rattle.cmc_rules.specs.Passes.{writes_temporary}
 use Rattle.cmc_rules.specs.Safety.{IsSecretWrite}
 use Rattle.cmc_rules.specs.Viewing.{is_text_true, has_next_label}
 use Rattle.cmc_rules.specs.Sighting.{IsWellSeen, OnSeen}
@@ -27,30 +27,30 @@ use Rattle.cmc_issuing.proofs.PairLists.{is_name, put_stands, put_beside, out_of
 
 -- ---- the parts and the mark
 
-ca_beside : (ca : List ℕ) (parts : List (List ℕ × List ℕ)) (name : List ℕ) → is_name name (codes "ca.crt") ≡ false → text_at (with_ca ca parts) name ≡ text_at parts name
+ca_beside : (ca : List ℕ) (parts : List (List ℕ × List ℕ)) (name : List ℕ) → is_name name (codes "ca.crt") ≡ false → text_by_key (with_ca ca parts) name ≡ text_by_key parts name
 ca_beside [] parts name apart = out_beside parts (codes "ca.crt") name apart
 ca_beside (b ∷ ca) parts name apart = put_beside parts (codes "ca.crt") (b ∷ ca) name apart
 
-filled_key : (key certificate ca : List ℕ) (parts : List (List ℕ × List ℕ)) → text_at (filled key certificate ca parts) (codes "tls.key") ≡ Some key
+filled_key : (key certificate ca : List ℕ) (parts : List (List ℕ × List ℕ)) → text_by_key (filled key certificate ca parts) (codes "tls.key") ≡ Some key
 unfolding filled
 filled_key key certificate ca parts =
     ca_beside ca (with_text (with_text parts (codes "tls.key") key) (codes "tls.crt") certificate) (codes "tls.key") refl
     ∙ put_beside (with_text parts (codes "tls.key") key) (codes "tls.crt") certificate (codes "tls.key") refl
     ∙ put_stands parts (codes "tls.key") key
 
-filled_certificate : (key certificate ca : List ℕ) (parts : List (List ℕ × List ℕ)) → text_at (filled key certificate ca parts) (codes "tls.crt") ≡ Some certificate
+filled_certificate : (key certificate ca : List ℕ) (parts : List (List ℕ × List ℕ)) → text_by_key (filled key certificate ca parts) (codes "tls.crt") ≡ Some certificate
 unfolding filled
 filled_certificate key certificate ca parts =
     ca_beside ca (with_text (with_text parts (codes "tls.key") key) (codes "tls.crt") certificate) (codes "tls.crt") refl
     ∙ put_stands (with_text parts (codes "tls.key") key) (codes "tls.crt") certificate
 
-filled_no_ca : (key certificate ca : List ℕ) (parts : List (List ℕ × List ℕ)) → ca ≡ [] → text_at (filled key certificate ca parts) (codes "ca.crt") ≡ None
+filled_no_ca : (key certificate ca : List ℕ) (parts : List (List ℕ × List ℕ)) → ca ≡ [] → text_by_key (filled key certificate ca parts) (codes "ca.crt") ≡ None
 unfolding filled
 filled_no_ca key certificate ca parts none =
-    ap (λ (x : List ℕ). text_at (with_ca x (with_text (with_text parts (codes "tls.key") key) (codes "tls.crt") certificate)) (codes "ca.crt")) none
+    ap (λ (x : List ℕ). text_by_key (with_ca x (with_text (with_text parts (codes "tls.key") key) (codes "tls.crt") certificate)) (codes "ca.crt")) none
     ∙ out_of (with_text (with_text parts (codes "tls.key") key) (codes "tls.crt") certificate) (codes "ca.crt")
 
-marks_mark : (stand_in : Bool) (c : Certificate) (pairs : List (List ℕ × List ℕ)) → is_text (text_at (marks stand_in c pairs) (codes "cert-manager.io/temporary-certificate")) (codes "true") ≡ stand_in
+marks_mark : (stand_in : Bool) (c : Certificate) (pairs : List (List ℕ × List ℕ)) → is_text (text_by_key (marks stand_in c pairs) (codes "cert-manager.io/temporary-certificate")) (codes "true") ≡ stand_in
 unfolding marks
 marks_mark true c pairs =
     ap (λ (o : Option (List ℕ)). is_text o (codes "true")) (put_stands (signed_marks c pairs) (codes "cert-manager.io/temporary-certificate") (codes "true"))
@@ -65,9 +65,9 @@ pub record HasContent (stand_in : Bool) (c : Certificate) (key certificate ca : 
   pub name : k.meta.name ≡ c.spec.secret_name
   pub unlabelled : has_next_label k.meta ≡ false
   pub has_key : key_in k ≡ Some key
-  pub has_certificate : certificate_in k ≡ Some certificate
+  pub has_certificate : certificate_file_in k ≡ Some certificate
   pub marked : is_temporary k ≡ stand_in
-  pub no_ca : ca ≡ [] → text_at k.parts (codes "ca.crt") ≡ None
+  pub no_ca : ca ≡ [] → text_by_key k.parts (codes "ca.crt") ≡ None
 
 is_that : (j k : SecretObject) → Some (Secret j) ≡ Some (Secret k) → j ≡ k
 is_that j k is = cc is
@@ -121,7 +121,7 @@ neither true true b e f = absurd (cc e)
 neither true false b e f = f
 neither false a b e f = refl
 
-complete : (k : SecretObject) (key certificate : List ℕ) → key_in k ≡ Some key → certificate_in k ≡ Some certificate → is_tls_incomplete k ≡ false
+complete : (k : SecretObject) (key certificate : List ℕ) → key_in k ≡ Some key → certificate_file_in k ≡ Some certificate → is_tls_incomplete k ≡ false
 complete k key certificate first second =
     neither (bytes_eq k.kind_text (codes "kubernetes.io/tls")) (lacks (codes "tls.key") k) (lacks (codes "tls.crt") k)
     (ap (λ (o : Option (List ℕ)). not (is_some o)) first)
@@ -152,7 +152,7 @@ no_label None is = refl
 no_label (Some text) is = is
 
 bare_of : (old : SecretObject) → is_next_key old ≡ false → has_next_label old.meta ≡ false
-bare_of old is = no_label (text_at old.meta.labels (codes "cert-manager.io/next-private-key")) is
+bare_of old is = no_label (text_by_key old.meta.labels (codes "cert-manager.io/next-private-key")) is
 
 pub secret_written : (P : SecretObject → Type 0) (seen : Views) (now : ℤ) (stand_in : Bool) (c : Certificate) (key certificate ca : List ℕ) (target : Option SecretObject)
     → IsWellSeen seen → seen.certificate ≡ Some c → seen.secret ≡ target → is_kept_for_keys target ≡ false
@@ -177,7 +177,7 @@ unfolding secret_call new_target old_target
 secret_unmarked c key certificate ca None = marks_mark false c []
 secret_unmarked c key certificate ca (Some old) = marks_mark false c old.meta.annotations
 
-pub secret_marked : (c : Certificate) (key certificate ca : List ℕ) (target : Option SecretObject) → writes_stand_in (secret_call true c key certificate ca target) ≡ true
+pub secret_marked : (c : Certificate) (key certificate ca : List ℕ) (target : Option SecretObject) → writes_temporary (secret_call true c key certificate ca target) ≡ true
 unfolding secret_call new_target old_target
 secret_marked c key certificate ca None = marks_mark true c []
 secret_marked c key certificate ca (Some old) = marks_mark true c old.meta.annotations

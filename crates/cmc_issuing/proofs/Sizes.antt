@@ -14,8 +14,8 @@ use Rattle.cmc_time.specs.Moment.{last_passing, year_of, moment_of}
 use Rattle.cmc_x509_build.specs.Octets.{signature_algorithm, signed_octets, name_octets}
 use Rattle.cmc_x509_build.specs.Certificates.{time_octets, validity_octets, head_octets, first_octets, subject_octets, certificate_body}
 use Rattle.cmc_keys.proofs.SignatureLaws.{signature_size}
-use Rattle.cmc_answers.specs.Signings.{certificate_of}
-use Rattle.cmc_answers.specs.Temporary.{temporary_plan}
+use Rattle.cmc_answers.specs.Signings.{certificate_of_plan}
+use Rattle.cmc_answers.specs.Temporary.{temporary_cert_plan}
 
 -- ---- the octets of a longer body are not fewer
 
@@ -138,7 +138,7 @@ signed_grows a b s z h e f =
 ends_later : (t u : ℤ) → int_le t u ≡ true → int_le (t +ℤ pos 7776000) (u +ℤ pos 7776000) ≡ true
 ends_later t u h = grind (arith, ints)
 
-pub stand_in_grows : (t u : ℤ) (names : SubjectNames) (key : PublicKey) → int_le t u ≡ true → length (certificate_of (temporary_plan t) names key) ≤ length (certificate_of (temporary_plan u) names key)
-unfolding certificate_of temporary_plan
+pub stand_in_grows : (t u : ℤ) (names : SubjectNames) (key : PublicKey) → int_le t u ≡ true → length (certificate_of_plan (temporary_cert_plan t) names key) ≤ length (certificate_of_plan (temporary_cert_plan u) names key)
+unfolding certificate_of_plan temporary_cert_plan
 stand_in_grows t u names key h =
     signed_grows _ _ _ _ (body_grows _ (codes "cert-manager.local") names key t u (t +ℤ pos 7776000) (u +ℤ pos 7776000) h (ends_later t u h)) (signature_size _) (signature_size _)

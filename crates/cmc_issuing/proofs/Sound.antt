@@ -3,11 +3,11 @@ use Rattle.std.proofs.Common.{◌≡◌, ℤ, None, refl}
 use Rattle.cmc_objects.specs.declared.role.Role.TheVariants.{Issuing}
 use Rattle.cmc_pass.specs.declared.pass.Views.{Views}
 use Rattle.cmc_rules.specs.Issuing.{issuing}
-use Rattle.cmc_rules.specs.Sound.{shown, IsSoundTable}
+use Rattle.cmc_rules.specs.Sound.{views_shown, IsSoundTable}
 use Rattle.cmc_issuing.proofs.Table.{within}
 use Rattle.cmc_issuing.proofs.Staying.{stays, none}
 
-told : (seen : Views) (now : ℤ) → issuing seen now ≡ issuing (shown Issuing seen) now
+told : (seen : Views) (now : ℤ) → issuing seen now ≡ issuing (views_shown Issuing seen) now
 unfolding issuing
 told seen now = refl
 

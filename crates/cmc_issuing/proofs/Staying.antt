@@ -4,7 +4,7 @@ use Rattle.std.specs.Prelude.{length, nat_le, if◌then◌else◌}
 use Rattle.std.proofs.lemmas.Bool.Decides.{nat_tests}
 use Rattle.cmc_der.specs.Keys.{PublicKey, RequestFields}
 use Rattle.cmc_x509.specs.ReadKeys.{key_file_at}
-use Rattle.cmc_x509.specs.ReadCertificates.{request_at}
+use Rattle.cmc_x509.specs.ReadCertificates.{request_fields_at}
 use Rattle.cmc_objects.specs.declared.certificate.Certificate.{Certificate}
 use Rattle.cmc_objects.specs.declared.request.CertificateRequest.{CertificateRequest}
 use Rattle.cmc_objects.specs.declared.secret.Secret.{Secret as SecretObject}
@@ -12,8 +12,8 @@ use Rattle.cmc_objects.specs.Requests.{is_denied}
 use Rattle.cmc_match.specs.Facts.{key_in, fits}
 use Rattle.cmc_match.specs.Marks.{asks_for_temporary}
 use Rattle.cmc_match.specs.Revisions.{next_request}
-use Rattle.cmc_answers.specs.Signings.{certificate_of}
-use Rattle.cmc_answers.specs.Temporary.{temporary_plan as stand_in_plan, temporary_of}
+use Rattle.cmc_answers.specs.Signings.{certificate_of_plan}
+use Rattle.cmc_answers.specs.Temporary.{temporary_cert_plan as stand_in_plan, temporary_of}
 use Rattle.cmc_pass.specs.declared.pass.Views.{Views}
 use Rattle.cmc_pass.specs.declared.pass.TemporaryPlan.{TemporaryPlan}
 use Rattle.cmc_pass.specs.declared.pass.Act.{Act}
@@ -21,7 +21,7 @@ use Rattle.cmc_pass.specs.declared.pass.Act.TheVariants.{Nothing, Temporary}
 use Rattle.cmc_rules.specs.Triggering.{is_issuing}
 use Rattle.cmc_rules.specs.NextKeys.{named_key}
 use Rattle.cmc_rules.specs.NextRequests.{is_wanted, is_refused}
-use Rattle.cmc_rules.specs.Issuing.{failure, is_granted, fails_now, is_certified, is_kept_for_keys, lacks_certificate, stand_in_with, while_waiting, with_granted, with_wanted, with_request, with_file, with_key_of, issuing_of, issuing}
+use Rattle.cmc_rules.specs.Issuing.{failure, is_granted, fails_now, is_certified, is_kept_for_keys, lacks_certificate, temporary_with, while_waiting, with_granted, with_wanted, with_request, with_file, with_key_of, issuing_of, issuing}
 use Rattle.cmc_rules.proofs.Lines.{by_both}
 use Rattle.cmc_issuing.proofs.Sizes.{stand_in_grows}
 
@@ -42,17 +42,17 @@ still_small : (n m : ℕ) → n ≤ m → nat_le m 16777216 ≡ true → nat_le 
 still_small n m h is = grind (arith, nat_tests)
 
 stand_in_stays : (t u : ℤ) (c : Certificate) (file : List ℕ) (target : Option SecretObject) (csr : Option RequestFields) (key : Option PublicKey) → int_le t u ≡ true
-    → Stays (stand_in_with c file target (temporary_of t csr key)) (stand_in_with c file target (temporary_of u csr key))
+    → Stays (temporary_with c file target (temporary_of t csr key)) (temporary_with c file target (temporary_of u csr key))
 stand_in_stays t u c file target None key le is = refl
 stand_in_stays t u c file target (Some csr) None le is = refl
 stand_in_stays t u c file target (Some csr) (Some key) le is =
-    large_stays (nat_le (length (certificate_of (stand_in_plan t) csr.names key)) 16777216) (nat_le (length (certificate_of (stand_in_plan u) csr.names key)) 16777216) _ _
+    large_stays (nat_le (length (certificate_of_plan (stand_in_plan t) csr.names key)) 16777216) (nat_le (length (certificate_of_plan (stand_in_plan u) csr.names key)) 16777216) _ _
     (still_small _ _ (stand_in_grows t u csr.names key le)) is
 
 waiting_stays : (t u : ℤ) (c : Certificate) (file : List ℕ) (target : Option SecretObject) (r : CertificateRequest) → int_le t u ≡ true → Stays (while_waiting t c file target r) (while_waiting u c file target r)
 waiting_stays t u c file target r le =
     by_both Stays (asks_for_temporary c && (not (is_denied r) && (not (is_kept_for_keys target) && lacks_certificate file target))) _ _ _ _
-    (λ on. stand_in_stays t u c file target (request_at r.spec.request) (key_file_at file) le) (λ off is. is)
+    (λ on. stand_in_stays t u c file target (request_fields_at r.spec.request) (key_file_at file) le) (λ off is. is)
 
 granted_stays : (t u : ℤ) (c : Certificate) (file : List ℕ) (target : Option SecretObject) (r : CertificateRequest) → Stays (with_granted t c file target r) (with_granted u c file target r)
 granted_stays t u c file target r =

@@ -30,10 +30,10 @@ use Rattle.cmc_pass.specs.declared.value.Value.{Value}
 use Rattle.cmc_rules.specs.Triggering.{is_issuing}
 use Rattle.cmc_rules.specs.NextKeys.{is_named, named_key}
 use Rattle.cmc_rules.specs.NextRequests.{is_wanted, is_refused}
-use Rattle.cmc_rules.specs.Issuing.{issued_status, failure, issue_plan, temporary_plan, says_issued, is_granted, fails_now, refusal, is_certified, is_kept_for_keys, lacks_certificate, stand_in_with, while_waiting, with_granted, with_wanted, with_request, with_file, with_key_of, issuing_of, issuing}
+use Rattle.cmc_rules.specs.Issuing.{issued_status, failure, issue_plan, temporary_plan, says_issued, is_granted, fails_now, refusal, is_certified, is_kept_for_keys, lacks_certificate, temporary_with, while_waiting, with_granted, with_wanted, with_request, with_file, with_key_of, issuing_of, issuing}
 use Rattle.cmc_rules.specs.Safety.{IsIssued}
 use Rattle.cmc_rules.specs.Sighting.{IsWellSeen}
-use Rattle.cmc_rules.specs.Sound.{IsPrepared, IsSigned, IsMarked, IsIssuance, IsStandingIn, IsWithin}
+use Rattle.cmc_rules.specs.Sound.{IsReadyToIssue, IsSigned, IsMarked, IsIssuance, IsTemporaryPlan, IsWithin}
 use Rattle.cmc_rules.proofs.Sights.{found_among}
 use Rattle.cmc_rules.proofs.Lines.{by_test}
 use Rattle.cmc_issuing.proofs.StatusWrites.{failing, raising, is_status}
@@ -109,7 +109,7 @@ record HasRequest (seen : Views) (c : Certificate) (file : List ℕ) (r : Certif
   matches : matches c.spec r ≡ true
   has : has_key r file ≡ true
 
-prepared : (seen : Views) (c : Certificate) (k : SecretObject) (file : List ℕ) (r : CertificateRequest) → IsReached seen c → HasKeyFile seen c k file → HasRequest seen c file r → IsPrepared seen c r k file
+prepared : (seen : Views) (c : Certificate) (k : SecretObject) (file : List ℕ) (r : CertificateRequest) → IsReached seen c → HasKeyFile seen c k file → HasRequest seen c file r → IsReadyToIssue seen c r k file
 prepared seen c k file r reached key request = record {
   sees = reached.sees;
   next = request.next;
@@ -144,7 +144,7 @@ issuance seen now c k file r reached key request granted read free =
 
 standing : (seen : Views) (now : ℤ) (c : Certificate) (k : SecretObject) (file certificate : List ℕ) (r : CertificateRequest) → IsReached seen c → HasKeyFile seen c k file → HasRequest seen c file r
     → asks_for_temporary c ≡ true → is_denied r ≡ false → is_kept_for_keys seen.secret ≡ false → temporary r.spec.request file now ≡ Some certificate → nat_le (length certificate) 16777216 ≡ true
-    → IsStandingIn Issuing seen now (temporary_plan c file certificate seen.secret)
+    → IsTemporaryPlan Issuing seen now (temporary_plan c file certificate seen.secret)
 unfolding temporary_plan
 standing seen now c k file certificate r reached key request asks granted free is small = record {
   issuing = refl;
@@ -164,7 +164,7 @@ standing seen now c k file certificate r reached key request asks granted free i
 -- ---- each act is within
 
 stand_in_is : (after : After) (seen : Views) (now : ℤ) (c : Certificate) (k : SecretObject) (file : List ℕ) (r : CertificateRequest) (made : Option (List ℕ)) → IsReached seen c → HasKeyFile seen c k file → HasRequest seen c file r
-    → asks_for_temporary c ≡ true → is_denied r ≡ false → is_kept_for_keys seen.secret ≡ false → temporary r.spec.request file now ≡ made → Is after seen now (stand_in_with c file seen.secret made)
+    → asks_for_temporary c ≡ true → is_denied r ≡ false → is_kept_for_keys seen.secret ≡ false → temporary r.spec.request file now ≡ made → Is after seen now (temporary_with c file seen.secret made)
 stand_in_is after seen now c k file r None reached key request asks granted free is = tt
 stand_in_is after seen now c k file r (Some certificate) reached key request asks granted free is =
     by_test (Is after seen now) (nat_le (length certificate) 16777216) (Temporary (temporary_plan c file certificate seen.secret)) Nothing

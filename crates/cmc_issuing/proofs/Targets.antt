@@ -6,7 +6,7 @@ use Rattle.cmc_der.specs.Keys.{PublicKey, CertificateFields, RequestFields}
 use Rattle.cmc_x509.specs.KeyFiles.{IsKeyFile}
 use Rattle.cmc_x509.specs.ReadKeys.{key_file_at}
 use Rattle.cmc_x509.specs.Certificates.{IsCertificate}
-use Rattle.cmc_x509.specs.ReadCertificates.{certificate_at, request_at}
+use Rattle.cmc_x509.specs.ReadCertificates.{certificate_fields_at, request_fields_at}
 use Rattle.cmc_x509.proofs.CertificateLaws.{certificate_found, request_found}
 use Rattle.cmc_x509.proofs.FileLaws.{key_file_found}
 use Rattle.cmc_objects.specs.declared.certificate.Certificate.{Certificate}
@@ -15,14 +15,14 @@ use Rattle.cmc_objects.specs.declared.secret.Secret.{Secret as SecretObject}
 use Rattle.cmc_objects.specs.Defaults.{key_algorithm, key_size}
 use Rattle.cmc_objects.specs.Requests.{is_run_time, is_denied}
 use Rattle.cmc_keys.proofs.KindLaws.{is_key_means}
-use Rattle.cmc_objects.specs.KeyPairs.{is_one_key, with_key}
+use Rattle.cmc_objects.specs.KeyPairs.{is_one_key, fields_with_key}
 use Rattle.cmc_match.specs.Facts.{fits}
 use Rattle.cmc_match.specs.Marks.{asks_for_temporary}
 use Rattle.cmc_match.specs.Matching.{has_key}
 use Rattle.cmc_objects.proofs.KeyLaws.{key_found}
 use Rattle.cmc_match.proofs.MatchLaws.{keys_match}
-use Rattle.cmc_answers.specs.Signings.{certificate_of}
-use Rattle.cmc_answers.specs.Temporary.{temporary_plan, temporary_of, temporary}
+use Rattle.cmc_answers.specs.Signings.{certificate_of_plan}
+use Rattle.cmc_answers.specs.Temporary.{temporary_cert_plan, temporary_of, temporary}
 use Rattle.cmc_answers.proofs.IssuedLaws.{temporary_read}
 use Rattle.cmc_rules.specs.Sound.{IsTarget, IsSigned, IsMarked}
 use Rattle.cmc_rules.specs.Issuing.{is_some_pair, is_certified}
@@ -40,7 +40,7 @@ read_by : (b : Bool) (fields : CertificateFields) → is_some_pair (if b then So
 read_by true fields is = refl
 read_by false fields is = absurd (cc is)
 
-certified_by : (file certificate : List ℕ) (key : Option PublicKey) (read : Option CertificateFields) → key_file_at file ≡ key → certificate_at certificate ≡ read → is_some_pair (with_key key read) ≡ true → IsCertified file certificate
+certified_by : (file certificate : List ℕ) (key : Option PublicKey) (read : Option CertificateFields) → key_file_at file ≡ key → certificate_fields_at certificate ≡ read → is_some_pair (fields_with_key key read) ≡ true → IsCertified file certificate
 certified_by file certificate None read e f is = absurd (cc is)
 certified_by file certificate (Some key) None e f is = absurd (cc is)
 certified_by file certificate (Some key) (Some fields) e f is = record {
@@ -50,7 +50,7 @@ certified_by file certificate (Some key) (Some fields) e f is = record {
 }
 
 pub certified : (file certificate : List ℕ) → is_certified file certificate ≡ true → IsCertified file certificate
-certified file certificate is = certified_by file certificate (key_file_at file) (certificate_at certificate) refl refl is
+certified file certificate is = certified_by file certificate (key_file_at file) (certificate_fields_at certificate) refl refl is
 
 -- ---- one that stands in
 
@@ -63,19 +63,19 @@ within_size n is = grind (arith, nat_tests)
 is_made : (made certificate : List ℕ) → Some made ≡ Some certificate → made ≡ certificate
 is_made made certificate is = cc is
 
-stands_by : (request file certificate : List ℕ) (now : ℤ) (csr : Option RequestFields) (key : Option PublicKey) → request_at request ≡ csr → key_file_at file ≡ key → temporary_of now csr key ≡ Some certificate
+stands_by : (request file certificate : List ℕ) (now : ℤ) (csr : Option RequestFields) (key : Option PublicKey) → request_fields_at request ≡ csr → key_file_at file ≡ key → temporary_of now csr key ≡ Some certificate
     → is_run_time now ≡ true → nat_le (length certificate) 16777216 ≡ true → IsCertified file certificate
 stands_by request file certificate now None key e f is time small = absurd (cc is)
 stands_by request file certificate now (Some csr) None e f is time small = absurd (cc is)
 stands_by request file certificate now (Some csr) (Some key) e f is time small =
-    let made : List ℕ = certificate_of (temporary_plan now) csr.names key in
+    let made : List ℕ = certificate_of_plan (temporary_cert_plan now) csr.names key in
     let same : made ≡ certificate = is_made made certificate is in
     let size : length made ≤ 16777216 = subst (λ (octets : List ℕ). length octets ≤ 16777216) (sym same) (within_size (length certificate) small) in
     let has : IsKeyFile file key = key_file_found file key f in
     subst (IsCertified file) same (with_fields file made _ (temporary_read request file csr key now (request_found request csr e) has time size) has)
 
 pub stands_in : (request file certificate : List ℕ) (now : ℤ) → temporary request file now ≡ Some certificate → nat_le (length certificate) 16777216 ≡ true → is_run_time now ≡ true → IsCertified file certificate
-stands_in request file certificate now is small time = stands_by request file certificate now (request_at request) (key_file_at file) refl refl is time small
+stands_in request file certificate now is small time = stands_by request file certificate now (request_fields_at request) (key_file_at file) refl refl is time small
 
 -- ---- the target
 

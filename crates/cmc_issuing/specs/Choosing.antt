@@ -8,8 +8,8 @@ use Rattle.cmc_rules.specs.Issuing.{failure, issue_plan, temporary_plan}
 use Rattle.cmc_issuing.specs.declared.choices.Choice.{Choice}
 use Rattle.cmc_issuing.specs.declared.choices.Choice.TheVariants as choices
 
-abbrev pub act_of : ℤ → Certificate → Option Secret → Choice → Act
-act_of moment c target choices.Nothing = Nothing
-act_of moment c target (choices.Fail reason) = failure moment reason.now c
-act_of moment c target (choices.Issue file request) = Issue (issue_plan moment c file.now request.now target)
-act_of moment c target (choices.Temporary file stand_in) = Temporary (temporary_plan c file.now stand_in target)
+abbrev pub issuing_act_of : ℤ → Certificate → Option Secret → Choice → Act
+issuing_act_of moment c target choices.Nothing = Nothing
+issuing_act_of moment c target (choices.Fail reason) = failure moment reason.now c
+issuing_act_of moment c target (choices.Issue file request) = Issue (issue_plan moment c file.now request.now target)
+issuing_act_of moment c target (choices.Temporary file stand_in) = Temporary (temporary_plan c file.now stand_in target)

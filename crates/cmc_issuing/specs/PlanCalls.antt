@@ -5,12 +5,12 @@ use Rattle.cmc_pass.specs.declared.pass.Act.{Act}
 use Rattle.cmc_pass.specs.declared.pass.Act.TheVariants.{Issue, Temporary}
 
 -- the write of the Secret, where the act has one
-abbrev pub secret_of : Act → Option Call
-secret_of (Issue plan) = Some plan.secret
-secret_of (Temporary plan) = Some plan.secret
-secret_of other = None
+abbrev pub secret_call_of : Act → Option Call
+secret_call_of (Issue plan) = Some plan.secret
+secret_call_of (Temporary plan) = Some plan.secret
+secret_call_of other = None
 
 -- and that of the status behind it
-abbrev pub status_of : Act → Option Call
-status_of (Issue plan) = Some plan.status
-status_of other = None
+abbrev pub status_call_of : Act → Option Call
+status_call_of (Issue plan) = Some plan.status
+status_call_of other = None

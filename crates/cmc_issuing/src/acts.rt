@@ -8,7 +8,7 @@ ghost use Rattle.cmc_x509.specs.ReadKeys.{key_file_at};
 ghost use Rattle.cmc_objects.specs.KeyPairs.{key_read};
 ghost use Rattle.cmc_objects.specs.Requests.{is_run_time};
 ghost use Rattle.cmc_pass.specs.declared.pass.Act.TheVariants.{Nothing};
-ghost use Rattle.cmc_issuing.specs.Choosing.{act_of};
+ghost use Rattle.cmc_issuing.specs.Choosing.{issuing_act_of};
 ghost use Rattle.cmc_rules.specs.Issuing as table;
 ghost use Rattle.cmc_rules.specs.NextRequests.{HasNextRevision};
 
@@ -34,7 +34,7 @@ fn stand_in_with<'a>(
     target: &Option<Shared<Secret>>,
     stand_in: Option<Bytes>,
 ) -> Choice<'a>
-    ensures { (moment : ℤ) → act_of moment certificate.now target.now result ≡ table.stand_in_with certificate.now file.now target.now stand_in }
+    ensures { (moment : ℤ) → issuing_act_of moment certificate.now target.now result ≡ table.temporary_with certificate.now file.now target.now stand_in }
 {
     match stand_in {
         Some(stand_in) if stand_in.as_slice().len() <= MAX_CERTIFICATE => {
@@ -55,7 +55,7 @@ fn while_waiting<'a>(
 ) -> Result<Choice<'a>, AllocError>
     requires time { is_run_time moment ≡ true }
     requires public { option_map key_shown public.now ≡ key_file_at file.now }
-    ensures { IfOk result (λ choice. act_of moment certificate.now target.now choice ≡ table.while_waiting moment certificate.now file.now target.now request.now) }
+    ensures { IfOk result (λ choice. issuing_act_of moment certificate.now target.now choice ≡ table.while_waiting moment certificate.now file.now target.now request.now) }
 {
     let stands_in = asks_for_temporary(certificate)
         && !is_denied(request)
@@ -82,7 +82,7 @@ fn with_granted<'a>(
     request: &'a CertificateRequest,
 ) -> Choice<'a>
     requires { option_map key_shown public.now ≡ key_file_at file.now }
-    ensures { (moment : ℤ) → act_of moment certificate.now target.now result ≡ table.with_granted moment certificate.now file.now target.now request.now }
+    ensures { (moment : ℤ) → issuing_act_of moment certificate.now target.now result ≡ table.with_granted moment certificate.now file.now target.now request.now }
 {
     if !is_certified(
         file.as_slice(),
@@ -110,7 +110,7 @@ fn with_wanted<'a>(
 ) -> Result<Choice<'a>, AllocError>
     requires time { is_run_time moment ≡ true }
     requires public { option_map key_shown public.now ≡ key_file_at file.now }
-    ensures { IfOk result (λ choice. act_of moment certificate.now target.now choice ≡ table.with_wanted moment certificate.now file.now target.now request.now) }
+    ensures { IfOk result (λ choice. issuing_act_of moment certificate.now target.now choice ≡ table.with_wanted moment certificate.now file.now target.now request.now) }
 {
     if is_refused(request) {
         if fails_now(certificate, request) {
@@ -137,7 +137,7 @@ fn with_request<'a>(
 ) -> Result<Choice<'a>, AllocError>
     requires time { is_run_time moment ≡ true }
     requires public { option_map key_shown public.now ≡ key_file_at file.now }
-    ensures { IfOk result (λ choice. act_of moment certificate.now target.now choice ≡ table.with_request moment certificate.now file.now target.now (option_copied request.entry)) }
+    ensures { IfOk result (λ choice. issuing_act_of moment certificate.now target.now choice ≡ table.with_request moment certificate.now file.now target.now (option_copied request.entry)) }
 {
     match request {
         None => Ok(Choice::Nothing),
@@ -176,7 +176,7 @@ fn with_file<'a>(
 ) -> Result<Choice<'a>, AllocError>
     requires time { is_run_time moment ≡ true }
     requires public { option_map key_shown public.now ≡ key_read (option_copied file) }
-    ensures { IfOk result (λ choice. act_of moment certificate.now target.now choice ≡ table.with_file moment certificate.now target.now requests.now (option_copied file.entry)) }
+    ensures { IfOk result (λ choice. issuing_act_of moment certificate.now target.now choice ≡ table.with_file moment certificate.now target.now requests.now (option_copied file.entry)) }
 {
     match file {
         None => Ok(Choice::Nothing),
@@ -204,7 +204,7 @@ fn with_key_of<'a>(
     key: Option<&'a Shared<Secret>>,
 ) -> Result<Choice<'a>, AllocError>
     requires { is_run_time moment ≡ true }
-    ensures { IfOk result (λ choice. act_of moment certificate.now target.now choice ≡ table.with_key_of moment certificate.now target.now requests.now (option_copied key.entry)) }
+    ensures { IfOk result (λ choice. issuing_act_of moment certificate.now target.now choice ≡ table.with_key_of moment certificate.now target.now requests.now (option_copied key.entry)) }
 {
     match key {
         None => Ok(Choice::Nothing),
@@ -228,7 +228,7 @@ fn choose<'a>(
     views: &'a Views,
 ) -> Result<Choice<'a>, AllocError>
     requires { is_run_time moment ≡ true }
-    ensures { IfOk result (λ choice. act_of moment certificate.now views.now.secret choice ≡ table.issuing_of moment views.now.next views.now.secret views.now.requests (Some certificate.now)) }
+    ensures { IfOk result (λ choice. issuing_act_of moment certificate.now views.now.secret choice ≡ table.issuing_of moment views.now.next views.now.secret views.now.requests (Some certificate.now)) }
 {
     if !is_issuing(certificate) {
         return Ok(Choice::Nothing);

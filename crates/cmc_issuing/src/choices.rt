@@ -3,7 +3,7 @@ ghost use Rattle.std.specs.Prelude.{◌≡◌, ◌↔◌, ℤ, IfOk, IsTrue, Opt
 ghost use Rattle.cmc_objects.specs.declared.certificate.Certificate.{Certificate as CertificateValue};
 ghost use Rattle.cmc_objects.specs.declared.secret.Secret.{Secret as SecretValue};
 ghost use Rattle.cmc_pass.specs.declared.pass.Act.TheVariants.{Nothing};
-ghost use Rattle.cmc_issuing.specs.Choosing.{act_of};
+ghost use Rattle.cmc_issuing.specs.Choosing.{issuing_act_of};
 ghost use Rattle.cmc_rules.specs.NextRequests.{HasNextRevision};
 
 use crate::plans::{issue_plan, temporary_plan};
@@ -37,7 +37,7 @@ pub enum Choice<'a> {
 /// Whether nothing is chosen, at whatever moment and for whatever Certificate and Secret.
 #[tactic(auto, unfolding(cmc_rules::specs::Issuing::failure))]
 pub fn is_nothing(choice: &Choice<'_>) -> bool
-    ensures { (moment : ℤ) (certificate : CertificateValue) (target : Option SecretValue) → IsTrue result ↔ (act_of moment certificate target choice.now ≡ Nothing) }
+    ensures { (moment : ℤ) (certificate : CertificateValue) (target : Option SecretValue) → IsTrue result ↔ (issuing_act_of moment certificate target choice.now ≡ Nothing) }
 {
     matches!(choice, Choice::Nothing)
 }
@@ -55,7 +55,7 @@ pub fn build(
     choice: &Choice<'_>,
 ) -> Result<Act, AllocError>
     requires { HasNextRevision (Some certificate.now) }
-    ensures { IfOk result (λ a. a ≡ act_of moment certificate.now target.now choice.now) }
+    ensures { IfOk result (λ a. a ≡ issuing_act_of moment certificate.now target.now choice.now) }
 {
     match choice {
         Choice::Nothing => Ok(Act::Nothing),

@@ -27,8 +27,8 @@ fn secret_with(
     request: &CertificateRequest,
 ) -> Result<Call, AllocError>
     requires time { is_run_time moment ≡ true }
-    requires plan { IsSome (calls.secret_of (table.with_wanted moment certificate.now file.now target.now request.now)) }
-    ensures { IfOk result (λ call. calls.secret_of (table.with_wanted moment certificate.now file.now target.now request.now) ≡ Some call) }
+    requires plan { IsSome (calls.secret_call_of (table.with_wanted moment certificate.now file.now target.now request.now)) }
+    ensures { IfOk result (λ call. calls.secret_call_of (table.with_wanted moment certificate.now file.now target.now request.now) ≡ Some call) }
 {
     if is_granted(request) {
         return issued_secret(alloc, certificate, file, request, target);
@@ -54,8 +54,8 @@ fn secret_from(
     file: Option<&Bytes>,
 ) -> Result<Call, AllocError>
     requires time { is_run_time moment ≡ true }
-    requires plan { IsSome (calls.secret_of (table.with_file moment certificate.now target.now requests.now (option_copied file))) }
-    ensures { IfOk result (λ call. calls.secret_of (table.with_file moment certificate.now target.now requests.now (option_copied file.entry)) ≡ Some call) }
+    requires plan { IsSome (calls.secret_call_of (table.with_file moment certificate.now target.now requests.now (option_copied file))) }
+    ensures { IfOk result (λ call. calls.secret_call_of (table.with_file moment certificate.now target.now requests.now (option_copied file.entry)) ≡ Some call) }
 {
     let Some(file) = file else { unreachable!() };
     let request = next_request(certificate.status.revision, requests);
@@ -74,8 +74,8 @@ fn secret_by(
     key: Option<&Shared<Secret>>,
 ) -> Result<Call, AllocError>
     requires time { is_run_time moment ≡ true }
-    requires plan { IsSome (calls.secret_of (table.with_key_of moment certificate.now target.now requests.now (option_copied key))) }
-    ensures { IfOk result (λ call. calls.secret_of (table.with_key_of moment certificate.now target.now requests.now (option_copied key.entry)) ≡ Some call) }
+    requires plan { IsSome (calls.secret_call_of (table.with_key_of moment certificate.now target.now requests.now (option_copied key))) }
+    ensures { IfOk result (λ call. calls.secret_call_of (table.with_key_of moment certificate.now target.now requests.now (option_copied key.entry)) ≡ Some call) }
 {
     match key {
         Some(key) => secret_from(alloc, moment, certificate, target, requests, key_in(key)),
@@ -93,8 +93,8 @@ fn secret_by(
 /// Want of memory alone.
 pub fn secret_of(alloc: Global, views: &Views, now: i64) -> Result<Call, AllocError>
     requires time { is_run_time now ≡ true }
-    requires plan { IsSome (calls.secret_of (table.issuing views.now now)) }
-    ensures { IfOk result (λ call. calls.secret_of (table.issuing views.now now) ≡ Some call) }
+    requires plan { IsSome (calls.secret_call_of (table.issuing views.now now)) }
+    ensures { IfOk result (λ call. calls.secret_call_of (table.issuing views.now now) ≡ Some call) }
 {
     let Some(certificate) = &views.certificate else {
         unreachable!()
@@ -121,8 +121,8 @@ pub fn secret_of(alloc: Global, views: &Views, now: i64) -> Result<Call, AllocEr
 /// Want of memory alone.
 pub fn status_of(alloc: Global, views: &Views, now: i64) -> Result<Call, AllocError>
     requires revision { HasNextRevision views.now.certificate }
-    requires plan { IsSome (calls.status_of (table.issuing views.now now)) }
-    ensures { IfOk result (λ call. calls.status_of (table.issuing views.now now) ≡ Some call) }
+    requires plan { IsSome (calls.status_call_of (table.issuing views.now now)) }
+    ensures { IfOk result (λ call. calls.status_call_of (table.issuing views.now now) ≡ Some call) }
 {
     match &views.certificate {
         Some(certificate) => issued_call(alloc, now, certificate),

@@ -4,10 +4,10 @@ use Rattle.cmc_objects.specs.declared.role.Role.TheVariants.{KeyManager}
 use Rattle.cmc_pass.specs.declared.pass.Views.{Views}
 use Rattle.cmc_pass.specs.declared.pass.Desk.{Desk}
 use Rattle.cmc_rules.specs.KeyManaging.{key_manager, key_after}
-use Rattle.cmc_rules.specs.Sound.{shown, IsSoundTable}
+use Rattle.cmc_rules.specs.Sound.{views_shown, IsSoundTable}
 use Rattle.cmc_keymanager.proofs.Table.{within, stays, none}
 
-told : (seen : Views) (desk : Desk) → key_manager seen desk ≡ key_manager (shown KeyManager seen) desk
+told : (seen : Views) (desk : Desk) → key_manager seen desk ≡ key_manager (views_shown KeyManager seen) desk
 unfolding key_manager
 told seen desk = refl
 

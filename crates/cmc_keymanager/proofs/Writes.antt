@@ -15,7 +15,7 @@ use Rattle.cmc_rules.specs.Viewing.{has_next_label}
 use Rattle.cmc_rules.specs.KeyManaging.{name_call, drop_call, key_secret, make_call, key_after}
 use Rattle.cmc_rules.specs.Owning.{owned_meta}
 use Rattle.cmc_rules.specs.Sighting.{IsAmong, OnSeen}
-use Rattle.cmc_rules.specs.Sound.{IsOrdinary, IsAnswer, IsWithin}
+use Rattle.cmc_rules.specs.Sound.{IsOrdinary, IsWriteAfterValue, IsWithin}
 use Rattle.cmc_rules.proofs.Sights.{seen_certificate, seen_next}
 
 -- the name of the next key
@@ -71,7 +71,7 @@ making seen now c file = λ name. record {
   passes = λ taken. refl;
 }
 
-pub making_given : (seen : Views) (now : ℤ) (value : Value) (c : Certificate) (file : List ℕ) → OnSeen (IsAnswer KeyManager seen now value) seen (make_call c file)
+pub making_given : (seen : Views) (now : ℤ) (value : Value) (c : Certificate) (file : List ℕ) → OnSeen (IsWriteAfterValue KeyManager seen now value) seen (make_call c file)
 unfolding make_call key_secret owned_meta created named refusing_rule OnSeen
 making_given seen now value c file = λ name. record {
   makes = λ next at. record {

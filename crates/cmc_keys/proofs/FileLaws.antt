@@ -8,7 +8,7 @@ use Rattle.cmc_der.specs.Keys.{PublicKey}
 use Rattle.cmc_der.proofs.Sizes.{value_size, integer_size}
 use Rattle.cmc_x509.specs.Taking.{BeginsOtherwise}
 use Rattle.cmc_x509.specs.PublicKeys.{AlgorithmIdentifier, BeginsWithAlgorithm, NamesCurve, IsPoint}
-use Rattle.cmc_x509.specs.KeyFiles.{IsIntegers, IsRsaPrivateKey, IsEcPrivateKey, IsHeldKey, IsPrivateKeyInfo}
+use Rattle.cmc_x509.specs.KeyFiles.{IsIntegers, IsRsaPrivateKey, IsEcPrivateKey, IsPrivateKeyOf, IsPrivateKeyInfo}
 use Rattle.cmc_keys.specs.Files.{one, public_key, rsa_private_key, ec_private_key, bare_ec_private_key, private_key_info}
 use Rattle.cmc_der.proofs.SmallValues.{IsSmall, contents_small, front_small, back_small, value_is, value_first, value_last}
 
@@ -148,7 +148,7 @@ bare_ec_file curve secret point is_point small =
 
 -- ---- PrivateKeyInfo
 
-pub info_file : (oid : List ℕ) (tag : ℕ) (parameter held : List ℕ) (key : PublicKey) → tag % 32 ≢ 31 → IsHeldKey (record { oid = oid; parameter = Some (tag, parameter) }) held key → IsSmall (private_key_info oid tag parameter held) → IsPrivateKeyInfo (private_key_info oid tag parameter held) key
+pub info_file : (oid : List ℕ) (tag : ℕ) (parameter held : List ℕ) (key : PublicKey) → tag % 32 ≢ 31 → IsPrivateKeyOf (record { oid = oid; parameter = Some (tag, parameter) }) held key → IsSmall (private_key_info oid tag parameter held) → IsPrivateKeyInfo (private_key_info oid tag parameter held) key
 unfolding private_key_info
 info_file oid tag parameter held key low holds small =
     let algorithm : AlgorithmIdentifier = record { oid = oid; parameter = Some (tag, parameter) } in

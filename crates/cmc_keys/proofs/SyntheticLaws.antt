@@ -5,7 +5,7 @@ use Rattle.std.proofs.lemmas.Bool.{cases_Bool, eqb-true}
 use Rattle.std.specs.Int.{w64, to_be_bytes}
 use Rattle.cmc_der.specs.declared.fields.KeyKind.{KeyKind}
 use Rattle.cmc_der.specs.declared.fields.KeyKind.TheVariants as kinds
-use Rattle.cmc_der.specs.Keys.{RsaKey, EcKey, kind_of}
+use Rattle.cmc_der.specs.Keys.{RsaKey, EcKey, key_kind_of}
 use Rattle.cmc_x509.specs.PublicKeys.{width, NamesCurve, IsPoint}
 use Rattle.cmc_x509.specs.KeyFiles.{IsKeyFile}
 use Rattle.cmc_objects.specs.declared.key_spec.Algorithm.{Algorithm}
@@ -15,7 +15,7 @@ use Rattle.cmc_objects.specs.declared.key_spec.Encoding.TheVariants.{Pkcs1, Pkcs
 use Rattle.cmc_keys.specs.Kinds.{allows_size, algorithm_of, size_of, IsKeyOf}
 use Rattle.cmc_keys.specs.declared.oids.TheConstants.{RSA_ENCRYPTION, EC_PUBLIC_KEY}
 use Rattle.cmc_keys.specs.Files.{rsa_private_key, ec_private_key, bare_ec_private_key, private_key_info}
-use Rattle.cmc_keys.specs.Synthetic.{number_octets, width_of, modulus_of, secret_of, point_of, curve_oid, synthetic_key}
+use Rattle.cmc_keys.specs.Synthetic.{number_octets, width_of, modulus_of, private_octets_of, point_of, curve_oid_of_size, synthetic_key}
 use Rattle.cmc_der.proofs.SmallValues.{IsSmall}
 use Rattle.cmc_keys.proofs.FileLaws.{rsa_size, ec_size, bare_ec_size, info_size, rsa_file, ec_file, bare_ec_file, info_file}
 
@@ -61,37 +61,37 @@ rsa_key_is size number encoding whole most least =
 
 -- what a curve of a width is
 record IsCurveOf (curve : KeyKind) (size : ℕ) : Type 0 where
-  pub kind_is : kind_of (EcKey curve []) ≡ Some curve
+  pub kind_is : key_kind_of (EcKey curve []) ≡ Some curve
   pub algorithm_is : algorithm_of curve ≡ Ecdsa
   pub size_is : size_of curve ≡ size
   pub width_is : width curve ≡ width_of size
-  pub named : NamesCurve (curve_oid size) curve
-  pub short : length (curve_oid size) ≤ 8
+  pub named : NamesCurve (curve_oid_of_size size) curve
+  pub short : length (curve_oid_of_size size) ≤ 8
   pub least : 57 ≤ size
   pub most : size < 10000
 
 ec_point_is : (curve : KeyKind) (size number : ℕ) → IsCurveOf curve size → IsPoint curve (point_of size number)
 ec_point_is curve size number is =
     let wide = number_size (width_of size) number (omega (arith, is.least)) in
-    let secret = secret_of size number in
+    let secret = private_octets_of size number in
     (secret ++ secret, refl, rw is.width_is (omega (arith, wide, length-append secret secret)))
 
 ec_file_is : (curve : KeyKind) (size number : ℕ) (encoding : Encoding) → IsCurveOf curve size → IsKeyFile (synthetic_key Ecdsa size encoding number) (EcKey curve (point_of size number))
 ec_file_is curve size number Pkcs1 is =
-    let secret = secret_of size number in
+    let secret = private_octets_of size number in
     let point = point_of size number in
     let wide = number_size (width_of size) number (omega (arith, is.least)) in
-    let small : IsSmall (ec_private_key (curve_oid size) secret point) = omega (arith, is.short, is.most, ec_size (curve_oid size) secret point, wide, length-append secret secret) in
-    (small, inl (ec_file curve (curve_oid size) secret point is.named (ec_point_is curve size number is) small))
+    let small : IsSmall (ec_private_key (curve_oid_of_size size) secret point) = omega (arith, is.short, is.most, ec_size (curve_oid_of_size size) secret point, wide, length-append secret secret) in
+    (small, inl (ec_file curve (curve_oid_of_size size) secret point is.named (ec_point_is curve size number is) small))
 ec_file_is curve size number Pkcs8 is =
-    let secret = secret_of size number in
+    let secret = private_octets_of size number in
     let point = point_of size number in
     let wide = number_size (width_of size) number (omega (arith, is.least)) in
     let held = bare_ec_private_key secret point in
     let small : IsSmall held = omega (arith, is.most, bare_ec_size secret point, wide, length-append secret secret) in
-    let whole : IsSmall (private_key_info EC_PUBLIC_KEY 6 (curve_oid size) held) = omega (arith, is.short, is.most, info_size EC_PUBLIC_KEY 6 (curve_oid size) held, bare_ec_size secret point, wide, length-append secret secret) in
+    let whole : IsSmall (private_key_info EC_PUBLIC_KEY 6 (curve_oid_of_size size) held) = omega (arith, is.short, is.most, info_size EC_PUBLIC_KEY 6 (curve_oid_of_size size) held, bare_ec_size secret point, wide, length-append secret secret) in
     let stands = bare_ec_file curve secret point (ec_point_is curve size number is) small in
-    (whole, inr (info_file EC_PUBLIC_KEY 6 (curve_oid size) held (EcKey curve point) (λ e. omega arith) (refl, (Some curve, (curve_oid size, refl, is.named), stands)) whole))
+    (whole, inr (info_file EC_PUBLIC_KEY 6 (curve_oid_of_size size) held (EcKey curve point) (λ e. omega arith) (refl, (Some curve, (curve_oid_of_size size, refl, is.named), stands)) whole))
 
 ec_key_is : (curve : KeyKind) (size number : ℕ) (encoding : Encoding) → IsCurveOf curve size → IsKeyOf Ecdsa size (synthetic_key Ecdsa size encoding number)
 ec_key_is curve size number encoding is = record {

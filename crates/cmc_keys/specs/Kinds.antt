@@ -2,7 +2,7 @@
 use Rattle.std.specs.Prelude.{◌≡◌, ℕ, ◌==◌, ◌||◌, ◌&&◌, Bool, true, false, List, Option, Some, None}
 use Rattle.cmc_der.specs.declared.fields.KeyKind.{KeyKind}
 use Rattle.cmc_der.specs.declared.fields.KeyKind.TheVariants as kinds
-use Rattle.cmc_der.specs.Keys.{PublicKey, kind_of}
+use Rattle.cmc_der.specs.Keys.{PublicKey, key_kind_of}
 use Rattle.cmc_x509.specs.KeyFiles.{IsKeyFile}
 use Rattle.cmc_x509.specs.ReadKeys.{key_file_at}
 use Rattle.cmc_objects.specs.declared.key_spec.Algorithm.{Algorithm}
@@ -30,7 +30,7 @@ pub record IsKeyOf (algorithm : Algorithm) (size : ℕ) (octets : List ℕ) : Ty
   pub key : PublicKey
   pub kind : KeyKind
   pub file : IsKeyFile octets key
-  pub kind_is : kind_of key ≡ Some kind
+  pub kind_is : key_kind_of key ≡ Some kind
   pub algorithm_is : algorithm_of kind ≡ algorithm
   pub size_is : size_of kind ≡ size
 
@@ -47,7 +47,7 @@ is_kind_of algorithm size (Some kind) = is_same_algorithm (algorithm_of kind) al
 
 abbrev pub is_public_of : Algorithm → ℕ → Option PublicKey → Bool
 is_public_of algorithm size None = false
-is_public_of algorithm size (Some key) = is_kind_of algorithm size (kind_of key)
+is_public_of algorithm size (Some key) = is_kind_of algorithm size (key_kind_of key)
 
 unfoldable pub is_key_of : Algorithm → ℕ → List ℕ → Bool
 is_key_of algorithm size octets = is_public_of algorithm size (key_file_at octets)

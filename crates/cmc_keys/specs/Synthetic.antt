@@ -21,16 +21,16 @@ abbrev pub modulus_of : ℕ → ℕ → List ℕ
 modulus_of size number = 128 ∷ number_octets (width_of size - 1) number
 
 -- the private octets of a curve's key are the number in the curve's width
-abbrev pub secret_of : ℕ → ℕ → List ℕ
-secret_of size number = number_octets (width_of size) number
+abbrev pub private_octets_of : ℕ → ℕ → List ℕ
+private_octets_of size number = number_octets (width_of size) number
 
 -- so are both coordinates of its point, which stands without compression (RFC 5480, 2.2)
 abbrev pub point_of : ℕ → ℕ → List ℕ
-point_of size number = 4 ∷ (secret_of size number ++ secret_of size number)
+point_of size number = 4 ∷ (private_octets_of size number ++ private_octets_of size number)
 
 -- the OID of the curve of this width
-abbrev pub curve_oid : ℕ → List ℕ
-curve_oid size = if size == 256 then SECP256R1 else (if size == 384 then SECP384R1 else SECP521R1)
+abbrev pub curve_oid_of_size : ℕ → List ℕ
+curve_oid_of_size size = if size == 256 then SECP256R1 else (if size == 384 then SECP384R1 else SECP521R1)
 
 -- the stand-in key of this algorithm, size, encoding and number
 abbrev pub synthetic_key : Algorithm → ℕ → Encoding → ℕ → List ℕ
@@ -38,6 +38,6 @@ synthetic_key Rsa size Pkcs1 number = rsa_private_key (modulus_of size number)
 synthetic_key Rsa size Pkcs8 number =
     private_key_info RSA_ENCRYPTION 5 [] (rsa_private_key (modulus_of size number))
 synthetic_key Ecdsa size Pkcs1 number =
-    ec_private_key (curve_oid size) (secret_of size number) (point_of size number)
+    ec_private_key (curve_oid_of_size size) (private_octets_of size number) (point_of size number)
 synthetic_key Ecdsa size Pkcs8 number =
-    private_key_info EC_PUBLIC_KEY 6 (curve_oid size) (bare_ec_private_key (secret_of size number) (point_of size number))
+    private_key_info EC_PUBLIC_KEY 6 (curve_oid_of_size size) (bare_ec_private_key (private_octets_of size number) (point_of size number))

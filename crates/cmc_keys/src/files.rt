@@ -1,6 +1,6 @@
 //! Files of private keys, written in DER.
 ghost use Rattle.std.specs.Prelude.{◌≡◌, ◌≢◌, ◌+◌, ◌%◌, ◌^◌, ◌<◌, ◌∷◌, [], length, IfOk, OnOk};
-ghost use Rattle.cmc_der.specs.Building.{added, begun, closed};
+ghost use Rattle.cmc_der.specs.Building.{value_added, value_begun, value_closed};
 ghost use Rattle.cmc_keys.specs.Files as spec;
 
 use cmc_der::Writer;
@@ -10,7 +10,7 @@ use std::alloc::{AllocError, Global};
 fn put_three_ones(writer: &mut Writer, alloc: Global) -> Result<(), AllocError>
     requires { writer.old.len + 27 < 2 ^ 31 }
     ensures { OnOk result (writer.new
-        ≡ added 2 (1 ∷ []) 1 (added 2 (1 ∷ []) 1 (added 2 (1 ∷ []) 1 writer.old))) }
+        ≡ value_added 2 (1 ∷ []) 1 (value_added 2 (1 ∷ []) 1 (value_added 2 (1 ∷ []) 1 writer.old))) }
 {
     writer.integer(alloc, &[1])?;
     writer.integer(alloc, &[1])?;
@@ -39,7 +39,7 @@ pub fn rsa_private_key(alloc: Global, modulus: &[u8]) -> Result<Vec<u8>, AllocEr
 fn put_public_key(writer: &mut Writer, alloc: Global, point: &[u8]) -> Result<(), AllocError>
     requires { writer.old.len + length point.now + 16 < 2 ^ 31 }
     ensures { OnOk result (writer.new
-        ≡ closed (added 3 (0 ∷ point.now) (length point.now) (begun 161 writer.old))) }
+        ≡ value_closed (value_added 3 (0 ∷ point.now) (length point.now) (value_begun 161 writer.old))) }
 {
     writer.begin(alloc, 161)?;
     writer.bits(alloc, point)?;

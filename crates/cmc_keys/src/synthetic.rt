@@ -45,7 +45,7 @@ fn modulus_of(alloc: Global, size: u32, number: u64) -> Result<Vec<u8>, AllocErr
 fn secret_of(alloc: Global, size: u32, number: u64) -> Result<Vec<u8>, AllocError>
     requires least { 72 ≤ size }
     requires most { size < 2 ^ 14 }
-    ensures value { IfOk result (λ octets. octets.items ≡ spec.secret_of size number) }
+    ensures value { IfOk result (λ octets. octets.items ≡ spec.private_octets_of size number) }
     ensures short { IfOk result (λ octets. length octets.items < 2 ^ 12) }
 {
     number_octets(alloc, width_of(size), number)
@@ -64,7 +64,7 @@ fn point_of(alloc: Global, coordinate: &[u8]) -> Result<Vec<u8>, AllocError>
 
 // The OID of the curve of this width.
 fn curve_oid(size: u32) -> &'static [u8]
-    ensures value { result.now ≡ spec.curve_oid size }
+    ensures value { result.now ≡ spec.curve_oid_of_size size }
     ensures short { length result.now ≤ 8 }
 {
     if size == 256 {

@@ -17,7 +17,7 @@ use Rattle.cmc_objects.specs.declared.entry.Entry.TheVariants as entries
 use Rattle.cmc_summary.specs.declared.summary.Summary.{Summary}
 use Rattle.cmc_report.specs.Trees.{entry_tree, summary_tree, counts_tree, put_call, put_told, put_begin}
 use Rattle.cmc_lines.specs.declared.line.PrintedLine.{PrintedLine}
-use Rattle.cmc_line_reading.specs.Histories.{IsLine, IsLineOf, IsSummary, IsSummaryOf, IsOneLine, IsRest, GoesOn, GoesWrong, EndsEarly, ended}
+use Rattle.cmc_line_reading.specs.Histories.{IsLine, IsLineOf, IsSummary, IsSummaryOf, IsOneLine, IsRest, GoesOn, GoesWrong, EndsEarly, text_of_lines}
 use Rattle.cmc_line_reading.specs.Bodies.{IsCut, AreEntries, IsReadSoFar, IsBodyOf, AreRest, BodyFails}
 
 -- ---- no line is both that of an entry and a summary
@@ -147,14 +147,14 @@ pub all_more : (lines : List (List ℕ)) (line : List ℕ) → AllByRecursion Is
 all_more [] line all is = (is, tt)
 all_more (l ∷ ls) line all is = (all.0, all_more ls line all.1 is)
 
-pub ended_more : (lines : List (List ℕ)) (line : List ℕ) → ended (lines ++ line ∷ []) ≡ ended lines ++ (line ++ 10 ∷ [])
-ended_more lines line = flat_map-append (λ l. l ++ 10 ∷ []) lines (line ∷ []) ∙ ap (λ t. ended lines ++ t) (append-nil (line ++ 10 ∷ []))
+pub ended_more : (lines : List (List ℕ)) (line : List ℕ) → text_of_lines (lines ++ line ∷ []) ≡ text_of_lines lines ++ (line ++ 10 ∷ [])
+ended_more lines line = flat_map-append (λ l. l ++ 10 ∷ []) lines (line ∷ []) ∙ ap (λ t. text_of_lines lines ++ t) (append-nil (line ++ 10 ∷ []))
 
 -- a line that was cut off goes to the lines before it
-pub taken : (text left line later : List ℕ) (lines : List (List ℕ)) → text ≡ ended lines ++ left → left ≡ line ++ 10 ∷ later → text ≡ ended (lines ++ line ∷ []) ++ later
+pub taken : (text left line later : List ℕ) (lines : List (List ℕ)) → text ≡ text_of_lines lines ++ left → left ≡ line ++ 10 ∷ later → text ≡ text_of_lines (lines ++ line ∷ []) ++ later
 taken text left line later lines parts cut =
-    parts ∙ ap (λ t. ended lines ++ t) cut ∙ ap (λ t. ended lines ++ t) (sym (append_assoc line (10 ∷ []) later))
-    ∙ sym (append_assoc (ended lines) (line ++ 10 ∷ []) later) ∙ ap (λ t. t ++ later) (sym (ended_more lines line))
+    parts ∙ ap (λ t. text_of_lines lines ++ t) cut ∙ ap (λ t. text_of_lines lines ++ t) (sym (append_assoc line (10 ∷ []) later))
+    ∙ sym (append_assoc (text_of_lines lines) (line ++ 10 ∷ []) later) ∙ ap (λ t. t ++ later) (sym (ended_more lines line))
 
 pub at_first : (text : List ℕ) → IsReadSoFar text text []
 at_first text = record { lines = []; parts = refl; one_each = tt; are = tt }
@@ -182,7 +182,7 @@ goes_wrong text left line later es n number numbered placed cut no_entry no_summ
     here = inl (record {
       line = line;
       later = later;
-      parts = so_far.parts ∙ ap (λ t. ended so_far.lines ++ t) cut.whole;
+      parts = so_far.parts ∙ ap (λ t. text_of_lines so_far.lines ++ t) cut.whole;
       is_one = cut.is_one;
       wrong = λ stand. neither (stands_by 1 so_far.lines es line so_far.are stand);
     });
@@ -213,7 +213,7 @@ all_read : (text left line : List ℕ) (es : List PrintedLine) (counts : List �
 all_read text left line es counts cut is so_far = record {
   lines = so_far.lines ++ line ∷ [];
   is = record {
-    whole = taken text left line [] so_far.lines so_far.parts cut.whole ∙ append-nil (ended (so_far.lines ++ line ∷ []));
+    whole = taken text left line [] so_far.lines so_far.parts cut.whole ∙ append-nil (text_of_lines (so_far.lines ++ line ∷ []));
     one_each = all_more so_far.lines line so_far.one_each cut.is_one;
   };
   are = closed 1 so_far.lines es line counts so_far.are is;
@@ -257,7 +257,7 @@ goes_past text left line later es counts n number numbered placed some cut is so
     by_first (inl first) = inl (record {
       line = first.line;
       later = first.later;
-      parts = taken text left line later so_far.lines so_far.parts cut.whole ∙ ap (λ t. ended (so_far.lines ++ line ∷ []) ++ t) first.cut.whole;
+      parts = taken text left line later so_far.lines so_far.parts cut.whole ∙ ap (λ t. text_of_lines (so_far.lines ++ line ∷ []) ++ t) first.cut.whole;
       is_one = first.cut.is_one;
       wrong = λ stand. nothing_behind 1 so_far.lines es line first.line so_far.are (counts, is) (subst (GoesOn 1) (append_assoc so_far.lines (line ∷ []) (first.line ∷ [])) stand);
     })

@@ -9,7 +9,7 @@ use Rattle.cmc_cursor.specs.Reading.{Path, Read, Gives}
 use Rattle.cmc_cursor.specs.declared.error.BadField.{BadField}
 use Rattle.cmc_cursor.specs.declared.error.BadField.TheVariants as bad
 use Rattle.cmc_report.specs.Trees.{entry_tree}
-use Rattle.cmc_lines.specs.Shown.{shown}
+use Rattle.cmc_lines.specs.Shown.{line_of_entry}
 use Rattle.cmc_lines.specs.LineTree.{line_tree}
 use Rattle.cmc_lines.specs.declared.line.PrintedLine.{PrintedLine}
 use Rattle.cmc_lines.proofs.LineLaws.{shows_all}
@@ -45,7 +45,7 @@ too_deep text d deep is = deep (depth-read text d is.0.1)
 -- what a line that is there says is read of its value
 pub read_of_line : (n : ℕ) (text : List ℕ) (d : Data) (line : PrintedLine) → IsJson text d → IsLineOf n text line → line_at d ≡ Ok line
 read_of_line n text d line value is =
-    let same : d ≡ line_tree n (shown is.entry) = one_value text d (entry_tree n is.entry) value is.is.0 ∙ sym (shows_all n is.entry) in
+    let same : d ≡ line_tree n (line_of_entry is.entry) = one_value text d (entry_tree n is.entry) value is.is.0 ∙ sym (shows_all n is.entry) in
     ap line_at same ∙ line_again n is.entry is.form ∙ ap (λ (p : PrintedLine). Ok p) is.shows
 
 pub not_read : (n : ℕ) (text : List ℕ) (d : Data) (path : Path) → IsJson text d → line_at d ≡ Err path → IsLine n text → ⊥

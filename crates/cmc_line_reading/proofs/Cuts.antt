@@ -3,7 +3,7 @@ use Rattle.std.proofs.Common.{◌≡◌, ◌⊎◌, inl, inr, ℕ, suc, ◌+◌,
 use Rattle.std.specs.List.{AllByRecursion}
 use Rattle.cmc_lines.specs.declared.line.PrintedLine.{PrintedLine}
 use Rattle.cmc_setup.specs.declared.scenario.Scenario.{Scenario}
-use Rattle.cmc_line_reading.specs.Histories.{IsOneLine, IsRest, GoesOn, CanBegin, AreLines, AreLinesOf, IsHistory, FailsAt, GoesWrong, EndsEarly, ended}
+use Rattle.cmc_line_reading.specs.Histories.{IsOneLine, IsRest, GoesOn, CanBegin, AreLines, AreLinesOf, IsHistory, HistoryFailsAt, GoesWrong, EndsEarly, text_of_lines}
 use Rattle.cmc_line_reading.proofs.Bodies.{all_more, taken}
 
 first_other : (c : ℕ) (cs : List ℕ) → IsOneLine (c ∷ cs) → (c == 10) ≡ false
@@ -33,8 +33,8 @@ has_feed [] later one = feed_is_feed 10 (first_other 10 later one) refl
 has_feed (c ∷ cs) later one = has_feed cs later (later_one c (cs ++ 10 ∷ later) one)
 
 -- the first line, and all that comes behind it
-pub apart : (line : List ℕ) (lines : List (List ℕ)) (rest : List ℕ) → ended (line ∷ lines) ++ rest ≡ line ++ 10 ∷ (ended lines ++ rest)
-apart line lines rest = append_assoc (line ++ 10 ∷ []) (ended lines) rest ∙ append_assoc line (10 ∷ []) (ended lines ++ rest)
+pub apart : (line : List ℕ) (lines : List (List ℕ)) (rest : List ℕ) → text_of_lines (line ∷ lines) ++ rest ≡ line ++ 10 ∷ (text_of_lines lines ++ rest)
+apart line lines rest = append_assoc (line ++ 10 ∷ []) (text_of_lines lines) rest ∙ append_assoc line (10 ∷ []) (text_of_lines lines ++ rest)
 
 pub some_text : (line later : List ℕ) → line ++ 10 ∷ later ≡ [] → ⊥
 some_text [] later e = cc
@@ -44,13 +44,13 @@ some_text (c ∷ cs) later e = cc
 pub record GoOn (lines others : List (List ℕ)) (rest : List ℕ) : Type 0 where
   pub more : List (List ℕ)
   pub same : others ≡ lines ++ more
-  pub left : rest ≡ ended more
+  pub left : rest ≡ text_of_lines more
 
-pub go_on : (lines others : List (List ℕ)) (rest : List ℕ) → AllByRecursion IsOneLine lines → AllByRecursion IsOneLine others → ended lines ++ rest ≡ ended others → GoOn lines others rest
+pub go_on : (lines others : List (List ℕ)) (rest : List ℕ) → AllByRecursion IsOneLine lines → AllByRecursion IsOneLine others → text_of_lines lines ++ rest ≡ text_of_lines others → GoOn lines others rest
 go_on [] others rest one two e = record { more = others; same = refl; left = e }
-go_on (l ∷ ls) [] rest one two e = absurd (some_text l (ended ls ++ rest) (sym (apart l ls rest) ∙ e))
+go_on (l ∷ ls) [] rest one two e = absurd (some_text l (text_of_lines ls ++ rest) (sym (apart l ls rest) ∙ e))
 go_on (l ∷ ls) (m ∷ ms) rest one two e =
-    let cut = same_cut l m (ended ls ++ rest) (ended ms) one.0 two.0 (sym (apart l ls rest) ∙ e ∙ append_assoc m (10 ∷ []) (ended ms)) in
+    let cut = same_cut l m (text_of_lines ls ++ rest) (text_of_lines ms) one.0 two.0 (sym (apart l ls rest) ∙ e ∙ append_assoc m (10 ∷ []) (text_of_lines ms)) in
     let later = go_on ls ms rest one.1 two.1 cut.backs in
     record { more = later.more; same = ap (λ (x : List ℕ). x ∷ ms) (sym cut.fronts) ∙ ap (λ (xs : List (List ℕ)). l ∷ xs) later.same; left = later.left }
 
@@ -78,9 +78,9 @@ goes_wrong text lines one wrong history =
     wrong.wrong (begins (lines ++ wrong.line ∷ []) there.more history.0 history.1 history.2
     (subst (λ (ls : List (List ℕ)). AreLinesOf ls history.0 history.1 history.2) there.same is.are))
 
-ends_there : (text : List ℕ) (lines more others : List (List ℕ)) (early : EndsEarly AreLines text lines) → others ≡ lines ++ more → early.rest ≡ ended more → AreLines others → ⊥
+ends_there : (text : List ℕ) (lines more others : List (List ℕ)) (early : EndsEarly AreLines text lines) → others ≡ lines ++ more → early.rest ≡ text_of_lines more → AreLines others → ⊥
 ends_there text lines [] others early same left are = early.missing left (subst AreLines (same ∙ append-nil lines) are)
-ends_there text lines (m ∷ ms) others early same left are = has_feed m (ended ms) (subst IsOneLine (left ∙ append_assoc m (10 ∷ []) (ended ms)) early.is_one)
+ends_there text lines (m ∷ ms) others early same left are = has_feed m (text_of_lines ms) (subst IsOneLine (left ∙ append_assoc m (10 ∷ []) (text_of_lines ms)) early.is_one)
 
 ends_early : (text : List ℕ) (lines : List (List ℕ)) → AllByRecursion IsOneLine lines → EndsEarly AreLines text lines → IsHistory text → ⊥
 ends_early text lines one early history =
@@ -93,5 +93,5 @@ fails text lines one (inl wrong) history = goes_wrong text lines one wrong histo
 fails text lines one (inr early) history = ends_early text lines one early history
 
 -- a text that fails at some line is not that of a history
-pub never_history : (text : List ℕ) (number : ℕ) → FailsAt text number → IsHistory text → ⊥
+pub never_history : (text : List ℕ) (number : ℕ) → HistoryFailsAt text number → IsHistory text → ⊥
 never_history text number at history = fails text at.before at.one_each at.here history

@@ -7,11 +7,11 @@ use Rattle.cmc_setup.specs.declared.scenario.Scenario.{Scenario}
 use Rattle.cmc_scenario.specs.Scenarios.{scenario_at}
 use Rattle.cmc_cursor.specs.Reading.{Read}
 use Rattle.cmc_summary.specs.declared.summary.Summary.{Summary}
-use Rattle.cmc_summary_form.specs.SummaryForm.{summary_at}
+use Rattle.cmc_summary_form.specs.SummaryForm.{summary_read_at}
 use Rattle.cmc_report.specs.Trees.{entry_tree, summary_tree}
 use Rattle.cmc_lines.specs.declared.line.PrintedLine.{PrintedLine}
 use Rattle.cmc_entry_form.specs.LineForm.{line_at}
-use Rattle.cmc_line_reading.specs.Histories.{IsJson, IsLineOf, IsSummaryOf, IsScenarioOf, IsOneLine, IsRest, AreLinesOf, IsHistoryOf, counts_of, ended}
+use Rattle.cmc_line_reading.specs.Histories.{IsJson, IsLineOf, IsSummaryOf, IsScenarioOf, IsOneLine, IsRest, AreLinesOf, IsHistoryOf, counts_of, text_of_lines}
 use Rattle.cmc_line_reading.proofs.Bodies.{no_both}
 use Rattle.cmc_line_reading.proofs.Compared.{one_value, read_of_line}
 use Rattle.cmc_line_reading.proofs.Cuts.{GoOn, some_text, apart, go_on}
@@ -20,13 +20,13 @@ use Rattle.cmc_line_reading.proofs.Summaries.{read_of_summary}
 
 -- ---- one way to cut it
 
-no_text : (lines : List (List ℕ)) → [] ≡ ended lines → lines ≡ []
+no_text : (lines : List (List ℕ)) → [] ≡ text_of_lines lines → lines ≡ []
 no_text [] e = refl
-no_text (line ∷ lines) e = absurd (some_text line (ended lines ++ []) (sym (apart line lines []) ∙ append-nil (ended (line ∷ lines)) ∙ sym e))
+no_text (line ∷ lines) e = absurd (some_text line (text_of_lines lines ++ []) (sym (apart line lines []) ∙ append-nil (text_of_lines (line ∷ lines)) ∙ sym e))
 
-one_cut : (lines others : List (List ℕ)) → AllByRecursion IsOneLine lines → AllByRecursion IsOneLine others → ended lines ≡ ended others → lines ≡ others
+one_cut : (lines others : List (List ℕ)) → AllByRecursion IsOneLine lines → AllByRecursion IsOneLine others → text_of_lines lines ≡ text_of_lines others → lines ≡ others
 one_cut lines others one two e =
-    let on = go_on lines others [] one two (append-nil (ended lines) ∙ e) in
+    let on = go_on lines others [] one two (append-nil (text_of_lines lines) ∙ e) in
     sym (on.same ∙ (ap (λ (more : List (List ℕ)). lines ++ more) (no_text on.more on.left) ∙ append-nil lines))
 
 -- ---- one thing that a line says

@@ -8,7 +8,7 @@ use Rattle.cmc_cursor.specs.declared.error.BadField.{BadField}
 use Rattle.cmc_cursor.specs.declared.error.BadField.TheVariants as bad
 use Rattle.cmc_report.specs.Trees.{entry_tree, summary_tree}
 use Rattle.cmc_summary.specs.declared.summary.Summary.{Summary}
-use Rattle.cmc_summary_form.specs.SummaryForm.{summary_at}
+use Rattle.cmc_summary_form.specs.SummaryForm.{summary_read_at}
 use Rattle.cmc_summary_form.proofs.SummarySo.{has_form}
 use Rattle.cmc_summary_form.proofs.SummaryAgain.{summary_again}
 use Rattle.cmc_line_reading.specs.Histories.{IsJson, IsTextOf, IsLine, IsSummary, IsSummaryOf}
@@ -16,19 +16,19 @@ use Rattle.cmc_line_reading.proofs.Compared.{one_value}
 use Rattle.cmc_line_reading.proofs.Bodies.{entry_has_none, summary_has_one}
 
 -- what the line of a summary says is read of its value
-pub read_of_summary : (text : List ℕ) (d : Data) (counts : List ℕ) → IsJson text d → (is : IsSummaryOf text counts) → summary_at d ≡ Ok is.summary
-read_of_summary text d counts value is = ap summary_at (one_value text d (summary_tree is.summary) value is.is.0) ∙ summary_again is.summary is.form
+pub read_of_summary : (text : List ℕ) (d : Data) (counts : List ℕ) → IsJson text d → (is : IsSummaryOf text counts) → summary_read_at d ≡ Ok is.summary
+read_of_summary text d counts value is = ap summary_read_at (one_value text d (summary_tree is.summary) value is.is.0) ∙ summary_again is.summary is.form
 
-not_read : (text : List ℕ) (d : Data) (path : Path) → IsJson text d → summary_at d ≡ Err path → IsSummary text → ⊥
+not_read : (text : List ℕ) (d : Data) (path : Path) → IsJson text d → summary_read_at d ≡ Err path → IsSummary text → ⊥
 not_read text d path value fails is = cc (read_of_summary text d is.0 value is.1, fails)
 
-pub not_given : (text : List ℕ) (d : Data) (e : BadField) (path : Path) → IsJson text d → e ≡ bad.Path path → Gives {X = Summary} (λ t. t) (Err e) (summary_at d) → IsSummary text → ⊥
-not_given text d e path value is gives line = not_read text d path value (subst (λ (b : BadField). Gives {X = Summary} (λ t. t) (Err b) (summary_at d)) is gives) line
+pub not_given : (text : List ℕ) (d : Data) (e : BadField) (path : Path) → IsJson text d → e ≡ bad.Path path → Gives {X = Summary} (λ t. t) (Err e) (summary_read_at d) → IsSummary text → ⊥
+not_given text d e path value is gives line = not_read text d path value (subst (λ (b : BadField). Gives {X = Summary} (λ t. t) (Err b) (summary_read_at d)) is gives) line
 
 abbrev as_read : Summary → Read Summary
 as_read summary = Ok summary
 
-pub not_printed : (text : List ℕ) (d : Data) (summary : Summary) → IsJson text d → summary_at d ≡ Ok summary → (IsTextOf (summary_tree summary) text → ⊥) → IsSummary text → ⊥
+pub not_printed : (text : List ℕ) (d : Data) (summary : Summary) → IsJson text d → summary_read_at d ≡ Ok summary → (IsTextOf (summary_tree summary) text → ⊥) → IsSummary text → ⊥
 not_printed text d summary value reads differs is =
     let same : is.1.summary ≡ summary = ok_same (sym (read_of_summary text d is.0 value is.1) ∙ reads) in
     differs (subst (λ (s : Summary). IsTextOf (summary_tree s) text) same is.1.is)
@@ -36,7 +36,7 @@ not_printed text d summary value reads differs is =
     ok_same : as_read is.1.summary ≡ as_read summary → is.1.summary ≡ summary
     ok_same e = cc
 
-pub printed_summary : (text : List ℕ) (d : Data) (summary : Summary) → summary_at d ≡ Ok summary → IsTextOf (summary_tree summary) text
+pub printed_summary : (text : List ℕ) (d : Data) (summary : Summary) → summary_read_at d ≡ Ok summary → IsTextOf (summary_tree summary) text
     → IsSummaryOf text (summary.certificates ∷ summary.ready ∷ summary.secrets ∷ [])
 printed_summary text d summary reads is = record { summary = summary; form = has_form d summary reads; counted = refl; is = is }
 

@@ -6,20 +6,20 @@ use Rattle.cmc_lines.specs.declared.line.PrintedLine.{PrintedLine}
 use Rattle.cmc_lines.specs.declared.printed.Printed.{Printed}
 use Rattle.cmc_line_reading.specs.declared.history.BadHistory.{BadHistory}
 use Rattle.cmc_line_reading.specs.declared.history.BadHistory.TheVariants as bad
-use Rattle.cmc_line_reading.specs.Histories.{IsScenario, IsScenarioOf, IsOneLine, IsHistory, IsHistoryOf, GoesOn, CanBegin, AreLines, FailsAt, GoesWrong, EndsEarly, IsReading, ended}
+use Rattle.cmc_line_reading.specs.Histories.{IsScenario, IsScenarioOf, IsOneLine, IsHistory, IsHistoryOf, GoesOn, CanBegin, AreLines, HistoryFailsAt, GoesWrong, EndsEarly, IsReading, text_of_lines}
 use Rattle.cmc_line_reading.specs.Bodies.{IsCut, IsBodyOf, IsRestReading, AreRest, BodyFails}
 use Rattle.cmc_line_reading.proofs.Cuts.{never_history}
 
 -- the first line, and lines behind it
-grouped : (line later : List ℕ) (lines : List (List ℕ)) (rest : List ℕ) → later ≡ ended lines ++ rest → line ++ 10 ∷ later ≡ ended (line ∷ lines) ++ rest
+grouped : (line later : List ℕ) (lines : List (List ℕ)) (rest : List ℕ) → later ≡ text_of_lines lines ++ rest → line ++ 10 ∷ later ≡ text_of_lines (line ∷ lines) ++ rest
 grouped line later lines rest parts =
-    ap (λ t. line ++ 10 ∷ t) parts ∙ sym (append_assoc line (10 ∷ []) (ended lines ++ rest)) ∙ sym (append_assoc (line ++ 10 ∷ []) (ended lines) rest)
+    ap (λ t. line ++ 10 ∷ t) parts ∙ sym (append_assoc line (10 ∷ []) (text_of_lines lines ++ rest)) ∙ sym (append_assoc (line ++ 10 ∷ []) (text_of_lines lines) rest)
 
 pub whole_read : (text line later : List ℕ) (scenario : Scenario) (es : List PrintedLine) (counts : List ℕ) → IsCut text line later → IsScenarioOf line scenario → IsBodyOf later es counts → IsHistoryOf text scenario es counts
 whole_read text line later scenario es counts cut is body = record {
   lines = line ∷ body.lines;
   is = record {
-    whole = cut.whole ∙ ap (λ t. line ++ 10 ∷ t) body.is.whole ∙ sym (append_assoc line (10 ∷ []) (ended body.lines));
+    whole = cut.whole ∙ ap (λ t. line ++ 10 ∷ t) body.is.whole ∙ sym (append_assoc line (10 ∷ []) (text_of_lines body.lines));
     one_each = (cut.is_one, body.is.one_each);
   };
   are = (is, body.are);
@@ -43,7 +43,7 @@ fails_there text line later lines cut (inr here) = inr (record {
   missing = λ none whole. here.missing none (closed_by line lines whole);
 })
 
-pub whole_fails : (text line later : List ℕ) (number : ℕ) → IsCut text line later → IsScenario line → BodyFails later number → FailsAt text number
+pub whole_fails : (text line later : List ℕ) (number : ℕ) → IsCut text line later → IsScenario line → BodyFails later number → HistoryFailsAt text number
 whole_fails text line later number cut is body = record {
   before = line ∷ body.fails.before;
   numbered = body.numbered ∙ ap (λ k. k + 1) body.fails.numbered ∙ one_on (length body.fails.before);
@@ -56,10 +56,10 @@ whole_fails text line later number cut is body = record {
     one_on k = omega arith
 
 -- a text that fails is no history beside
-fails_at : (text : List ℕ) (number : ℕ) → FailsAt text number → (IsHistory text → ⊥) × FailsAt text number
+fails_at : (text : List ℕ) (number : ℕ) → HistoryFailsAt text number → (IsHistory text → ⊥) × HistoryFailsAt text number
 fails_at text number at = (never_history text number at, at)
 
-pub first_fails : (text line later : List ℕ) → IsCut text line later → (IsScenario line → ⊥) → (IsHistory text → ⊥) × FailsAt text 1
+pub first_fails : (text line later : List ℕ) → IsCut text line later → (IsScenario line → ⊥) → (IsHistory text → ⊥) × HistoryFailsAt text 1
 first_fails text line later cut fails = fails_at text 1 (record {
   before = [];
   numbered = refl;
@@ -68,7 +68,7 @@ first_fails text line later cut fails = fails_at text 1 (record {
   here = inl (record { line = line; later = later; parts = cut.whole; is_one = cut.is_one; wrong = λ stand. fails stand.0 });
 })
 
-pub none_fails : (text : List ℕ) → IsOneLine text → (IsHistory text → ⊥) × FailsAt text 1
+pub none_fails : (text : List ℕ) → IsOneLine text → (IsHistory text → ⊥) × HistoryFailsAt text 1
 none_fails text one = fails_at text 1 (record {
   before = [];
   numbered = refl;

@@ -10,7 +10,7 @@ use Rattle.cmc_line_reading.specs.declared.said.Said.TheVariants as said
 use Rattle.cmc_line_reading.specs.declared.history.Body.{Body}
 use Rattle.cmc_line_reading.specs.declared.history.BadHistory.{BadHistory}
 use Rattle.cmc_line_reading.specs.declared.history.BadHistory.TheVariants as bad
-use Rattle.cmc_line_reading.specs.Histories.{IsLine, IsLineOf, IsSummary, IsSummaryOf, IsOneLine, IsText, IsRest, GoesOn, FailsBy, ended}
+use Rattle.cmc_line_reading.specs.Histories.{IsLine, IsLineOf, IsSummary, IsSummaryOf, IsOneLine, IsText, IsRest, GoesOn, FailsBy, text_of_lines}
 
 -- The text is a line, its line feed, and what comes behind it.
 pub record IsCut (text line later : List ℕ) : Type 0 where
@@ -33,7 +33,7 @@ AreEntries n (line ∷ lines) (entry ∷ entries) = IsLineOf n line entry × Are
 -- Of the text these entries were read, and this is left.
 pub record IsReadSoFar (text left : List ℕ) (entries : List PrintedLine) : Type 0 where
   pub lines : List (List ℕ)
-  pub parts : text ≡ ended lines ++ left
+  pub parts : text ≡ text_of_lines lines ++ left
   pub one_each : AllByRecursion IsOneLine lines
   pub are : AreEntries 1 lines entries
 

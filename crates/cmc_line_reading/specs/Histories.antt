@@ -12,7 +12,7 @@ use Rattle.cmc_summary_form.specs.SummaryForm.{HasSummaryForm}
 use Rattle.cmc_setup.specs.declared.scenario.Scenario.{Scenario}
 use Rattle.cmc_scenario.specs.Scenarios.{scenario_at}
 use Rattle.cmc_report.specs.Trees.{entry_tree, summary_tree}
-use Rattle.cmc_lines.specs.Shown.{shown}
+use Rattle.cmc_lines.specs.Shown.{line_of_entry}
 use Rattle.cmc_entry_form.specs.Entries.{HasForm}
 use Rattle.cmc_lines.specs.declared.line.PrintedLine.{PrintedLine}
 use Rattle.cmc_lines.specs.declared.printed.Printed.{Printed}
@@ -33,7 +33,7 @@ IsTextOf d text = IsJson text d × (text ≡ compact_text d)
 pub record IsLineOf (n : ℕ) (text : List ℕ) (line : PrintedLine) : Type 0 where
   pub entry : Entry
   pub form : HasForm entry
-  pub shows : shown entry ≡ line
+  pub shows : line_of_entry entry ≡ line
   pub is : IsTextOf (entry_tree n entry) text
 
 abbrev pub IsLine : ℕ → List ℕ → Type 0
@@ -71,8 +71,8 @@ abbrev pub IsOneLine : List ℕ → Type 0
 IsOneLine line = All (λ c. (c == 10) ≡ false) line
 
 -- The lines one after another, each with its line feed.
-abbrev pub ended : List (List ℕ) → List ℕ
-ended lines = flat_map (λ line. line ++ 10 ∷ []) lines
+abbrev pub text_of_lines : List (List ℕ) → List ℕ
+text_of_lines lines = flat_map (λ line. line ++ 10 ∷ []) lines
 
 -- These lines, the first of which is that of entry n, are lines of entries, behind which the summary may come.
 abbrev pub GoesOn : ℕ → List (List ℕ) → Type 0
@@ -101,7 +101,7 @@ AreLines lines = (scenario : Scenario) × (entries : List PrintedLine) × (count
 
 -- The text is these lines, each with its line feed.
 pub record IsText (text : List ℕ) (lines : List (List ℕ)) : Type 0 where
-  pub whole : text ≡ ended lines
+  pub whole : text ≡ text_of_lines lines
   pub one_each : AllByRecursion IsOneLine lines
 
 -- The text of a history.
@@ -119,14 +119,14 @@ IsHistory text = (scenario : Scenario) × (entries : List PrintedLine) × (count
 pub record GoesWrong (CanStand : List (List ℕ) → Type 0) (text : List ℕ) (lines : List (List ℕ)) : Type 0 where
   pub line : List ℕ
   pub later : List ℕ
-  pub parts : text ≡ ended lines ++ (line ++ 10 ∷ later)
+  pub parts : text ≡ text_of_lines lines ++ (line ++ 10 ∷ later)
   pub is_one : IsOneLine line
   pub wrong : CanStand (lines ++ line ∷ []) → ⊥
 
 -- Behind these lines comes no whole line: a rest without a line feed, or nothing where a line is missing.
 pub record EndsEarly (IsWhole : List (List ℕ) → Type 0) (text : List ℕ) (lines : List (List ℕ)) : Type 0 where
   pub rest : List ℕ
-  pub parts : text ≡ ended lines ++ rest
+  pub parts : text ≡ text_of_lines lines ++ rest
   pub is_one : IsOneLine rest
   pub missing : rest ≡ [] → IsWhole lines → ⊥
 
@@ -139,11 +139,11 @@ pub record FailsBy (CanStand IsWhole : List (List ℕ) → Type 0) (text : List 
   pub here : GoesWrong CanStand text before ⊎ EndsEarly IsWhole text before
 
 -- The line of this number is the first at which the text is not that of a history.
-abbrev pub FailsAt : List ℕ → ℕ → Type 0
-FailsAt = FailsBy CanBegin AreLines
+abbrev pub HistoryFailsAt : List ℕ → ℕ → Type 0
+HistoryFailsAt = FailsBy CanBegin AreLines
 
 -- What was read of the text, or that it is not that of a history, and the first line that fails; or memory ran out.
 abbrev pub IsReading : List ℕ → Result Printed BadHistory → Type 0
 IsReading text (Ok printed) = IsHistoryOf text printed.scenario printed.entries printed.counts
-IsReading text (Err (bad.Line number)) = (IsHistory text → ⊥) × FailsAt text number
+IsReading text (Err (bad.Line number)) = (IsHistory text → ⊥) × HistoryFailsAt text number
 IsReading text (Err bad.NoMemory) = Unit {0}

@@ -3,7 +3,7 @@ ghost use Rattle.std.specs.Prelude.{◌≡◌, ◌≤◌, ◌↔◌, IsTrue};
 ghost use Rattle.serde_json.specs.Data.{depth};
 ghost use Rattle.serde_json.specs.Read.{max_depth};
 ghost use Rattle.serde_json.specs.View.{view, items_view, members_view};
-ghost use Rattle.cmc_line_reading.specs.Nesting.{is_within, items_within, members_within};
+ghost use Rattle.cmc_line_reading.specs.Nesting.{is_nested_within, items_within, members_within};
 
 use serde_json::{Map, Value};
 
@@ -11,7 +11,7 @@ const DEEPEST: usize = 127;
 
 #[cycle(nests)]
 fn nests(value: &Value, most: usize) -> bool
-    ensures { result ≡ is_within most (view value.now) }
+    ensures { result ≡ is_nested_within most (view value.now) }
 {
     match value {
         Value::Array(items) => most > 0 && items_nest(items, most - 1),

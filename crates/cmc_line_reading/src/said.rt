@@ -4,7 +4,7 @@ ghost use Rattle.serde_json.specs.Find.{get};
 ghost use Rattle.serde_json.specs.View.{view};
 ghost use Rattle.cmc_line_reading.specs.Bodies.{IsSaid};
 ghost use Rattle.cmc_line_reading.specs.Histories.{IsJson, IsSummary, IsSummaryOf};
-ghost use Rattle.cmc_summary_form.specs.SummaryForm.{summary_at};
+ghost use Rattle.cmc_summary_form.specs.SummaryForm.{summary_read_at};
 
 use crate::lines::{entry_line, is_text_of, value_of};
 use cmc_cursor::BadField;
@@ -33,7 +33,7 @@ fn compared(
     summary: &Summary,
 ) -> Result<Option<[u64; 3]>, AllocError>
     requires json { IsJson text.now (view value.now) }
-    requires read { summary_at (view value.now) ≡ Ok summary.now }
+    requires read { summary_read_at (view value.now) ≡ Ok summary.now }
     ensures { IfOk result (λ o. MatchOption o (IsSummary text.now → ⊥) (IsSummaryOf text.now)) }
 {
     let tree = tree_of_summary(alloc, summary)?;

@@ -17,7 +17,7 @@ use Rattle.cmc_objects.specs.declared.entry.Entry.{Entry}
 use Rattle.cmc_objects.specs.declared.entry.Entry.TheVariants.{Script, Call as Called, Deliver, List as Listed, Begin, Ask, Made, Signed, Answered, Judged, End, Stop, Start, Tick}
 use Rattle.cmc_print.specs.Printed.{object_tree, head_members, meta_tree, meta_members}
 use Rattle.cmc_report.specs.Trees.{reply_tree, conflict_tree, put_written, put_version, call_key, order_tree, key_order_tree, csr_order_tree, sign_order_tree, judge_order_tree, put_call, put_named, put_entry, entry_tree, who_tree, call_name}
-use Rattle.cmc_lines.specs.Shown.{shown, shown_object, shown_reply, shown_order, shown_given, shown_version, shown_name}
+use Rattle.cmc_lines.specs.Shown.{line_of_entry, shown_object, shown_reply, shown_order, shown_given, shown_version, shown_name}
 use Rattle.cmc_lines.specs.LineTree.{replied_tree, asked_tree, put_call_body, put_call_head, put_given, word_of, put_line, line_tree}
 
 pub object_same : (o : Object) → object_tree (shown_object o) ≡ object_tree o
@@ -73,7 +73,7 @@ word_same (UpdateStatus o v) = refl
 word_same (Delete k v) = refl
 word_same (Get k) = refl
 
-call_same : (who : Who) (call : Call) (reply : Reply) (ms : Members) → put_line (shown (Called who call reply)) ms ≡ put_call (who_tree who) call reply ms
+call_same : (who : Who) (call : Call) (reply : Reply) (ms : Members) → put_line (line_of_entry (Called who call reply)) ms ≡ put_call (who_tree who) call reply ms
 unfolding put_call
 call_same who call reply ms =
     let start : Members = put (codes "key") (string (call_key call)) (put (codes "call") (string (call_name call)) (put (codes "is") (string (codes "call")) ms)) in
@@ -83,7 +83,7 @@ call_same who call reply ms =
     ∙ ap (λ d. put (codes "who") (who_tree who) (put_option natural (codes "version") (shown_version call) (put (codes "reply") d (put_written call start)))) (reply_same call reply)
     ∙ ap (λ x. put (codes "who") (who_tree who) x) (version_same call (put (codes "reply") (reply_tree call reply) (put_written call start)))
 
-line_same : (e : Entry) (ms : Members) → put_line (shown e) ms ≡ put_entry e ms
+line_same : (e : Entry) (ms : Members) → put_line (line_of_entry e) ms ≡ put_entry e ms
 line_same (Script step) ms = refl
 line_same (Called who call reply) ms = call_same who call reply ms
 line_same (Deliver role kind to) ms = refl
@@ -100,6 +100,6 @@ line_same (Start role at) ms = refl
 line_same (Tick now) ms = refl
 
 -- The tree of an entry is that of what it shows.
-pub shows_all : (n : ℕ) (e : Entry) → line_tree n (shown e) ≡ entry_tree n e
+pub shows_all : (n : ℕ) (e : Entry) → line_tree n (line_of_entry e) ≡ entry_tree n e
 unfolding line_tree entry_tree
 shows_all n e = ap object (line_same e (put (codes "n") (natural n) no_members))

@@ -80,18 +80,18 @@ shown_order (orders.Judge o) = asked.Judge (key_of (objects.Request o.request)) 
 
 -- ---- entries
 
-abbrev pub shown : Entry → PrintedLine
-shown (entries.Script step) = lines.Script step
-shown (entries.Call who call reply) = lines.Call (shown_name call) (call_key call) (shown_given call) (shown_version call) (shown_reply call reply) who
-shown (entries.Deliver role kind to) = lines.Deliver role kind to
-shown (entries.List role kind to) = lines.List role kind to
-shown (entries.Begin pass role key at now) = lines.Begin pass role key at now
-shown (entries.Ask pass order) = lines.Ask pass (shown_order order)
-shown (entries.Made pass key) = lines.Made pass key
-shown (entries.Signed pass signature) = lines.Signed pass signature
-shown (entries.Answered pass answer) = lines.Answered pass answer
-shown (entries.Judged pass approved) = lines.Judged pass approved
-shown (entries.End pass cause) = lines.End pass cause
-shown (entries.Stop role) = lines.Stop role
-shown (entries.Start role at) = lines.Start role at
-shown (entries.Tick now) = lines.Tick now
+abbrev pub line_of_entry : Entry → PrintedLine
+line_of_entry (entries.Script step) = lines.Script step
+line_of_entry (entries.Call who call reply) = lines.Call (shown_name call) (call_key call) (shown_given call) (shown_version call) (shown_reply call reply) who
+line_of_entry (entries.Deliver role kind to) = lines.Deliver role kind to
+line_of_entry (entries.List role kind to) = lines.List role kind to
+line_of_entry (entries.Begin pass role key at now) = lines.Begin pass role key at now
+line_of_entry (entries.Ask pass order) = lines.Ask pass (shown_order order)
+line_of_entry (entries.Made pass key) = lines.Made pass key
+line_of_entry (entries.Signed pass signature) = lines.Signed pass signature
+line_of_entry (entries.Answered pass answer) = lines.Answered pass answer
+line_of_entry (entries.Judged pass approved) = lines.Judged pass approved
+line_of_entry (entries.End pass cause) = lines.End pass cause
+line_of_entry (entries.Stop role) = lines.Stop role
+line_of_entry (entries.Start role at) = lines.Start role at
+line_of_entry (entries.Tick now) = lines.Tick now

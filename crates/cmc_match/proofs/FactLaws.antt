@@ -11,7 +11,7 @@ use Rattle.cmc_objects.specs.declared.request.CertificateRequest.{CertificateReq
 use Rattle.cmc_objects.specs.Defaults.{key_algorithm, key_size}
 use Rattle.cmc_keys.proofs.KindLaws.{is_key_means}
 use Rattle.cmc_match.specs.Marks.{is_text}
-use Rattle.cmc_match.specs.Facts.{key_in, certificate_in, IsFilled, NamesIssuer, owner_text, NamesOwner, HasRequestedKey, is_given, is_filled, names_issuer, is_absent_or, names_owner, is_requested, has_requested_key}
+use Rattle.cmc_match.specs.Facts.{key_in, certificate_file_in, IsFilled, NamesIssuer, owner_text, NamesOwner, HasRequestedKey, is_non_empty, is_filled, names_issuer, is_absent_or, names_owner, is_requested, has_requested_key}
 use Rattle.cmc_match.proofs.MatchLaws.{keys_match}
 
 abbrev some : List ℕ → Option (List ℕ)
@@ -32,12 +32,12 @@ record IsGiven (o : Option (List ℕ)) : Type 0 where
   pub stands : o ≡ Some part
   pub given : 0 < length part
 
-given_found : (o : Option (List ℕ)) → is_given o ≡ true → IsGiven o
+given_found : (o : Option (List ℕ)) → is_non_empty o ≡ true → IsGiven o
 given_found None h = absurd (false≢true h)
 given_found (Some []) h = absurd (false≢true h)
 given_found (Some (b ∷ bs)) h = record { part = b ∷ bs; stands = refl; given = omega arith }
 
-given_again : (o : Option (List ℕ)) (part : List ℕ) → o ≡ Some part → 0 < length part → is_given o ≡ true
+given_again : (o : Option (List ℕ)) (part : List ℕ) → o ≡ Some part → 0 < length part → is_non_empty o ≡ true
 given_again None part e h = absurd (none-some part e)
 given_again (Some []) part e h = absurd (omega (arith, ap length (same_Some [] part e)))
 given_again (Some (b ∷ bs)) part e h = refl
@@ -55,7 +55,7 @@ unfolding is_filled
 filled_found secret h =
     let key = given_found (key_in secret) (and_parts _ _ h).0 in
     let rest = (and_parts _ _ h).1 in
-    let certificate = given_found (certificate_in secret) (and_parts _ _ rest).0 in
+    let certificate = given_found (certificate_file_in secret) (and_parts _ _ rest).0 in
     record {
       key = key.part;
       certificate = certificate.part;
@@ -70,7 +70,7 @@ filled_again : (secret : Secret) → IsFilled secret → is_filled (Some secret)
 unfolding is_filled
 filled_again secret h =
     and_from _ _ (given_again (key_in secret) h.key h.key_stands h.key_given)
-    (and_from _ _ (given_again (certificate_in secret) h.certificate h.certificate_stands h.certificate_given) (not_again _ (λ t. h.not_temporary (text_found _ _ t))))
+    (and_from _ _ (given_again (certificate_file_in secret) h.certificate h.certificate_stands h.certificate_given) (not_again _ (λ t. h.not_temporary (text_found _ _ t))))
 
 pub filled : (secret : Secret) → IsTrue (is_filled (Some secret)) ↔ IsFilled secret
 filled secret = (filled_found secret, filled_again secret)

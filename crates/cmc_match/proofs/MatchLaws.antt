@@ -8,7 +8,7 @@ use Rattle.cmc_der.specs.Keys.{PublicKey, RequestFields, SubjectNames}
 use Rattle.cmc_x509.specs.Taking.{Value}
 use Rattle.cmc_x509.specs.Lists.{IsValues, IsValueList}
 use Rattle.cmc_x509.specs.Certificates.{IsRequest}
-use Rattle.cmc_x509.specs.ReadCertificates.{request_at}
+use Rattle.cmc_x509.specs.ReadCertificates.{request_fields_at}
 use Rattle.cmc_x509.specs.KeyFiles.{IsKeyFile}
 use Rattle.cmc_x509.specs.ReadKeys.{key_file_at}
 use Rattle.cmc_x509.proofs.CertificateLaws.{request_found, request_again}
@@ -23,7 +23,7 @@ use Rattle.cmc_objects.specs.declared.request.CertificateRequest.{CertificateReq
 use Rattle.cmc_objects.specs.Defaults.{certificate_duration}
 use Rattle.cmc_objects.proofs.KeyLaws.{key_found, key_itself}
 use Rattle.cmc_match.specs.Sets.{IsSameSet}
-use Rattle.cmc_match.specs.SubjectNames.{named, addresses, Writes, HasNames, values_of, written, has_names}
+use Rattle.cmc_match.specs.SubjectNames.{names_tagged, addresses, Writes, HasSubjectNames, values_of, addresses_written, has_names}
 use Rattle.cmc_match.specs.Matching.{IsSameIssuer, Matches, HasKey, is_same_issuer, is_same_flag, has_terms, asks_for_names, matches, is_one_of, has_key}
 use Rattle.cmc_match.proofs.SetLaws.{contains_here, contains_later, contains_cases, sets}
 use Rattle.cmc_match.proofs.NameLaws.{values_are}
@@ -47,24 +47,24 @@ first_writes text texts others octets (Some x) e rest h =
       | inr later ↦ let w = rest later in (w.0, contains_later text w.0 texts w.1, w.2)
     ]
 
-writes_found : (texts : List (List ℕ)) (octets : List ℕ) → Contains (written texts) octets → Writes texts octets
+writes_found : (texts : List (List ℕ)) (octets : List ℕ) → Contains (addresses_written texts) octets → Writes texts octets
 writes_found [] octets h = absurd (no_text octets h)
   where
     no_text : (octets : List ℕ) → Contains [] octets → ⊥
     no_text octets h = omega (arith, h.1)
-writes_found (text ∷ texts) octets h = first_writes text texts (written texts) octets (address_at text) refl (writes_found texts octets) h
+writes_found (text ∷ texts) octets h = first_writes text texts (addresses_written texts) octets (address_at text) refl (writes_found texts octets) h
 
-writes_again : (texts : List (List ℕ)) (octets text : List ℕ) → Contains texts text → IsAddress text octets → Contains (written texts) octets
+writes_again : (texts : List (List ℕ)) (octets text : List ℕ) → Contains texts text → IsAddress text octets → Contains (addresses_written texts) octets
 writes_again [] octets text c h = absurd (omega (arith, c.1))
 writes_again (first ∷ texts) octets text c h =
     elim (contains_cases first text texts c) [
-      | inl same ↦ rw (same, address_again text octets h) (contains_here octets (written texts))
-      | inr later ↦ in_option (address_at first) (written texts) octets (writes_again texts octets text later h)
+      | inl same ↦ rw (same, address_again text octets h) (contains_here octets (addresses_written texts))
+      | inr later ↦ in_option (address_at first) (addresses_written texts) octets (writes_again texts octets text later h)
     ]
 
 -- ---- names
 
-names_found : (spec : CertSpec) (names : SubjectNames) → IsValueList names.alternative → has_names spec names ≡ true → HasNames spec names
+names_found : (spec : CertSpec) (names : SubjectNames) → IsValueList names.alternative → has_names spec names ≡ true → HasSubjectNames spec names
 unfolding has_names
 names_found spec names list h =
     let values = values_of names.alternative in
@@ -72,28 +72,28 @@ names_found spec names list h =
     let all = (and_parts _ _ h).1 in
     let others = (and_parts _ _ all).1 in
     let last = (and_parts _ _ others).1 in
-    let same_addresses = (sets (written spec.ip_addresses) (addresses values)).0 (and_parts _ _ others).0 in
+    let same_addresses = (sets (addresses_written spec.ip_addresses) (addresses values)).0 (and_parts _ _ others).0 in
     record {
       values = values;
       are = subst P (sym (values_are names.alternative list.0 list.1)) list.1;
       common = (bytes_eq-Decides _ _).0 (and_parts _ _ h).0;
-      dns = (sets spec.dns_names (named 130 values)).0 (and_parts _ _ all).0;
+      dns = (sets spec.dns_names (names_tagged 130 values)).0 (and_parts _ _ all).0;
       ips = λ octets. (λ w. (same_addresses octets).0 (writes_again spec.ip_addresses octets w.0 w.1 w.2), λ c. writes_found spec.ip_addresses octets ((same_addresses octets).1 c));
-      uris = (sets spec.uris (named 134 values)).0 (and_parts _ _ last).0;
-      emails = (sets spec.emails (named 129 values)).0 (and_parts _ _ last).1;
+      uris = (sets spec.uris (names_tagged 134 values)).0 (and_parts _ _ last).0;
+      emails = (sets spec.emails (names_tagged 129 values)).0 (and_parts _ _ last).1;
     }
 
-names_again : (spec : CertSpec) (names : SubjectNames) → HasNames spec names → has_names spec names ≡ true
+names_again : (spec : CertSpec) (names : SubjectNames) → HasSubjectNames spec names → has_names spec names ≡ true
 unfolding has_names
 names_again spec names h =
     let same = values_are names.alternative h.values h.are in
-    let given = λ (octets : List ℕ) (c : Contains (written spec.ip_addresses) octets). (h.ips octets).0 (writes_found spec.ip_addresses octets c) in
+    let given = λ (octets : List ℕ) (c : Contains (addresses_written spec.ip_addresses) octets). (h.ips octets).0 (writes_found spec.ip_addresses octets c) in
     let asked = λ (octets : List ℕ) (c : Contains (addresses h.values) octets). let w = (h.ips octets).1 c in writes_again spec.ip_addresses octets w.0 w.1 w.2 in
     rw same
     (and_from _ _ ((bytes_eq-Decides _ _).1 h.common)
-    (and_from _ _ ((sets spec.dns_names (named 130 h.values)).1 h.dns)
-    (and_from _ _ ((sets (written spec.ip_addresses) (addresses h.values)).1 (λ octets. (given octets, asked octets)))
-    (and_from _ _ ((sets spec.uris (named 134 h.values)).1 h.uris) ((sets spec.emails (named 129 h.values)).1 h.emails)))))
+    (and_from _ _ ((sets spec.dns_names (names_tagged 130 h.values)).1 h.dns)
+    (and_from _ _ ((sets (addresses_written spec.ip_addresses) (addresses h.values)).1 (λ octets. (given octets, asked octets)))
+    (and_from _ _ ((sets spec.uris (names_tagged 134 h.values)).1 h.uris) ((sets spec.emails (names_tagged 129 h.values)).1 h.emails)))))
 
 -- ---- the other terms
 
@@ -144,28 +144,28 @@ terms_again spec request h =
 record AsksForNames (spec : CertSpec) (octets : List ℕ) : Type 0 where
   pub fields : RequestFields
   pub readable : IsRequest octets fields
-  pub names : HasNames spec fields.names
+  pub names : HasSubjectNames spec fields.names
 
-asked_found : (spec : CertSpec) (octets : List ℕ) (read : Option RequestFields) → request_at octets ≡ read → asks_for_names spec read ≡ true → AsksForNames spec octets
+asked_found : (spec : CertSpec) (octets : List ℕ) (read : Option RequestFields) → request_fields_at octets ≡ read → asks_for_names spec read ≡ true → AsksForNames spec octets
 asked_found spec octets None e h = absurd (false≢true h)
 asked_found spec octets (Some fields) e h =
     let readable = request_found octets fields e in
     record { fields = fields; readable = readable; names = names_found spec fields.names (request_serves octets fields readable).0 h }
 
-asked_again : (spec : CertSpec) (octets : List ℕ) (fields : RequestFields) → IsRequest octets fields → HasNames spec fields.names → asks_for_names spec (request_at octets) ≡ true
+asked_again : (spec : CertSpec) (octets : List ℕ) (fields : RequestFields) → IsRequest octets fields → HasSubjectNames spec fields.names → asks_for_names spec (request_fields_at octets) ≡ true
 asked_again spec octets fields readable h = rw (request_again octets fields readable) (names_again spec fields.names h)
 
 pub matching : (spec : CertSpec) (request : CertificateRequest) → IsTrue (matches spec request) ↔ Matches spec request
 unfolding matches
 matching spec request =
-    (λ h. joined (asked_found spec request.spec.request (request_at request.spec.request) refl (and_parts _ _ h).0) (terms_found spec request.spec (and_parts _ _ h).1), λ h. and_from _ _ (asked_again spec request.spec.request h.fields h.readable h.names) (terms_again spec request.spec (record { issuer = h.issuer; duration = h.duration; is_ca = h.is_ca; usages = h.usages })))
+    (λ h. joined (asked_found spec request.spec.request (request_fields_at request.spec.request) refl (and_parts _ _ h).0) (terms_found spec request.spec (and_parts _ _ h).1), λ h. and_from _ _ (asked_again spec request.spec.request h.fields h.readable h.names) (terms_again spec request.spec (record { issuer = h.issuer; duration = h.duration; is_ca = h.is_ca; usages = h.usages })))
   where
     joined : AsksForNames spec request.spec.request → HasTerms spec request.spec → Matches spec request
     joined a t = record { fields = a.fields; readable = a.readable; names = a.names; issuer = t.issuer; duration = t.duration; is_ca = t.is_ca; usages = t.usages }
 
 -- ---- public keys
 
-has_key_found : (request : CertificateRequest) (file : List ℕ) (key : Option PublicKey) (read : Option RequestFields) → key_file_at file ≡ key → request_at request.spec.request ≡ read → is_one_of key read ≡ true → HasKey request file
+has_key_found : (request : CertificateRequest) (file : List ℕ) (key : Option PublicKey) (read : Option RequestFields) → key_file_at file ≡ key → request_fields_at request.spec.request ≡ read → is_one_of key read ≡ true → HasKey request file
 has_key_found request file None read e f h = absurd (false≢true h)
 has_key_found request file (Some key) None e f h = absurd (false≢true h)
 has_key_found request file (Some key) (Some fields) e f h =
@@ -175,4 +175,4 @@ has_key_found request file (Some key) (Some fields) e f h =
 pub keys_match : (request : CertificateRequest) (file : List ℕ) → IsTrue (has_key request file) ↔ HasKey request file
 unfolding has_key
 keys_match request file =
-    (λ h. has_key_found request file (key_file_at file) (request_at request.spec.request) refl refl h, λ h. rw (key_file_again file h.fields.key h.key_is, request_again request.spec.request h.fields h.readable) (key_itself h.fields.key))
+    (λ h. has_key_found request file (key_file_at file) (request_fields_at request.spec.request) refl refl h, λ h. rw (key_file_again file h.fields.key h.key_is, request_again request.spec.request h.fields h.readable) (key_itself h.fields.key))

@@ -14,7 +14,7 @@ use Rattle.cmc_x509.specs.Lists.{IsValues, IsValueList}
 use Rattle.cmc_x509.proofs.ListLaws.{values_again}
 use Rattle.cmc_match.specs.Sets.{IsSameSet, is_among, is_within, is_same_set}
 use Rattle.cmc_match.proofs.SetLaws.{sets}
-use Rattle.cmc_match.specs.SubjectNames.{named, is_address, addresses, value_list, values_of, is_octets, is_written_by, written}
+use Rattle.cmc_match.specs.SubjectNames.{names_tagged, is_address, addresses, value_list, values_of, is_octets, is_written_by, addresses_written}
 
 -- the values that the octets are
 pub values_are : (octets : List ℕ) (values : List Value) → IsValues octets values → values_of octets ≡ values
@@ -35,14 +35,14 @@ or_cases : (test name : Bool) (here there later : Bool) → cond {A = Bool} test
 or_cases true name here there later = refl
 or_cases false name here there later = refl
 
-among_named : (tag kind : ℕ) (body name : List ℕ) (values : List Value) → is_among (named tag ((kind, body) ∷ values)) name ≡ ((eqb kind tag && bytes_eq body name) || is_among (named tag values) name)
+among_named : (tag kind : ℕ) (body name : List ℕ) (values : List Value) → is_among (names_tagged tag ((kind, body) ∷ values)) name ≡ ((eqb kind tag && bytes_eq body name) || is_among (names_tagged tag values) name)
 among_named tag kind body name values =
     elim (cases_Bool (eqb kind tag)) [
       | inl same ↦ rw same refl
       | inr differs ↦ rw differs refl
     ]
 
-within_named : (tag kind : ℕ) (body : List ℕ) (texts : List (List ℕ)) (values : List Value) → is_within (named tag ((kind, body) ∷ values)) texts ≡ (cond (eqb kind tag) (is_among texts body) true && is_within (named tag values) texts)
+within_named : (tag kind : ℕ) (body : List ℕ) (texts : List (List ℕ)) (values : List Value) → is_within (names_tagged tag ((kind, body) ∷ values)) texts ≡ (cond (eqb kind tag) (is_among texts body) true && is_within (names_tagged tag values) texts)
 within_named tag kind body texts values =
     elim (cases_Bool (eqb kind tag)) [
       | inl same ↦ rw same refl
@@ -50,53 +50,53 @@ within_named tag kind body texts values =
     ]
 
 -- what a test of the names of a tag is at the values that are left
-pub name_here : (octets : List ℕ) (kind : ℕ) (body rest : List ℕ) (tag : ℕ) (name : List ℕ) (whole : Bool) → BeginsWith octets kind body rest → IsValueList rest → (eqb kind tag && bytes_eq body name) ≡ true → is_among (named tag (values_of octets)) name ≡ whole → true ≡ whole
+pub name_here : (octets : List ℕ) (kind : ℕ) (body rest : List ℕ) (tag : ℕ) (name : List ℕ) (whole : Bool) → BeginsWith octets kind body rest → IsValueList rest → (eqb kind tag && bytes_eq body name) ≡ true → is_among (names_tagged tag (values_of octets)) name ≡ whole → true ≡ whole
 name_here octets kind body rest tag name whole h list test kept =
-    let step : is_among (named tag (values_of octets)) name ≡ true = rw (values_next octets kind body rest h list) (among_named tag kind body name (values_of rest) ∙ ap (λ (b : Bool). b || is_among (named tag (values_of rest)) name) test) in
+    let step : is_among (names_tagged tag (values_of octets)) name ≡ true = rw (values_next octets kind body rest h list) (among_named tag kind body name (values_of rest) ∙ ap (λ (b : Bool). b || is_among (names_tagged tag (values_of rest)) name) test) in
     sym step ∙ kept
 
-pub name_later : (octets : List ℕ) (kind : ℕ) (body rest : List ℕ) (tag : ℕ) (name : List ℕ) (whole : Bool) → BeginsWith octets kind body rest → IsValueList rest → (eqb kind tag && bytes_eq body name) ≡ false → is_among (named tag (values_of octets)) name ≡ whole → is_among (named tag (values_of rest)) name ≡ whole
+pub name_later : (octets : List ℕ) (kind : ℕ) (body rest : List ℕ) (tag : ℕ) (name : List ℕ) (whole : Bool) → BeginsWith octets kind body rest → IsValueList rest → (eqb kind tag && bytes_eq body name) ≡ false → is_among (names_tagged tag (values_of octets)) name ≡ whole → is_among (names_tagged tag (values_of rest)) name ≡ whole
 name_later octets kind body rest tag name whole h list test kept =
-    let step : is_among (named tag (values_of octets)) name ≡ is_among (named tag (values_of rest)) name = rw (values_next octets kind body rest h list) (among_named tag kind body name (values_of rest) ∙ ap (λ (b : Bool). b || is_among (named tag (values_of rest)) name) test) in
+    let step : is_among (names_tagged tag (values_of octets)) name ≡ is_among (names_tagged tag (values_of rest)) name = rw (values_next octets kind body rest h list) (among_named tag kind body name (values_of rest) ∙ ap (λ (b : Bool). b || is_among (names_tagged tag (values_of rest)) name) test) in
     sym step ∙ kept
 
 -- what the order of names says at the values that are left
 pub order_later : (octets : List ℕ) (kind : ℕ) (body rest : List ℕ) (tag : ℕ) (left others : List (List ℕ)) (Whole : Type 0) → BeginsWith octets kind body rest → IsValueList rest
-    → left ≡ (if kind == tag then body ∷ others else others) → (named tag (values_of octets) ≡ left → Whole) → named tag (values_of rest) ≡ others → Whole
+    → left ≡ (if kind == tag then body ∷ others else others) → (names_tagged tag (values_of octets) ≡ left → Whole) → names_tagged tag (values_of rest) ≡ others → Whole
 order_later octets kind body rest tag left others Whole h list is kept same =
-    kept (ap (named tag) (values_next octets kind body rest h list) ∙ ap (λ (l : List (List ℕ)). if kind == tag then body ∷ l else l) same ∙ sym is)
+    kept (ap (names_tagged tag) (values_next octets kind body rest h list) ∙ ap (λ (l : List (List ℕ)). if kind == tag then body ∷ l else l) same ∙ sym is)
 
 no_texts : (texts : List (List ℕ)) → (length texts == 0) ≡ true → [] ≡ texts
 no_texts [] is = refl
 no_texts (text ∷ texts) is = absurd (omega (arith, (Decides-eqb (length (text ∷ texts)) 0).0 is))
 
 -- where no value is left no name is
-pub no_name_left : (octets : List ℕ) (tag : ℕ) (left : List (List ℕ)) → octets ≡ [] → (length left == 0) ≡ true → named tag (values_of octets) ≡ left
-no_name_left octets tag left end none = ap (named tag) (values_end octets end) ∙ no_texts left none
+pub no_name_left : (octets : List ℕ) (tag : ℕ) (left : List (List ℕ)) → octets ≡ [] → (length left == 0) ≡ true → names_tagged tag (values_of octets) ≡ left
+no_name_left octets tag left end none = ap (names_tagged tag) (values_end octets end) ∙ no_texts left none
 
 -- names in the order of the texts are the same set
-pub same_in_order : (alternative : List ℕ) (tag : ℕ) (texts : List (List ℕ)) → named tag (values_of alternative) ≡ texts → is_same_set texts (named tag (values_of alternative)) ≡ true
+pub same_in_order : (alternative : List ℕ) (tag : ℕ) (texts : List (List ℕ)) → names_tagged tag (values_of alternative) ≡ texts → is_same_set texts (names_tagged tag (values_of alternative)) ≡ true
 same_in_order alternative tag texts is =
-    (sets texts (named tag (values_of alternative))).1 (subst (IsSameSet texts) (sym is) (λ text. (λ there. there, λ there. there)))
+    (sets texts (names_tagged tag (values_of alternative))).1 (subst (IsSameSet texts) (sym is) (λ text. (λ there. there, λ there. there)))
 
-pub name_nowhere : (octets : List ℕ) (tag : ℕ) (name : List ℕ) (whole : Bool) → octets ≡ [] → is_among (named tag (values_of octets)) name ≡ whole → false ≡ whole
+pub name_nowhere : (octets : List ℕ) (tag : ℕ) (name : List ℕ) (whole : Bool) → octets ≡ [] → is_among (names_tagged tag (values_of octets)) name ≡ whole → false ≡ whole
 name_nowhere octets tag name whole e kept =
-    let step : is_among (named tag (values_of octets)) name ≡ false = rw (values_end octets e) refl in
+    let step : is_among (names_tagged tag (values_of octets)) name ≡ false = rw (values_end octets e) refl in
     sym step ∙ kept
 
-pub other_here : (octets : List ℕ) (kind : ℕ) (body rest : List ℕ) (tag : ℕ) (texts : List (List ℕ)) (whole : Bool) → BeginsWith octets kind body rest → IsValueList rest → cond (eqb kind tag) (is_among texts body) true ≡ false → is_within (named tag (values_of octets)) texts ≡ whole → false ≡ whole
+pub other_here : (octets : List ℕ) (kind : ℕ) (body rest : List ℕ) (tag : ℕ) (texts : List (List ℕ)) (whole : Bool) → BeginsWith octets kind body rest → IsValueList rest → cond (eqb kind tag) (is_among texts body) true ≡ false → is_within (names_tagged tag (values_of octets)) texts ≡ whole → false ≡ whole
 other_here octets kind body rest tag texts whole h list test kept =
-    let step : is_within (named tag (values_of octets)) texts ≡ false = rw (values_next octets kind body rest h list) (within_named tag kind body texts (values_of rest) ∙ ap (λ (b : Bool). b && is_within (named tag (values_of rest)) texts) test) in
+    let step : is_within (names_tagged tag (values_of octets)) texts ≡ false = rw (values_next octets kind body rest h list) (within_named tag kind body texts (values_of rest) ∙ ap (λ (b : Bool). b && is_within (names_tagged tag (values_of rest)) texts) test) in
     sym step ∙ kept
 
-pub other_later : (octets : List ℕ) (kind : ℕ) (body rest : List ℕ) (tag : ℕ) (texts : List (List ℕ)) (whole : Bool) → BeginsWith octets kind body rest → IsValueList rest → cond (eqb kind tag) (is_among texts body) true ≡ true → is_within (named tag (values_of octets)) texts ≡ whole → is_within (named tag (values_of rest)) texts ≡ whole
+pub other_later : (octets : List ℕ) (kind : ℕ) (body rest : List ℕ) (tag : ℕ) (texts : List (List ℕ)) (whole : Bool) → BeginsWith octets kind body rest → IsValueList rest → cond (eqb kind tag) (is_among texts body) true ≡ true → is_within (names_tagged tag (values_of octets)) texts ≡ whole → is_within (names_tagged tag (values_of rest)) texts ≡ whole
 other_later octets kind body rest tag texts whole h list test kept =
-    let step : is_within (named tag (values_of octets)) texts ≡ is_within (named tag (values_of rest)) texts = rw (values_next octets kind body rest h list) (within_named tag kind body texts (values_of rest) ∙ ap (λ (b : Bool). b && is_within (named tag (values_of rest)) texts) test) in
+    let step : is_within (names_tagged tag (values_of octets)) texts ≡ is_within (names_tagged tag (values_of rest)) texts = rw (values_next octets kind body rest h list) (within_named tag kind body texts (values_of rest) ∙ ap (λ (b : Bool). b && is_within (names_tagged tag (values_of rest)) texts) test) in
     sym step ∙ kept
 
-pub other_nowhere : (octets : List ℕ) (tag : ℕ) (texts : List (List ℕ)) (whole : Bool) → octets ≡ [] → is_within (named tag (values_of octets)) texts ≡ whole → true ≡ whole
+pub other_nowhere : (octets : List ℕ) (tag : ℕ) (texts : List (List ℕ)) (whole : Bool) → octets ≡ [] → is_within (names_tagged tag (values_of octets)) texts ≡ whole → true ≡ whole
 other_nowhere octets tag texts whole e kept =
-    let step : is_within (named tag (values_of octets)) texts ≡ true = rw (values_end octets e) refl in
+    let step : is_within (names_tagged tag (values_of octets)) texts ≡ true = rw (values_end octets e) refl in
     sym step ∙ kept
 
 -- ---- addresses
@@ -124,25 +124,25 @@ among_filter p (y ∷ ys) x =
       ]
     ]
 
-pub among_addresses : (values : List Value) (octets : List ℕ) → is_among (addresses values) octets ≡ (is_address octets && is_among (named 135 values) octets)
-among_addresses values octets = among_filter is_address (named 135 values) octets
+pub among_addresses : (values : List Value) (octets : List ℕ) → is_among (addresses values) octets ≡ (is_address octets && is_among (names_tagged 135 values) octets)
+among_addresses values octets = among_filter is_address (names_tagged 135 values) octets
 
 -- the addresses that texts write
 among_option : (o : Option (List ℕ)) (others : List (List ℕ)) (octets : List ℕ) → is_among (cons_option o others) octets ≡ (is_octets o octets || is_among others octets)
 among_option None others octets = refl
 among_option (Some x) others octets = refl
 
-pub among_written : (texts : List (List ℕ)) (octets : List ℕ) → list_any (λ text. is_written_by text octets) texts ≡ is_among (written texts) octets
+pub among_written : (texts : List (List ℕ)) (octets : List ℕ) → list_any (λ text. is_written_by text octets) texts ≡ is_among (addresses_written texts) octets
 among_written [] octets = refl
-among_written (text ∷ texts) octets = rw (among_written texts octets) (sym (among_option (address_at text) (written texts) octets))
+among_written (text ∷ texts) octets = rw (among_written texts octets) (sym (among_option (address_at text) (addresses_written texts) octets))
 
 within_option : (o : Option (List ℕ)) (others given : List (List ℕ)) → is_within (cons_option o others) given ≡ (option_map_or (is_among given) o true && is_within others given)
 within_option None others given = refl
 within_option (Some x) others given = refl
 
-pub written_within : (texts given : List (List ℕ)) → list_all (λ text. option_map_or (is_among given) (address_at text) true) texts ≡ is_within (written texts) given
+pub written_within : (texts given : List (List ℕ)) → list_all (λ text. option_map_or (is_among given) (address_at text) true) texts ≡ is_within (addresses_written texts) given
 written_within [] given = refl
-written_within (text ∷ texts) given = rw (written_within texts given) (sym (within_option (address_at text) (written texts) given))
+written_within (text ∷ texts) given = rw (written_within texts given) (sym (within_option (address_at text) (addresses_written texts) given))
 
 -- and the loop over those that stand there
 within_addresses : (kind : ℕ) (body : List ℕ) (asked : List (List ℕ)) (values : List Value) → is_within (addresses ((kind, body) ∷ values)) asked ≡ (cond (eqb kind 135 && is_address body) (is_among asked body) true && is_within (addresses values) asked)

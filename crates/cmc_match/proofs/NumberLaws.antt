@@ -6,7 +6,7 @@ use Rattle.std.proofs.lemmas.Option.{none-some}
 use Rattle.cmc_meta.specs.Decimals.{number_in}
 use Rattle.cmc_meta.proofs.DecimalLaws.{number_written, number_again, number_low}
 use Rattle.cmc_objects.specs.declared.request.CertificateRequest.{CertificateRequest}
-use Rattle.cmc_match.specs.Revisions.{number_of, revision_text, revision_of, is_number, is_of, only_of}
+use Rattle.cmc_match.specs.Revisions.{number_of, revision_text, revision_of, is_number, is_of_revision, only_of}
 
 revision_found : (text : Option (List ℕ)) (n : ℕ) → number_of text ≡ Some n → text ≡ Some (decimal n)
 revision_found None n h = absurd (none-some n h)
@@ -37,7 +37,7 @@ text_small : (n : ℕ) (text : Option (List ℕ)) → 2 ^ 64 ≤ n → is_number
 text_small n None high = refl
 text_small n (Some text) high = number_small n text high
 
-none_of : (n : ℕ) (requests : List CertificateRequest) → 2 ^ 64 ≤ n → length (filter (λ request. is_of n request) requests) ≡ 0
+none_of : (n : ℕ) (requests : List CertificateRequest) → 2 ^ 64 ≤ n → length (filter (λ request. is_of_revision n request) requests) ≡ 0
 unfolding revision_of
 none_of n [] high = refl
 none_of n (r ∷ rs) high = rw (text_small n (revision_text r) high) (none_of n rs high)

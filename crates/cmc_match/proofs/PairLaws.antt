@@ -10,13 +10,13 @@ use Rattle.cmc_time.specs.Asn1.{IsCertificateTime}
 use Rattle.cmc_x509.specs.KeyFiles.{IsKeyFile}
 use Rattle.cmc_x509.specs.ReadKeys.{key_file_at}
 use Rattle.cmc_x509.specs.Certificates.{IsCertificate}
-use Rattle.cmc_x509.specs.ReadCertificates.{certificate_at}
+use Rattle.cmc_x509.specs.ReadCertificates.{certificate_fields_at}
 use Rattle.cmc_x509.proofs.CertificateLaws.{certificate_found, certificate_again}
 use Rattle.cmc_x509.proofs.FileLaws.{key_file_found, key_file_again}
 use Rattle.cmc_objects.specs.declared.secret.Secret.{Secret}
-use Rattle.cmc_objects.specs.KeyPairs.{begins, ends, is_one_key, pair_of, with_key}
+use Rattle.cmc_objects.specs.KeyPairs.{begins, ends, is_one_key, pair_of, fields_with_key}
 use Rattle.cmc_objects.proofs.KeyLaws.{key_found, key_itself}
-use Rattle.cmc_match.specs.Facts.{key_in, certificate_in, IsPair, pair_in}
+use Rattle.cmc_match.specs.Facts.{key_in, certificate_file_in, IsPair, pair_in}
 use Rattle.cmc_match.proofs.TimeLaws.{certificate_time}
 
 abbrev some : {A : Type 0} → A → Option A
@@ -26,7 +26,7 @@ record WithKey (file octets : List ℕ) (fields : CertificateFields) : Type 0 wh
   pub key_is : IsKeyFile file fields.key
   pub certificate_is : IsCertificate octets fields
 
-with_key_found : (file octets : List ℕ) (fields : CertificateFields) (key : Option PublicKey) (read : Option CertificateFields) → key_file_at file ≡ key → certificate_at octets ≡ read → with_key key read ≡ some fields → WithKey file octets fields
+with_key_found : (file octets : List ℕ) (fields : CertificateFields) (key : Option PublicKey) (read : Option CertificateFields) → key_file_at file ≡ key → certificate_fields_at octets ≡ read → fields_with_key key read ≡ some fields → WithKey file octets fields
 with_key_found file octets fields None read e f h = absurd (none-some fields h)
 with_key_found file octets fields (Some key) None e f h = absurd (none-some fields h)
 with_key_found file octets fields (Some key) (Some found) e f h =
@@ -39,19 +39,19 @@ with_key_found file octets fields (Some key) (Some found) e f h =
       | inr other ↦ absurd (none-some fields (sym (rw other refl) ∙ h))
     ]
 
-with_key_again : (file octets : List ℕ) (fields : CertificateFields) → IsKeyFile file fields.key → IsCertificate octets fields → with_key (key_file_at file) (certificate_at octets) ≡ some fields
+with_key_again : (file octets : List ℕ) (fields : CertificateFields) → IsKeyFile file fields.key → IsCertificate octets fields → fields_with_key (key_file_at file) (certificate_fields_at octets) ≡ some fields
 with_key_again file octets fields h k = rw (key_file_again file fields.key h, certificate_again octets fields k, key_itself fields.key) refl
 
-pair_parts : (secret : Secret) (fields : CertificateFields) (key certificate : Option (List ℕ)) → key_in secret ≡ key → certificate_in secret ≡ certificate → pair_of key certificate ≡ some fields → IsPair secret fields
+pair_parts : (secret : Secret) (fields : CertificateFields) (key certificate : Option (List ℕ)) → key_in secret ≡ key → certificate_file_in secret ≡ certificate → pair_of key certificate ≡ some fields → IsPair secret fields
 pair_parts secret fields None certificate e f h = absurd (none-some fields h)
 pair_parts secret fields (Some key) None e f h = absurd (none-some fields h)
 pair_parts secret fields (Some key) (Some certificate) e f h =
-    let both = with_key_found key certificate fields (key_file_at key) (certificate_at certificate) refl refl h in
+    let both = with_key_found key certificate fields (key_file_at key) (certificate_fields_at certificate) refl refl h in
     record { key = key; certificate = certificate; key_stands = e; certificate_stands = f; key_is = both.key_is; certificate_is = both.certificate_is }
 
 pub pair_found : (secret : Secret) (fields : CertificateFields) → pair_in secret ≡ some fields → IsPair secret fields
 unfolding pair_in
-pair_found secret fields h = pair_parts secret fields (key_in secret) (certificate_in secret) refl refl h
+pair_found secret fields h = pair_parts secret fields (key_in secret) (certificate_file_in secret) refl refl h
 
 pub pair_again : (secret : Secret) (fields : CertificateFields) → IsPair secret fields → pair_in secret ≡ some fields
 unfolding pair_in

@@ -4,7 +4,7 @@ use Rattle.std.specs.Prelude.{◌&&◌, ◌↔◌, IsTrue}
 use Rattle.std.proofs.lemmas.Bool.{and_from, and_parts}
 use Rattle.cmc_der.specs.Keys.{PublicKey, RequestFields}
 use Rattle.cmc_x509.specs.ReadKeys.{key_file_at}
-use Rattle.cmc_x509.specs.ReadCertificates.{request_at}
+use Rattle.cmc_x509.specs.ReadCertificates.{request_fields_at}
 use Rattle.cmc_keys.specs.Kinds.{is_key_of, is_public_of}
 use Rattle.cmc_objects.specs.Defaults.{key_algorithm, key_size}
 use Rattle.cmc_objects.specs.KeyPairs.{key_read}
@@ -20,7 +20,7 @@ none_right : (b : Bool) → (b && false) ≡ false
 none_right true = refl
 none_right false = refl
 
-as_read : (spec : KeySpec) (file : List ℕ) (request : CertificateRequest) (key : Option PublicKey) (asked : Option RequestFields) → key_file_at file ≡ key → request_at request.spec.request ≡ asked
+as_read : (spec : KeySpec) (file : List ℕ) (request : CertificateRequest) (key : Option PublicKey) (asked : Option RequestFields) → key_file_at file ≡ key → request_fields_at request.spec.request ≡ asked
     → (is_key_of (key_algorithm spec) (key_size spec) file && has_key request file) ≡ is_requested_as_read spec key asked
 unfolding is_key_of has_key
 as_read spec file request None asked e f = rw (e) refl
@@ -34,7 +34,7 @@ alone spec (Some key) = none_right (is_public_of (key_algorithm spec) (key_size 
 by_parts : (spec : KeySpec) (key : Option (List ℕ)) (current : Option CertificateRequest) → is_requested spec key current ≡ is_requested_as_read spec (key_read key) (request_read current)
 by_parts spec None current = refl
 by_parts spec (Some file) None = sym (alone spec (key_file_at file))
-by_parts spec (Some file) (Some request) = as_read spec file request (key_file_at file) (request_at request.spec.request) refl refl
+by_parts spec (Some file) (Some request) = as_read spec file request (key_file_at file) (request_fields_at request.spec.request) refl refl
 
 pub requested_as_read : (spec : KeySpec) (secret : Secret) (current : Option CertificateRequest) (key : Option PublicKey) (asked : Option RequestFields) → key ≡ key_read (key_in secret) → asked ≡ request_read current
     → has_requested_key spec (Some secret) current ≡ is_requested_as_read spec key asked

@@ -1,7 +1,7 @@
 -- What is known of the Secret of a Certificate.
 use Rattle.std.specs.Prelude.{◌≡◌, ◌≢◌, ◌<◌, ◌⊎◌, length, ℕ, Bool, true, false, not, ◌&&◌, List, [], ◌∷◌, codes, Option, Some, None}
 use Rattle.std.specs.Str.{bytes_eq}
-use Rattle.cmc_meta.specs.PairLists.{text_at}
+use Rattle.cmc_meta.specs.PairLists.{text_by_key}
 use Rattle.cmc_der.specs.Keys.{PublicKey, CertificateFields, RequestFields}
 use Rattle.cmc_x509.specs.KeyFiles.{IsKeyFile}
 use Rattle.cmc_x509.specs.Certificates.{IsCertificate}
@@ -21,17 +21,17 @@ use Rattle.cmc_match.specs.Revisions.{current_request}
 
 -- the private key of the Secret, and its certificate, both in DER
 abbrev pub key_in : Secret → Option (List ℕ)
-key_in secret = text_at secret.parts (codes "tls.key")
+key_in secret = text_by_key secret.parts (codes "tls.key")
 
-abbrev pub certificate_in : Secret → Option (List ℕ)
-certificate_in secret = text_at secret.parts (codes "tls.crt")
+abbrev pub certificate_file_in : Secret → Option (List ℕ)
+certificate_file_in secret = text_by_key secret.parts (codes "tls.crt")
 
 -- the key and the certificate are readable, and the public key is that of the certificate
 pub record IsPair (secret : Secret) (fields : CertificateFields) : Type 0 where
   pub key : List ℕ
   pub certificate : List ℕ
   pub key_stands : key_in secret ≡ Some key
-  pub certificate_stands : certificate_in secret ≡ Some certificate
+  pub certificate_stands : certificate_file_in secret ≡ Some certificate
   pub key_is : IsKeyFile key fields.key
   pub certificate_is : IsCertificate certificate fields
 
@@ -40,20 +40,20 @@ pub record IsFilled (secret : Secret) : Type 0 where
   pub key : List ℕ
   pub certificate : List ℕ
   pub key_stands : key_in secret ≡ Some key
-  pub certificate_stands : certificate_in secret ≡ Some certificate
+  pub certificate_stands : certificate_file_in secret ≡ Some certificate
   pub key_given : 0 < length key
   pub certificate_given : 0 < length certificate
-  pub not_temporary : text_at secret.meta.annotations (codes "cert-manager.io/temporary-certificate") ≢ Some (codes "true")
+  pub not_temporary : text_by_key secret.meta.annotations (codes "cert-manager.io/temporary-certificate") ≢ Some (codes "true")
 
 -- the annotations name the issuer, its kind and its group, with their defaults
 pub record NamesIssuer (issuer : IssuerRef) (secret : Secret) : Type 0 where
-  pub name : text_at secret.meta.annotations (codes "cert-manager.io/issuer-name") ≡ Some issuer.name
-  pub kind : text_at secret.meta.annotations (codes "cert-manager.io/issuer-kind") ≡ Some (issuer_kind issuer)
-  pub group : text_at secret.meta.annotations (codes "cert-manager.io/issuer-group") ≡ Some (issuer_group issuer)
+  pub name : text_by_key secret.meta.annotations (codes "cert-manager.io/issuer-name") ≡ Some issuer.name
+  pub kind : text_by_key secret.meta.annotations (codes "cert-manager.io/issuer-kind") ≡ Some (issuer_kind issuer)
+  pub group : text_by_key secret.meta.annotations (codes "cert-manager.io/issuer-group") ≡ Some (issuer_group issuer)
 
 -- the annotations name the Certificate of this name, or none
 abbrev pub owner_text : Secret → Option (List ℕ)
-owner_text secret = text_at secret.meta.annotations (codes "cert-manager.io/certificate-name")
+owner_text secret = text_by_key secret.meta.annotations (codes "cert-manager.io/certificate-name")
 
 abbrev pub NamesOwner : List ℕ → Secret → Type 0
 NamesOwner name secret = (owner_text secret ≡ None) ⊎ (owner_text secret ≡ Some name)
@@ -69,7 +69,7 @@ pub record HasRequestedKey (spec : KeySpec) (secret : Secret) (request : Certifi
 
 -- the fields of the certificate that the Secret's key and certificate are a pair with
 unfoldable pub pair_in : Secret → Option CertificateFields
-pair_in secret = pair_of (key_in secret) (certificate_in secret)
+pair_in secret = pair_of (key_in secret) (certificate_file_in secret)
 
 abbrev pub pair_at : Option Secret → Option CertificateFields
 pair_at None = None
@@ -78,19 +78,19 @@ pair_at (Some secret) = pair_in secret
 -- ---- the flags
 
 -- the part stands and is not empty
-abbrev pub is_given : Option (List ℕ) → Bool
-is_given None = false
-is_given (Some []) = false
-is_given (Some (b ∷ bs)) = true
+abbrev pub is_non_empty : Option (List ℕ) → Bool
+is_non_empty None = false
+is_non_empty (Some []) = false
+is_non_empty (Some (b ∷ bs)) = true
 
-abbrev pub stands : Option Secret → Bool
-stands None = false
-stands (Some secret) = true
+abbrev pub has_some_secret : Option Secret → Bool
+has_some_secret None = false
+has_some_secret (Some secret) = true
 
 -- a key and a certificate are there, and are not marked as temporary
 unfoldable pub is_filled : Option Secret → Bool
 is_filled None = false
-is_filled (Some secret) = is_given (key_in secret) && (is_given (certificate_in secret) && not (is_temporary secret))
+is_filled (Some secret) = is_non_empty (key_in secret) && (is_non_empty (certificate_file_in secret) && not (is_temporary secret))
 
 unfoldable pub names_issuer : IssuerRef → Option Secret → Bool
 names_issuer issuer None = false
@@ -134,7 +134,7 @@ is_unchanged spec (Some request) = matches spec request
 -- what the checks of a Certificate of this name look at: the Secret that it names, and its current request
 abbrev pub known_of : CertSpec → List ℕ → Option Secret → Option CertificateRequest → Known
 known_of spec name secret current = record {
-  secret = stands secret;
+  secret = has_some_secret secret;
   filled = is_filled secret;
   pair = is_paired (pair_at secret);
   issuer = names_issuer spec.issuer secret;

@@ -1,7 +1,7 @@
 -- Labels and annotations of cert-manager.
 use Rattle.std.specs.Prelude.{ℕ, Bool, false, List, Option, Some, None, codes}
 use Rattle.std.specs.Str.{bytes_eq}
-use Rattle.cmc_meta.specs.PairLists.{text_at}
+use Rattle.cmc_meta.specs.PairLists.{text_by_key}
 use Rattle.cmc_objects.specs.declared.secret.Secret.{Secret}
 use Rattle.cmc_objects.specs.declared.certificate.Certificate.{Certificate}
 
@@ -12,7 +12,7 @@ is_text (Some found) text = bytes_eq found text
 
 -- this text stands under the key
 abbrev pub has_text : List (List ℕ × List ℕ) → List ℕ → List ℕ → Bool
-has_text pairs key text = is_text (text_at pairs key) text
+has_text pairs key text = is_text (text_by_key pairs key) text
 
 -- the Secret is labelled as one that holds the private key of an issuance in progress
 abbrev pub is_next_key : Secret → Bool

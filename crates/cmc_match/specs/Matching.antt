@@ -5,7 +5,7 @@ use Rattle.cmc_der.specs.Keys.{PublicKey, RequestFields}
 use Rattle.cmc_x509.specs.KeyFiles.{IsKeyFile}
 use Rattle.cmc_x509.specs.ReadKeys.{key_file_at}
 use Rattle.cmc_x509.specs.Certificates.{IsRequest}
-use Rattle.cmc_x509.specs.ReadCertificates.{request_at}
+use Rattle.cmc_x509.specs.ReadCertificates.{request_fields_at}
 use Rattle.cmc_objects.specs.declared.issuer.IssuerRef.{IssuerRef}
 use Rattle.cmc_objects.specs.declared.certificate.CertSpec.{CertSpec}
 use Rattle.cmc_objects.specs.declared.request.RequestSpec.{RequestSpec}
@@ -13,7 +13,7 @@ use Rattle.cmc_objects.specs.declared.request.CertificateRequest.{CertificateReq
 use Rattle.cmc_objects.specs.Defaults.{issuer_kind, issuer_group, certificate_duration}
 use Rattle.cmc_objects.specs.KeyPairs.{is_one_key}
 use Rattle.cmc_match.specs.Sets.{IsSameSet, is_same_set}
-use Rattle.cmc_match.specs.SubjectNames.{HasNames, has_names}
+use Rattle.cmc_match.specs.SubjectNames.{HasSubjectNames, has_names}
 
 -- both name the same issuer: its name, and with their defaults its kind and its group
 pub record IsSameIssuer (left right : IssuerRef) : Type 0 where
@@ -26,7 +26,7 @@ pub record IsSameIssuer (left right : IssuerRef) : Type 0 where
 pub record Matches (spec : CertSpec) (request : CertificateRequest) : Type 0 where
   pub fields : RequestFields
   pub readable : IsRequest request.spec.request fields
-  pub names : HasNames spec fields.names
+  pub names : HasSubjectNames spec fields.names
   pub issuer : IsSameIssuer spec.issuer request.spec.issuer
   pub duration : certificate_duration spec.duration ≡ certificate_duration request.spec.duration
   pub is_ca : spec.is_ca ≡ request.spec.is_ca
@@ -59,7 +59,7 @@ asks_for_names spec None = false
 asks_for_names spec (Some fields) = has_names spec fields.names
 
 unfoldable pub matches : CertSpec → CertificateRequest → Bool
-matches spec request = asks_for_names spec (request_at request.spec.request) && has_terms spec request.spec
+matches spec request = asks_for_names spec (request_fields_at request.spec.request) && has_terms spec request.spec
 
 abbrev pub is_one_of : Option PublicKey → Option RequestFields → Bool
 is_one_of None request = false
@@ -67,9 +67,9 @@ is_one_of (Some key) None = false
 is_one_of (Some key) (Some fields) = is_one_key key fields.key
 
 unfoldable pub has_key : CertificateRequest → List ℕ → Bool
-has_key request file = is_one_of (key_file_at file) (request_at request.spec.request)
+has_key request file = is_one_of (key_file_at file) (request_fields_at request.spec.request)
 
 -- what is read of the certification request of a request, if there is one
 abbrev pub request_read : Option CertificateRequest → Option RequestFields
 request_read None = None
-request_read (Some request) = request_at request.spec.request
+request_read (Some request) = request_fields_at request.spec.request

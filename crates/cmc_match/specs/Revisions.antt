@@ -1,7 +1,7 @@
 -- The revision of a Certificate that a CertificateRequest is for.
 use Rattle.std.specs.Prelude.{ℕ, ◌+◌, Bool, false, ◌==◌, length, List, filter, find, Option, Some, None, unwrap_or, codes, if◌then◌else◌}
 use Rattle.cmc_meta.specs.Decimals.{number_in}
-use Rattle.cmc_meta.specs.PairLists.{text_at}
+use Rattle.cmc_meta.specs.PairLists.{text_by_key}
 use Rattle.cmc_objects.specs.declared.request.CertificateRequest.{CertificateRequest}
 
 abbrev pub number_of : Option (List ℕ) → Option ℕ
@@ -10,7 +10,7 @@ number_of (Some text) = number_in text
 
 -- the annotation that names the revision
 abbrev pub revision_text : CertificateRequest → Option (List ℕ)
-revision_text request = text_at request.meta.annotations (codes "cert-manager.io/certificate-revision")
+revision_text request = text_by_key request.meta.annotations (codes "cert-manager.io/certificate-revision")
 
 -- the revision that the request is for, if its annotation names one
 unfoldable pub revision_of : CertificateRequest → Option ℕ
@@ -20,12 +20,12 @@ abbrev pub is_number : ℕ → Option ℕ → Bool
 is_number revision None = false
 is_number revision (Some number) = number == revision
 
-abbrev pub is_of : ℕ → CertificateRequest → Bool
-is_of revision request = is_number revision (revision_of request)
+abbrev pub is_of_revision : ℕ → CertificateRequest → Bool
+is_of_revision revision request = is_number revision (revision_of request)
 
 -- the only request of the revision: none unless there is exactly one
 unfoldable pub only_of : ℕ → List CertificateRequest → Option CertificateRequest
-only_of revision requests = if length (filter (λ request. is_of revision request) requests) == 1 then find (λ request. is_of revision request) requests else None
+only_of revision requests = if length (filter (λ request. is_of_revision revision request) requests) == 1 then find (λ request. is_of_revision revision request) requests else None
 
 -- the current request is of the revision that stands, 0 where none is set, and the next one of the revision behind it
 abbrev pub current_request : Option ℕ → List CertificateRequest → Option CertificateRequest

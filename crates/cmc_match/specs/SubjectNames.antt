@@ -15,16 +15,16 @@ common_text None = []
 common_text (Some text) = text
 
 -- the contents of the GeneralNames of a tag (RFC 5280, 4.2.1.6)
-abbrev pub named : ℕ → List Value → List (List ℕ)
-named tag [] = []
-named tag (v ∷ vs) = if v.0 == tag then v.1 ∷ named tag vs else named tag vs
+abbrev pub names_tagged : ℕ → List Value → List (List ℕ)
+names_tagged tag [] = []
+names_tagged tag (v ∷ vs) = if v.0 == tag then v.1 ∷ names_tagged tag vs else names_tagged tag vs
 
 -- an iPAddress of four or sixteen octets; one of another length names nothing
 abbrev pub is_address : List ℕ → Bool
 is_address octets = (length octets == 4) || (length octets == 16)
 
 abbrev pub addresses : List Value → List (List ℕ)
-addresses values = filter is_address (named 135 values)
+addresses values = filter is_address (names_tagged 135 values)
 
 -- one of the texts writes the address of these octets
 abbrev pub Writes : List (List ℕ) → List ℕ → Type 0
@@ -32,14 +32,14 @@ Writes texts octets = (text : List ℕ) × Contains texts text × IsAddress text
 
 -- The names are those of the specification: the common name is the same, and the DNS names, IP addresses (as
 -- octets), URIs and email addresses are the same sets.
-pub record HasNames (spec : CertSpec) (names : SubjectNames) : Type 0 where
+pub record HasSubjectNames (spec : CertSpec) (names : SubjectNames) : Type 0 where
   pub values : List Value
   pub are : IsValues names.alternative values
   pub common : common_text names.common ≡ spec.common_name
-  pub dns : IsSameSet spec.dns_names (named 130 values)
+  pub dns : IsSameSet spec.dns_names (names_tagged 130 values)
   pub ips : (octets : List ℕ) → Writes spec.ip_addresses octets ↔ Contains (addresses values) octets
-  pub uris : IsSameSet spec.uris (named 134 values)
-  pub emails : IsSameSet spec.emails (named 129 values)
+  pub uris : IsSameSet spec.uris (names_tagged 134 values)
+  pub emails : IsSameSet spec.emails (names_tagged 129 values)
 
 -- ---- the same as tests
 
@@ -60,14 +60,14 @@ abbrev pub is_written_by : List ℕ → List ℕ → Bool
 is_written_by text octets = is_octets (address_at text) octets
 
 -- the addresses that the texts write
-abbrev pub written : List (List ℕ) → List (List ℕ)
-written texts = filter_map address_at texts
+abbrev pub addresses_written : List (List ℕ) → List (List ℕ)
+addresses_written texts = filter_map address_at texts
 
 abbrev pub has_same_names : ℕ → List (List ℕ) → List ℕ → Bool
-has_same_names tag texts alternative = is_same_set texts (named tag (values_of alternative))
+has_same_names tag texts alternative = is_same_set texts (names_tagged tag (values_of alternative))
 
 abbrev pub has_same_addresses : List (List ℕ) → List ℕ → Bool
-has_same_addresses texts alternative = is_same_set (written texts) (addresses (values_of alternative))
+has_same_addresses texts alternative = is_same_set (addresses_written texts) (addresses (values_of alternative))
 
 unfoldable pub has_names : CertSpec → SubjectNames → Bool
 has_names spec names =

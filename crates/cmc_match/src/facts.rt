@@ -102,7 +102,7 @@ fn pair_facts(secret: &Secret) -> Paired
 }
 
 fn is_given(part: Option<&Bytes>) -> bool
-    ensures { result ≡ words.is_given (option_copied part.entry) }
+    ensures { result ≡ words.is_non_empty (option_copied part.entry) }
 {
     match part {
         None => false,

@@ -1,6 +1,6 @@
 //! What labels and annotations say.
 ghost use Rattle.std.specs.Prelude.{◌≡◌, ◌↔◌, IsTrue, Some};
-ghost use Rattle.cmc_meta.specs.PairLists.{text_at};
+ghost use Rattle.cmc_meta.specs.PairLists.{text_by_key};
 ghost use Rattle.cmc_match.specs.Marks as spec;
 
 use cmc_meta::Pairs;
@@ -9,7 +9,7 @@ use cmc_objects::{Certificate, Secret, text_under};
 /// Whether this text stands under the key.
 pub fn has_text(pairs: &Pairs, key: &str, text: &str) -> bool
     ensures value { result ≡ spec.has_text pairs.now key.now text.now }
-    ensures means { IsTrue result ↔ (text_at pairs.now key.now ≡ Some text.now) }
+    ensures means { IsTrue result ↔ (text_by_key pairs.now key.now ≡ Some text.now) }
 {
     match text_under(pairs, key) {
         None => false,

@@ -3,7 +3,7 @@ ghost use Rattle.std.specs.Prelude.{◌≡◌, ◌↔◌, ◌&&◌, IfSome, IsTr
 ghost use Rattle.cmc_der.specs.Keys.{csr_shown, key_shown};
 ghost use Rattle.cmc_x509.specs.Lists.{IsValueList};
 ghost use Rattle.cmc_x509.specs.ReadKeys.{key_file_at};
-ghost use Rattle.cmc_x509.specs.ReadCertificates.{request_at};
+ghost use Rattle.cmc_x509.specs.ReadCertificates.{request_fields_at};
 ghost use Rattle.cmc_objects.specs.Defaults.{certificate_duration, key_algorithm, key_size};
 ghost use Rattle.cmc_keys.specs.Kinds.{IsKeyOf, is_key_of};
 ghost use Rattle.cmc_keys.specs.Kinds as kinds;
@@ -81,7 +81,7 @@ fn has_terms(spec: &CertSpec, request: &RequestSpec) -> bool
 
 /// What is read of a certification request: `None` exactly where it is not readable.
 pub(crate) fn fields_of<'a>(request: &'a CertificateRequest) -> Option<CsrFields<'a>>
-    ensures fields { option_map csr_shown result ≡ request_at request.now.spec.request }
+    ensures fields { option_map csr_shown result ≡ request_fields_at request.now.spec.request }
     ensures names { IfSome result (λ fields. IsValueList fields.names.alternative.now) }
 {
     request.spec.request.fields()
@@ -104,7 +104,7 @@ pub(crate) fn matches_as_read(
     request: &CertificateRequest,
     asked: &Option<CsrFields<'_>>,
 ) -> bool
-    requires read { option_map csr_shown asked.now ≡ request_at request.now.spec.request }
+    requires read { option_map csr_shown asked.now ≡ request_fields_at request.now.spec.request }
     requires names { IfSome asked.now (λ fields. IsValueList fields.names.alternative.now) }
     ensures { result ≡ words.matches spec.now request.now }
 {
@@ -152,7 +152,7 @@ fn has_key_as_read(
     asked: &Option<CsrFields<'_>>,
 ) -> bool
     requires public { option_map key_shown public.now ≡ key_file_at file.now }
-    requires asked { option_map csr_shown asked.now ≡ request_at request.now.spec.request }
+    requires asked { option_map csr_shown asked.now ≡ request_fields_at request.now.spec.request }
     ensures { result ≡ words.has_key request.now file.now }
 {
     let (_request, _file) = (request, file);

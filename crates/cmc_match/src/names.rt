@@ -8,7 +8,7 @@ ghost use Rattle.cmc_x509.specs.Lists.{IsValueList};
 ghost use Rattle.cmc_x509_build.specs.Addresses.{address_at, octets_of_address};
 ghost use Rattle.cmc_match.specs.Sets.{is_among, is_within, is_same_set};
 ghost use Rattle.cmc_match.specs.SubjectNames as words;
-ghost use Rattle.cmc_match.specs.SubjectNames.{named, values_of, addresses, written, HasNames};
+ghost use Rattle.cmc_match.specs.SubjectNames.{names_tagged, values_of, addresses, addresses_written, HasSubjectNames};
 
 use crate::sets;
 use cmc_meta::Text;
@@ -35,7 +35,7 @@ fn is_name(kind: u8, contents: &[u8], tag: u8, name: &[u8]) -> bool
 // Whether a name of this tag and these contents stands among the alternative names.
 fn has_name(alternative: &[u8], tag: u8, name: &[u8]) -> bool
     requires { IsValueList alternative.now }
-    ensures { result ≡ is_among (named tag (values_of alternative.now)) name.now }
+    ensures { result ≡ is_among (names_tagged tag (values_of alternative.now)) name.now }
 {
     let mut rest = alternative;
     while let Some((kind, contents, after)) = next_name(rest) {
@@ -60,7 +60,7 @@ fn is_asked(kind: u8, contents: &[u8], tag: u8, texts: &[Text]) -> bool
 // Whether each name of this tag among the alternative names is one of the texts.
 fn has_no_other(alternative: &[u8], tag: u8, texts: &[Text]) -> bool
     requires { IsValueList alternative.now }
-    ensures { result ≡ is_within (named tag (values_of alternative.now)) texts.now }
+    ensures { result ≡ is_within (names_tagged tag (values_of alternative.now)) texts.now }
 {
     let mut rest = alternative;
     while let Some((kind, contents, after)) = next_name(rest) {
@@ -74,7 +74,7 @@ fn has_no_other(alternative: &[u8], tag: u8, texts: &[Text]) -> bool
 
 fn has_each(alternative: &[u8], tag: u8, texts: &[Text]) -> bool
     requires { IsValueList alternative.now }
-    ensures { result ≡ is_within texts.now (named tag (values_of alternative.now)) }
+    ensures { result ≡ is_within texts.now (names_tagged tag (values_of alternative.now)) }
 {
     texts
         .iter()
@@ -104,7 +104,7 @@ fn left_behind<'a>(texts: &'a [Text], tag: u8, kind: u8, contents: &[u8]) -> Opt
 // Whether the names of this tag are these texts, in this order.
 fn are_in_order(alternative: &[u8], tag: u8, texts: &[Text]) -> bool
     requires { IsValueList alternative.now }
-    ensures { result ≡ true → named tag (values_of alternative.now) ≡ texts.now }
+    ensures { result ≡ true → names_tagged tag (values_of alternative.now) ≡ texts.now }
 {
     let mut rest = alternative;
     let mut left = texts;
@@ -167,7 +167,7 @@ fn all_have(alternative: &[u8], texts: &[Text]) -> bool
 
 fn has_each_address(alternative: &[u8], texts: &[Text]) -> bool
     requires { IsValueList alternative.now }
-    ensures { result ≡ is_within (written texts.now) (addresses (values_of alternative.now)) }
+    ensures { result ≡ is_within (addresses_written texts.now) (addresses (values_of alternative.now)) }
 {
     all_have(alternative, texts)
 }
@@ -190,13 +190,13 @@ fn one_writes(texts: &[Text], octets: &[u8]) -> bool
 }
 
 fn is_written(texts: &[Text], octets: &[u8]) -> bool
-    ensures { result ≡ is_among (written texts.now) octets.now }
+    ensures { result ≡ is_among (addresses_written texts.now) octets.now }
 {
     one_writes(texts, octets)
 }
 
 fn is_asked_address(kind: u8, contents: &[u8], texts: &[Text]) -> bool
-    ensures { result ≡ (if (kind == 135) && words.is_address contents.now then is_among (written texts.now) contents.now else true) }
+    ensures { result ≡ (if (kind == 135) && words.is_address contents.now then is_among (addresses_written texts.now) contents.now else true) }
 {
     if kind == ADDRESS && is_address(contents) {
         is_written(texts, contents)
@@ -208,7 +208,7 @@ fn is_asked_address(kind: u8, contents: &[u8], texts: &[Text]) -> bool
 // Whether each address among the alternative names is written by one of the texts.
 fn has_no_other_address(alternative: &[u8], texts: &[Text]) -> bool
     requires { IsValueList alternative.now }
-    ensures { result ≡ is_within (addresses (values_of alternative.now)) (written texts.now) }
+    ensures { result ≡ is_within (addresses (values_of alternative.now)) (addresses_written texts.now) }
 {
     let mut rest = alternative;
     while let Some((kind, contents, after)) = next_name(rest) {

@@ -39,7 +39,7 @@ pub fn revision_of(request: &CertificateRequest) -> Option<u64>
 
 /// Whether the request is for this revision of its Certificate.
 pub fn is_of(request: &CertificateRequest, revision: u64) -> bool
-    ensures { result ≡ words.is_of revision request.now }
+    ensures { result ≡ words.is_of_revision revision request.now }
 {
     match revision_of(request) {
         None => false,
@@ -48,7 +48,7 @@ pub fn is_of(request: &CertificateRequest, revision: u64) -> bool
 }
 
 fn count_of(requests: &[Shared<CertificateRequest>], revision: u64) -> usize
-    ensures { result ≡ length (filter (λ request. words.is_of revision request) requests.now) }
+    ensures { result ≡ length (filter (λ request. words.is_of_revision revision request) requests.now) }
 {
     requests
         .iter()
@@ -60,7 +60,7 @@ fn first_of(
     requests: &[Shared<CertificateRequest>],
     revision: u64,
 ) -> Option<&Shared<CertificateRequest>>
-    ensures { option_copied result ≡ find (λ request. words.is_of revision request) requests.now }
+    ensures { option_copied result ≡ find (λ request. words.is_of_revision revision request) requests.now }
 {
     requests.iter().find(|request| is_of(request, revision))
 }

@@ -22,7 +22,7 @@ use Rattle.cmc_cursor.specs.Readers.{text_at, count_at, bytes_at, name_in}
 use Rattle.cmc_cursor.specs.Readers.{passes, text_member}
 use Rattle.cmc_material.specs.Keys.{key_of_kind, split_slash}
 use Rattle.cmc_material.specs.Lists.{numbered_at, member_or, member_option, bounded_at}
-use Rattle.cmc_material.specs.MaterialRows.{synthetic_in, key_row_in, key_row_at, issue_in, pending_in, fail_in, raw_in, no_reply_in, reply_row_in, reply_row_at, key_rows_at, reply_rows_at, rows_at, certificate_at, entry_at, material_with, material_at}
+use Rattle.cmc_material.specs.MaterialRows.{synthetic_in, key_row_in, key_row_at, issue_in, pending_in, fail_in, raw_in, no_reply_in, reply_row_in, reply_row_at, key_rows_at, reply_rows_at, rows_at, certificate_key_at, certificate_rows_at, material_with, material_at}
 use Rattle.cmc_cursor.proofs.Always.{Always, so, failed, next, after, below, either, further}
 use Rattle.cmc_material.proofs.ListForms.{of_member_or, of_member_option, of_bounded, of_numbered, of_list}
 
@@ -123,14 +123,14 @@ of_certificate : (t : List ℕ) → Always IsCertificate (key_of_kind Certificat
 unfolding key_of_kind
 of_certificate t = next (IsCertificate) (split_slash t) _ (λ parts. next (IsCertificate) (name_in parts.0) _ (λ namespace. next (IsCertificate) (name_in parts.1) _ (λ name. so refl)))
 
-pub of_certificate_text : (d : Data) → Always IsCertificate (certificate_at d)
+pub of_certificate_text : (d : Data) → Always IsCertificate (certificate_key_at d)
 of_certificate_text d = next IsCertificate (text_at d) (key_of_kind Certificate) of_certificate
 
 abbrev IsEntry : Key × Rows → Type 0
 IsEntry entry = IsCertificate entry.0 × IsRows entry.1
 
-of_entry : (name : List ℕ) (d : Data) → Always IsEntry (entry_at name d)
-unfolding entry_at
+of_entry : (name : List ℕ) (d : Data) → Always IsEntry (certificate_rows_at name d)
+unfolding certificate_rows_at
 of_entry name d = after (IsCertificate) (IsEntry) (key_of_kind Certificate name) _ (of_certificate name) (λ certificate is. after (IsRows) (IsEntry) (rows_at d) _ (of_rows d) (λ rows formed. so (is, formed)))
 
 abbrev pub IsMaterial : List (Key × Rows) → Type 0
@@ -156,7 +156,7 @@ entry_put (e ∷ es) certificate rows is formed all =
 of_entries : (material : List (Key × Rows)) (ms : Members) → IsMaterial material → Always IsMaterial (material_with material ms)
 of_entries material no_members all = so all
 of_entries material (member name d ms) all =
-    after IsEntry IsMaterial (under name (entry_at name d)) _ (below IsEntry name (entry_at name d) (of_entry name d))
+    after IsEntry IsMaterial (under name (certificate_rows_at name d)) _ (below IsEntry name (certificate_rows_at name d) (of_entry name d))
     (λ entry is. of_entries (insert_entry key_cmp material entry.0 entry.1) ms (entry_put material entry.0 entry.1 is.0 is.1 all))
 
 of_listed : (d : Data) → Always IsMaterial (material_at d)

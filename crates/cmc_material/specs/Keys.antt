@@ -29,11 +29,11 @@ key_of_kind kind t = do
   name ← name_in parts.1
   Ok (record { kind = kind; namespace = namespace; name = name })
 
-unfoldable pub key_in : List ℕ → Read Key
-key_in t = do
+unfoldable pub key_of_text : List ℕ → Read Key
+key_of_text t = do
   parts ← split_slash t
   kind ← kind_in parts.0
   key_of_kind kind parts.1
 
 abbrev pub key_at : Data → Read Key
-key_at d = text_at d >>= key_in
+key_at d = text_at d >>= key_of_text

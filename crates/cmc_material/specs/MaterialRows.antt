@@ -10,7 +10,7 @@ use Rattle.cmc_objects.specs.declared.rows.KeyRow.{KeyRow}
 use Rattle.cmc_objects.specs.declared.rows.KeyRow.TheVariants.{Synthetic, Der}
 use Rattle.cmc_objects.specs.declared.rows.SignRow.{SignRow}
 use Rattle.cmc_objects.specs.declared.rows.SignRow.TheVariants.{Issue, Pending, Fail, Raw}
-use Rattle.cmc_objects.specs.Materials.{with_rows}
+use Rattle.cmc_objects.specs.Materials.{with_rows_of}
 use Rattle.cmc_cursor.specs.Reading.{Read, ◌>>=◌, under, Field, fields_at, optional_at, required_at, at_end}
 use Rattle.cmc_cursor.specs.Readers.{text_at, count_at, bytes_at}
 use Rattle.cmc_cursor.specs.Readers.{passes, text_member}
@@ -136,12 +136,12 @@ rows_at d = do
   Ok (record { keys = keys; replies = replies })
 
 -- A Certificate, written `namespace/name`.
-abbrev pub certificate_at : Data → Read Key
-certificate_at d = text_at d >>= key_of_kind Certificate
+abbrev pub certificate_key_at : Data → Read Key
+certificate_key_at d = text_at d >>= key_of_kind Certificate
 
 -- The member's name is a Certificate, and its value has the Certificate's rows.
-unfoldable pub entry_at : List ℕ → Data → Read (Key × Rows)
-entry_at name d = do
+unfoldable pub certificate_rows_at : List ℕ → Data → Read (Key × Rows)
+certificate_rows_at name d = do
   certificate ← key_of_kind Certificate name
   rows ← rows_at d
   Ok (certificate, rows)
@@ -149,7 +149,7 @@ entry_at name d = do
 -- The material with the rows of each member, one after another.
 abbrev pub material_with : List (Key × Rows) → Members → Read (List (Key × Rows))
 material_with material no_members = Ok material
-material_with material (member name d ms) = under name (entry_at name d) >>= (λ entry. material_with (with_rows material entry.0 entry.1) ms)
+material_with material (member name d ms) = under name (certificate_rows_at name d) >>= (λ entry. material_with (with_rows_of material entry.0 entry.1) ms)
 
 abbrev pub material_at : Data → Read (List (Key × Rows))
 material_at (object ms) = material_with [] ms

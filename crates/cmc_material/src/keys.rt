@@ -2,7 +2,7 @@
 ghost use Rattle.std.specs.Prelude.{◌≡◌};
 ghost use Rattle.serde_json.specs.View.{view};
 ghost use Rattle.cmc_cursor.specs.Reading.{Gives};
-ghost use Rattle.cmc_material.specs.Keys.{split_slash, kind_in, key_of_kind, key_in, key_at};
+ghost use Rattle.cmc_material.specs.Keys.{split_slash, kind_in, key_of_kind, key_of_text, key_at};
 
 use cmc_cursor::{BadField, name_of};
 use cmc_meta::{Key, Kind, Texts};
@@ -45,9 +45,9 @@ pub fn key_under(alloc: Global, kind: Kind, text: &str) -> Result<Key, BadField>
     })
 }
 
-#[tactic(auto, unfolding(crate::specs::Keys::key_in))]
+#[tactic(auto, unfolding(crate::specs::Keys::key_of_text))]
 fn key_of(alloc: Global, text: &str) -> Result<Key, BadField>
-    ensures { Gives (λ t. t) result (key_in text.now) }
+    ensures { Gives (λ t. t) result (key_of_text text.now) }
 {
     let (kind, rest) = split(alloc, text)?;
     let kind = kind_of(alloc, kind)?;

@@ -4,7 +4,7 @@ ghost use Rattle.serde_json.specs.View.{view, members_view};
 ghost use Rattle.cmc_cursor.specs.Reading.{Gives, under};
 ghost use Rattle.cmc_cursor.specs.Seen.{shown_option};
 ghost use Rattle.cmc_material.specs.Lists.{member_or};
-ghost use Rattle.cmc_material.specs.MaterialRows.{certificate_at, entry_at, material_at, material_with, rows_at};
+ghost use Rattle.cmc_material.specs.MaterialRows.{certificate_key_at, certificate_rows_at, material_at, material_with, rows_at};
 
 use crate::keys::key_under;
 use crate::rows::{key_rows, reply_rows};
@@ -29,7 +29,7 @@ fn rows(alloc: Global, value: &Value) -> Result<Rows, BadField>
 
 /// A Certificate, written `namespace/name`.
 pub fn certificate(alloc: Global, value: &Value) -> Result<Key, BadField>
-    ensures { Gives (λ t. t) result (certificate_at (view value.now)) }
+    ensures { Gives (λ t. t) result (certificate_key_at (view value.now)) }
 {
     match value.as_str() {
         Some(text) => key_under(alloc, Kind::Certificate, text),
@@ -37,9 +37,9 @@ pub fn certificate(alloc: Global, value: &Value) -> Result<Key, BadField>
     }
 }
 
-#[tactic(auto, unfolding(crate::specs::MaterialRows::entry_at))]
+#[tactic(auto, unfolding(crate::specs::MaterialRows::certificate_rows_at))]
 fn entry(alloc: Global, name: &str, value: &Value) -> Result<(Key, Rows), BadField>
-    ensures { Gives (λ t. t) result (entry_at name.now (view value.now)) }
+    ensures { Gives (λ t. t) result (certificate_rows_at name.now (view value.now)) }
 {
     let certificate = key_under(alloc, Kind::Certificate, name)?;
     let rows = rows(alloc, value)?;
@@ -47,7 +47,7 @@ fn entry(alloc: Global, name: &str, value: &Value) -> Result<(Key, Rows), BadFie
 }
 
 fn named_entry(alloc: Global, name: &str, value: &Value) -> Result<(Key, Rows), BadField>
-    ensures { Gives (λ t. t) result (under name.now (entry_at name.now (view value.now))) }
+    ensures { Gives (λ t. t) result (under name.now (certificate_rows_at name.now (view value.now))) }
 {
     at(alloc, name, entry(alloc, name, value))
 }

@@ -6,8 +6,8 @@ use Rattle.std.specs.Map.{lookup, remove_entry}
 use Rattle.std.specs.BTreeMap.{insert_entry, is_at}
 
 -- the text under the key
-abbrev pub text_at : List (List ℕ × List ℕ) → List ℕ → Option (List ℕ)
-text_at pairs key = lookup (is_at (slice_cmp nat_cmp key)) pairs
+abbrev pub text_by_key : List (List ℕ × List ℕ) → List ℕ → Option (List ℕ)
+text_by_key pairs key = lookup (is_at (slice_cmp nat_cmp key)) pairs
 
 -- the pairs with this text under the key
 abbrev pub with_text : List (List ℕ × List ℕ) → List ℕ → List ℕ → List (List ℕ × List ℕ)

@@ -4,7 +4,7 @@ ghost use Rattle.std.specs.Cmp.Rules.{comparing};
 ghost use Rattle.std.specs.Option.{option_copied};
 ghost use Rattle.std.specs.Prelude.{◌≡◌, ◌↔◌, ◌&&◌, [], IsTrue, IfOk, OnOk, OnErr, nat_eq};
 ghost use Rattle.cmc_meta.specs.HeldPairs.{pairs_of};
-ghost use Rattle.cmc_meta.specs.PairLists.{text_at, with_text, without_text};
+ghost use Rattle.cmc_meta.specs.PairLists.{text_by_key, with_text, without_text};
 
 use crate::text::Text;
 use std::alloc::{AllocError, Global};
@@ -76,7 +76,7 @@ impl Pairs {
 
     /// The text under the key; `None` exactly where no pair has it.
     pub fn get(&self, key: &Text) -> Option<&Text>
-        ensures { option_copied result ≡ text_at self.now key.now }
+        ensures { option_copied result ≡ text_by_key self.now key.now }
     {
         self.as_map().get(key)
     }

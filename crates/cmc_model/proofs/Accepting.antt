@@ -14,7 +14,7 @@ use Rattle.cmc_model.specs.Stored.{updated, with_status}
 use Rattle.cmc_model.specs.Admission.{is_taken, refusing_rule}
 use Rattle.cmc_model.specs.Replies.{State, IsReply, IsServed, IsCreated, IsUpdated, IsRestated, IsDeleted, IsGot, IsChange, IsAdmitted, is_accepted, under_reply, settled}
 use Rattle.cmc_model.proofs.Settling.{refused, settled_served}
-use Rattle.cmc_model.specs.Accepting.{IsNamed, IsOnVersion, IsFounded}
+use Rattle.cmc_model.specs.Accepting.{IsNamedVersion, IsOnVersion, IsFounded}
 
 changed : (n : ℕ) (name : List ℕ) (old new : Object) (reply : Reply) → IsChange n name old new reply → is_accepted reply ≡ true → new ≢ old
 changed n name old new reply (inl same) ok = absurd (refused reply (Unchanged (version_of old)) refl ok same.1)
@@ -54,7 +54,7 @@ delete_at true n named name old reply same right ok = grind (arith, nat_tests)
 delete_at false n named name old reply same right ok = absurd (refused reply (Conflict named (version_of old)) refl ok right)
 
 by_delete : (n : ℕ) (named : Option ℕ) (name : List ℕ) (old : Option Object) (reply : Reply) → IsDeleted n named name old reply → is_accepted reply ≡ true
-    → (o : Object) × (old ≡ Some o) × IsNamed named o
+    → (o : Object) × (old ≡ Some o) × IsNamedVersion named o
 by_delete n None name None reply right ok = absurd (refused reply (NotFound n) refl ok right)
 by_delete n (Some named) name None reply right ok = absurd (refused reply (NotFound n) refl ok right)
 by_delete n None name (Some old) reply right ok = (old, refl, tt)

@@ -17,12 +17,12 @@ use Rattle.cmc_objects.specs.Objects.{meta_of, numbered}
 use Rattle.cmc_objects.specs.Requests.{is_stated}
 use Rattle.cmc_model.specs.Objects.{Objects, object_at}
 use Rattle.cmc_model.specs.Stored.{created, updated, with_status, generation_after, revised, restated}
-use Rattle.cmc_model.specs.Admission.{stands, is_unsettled, condition_eq, is_lost, loses, verdict_rules, refusing_rule}
+use Rattle.cmc_model.specs.Admission.{has_condition, is_unsettled, condition_eq, is_lost, loses, verdict_rules, refusing_rule}
 use Rattle.cmc_model.specs.Replies.{is_accepted, key_of_call, settled, stored}
 use Rattle.cmc_model.specs.Accepting.{IsFounded}
 use Rattle.cmc_model.specs.Histories.{Setting, moment, state, objects, accepted}
 use Rattle.cmc_model.specs.Writes.{writes}
-use Rattle.cmc_model.specs.Verdicts.{verdict_of, states, HasOneVerdict, KeepsVerdict, KeepsVerdicts, IsAnswered, AreFinal}
+use Rattle.cmc_model.specs.Verdicts.{verdict_condition, states, HasOneVerdict, KeepsVerdict, KeepsVerdicts, IsAnswered, AreFinal}
 use Rattle.cmc_model.proofs.Accepting.{accepted_found}
 use Rattle.cmc_model.proofs.Admission.{condition_eq-Decides, AllPass, all_pass}
 use Rattle.cmc_model.proofs.Permanence.{IsKeptBy, versions_linked}
@@ -36,9 +36,9 @@ stands_by : (same so : Bool) (some rest : Bool) → (some ≡ true → rest ≡ 
 stands_by true so some rest below is = refl
 stands_by false so some rest below is = below is
 
-stands_where : (k : ConditionKind) (cs : List Condition) → is_stated k cs ≡ true → stands k cs ≡ true
+stands_where : (k : ConditionKind) (cs : List Condition) → is_stated k cs ≡ true → has_condition k cs ≡ true
 stands_where k [] is = is
-stands_where k (c ∷ cs) is = stands_by (condition_rank c.kind == condition_rank k) (tri_eq c.status tri.True) (is_stated k cs) (stands k cs) (stands_where k cs) is
+stands_where k (c ∷ cs) is = stands_by (condition_rank c.kind == condition_rank k) (tri_eq c.status tri.True) (is_stated k cs) (has_condition k cs) (stands_where k cs) is
 
 settled_by : (same so : Bool) (some other rest : Bool) → (some ≡ true → other ≡ false → rest ≡ true) → (same || some) ≡ true → ((same && not so) || other) ≡ false
     → ((same && so) || rest) ≡ true
@@ -46,29 +46,29 @@ settled_by true true some other rest below is settled = refl
 settled_by true false some other rest below is settled = absurd (cc settled)
 settled_by false so some other rest below is settled = below is settled
 
-settled_where : (k : ConditionKind) (cs : List Condition) → stands k cs ≡ true → is_unsettled k cs ≡ false → is_stated k cs ≡ true
+settled_where : (k : ConditionKind) (cs : List Condition) → has_condition k cs ≡ true → is_unsettled k cs ≡ false → is_stated k cs ≡ true
 settled_where k [] is settled = is
 settled_where k (c ∷ cs) is settled =
-    settled_by (condition_rank c.kind == condition_rank k) (tri_eq c.status tri.True) (stands k cs) (is_unsettled k cs) (is_stated k cs) (settled_where k cs) is settled
+    settled_by (condition_rank c.kind == condition_rank k) (tri_eq c.status tri.True) (has_condition k cs) (is_unsettled k cs) (is_stated k cs) (settled_where k cs) is settled
 
 found_by : (same some : Bool) (c : Condition) (rest : Option Condition) → (some ≡ true → rest ≡ None → ⊥) → (same || some) ≡ true → (if same then Some c else rest) ≡ None → ⊥
 found_by true some c rest below is none = absurd (cc none)
 found_by false some c rest below is none = below is none
 
-stands_found : (k : ConditionKind) (cs : List Condition) → stands k cs ≡ true → condition_at cs k ≡ None → ⊥
+stands_found : (k : ConditionKind) (cs : List Condition) → has_condition k cs ≡ true → condition_at cs k ≡ None → ⊥
 stands_found k [] is none = absurd (cc is)
-stands_found k (c ∷ cs) is none = found_by (condition_rank c.kind == condition_rank k) (stands k cs) c (condition_at cs k) (stands_found k cs) is none
+stands_found k (c ∷ cs) is none = found_by (condition_rank c.kind == condition_rank k) (has_condition k cs) c (condition_at cs k) (stands_found k cs) is none
 
 there_by : (same rest : Bool) (d : Condition) (found : Option Condition) (c : Condition) → (found ≡ Some c → rest ≡ true) → (if same then Some d else found) ≡ Some c → (same || rest) ≡ true
 there_by true rest d found c below is = refl
 there_by false rest d found c below is = below is
 
-found_stands : (k : ConditionKind) (cs : List Condition) (c : Condition) → condition_at cs k ≡ Some c → stands k cs ≡ true
+found_stands : (k : ConditionKind) (cs : List Condition) (c : Condition) → condition_at cs k ≡ Some c → has_condition k cs ≡ true
 found_stands k [] c is = absurd (cc is)
-found_stands k (d ∷ cs) c is = there_by (condition_rank d.kind == condition_rank k) (stands k cs) d (condition_at cs k) c (found_stands k cs c) is
+found_stands k (d ∷ cs) c is = there_by (condition_rank d.kind == condition_rank k) (has_condition k cs) d (condition_at cs k) c (found_stands k cs c) is
 
 -- what no rule loses stays
-kept_found : (k : ConditionKind) (new : List Condition) (x y : Option Condition) → condition_at new k ≡ y → is_lost x y ≡ false → (x ≡ None → ⊥) → stands k new ≡ true
+kept_found : (k : ConditionKind) (new : List Condition) (x y : Option Condition) → condition_at new k ≡ y → is_lost x y ≡ false → (x ≡ None → ⊥) → has_condition k new ≡ true
 kept_found k new None y is kept some = absurd (some refl)
 kept_found k new (Some a) None is kept some = absurd (cc kept)
 kept_found k new (Some a) (Some b) is kept some = found_stands k new b is
@@ -100,7 +100,7 @@ IsSteady old (Some new) = HasOneVerdict new × IsHeirOf old new
 
 -- two objects with the same verdicts
 abbrev IsAlike : ConditionKind → Object → Object → Type 0
-IsAlike k o p = (states k p ≡ states k o) × (verdict_of k p ≡ verdict_of k o)
+IsAlike k o p = (states k p ≡ states k o) × (verdict_condition k p ≡ verdict_condition k o)
 
 none_stated : (v : ℕ) (now : ℤ) (k : ConditionKind) (o : Object) → states k (created v now o) ≡ false
 unfolding created
@@ -168,7 +168,7 @@ verdicts_pass : (old new : List Condition) → AllPass (verdict_rules old new) �
 verdicts_pass old new pass =
     let settled = or_parts (is_unsettled Approved new) (is_unsettled Denied new) pass.0 in
     let kept = or_parts (loses Approved old new) (loses Denied old new) pass.1.1.0 in record {
-      one = λ a d. both_false (stands Approved new) (stands Denied new) (stands_where Approved new a) (stands_where Denied new d) pass.1.0;
+      one = λ a d. both_false (has_condition Approved new) (has_condition Denied new) (stands_where Approved new a) (stands_where Denied new d) pass.1.0;
       approved = λ is. stays Approved old new settled.0 kept.0 is;
       denied = λ is. stays Denied old new settled.1 kept.1 is;
     }

@@ -8,9 +8,9 @@ use Rattle.cmc_model.specs.Objects.{Objects, object_at}
 use Rattle.cmc_model.specs.Stored.{updated, with_status}
 use Rattle.cmc_model.specs.Admission.{is_taken, refusing_rule}
 
-abbrev pub IsNamed : Option ℕ → Object → Type 0
-IsNamed None old = Unit {0}
-IsNamed (Some named) old = version_of old ≡ named
+abbrev pub IsNamedVersion : Option ℕ → Object → Type 0
+IsNamedVersion None old = Unit {0}
+IsNamedVersion (Some named) old = version_of old ≡ named
 
 -- an update found the version that it names, changes the object, and no rule refuses it
 pub record IsOnVersion (old new : Object) (named : ℕ) (rule : Option ℕ) : Type 0 where
@@ -26,5 +26,5 @@ IsFounded objects (Update object named) =
     × IsOnVersion old (updated old object) named (refusing_rule (Some old) object false (is_taken objects object))
 IsFounded objects (UpdateStatus object named) =
     (old : Object) × (object_at objects (key_of object) ≡ Some old) × IsOnVersion old (with_status old object) named (refusing_rule (Some old) object true false)
-IsFounded objects (Delete key named) = (old : Object) × (object_at objects key ≡ Some old) × IsNamed named old
+IsFounded objects (Delete key named) = (old : Object) × (object_at objects key ≡ Some old) × IsNamedVersion named old
 IsFounded objects (Get key) = ⊥

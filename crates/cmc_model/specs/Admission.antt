@@ -5,7 +5,7 @@ use Rattle.std.specs.Option.{is_some}
 use Rattle.std.specs.Ordering.{int_eq}
 use Rattle.std.specs.Str.{bytes_eq}
 use Rattle.std.specs.FinMap as finite
-use Rattle.cmc_meta.specs.PairLists.{text_at}
+use Rattle.cmc_meta.specs.PairLists.{text_by_key}
 use Rattle.cmc_meta.specs.declared.conditions.Condition.{Condition}
 use Rattle.cmc_meta.specs.declared.conditions.ConditionKind.{ConditionKind}
 use Rattle.cmc_meta.specs.declared.conditions.ConditionKind.TheVariants.{Approved, Denied}
@@ -119,16 +119,16 @@ abbrev pub changes_spec : Option Object → Object → Bool
 changes_spec None new = false
 changes_spec (Some old) new = not (keeps_spec old new)
 
-abbrev pub is_of : ConditionKind → Condition → Bool
-is_of kind c = condition_rank c.kind == condition_rank kind
+abbrev pub is_of_condition : ConditionKind → Condition → Bool
+is_of_condition kind c = condition_rank c.kind == condition_rank kind
 
 -- a condition of this kind stands
-abbrev pub stands : ConditionKind → List Condition → Bool
-stands kind conditions = list_any (λ c. is_of kind c) conditions
+abbrev pub has_condition : ConditionKind → List Condition → Bool
+has_condition kind conditions = list_any (λ c. is_of_condition kind c) conditions
 
 -- and one stands that is not True
 abbrev pub is_unsettled : ConditionKind → List Condition → Bool
-is_unsettled kind conditions = list_any (λ c. is_of kind c && not (tri_eq c.status True)) conditions
+is_unsettled kind conditions = list_any (λ c. is_of_condition kind c && not (tri_eq c.status True)) conditions
 
 abbrev pub condition_eq : Condition → Condition → Bool
 condition_eq a b =
@@ -152,7 +152,7 @@ abbrev pub is_verdict_unsettled : List Condition → Bool
 is_verdict_unsettled new = is_unsettled Approved new || is_unsettled Denied new
 
 abbrev pub has_both_verdicts : List Condition → Bool
-has_both_verdicts new = stands Approved new && stands Denied new
+has_both_verdicts new = has_condition Approved new && has_condition Denied new
 
 abbrev pub loses_verdict : List Condition → List Condition → Bool
 loses_verdict old new = loses Approved old new || loses Denied old new
@@ -164,7 +164,7 @@ changes_type (Some (Secret old)) new = not (bytes_eq old.kind_text new.kind_text
 changes_type other new = false
 
 abbrev pub lacks : List ℕ → SecretObject → Bool
-lacks name s = not (is_some (text_at s.parts name))
+lacks name s = not (is_some (text_by_key s.parts name))
 
 -- of the type for TLS, without a key or a certificate; either may be empty
 abbrev pub is_tls_incomplete : SecretObject → Bool

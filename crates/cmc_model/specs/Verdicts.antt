@@ -16,10 +16,10 @@ use Rattle.cmc_model.specs.Replies.{IsReply}
 use Rattle.cmc_model.specs.Versions.{uid_of, HasVersion}
 
 -- the condition of this kind that a request has, and whether it is True; other objects have none
-abbrev pub verdict_of : ConditionKind → Object → Option Condition
-verdict_of kind (Cert c) = None
-verdict_of kind (Request r) = condition_at r.status.conditions kind
-verdict_of kind (Secret s) = None
+abbrev pub verdict_condition : ConditionKind → Object → Option Condition
+verdict_condition kind (Cert c) = None
+verdict_condition kind (Request r) = condition_at r.status.conditions kind
+verdict_condition kind (Secret s) = None
 
 abbrev pub states : ConditionKind → Object → Bool
 states kind (Cert c) = false
@@ -32,7 +32,7 @@ HasOneVerdict o = states Approved o ≡ true → states Denied o ≡ true → �
 
 -- what is True of this kind in the older object is True in the newer one, and the very same condition
 abbrev pub KeepsVerdict : ConditionKind → Object → Object → Type 0
-KeepsVerdict kind older newer = states kind older ≡ true → (states kind newer ≡ true) × (verdict_of kind newer ≡ verdict_of kind older)
+KeepsVerdict kind older newer = states kind older ≡ true → (states kind newer ≡ true) × (verdict_condition kind newer ≡ verdict_condition kind older)
 
 pub record KeepsVerdicts (older newer : Object) : Type 0 where
   pub approved : KeepsVerdict Approved older newer

@@ -36,7 +36,7 @@ use Rattle.cmc_moves.specs.declared.moves.Stepped.{Stepped}
 use Rattle.cmc_moves.specs.declared.moves.Stepped.TheVariants.{Done, Order as Tells, NotNow}
 use Rattle.cmc_moves.specs.Acting.{IsDoingBy, IsGoingOn, IsTaking, IsTaken, asked_in}
 use Rattle.cmc_moves.specs.Answers.{AnswersDecided, AnswersDecide, Leaves, kept_of, next_answer, outdated}
-use Rattle.cmc_moves.specs.Decisions.{BegunPass, Decision, IsDecided, IsUndecided, SawSame, bare_desk, decides_alone, is_fresh, is_undecided}
+use Rattle.cmc_moves.specs.Decisions.{BegunPass, Decision, IsDecided, IsUndecided, SawSame, bare_desk, decides_alone, is_fresh_stage, is_undecided}
 use Rattle.cmc_moves.proofs.Sounds.{each_sound}
 use Rattle.cmc_moves.proofs.Tables.{of_open_pass}
 
@@ -74,12 +74,12 @@ may_bare s h n p formed run is =
 
 -- ---- a pass that takes a decision
 
-fresh_is : (stage : Stage) → is_fresh stage ≡ true → stage ≡ Fresh
+fresh_is : (stage : Stage) → is_fresh_stage stage ≡ true → stage ≡ Fresh
 fresh_is Fresh is = refl
 fresh_is other is = absurd (cc is)
 
 pub stage_is : (p : OpenPass) → is_undecided p ≡ true → p.stage ≡ Fresh
-stage_is p is = fresh_is p.stage (and_parts (decides_alone p.role) (is_fresh p.stage) is).1
+stage_is p is = fresh_is p.stage (and_parts (decides_alone p.role) (is_fresh_stage p.stage) is).1
 
 kept_fresh : (p : OpenPass) (stage : Stage) → p.stage ≡ stage → stage ≡ Fresh → kept_of (Some p) ≡ None
 kept_fresh p Fresh is fresh = ap (λ (x : Stage). kept_of (Some (record p { stage = x }))) is

@@ -27,7 +27,7 @@ use Rattle.cmc_moves.specs.declared.moves.Lack.{Lack}
 use Rattle.cmc_moves.specs.declared.moves.Lack.TheVariants.{ScriptOver, ScriptWaits, Stopped, NoInformer, Held, Current, NotAWrite, NotQueued, InProcess, SameViews, OwnWrite, NoPass, Settled}
 use Rattle.cmc_moves.specs.declared.moves.Stepped.{Stepped}
 use Rattle.cmc_moves.specs.declared.moves.Stepped.TheVariants.{Done, Order as Asks, NotNow, Ended, NotMine, OtherViews, Spent}
-use Rattle.cmc_moves.specs.Answers.{is_done, Need, Bar, BarOf, Fits, IsNews, IsQueued, outdated, entries_of, next_effect, AnswersScript, AnswersDelivery, AnswersBegin, AnswersOpen, AnswersGoing, AnswersNext, AnswersDecided, AnswersDecide, AnswersGiven, AnswersGive, kept_of, new_of, next_answer}
+use Rattle.cmc_moves.specs.Answers.{is_done, Need, Bar, BarOf, FitsLimit, IsWatchEvent, IsQueued, outdated, entries_of, next_effect, AnswersScript, AnswersDelivery, AnswersBegin, AnswersOpen, AnswersGoing, AnswersNext, AnswersDecided, AnswersDecide, AnswersGiven, AnswersGive, kept_of, new_of, next_answer}
 use Rattle.cmc_rules.specs.Passes.{IsWorking}
 use Rattle.cmc_moves.specs.Decisions.{Decision}
 use Rattle.cmc_moves.specs.Tables.{fitting, own_answer, delivery_answer, begin_answer, script_answer}
@@ -40,27 +40,27 @@ pub record Decides (fact : Type 0) (test : Bool) : Type 0 where
 pub decided : (fact : Type 0) (test : Bool) → (IsTrue test ↔ fact) → Decides fact test
 decided fact test e = record { yes = λ is. e.0 is; no = λ is so. let not = e.1 so in absurd (cc (is, not)) }
 
-fitted : (s : Setting) (h : List Entry) (more : ℕ) (answer : Stepped) (room : Bool) → Decides (length h + more ≤ s.events) room → answer ≡ fitting (length h) room → Fits s h more answer
+fitted : (s : Setting) (h : List Entry) (more : ℕ) (answer : Stepped) (room : Bool) → Decides (length h + more ≤ s.events) room → answer ≡ fitting (length h) room → FitsLimit s h more answer
 fitted s h more answer true d a = inr (d.yes refl, a)
 fitted s h more answer false d a = inl (d.no refl, a)
 
 newer : (s : Setting) (h : List Entry) (role : Role) (kind : Kind) (to : ℕ) (answer : Stepped) (is_news room : Bool)
-    → Decides (IsNews s h role kind to) is_news → Decides (length h + 1 ≤ s.events) room → answer ≡ (if is_news then fitting (length h) room else NotNow (NotAWrite to))
-    → Need (IsNews s h role kind to) (NotNow (NotAWrite to)) answer (Fits s h 1 answer)
+    → Decides (IsWatchEvent s h role kind to) is_news → Decides (length h + 1 ≤ s.events) room → answer ≡ (if is_news then fitting (length h) room else NotNow (NotAWrite to))
+    → Need (IsWatchEvent s h role kind to) (NotNow (NotAWrite to)) answer (FitsLimit s h 1 answer)
 newer s h role kind to answer true room news d a = inr (news.yes refl, fitted s h 1 answer room d a)
 newer s h role kind to answer false room news d a = inl (news.no refl, a)
 
 behind : (s : Setting) (h : List Entry) (role : Role) (kind : Kind) (to : ℕ) (answer : Stepped) (late is_news room : Bool)
     → nat_le (last_of_kind kind (writes s h)) (position h role kind) ≡ late
-    → Decides (IsNews s h role kind to) is_news → Decides (length h + 1 ≤ s.events) room
+    → Decides (IsWatchEvent s h role kind to) is_news → Decides (length h + 1 ≤ s.events) room
     → answer ≡ (if late then NotNow (Current (position h role kind)) else (if is_news then fitting (length h) room else NotNow (NotAWrite to)))
-    → Bar (last_of_kind kind (writes s h) ≤ position h role kind) (NotNow (Current (position h role kind))) answer (Need (IsNews s h role kind to) (NotNow (NotAWrite to)) answer (Fits s h 1 answer))
+    → Bar (last_of_kind kind (writes s h) ≤ position h role kind) (NotNow (Current (position h role kind))) answer (Need (IsWatchEvent s h role kind to) (NotNow (NotAWrite to)) answer (FitsLimit s h 1 answer))
 behind s h role kind to answer true is_news room e news d a = inl (grind (arith, nat_tests), a)
 behind s h role kind to answer false is_news room e news d a = inr ((λ le. absurd (grind (arith, nat_tests))), newer s h role kind to answer is_news room news d a)
 
 pub delivery_answers : (s : Setting) (h : List Entry) (role : Role) (kind : Kind) (to : ℕ) (answer : Stepped) (running informed kept is_news room : Bool)
     → runs s h role ≡ running → has_informer role kind ≡ informed → held s h role kind ≡ kept
-    → Decides (IsNews s h role kind to) is_news → Decides (length h + 1 ≤ s.events) room
+    → Decides (IsWatchEvent s h role kind to) is_news → Decides (length h + 1 ≤ s.events) room
     → answer ≡ delivery_answer running informed kept (position h role kind) (last_of_kind kind (writes s h)) to is_news (length h) room
     → AnswersDelivery s h role kind to answer
 delivery_answers s h role kind to answer false informed kept is_news room on has stays news d a = inl ((λ off. absurd (cc (on, off))), a)
@@ -71,14 +71,14 @@ delivery_answers s h role kind to answer true true false is_news room on has sta
 
 queued : (s : Setting) (h : List Entry) (role : Role) (key : Key) (answer : Stepped) (is_queued room : Bool)
     → Decides (IsQueued s h role key) is_queued → Decides (length h + 1 ≤ s.events) room → answer ≡ (if is_queued then fitting (length h) room else NotNow NotQueued)
-    → Need (IsQueued s h role key) (NotNow NotQueued) answer (Fits s h 1 answer)
+    → Need (IsQueued s h role key) (NotNow NotQueued) answer (FitsLimit s h 1 answer)
 queued s h role key answer true room q d a = inr (q.yes refl, fitted s h 1 answer room d a)
 queued s h role key answer false room q d a = inl (q.no refl, a)
 
 anew : (s : Setting) (h : List Entry) (role : Role) (key : Key) (answer : Stepped) (same is_queued room : Bool)
     → Decides (IsSame (past s h role key).last (views s h role key) (moment s h) (positions h role)) same
     → Decides (IsQueued s h role key) is_queued → Decides (length h + 1 ≤ s.events) room → answer ≡ (if same then NotNow SameViews else (if is_queued then fitting (length h) room else NotNow NotQueued))
-    → Bar (IsSame (past s h role key).last (views s h role key) (moment s h) (positions h role)) (NotNow SameViews) answer (Need (IsQueued s h role key) (NotNow NotQueued) answer (Fits s h 1 answer))
+    → Bar (IsSame (past s h role key).last (views s h role key) (moment s h) (positions h role)) (NotNow SameViews) answer (Need (IsQueued s h role key) (NotNow NotQueued) answer (FitsLimit s h 1 answer))
 anew s h role key answer true is_queued room is q d a = inl (is.yes refl, a)
 anew s h role key answer false is_queued room is q d a = inr (is.no refl, queued s h role key answer is_queued room q d a)
 
@@ -87,7 +87,7 @@ owning : (s : Setting) (h : List Entry) (role : Role) (key : Key) (answer : Step
     → Decides (IsQueued s h role key) is_queued → Decides (length h + 1 ≤ s.events) room
     → answer ≡ own_answer own (if same then NotNow SameViews else (if is_queued then fitting (length h) room else NotNow NotQueued))
     → BarOf own (λ version. NotNow (OwnWrite version)) answer
-    (Bar (IsSame (past s h role key).last (views s h role key) (moment s h) (positions h role)) (NotNow SameViews) answer (Need (IsQueued s h role key) (NotNow NotQueued) answer (Fits s h 1 answer)))
+    (Bar (IsSame (past s h role key).last (views s h role key) (moment s h) (positions h role)) (NotNow SameViews) answer (Need (IsQueued s h role key) (NotNow NotQueued) answer (FitsLimit s h 1 answer)))
 owning s h role key answer None same is_queued room is q d a = anew s h role key answer same is_queued room is q d a
 owning s h role key answer (Some version) same is_queued room is q d a = a
 
@@ -140,7 +140,7 @@ pub record MayDeliver (s : Setting) (h : List Entry) (role : Role) (kind : Kind)
   pub running : runs s h role ≡ true
   pub informed : has_informer role kind ≡ true
   pub free : held s h role kind ≡ false
-  pub news : IsNews s h role kind to
+  pub news : IsWatchEvent s h role kind to
   pub room : length h + 1 ≤ s.events
 
 pub may_deliver : (s : Setting) (h : List Entry) (role : Role) (kind : Kind) (to : ℕ) → AnswersDelivery s h role kind to Done → MayDeliver s h role kind to

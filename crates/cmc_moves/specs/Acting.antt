@@ -74,7 +74,7 @@ asked_in (Asks order) = Some order
 asked_in other = None
 
 -- the pass of this number waits for no value, this comes next of it, and its entry fits
-pub record IsGoing (s : Setting) (h : List Entry) (pass : ℕ) (d : Doing) : Type 0 where
+pub record MayGoOn (s : Setting) (h : List Entry) (pass : ℕ) (d : Doing) : Type 0 where
   pub free : kept_of (open_pass s h pass) ≡ None
   pub new : new_of s h (open_pass s h pass) ≡ asked_in d
   pub does : IsDoing s h pass d
@@ -89,19 +89,19 @@ IsNoMove kept other = Unit {0}
 -- an answer that leaves all as it was, or what the move has the open pass do
 abbrev pub IsGoingOn : Setting → List Entry → ℕ → Judged → Type 0
 IsGoingOn s h pass (Answer answer) = AnswersGoing s h pass (kept_of (open_pass s h pass)) (new_of s h (open_pass s h pass)) answer × IsNoMove (kept_of (open_pass s h pass)) answer
-IsGoingOn s h pass (Does d) = AnswersGoing s h pass (kept_of (open_pass s h pass)) (new_of s h (open_pass s h pass)) (next_answer pass (asked_in d)) × IsGoing s h pass d
+IsGoingOn s h pass (Does d) = AnswersGoing s h pass (kept_of (open_pass s h pass)) (new_of s h (open_pass s h pass)) (next_answer pass (asked_in d)) × MayGoOn s h pass d
 
 -- the same of the pass of this number, which need not be open
 abbrev pub IsJudged : Setting → List Entry → ℕ → ℕ → Judged → Type 0
 IsJudged s h pass named (Answer answer) = AnswersNext s h pass named answer × IsNoMove (kept_of (open_pass s h pass)) answer
-IsJudged s h pass named (Does d) = AnswersNext s h pass named (next_answer pass (asked_in d)) × (IsOpen (open_pass s h pass) × IsGoing s h pass d)
+IsJudged s h pass named (Does d) = AnswersNext s h pass named (next_answer pass (asked_in d)) × (IsOpen (open_pass s h pass) × MayGoOn s h pass d)
 
 -- what a decision for the open pass comes to
 abbrev pub IsTaking : Setting → List Entry → ℕ → Decision → Judged → Type 0
 IsTaking s h pass d (Answer answer) = AnswersDecided s h pass d answer × IsNoMove (kept_of (open_pass s h pass)) answer
-IsTaking s h pass d (Does doing) = AnswersDecided s h pass d (next_answer pass (asked_in doing)) × IsGoing s h pass doing
+IsTaking s h pass d (Does doing) = AnswersDecided s h pass d (next_answer pass (asked_in doing)) × MayGoOn s h pass doing
 
 -- the same of the pass of this number, which need not be open
 abbrev pub IsTaken : Setting → List Entry → ℕ → ℕ → Decision → Judged → Type 0
 IsTaken s h pass named d (Answer answer) = AnswersDecide s h pass named d answer × IsNoMove (kept_of (open_pass s h pass)) answer
-IsTaken s h pass named d (Does doing) = AnswersDecide s h pass named d (next_answer pass (asked_in doing)) × (IsOpen (open_pass s h pass) × IsGoing s h pass doing)
+IsTaken s h pass named d (Does doing) = AnswersDecide s h pass named d (next_answer pass (asked_in doing)) × (IsOpen (open_pass s h pass) × MayGoOn s h pass doing)

@@ -73,8 +73,8 @@ BarOf None refusal answer rest = rest
 BarOf (Some number) refusal answer rest = answer ≡ refusal number
 
 -- the last need of each move: so many entries more fit
-abbrev pub Fits : Setting → List Entry → ℕ → Stepped → Type 0
-Fits s h more answer = Need (length h + more ≤ s.events) (Spent (length h)) answer (answer ≡ Done)
+abbrev pub FitsLimit : Setting → List Entry → ℕ → Stepped → Type 0
+FitsLimit s h more answer = Need (length h + more ≤ s.events) (Spent (length h)) answer (answer ≡ Done)
 
 -- ---- the script
 
@@ -91,7 +91,7 @@ abbrev pub AnswersScript : Setting → List Entry → Stepped → Type 0
 AnswersScript s h answer =
     Need (scripted h < length s.script) (NotNow ScriptOver) answer
     (Need (IsReady s h (step_at s.script (scripted h + 1))) (NotNow ScriptWaits) answer
-    (Fits s h (entries_of (next_effect s h)) answer))
+    (FitsLimit s h (entries_of (next_effect s h)) answer))
 
 -- the call, answered as a plain store answers
 abbrev pub IsCalled : Setting → List Entry → Who → Call → Entry → Type 0
@@ -115,8 +115,8 @@ GrowsByScript s h k = GrowsBy s (entries.Script (scripted h + 1) ∷ h) (next_ef
 -- ---- deliveries
 
 -- the version of an accepted write of the kind above the position
-abbrev pub IsNews : Setting → List Entry → Role → Kind → ℕ → Type 0
-IsNews s h role kind to = (position h role kind < to) × IsOfKind kind (write_at to (writes s h))
+abbrev pub IsWatchEvent : Setting → List Entry → Role → Kind → ℕ → Type 0
+IsWatchEvent s h role kind to = (position h role kind < to) × IsOfKind kind (write_at to (writes s h))
 
 abbrev pub AnswersDelivery : Setting → List Entry → Role → Kind → ℕ → Stepped → Type 0
 AnswersDelivery s h role kind to answer =
@@ -124,7 +124,7 @@ AnswersDelivery s h role kind to answer =
     (Need (has_informer role kind ≡ true) (NotNow NoInformer) answer
     (Need (held s h role kind ≡ false) (NotNow Held) answer
     (Bar (last_of_kind kind (writes s h) ≤ position h role kind) (NotNow (Current (position h role kind))) answer
-    (Need (IsNews s h role kind to) (NotNow (NotAWrite to)) answer (Fits s h 1 answer)))))
+    (Need (IsWatchEvent s h role kind to) (NotNow (NotAWrite to)) answer (FitsLimit s h 1 answer)))))
 
 -- the role is told so far, or lists what stands where the watch no longer reaches back to its position
 abbrev pub delivered : Setting → List Entry → Role → Kind → ℕ → Entry
@@ -146,7 +146,7 @@ AnswersBegin s h role key answer =
     (Bar (IsWorking s h role key) (NotNow InProcess) answer
     (BarOf (own_above (past s h role key).own (positions h role)) (λ version. NotNow (OwnWrite version)) answer
     (Bar (IsSame (past s h role key).last (views s h role key) (moment s h) (positions h role)) (NotNow SameViews) answer
-    (Need (IsQueued s h role key) (NotNow NotQueued) answer (Fits s h 1 answer)))))
+    (Need (IsQueued s h role key) (NotNow NotQueued) answer (FitsLimit s h 1 answer)))))
 
 abbrev pub beginning : Setting → List Entry → Role → Key → Entry
 beginning s h role key = entries.Begin (begun s h + 1) role key (positions h role) (moment s h)
@@ -215,7 +215,7 @@ AnswersDecide s h pass named d answer = AnswersOpen s h pass named answer (Answe
 -- what is given has to answer the question whose value is waited for
 abbrev pub AnswersGiven : Setting → List Entry → Option Order → Order → Stepped → Type 0
 AnswersGiven s h None given answer = answer ≡ NotNow NotAsked
-AnswersGiven s h (Some kept) given answer = Need (kept ≡ given) (NotMine kept given) answer (Fits s h 1 answer)
+AnswersGiven s h (Some kept) given answer = Need (kept ≡ given) (NotMine kept given) answer (FitsLimit s h 1 answer)
 
 abbrev pub AnswersGive : Setting → List Entry → ℕ → ℕ → Given → Stepped → Type 0
 AnswersGive s h pass named given answer = AnswersOpen s h pass named answer (AnswersGiven s h (kept_of (open_pass s h pass)) (order_of given) answer)

@@ -55,13 +55,13 @@ IsDecision b (Some d) = IsDecidedOn b d
 
 -- ---- the pass that takes a decision
 
-abbrev pub is_fresh : Stage → Bool
-is_fresh Fresh = true
-is_fresh other = false
+abbrev pub is_fresh_stage : Stage → Bool
+is_fresh_stage Fresh = true
+is_fresh_stage other = false
 
 -- its role decides alone, and nothing of its act was done
 abbrev pub is_undecided : OpenPass → Bool
-is_undecided p = decides_alone p.role && is_fresh p.stage
+is_undecided p = decides_alone p.role && is_fresh_stage p.stage
 
 abbrev pub IsUndecided : Option OpenPass → Type 0
 IsUndecided None = ⊥

@@ -79,7 +79,7 @@ pub fn decides_alone(role: Role) -> bool
 }
 
 fn is_fresh(stage: &Stage) -> bool
-    ensures { result ≡ spec.is_fresh stage.now }
+    ensures { result ≡ spec.is_fresh_stage stage.now }
 {
     matches!(stage, Stage::Fresh)
 }

@@ -25,7 +25,7 @@ use Rattle.cmc_writer.specs.Adding.{Row, with_value, with_rows}
 use Rattle.cmc_writer.specs.Rows.{built_row, built, list_row, object_row}
 use Rattle.cmc_writer.proofs.Placed.{IsBuilt, is_none, is_put}
 use Rattle.cmc_writer.proofs.Written.{object_written}
-use Rattle.cmc_object_lines.specs.ObjectRows.{owner_rows, meta_rows, condition_rows, issuer_rows, key_rows, spec_rows, status_rows, cert_rows, has_row, has_terms, has_status, request_spec_rows, request_status_rows, has_request_status, request_rows, secret_rows}
+use Rattle.cmc_object_lines.specs.ObjectRows.{owner_rows, meta_rows, condition_rows, issuer_rows, key_rows, spec_rows, status_rows, cert_rows, has_some_row, has_key_terms, has_status, request_spec_rows, request_status_rows, has_request_status, request_rows, secret_rows}
 use Rattle.cmc_object_lines.proofs.Slots.{is_option, is_list, is_true, is_object}
 
 -- An object whose members are those of rows.
@@ -131,12 +131,12 @@ some_row : (name : List ℕ) (x : Option Data) (ms : Members) (b : Bool) → obj
 some_row name None ms b h = h
 some_row name (Some d) ms b h = refl
 
-row_of_built : (rs : List Row) → object_row (built rs) ≡ (if has_row rs then Some (object (built rs)) else None)
+row_of_built : (rs : List Row) → object_row (built rs) ≡ (if has_some_row rs then Some (object (built rs)) else None)
 row_of_built [] = refl
-row_of_built (r ∷ rs) = some_row r.0 r.1 (built rs) (has_row rs) (row_of_built rs)
+row_of_built (r ∷ rs) = some_row r.0 r.1 (built rs) (has_some_row rs) (row_of_built rs)
 
-pub row_of : (rs : List Row) (ms : Members) → IsBuilt ms rs → object_row ms ≡ (if has_row rs then Some (object ms) else None)
-row_of rs ms b = subst (λ m. object_row m ≡ (if has_row rs then Some (object m) else None)) (sym b.same) (row_of_built rs)
+pub row_of : (rs : List Row) (ms : Members) → IsBuilt ms rs → object_row ms ≡ (if has_some_row rs then Some (object ms) else None)
+row_of rs ms b = subst (λ m. object_row m ≡ (if has_some_row rs then Some (object m) else None)) (sym b.same) (row_of_built rs)
 
 pub is_some_map : {A : Type 0} (f : A → Data) (x : Option A) → is_some (option_map f x) ≡ is_some x
 is_some_map f None = refl
@@ -146,10 +146,10 @@ is_some_list : {A : Type 0} (f : List A → Data) (xs : List A) → is_some (lis
 is_some_list f [] = refl
 is_some_list f (x ∷ xs) = search (rules, arith)
 
-key_has : (k : KeySpec) → has_row (key_rows k) ≡ has_terms k
+key_has : (k : KeySpec) → has_some_row (key_rows k) ≡ has_key_terms k
 key_has k = rw (is_some_map (λ a. string (algorithm_name a)) k.algorithm, is_some_map (λ e. string (encoding_name e)) k.encoding, is_some_map (λ r. string (rotation_name r)) k.rotation, is_some_map natural k.size, or_false (is_some k.size)) refl
 
-pub key_row : (k : KeySpec) → object_row (key_members k) ≡ (if has_terms k then Some (object (key_members k)) else None)
+pub key_row : (k : KeySpec) → object_row (key_members k) ≡ (if has_key_terms k then Some (object (key_members k)) else None)
 key_row k = row_of (key_rows k) (key_members k) (key_built k) ∙ ap (λ b. if b then Some (object (key_members k)) else None) (key_has k)
 
 -- The order in which the test asks.
@@ -167,7 +167,7 @@ asked false false false false false false true v = refl
 asked false false false false false false false true = refl
 asked false false false false false false false false = refl
 
-status_has : (s : CertStatus) → has_row (status_rows s) ≡ has_status s
+status_has : (s : CertStatus) → has_some_row (status_rows s) ≡ has_status s
 status_has s =
     rw (
       is_some_list conditions_tree s.conditions,
@@ -206,7 +206,7 @@ request_status_built s =
 pub request_status_written : (ts : List Token) (s : RequestStatus) → with_rows (ts ++ begin_object ∷ []) (request_status_rows s) ++ end_object ∷ [] ≡ with_value ts (object (request_status_members s))
 request_status_written ts s = of_rows ts (request_status_rows s) (request_status_members s) (request_status_built s)
 
-request_status_has : (s : RequestStatus) → has_row (request_status_rows s) ≡ has_request_status s
+request_status_has : (s : RequestStatus) → has_some_row (request_status_rows s) ≡ has_request_status s
 request_status_has s =
     rw (is_some_list base64_text s.ca, is_some_list base64_text s.certificate, is_some_list conditions_tree s.conditions, is_some_map moment_tree s.failure, or_false (is_some s.failure)) refl
 

@@ -120,12 +120,12 @@ cert_rows c =
     ∷ []
 
 -- Some row is there.
-abbrev pub has_row : List Row → Bool
-has_row [] = false
-has_row (r ∷ rs) = is_some r.1 || has_row rs
+abbrev pub has_some_row : List Row → Bool
+has_some_row [] = false
+has_some_row (r ∷ rs) = is_some r.1 || has_some_row rs
 
-abbrev pub has_terms : KeySpec → Bool
-has_terms k = is_some k.algorithm || (is_some k.encoding || (is_some k.rotation || is_some k.size))
+abbrev pub has_key_terms : KeySpec → Bool
+has_key_terms k = is_some k.algorithm || (is_some k.encoding || (is_some k.rotation || is_some k.size))
 
 abbrev pub has_moments : CertStatus → Bool
 has_moments s = is_some s.last_failure || (is_some s.not_after || (is_some s.not_before || is_some s.renewal))

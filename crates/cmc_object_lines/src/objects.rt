@@ -6,7 +6,7 @@ ghost use Rattle.cmc_print.specs.Printed.{owner_tree, owners_tree, meta_tree, co
 ghost use Rattle.cmc_print.specs.Words.{algorithm_name, encoding_name, rotation_name};
 ghost use Rattle.cmc_writer.specs.Adding.{with_value, with_values, with_row, with_rows};
 ghost use Rattle.cmc_writer.specs.Rows.{list_row, object_row};
-ghost use Rattle.cmc_object_lines.specs.ObjectRows.{meta_rows, condition_rows, first_rows, middle_rows, last_rows, attempt_rows, moment_rows, cert_rows, has_terms, has_moments, has_status};
+ghost use Rattle.cmc_object_lines.specs.ObjectRows.{meta_rows, condition_rows, first_rows, middle_rows, last_rows, attempt_rows, moment_rows, cert_rows, has_key_terms, has_moments, has_status};
 ghost use Rattle.std.specs.Prelude.{option_map};
 
 use crate::rows::{
@@ -146,7 +146,7 @@ fn write_key(printer: &mut Printer, key: &KeySpec) -> Result<(), AllocError>
 }
 
 fn has_terms(key: &KeySpec) -> bool
-    ensures { result ≡ has_terms key.now }
+    ensures { result ≡ has_key_terms key.now }
 {
     key.algorithm.is_some()
         || (key.encoding.is_some() || (key.rotation.is_some() || key.size.is_some()))

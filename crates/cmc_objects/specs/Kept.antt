@@ -1,7 +1,7 @@
 -- What is read of a private key file and of a certification request, without where its octets lie.
 use Rattle.std.specs.Prelude.{◌≡◌, ℕ, List, Option, option_map}
 use Rattle.cmc_der.specs.Keys.{PublicKey, RsaKey, EcKey, OtherKey, SubjectNames, RequestFields}
-use Rattle.cmc_x509.specs.ReadCertificates.{request_at}
+use Rattle.cmc_x509.specs.ReadCertificates.{request_fields_at}
 use Rattle.cmc_objects.specs.KeyPairs.{public_among}
 use Rattle.cmc_objects.specs.declared.kept.KeptKey.{KeptKey}
 use Rattle.cmc_objects.specs.declared.kept.KeptKey.TheVariants as kept
@@ -25,4 +25,4 @@ IsKeyOfParts parts key = option_map key_kept key ≡ public_among parts
 
 -- this is what is read of the octets of a certification request
 abbrev pub IsKeptReading : List ℕ → Option KeptFields → Type 0
-IsKeptReading octets fields = option_map fields_kept fields ≡ request_at octets
+IsKeptReading octets fields = option_map fields_kept fields ≡ request_fields_at octets

@@ -1,10 +1,10 @@
 -- A private key and a certificate of one public key.
 use Rattle.std.specs.Prelude.{◌≡◌, ℕ, ℤ, pos, Bool, true, false, ◌&&◌, if◌then◌else◌, List, codes, Option, Some, None}
 use Rattle.std.specs.Str.{bytes_eq}
-use Rattle.cmc_meta.specs.PairLists.{text_at}
+use Rattle.cmc_meta.specs.PairLists.{text_by_key}
 use Rattle.cmc_der.specs.Keys.{PublicKey, RsaKey, EcKey, OtherKey, CertificateFields, same_kind}
 use Rattle.cmc_x509.specs.ReadKeys.{key_file_at}
-use Rattle.cmc_x509.specs.ReadCertificates.{certificate_at}
+use Rattle.cmc_x509.specs.ReadCertificates.{certificate_fields_at}
 use Rattle.cmc_objects.specs.declared.pairing.Pairing.{Pairing}
 
 -- the two keys have equal parts
@@ -14,10 +14,10 @@ is_one_key (EcKey c p) (EcKey d q) = same_kind c d && bytes_eq p q
 is_one_key (OtherKey w) (OtherKey v) = bytes_eq w v
 is_one_key left right = false
 
-abbrev pub with_key : Option PublicKey → Option CertificateFields → Option CertificateFields
-with_key None certificate = None
-with_key (Some key) None = None
-with_key (Some key) (Some fields) = if is_one_key key fields.key then Some fields else None
+abbrev pub fields_with_key : Option PublicKey → Option CertificateFields → Option CertificateFields
+fields_with_key None certificate = None
+fields_with_key (Some key) None = None
+fields_with_key (Some key) (Some fields) = if is_one_key key fields.key then Some fields else None
 
 -- the public key of a key file, if there is one
 abbrev pub key_read : Option (List ℕ) → Option PublicKey
@@ -26,21 +26,21 @@ key_read (Some file) = key_file_at file
 
 -- the public key of the key file among the data of a Secret
 abbrev pub public_among : List (List ℕ × List ℕ) → Option PublicKey
-public_among parts = key_read (text_at parts (codes "tls.key"))
+public_among parts = key_read (text_by_key parts (codes "tls.key"))
 
 -- the fields of the certificate, where one stands and has this key
 abbrev pub pair_with_key : Option PublicKey → Option (List ℕ) → Option CertificateFields
 pair_with_key key None = None
-pair_with_key key (Some certificate) = with_key key (certificate_at certificate)
+pair_with_key key (Some certificate) = fields_with_key key (certificate_fields_at certificate)
 
 abbrev pub pair_of : Option (List ℕ) → Option (List ℕ) → Option CertificateFields
 pair_of None certificate = None
 pair_of (Some key) None = None
-pair_of (Some key) (Some certificate) = with_key (key_file_at key) (certificate_at certificate)
+pair_of (Some key) (Some certificate) = fields_with_key (key_file_at key) (certificate_fields_at certificate)
 
 -- the fields of the certificate that a key and a certificate among the data of a Secret are a pair with
 abbrev pub pair_among : List (List ℕ × List ℕ) → Option CertificateFields
-pair_among parts = pair_of (text_at parts (codes "tls.key")) (text_at parts (codes "tls.crt"))
+pair_among parts = pair_of (text_by_key parts (codes "tls.key")) (text_by_key parts (codes "tls.crt"))
 
 abbrev pub is_paired : Option CertificateFields → Bool
 is_paired None = false

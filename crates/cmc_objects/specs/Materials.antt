@@ -7,12 +7,12 @@ use Rattle.cmc_meta.specs.Keys.{key_cmp}
 use Rattle.cmc_objects.specs.declared.rows.Rows.{Rows}
 
 -- the rows of the Certificate
-abbrev pub rows_at : List (Key × Rows) → Key → Option Rows
-rows_at material certificate = lookup (is_at (key_cmp certificate)) material
+abbrev pub rows_under : List (Key × Rows) → Key → Option Rows
+rows_under material certificate = lookup (is_at (key_cmp certificate)) material
 
 -- the material with these rows of the Certificate
-abbrev pub with_rows : List (Key × Rows) → Key → Rows → List (Key × Rows)
-with_rows material certificate rows = insert_entry key_cmp material certificate rows
+abbrev pub with_rows_of : List (Key × Rows) → Key → Rows → List (Key × Rows)
+with_rows_of material certificate rows = insert_entry key_cmp material certificate rows
 
 -- the material but that of the Certificate
 abbrev pub without_rows : List (Key × Rows) → Key → List (Key × Rows)

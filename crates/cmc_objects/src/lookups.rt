@@ -6,7 +6,7 @@ ghost use Rattle.std.specs.Option.{option_copied};
 ghost use Rattle.std.specs.Ordering.{nat_cmp};
 ghost use Rattle.std.specs.Prelude.{◌≡◌};
 ghost use Rattle.std.specs.Str.{bytes_eq};
-ghost use Rattle.cmc_meta.specs.PairLists.{text_at};
+ghost use Rattle.cmc_meta.specs.PairLists.{text_by_key};
 
 use crate::parts::Parts;
 use cmc_meta::{Bytes, Pairs, Text};
@@ -34,14 +34,14 @@ fn value_under<'a, V>(map: &'a BTreeMap<Text, V>, key: &str) -> Option<&'a V>
 
 /// The text under the key; `None` exactly where no pair has it.
 pub fn text_under<'a>(pairs: &'a Pairs, key: &str) -> Option<&'a Text>
-    ensures { option_copied result ≡ text_at pairs.now key.now }
+    ensures { option_copied result ≡ text_by_key pairs.now key.now }
 {
     value_under(pairs.as_map(), key)
 }
 
 /// The bytes under the name; `None` exactly where no pair has it.
 pub fn part_under<'a>(parts: &'a Parts, key: &str) -> Option<&'a Bytes>
-    ensures { option_copied result ≡ text_at parts.now key.now }
+    ensures { option_copied result ≡ text_by_key parts.now key.now }
 {
     value_under(parts.as_map(), key)
 }

@@ -1,6 +1,6 @@
 ghost use Rattle.std.specs.Option.{option_copied};
 ghost use Rattle.std.specs.Prelude.{◌≡◌, [], IfOk, OnOk, OnErr};
-ghost use Rattle.cmc_objects.specs.Materials.{rows_at, with_rows, without_rows};
+ghost use Rattle.cmc_objects.specs.Materials.{rows_under, with_rows_of, without_rows};
 
 use crate::rows::Rows;
 use cmc_meta::Key;
@@ -47,14 +47,14 @@ impl Material {
 
     /// The rows of the Certificate; `None` exactly where it has none.
     pub fn get(&self, certificate: &Key) -> Option<&Rows>
-        ensures { option_copied result ≡ rows_at self.now certificate.now }
+        ensures { option_copied result ≡ rows_under self.now certificate.now }
     {
         self.map.get(certificate)
     }
 
     /// Puts the rows of the Certificate, in place of older ones.
     pub fn set(&mut self, certificate: Key, rows: Rows) -> Result<(), AllocError>
-        ensures ok { OnOk result (self.new ≡ with_rows self.old certificate rows) }
+        ensures ok { OnOk result (self.new ≡ with_rows_of self.old certificate rows) }
         ensures err { OnErr result (self.new ≡ self.old) }
     {
         self.map.insert(certificate, rows)?;

@@ -2,7 +2,7 @@
 ghost use Rattle.std.specs.Option.{option_copied};
 ghost use Rattle.std.specs.Prelude.{◌≡◌, ◌↔◌, IsTrue, option_map};
 ghost use Rattle.cmc_der.specs.Keys.{cert_shown, key_shown};
-ghost use Rattle.cmc_x509.specs.ReadCertificates.{certificate_at};
+ghost use Rattle.cmc_x509.specs.ReadCertificates.{certificate_fields_at};
 ghost use Rattle.cmc_x509.specs.ReadKeys.{key_file_at};
 ghost use Rattle.cmc_objects.specs.KeyPairs as spec;
 
@@ -30,7 +30,7 @@ fn certificate_with_key<'a>(
     public: &Option<Spki<'_>>,
     certificate: &'a [u8],
 ) -> Option<CertFields<'a>>
-    ensures { option_map cert_shown result ≡ spec.with_key (option_map key_shown public.now) (certificate_at certificate.now) }
+    ensures { option_map cert_shown result ≡ spec.fields_with_key (option_map key_shown public.now) (certificate_fields_at certificate.now) }
 {
     match public {
         None => None,

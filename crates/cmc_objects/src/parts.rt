@@ -3,7 +3,7 @@ ghost use Rattle.std.specs.Prelude.{◌≡◌, ◌↔◌, ◌&&◌, [], IsTrue, 
 ghost use Rattle.cmc_der.specs.Keys.{cert_shown, key_shown};
 ghost use Rattle.cmc_objects.specs.Kept.{IsKeyOfParts};
 ghost use Rattle.cmc_objects.specs.KeyPairs.{IsPairing, pair_among, public_among};
-ghost use Rattle.cmc_meta.specs.PairLists.{text_at, with_text, without_text};
+ghost use Rattle.cmc_meta.specs.PairLists.{text_by_key, with_text, without_text};
 
 use crate::kept::{KeptKey, keep_key, key_as_read};
 use crate::lookups::part_under;
@@ -72,7 +72,7 @@ impl Parts {
 
     /// The bytes under the name; `None` exactly where no pair has it.
     pub fn get(&self, name: &Text) -> Option<&Bytes>
-        ensures { option_copied result ≡ text_at self.now name.now }
+        ensures { option_copied result ≡ text_by_key self.now name.now }
     {
         self.map.get(name)
     }

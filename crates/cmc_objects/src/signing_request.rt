@@ -1,7 +1,7 @@
 ghost use Rattle.std.specs.Prelude.{◌≡◌, ◌↔◌, IfOk, IfSome, IsTrue, option_map};
 ghost use Rattle.cmc_der.specs.Keys.{csr_shown};
 ghost use Rattle.cmc_x509.specs.Lists.{IsValueList};
-ghost use Rattle.cmc_x509.specs.ReadCertificates.{request_at};
+ghost use Rattle.cmc_x509.specs.ReadCertificates.{request_fields_at};
 ghost use Rattle.cmc_objects.specs.Kept.{fields_kept};
 
 use crate::kept::{KeptFields, fields_as_read, keep_fields};
@@ -40,14 +40,14 @@ impl Model for SigningRequest {
 
 /// Reads the octets: `None` exactly if they are no certification request.
 fn fields_of<'a>(octets: &'a [u8]) -> Option<CsrFields<'a>>
-    ensures { option_map csr_shown result ≡ request_at octets.now }
+    ensures { option_map csr_shown result ≡ request_fields_at octets.now }
 {
     read_csr(octets).ok()
 }
 
 /// Reads the octets, and copies what is read.
 fn kept_of(alloc: Global, octets: &[u8]) -> Result<Option<KeptFields>, AllocError>
-    ensures { IfOk result (λ kept. option_map fields_kept kept ≡ request_at octets.now) }
+    ensures { IfOk result (λ kept. option_map fields_kept kept ≡ request_fields_at octets.now) }
 {
     keep_fields(alloc, &fields_of(octets))
 }
@@ -71,7 +71,7 @@ impl SigningRequest {
     /// Returns what `new` read: `None` exactly if the octets are no certification request.
     #[tactic(auto, using(crate::proofs::KeptLaws::names_listed))]
     pub fn fields(&self) -> Option<CsrFields<'_>>
-        ensures fields { option_map csr_shown result ≡ request_at self.now }
+        ensures fields { option_map csr_shown result ≡ request_fields_at self.now }
         ensures names { IfSome result (λ fields. IsValueList fields.names.alternative.now) }
     {
         fields_as_read(&self.fields)

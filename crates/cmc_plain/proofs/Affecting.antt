@@ -29,7 +29,7 @@ use Rattle.cmc_moves.specs.declared.moves.Stepped.TheVariants.{Done}
 use Rattle.cmc_moves.proofs.Tables.{may_deliver}
 use Rattle.cmc_world.proofs.Caching.{told_at, told_low}
 use Rattle.cmc_waking.proofs.Owners.{equal_roles}
-use Rattle.cmc_plain.specs.Fed.{AreAffected, IsToldUpTo}
+use Rattle.cmc_plain.specs.Fed.{AreAffected, IsDeliveredTo}
 
 -- the first so many of the writes of the kind
 abbrev left : Kind → ℕ → List Write → Objects
@@ -68,13 +68,13 @@ sees_same s h role kind seen upto items ws keys informed sees turned is same key
     ∙ ap (λ (c : Caches). views_in role c key) sees
     ∙ views-told s h role key
 
-same_by : (b : Bool) (s : Setting) (h : List Entry) (role : Role) (kind : Kind) (to upto : ℕ) (key : Key) → nat_le (accepted s h) (position h role kind + s.window) ≡ b → IsToldUpTo s h role kind to upto
+same_by : (b : Bool) (s : Setting) (h : List Entry) (role : Role) (kind : Kind) (to upto : ℕ) (key : Key) → nat_le (accepted s h) (position h role kind + s.window) ≡ b → IsDeliveredTo s h role kind to upto
     → views s (Deliver role kind upto ∷ h) role key ≡ views s h role key → views s ((if b then Deliver role kind to else Listed role kind (accepted s h)) ∷ h) role key ≡ views s h role key
 same_by true s h role kind to upto key is told same = subst (λ (n : ℕ). views s (Deliver role kind n ∷ h) role key ≡ views s h role key) (told.told is) same
 same_by false s h role kind to upto key is told same = subst (λ (n : ℕ). views s (Listed role kind n ∷ h) role key ≡ views s h role key) (told.listed is) same
 
 -- the keys that are found are those of which it may see something new
-pub are_affected : (s : Setting) (h : List Entry) (role : Role) (kind : Kind) (to upto : ℕ) (seen : Caches) (items ws : List Write) (keys : List Key) → IsToldUpTo s h role kind to upto
+pub are_affected : (s : Setting) (h : List Entry) (role : Role) (kind : Kind) (to upto : ℕ) (seen : Caches) (items ws : List Write) (keys : List Key) → IsDeliveredTo s h role kind to upto
     → seen ≡ caches_at (writes s h) (positions h role) → reverse items ≡ ws → ws ≡ writes s h → AreNamed (kind_of_work role) (reverse items) keys → affected.SeesSame role keys seen (with_cached kind (left kind upto (reverse items)) seen)
     → AreAffected s h role kind to keys
 are_affected s h role kind to upto seen items ws keys told sees turned is named same = record {
@@ -109,7 +109,7 @@ not_news s h role kind to from all on is count (inr high) a =
     omega (arith, above, low, count)
 
 -- the watch reaches back to its position
-pub reaches_back : (s : Setting) (h : List Entry) (role : Role) (kind : Kind) (to from all : ℕ) → has_informer role kind ≡ true → from ≡ position_of kind (positions h role) → all ≡ length (writes s h) → from < to → to ≤ all → all - from ≤ s.window → IsToldUpTo s h role kind to to
+pub reaches_back : (s : Setting) (h : List Entry) (role : Role) (kind : Kind) (to from all : ℕ) → has_informer role kind ≡ true → from ≡ position_of kind (positions h role) → all ≡ length (writes s h) → from < to → to ≤ all → all - from ≤ s.window → IsDeliveredTo s h role kind to to
 reaches_back s h role kind to from all on is count low high near =
     let here : from ≡ position h role kind = is ∙ shown s h role kind on in
     let whole : all ≡ accepted s h = count ∙ writes_count s h in
@@ -122,7 +122,7 @@ reaches_back s h role kind to from all on is count low high near =
     }
 
 -- or no longer does
-pub lists_all : (s : Setting) (h : List Entry) (role : Role) (kind : Kind) (to from all : ℕ) → has_informer role kind ≡ true → from ≡ position_of kind (positions h role) → all ≡ length (writes s h) → from < to → to ≤ all → (all - from ≤ s.window → ⊥) → IsToldUpTo s h role kind to all
+pub lists_all : (s : Setting) (h : List Entry) (role : Role) (kind : Kind) (to from all : ℕ) → has_informer role kind ≡ true → from ≡ position_of kind (positions h role) → all ≡ length (writes s h) → from < to → to ≤ all → (all - from ≤ s.window → ⊥) → IsDeliveredTo s h role kind to all
 lists_all s h role kind to from all on is count low high far =
     let here : from ≡ position h role kind = is ∙ shown s h role kind on in
     let whole : all ≡ accepted s h = count ∙ writes_count s h in
@@ -139,10 +139,10 @@ lists_all s h role kind to from all on is count low high far =
     near_by false n p w all from test on here whole low high = absurd (cc on)
 
 -- what the search takes for granted
-pub from_low : (s : Setting) (h : List Entry) (role : Role) (kind : Kind) (to from upto : ℕ) → from ≡ position_of kind (positions h role) → IsToldUpTo s h role kind to upto → from ≤ upto
+pub from_low : (s : Setting) (h : List Entry) (role : Role) (kind : Kind) (to from upto : ℕ) → from ≡ position_of kind (positions h role) → IsDeliveredTo s h role kind to upto → from ≤ upto
 from_low s h role kind to from upto is told = let here = is ∙ shown s h role kind told.informed in let above = told.above in omega (arith, here, above)
 
-pub upto_within : (s : Setting) (h : List Entry) (role : Role) (kind : Kind) (to upto : ℕ) (items ws : List Write) → reverse items ≡ ws → ws ≡ writes s h → IsToldUpTo s h role kind to upto → upto ≤ length items
+pub upto_within : (s : Setting) (h : List Entry) (role : Role) (kind : Kind) (to upto : ℕ) (items ws : List Write) → reverse items ≡ ws → ws ≡ writes s h → IsDeliveredTo s h role kind to upto → upto ≤ length items
 upto_within s h role kind to upto items ws turned is told =
     let within = told.within in
     let count = writes_count s h in

@@ -18,9 +18,9 @@ use Rattle.cmc_rules.specs.Dates.{HasDatedFailure, IsDatedCertificate}
 use Rattle.cmc_rules.specs.Viewing.{Caches, certificate_in, views_of, views_in, present_views}
 use Rattle.cmc_rules.specs.Legality.{IsLegal}
 use Rattle.cmc_rules.proofs.Versions.{stands_is_version}
-use Rattle.cmc_safety.specs.Standing.{IsInOrder}
+use Rattle.cmc_safety.specs.Standing.{KeepsInvariants}
 use Rattle.cmc_world.proofs.Newest.{views_of_all}
-use Rattle.cmc_plain.specs.Waits.{waits_among, IsAllThatStands}
+use Rattle.cmc_plain.specs.Waits.{waits_among, IsAllThatExists}
 
 -- none waits
 none_among : (s : Setting) (h : List Entry) (es : List (Key × Object)) → list_any (λ e. is_waiting e.1) es ≡ false → waits_among s h es ≡ []
@@ -32,21 +32,21 @@ pub none_waiting : (s : Setting) (h : List Entry) (es : List (Key × Object)) (w
 none_waiting s h es waits is none = is ∙ sym (none_among s h es none)
 
 -- what stands is dated
-dated_in : (s : Setting) (h : List Entry) (key : Key) (x : Option Object) → object_at (objects s h) key ≡ x → IsInOrder s h → IsDatedCertificate (option_and_then certificate_in x)
+dated_in : (s : Setting) (h : List Entry) (key : Key) (x : Option Object) → object_at (objects s h) key ≡ x → KeepsInvariants s h → IsDatedCertificate (option_and_then certificate_in x)
 dated_in s h key None is order = tt
 dated_in s h key (Some (Cert c)) is order = (order.moments key (Cert c) (stands_is_version s h key (Cert c) is)).status.last_failure
 dated_in s h key (Some (Request r)) is order = tt
 dated_in s h key (Some (Secret k)) is order = tt
 
-present_dated : (s : Setting) (h : List Entry) (key : Key) → IsInOrder s h → HasDatedFailure (present_views s h Issuing key)
+present_dated : (s : Setting) (h : List Entry) (key : Key) → KeepsInvariants s h → HasDatedFailure (present_views s h Issuing key)
 unfolding views_in views_of
 present_dated s h key order = dated_in s h key (object_at (objects s h) key) refl order
 
-pub seen_of_all : (s : Setting) (h : List Entry) (key : Key) (all : Caches) (r : Result Views AllocError) → IsLegal s h → IsAllThatStands s h all → IfOk r (λ seen. seen ≡ views_in Issuing all key) → IfOk r (λ seen. seen ≡ present_views s h Issuing key)
+pub seen_of_all : (s : Setting) (h : List Entry) (key : Key) (all : Caches) (r : Result Views AllocError) → IsLegal s h → IsAllThatExists s h all → IfOk r (λ seen. seen ≡ views_in Issuing all key) → IfOk r (λ seen. seen ≡ present_views s h Issuing key)
 seen_of_all s h key all r legal is seen =
     subst (λ (v : Views). IfOk r (λ x. x ≡ v)) (ap (λ (c : Caches). views_in Issuing c key) is ∙ views_of_all s h Issuing key _ refl legal) seen
 
-pub dated_of_all : (s : Setting) (h : List Entry) (key : Key) (all : Caches) (r : Result Views AllocError) → IsLegal s h → IsInOrder s h → IsAllThatStands s h all → IfOk r (λ seen. seen ≡ views_in Issuing all key) → IfOk r (λ seen. HasDatedFailure seen)
+pub dated_of_all : (s : Setting) (h : List Entry) (key : Key) (all : Caches) (r : Result Views AllocError) → IsLegal s h → KeepsInvariants s h → IsAllThatExists s h all → IfOk r (λ seen. seen ≡ views_in Issuing all key) → IfOk r (λ seen. HasDatedFailure seen)
 dated_of_all s h key all r legal order is seen = by r (seen_of_all s h key all r legal is seen) where
   by : (r : Result Views AllocError) → IfOk r (λ x. x ≡ present_views s h Issuing key) → IfOk r (λ x. HasDatedFailure x)
   by (Ok x) same = subst HasDatedFailure (sym same) (present_dated s h key order)

@@ -33,9 +33,9 @@ use Rattle.cmc_moves.specs.declared.moves.Move.TheVariants as moves
 use Rattle.cmc_moves.specs.declared.moves.Stepped.{Stepped}
 use Rattle.cmc_moves.specs.declared.moves.Stepped.TheVariants as answers
 use Rattle.cmc_moves.proofs.Tables.{may_begin, the_done}
-use Rattle.cmc_waking.specs.Feeding.{begun, timed_too}
+use Rattle.cmc_waking.specs.Feeding.{row_begun, timed_too}
 use Rattle.cmc_waking.specs.Queues.{queue_in, row_at, KeepsOthers}
-use Rattle.cmc_waking.specs.Waking.{IsKept, IsTended, IsTimed}
+use Rattle.cmc_waking.specs.Waking.{IsRowKept, IsTended, IsTimed}
 use Rattle.cmc_world.specs.Kept.{Seen, setting_of, on}
 use Rattle.cmc_plain.specs.DueMoments.{IsFirstAfter}
 use Rattle.cmc_plain.specs.Fed.{IsFed}
@@ -57,7 +57,7 @@ roomed w before mid rows fed = fed_rows (setting_of w.scenario) w.history before
 
 pub begun_done : (old new : Seen) (role : Role) (key own : Key) (seen : Views) (next : Option ℤ) (before mid after : List Work) (answer : Stepped) → own ≡ key → on IsRun new → new.scenario ≡ old.scenario → on AnswersBegin old role key answer
     → on Leaves old (moves.Begin role key) answer new.history → is_done answer ≡ true → seen ≡ on views old role key → IsFirstAfter (on moment old) (IsDueMoment role seen) next → ((r : Role) (k : Key) → row_at mid r k ≡ row_at before r k)
-    → ChangesRow (begun next) own (queue_in mid role) (queue_in after role) → KeepsOthers role mid after → on IsFed old before → on IsFed new after
+    → ChangesRow (row_begun next) own (queue_in mid role) (queue_in after role) → KeepsOthers role mid after → on IsFed old before → on IsFed new after
 begun_done old new role key own seen next before mid after answer same run scenario answered leaves made sees first rows changed others fed =
     let done : answer ≡ answers.Done = the_done answer made in
     let fits : on Fits old role key = begun_fits old role key (subst (λ (a : Stepped). on AnswersBegin old role key a) done answered) in
@@ -65,7 +65,7 @@ begun_done old new role key own seen next before mid after answer same run scena
     fed_begins old new role key next mid after run scenario (subst (λ (a : Stepped). on Leaves old (moves.Begin role key) a new.history) done leaves) fits.may.work
     (fit_free (setting_of old.scenario) old.history role key mid fed_mid fits)
     (timed_first role (on views old role key) (on moment old) next (subst (λ (v : Views). IsFirstAfter (on moment old) (IsDueMoment role v) next) sees first))
-    (subst (λ (k : Key). ChangesRow (begun next) k (queue_in mid role) (queue_in after role)) same changed) others fed_mid
+    (subst (λ (k : Key). ChangesRow (row_begun next) k (queue_in mid role) (queue_in after role)) same changed) others fed_mid
 
 -- a key that is to be looked at has a row
 pub fresh_room : (queues : List Work) (role : Role) (key : Key) → is_fresh (row_at queues role key) ≡ true → has_room (queue_in queues role) key ≡ true
@@ -96,7 +96,7 @@ fit_due w role key seen sees f = subst (λ (v : Views). IsDue (on past w role ke
 
 -- a row on which a look found nothing to do is timed
 news_by : (working ready : Bool) (work : Found) (role : Role) (rules : Rules) (past : Past) (seen : Views) (now : ℤ) (at : Positions) (timed : Option ℤ) (parked : Option Parked) → working ≡ false → ready ≡ true → work ≡ found.Nothing
-    → IsKept working role rules past seen now at (record { ready = ready; work = work; working = working; parked = parked; timed = timed }) → IsTimed role seen now timed
+    → IsRowKept working role rules past seen now at (record { ready = ready; work = work; working = working; parked = parked; timed = timed }) → IsTimed role seen now timed
 news_by false true found.Nothing role rules past seen now at timed parked off on is kept = kept.timed
 news_by false true found.Unknown role rules past seen now at timed parked off on is kept = absurd (cc is)
 news_by false true found.Something role rules past seen now at timed parked off on is kept = absurd (cc is)
@@ -122,15 +122,15 @@ timed_again None b row is = refl
 timed_again (Some t) true row is = λ i. record row { ready = false; work = found.Unknown; working = true; timed = (is ∙ ap Some (sym (earliest_twice t row.timed is))) i }
 timed_again (Some t) false row is = λ i. record row { timed = (is ∙ ap Some (sym (earliest_twice t row.timed is))) i }
 
-pub begun_timed : (row : Row) → begun None row ≡ begun row.timed row
+pub begun_timed : (row : Row) → row_begun None row ≡ row_begun row.timed row
 begun_timed row = timed_again row.timed (is_free row) row refl
 
-begun_here : (b : Bool) (old : Work) (key k : Key) (row : Row) → key_eq key k ≡ b → row ≡ (if b then begun None (row_of old k) else row_of old k) → row ≡ (if b then begun (row_of old key).timed (row_of old k) else row_of old k)
-begun_here true old key k row is at = at ∙ begun_timed (row_of old k) ∙ ap (λ (q : Key). begun (row_of old q).timed (row_of old k)) (sym (same_by_test key k is))
+begun_here : (b : Bool) (old : Work) (key k : Key) (row : Row) → key_eq key k ≡ b → row ≡ (if b then row_begun None (row_of old k) else row_of old k) → row ≡ (if b then row_begun (row_of old key).timed (row_of old k) else row_of old k)
+begun_here true old key k row is at = at ∙ begun_timed (row_of old k) ∙ ap (λ (q : Key). row_begun (row_of old q).timed (row_of old k)) (sym (same_by_test key k is))
 begun_here false old key k row is at = at
 
 -- so its next due moment need not be noted again
-pub begun_none : (key : Key) (old new : Work) → ChangesRow (begun None) key old new → ChangesRow (begun (row_of old key).timed) key old new
+pub begun_none : (key : Key) (old new : Work) → ChangesRow (row_begun None) key old new → ChangesRow (row_begun (row_of old key).timed) key old new
 begun_none key old new rows k = begun_here (key_eq key k) old key k (row_of new k) refl (rows k)
 
 -- ---- a key of which a look found something
@@ -154,7 +154,7 @@ idle_now w role key queues fed up free nothing work =
 
 -- its next due moment was noted as it was looked at
 pub idle_fed : (old new : Seen) (role : Role) (key own : Key) (before after : List Work) (answer : Stepped) → own ≡ key → on IsRun old → on IsRun new → new.scenario ≡ old.scenario → on Leaves old (moves.Begin role key) answer new.history → is_done answer ≡ true
-    → on runs old role ≡ true → is_free (row_at before role key) ≡ true → (row_at before role key).work ≡ found.Nothing → ChangesRow (begun None) own (queue_in before role) (queue_in after role) → KeepsOthers role before after → on IsFed old before → on IsFed new after
+    → on runs old role ≡ true → is_free (row_at before role key) ≡ true → (row_at before role key).work ≡ found.Nothing → ChangesRow (row_begun None) own (queue_in before role) (queue_in after role) → KeepsOthers role before after → on IsFed old before → on IsFed new after
 idle_fed old new role key own before after answer same ran run scenario leaves made up free nothing rows others fed =
     let s = setting_of old.scenario in
     let h = old.history in
@@ -163,4 +163,4 @@ idle_fed old new role key own before after answer same ran run scenario leaves m
     let parts = free_is (row_at before role key) free in
     fed_begins old new role key (row_at before role key).timed before after run scenario (subst (λ (a : Stepped). on Leaves old (moves.Begin role key) a new.history) done leaves) fits.may.work free
     (news_timed s h role key (row_at before role key) up parts.1 parts.0 nothing ((fed_of s h role before fed).tended key fits.may.work))
-    (begun_none key (queue_in before role) (queue_in after role) (subst (λ (k : Key). ChangesRow (begun None) k (queue_in before role) (queue_in after role)) same rows)) others fed
+    (begun_none key (queue_in before role) (queue_in after role) (subst (λ (k : Key). ChangesRow (row_begun None) k (queue_in before role) (queue_in after role)) same rows)) others fed

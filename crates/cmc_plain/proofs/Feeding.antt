@@ -52,13 +52,13 @@ use Rattle.cmc_moves.specs.declared.moves.Move.TheVariants as moves
 use Rattle.cmc_moves.specs.declared.moves.Stepped.{Stepped}
 use Rattle.cmc_moves.specs.declared.moves.Stepped.TheVariants as answers
 use Rattle.cmc_setup.specs.Setups.{Setup, IsOrderlyFrom}
-use Rattle.cmc_waking.specs.Feeding.{begun, closed, told}
+use Rattle.cmc_waking.specs.Feeding.{row_begun, closed, row_delivered}
 use Rattle.cmc_waking.specs.Parking.{waits_for}
 use Rattle.cmc_waking.specs.Queues.{queue_in, row_at, HasPlaceFor, KeepsOthers}
 use Rattle.cmc_waking.specs.Waking.{IsTimed}
 use Rattle.cmc_waking.proofs.Owners.{same_role}
 use Rattle.cmc_world.specs.Kept.{Seen, setting_of, on}
-use Rattle.cmc_plain.specs.Fed.{AreAffected, HasRoomsFor, HasRow, IsAhead, IsClosing, IsClosingOf, IsFed, IsGoing, IsOfStore, IsWrote, IsStarting, IsToClose, IsToTurn, IsToldUpTo}
+use Rattle.cmc_plain.specs.Fed.{AreAffected, HasRoomsFor, HasRow, IsAhead, IsClosingIfOpen, IsClosingOf, IsFed, IsGoing, IsOfStore, IsWrote, IsStarting, IsToClose, IsToTurn, IsDeliveredTo}
 use Rattle.cmc_plain.specs.declared.fed_passes.Closing.{Closing}
 use Rattle.cmc_plain.specs.declared.fed_scripts.Ahead.{Ahead}
 use Rattle.cmc_plain.specs.declared.fed_scripts.Ahead.TheVariants as ahead
@@ -134,18 +134,18 @@ fed_refused old new move P (Err lack) queues run refused same answered leaves fa
 -- ---- a delivery
 
 told_done : (b : Bool) (s : Setting) (h : List Entry) (role : Role) (kind : Kind) (to upto : ℕ) (keys : List Key) (old new : List Work) → nat_le (accepted s h) (position h role kind + s.window) ≡ b
-    → IsLegal s ((if b then Deliver role kind to else Listed role kind (accepted s h)) ∷ h) → IsToldUpTo s h role kind to upto
+    → IsLegal s ((if b then Deliver role kind to else Listed role kind (accepted s h)) ∷ h) → IsDeliveredTo s h role kind to upto
     → ((key : Key) → is_among keys key ≡ true → key.kind ≡ kind_of_work role)
     → ((key : Key) → is_among keys key ≡ false → views s ((if b then Deliver role kind to else Listed role kind (accepted s h)) ∷ h) role key ≡ views s h role key)
-    → ((key : Key) → row_at new role key ≡ told (is_among keys key) kind upto (row_at old role key)) → KeepsOthers role old new → IsFed s h old
+    → ((key : Key) → row_at new role key ≡ row_delivered (is_among keys key) kind upto (row_at old role key)) → KeepsOthers role old new → IsFed s h old
     → IsFed s ((if b then Deliver role kind to else Listed role kind (accepted s h)) ∷ h) new
 told_done true s h role kind to upto keys old new is legal reach work seen rows others fed =
-    fed_delivered s h role kind to keys old new legal work seen (λ key. rows key ∙ ap (λ (n : ℕ). told (is_among keys key) kind n (row_at old role key)) (reach.told is)) others fed
+    fed_delivered s h role kind to keys old new legal work seen (λ key. rows key ∙ ap (λ (n : ℕ). row_delivered (is_among keys key) kind n (row_at old role key)) (reach.told is)) others fed
 told_done false s h role kind to upto keys old new is legal reach work seen rows others fed =
-    fed_listed s h role kind (accepted s h) keys old new legal work seen (λ key. rows key ∙ ap (λ (n : ℕ). told (is_among keys key) kind n (row_at old role key)) (reach.listed is)) others fed
+    fed_listed s h role kind (accepted s h) keys old new legal work seen (λ key. rows key ∙ ap (λ (n : ℕ). row_delivered (is_among keys key) kind n (row_at old role key)) (reach.listed is)) others fed
 
 pub fed_told : (old new : Seen) (role : Role) (kind : Kind) (to upto : ℕ) (keys : List Key) (before after : List Work) → on IsRun new → new.scenario ≡ old.scenario → on Leaves old (moves.Deliver role kind to) answers.Done new.history
-    → on IsToldUpTo old role kind to upto → on AreAffected old role kind to keys → ((key : Key) → row_at after role key ≡ told (is_among keys key) kind upto (row_at before role key)) → KeepsOthers role before after
+    → on IsDeliveredTo old role kind to upto → on AreAffected old role kind to keys → ((key : Key) → row_at after role key ≡ row_delivered (is_among keys key) kind upto (row_at before role key)) → KeepsOthers role before after
     → on IsFed old before → on IsFed new after
 fed_told old new role kind to upto keys before after run same grown reach affected rows others fed =
     let s : Setting = setting_of old.scenario in
@@ -158,7 +158,7 @@ fed_told old new role kind to upto keys before after run same grown reach affect
 -- ---- a begin
 
 pub fed_begins : (old new : Seen) (role : Role) (key : Key) (next : Option ℤ) (before after : List Work) → on IsRun new → new.scenario ≡ old.scenario → on Leaves old (moves.Begin role key) answers.Done new.history → key.kind ≡ kind_of_work role
-    → is_free (row_at before role key) ≡ true → IsTimed role (on views old role key) (on moment old) next → ChangesRow (begun next) key (queue_in before role) (queue_in after role) → KeepsOthers role before after → on IsFed old before → on IsFed new after
+    → is_free (row_at before role key) ≡ true → IsTimed role (on views old role key) (on moment old) next → ChangesRow (row_begun next) key (queue_in before role) (queue_in after role) → KeepsOthers role before after → on IsFed old before → on IsFed new after
 fed_begins old new role key next before after run same grown work free timed rows others fed =
     let s : Setting = setting_of old.scenario in
     let h : List Entry = old.history in
@@ -292,7 +292,7 @@ ends_fed s h k pass c queues new legal (inr (inr (cause, may, is))) closing fed 
     (fed_ended s h pass cause c.role c.key queues new legal may closing.mine (work_by c.role c.key (open_pass s h pass) closing.mine (on_work s h pass legal))
     (subst (λ (f : Row → Row). ChangesRow f c.key (queue_in queues c.role) (queue_in new c.role)) (λ i row. closed (ending i) (past s h c.role c.key).own (at i) row) (λ k. rows k ∙ ap (λ (r : Row). if key_eq c.key k then r else row_at queues c.role k) (own (row_at queues c.role k)))) others fed)
 
-close_by : (closing : Option Closing) (s : Setting) (h k : List Entry) (pass : ℕ) (queues : List Work) → IsLegal s h → IsLegal s k → IsGrown s h pass k → IsClosing s h pass closing → IsFed s h queues → IsToClose s k pass closing queues
+close_by : (closing : Option Closing) (s : Setting) (h k : List Entry) (pass : ℕ) (queues : List Work) → IsLegal s h → IsLegal s k → IsGrown s h pass k → IsClosingIfOpen s h pass closing → IsFed s h queues → IsToClose s k pass closing queues
 close_by None s h k pass queues legal after grown none fed = stays_fed s h k pass queues legal grown fed (inr none) after
 close_by (Some c) s h k pass queues legal after grown closing fed = record {
   stays = λ stands. stays_fed s h k pass queues legal grown fed (inl stands) after;
@@ -301,14 +301,14 @@ close_by (Some c) s h k pass queues legal after grown closing fed = record {
 
 -- what is left to do after a move of the pass
 pub to_close : (old new : Seen) (pass : ℕ) (move : Move) (answer : Stepped) (closing : Option Closing) (queues : List Work) → on IsRun old → on IsRun new → new.scenario ≡ old.scenario → IsGoing pass move → on Leaves old move answer new.history
-    → on IsClosing old pass closing → on IsFed old queues → on IsToClose new pass closing queues
+    → on IsClosingIfOpen old pass closing → on IsFed old queues → on IsToClose new pass closing queues
 to_close old new pass move answer closing queues run after same going leaves is fed =
     let s : Setting = setting_of old.scenario in
     on_new (λ s h. IsToClose s h pass closing queues) old new same
     (close_by closing s old.history new.history pass queues run.legal (subst (λ (u : Setup). IsLegal (setting_of u) new.history) same after.legal) (grown_by s old.history new.history pass move answer going leaves) is fed)
 
 -- the key of an open pass has a row
-pub closing_row : (s : Setting) (h : List Entry) (pass : ℕ) (closing : Option Closing) (queues : List Work) → IsLegal s h → IsFed s h queues → IsClosing s h pass closing → HasRow closing queues
+pub closing_row : (s : Setting) (h : List Entry) (pass : ℕ) (closing : Option Closing) (queues : List Work) → IsLegal s h → IsFed s h queues → IsClosingIfOpen s h pass closing → HasRow closing queues
 closing_row s h pass None queues legal fed is = tt
 closing_row s h pass (Some c) queues legal fed is =
     let work = work_by c.role c.key (open_pass s h pass) is.mine (on_work s h pass legal) in

@@ -125,11 +125,11 @@ free_fits s h role key queues legal fed up on known =
 
 -- ---- the first key of which it is so
 
-pub work_none : (s : Setting) (h : List Entry) (role : Role) (below : Option Key) (queues : List Work) → IsFed s h queues → FindsFirst (λ k. is_above below k && is_pending (row_at queues role k)) None → searches.FindsFirst (HasWorkAbove s h role below) None
+pub work_none : (s : Setting) (h : List Entry) (role : Role) (below : Option Key) (queues : List Work) → IsFed s h queues → FindsFirst (λ k. is_above below k && is_pending (row_at queues role k)) None → searches.FindsFirstKey (HasWorkAbove s h role below) None
 work_none s h role below queues fed none k w = let on = and_from (is_above below k) (is_pending (row_at queues role k)) w.above (work_pending s h role k queues fed w.work) in let off = none k in cc (on, off)
 
 pub work_first : (s : Setting) (h : List Entry) (role : Role) (below : Option Key) (queues : List Work) (key : Key) → IsFed s h queues → FindsFirst (λ k. is_above below k && is_pending (row_at queues role k)) (Some key) → HasWork s h role key
-    → searches.FindsFirst (HasWorkAbove s h role below) (Some key)
+    → searches.FindsFirstKey (HasWorkAbove s h role below) (Some key)
 work_first s h role below queues key fed first work = (
   record { above = (and_parts (is_above below key) (is_pending (row_at queues role key)) first.0).0; work = work },
   λ k low w. let on = and_from (is_above below k) (is_pending (row_at queues role k)) w.above (work_pending s h role k queues fed w.work) in let off = first.1 k low in cc (on, off),
@@ -145,5 +145,5 @@ fits_first s h role queues key fed first f = (f, λ k low g. let on = fit_free s
 pub fits_stopped : (s : Setting) (h : List Entry) (role : Role) (b : Bool) → b ≡ runs s h role → b ≡ false → FindsKey s h role None
 fits_stopped s h role b is off some = let up = some.1.may.running in cc (is, off, up)
 
-pub work_stopped : (s : Setting) (h : List Entry) (role : Role) (below : Option Key) (b : Bool) → b ≡ runs s h role → b ≡ false → searches.FindsFirst (HasWorkAbove s h role below) None
+pub work_stopped : (s : Setting) (h : List Entry) (role : Role) (below : Option Key) (b : Bool) → b ≡ runs s h role → b ≡ false → searches.FindsFirstKey (HasWorkAbove s h role below) None
 work_stopped s h role below b is off k w = let up = w.work.may.running in cc (is, off, up)

@@ -23,7 +23,7 @@ use Rattle.cmc_objects.specs.declared.entry.Entry.TheVariants.{Ask}
 use Rattle.cmc_objects.specs.Defaults.{key_rotation}
 use Rattle.cmc_objects.specs.Objects.{key_of}
 use Rattle.cmc_objects.specs.Requests.{is_denied}
-use Rattle.cmc_answers.specs.Answers.{is_free}
+use Rattle.cmc_answers.specs.Answers.{is_left_open}
 use Rattle.cmc_match.specs.Facts.{fits}
 use Rattle.cmc_setup.specs.Forms.{is_said, is_bound_key, is_bound_entry}
 use Rattle.cmc_pass.specs.declared.pass.Views.{Views}
@@ -40,7 +40,7 @@ use Rattle.cmc_rules.specs.Desks.{desk}
 use Rattle.cmc_rules.specs.Triggering.{is_issuing}
 use Rattle.cmc_rules.specs.KeyManaging.{key_order, ask_key, make_call, drop_call, name_call, reused, rotated, only_key, dropped, while_issuing, unnamed, while_idle, keys_of, key_manager, target_key}
 use Rattle.cmc_rules.specs.NextKeys.{is_named, has_fitting_key}
-use Rattle.cmc_rules.specs.Granting.{certificate_of, has_reason, is_open, is_waiting, sign_order, ask_issuer, deny, grant, grant_of, issuer}
+use Rattle.cmc_rules.specs.Granting.{certificate_of, has_reason, is_open, is_request_waiting, sign_order, ask_issuer, deny, grant, grant_of, issuer}
 use Rattle.cmc_rules.specs.Passes.{open_pass}
 use Rattle.cmc_rules.specs.Legality.{IsLegal}
 use Rattle.cmc_rules.specs.Causes.{act_of, IsAsked, AsksBy, MayAsk, IsCaused}
@@ -59,7 +59,7 @@ AreRowsBound desk = list_all is_bound_entry desk.material ≡ true
 says_key : (row : KeyRow) → is_bound_key row ≡ true → row ≢ rows.Free
 says_key row is same = let open_row : is_bound_key rows.Free ≡ true = ap is_bound_key (sym same) ∙ is in cc open_row
 
-says_answer : (row : SignRow) → is_said row ≡ true → is_free row ≡ false
+says_answer : (row : SignRow) → is_said row ≡ true → is_left_open row ≡ false
 says_answer replies.Free is = absurd (cc is)
 says_answer other is = refl
 
@@ -137,7 +137,7 @@ of_request : (moment : ℤ) (d : Desk) (r : Option CertificateRequest) → AreRo
 of_request moment d None bound = tt
 of_request moment d (Some r) bound =
     bound_if (is_denied r) (deny moment r) (grant moment d r) (denies moment r)
-    (bound_if (is_open r) (if is_waiting moment r then Nothing else ask_issuer moment d r) Nothing (bound_if (is_waiting moment r) Nothing (ask_issuer moment d r) tt (asks_issuer moment d r bound)) tt)
+    (bound_if (is_open r) (if is_request_waiting moment r then Nothing else ask_issuer moment d r) Nothing (bound_if (is_request_waiting moment r) Nothing (ask_issuer moment d r) tt (asks_issuer moment d r bound)) tt)
 
 grants : (views : Views) (moment : ℤ) (d : Desk) → AreRowsBound d → BoundAct (issuer views moment d)
 unfolding issuer

@@ -22,7 +22,7 @@ use Rattle.cmc_moves.specs.Prospects.{IsFirstAct, IsProspect}
 use Rattle.cmc_moves.specs.declared.moves.Stepped.{Stepped}
 use Rattle.cmc_moves.specs.declared.moves.Stepped.TheVariants.{Ended, NotNow}
 use Rattle.cmc_moves.specs.declared.moves.Lack.TheVariants.{NoPass}
-use Rattle.cmc_plain.specs.Keeping.{DoesOn, IsActOn, IsFound, IsMine}
+use Rattle.cmc_plain.specs.Keeping.{DoesOn, IsActOn, IsCurrent, IsMine}
 use Rattle.cmc_plain.specs.Plain.{IsOfPresent}
 use Rattle.cmc_plain.specs.Searches.{prospect, HasWork, IsWork}
 use Rattle.cmc_plain.specs.declared.openings.Opening.{Opening}
@@ -46,7 +46,7 @@ prospect_of : (s : Setting) (h : List Entry) (role : Role) (key : Key) (does : O
 prospect_of s h role key None is busy = (is, busy)
 prospect_of s h role key (Some does) is busy = (is, busy)
 
-pub found_work : (s : Setting) (h : List Entry) (role : Role) (key : Key) (o : Opening) → IsFound s h o → IsMine role key o → HasWork s h role key → IsWork s h role key o
+pub found_work : (s : Setting) (h : List Entry) (role : Role) (key : Key) (o : Opening) → IsCurrent s h o → IsMine role key o → HasWork s h role key → IsWork s h role key o
 found_work s h role key o found mine work =
     record {
       work = work;
@@ -63,7 +63,7 @@ act_on : (s : Setting) (h : List Entry) (role : Role) (key : Key) (does : Option
 act_on s h role key None is = is.0
 act_on s h role key (Some does) is = is.0
 
-pub work_was_found : (s : Setting) (h : List Entry) (role : Role) (key : Key) (o : Opening) → IsWork s h role key o → IsFound s h o
+pub work_was_found : (s : Setting) (h : List Entry) (role : Role) (key : Key) (o : Opening) → IsWork s h role key o → IsCurrent s h o
 work_was_found s h role key o work =
     let known = work.known in
     record {
@@ -76,7 +76,7 @@ does_on : (s : Setting) (h : List Entry) (role : Role) (key : Key) (does : Optio
 does_on s h role key None is = tt
 does_on s h role key (Some does) is = is
 
-pub found_does : (s : Setting) (h : List Entry) (role : Role) (key : Key) (o : Opening) → IsFound s h o → IsMine role key o → (o.seen ≡ views s h role key) × IfSome o.does (DoesOn s h role key)
+pub found_does : (s : Setting) (h : List Entry) (role : Role) (key : Key) (o : Opening) → IsCurrent s h o → IsMine role key o → (o.seen ≡ views s h role key) × IfSome o.does (DoesOn s h role key)
 found_does s h role key o found mine = (
   subst (λ (r : Role). o.seen ≡ views s h r key) mine.role (subst (λ (k : Key). o.seen ≡ views s h o.role k) mine.key found.seen),
   does_on s h role key o.does (subst (λ (r : Role). IsActOn s h r (views s h r key) o.does) mine.role (subst (λ (k : Key). IsActOn s h o.role (views s h o.role k) o.does) mine.key found.does)),

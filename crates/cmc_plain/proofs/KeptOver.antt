@@ -41,7 +41,7 @@ use Rattle.cmc_moves.specs.declared.moves.Move.TheVariants as moves
 use Rattle.cmc_moves.specs.declared.moves.Stepped.{Stepped}
 use Rattle.cmc_moves.specs.declared.moves.Stepped.TheVariants as answers
 use Rattle.cmc_world.specs.Kept.{Seen, setting_of, on}
-use Rattle.cmc_plain.specs.Keeping.{AreFound, IsActOn, IsFound, IsKeptRight}
+use Rattle.cmc_plain.specs.Keeping.{AreCurrent, IsActOn, IsCurrent, IsKeptRight}
 use Rattle.cmc_plain.specs.Next.{IsNewestPass}
 use Rattle.cmc_plain.specs.Plain.{IsBehind}
 use Rattle.cmc_plain.specs.Searches.{FindsDelivery, HasNoneBefore, IsBehindInSome}
@@ -75,14 +75,14 @@ does_over : (s : Setting) (h : List Entry) (e : Entry) (role : Role) (seen : Vie
 does_over s h e role seen None silent now is = is
 does_over s h e role seen (Some does) silent now is = let same = desk_over s h e role seen silent in is ∙ (λ i. act role seen ((sym now) i) ((sym same) i))
 
-found_over : (s : Setting) (h : List Entry) (e : Entry) (o : Opening) → IsNoAsk e → moment s (e ∷ h) ≡ moment s h → views s (e ∷ h) o.role o.key ≡ views s h o.role o.key → IsFound s h o → IsFound s (e ∷ h) o
+found_over : (s : Setting) (h : List Entry) (e : Entry) (o : Opening) → IsNoAsk e → moment s (e ∷ h) ≡ moment s h → views s (e ∷ h) o.role o.key ≡ views s h o.role o.key → IsCurrent s h o → IsCurrent s (e ∷ h) o
 found_over s h e o silent now sees is = record {
   seen = is.seen ∙ sym sees;
   does = subst (λ (v : Views). IsActOn s (e ∷ h) o.role v o.does) (sym sees) (does_over s h e o.role (views s h o.role o.key) o.does silent now is.does);
 }
 
-are_over : (s : Setting) (h : List Entry) (e : Entry) (l : List Opening) → IsNoAsk e → moment s (e ∷ h) ≡ moment s h → ((role : Role) (key : Key) → views s (e ∷ h) role key ≡ views s h role key) → AreFound s h l → AreFound s (e ∷ h) l
-are_over s h e l silent now sees all = All-weaker (IsFound s h) (IsFound s (e ∷ h)) (λ o is. found_over s h e o silent now (sees o.role o.key) is) l all
+are_over : (s : Setting) (h : List Entry) (e : Entry) (l : List Opening) → IsNoAsk e → moment s (e ∷ h) ≡ moment s h → ((role : Role) (key : Key) → views s (e ∷ h) role key ≡ views s h role key) → AreCurrent s h l → AreCurrent s (e ∷ h) l
+are_over s h e l silent now sees all = All-weaker (IsCurrent s h) (IsCurrent s (e ∷ h)) (λ o is. found_over s h e o silent now (sees o.role o.key) is) l all
 
 -- ---- one entry more: the roles that are not behind
 
@@ -128,7 +128,7 @@ pub nothing_kept : (w : Seen) (k : Kept) → k.told ≡ 0 → k.act ≡ None →
 nothing_kept w k told does looked = record {
   told = none_at_first (on IsBehindInSome w) k.told told;
   act = subst (λ (a : Option Act). IfSome a (on IsFirstAct w (on begun w))) (sym does) tt;
-  looked = subst (λ (l : List Opening). on AreFound w l) (sym looked) (All-nil (on IsFound w));
+  looked = subst (λ (l : List Opening). on AreCurrent w l) (sym looked) (All-nil (on IsCurrent w));
 }
 
 -- ---- a begin
@@ -142,23 +142,23 @@ begin_leaves s h k role key (answers.NotMine kept given) leaves = inl leaves
 begin_leaves s h k role key (answers.OtherViews pass) leaves = inl leaves
 begin_leaves s h k role key (answers.Spent entries) leaves = inl leaves
 
-begin_keeps : (s : Setting) (h k : List Entry) (role : Role) (key : Key) (n : ℕ) (l : List Opening) → (k ≡ h) ⊎ (k ≡ beginning s h role key ∷ h) → HasNoneBefore (IsBehindInSome s h) n → AreFound s h l → HasNoneBefore (IsBehindInSome s k) n × AreFound s k l
-begin_keeps s h k role key n l (inl same) told looked = subst (λ (g : List Entry). HasNoneBefore (IsBehindInSome s g) n × AreFound s g l) (sym same) (told, looked)
+begin_keeps : (s : Setting) (h k : List Entry) (role : Role) (key : Key) (n : ℕ) (l : List Opening) → (k ≡ h) ⊎ (k ≡ beginning s h role key ∷ h) → HasNoneBefore (IsBehindInSome s h) n → AreCurrent s h l → HasNoneBefore (IsBehindInSome s k) n × AreCurrent s k l
+begin_keeps s h k role key n l (inl same) told looked = subst (λ (g : List Entry). HasNoneBefore (IsBehindInSome s g) n × AreCurrent s g l) (sym same) (told, looked)
 begin_keeps s h k role key n l (inr grown) told looked =
-    subst (λ (g : List Entry). HasNoneBefore (IsBehindInSome s g) n × AreFound s g l) (sym grown) (
+    subst (λ (g : List Entry). HasNoneBefore (IsBehindInSome s g) n × AreCurrent s g l) (sym grown) (
       none_over s h (beginning s h role key) n (λ r kind low b. begun_behind s h role r key kind b) told,
       are_over s h (beginning s h role key) l tt refl (λ r q. refl) looked,
     )
 
 pub kept_begun : (old new : Seen) (role : Role) (key : Key) (answer : Stepped) (before after : Kept) → new.scenario ≡ old.scenario → on Leaves old (moves.Begin role key) answer new.history → on IsKeptRight old before → after.told ≡ before.told
-    → ((s : Setting) (h : List Entry) → AreFound s h before.looked.items → AreFound s h after.looked.items) → IfSome after.act (on IsFirstAct new (on begun new)) → on IsKeptRight new after
+    → ((s : Setting) (h : List Entry) → AreCurrent s h before.looked.items → AreCurrent s h after.looked.items) → IfSome after.act (on IsFirstAct new (on begun new)) → on IsKeptRight new after
 kept_begun old new role key answer before after same leaves right told looked does =
     let s = setting_of old.scenario in
     let both = begin_keeps s old.history new.history role key before.told before.looked.items (begin_leaves s old.history new.history role key answer leaves) right.told right.looked in
     record {
       told = on_new (λ s h. HasNoneBefore (IsBehindInSome s h) after.told) old new same (subst (λ (n : ℕ). HasNoneBefore (IsBehindInSome s new.history) n) (sym told) both.0);
       act = does;
-      looked = on_new (λ s h. AreFound s h after.looked.items) old new same (looked s new.history both.1);
+      looked = on_new (λ s h. AreCurrent s h after.looked.items) old new same (looked s new.history both.1);
     }
 
 -- ---- a delivery
@@ -187,7 +187,7 @@ kept_told old new role kind to answer before after same leaves right below up do
     record {
       told = on_new (λ s h. HasNoneBefore (IsBehindInSome s h) after.told) old new same (told_keeps s old.history new.history role kind to after.told (told_leaves s old.history new.history role kind to answer leaves) up none);
       act = subst (λ (a : Option Act). IfSome a (on IsFirstAct new (on begun new))) (sym does) tt;
-      looked = subst (λ (l : List Opening). on AreFound new l) (sym looked) (All-nil (on IsFound new));
+      looked = subst (λ (l : List Opening). on AreCurrent new l) (sym looked) (All-nil (on IsCurrent new));
     }
 
 -- ---- a pass that goes on
@@ -203,17 +203,17 @@ gone_leaves s h k pass named (answers.OtherViews n) leaves = inl leaves
 gone_leaves s h k pass named (answers.Spent entries) leaves = inl leaves
 
 -- neither a call nor an end changes what was found
-of_pass_found : (s : Setting) (h : List Entry) (pass : ℕ) (e : Entry) (l : List Opening) → IsLegal s h → IsOfPass s h pass e → AreFound s h l → AreFound s (e ∷ h) l
+of_pass_found : (s : Setting) (h : List Entry) (pass : ℕ) (e : Entry) (l : List Opening) → IsLegal s h → IsOfPass s h pass e → AreCurrent s h l → AreCurrent s (e ∷ h) l
 of_pass_found s h pass e l legal (inl called) all =
     let reply : Reply = called.2.0 in
-    subst (λ (d : Entry). AreFound s (d ∷ h) l) (sym called.2.2) (are_over s h (Called (Pass pass) called.0 reply) l tt refl (λ role key. views_called s h (Pass pass) called.0 reply role key legal) all)
-of_pass_found s h pass e l legal (inr ended) all = subst (λ (d : Entry). AreFound s (d ∷ h) l) (sym ended.2) (are_over s h (End pass ended.0) l tt refl (λ role key. refl) all)
+    subst (λ (d : Entry). AreCurrent s (d ∷ h) l) (sym called.2.2) (are_over s h (Called (Pass pass) called.0 reply) l tt refl (λ role key. views_called s h (Pass pass) called.0 reply role key legal) all)
+of_pass_found s h pass e l legal (inr ended) all = subst (λ (d : Entry). AreCurrent s (d ∷ h) l) (sym ended.2) (are_over s h (End pass ended.0) l tt refl (λ role key. refl) all)
 
 gone_found : (s : Setting) (h k : List Entry) (pass : ℕ) (answer : Stepped) (l m : List Opening) → IsLegal s h → (k ≡ h) ⊎ (IsSome (told_order answer) ⊎ ((e : Entry) × IsOfPass s h pass e × (k ≡ e ∷ h))) → (IsSome (told_order answer) → m ≡ [])
-    → ((s : Setting) (h : List Entry) → AreFound s h l → AreFound s h m) → AreFound s h l → AreFound s k m
-gone_found s h k pass answer l m legal (inl same) forgets fewer all = fewer s k (subst (λ (g : List Entry). AreFound s g l) (sym same) all)
-gone_found s h k pass answer l m legal (inr (inl asks)) forgets fewer all = subst (λ (x : List Opening). AreFound s k x) (sym (forgets asks)) (All-nil (IsFound s k))
-gone_found s h k pass answer l m legal (inr (inr grown)) forgets fewer all = fewer s k (subst (λ (g : List Entry). AreFound s g l) (sym grown.2) (of_pass_found s h pass grown.0 l legal grown.1 all))
+    → ((s : Setting) (h : List Entry) → AreCurrent s h l → AreCurrent s h m) → AreCurrent s h l → AreCurrent s k m
+gone_found s h k pass answer l m legal (inl same) forgets fewer all = fewer s k (subst (λ (g : List Entry). AreCurrent s g l) (sym same) all)
+gone_found s h k pass answer l m legal (inr (inl asks)) forgets fewer all = subst (λ (x : List Opening). AreCurrent s k x) (sym (forgets asks)) (All-nil (IsCurrent s k))
+gone_found s h k pass answer l m legal (inr (inr grown)) forgets fewer all = fewer s k (subst (λ (g : List Entry). AreCurrent s g l) (sym grown.2) (of_pass_found s h pass grown.0 l legal grown.1 all))
 
 -- a pass that has nothing to do makes no call
 calls_by : (stage : Stage) (does : Act) (after : Order → Value → Option Call) (call : Call) → stage ≡ Fresh → acts.Nothing ≡ does → IsNextCall stage does after call → ⊥
@@ -249,7 +249,7 @@ gone_place s h k pass named answer does idle m n grown forgets is newest first (
 
 pub kept_gone : (old new : Seen) (pass named : ℕ) (answer : Stepped) (does : Option Act) (idle : Bool) (before after : Kept) → on IsRun old → new.scenario ≡ old.scenario → on Leaves old (moves.Next pass named) answer new.history → on IsKeptRight old before
     → (idle ≡ true → does ≡ Some acts.Nothing) → (IsSome does → on IsNewestPass old pass named) → IfSome does (on IsFirstAct old (on begun old)) → (after.told ≡ 0) ⊎ ((idle ≡ true) × (after.told ≡ before.told)) → after.act ≡ None
-    → (IsSome (told_order answer) → (after.told ≡ 0) × (after.looked.items ≡ [])) → ((s : Setting) (h : List Entry) → AreFound s h before.looked.items → AreFound s h after.looked.items) → on IsKeptRight new after
+    → (IsSome (told_order answer) → (after.told ≡ 0) × (after.looked.items ≡ [])) → ((s : Setting) (h : List Entry) → AreCurrent s h before.looked.items → AreCurrent s h after.looked.items) → on IsKeptRight new after
 kept_gone old new pass named answer does idle before after run same leaves right is newest first place none forgets fewer =
     let s = setting_of old.scenario in
     let grown = gone_leaves s old.history new.history pass named answer leaves in
@@ -257,29 +257,29 @@ kept_gone old new pass named answer does idle before after run same leaves right
       told = on_new (λ s h. HasNoneBefore (IsBehindInSome s h) after.told) old new same
           (gone_place s old.history new.history pass named answer does idle before.told after.told grown (λ asks. (forgets asks).0) is newest first place right.told);
       act = subst (λ (a : Option Act). IfSome a (on IsFirstAct new (on begun new))) (sym none) tt;
-      looked = on_new (λ s h. AreFound s h after.looked.items) old new same
+      looked = on_new (λ s h. AreCurrent s h after.looked.items) old new same
           (gone_found s old.history new.history pass answer before.looked.items after.looked.items run.legal grown (λ asks. (forgets asks).1) fewer right.looked);
     }
 
 -- ---- a move that is not made
 
-pub kept_same : (old new : Seen) (before after : Kept) → new ≡ old → on IsKeptRight old before → after.told ≡ before.told → after.act ≡ None → ((s : Setting) (h : List Entry) → AreFound s h before.looked.items → AreFound s h after.looked.items) → on IsKeptRight new after
+pub kept_same : (old new : Seen) (before after : Kept) → new ≡ old → on IsKeptRight old before → after.told ≡ before.told → after.act ≡ None → ((s : Setting) (h : List Entry) → AreCurrent s h before.looked.items → AreCurrent s h after.looked.items) → on IsKeptRight new after
 kept_same old new before after same right told none fewer = record {
   told = subst (λ (w : Seen). HasNoneBefore (on IsBehindInSome w) after.told) (sym same) (subst (λ (n : ℕ). HasNoneBefore (on IsBehindInSome old) n) (sym told) right.told);
   act = subst (λ (a : Option Act). IfSome a (on IsFirstAct new (on begun new))) (sym none) tt;
-  looked = subst (λ (w : Seen). on AreFound w after.looked.items) (sym same) (fewer (setting_of old.scenario) old.history right.looked);
+  looked = subst (λ (w : Seen). on AreCurrent w after.looked.items) (sym same) (fewer (setting_of old.scenario) old.history right.looked);
 }
 
 -- ---- what searches note
 
-pub kept_noted : (w : Seen) (before after : Kept) (o : Opening) → after.told ≡ before.told → after.act ≡ before.act → ((s : Setting) (h : List Entry) → AreFound s h before.looked.items → IsFound s h o → AreFound s h after.looked.items) → on IsFound w o → on IsKeptRight w before → on IsKeptRight w after
+pub kept_noted : (w : Seen) (before after : Kept) (o : Opening) → after.told ≡ before.told → after.act ≡ before.act → ((s : Setting) (h : List Entry) → AreCurrent s h before.looked.items → IsCurrent s h o → AreCurrent s h after.looked.items) → on IsCurrent w o → on IsKeptRight w before → on IsKeptRight w after
 kept_noted w before after o told does more found right = record {
   told = subst (λ (n : ℕ). HasNoneBefore (on IsBehindInSome w) n) (sym told) right.told;
   act = subst (λ (a : Option Act). IfSome a (on IsFirstAct w (on begun w))) (sym does) right.act;
   looked = more (setting_of w.scenario) w.history right.looked found;
 }
 
-pub kept_taken : (w : Seen) (before after : Kept) → after.told ≡ before.told → after.act ≡ before.act → ((s : Setting) (h : List Entry) → AreFound s h before.looked.items → AreFound s h after.looked.items) → on IsKeptRight w before → on IsKeptRight w after
+pub kept_taken : (w : Seen) (before after : Kept) → after.told ≡ before.told → after.act ≡ before.act → ((s : Setting) (h : List Entry) → AreCurrent s h before.looked.items → AreCurrent s h after.looked.items) → on IsKeptRight w before → on IsKeptRight w after
 kept_taken w before after told does fewer right = record {
   told = subst (λ (n : ℕ). HasNoneBefore (on IsBehindInSome w) n) (sym told) right.told;
   act = subst (λ (a : Option Act). IfSome a (on IsFirstAct w (on begun w))) (sym does) right.act;
@@ -295,9 +295,9 @@ pub none_before_found : (s : Setting) (h : List Entry) (d : Option Delivery) →
 none_before_found s h None none role low b = none role b.0 b.1
 none_before_found s h (Some d) first role low b = first.first role b.0 (inl low) b.1
 
-pub found_pushed : (s : Setting) (h : List Entry) (b : Bool) (l m : List Opening) (o : Opening) → m ≡ (if b then l ++ o ∷ [] else l) → AreFound s h l → IsFound s h o → AreFound s h m
-found_pushed s h true l m o same all one = subst (λ (x : List Opening). AreFound s h x) (sym same) (All-push (IsFound s h) l o all one)
-found_pushed s h false l m o same all one = subst (λ (x : List Opening). AreFound s h x) (sym same) all
+pub found_pushed : (s : Setting) (h : List Entry) (b : Bool) (l m : List Opening) (o : Opening) → m ≡ (if b then l ++ o ∷ [] else l) → AreCurrent s h l → IsCurrent s h o → AreCurrent s h m
+found_pushed s h true l m o same all one = subst (λ (x : List Opening). AreCurrent s h x) (sym same) (All-push (IsCurrent s h) l o all one)
+found_pushed s h false l m o same all one = subst (λ (x : List Opening). AreCurrent s h x) (sym same) all
 
 -- ---- by the answer
 
@@ -307,7 +307,7 @@ told_by_answer old new role kind to (Ok answer) before after same leaves failed 
 told_by_answer old new role kind to (Err lack) before after same leaves failed right below up does looked = record {
   told = subst (λ (w : Seen). HasNoneBefore (on IsBehindInSome w) after.told) (sym failed) (none_fewer (on IsBehindInSome old) after.told before.told below right.told);
   act = subst (λ (a : Option Act). IfSome a (on IsFirstAct new (on begun new))) (sym does) tt;
-  looked = subst (λ (l : List Opening). on AreFound new l) (sym looked) (All-nil (on IsFound new));
+  looked = subst (λ (l : List Opening). on AreCurrent new l) (sym looked) (All-nil (on IsCurrent new));
 }
 
 -- an act is known only of the newest pass

@@ -16,7 +16,7 @@ use Rattle.cmc_meta.specs.declared.key.Key.{Key}
 use Rattle.cmc_meta.specs.Keys.{key_cmp, key_eq}
 use Rattle.cmc_meta.proofs.KeyOrder.{key_cmp-total, key_cmp-IsAntisymmetric}
 use Rattle.cmc_world.proofs.AtRest.{key_eq-Decides}
-use Rattle.cmc_plain.specs.Searches.{FindsFirst}
+use Rattle.cmc_plain.specs.Searches.{FindsFirstKey}
 
 pub tied_is_same : (a b : Key) → is_eq (key_cmp a b) ≡ true → a ≡ b
 tied_is_same a b e = key_cmp-IsAntisymmetric a b ((Equal-is (key_cmp a b)).0 e)
@@ -68,7 +68,7 @@ none_at k key (y ∷ rest) low above =
     ap (λ r. is_eq r || list_any (is_at (key_cmp k)) rest) (key_cmp-total.trans k key y low above.0) ∙ none_at k key rest low above.1
 
 -- the first one of which it is so
-pub key_found : (P : Key → Type 0) (key : Key) (rest : List Key) → P key → KeysLeft P (key ∷ rest) → FindsFirst P (Some key)
+pub key_found : (P : Key → Type 0) (key : Key) (rest : List Key) → P key → KeysLeft P (key ∷ rest) → FindsFirstKey P (Some key)
 key_found P key rest is l = (is, below) where
   below : (k : Key) → key_cmp k key ≡ Less → P k → ⊥
   below k low f =
@@ -78,5 +78,5 @@ key_found P key rest is l = (is, below) where
       absurd (cc (some, none))
 
 -- there is none
-pub none_found : (P : Key → Type 0) → KeysLeft P [] → FindsFirst P None
+pub none_found : (P : Key → Type 0) → KeysLeft P [] → FindsFirstKey P None
 none_found P l = λ k is. let some = l.left k is in absurd (cc some)

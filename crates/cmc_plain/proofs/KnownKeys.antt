@@ -28,7 +28,7 @@ use Rattle.cmc_caches.specs.Affected.{is_among}
 use Rattle.cmc_moves.specs.Answers.{next_effect}
 use Rattle.cmc_waking.specs.Queues.{KeepsOthers}
 use Rattle.cmc_world.proofs.AtRest.{same_key, same_kind}
-use Rattle.cmc_plain.specs.Fed.{AreKnownKeys, AreKnownOf, AreRowsAnew, IsAhead, IsOfStore, IsRowAnew, IsStarted, IsStarting}
+use Rattle.cmc_plain.specs.Fed.{AreKnownKeys, AreKnownOf, AreFreshRows, IsAhead, IsOfStore, IsFreshRow, IsStarted, IsStarting}
 use Rattle.cmc_plain.specs.Searches.{EachBefore}
 use Rattle.cmc_plain.specs.declared.fed_scripts.Ahead.TheVariants as ahead
 use Rattle.cmc_plain.proofs.Keys.{turned_test}
@@ -162,19 +162,19 @@ ahead_over s h is = subst IsOfStore (sym (ap (option_and_then (effect_of s h)) i
 
 -- ---- queues that are made anew
 
-pub anew_first : (s : Setting) (h : List Entry) (role : Role) (queue : Work) → ((key : Key) → row_of queue key ≡ no_row) → AreRowsAnew s h role [] queue
+pub anew_first : (s : Setting) (h : List Entry) (role : Role) (queue : Work) → ((key : Key) → row_of queue key ≡ no_row) → AreFreshRows s h role [] queue
 anew_first s h role queue none = record { listed = λ key some. absurd (cc some); others = λ key off. none key }
 
-pub anew_more : (s : Setting) (h : List Entry) (role : Role) (keys more : List Key) (key : Key) (old new : Work) → more ≡ keys ++ key ∷ [] → IsRowAnew s h role key (row_of new key) → ((k : Key) → key_eq key k ≡ false → row_of new k ≡ row_of old k)
-    → AreRowsAnew s h role keys old → AreRowsAnew s h role more new
+pub anew_more : (s : Setting) (h : List Entry) (role : Role) (keys more : List Key) (key : Key) (old new : Work) → more ≡ keys ++ key ∷ [] → IsFreshRow s h role key (row_of new key) → ((k : Key) → key_eq key k ≡ false → row_of new k ≡ row_of old k)
+    → AreFreshRows s h role keys old → AreFreshRows s h role more new
 anew_more s h role keys more key old new is here same rows = record {
   listed = λ k some. listed_by (key_eq key k) k refl (sym (ap (λ (ks : List Key). is_among ks k) is ∙ among_push k keys key) ∙ some);
   others = λ k off. others_by (is_among keys k) (key_eq key k) k refl refl (sym (ap (λ (ks : List Key). is_among ks k) is ∙ among_push k keys key) ∙ off);
 }
   where
-    listed_by : (b : Bool) (k : Key) → key_eq key k ≡ b → (is_among keys k || key_eq key k) ≡ true → IsRowAnew s h role k (row_of new k)
-    listed_by true k tie some = subst (λ (q : Key). IsRowAnew s h role q (row_of new q)) (same_key key k tie) here
-    listed_by false k tie some = subst (IsRowAnew s h role k) (sym (same k tie)) (rows.listed k (one_of (is_among keys k) (key_eq key k) tie some)) where
+    listed_by : (b : Bool) (k : Key) → key_eq key k ≡ b → (is_among keys k || key_eq key k) ≡ true → IsFreshRow s h role k (row_of new k)
+    listed_by true k tie some = subst (λ (q : Key). IsFreshRow s h role q (row_of new q)) (same_key key k tie) here
+    listed_by false k tie some = subst (IsFreshRow s h role k) (sym (same k tie)) (rows.listed k (one_of (is_among keys k) (key_eq key k) tie some)) where
       one_of : (a b : Bool) → b ≡ false → (a || b) ≡ true → a ≡ true
       one_of true b off some = refl
       one_of false b off some = absurd (cc (off, some))
@@ -184,12 +184,12 @@ anew_more s h role keys more key old new is here same rows = record {
     others_by false true k in_keys tie off = absurd (let on = or_on (is_among keys k) (key_eq key k) (inr tie) in cc (on, off))
     others_by false false k in_keys tie off = same k tie ∙ rows.others k in_keys
 
-put_by : (b : Bool) (s : Setting) (h : List Entry) (role : Role) (keys : List Key) (key : Key) (queue : Work) → is_among keys key ≡ b → AreRowsAnew s h role keys queue → (row_of queue key ≡ no_row) ⊎ IsRowAnew s h role key (row_of queue key)
+put_by : (b : Bool) (s : Setting) (h : List Entry) (role : Role) (keys : List Key) (key : Key) (queue : Work) → is_among keys key ≡ b → AreFreshRows s h role keys queue → (row_of queue key ≡ no_row) ⊎ IsFreshRow s h role key (row_of queue key)
 put_by true s h role keys key queue is rows = inr (rows.listed key is)
 put_by false s h role keys key queue is rows = inl (rows.others key is)
 
 -- a key has no row or one that was put
-pub put_before : (s : Setting) (h : List Entry) (role : Role) (keys : List Key) (key : Key) (queue : Work) → AreRowsAnew s h role keys queue → (row_of queue key ≡ no_row) ⊎ IsRowAnew s h role key (row_of queue key)
+pub put_before : (s : Setting) (h : List Entry) (role : Role) (keys : List Key) (key : Key) (queue : Work) → AreFreshRows s h role keys queue → (row_of queue key ≡ no_row) ⊎ IsFreshRow s h role key (row_of queue key)
 put_before s h role keys key queue rows = put_by (is_among keys key) s h role keys key queue refl rows
 
 -- ---- all roles
@@ -207,7 +207,7 @@ apart role r n is low = by_rank (role_eq role r) refl where
 pub started_more : (s : Setting) (h : List Entry) (n : ℕ) (role : Role) (old new : List Work) → role_rank role ≡ n → IsStarted s h role new → KeepsOthers role old new → EachBefore (λ r. IsStarted s h r old) n → EachBefore (λ r. IsStarted s h r new) (n + 1)
 started_more s h n role old new is here others before r low =
     one_more (λ q. IsStarted s h q new) n role r (nat_lt (role_rank r) n) is here
-    (λ q below. let done = before q below in (done.0, done.1, subst (AreRowsAnew s h q done.0) (sym (others q (apart role q n is below))) done.2)) low refl
+    (λ q below. let done = before q below in (done.0, done.1, subst (AreFreshRows s h q done.0) (sym (others q (apart role q n is below))) done.2)) low refl
 
 pub started_all : (s : Setting) (h : List Entry) (queues : List Work) → EachBefore (λ r. IsStarted s h r queues) 8 → (role : Role) → IsStarted s h role queues
 started_all s h queues each role = each role (rank_low role)

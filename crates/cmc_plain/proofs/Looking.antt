@@ -26,7 +26,7 @@ use Rattle.cmc_pass.specs.declared.pass.Views.{Views}
 use Rattle.cmc_moves.specs.Quiet.{seen_last}
 use Rattle.cmc_moves.proofs.Sounds.{each_sound}
 use Rattle.cmc_world.proofs.AtRest.{same_kind}
-use Rattle.cmc_waking.specs.Feeding.{found_busy, found_held, found_idle, found_quiet}
+use Rattle.cmc_waking.specs.Feeding.{found_busy, found_parked, found_idle, found_quiet}
 use Rattle.cmc_waking.specs.Parking.{own_ahead}
 use Rattle.cmc_waking.specs.Queues.{queue_in, row_at, KeepsOthers}
 use Rattle.cmc_waking.specs.Waking.{AreTended, IsBarredBy, IsDueNow, IsTended, IsTimed, IsWaiting}
@@ -34,7 +34,7 @@ use Rattle.cmc_waking.proofs.Barring.{own_behind, own_is, IsBehind, IsOwn}
 use Rattle.cmc_waking.proofs.Tended.{waiting_undue}
 use Rattle.cmc_plain.specs.DueMoments.{IsFirstAfter}
 use Rattle.cmc_plain.specs.Fed.{IsFed}
-use Rattle.cmc_plain.specs.Keeping.{IsFound}
+use Rattle.cmc_plain.specs.Keeping.{IsCurrent}
 use Rattle.cmc_plain.specs.Looks.{FindsIdle, FindsQuiet}
 use Rattle.cmc_plain.specs.Searches.{HasWork, IsFree}
 use Rattle.cmc_plain.specs.declared.openings.Opening.{Opening}
@@ -133,7 +133,7 @@ fed_quiet s h role key next old new fed fresh found rows others =
     (are_quiet s h role key next (λ k. row_at old role k) (λ k. row_at new role k) (each_sound role) (ready_work s h role key old fed is.0) is.1 found.timed found.quiet rows (fed_of s h role old fed)) (λ r other k row kept. kept) fed
 
 pub fed_held : (s : Setting) (h : List Entry) (role : Role) (key : Key) (parked : Parked) (old new : List Work) → IsFed s h old → is_fresh (row_at old role key) ≡ true → IsBarredBy (past s h role key) (views s h role key) (positions h role) parked
-    → ChangesRow (found_held parked) key (queue_in old role) (queue_in new role) → KeepsOthers role old new → IsFed s h new
+    → ChangesRow (found_parked parked) key (queue_in old role) (queue_in new role) → KeepsOthers role old new → IsFed s h new
 fed_held s h role key parked old new fed fresh barred rows others =
     let is = fresh_is (row_at old role key) fresh in
     fed_one s h h role old new others
@@ -145,7 +145,7 @@ pub idle_look : (s : Setting) (h : List Entry) (role : Role) (key : Key) (seen :
     → (views s h role key ≡ seen_last (past s h role key).last → ⊥) → IsDueNow s h role key → IsTimed role (views s h role key) (moment s h) next → FindsIdle s h role key o next
 idle_look s h role key seen o next sees same idle new due timed = record {
   mine = record { role = ap (λ (x : Opening). x.role) same; key = ap (λ (x : Opening). x.key) same };
-  found = subst (λ (x : Opening). IsFound s h x) (sym same) (record { seen = sees; does = sym idle });
+  found = subst (λ (x : Opening). IsCurrent s h x) (sym same) (record { seen = sees; does = sym idle });
   idle = idle;
   new = new;
   due = due;

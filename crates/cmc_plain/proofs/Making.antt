@@ -27,13 +27,13 @@ use Rattle.cmc_moves.specs.declared.moves.Move.TheVariants.{Script, Deliver, Beg
 use Rattle.cmc_moves.specs.declared.moves.Stepped.{Stepped}
 use Rattle.cmc_moves.specs.declared.moves.Stepped.TheVariants.{Done, NotNow, Ended, NotMine, Spent}
 use Rattle.cmc_moves.specs.declared.moves.Lack.TheVariants.{ScriptOver, ScriptWaits, Stopped, NoInformer, Held, Current, NotAWrite, InProcess, OwnWrite, SameViews, NotQueued, NoPass}
-use Rattle.cmc_moves.specs.Answers.{Need, Bar, BarOf, Fits as HasRoom, outdated, entries_of, next_effect, kept_of, new_of, next_answer, asked_once, value_entry, AnswersScript, AnswersDelivery, AnswersBegin, AnswersOpen, AnswersGoing, AnswersGiven, Answers, Leaves}
+use Rattle.cmc_moves.specs.Answers.{Need, Bar, BarOf, FitsLimit as HasRoom, outdated, entries_of, next_effect, kept_of, new_of, next_answer, asked_once, value_entry, AnswersScript, AnswersDelivery, AnswersBegin, AnswersOpen, AnswersGoing, AnswersGiven, Answers, Leaves}
 use Rattle.cmc_world.proofs.Leading.{new_may}
 use Rattle.cmc_world.proofs.AtRest.{same_kind}
 use Rattle.cmc_plain.specs.Plain.{IsStepReady, IsBehind, IsOfPresent, Fits, IsChosen}
 use Rattle.cmc_plain.specs.Driving.{IsNextWith, IsMadeFor, goes_on}
 use Rattle.cmc_plain.specs.Histories.{GrowsPlainly, entries_for}
-use Rattle.cmc_plain.specs.Searches.{is_accepted}
+use Rattle.cmc_plain.specs.Searches.{is_possible}
 use Rattle.cmc_world.proofs.OneKind.{last_low}
 
 -- ---- tables
@@ -198,20 +198,20 @@ chosen_comes s h (Decide n named d) step answer k present c is run a left = absu
 never : false ≡ true → ⊥
 never is = absurd (cc is)
 
-passed_need : {fact rest : Type 0} (refusal answer : Stepped) → (is_accepted refusal ≡ true → ⊥) → is_accepted answer ≡ true → Need fact refusal answer rest → fact × rest
-passed_need refusal answer bad good (inl x) = absurd (bad (ap is_accepted (sym x.1) ∙ good))
+passed_need : {fact rest : Type 0} (refusal answer : Stepped) → (is_possible refusal ≡ true → ⊥) → is_possible answer ≡ true → Need fact refusal answer rest → fact × rest
+passed_need refusal answer bad good (inl x) = absurd (bad (ap is_possible (sym x.1) ∙ good))
 passed_need refusal answer bad good (inr x) = x
 
-passed_bar : {fact rest : Type 0} (refusal answer : Stepped) → (is_accepted refusal ≡ true → ⊥) → is_accepted answer ≡ true → Bar fact refusal answer rest → (fact → ⊥) × rest
-passed_bar refusal answer bad good (inl x) = absurd (bad (ap is_accepted (sym x.1) ∙ good))
+passed_bar : {fact rest : Type 0} (refusal answer : Stepped) → (is_possible refusal ≡ true → ⊥) → is_possible answer ≡ true → Bar fact refusal answer rest → (fact → ⊥) × rest
+passed_bar refusal answer bad good (inl x) = absurd (bad (ap is_possible (sym x.1) ∙ good))
 passed_bar refusal answer bad good (inr x) = x
 
-accepted_made : (s : Setting) (h : List Entry) (more : ℕ) (answer : Stepped) → IsMade s h more answer → is_accepted answer ≡ true
-accepted_made s h more answer (inl is) = ap is_accepted is
-accepted_made s h more answer (inr is) = ap is_accepted is.0
+accepted_made : (s : Setting) (h : List Entry) (more : ℕ) (answer : Stepped) → IsMade s h more answer → is_possible answer ≡ true
+accepted_made s h more answer (inl is) = ap is_possible is
+accepted_made s h more answer (inr is) = ap is_possible is.0
 
 -- the answer to the next step of the script tells whether it is ready
-pub ready_by : (s : Setting) (h : List Entry) (answer : Stepped) (b : Bool) → AnswersScript s h answer → b ≡ is_accepted answer → IsTrue b ↔ IsStepReady s h
+pub ready_by : (s : Setting) (h : List Entry) (answer : Stepped) (b : Bool) → AnswersScript s h answer → b ≡ is_possible answer → IsTrue b ↔ IsStepReady s h
 ready_by s h answer b a test = (on, λ c. test ∙ (accepted_made s h _ answer (script_made s h answer c a))) where
   on : IsTrue b → IsStepReady s h
   on is =
@@ -221,7 +221,7 @@ ready_by s h answer b a test = (on, λ c. test ∙ (accepted_made s h _ answer (
 
 -- and that to a delivery of the newest write whether the role is behind
 pub behind_by : (s : Setting) (h : List Entry) (role : Role) (kind : Kind) (answer : Stepped) (b : Bool) → AnswersDelivery s h role kind (last_of_kind kind (writes s h)) answer
-    → b ≡ is_accepted answer → IsTrue b ↔ IsBehind s h role kind
+    → b ≡ is_possible answer → IsTrue b ↔ IsBehind s h role kind
 behind_by s h role kind answer b a test = (on, λ c. test ∙ (accepted_made s h 1 answer (delivery_made s h role kind answer c a))) where
   on : IsTrue b → IsBehind s h role kind
   on is =

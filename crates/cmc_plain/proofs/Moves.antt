@@ -25,7 +25,7 @@ use Rattle.cmc_rules.specs.Viewing.{views}
 use Rattle.cmc_moves.proofs.Sounds.{each_sound}
 use Rattle.cmc_caches.specs.Affected.{is_among}
 use Rattle.cmc_moves.specs.Quiet.{no_views}
-use Rattle.cmc_waking.specs.Feeding.{begun, closed, started, told}
+use Rattle.cmc_waking.specs.Feeding.{row_begun, closed, started, row_delivered}
 use Rattle.cmc_waking.specs.Queues.{queue_in, row_at, KeepsOthers}
 use Rattle.cmc_waking.specs.Waking.{AreTended, IsTended, IsTimed}
 use Rattle.cmc_waking.proofs.Entries.{tended_answered, tended_ask, tended_begun_other, tended_call, tended_delivered_other, tended_ended_other, tended_judged, tended_listed_other, tended_made, tended_script, tended_signed, tended_started_other, tended_stopped_other}
@@ -99,7 +99,7 @@ fed_first s queues unseen none role = are_first s role (λ key. row_at queues ro
 -- ---- a role is told
 
 pub fed_delivered : (s : Setting) (h : List Entry) (role : Role) (kind : Kind) (to : ℕ) (keys : List Key) (old new : List Work) → IsLegal s (Deliver role kind to ∷ h) → ((key : Key) → is_among keys key ≡ true → key.kind ≡ kind_of_work role)
-    → ((key : Key) → is_among keys key ≡ false → views s (Deliver role kind to ∷ h) role key ≡ views s h role key) → ((key : Key) → row_at new role key ≡ told (is_among keys key) kind to (row_at old role key)) → KeepsOthers role old new
+    → ((key : Key) → is_among keys key ≡ false → views s (Deliver role kind to ∷ h) role key ≡ views s h role key) → ((key : Key) → row_at new role key ≡ row_delivered (is_among keys key) kind to (row_at old role key)) → KeepsOthers role old new
     → IsFed s h old → IsFed s (Deliver role kind to ∷ h) new
 fed_delivered s h role kind to keys old new legal work same rows others fed =
     fed_one s h (Deliver role kind to ∷ h) role old new others
@@ -107,7 +107,7 @@ fed_delivered s h role kind to keys old new legal work same rows others fed =
     (λ r other key row is. tended_delivered_other s h role r kind to key row other is) fed
 
 pub fed_listed : (s : Setting) (h : List Entry) (role : Role) (kind : Kind) (to : ℕ) (keys : List Key) (old new : List Work) → IsLegal s (Listed role kind to ∷ h) → ((key : Key) → is_among keys key ≡ true → key.kind ≡ kind_of_work role)
-    → ((key : Key) → is_among keys key ≡ false → views s (Listed role kind to ∷ h) role key ≡ views s h role key) → ((key : Key) → row_at new role key ≡ told (is_among keys key) kind to (row_at old role key)) → KeepsOthers role old new
+    → ((key : Key) → is_among keys key ≡ false → views s (Listed role kind to ∷ h) role key ≡ views s h role key) → ((key : Key) → row_at new role key ≡ row_delivered (is_among keys key) kind to (row_at old role key)) → KeepsOthers role old new
     → IsFed s h old → IsFed s (Listed role kind to ∷ h) new
 fed_listed s h role kind to keys old new legal work same rows others fed =
     fed_one s h (Listed role kind to ∷ h) role old new others
@@ -121,7 +121,7 @@ neither true b off = absurd (cc off)
 neither false b off = refl
 
 pub fed_begun : (s : Setting) (h : List Entry) (pass : ℕ) (role : Role) (key : Key) (at : Positions) (now : ℤ) (next : Option ℤ) (old new : List Work) → IsLegal s (Begin pass role key at now ∷ h) → key.kind ≡ kind_of_work role → is_free (row_at old role key) ≡ true
-    → IsTimed role (views s h role key) (moment s h) next → ChangesRow (begun next) key (queue_in old role) (queue_in new role) → KeepsOthers role old new → IsFed s h old → IsFed s (Begin pass role key at now ∷ h) new
+    → IsTimed role (views s h role key) (moment s h) next → ChangesRow (row_begun next) key (queue_in old role) (queue_in new role) → KeepsOthers role old new → IsFed s h old → IsFed s (Begin pass role key at now ∷ h) new
 fed_begun s h pass role key at now next old new legal work free timed rows others fed =
     fed_one s h (Begin pass role key at now ∷ h) role old new others
     (are_begun s h pass role key at now next (λ k. row_at old role k) (λ k. row_at new role k) legal work free timed rows (fed_of s h role old fed))

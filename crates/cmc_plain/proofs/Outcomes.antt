@@ -13,7 +13,7 @@ use Rattle.cmc_objects.specs.declared.request.RequestStatus.{RequestStatus}
 use Rattle.cmc_objects.specs.declared.object.Object.{Object}
 use Rattle.cmc_objects.specs.declared.object.Object.TheVariants.{Cert, Request, Secret}
 use Rattle.cmc_objects.specs.declared.call.Call.{Call}
-use Rattle.cmc_model.specs.Admission.{is_of}
+use Rattle.cmc_model.specs.Admission.{is_of_condition}
 use Rattle.cmc_rules.specs.Answering.{issued_condition, pending_condition, failed_condition, answered}
 use Rattle.cmc_rules.specs.Approving.{judged_status}
 use Rattle.cmc_rules.specs.Granting.{denied_condition, denied_status}
@@ -46,15 +46,15 @@ IsAnswered (Secret k) = Unit {0}
 
 -- ---- a new condition Ready is the one that is found
 
-first_by : (kind : ConditionKind) (new c : Condition) (cs later : List Condition) → (condition_rank new.kind == 0) ≡ true → find (is_of Ready) later ≡ Some new → condition_rank c.kind ≡ condition_rank kind
-    → find (is_of Ready) (match_ordering (nat_cmp 0 (condition_rank kind)) (new ∷ c ∷ cs) (new ∷ cs) (c ∷ later)) ≡ Some new
-first_by Ready new c cs later own below at = ap (λ (b : Bool). if b then Some new else find (is_of Ready) cs) own
-first_by other new c cs later own below at = ap (λ (b : Bool). if b then Some new else find (is_of Ready) (c ∷ cs)) own
+first_by : (kind : ConditionKind) (new c : Condition) (cs later : List Condition) → (condition_rank new.kind == 0) ≡ true → find (is_of_condition Ready) later ≡ Some new → condition_rank c.kind ≡ condition_rank kind
+    → find (is_of_condition Ready) (match_ordering (nat_cmp 0 (condition_rank kind)) (new ∷ c ∷ cs) (new ∷ cs) (c ∷ later)) ≡ Some new
+first_by Ready new c cs later own below at = ap (λ (b : Bool). if b then Some new else find (is_of_condition Ready) cs) own
+first_by other new c cs later own below at = ap (λ (b : Bool). if b then Some new else find (is_of_condition Ready) (c ∷ cs)) own
 
 pub found_ready : (cs : List Condition) (new : Condition) → condition_rank new.kind ≡ 0 → condition_at (renewed cs new) Ready ≡ Some new
 found_ready [] new own = ap (λ (n : ℕ). if n == 0 then Some new else None) own
 found_ready (c ∷ cs) new own =
-    subst (λ (n : ℕ). find (is_of Ready) (match_ordering (nat_cmp n (condition_rank c.kind)) (new ∷ c ∷ cs) (new ∷ cs) (c ∷ renewed cs new)) ≡ Some new) (sym own)
+    subst (λ (n : ℕ). find (is_of_condition Ready) (match_ordering (nat_cmp n (condition_rank c.kind)) (new ∷ c ∷ cs) (new ∷ cs) (c ∷ renewed cs new)) ≡ Some new) (sym own)
     (first_by c.kind new c cs (renewed cs new) (ap (λ (n : ℕ). n == 0) own) (found_ready cs new own) refl)
 
 outcome_kept : (old : Option Condition) (new : Condition) (failure : Option ℤ) → IsOutcome failure new → IsOutcome failure (kept_since old new)
@@ -74,7 +74,7 @@ ready_transitioned cs new failure own is =
 -- a condition of another kind changes nothing of it
 pub other_outcome : (cs : List Condition) (new : Condition) (failure : Option ℤ) → (condition_rank new.kind == 0) ≡ false → IfSome (condition_at cs Ready) (IsOutcome failure)
     → IfSome (condition_at (transitioned cs new) Ready) (IsOutcome failure)
-other_outcome cs new failure other is = subst (λ (o : Option Condition). IfSome o (IsOutcome failure)) (sym (find_same (is_of Ready) cs new (apart new.kind Ready other))) is
+other_outcome cs new failure other is = subst (λ (o : Option Condition). IfSome o (IsOutcome failure)) (sym (find_same (is_of_condition Ready) cs new (apart new.kind Ready other))) is
 
 pub outcome_judged : (verdict : Condition) (status : RequestStatus) → (condition_rank verdict.kind == 0) ≡ false → HasOutcome status → HasOutcome (judged_status verdict status)
 unfolding judged_status

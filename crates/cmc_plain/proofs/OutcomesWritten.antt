@@ -38,7 +38,7 @@ use Rattle.cmc_rules.specs.NextRequests.{next_requests}
 use Rattle.cmc_rules.specs.Triggering.{trigger, for_certificate, for_reason, issue_call}
 use Rattle.cmc_rules.specs.KeyManaging.{key_manager, key_after, name_call, drop_call, ask_key, make_call}
 use Rattle.cmc_rules.specs.RequestManaging.{request_manager, request_after, ask_signature, make_request}
-use Rattle.cmc_rules.specs.Approving.{approver, judged_after, ask_judgement, judge_call, approval, denied_for, verdict_by, verdict_of}
+use Rattle.cmc_rules.specs.Approving.{approver, judged_after, ask_judgement, verdict_call, approval, denied_for, verdict_by, verdict_of}
 use Rattle.cmc_rules.specs.Granting.{issuer, answered_after, ask_issuer}
 use Rattle.cmc_rules.specs.Issuing.{issuing, failure, issue_plan, temporary_plan, secret_call}
 use Rattle.cmc_rules.specs.Readying.{readiness, ready_call}
@@ -68,7 +68,7 @@ of_trigger : (b : Bool) (moment : ℤ) (list : List CertificateRequest) (c : Cer
 unfolding issue_call
 of_trigger true moment list c reason = tt
 of_trigger false moment list c None = tt
-of_trigger false moment list c (Some reason) = either (triggering.is_held_back moment list c) Nothing (issue_call moment reason c) tt tt
+of_trigger false moment list c (Some reason) = either (triggering.is_in_back_off moment list c) Nothing (issue_call moment reason c) tt tt
 
 triggers : (moment : ℤ) (secret : Option SecretObject) (list : List CertificateRequest) (c : Option Certificate) → IsAnsweredAct (triggering.for_option moment secret list c)
 unfolding for_certificate
@@ -131,7 +131,7 @@ unfolding delete_call
 of_stale c file list None = of_count c file (next_requests c list)
 of_stale c file list (Some r) = tt
 
-of_file : (c : Certificate) (list : List CertificateRequest) (file : Option (List ℕ)) → IsAnsweredAct (requests.with_file c list file)
+of_file : (c : Certificate) (list : List CertificateRequest) (file : Option (List ℕ)) → IsAnsweredAct (requests.with_request_file c list file)
 of_file c list None = tt
 of_file c list (Some file) = search (either, of_stale)
 
@@ -148,7 +148,7 @@ unfolding secret_call
 of_secret stand_in c file certificate ca None = tt
 of_secret stand_in c file certificate ca (Some old) = tt
 
-of_stand_in : (c : Certificate) (file : List ℕ) (target : Option SecretObject) (certificate : Option (List ℕ)) → IsAnsweredAct (issuance.stand_in_with c file target certificate)
+of_stand_in : (c : Certificate) (file : List ℕ) (target : Option SecretObject) (certificate : Option (List ℕ)) → IsAnsweredAct (issuance.temporary_with c file target certificate)
 unfolding temporary_plan
 of_stand_in c file target None = tt
 of_stand_in c file target (Some certificate) = search (either, of_secret)
@@ -273,7 +273,7 @@ verdict_given moment (orders.Judge order) (values.Judged approved) = verdict_is 
 verdict_given moment order value = tt
 
 judged : (r : Option CertificateRequest) (verdict : Option Condition) → ((q : CertificateRequest) → r ≡ Some q → HasOutcome q.status) → IsVerdict verdict → IsAnsweredOption (approving.judged_for r verdict)
-unfolding judge_call
+unfolding verdict_call
 judged (Some r) (Some verdict) sees is = outcome_judged verdict r.status is (sees r refl)
 judged r verdict sees is = tt
 

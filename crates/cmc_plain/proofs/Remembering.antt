@@ -44,7 +44,7 @@ use Rattle.cmc_rules.specs.Viewing.{views}
 use Rattle.cmc_rules.specs.Desks.{desk}
 use Rattle.cmc_rules.specs.Acts.{act}
 use Rattle.cmc_rules.specs.Issuing.{issuing}
-use Rattle.cmc_rules.specs.Passes.{open_pass, called, new_pass, stage_by, stage_after, stage_given, stage_read, stage_written, is_as_seen, stands_in, with_stage, is_pass_of}
+use Rattle.cmc_rules.specs.Passes.{open_pass, called, new_pass, stage_by, stage_after, stage_given, stage_read, stage_written, is_as_seen, is_temporary_act, with_stage, is_pass_of}
 use Rattle.cmc_rules.specs.Memory.{past, no_past, with_begin, with_own, with_position, with_ending, ending_at, ending_of}
 use Rattle.cmc_rules.specs.Legality.{IsLegal}
 use Rattle.cmc_rules.specs.Causes.{IsCaused, EndsBy, MayEnd}
@@ -188,7 +188,7 @@ stage_called : (s : Setting) (h : List Entry) (call : Call) (reply : Reply) (p :
     → IfSome (option_map (λ (q : OpenPass). with_stage (stage_after s h call reply q) q) p) (HasLowStage (writes s h))
 stage_called s h call reply None low known = tt
 stage_called s h call reply (Some p) low known =
-    stage_low p.seen.certificate (stands_in (issuing p.seen p.since)) p.stage (length h + 1) (last_under (key_of_call call) (writes s h)) p.role (key_of_call call).kind (writes s h) reply known
+    stage_low p.seen.certificate (is_temporary_act (issuing p.seen p.since)) p.stage (length h + 1) (last_under (key_of_call call) (writes s h)) p.role (key_of_call call).kind (writes s h) reply known
     (under_low (key_of_call call) (writes s h)) low
 
 pass_called : (own : Bool) (s : Setting) (h : List Entry) (n pass : ℕ) (call : Call) (reply : Reply) → (n == pass) ≡ own → IsLowReply (last_of_kind (key_of_call call).kind (writes s h)) reply

@@ -26,7 +26,7 @@ use Rattle.cmc_rules.specs.Resting.{IsIdle}
 use Rattle.cmc_rules.specs.Sound as sound
 use Rattle.cmc_rules.specs.Viewing.{views}
 use Rattle.cmc_moves.specs.Quiet.{no_views, seen_last, IsQuiet}
-use Rattle.cmc_waking.specs.Feeding.{begun, closed, found_busy, found_held, found_idle, found_quiet, started, told}
+use Rattle.cmc_waking.specs.Feeding.{row_begun, closed, found_busy, found_parked, found_idle, found_quiet, started, row_delivered}
 use Rattle.cmc_waking.specs.Waking.{AreTended, IsDueNow, IsStoppedFor, IsTended, IsTimed}
 use Rattle.cmc_waking.proofs.Entries.{tended_begun, tended_begun_other, tended_delivered, tended_ended, tended_ended_other, tended_first, tended_listed, tended_started, tended_stopped, tended_ticked}
 use Rattle.cmc_waking.proofs.Looks.{tended_busy, tended_held, tended_idle, tended_quiet}
@@ -50,20 +50,20 @@ moved_none : (kind : Kind) (to : ℕ) → moved kind to no_row ≡ no_row
 unfolding moved
 moved_none kind to = refl
 
-told_none : (listed : Bool) (kind : Kind) (to : ℕ) → (listed ≡ true → ⊥) → told listed kind to no_row ≡ no_row
+told_none : (listed : Bool) (kind : Kind) (to : ℕ) → (listed ≡ true → ⊥) → row_delivered listed kind to no_row ≡ no_row
 told_none true kind to off = absurd (off refl)
 told_none false kind to off = moved_none kind to
 
 pub are_delivered : (s : Setting) (h : List Entry) (role : Role) (kind : Kind) (to : ℕ) (listed : Key → Bool) (old new : Key → Row) → IsLegal s (Deliver role kind to ∷ h) → ((key : Key) → listed key ≡ true → key.kind ≡ kind_of_work role)
-    → ((key : Key) → listed key ≡ false → views s (Deliver role kind to ∷ h) role key ≡ views s h role key) → ((key : Key) → new key ≡ told (listed key) kind to (old key)) → AreTended s h role old → AreTended s (Deliver role kind to ∷ h) role new
+    → ((key : Key) → listed key ≡ false → views s (Deliver role kind to ∷ h) role key ≡ views s h role key) → ((key : Key) → new key ≡ row_delivered (listed key) kind to (old key)) → AreTended s h role old → AreTended s (Deliver role kind to ∷ h) role new
 are_delivered s h role kind to listed old new legal work same each =
-    are_changed s h (Deliver role kind to ∷ h) role old new (λ key row. told (listed key) kind to row) each (λ key of is. tended_delivered s h role kind to key (old key) (listed key) legal (same key) is)
+    are_changed s h (Deliver role kind to ∷ h) role old new (λ key row. row_delivered (listed key) kind to row) each (λ key of is. tended_delivered s h role kind to key (old key) (listed key) legal (same key) is)
     (λ key other. told_none (listed key) kind to (λ on. other (work key on)))
 
 pub are_listed : (s : Setting) (h : List Entry) (role : Role) (kind : Kind) (to : ℕ) (listed : Key → Bool) (old new : Key → Row) → IsLegal s (Listed role kind to ∷ h) → ((key : Key) → listed key ≡ true → key.kind ≡ kind_of_work role)
-    → ((key : Key) → listed key ≡ false → views s (Listed role kind to ∷ h) role key ≡ views s h role key) → ((key : Key) → new key ≡ told (listed key) kind to (old key)) → AreTended s h role old → AreTended s (Listed role kind to ∷ h) role new
+    → ((key : Key) → listed key ≡ false → views s (Listed role kind to ∷ h) role key ≡ views s h role key) → ((key : Key) → new key ≡ row_delivered (listed key) kind to (old key)) → AreTended s h role old → AreTended s (Listed role kind to ∷ h) role new
 are_listed s h role kind to listed old new legal work same each =
-    are_changed s h (Listed role kind to ∷ h) role old new (λ key row. told (listed key) kind to row) each (λ key of is. tended_listed s h role kind to key (old key) (listed key) legal (same key) is)
+    are_changed s h (Listed role kind to ∷ h) role old new (λ key row. row_delivered (listed key) kind to row) each (λ key of is. tended_listed s h role kind to key (old key) (listed key) legal (same key) is)
     (λ key other. told_none (listed key) kind to (λ on. other (work key on)))
 
 -- ---- a pass begins and ends
@@ -73,9 +73,9 @@ neither true b off = off
 neither false b off = refl
 
 pub are_begun : (s : Setting) (h : List Entry) (pass : ℕ) (role : Role) (key : Key) (at : Positions) (now : ℤ) (next : Option ℤ) (old new : Key → Row) → IsLegal s (Begin pass role key at now ∷ h) → key.kind ≡ kind_of_work role → is_free (old key) ≡ true
-    → IsTimed role (views s h role key) (moment s h) next → ChangesOne (begun next) key old new → AreTended s h role old → AreTended s (Begin pass role key at now ∷ h) role new
+    → IsTimed role (views s h role key) (moment s h) next → ChangesOne (row_begun next) key old new → AreTended s h role old → AreTended s (Begin pass role key at now ∷ h) role new
 are_begun s h pass role key at now next old new legal work free timed each =
-    are_changed_one s h (Begin pass role key at now ∷ h) role key old new (begun next) work each (λ is. tended_begun s h pass role key at now (old key) next legal free timed is)
+    are_changed_one s h (Begin pass role key at now ∷ h) role key old new (row_begun next) work each (λ is. tended_begun s h pass role key at now (old key) next legal free timed is)
     (λ k other is. tended_begun_other s h pass role role key k at now (old k) legal (neither (role_eq role role) (key_eq key k) other) is)
 
 not_its : (role : Role) (key k : Key) (p : Option OpenPass) → is_pass_of role key p ≡ true → key_eq key k ≡ false → is_pass_of role k p ≡ false
@@ -139,6 +139,6 @@ are_quiet s h role key next old new laws work free timed quiet each =
     are_changed_one s h h role key old new (found_quiet next) work each (λ is. tended_quiet s h role key (old key) next laws free timed quiet is) (λ k other is. is)
 
 pub are_held : (s : Setting) (h : List Entry) (role : Role) (key : Key) (parked : Parked) (old new : Key → Row) → key.kind ≡ kind_of_work role → (old key).working ≡ false → position_of parked.kind (positions h role) < parked.version
-    → (parked.version ≤ position_of parked.kind (past s h role key).own) ⊎ IsStoppedFor (past s h role key).last (views s h role key) parked → ChangesOne (found_held parked) key old new → AreTended s h role old → AreTended s h role new
+    → (parked.version ≤ position_of parked.kind (past s h role key).own) ⊎ IsStoppedFor (past s h role key).last (views s h role key) parked → ChangesOne (found_parked parked) key old new → AreTended s h role old → AreTended s h role new
 are_held s h role key parked old new work free behind cause each =
-    are_changed_one s h h role key old new (found_held parked) work each (λ is. tended_held s h role key (old key) parked free behind cause is) (λ k other is. is)
+    are_changed_one s h h role key old new (found_parked parked) work each (λ is. tended_held s h role key (old key) parked free behind cause is) (λ k other is. is)

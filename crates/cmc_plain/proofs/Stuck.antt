@@ -29,7 +29,7 @@ use Rattle.cmc_policies.specs.Reasons.{Known, first_of}
 use Rattle.cmc_policies.specs.Renewal.{lead, lifetime, renewal}
 use Rattle.cmc_keys.specs.Kinds.{is_key_of, is_public_of}
 use Rattle.cmc_match.specs.Facts.{key_in, fits, pair_at}
-use Rattle.cmc_match.specs.Revisions.{is_of, only_of, next_request}
+use Rattle.cmc_match.specs.Revisions.{is_of_revision, only_of, next_request}
 use Rattle.cmc_pass.specs.declared.pass.Desk.{Desk}
 use Rattle.cmc_pass.specs.declared.pass.IssuePlan.{IssuePlan}
 use Rattle.cmc_pass.specs.declared.pass.Act.{Act}
@@ -250,10 +250,10 @@ unfolding delete_call
 deleted r is = absurd (cc is)
 
 -- the only one of a revision
-only_one : (revision : ℕ) (list : List CertificateRequest) (r : CertificateRequest) → filter (λ q. is_of revision q) list ≡ r ∷ [] → only_of revision list ≡ Some r
+only_one : (revision : ℕ) (list : List CertificateRequest) (r : CertificateRequest) → filter (λ q. is_of_revision revision q) list ≡ r ∷ [] → only_of revision list ≡ Some r
 unfolding only_of
 only_one revision list r is =
-    ap (λ (l : List CertificateRequest). if length l == 1 then find (λ q. is_of revision q) list else None) is ∙ (first_found (λ q. is_of revision q) list r [] is).0
+    ap (λ (l : List CertificateRequest). if length l == 1 then find (λ q. is_of_revision revision q) list else None) is ∙ (first_found (λ q. is_of_revision revision q) list r [] is).0
 
 fresh_by : (next wanted other : Bool) → next ≡ true → (next && (not wanted || other)) ≡ false → (wanted ≡ true) × (other ≡ false)
 fresh_by true wanted other is off = let parts = or_parts (not wanted) other off in (turned wanted parts.0, parts.1)
@@ -273,8 +273,8 @@ by_stale c file list None at some is = let one = counted c file (next_requests c
 
 pub has_request : (c : Certificate) (next : List SecretObject) (list : List CertificateRequest) → (k : HasNextKey c next) → managing.with_key c list (named_key c.status.next_key next) ≡ Nothing → HasNextRequest c k.file list
 has_request c next list k idle =
-    let named : managing.with_file c list (key_in k.key) ≡ Nothing = subst (λ (x : Option SecretObject). managing.with_key c list x ≡ Nothing) k.named idle in
-    let filed : managing.with_file c list (Some k.file) ≡ Nothing = subst (λ (x : Option (List ℕ)). managing.with_file c list x ≡ Nothing) k.holds named in
+    let named : managing.with_request_file c list (key_in k.key) ≡ Nothing = subst (λ (x : Option SecretObject). managing.with_key c list x ≡ Nothing) k.named idle in
+    let filed : managing.with_request_file c list (Some k.file) ≡ Nothing = subst (λ (x : Option (List ℕ)). managing.with_request_file c list x ≡ Nothing) k.holds named in
     let stale : managing.by_stale c k.file list (stale_request c k.file list) ≡ Nothing =
     subst (λ (b : Bool). (if b then managing.by_stale c k.file list (stale_request c k.file list) else Nothing) ≡ Nothing) k.fitting filed in
     by_stale c k.file list (stale_request c k.file list) refl (readable _ _ k.file k.fitting) stale

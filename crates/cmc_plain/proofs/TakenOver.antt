@@ -32,10 +32,10 @@ use Rattle.cmc_moves.proofs.Sounds.{each_sound}
 use Rattle.cmc_moves.specs.Quiet.{IsQuiet}
 use Rattle.cmc_queue.proofs.OneRow.{same_by_test}
 use Rattle.cmc_waking.specs.Queues.{queue_in, row_at}
-use Rattle.cmc_waking.specs.Waking.{AreTended, IsKept, IsLooked, IsStanding, IsTended}
+use Rattle.cmc_waking.specs.Waking.{AreTended, IsRowKept, IsLooked, IsLookedOrWaiting, IsTended}
 use Rattle.cmc_waking.proofs.Promise.{idle_anywhere}
 use Rattle.cmc_waking.proofs.Tended.{nothing_due}
-use Rattle.cmc_plain.specs.Fed.{AreRowsAnew, IsFed, IsRowAnew, IsStarted}
+use Rattle.cmc_plain.specs.Fed.{AreFreshRows, IsFed, IsFreshRow, IsStarted}
 use Rattle.cmc_plain.proofs.Unknown.{sees_none, unknown_quiet}
 
 -- ---- a pass is open on a key that a write named
@@ -76,14 +76,14 @@ works_on_known s h role key legal off works = let on = pass_known role key (open
 
 -- ---- the rows
 
-anew_by : (working : Bool) (s : Setting) (h : List Entry) (role : Role) (key : Key) (row : Row) → row.ready ≡ true → row.work ≡ found.Unknown → IsKept working role s.rules (past s h role key) (views s h role key) (moment s h) (positions h role) row
+anew_by : (working : Bool) (s : Setting) (h : List Entry) (role : Role) (key : Key) (row : Row) → row.ready ≡ true → row.work ≡ found.Unknown → IsRowKept working role s.rules (past s h role key) (views s h role key) (moment s h) (positions h role) row
 anew_by true s h role key row ready unknown = record { unknown = unknown; unchanged = λ off. absurd (cc (ready, off)) }
 anew_by false s h role key row ready unknown =
-    subst (λ (b : Bool). IsStanding b role s.rules (past s h role key) (views s h role key) (moment s h) (positions h role) row) (sym ready)
+    subst (λ (b : Bool). IsLookedOrWaiting b role s.rules (past s h role key) (views s h role key) (moment s h) (positions h role) row) (sym ready)
     (subst (λ (w : Found). IsLooked w role s.rules (past s h role key) (views s h role key) (moment s h) (positions h role) row) (sym unknown) tt)
 
 -- one that is to be looked at
-tended_anew : (s : Setting) (h : List Entry) (role : Role) (key : Key) (row : Row) → IsRowAnew s h role key row → IsTended s h role key row
+tended_anew : (s : Setting) (h : List Entry) (role : Role) (key : Key) (row : Row) → IsFreshRow s h role key row → IsTended s h role key row
 unfolding IsTended
 tended_anew s h role key row is = record { working = is.working; kept = λ up. anew_by row.working s h role key row is.ready is.unknown }
 
@@ -101,7 +101,7 @@ tended_unknown s h role key legal off =
       });
     }
 
-row_by : (b : Bool) (s : Setting) (h : List Entry) (role : Role) (key : Key) (keys : List Key) (queue : Work) → is_among keys key ≡ b → IsLegal s h → AreRowsAnew s h role keys queue → (is_known key (writes s h) ≡ true → is_among keys key ≡ true)
+row_by : (b : Bool) (s : Setting) (h : List Entry) (role : Role) (key : Key) (keys : List Key) (queue : Work) → is_among keys key ≡ b → IsLegal s h → AreFreshRows s h role keys queue → (is_known key (writes s h) ≡ true → is_among keys key ≡ true)
     → IsTended s h role key (row_of queue key)
 row_by true s h role key keys queue is legal rows all = tended_anew s h role key (row_of queue key) (rows.listed key is)
 row_by false s h role key keys queue is legal rows all =
@@ -110,7 +110,7 @@ row_by false s h role key keys queue is legal rows all =
       unknown_by true known = absurd (let on = all known in cc (on, is))
       unknown_by false known = known
 
-others_by : (b : Bool) (s : Setting) (h : List Entry) (role : Role) (key : Key) (keys : List Key) (queue : Work) → is_among keys key ≡ b → AreRowsAnew s h role keys queue → (is_among keys key ≡ true → key.kind ≡ kind_of_work role) → (key.kind ≡ kind_of_work role → ⊥)
+others_by : (b : Bool) (s : Setting) (h : List Entry) (role : Role) (key : Key) (keys : List Key) (queue : Work) → is_among keys key ≡ b → AreFreshRows s h role keys queue → (is_among keys key ≡ true → key.kind ≡ kind_of_work role) → (key.kind ≡ kind_of_work role → ⊥)
     → row_of queue key ≡ no_row
 others_by true s h role key keys queue is rows work other = absurd (other (work is))
 others_by false s h role key keys queue is rows work other = rows.others key is

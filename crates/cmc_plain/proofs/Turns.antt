@@ -16,7 +16,7 @@ use Rattle.cmc_plain.specs.Histories.{IsPlainStep, LeadsPlainly, IsPlain, IsFull
 use Rattle.cmc_plain.specs.declared.run.Driven.{Driven}
 use Rattle.cmc_plain.specs.declared.run.Driven.TheVariants.{Finished, Spent}
 use Rattle.cmc_plain.specs.declared.run.Turn.TheVariants as turns
-use Rattle.cmc_plain.specs.Driving.{GoesOn, IsDriving, IsDrained, IsDriven, IsMadeFor, IsTurn, EndsFrom, EndsPlainly, goes_on, turn_after}
+use Rattle.cmc_plain.specs.Driving.{GrowsByMove, IsDriving, IsDrained, IsDriven, IsMadeFor, IsTurn, EndsFrom, EndsPlainly, goes_on, turn_after}
 use Rattle.cmc_plain.proofs.Determined.{grown_length}
 use Rattle.cmc_plain.proofs.Going.{open_present}
 use Rattle.cmc_plain.proofs.Making.{ComesTo, chosen_comes}
@@ -36,7 +36,7 @@ more_for s h moves.Script = more_of (next_effect s h) where
 more_for s h other = omega arith
 
 -- a plain move that is made goes on with the run
-pub moves_on : (s : Setting) (h : List Entry) (move : Move) (answer : Stepped) (k : List Entry) → IsPlainMove s h (Some move) → goes_on answer ≡ true → IsRun s k → ComesTo s h move answer k → GoesOn s h k
+pub moves_on : (s : Setting) (h : List Entry) (move : Move) (answer : Stepped) (k : List Entry) → IsPlainMove s h (Some move) → goes_on answer ≡ true → IsRun s k → ComesTo s h move answer k → GrowsByMove s h k
 moves_on s h move answer k plain on run (inr is) = let off = is.0 in absurd (cc (on, off))
 moves_on s h move answer k plain on run (inl is) =
     let grown = is.1 in
@@ -61,14 +61,14 @@ led_on : (s : Setting) (ms : List Move) (g h k : List Entry) (move : Move) → L
 led_on s [] g h k move same step = (k, subst (λ (l : List Entry). IsPlainStep s l move k) same step, refl)
 led_on s (m ∷ ms) g h k move (a, x, rest) step = (a, x, led_on s ms a h k move rest step)
 
-pub plain_on : (s : Setting) (h k : List Entry) → IsPlain s h → GoesOn s h k → IsPlain s k
+pub plain_on : (s : Setting) (h k : List Entry) → IsPlain s h → GrowsByMove s h k → IsPlain s k
 plain_on s h k (ms, led) on = (ms ++ on.move ∷ [], led_on s ms [] h k on.move led on.step)
 
 -- ---- turns
 
-pub driving_on : (start old new : Seen) (n : ℕ) → IsDriving start old n → new.scenario ≡ old.scenario → GoesOn (setting_of old.scenario) old.history new.history → IsDriving start new (n + 1)
+pub driving_on : (start old new : Seen) (n : ℕ) → IsDriving start old n → new.scenario ≡ old.scenario → GrowsByMove (setting_of old.scenario) old.history new.history → IsDriving start new (n + 1)
 driving_on start old new n d stays on =
-    let on_is = subst (λ (u : Setup). GoesOn (setting_of u) old.history new.history) d.same on in
+    let on_is = subst (λ (u : Setup). GrowsByMove (setting_of u) old.history new.history) d.same on in
     record {
       same = stays ∙ d.same;
       plain = λ was. plain_on (setting_of start.scenario) old.history new.history (d.plain was) on_is;

@@ -16,14 +16,14 @@ use Rattle.cmc_queue.specs.Rows.{added, is_reached, moved}
 use Rattle.cmc_caches.specs.Affected.{is_among}
 use Rattle.cmc_model.specs.Histories.{Setting}
 use Rattle.cmc_rules.specs.declared.progress.Past.{Past}
-use Rattle.cmc_waking.specs.Feeding.{added_if, told}
+use Rattle.cmc_waking.specs.Feeding.{added_if, row_delivered}
 use Rattle.cmc_waking.specs.Queues.{queue_in, row_at, KeepsOthers, WakesSome}
-use Rattle.cmc_waking.specs.Waking.{IsKept, IsTended}
+use Rattle.cmc_waking.specs.Waking.{IsRowKept, IsTended}
 use Rattle.cmc_world.specs.Kept.{Seen, setting_of, on}
 use Rattle.cmc_plain.specs.Fed.{IsFed}
 use Rattle.cmc_plain.proofs.Moves.{fed_of, fed_one}
 
-added_kept : (b : Bool) (role : Role) (rules : Rules) (past : Past) (seen : Views) (now : ℤ) (at : Positions) (row : Row) → IsKept b role rules past seen now at (added row)
+added_kept : (b : Bool) (role : Role) (rules : Rules) (past : Past) (seen : Views) (now : ℤ) (at : Positions) (row : Row) → IsRowKept b role rules past seen now at (added row)
 added_kept true role rules past seen now at row = record { unknown = refl; unchanged = λ off. absurd (cc off) }
 added_kept false role rules past seen now at row = tt
 
@@ -63,13 +63,13 @@ unfolding moved
 moved_added kind to row = moved_ready (is_reached kind to row.parked) row
 
 -- a key that was woken before its role is told is as one that is woken then
-told_woken : (b : Bool) (kind : Kind) (to : ℕ) (row : Row) → moved kind to (added_if b row) ≡ told b kind to row
+told_woken : (b : Bool) (kind : Kind) (to : ℕ) (row : Row) → moved kind to (added_if b row) ≡ row_delivered b kind to row
 told_woken true kind to row = moved_added kind to row
 told_woken false kind to row = refl
 
 -- and the rows of a role that is told once its keys are woken are those of one that is told of them
-pub told_rows : (role : Role) (kind : Kind) (to : ℕ) (keys : List Key) (before mid after : List Work) → ((key : Key) → row_at mid role key ≡ added_if (is_among keys key) (row_at before role key)) → ((key : Key) → row_at after role key ≡ told false kind to (row_at mid role key))
-    → (key : Key) → row_at after role key ≡ told (is_among keys key) kind to (row_at before role key)
+pub told_rows : (role : Role) (kind : Kind) (to : ℕ) (keys : List Key) (before mid after : List Work) → ((key : Key) → row_at mid role key ≡ added_if (is_among keys key) (row_at before role key)) → ((key : Key) → row_at after role key ≡ row_delivered false kind to (row_at mid role key))
+    → (key : Key) → row_at after role key ≡ row_delivered (is_among keys key) kind to (row_at before role key)
 told_rows role kind to keys before mid after woken rows key = rows key ∙ ap (moved kind to) (woken key) ∙ told_woken (is_among keys key) kind to (row_at before role key)
 
 pub others_twice : (role : Role) (a b c : List Work) → KeepsOthers role a b → KeepsOthers role b c → KeepsOthers role a c

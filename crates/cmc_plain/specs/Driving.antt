@@ -55,14 +55,14 @@ abbrev pub turn_after : Stepped → Turn
 turn_after answer = if goes_on answer then turns.On else turns.Spent
 
 -- the plain move was made, and the history grew
-pub record GoesOn (s : Setting) (h k : List Entry) : Type 0 where
+pub record GrowsByMove (s : Setting) (h k : List Entry) : Type 0 where
   pub move : Move
   pub step : IsPlainStep s h move k
   pub longer : length h + 1 ≤ length k
 
 -- what one turn of the plain order does
 abbrev pub IsTurn : Setting → List Entry → List Entry → Turn → Type 0
-IsTurn s h k turns.On = GoesOn s h k
+IsTurn s h k turns.On = GrowsByMove s h k
 IsTurn s h k turns.Finished = IsFinished s h × (k ≡ h)
 IsTurn s h k turns.Spent = IsFull s h × (k ≡ h)
 

@@ -39,7 +39,7 @@ unfoldable pub IsFed : Setting → List Entry → List Work → Type 0
 IsFed s h queues = (role : Role) → AreTended s h role (λ key. row_at queues role key)
 
 -- up to where a delivery tells the role, which is not refused: it is told so far, or lists all that was accepted
-pub record IsToldUpTo (s : Setting) (h : List Entry) (role : Role) (kind : Kind) (to upto : ℕ) : Type 0 where
+pub record IsDeliveredTo (s : Setting) (h : List Entry) (role : Role) (kind : Kind) (to upto : ℕ) : Type 0 where
   pub informed : has_informer role kind ≡ true
   pub above : position h role kind ≤ upto
   pub within : upto ≤ accepted s h
@@ -49,7 +49,7 @@ pub record IsToldUpTo (s : Setting) (h : List Entry) (role : Role) (kind : Kind)
 -- none exactly where it is known that the delivery is refused
 abbrev pub IsReach : Setting → List Entry → Role → Kind → ℕ → Option ℕ → Type 0
 IsReach s h role kind to None = AnswersDelivery s h role kind to Done → ⊥
-IsReach s h role kind to (Some upto) = IsToldUpTo s h role kind to upto
+IsReach s h role kind to (Some upto) = IsDeliveredTo s h role kind to upto
 
 -- once the delivery is made the role sees of each other key what it saw
 pub record AreAffected (s : Setting) (h : List Entry) (role : Role) (kind : Kind) (to : ℕ) (keys : List Key) : Type 0 where
@@ -77,9 +77,9 @@ pub record IsClosingOf (s : Setting) (h : List Entry) (pass : ℕ) (c : Closing)
   pub own : IsWrote c.ending → c.own ≡ (past s h c.role c.key).own
   pub at : c.at ≡ positions h c.role
 
-abbrev pub IsClosing : Setting → List Entry → ℕ → Option Closing → Type 0
-IsClosing s h pass None = open_pass s h pass ≡ None
-IsClosing s h pass (Some c) = IsClosingOf s h pass c
+abbrev pub IsClosingIfOpen : Setting → List Entry → ℕ → Option Closing → Type 0
+IsClosingIfOpen s h pass None = open_pass s h pass ≡ None
+IsClosingIfOpen s h pass (Some c) = IsClosingOf s h pass c
 
 -- there is room for the key, and for the version that it waits for then
 pub record HasRoomsFor (c : Closing) (queues : List Work) : Type 0 where
@@ -143,16 +143,16 @@ IsToTurn s h (Start role queue) queues = (new : List Work) → queue_in new role
 -- ---- the queues of a world that is taken over
 
 -- the key is to be looked at, and in process where a pass of the role on it is open
-pub record IsRowAnew (s : Setting) (h : List Entry) (role : Role) (key : Key) (row : Row) : Type 0 where
+pub record IsFreshRow (s : Setting) (h : List Entry) (role : Role) (key : Key) (row : Row) : Type 0 where
   pub ready : row.ready ≡ true
   pub unknown : row.work ≡ found.Unknown
   pub working : IsTrue row.working ↔ IsWorking s h role key
 
 -- of these keys it is so, and no other has a row
-pub record AreRowsAnew (s : Setting) (h : List Entry) (role : Role) (keys : List Key) (queue : Work) : Type 0 where
-  pub listed : (key : Key) → is_among keys key ≡ true → IsRowAnew s h role key (row_of queue key)
+pub record AreFreshRows (s : Setting) (h : List Entry) (role : Role) (keys : List Key) (queue : Work) : Type 0 where
+  pub listed : (key : Key) → is_among keys key ≡ true → IsFreshRow s h role key (row_of queue key)
   pub others : (key : Key) → is_among keys key ≡ false → row_of queue key ≡ no_row
 
 -- the role's queue is one of all keys of its work that a write named
 abbrev pub IsStarted : Setting → List Entry → Role → List Work → Type 0
-IsStarted s h role queues = (keys : List Key) × AreKnownKeys s h role keys × AreRowsAnew s h role keys (queue_in queues role)
+IsStarted s h role queues = (keys : List Key) × AreKnownKeys s h role keys × AreFreshRows s h role keys (queue_in queues role)

@@ -5,7 +5,7 @@ use Rattle.cmc_objects.specs.declared.entry.Entry.TheVariants as entries
 use Rattle.cmc_objects.specs.declared.orders.Order.{Order}
 use Rattle.cmc_objects.specs.declared.orders.Order.TheVariants.{Key, Csr, Sign, Judge}
 use Rattle.cmc_objects.specs.declared.rows.KeyRow.TheVariants as rows
-use Rattle.cmc_answers.specs.Answers.{is_free}
+use Rattle.cmc_answers.specs.Answers.{is_left_open}
 use Rattle.cmc_pass.specs.declared.value.Value.{Value}
 use Rattle.cmc_model.specs.Histories.{Setting}
 use Rattle.cmc_rules.specs.Causes.{MayAsk, MayGive}
@@ -62,7 +62,7 @@ IsEnd s h = IsFinished s h ⊎ IsFull s h
 abbrev pub IsBound : Order → Type 0
 IsBound (Key order) = order.row ≢ rows.Free
 IsBound (Csr order) = Unit {0}
-IsBound (Sign order) = is_free order.row ≡ false
+IsBound (Sign order) = is_left_open order.row ≡ false
 IsBound (Judge order) = Unit {0}
 
 abbrev pub IsBoundEntry : Entry → Type 0

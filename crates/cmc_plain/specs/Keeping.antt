@@ -30,16 +30,16 @@ abbrev pub DoesOn : Setting → List Entry → Role → Key → Act → Type 0
 DoesOn s h role key does = does ≡ act role (views s h role key) (moment s h) (desk s h role (views s h role key))
 
 -- the role sees this of the key, and does this
-pub record IsFound (s : Setting) (h : List Entry) (o : Opening) : Type 0 where
+pub record IsCurrent (s : Setting) (h : List Entry) (o : Opening) : Type 0 where
   pub seen : o.seen ≡ views s h o.role o.key
   pub does : IsActOn s h o.role (views s h o.role o.key) o.does
 
-abbrev pub AreFound : Setting → List Entry → List Opening → Type 0
-AreFound s h openings = All (IsFound s h) openings
+abbrev pub AreCurrent : Setting → List Entry → List Opening → Type 0
+AreCurrent s h openings = All (IsCurrent s h) openings
 
 -- what is kept is so: no role before the place is behind, the newest pass has only begun and does this, if it is known, and the passes are
 -- as looks found them
 pub record IsKeptRight (s : Setting) (h : List Entry) (k : Kept) : Type 0 where
   pub told : HasNoneBefore (IsBehindInSome s h) k.told
   pub act : IfSome k.act (IsFirstAct s h (begun s h))
-  pub looked : AreFound s h k.looked.items
+  pub looked : AreCurrent s h k.looked.items

@@ -10,7 +10,7 @@ use Rattle.cmc_rules.specs.Resting.{IsIdle}
 use Rattle.cmc_rules.specs.Viewing.{views}
 use Rattle.cmc_moves.specs.Quiet.{seen_last, IsQuiet}
 use Rattle.cmc_waking.specs.Waking.{IsBarredBy, IsDueNow, IsTimed}
-use Rattle.cmc_plain.specs.Keeping.{IsFound, IsMine}
+use Rattle.cmc_plain.specs.Keeping.{IsCurrent, IsMine}
 use Rattle.cmc_plain.specs.declared.looks.Look.{Look}
 use Rattle.cmc_plain.specs.declared.looks.Look.TheVariants.{Busy, Idle, Quiet, Held}
 use Rattle.cmc_plain.specs.declared.openings.Opening.{Opening}
@@ -19,7 +19,7 @@ use Rattle.cmc_plain.specs.Searches.{IsWork}
 -- this pass may begin, has nothing to do and sees something new; the key is timed at its next due moment
 pub record FindsIdle (s : Setting) (h : List Entry) (role : Role) (key : Key) (opening : Opening) (next : Option ℤ) : Type 0 where
   pub mine : IsMine role key opening
-  pub found : IsFound s h opening
+  pub found : IsCurrent s h opening
   pub idle : IsIdle s h role (views s h role key)
   pub new : views s h role key ≡ seen_last (past s h role key).last → ⊥
   pub due : IsDueNow s h role key

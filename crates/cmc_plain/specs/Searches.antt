@@ -38,10 +38,10 @@ use Rattle.cmc_plain.specs.declared.scripts.Awaits.TheVariants.{Nothing, Rest, N
 use Rattle.cmc_plain.specs.Plain.{IsBehind, IsStepReady, Fits, MayBegin, HasNoScript, HasNoPass, HasNoDelivery, IsFirstPass, IsOfPresent, IsFirstDelivery, IsFirstBegin}
 
 -- want of room does not make a move impossible
-abbrev pub is_accepted : Stepped → Bool
-is_accepted Done = true
-is_accepted (Spent entries) = true
-is_accepted other = false
+abbrev pub is_possible : Stepped → Bool
+is_possible Done = true
+is_possible (Spent entries) = true
+is_possible other = false
 
 -- it is so of no role before this place
 abbrev pub HasNoneBefore : (Role → Type 0) → ℕ → Type 0
@@ -87,9 +87,9 @@ abbrev pub FitsSome : Setting → List Entry → Role → Type 0
 FitsSome s h role = (key : Key) × Fits s h role key
 
 -- the first key of which it is so
-abbrev pub FindsFirst : (Key → Type 0) → Option Key → Type 0
-FindsFirst P None = (key : Key) → P key → ⊥
-FindsFirst P (Some key) = P key × ((k : Key) → key_cmp k key ≡ Less → P k → ⊥)
+abbrev pub FindsFirstKey : (Key → Type 0) → Option Key → Type 0
+FindsFirstKey P None = (key : Key) → P key → ⊥
+FindsFirstKey P (Some key) = P key × ((k : Key) → key_cmp k key ≡ Less → P k → ⊥)
 
 -- a pass of the role on the key may begin, and the role has something to do there by what it sees
 pub record HasWork (s : Setting) (h : List Entry) (role : Role) (key : Key) : Type 0 where
@@ -124,14 +124,14 @@ IsWorkOn s h role key (Some o) = IsWork s h role key o
 
 -- a pass of the role on the first key above this one on which there is work
 abbrev pub FindsWork : Setting → List Entry → Role → Option Key → Option Opening → Type 0
-FindsWork s h role below None = FindsFirst (HasWorkAbove s h role below) None
-FindsWork s h role below (Some o) = FindsFirst (HasWorkAbove s h role below) (Some o.key) × IsWork s h role o.key o
+FindsWork s h role below None = FindsFirstKey (HasWorkAbove s h role below) None
+FindsWork s h role below (Some o) = FindsFirstKey (HasWorkAbove s h role below) (Some o.key) × IsWork s h role o.key o
 
 -- the same, of which the pass is known where the key was just looked at
 abbrev pub FindsPending : Setting → List Entry → Role → Option Key → Pending → Type 0
-FindsPending s h role below pending.None = FindsFirst (HasWorkAbove s h role below) None
-FindsPending s h role below (pending.Key key) = FindsFirst (HasWorkAbove s h role below) (Some key)
-FindsPending s h role below (pending.Pass o) = FindsFirst (HasWorkAbove s h role below) (Some o.key) × IsWork s h role o.key o
+FindsPending s h role below pending.None = FindsFirstKey (HasWorkAbove s h role below) None
+FindsPending s h role below (pending.Key key) = FindsFirstKey (HasWorkAbove s h role below) (Some key)
+FindsPending s h role below (pending.Pass o) = FindsFirstKey (HasWorkAbove s h role below) (Some o.key) × IsWork s h role o.key o
 
 -- the first key that fits the role
 abbrev pub FindsKey : Setting → List Entry → Role → Option Key → Type 0

@@ -96,8 +96,8 @@ abbrev pub wait_in : ℤ → Views → Option WaitName
 wait_in moment seen = wait_of_seen moment seen seen.certificate
 
 -- what a role sees that was told of all writes
-abbrev pub IsAllThatStands : Setting → List Entry → Caches → Type 0
-IsAllThatStands s h all = all ≡ caches_at (writes s h) (record { certificates = length (writes s h); requests = length (writes s h); secrets = length (writes s h) })
+abbrev pub IsAllThatExists : Setting → List Entry → Caches → Type 0
+IsAllThatExists s h all = all ≡ caches_at (writes s h) (record { certificates = length (writes s h); requests = length (writes s h); secrets = length (writes s h) })
 
 -- ---- all Certificates
 

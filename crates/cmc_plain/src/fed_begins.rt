@@ -20,7 +20,7 @@ ghost use Rattle.cmc_waking.specs.Queues.{queue_in, row_at, HasPlaceAt};
 ghost use Rattle.cmc_world.specs.Kept.{on};
 ghost use Rattle.cmc_plain.specs.DueMoments.{HasDatedMoments, IsFirstAfter};
 ghost use Rattle.cmc_plain.specs.Fed.{IsFed};
-ghost use Rattle.cmc_plain.specs.Keeping.{IsFound, IsMine, DoesOn};
+ghost use Rattle.cmc_plain.specs.Keeping.{IsCurrent, IsMine, DoesOn};
 ghost use Rattle.cmc_queue.specs.Rows.{is_free, is_unknown};
 ghost use Rattle.cmc_queue.specs.declared.row.Found.TheVariants as found;
 
@@ -201,7 +201,7 @@ fn found_on(
     opening: Option<Opening>,
 ) -> Result<(Views, Option<Act>), AllocError>
     requires mine { IfSome opening (IsMine role key.now) }
-    requires found { IfSome opening (on IsFound world.now) }
+    requires found { IfSome opening (on IsCurrent world.now) }
     requires idle { work ≡ found.Nothing → on IsIdle world.now role (on views world.now role key.now) }
     ensures sees { IfOk result (λ r. r.0 ≡ on views world.now role key.now) }
     ensures dated { IfOk result (λ r. HasDatedMoments r.0) }
@@ -268,7 +268,7 @@ fn begin_looked(
     requires looked { is_unknown work ≡ false }
     requires work { work ≡ (row_at queues.old role key).work }
     requires mine { IfSome opening (IsMine role key) }
-    requires found { IfSome opening (on IsFound world.old) }
+    requires found { IfSome opening (on IsCurrent world.old) }
     ensures answer { IfOk result (λ r. on Answers world.old (moves.Begin role key) r.0) }
     ensures leaves { IfOk result (λ r. on Leaves world.old (moves.Begin role key) r.0 world.new.history) }
     ensures scenario { world.new.scenario ≡ world.old.scenario }
@@ -304,7 +304,7 @@ pub(crate) fn begin_kept(
 ) -> Result<(Stepped, Option<Act>), AllocError>
     requires fed { on IsFed world.old queues.old }
     requires mine { IfSome opening (IsMine role key) }
-    requires found { IfSome opening (on IsFound world.old) }
+    requires found { IfSome opening (on IsCurrent world.old) }
     ensures answer { IfOk result (λ r. on Answers world.old (moves.Begin role key) r.0) }
     ensures leaves { IfOk result (λ r. on Leaves world.old (moves.Begin role key) r.0 world.new.history) }
     ensures scenario { world.new.scenario ≡ world.old.scenario }

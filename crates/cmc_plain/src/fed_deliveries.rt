@@ -4,7 +4,7 @@ ghost use Rattle.cmc_rules.specs.Runs.{IsRun};
 ghost use Rattle.cmc_moves.specs.Answers.{Answers, Leaves};
 ghost use Rattle.cmc_moves.specs.declared.moves.Move.TheVariants as moves;
 ghost use Rattle.cmc_world.specs.Kept.{on};
-ghost use Rattle.cmc_plain.specs.Fed.{AreAffected, IsFed, IsReach, IsToldUpTo};
+ghost use Rattle.cmc_plain.specs.Fed.{AreAffected, IsFed, IsReach, IsDeliveredTo};
 
 use cmc_held::at_kind;
 use cmc_meta::{Key, Kind};
@@ -42,7 +42,7 @@ fn affected(
     to: u64,
     upto: u64,
 ) -> Result<Vec<Key>, AllocError>
-    requires { on IsToldUpTo world.now role kind to upto }
+    requires { on IsDeliveredTo world.now role kind to upto }
     ensures { IfOk result (λ keys. on AreAffected world.now role kind to keys.items) }
 {
     world.is_run();

@@ -11,7 +11,7 @@ ghost use Rattle.cmc_moves.specs.declared.moves.Move.TheVariants as moves;
 ghost use Rattle.cmc_waking.specs.Parking.{waits_for};
 ghost use Rattle.cmc_waking.specs.Queues.{row_at};
 ghost use Rattle.cmc_world.specs.Kept.{on};
-ghost use Rattle.cmc_plain.specs.Fed.{HasRoomsToEnd, HasRow, IsClosing, IsFed, IsGoing, IsToClose, IsWrote};
+ghost use Rattle.cmc_plain.specs.Fed.{HasRoomsToEnd, HasRow, IsClosingIfOpen, IsFed, IsGoing, IsToClose, IsWrote};
 ghost use Rattle.cmc_plain.specs.Next.{IsNewestPass};
 ghost use Rattle.cmc_rules.specs.Memory.{past};
 ghost use Rattle.cmc_rules.specs.Origins.{begun};
@@ -63,7 +63,7 @@ fn own_after(world: &World, ending: Ending, role: Role, key: &Key) -> Positions
 
 /// How the pass would end; `None` exactly where it is not open.
 fn closing_of(world: &World, pass: u64) -> Result<Option<Closing>, AllocError>
-    ensures { IfOk result (λ c. on IsClosing world.now pass c) }
+    ensures { IfOk result (λ c. on IsClosingIfOpen world.now pass c) }
 {
     let Some(open) = world.passes().get(pass) else {
         return Ok(None);
@@ -124,7 +124,7 @@ fn ready_to_end(
     pass: u64,
 ) -> Result<Option<Closing>, AllocError>
     requires { on IsFed world.now queues.old }
-    ensures closing { IfOk result (λ c. on IsClosing world.now pass c) }
+    ensures closing { IfOk result (λ c. on IsClosingIfOpen world.now pass c) }
     ensures made { IfOk result (λ c. HasRoomsToEnd c queues.new) }
     ensures rows { (r : RoleValue) → (k : KeyValue) → row_at queues.new r k ≡ row_at queues.old r k }
 {

@@ -5,7 +5,7 @@ ghost use Rattle.cmc_objects.specs.declared.entry.Entry.{Entry};
 ghost use Rattle.cmc_model.specs.Histories.{Setting};
 ghost use Rattle.cmc_pass.specs.declared.pass.Act.TheVariants as acts;
 ghost use Rattle.cmc_moves.specs.Answers.{told_order};
-ghost use Rattle.cmc_plain.specs.Keeping.{AreFound, IsFound, IsMine};
+ghost use Rattle.cmc_plain.specs.Keeping.{AreCurrent, IsCurrent, IsMine};
 
 use crate::openings::Opening;
 use cmc_meta::Key;
@@ -58,7 +58,7 @@ impl Kept {
     pub(crate) fn note(&mut self, opening: Opening)
         ensures told { self.new.told ≡ self.old.told }
         ensures act { self.new.act ≡ self.old.act }
-        ensures looked { (s : Setting) → (h : List Entry) → AreFound s h self.old.looked.items → IsFound s h opening → AreFound s h self.new.looked.items }
+        ensures looked { (s : Setting) → (h : List Entry) → AreCurrent s h self.old.looked.items → IsCurrent s h opening → AreCurrent s h self.new.looked.items }
     {
         if self.looked.len() < MOST {
             let _kept = self.looked.push(opening);
@@ -82,8 +82,8 @@ impl Kept {
         ensures told { self.new.told ≡ self.old.told }
         ensures act { self.new.act ≡ self.old.act }
         ensures mine { IfSome result (IsMine role key.now) }
-        ensures found { (s : Setting) → (h : List Entry) → AreFound s h self.old.looked.items → IfSome result (IsFound s h) }
-        ensures looked { (s : Setting) → (h : List Entry) → AreFound s h self.old.looked.items → AreFound s h self.new.looked.items }
+        ensures found { (s : Setting) → (h : List Entry) → AreCurrent s h self.old.looked.items → IfSome result (IsCurrent s h) }
+        ensures looked { (s : Setting) → (h : List Entry) → AreCurrent s h self.old.looked.items → AreCurrent s h self.new.looked.items }
     {
         let place = self.place_of(role, key)?;
         self.looked.remove(place).only_on(role, key)
@@ -126,7 +126,7 @@ impl Kept {
         ensures told { (self.new.told ≡ 0) ⊎ ((idle ≡ true) × (self.new.told ≡ self.old.told)) }
         ensures act { self.old.act ≡ None → self.new.act ≡ None }
         ensures asked { IsSome (told_order answer.now) → (self.new.told ≡ 0) × (self.new.looked.items ≡ []) }
-        ensures looked { (s : Setting) → (h : List Entry) → AreFound s h self.old.looked.items → AreFound s h self.new.looked.items }
+        ensures looked { (s : Setting) → (h : List Entry) → AreCurrent s h self.old.looked.items → AreCurrent s h self.new.looked.items }
     {
         if matches!(answer, Stepped::Order { .. }) {
             self.forget();

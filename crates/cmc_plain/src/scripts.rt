@@ -9,7 +9,7 @@ use cmc_world::{Stepped, World};
 
 /// Whether a step answers so to a move that is possible: it was made, or there is no room for it.
 pub(crate) fn is_accepted(answer: Stepped) -> bool
-    ensures { result ≡ words.is_accepted answer }
+    ensures { result ≡ words.is_possible answer }
 {
     matches!(&answer, Stepped::Done | Stepped::Spent { .. })
 }

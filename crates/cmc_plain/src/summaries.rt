@@ -6,7 +6,7 @@ ghost use Rattle.cmc_meta.specs.declared.conditions.ConditionKind.TheVariants.{R
 ghost use Rattle.cmc_meta.specs.declared.conditions.Tri.TheVariants.{True};
 ghost use Rattle.cmc_model.specs.Summaries.{says_ready, is_certificate, is_secret, is_ready, is_waiting};
 ghost use Rattle.cmc_world.specs.Kept.{on};
-ghost use Rattle.cmc_plain.specs.Waits.{IsAllThatStands, is_stopped, waits_among, summary_among, summary_at};
+ghost use Rattle.cmc_plain.specs.Waits.{IsAllThatExists, is_stopped, waits_among, summary_among, summary_at};
 
 use crate::waits::{all_that_stands, is_stopped, wait_at};
 use cmc_caches::RoleCaches;
@@ -106,7 +106,7 @@ fn waiting_by(
     objects: &Objects,
 ) -> Result<Waits, AllocError>
     requires stopped { stopped ≡ on is_stopped world.now }
-    requires all { on IsAllThatStands world.now all.now }
+    requires all { on IsAllThatExists world.now all.now }
     ensures { IfOk result (λ w. w ≡ on waits_among world.now objects.now.entries) }
 {
     let mut waiting = Waits::new(alloc);

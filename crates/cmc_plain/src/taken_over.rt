@@ -6,7 +6,7 @@ ghost use Rattle.cmc_queue.specs.Queues.{row_of};
 ghost use Rattle.cmc_queue.specs.Rows.{no_row};
 ghost use Rattle.cmc_world.specs.Kept.{on};
 ghost use Rattle.cmc_waking.specs.Queues.{KeepsOthers};
-ghost use Rattle.cmc_plain.specs.Fed.{AreRowsAnew, IsFed, IsRowAnew, IsStarted};
+ghost use Rattle.cmc_plain.specs.Fed.{AreFreshRows, IsFed, IsFreshRow, IsStarted};
 
 use crate::fed_scripts::known_keys;
 use crate::roles::role_in;
@@ -19,8 +19,8 @@ use std::alloc::{AllocError, Global};
 
 /// Makes the key ready, and puts it into process where a pass of the role is open on it.
 fn put_key(world: &World, role: Role, queue: &mut Queue, key: &Key) -> Result<(), AllocError>
-    requires { (row_of queue.old key.now ≡ no_row) ⊎ on IsRowAnew world.now role key.now (row_of queue.old key.now) }
-    ensures row { OnOk result (on IsRowAnew world.now role key.now (row_of queue.new key.now)) }
+    requires { (row_of queue.old key.now ≡ no_row) ⊎ on IsFreshRow world.now role key.now (row_of queue.old key.now) }
+    ensures row { OnOk result (on IsFreshRow world.now role key.now (row_of queue.new key.now)) }
     ensures others { OnOk result ((k : KeyValue) → key_eq key.now k ≡ false → row_of queue.new k ≡ row_of queue.old k) }
 {
     queue.room(key)?;
@@ -34,7 +34,7 @@ fn put_key(world: &World, role: Role, queue: &mut Queue, key: &Key) -> Result<()
 
 /// A queue of the role in which each of the keys is ready.
 fn queue_anew(alloc: Global, world: &World, role: Role, keys: &[Key]) -> Result<Queue, AllocError>
-    ensures { IfOk result (λ queue. on AreRowsAnew world.now role keys.now queue) }
+    ensures { IfOk result (λ queue. on AreFreshRows world.now role keys.now queue) }
 {
     let mut queue = Queue::seeded(alloc, world.seed());
     for key in keys {

@@ -184,7 +184,7 @@ pub(crate) fn is_stopped(world: &World) -> bool
 ///
 /// Want of memory alone.
 pub(crate) fn all_that_stands(alloc: Global, world: &World) -> Result<RoleCaches, AllocError>
-    ensures { IfOk result (λ all. on words.IsAllThatStands world.now all) }
+    ensures { IfOk result (λ all. on words.IsAllThatExists world.now all) }
 {
     let log = world.log();
     let newest = log.accepted();
@@ -203,7 +203,7 @@ fn present_views(
     all: &RoleCaches,
     key: &Key,
 ) -> Result<Views, AllocError>
-    requires { on words.IsAllThatStands world.now all.now }
+    requires { on words.IsAllThatExists world.now all.now }
     ensures same { IfOk result (λ seen. seen ≡ on viewing.present_views world.now Issuing key.now) }
     ensures dated { IfOk result (λ seen. HasDatedFailure seen) }
 {
@@ -217,7 +217,7 @@ fn wait_seen(
     all: &RoleCaches,
     key: &Key,
 ) -> Result<Option<WaitName>, AllocError>
-    requires { on words.IsAllThatStands world.now all.now }
+    requires { on words.IsAllThatExists world.now all.now }
     ensures { IfOk result (λ wait. wait ≡ words.wait_in (on histories.moment world.now) (on viewing.present_views world.now Issuing key.now)) }
 {
     let seen = present_views(alloc, world, all, key)?;
@@ -239,7 +239,7 @@ pub(crate) fn wait_at(
     key: &Key,
 ) -> Result<Option<WaitName>, AllocError>
     requires stopped { stopped ≡ on words.is_stopped world.now }
-    requires all { on words.IsAllThatStands world.now all.now }
+    requires all { on words.IsAllThatExists world.now all.now }
     ensures { IfOk result (λ wait. wait ≡ on words.wait_at world.now key.now) }
 {
     if stopped {

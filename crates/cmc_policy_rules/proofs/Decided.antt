@@ -3,7 +3,7 @@ use Rattle.std.proofs.Common.{◌≡◌, ℕ, ◌==◌, ◌⊎◌, inl, inr, Boo
 use Rattle.std.specs.Bool.{Decides}
 use Rattle.std.specs.List.{list_any}
 use Rattle.std.proofs.lemmas.Bool.Decides.{Decides-eqb, Decides-or, Decides-and}
-use Rattle.cmc_policy_rules.specs.Matching.{star, EndsWith, StandsFor, Matches, ends_of, is_begun, is_match}
+use Rattle.cmc_policy_rules.specs.Matching.{star, EndsWith, StandsFor, MatchesPattern, ends_of, is_begun, is_match}
 
 moved : {P Q : Type 0} (b : Bool) → Decides b P → (P → Q) → (Q → P) → Decides b Q
 moved b decides there back = ((λ e. there (decides.0 e)), (λ q. decides.1 (back q)))
@@ -55,8 +55,8 @@ begun test P decides false byte (first ∷ text) =
     (λ (same, holds). (text, ap (λ (b : ℕ). b ∷ text) same, holds))
     (λ (rest, same, holds). (cc same, subst P (sym (ap (λ (l : List ℕ). drop 1 l) same)) holds))
 
-pub is_match-Decides : (pattern text : List ℕ) → Decides (is_match pattern text) (Matches pattern text)
+pub is_match-Decides : (pattern text : List ℕ) → Decides (is_match pattern text) (MatchesPattern pattern text)
 unfolding is_match
 is_match-Decides [] [] = ((λ e. refl), (λ e. refl))
 is_match-Decides [] (byte ∷ text) = ((λ e. absurd (cc e)), (λ e. absurd (cc e)))
-is_match-Decides (byte ∷ pattern) text = begun (is_match pattern) (Matches pattern) (is_match-Decides pattern) (byte == star) byte text
+is_match-Decides (byte ∷ pattern) text = begun (is_match pattern) (MatchesPattern pattern) (is_match-Decides pattern) (byte == star) byte text

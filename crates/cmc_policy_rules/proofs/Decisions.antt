@@ -15,7 +15,7 @@ use Rattle.cmc_policy_rules.specs.declared.decision.Field.{Field}
 use Rattle.cmc_policy_rules.specs.declared.policy.Policy.{Policy}
 use Rattle.cmc_policy_rules.specs.declared.wanted.Wanted.{Wanted}
 use Rattle.cmc_policy_rules.specs.Allowing.{refused_field}
-use Rattle.cmc_policy_rules.specs.Deciding.{is_bound, passes, decision}
+use Rattle.cmc_policy_rules.specs.Deciding.{is_bound, is_allowed_by, decision}
 
 cond_some : (b : Bool) (n i : ℕ) → cond b (Some n) None ≡ Some i → n ≡ i
 cond_some true n i e = cc
@@ -28,12 +28,12 @@ found_at p xs i x place is =
     ∙ slice_get_read xs (length xs) i x refl (position-Some p xs i x place).0 is)
 
 pub yes_decided : (policies : List Policy) (wanted : Wanted) (place : ℕ)
-    → position (λ policy. passes policy wanted) policies ≡ Some place → Yes place ≡ decision policies wanted
+    → position (λ policy. is_allowed_by policy wanted) policies ≡ Some place → Yes place ≡ decision policies wanted
 unfolding decision
 yes_decided policies wanted place e = rw e refl
 
 pub no_decided : (policies : List Policy) (wanted : Wanted) (place : ℕ) (policy : Policy) (field : Field)
-    → position (λ policy. passes policy wanted) policies ≡ None
+    → position (λ policy. is_allowed_by policy wanted) policies ≡ None
     → position (λ policy. is_bound policy wanted) policies ≡ Some place → policy ≡ get_or policies place policy
     → refused_field policy wanted ≡ Some field → No place field ≡ decision policies wanted
 unfolding decision
@@ -42,7 +42,7 @@ no_decided policies wanted place policy field none bound is refused =
     rw (none, bound, found, refused) refl
 
 pub unbound_decided : (policies : List Policy) (wanted : Wanted)
-    → position (λ policy. passes policy wanted) policies ≡ None
+    → position (λ policy. is_allowed_by policy wanted) policies ≡ None
     → position (λ policy. is_bound policy wanted) policies ≡ None → Unbound ≡ decision policies wanted
 unfolding decision
 unbound_decided policies wanted none unbound = rw (none, unbound) refl
@@ -60,10 +60,10 @@ none_at p xs i x within is none passing =
 
 -- a policy that is bound and refuses nothing passes
 pub no_refusal : (policies : List Policy) (wanted : Wanted) (place : ℕ) (policy : Policy)
-    → position (λ policy. passes policy wanted) policies ≡ None
+    → position (λ policy. is_allowed_by policy wanted) policies ≡ None
     → position (λ policy. is_bound policy wanted) policies ≡ Some place → policy ≡ get_or policies place policy
     → refused_field policy wanted ≡ None → ⊥
 no_refusal policies wanted place policy none bound is allowed =
     let at = position-Some (λ (p : Policy). is_bound p wanted) policies place policy bound in
     let here : is_bound policy wanted ≡ true = ap (λ (p : Policy). is_bound p wanted) is ∙ at.1 in
-    none_at (λ (p : Policy). passes p wanted) policies place policy at.0 is none (rw (here, allowed) refl)
+    none_at (λ (p : Policy). is_allowed_by p wanted) policies place policy at.0 is none (rw (here, allowed) refl)

@@ -1,7 +1,7 @@
 -- The places of a piece in a text, from the left.
 use Rattle.std.proofs.Common.{◌≡◌, ℕ, ◌+◌, ◌-◌, ◌<◌, List, [], ◌∷◌, ◌++◌, length, take, drop, refl, sym, ◌∙◌, ap, subst, append_assoc, arith, length-append}
 use Rattle.std.proofs.lemmas.List.{take-append-drop, take_rest, drop_at, drop-drop}
-use Rattle.cmc_policy_rules.specs.Matching.{EndsWith, IsFirstPlace, StandsNowhere}
+use Rattle.cmc_policy_rules.specs.Matching.{EndsWith, IsFirstPlace, OccursNowhere}
 use Rattle.cmc_policy_rules.proofs.Pieces.{ends_further}
 
 -- two places of a piece in one text, the first at its front
@@ -48,7 +48,7 @@ end_further text left is_end =
 -- where nothing is left, there is none
 pub none_left : (text left piece : List ℕ)
     → ((after : List ℕ) → EndsWith text (piece ++ after) → EndsWith left (piece ++ after))
-    → ((rest : List ℕ) → left ≡ piece ++ rest → ⊥) → length left < 1 → StandsNowhere text piece
+    → ((rest : List ℕ) → left ≡ piece ++ rest → ⊥) → length left < 1 → OccursNowhere text piece
 none_left text left piece has_each other short rest ends = nowhere (has_each rest ends)
   where
     nowhere : EndsWith left (piece ++ rest) → ⊥

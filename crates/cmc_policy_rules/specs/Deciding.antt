@@ -13,8 +13,8 @@ abbrev pub is_bound : Policy → Wanted → Bool
 is_bound policy wanted = matches_any policy.issuers wanted.issuer
 
 -- it is for that issuer, and allows all of the request
-abbrev pub passes : Policy → Wanted → Bool
-passes policy wanted = is_bound policy wanted && is_none (refused_field policy wanted)
+abbrev pub is_allowed_by : Policy → Wanted → Bool
+is_allowed_by policy wanted = is_bound policy wanted && is_none (refused_field policy wanted)
 
 -- the first field that the first policy for the issuer does not allow
 abbrev pub first_refusal : List Policy → Wanted → Option Field
@@ -29,5 +29,5 @@ decided None None refusal = Unbound
 
 unfoldable pub decision : List Policy → Wanted → Decision
 decision policies wanted =
-    decided (position (λ policy. passes policy wanted) policies) (position (λ policy. is_bound policy wanted) policies)
+    decided (position (λ policy. is_allowed_by policy wanted) policies) (position (λ policy. is_bound policy wanted) policies)
     (first_refusal policies wanted)

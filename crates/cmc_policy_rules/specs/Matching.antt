@@ -16,9 +16,9 @@ StandsFor true byte text rest = EndsWith text rest
 StandsFor false byte text rest = text ≡ byte ∷ rest
 
 -- the text is what the bytes of the pattern stand for, one after the other
-abbrev pub Matches : List ℕ → List ℕ → Type 0
-Matches [] text = text ≡ []
-Matches (byte ∷ pattern) text = (rest : List ℕ) × StandsFor (byte == star) byte text rest × Matches pattern rest
+abbrev pub MatchesPattern : List ℕ → List ℕ → Type 0
+MatchesPattern [] text = text ≡ []
+MatchesPattern (byte ∷ pattern) text = (rest : List ℕ) × StandsFor (byte == star) byte text rest × MatchesPattern pattern rest
 
 -- the same as a test: what the rest of a pattern matches is handed on, and of a text that a star begins any end may be
 -- the rest
@@ -44,7 +44,7 @@ abbrev pub IsStarless : List ℕ → Type 0
 IsStarless bytes = All (λ byte. (byte == star) ≡ false) bytes
 
 -- the pattern is a piece without a star, a star, and what stands behind it
-pub record IsCut (pattern piece behind : List ℕ) : Type 0 where
+pub record IsCutAtStar (pattern piece behind : List ℕ) : Type 0 where
   pub whole : pattern ≡ piece ++ (star ∷ behind)
   pub starless : IsStarless piece
 
@@ -54,5 +54,5 @@ pub record IsFirstPlace (text piece rest : List ℕ) : Type 0 where
   pub leftmost : (after : List ℕ) → EndsWith text (piece ++ after) → EndsWith rest after
 
 -- the piece stands nowhere in the text
-abbrev pub StandsNowhere : List ℕ → List ℕ → Type 0
-StandsNowhere text piece = (rest : List ℕ) → EndsWith text (piece ++ rest) → ⊥
+abbrev pub OccursNowhere : List ℕ → List ℕ → Type 0
+OccursNowhere text piece = (rest : List ℕ) → EndsWith text (piece ++ rest) → ⊥

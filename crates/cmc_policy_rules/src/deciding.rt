@@ -35,7 +35,7 @@ pub fn decide(policies: &Policies, wanted: &Wanted) -> Decision
 }
 
 fn first_passing(policies: &[Policy], wanted: &Wanted) -> Option<usize>
-    ensures { result ≡ position (λ policy. spec.passes policy wanted.now) policies.now }
+    ensures { result ≡ position (λ policy. spec.is_allowed_by policy wanted.now) policies.now }
 {
     policies.iter().position(|policy| passes(policy, wanted))
 }
@@ -53,7 +53,7 @@ fn is_bound(policy: &Policy, wanted: &Wanted) -> bool
 }
 
 fn passes(policy: &Policy, wanted: &Wanted) -> bool
-    ensures { result ≡ spec.passes policy.now wanted.now }
+    ensures { result ≡ spec.is_allowed_by policy.now wanted.now }
 {
     is_bound(policy, wanted) && allows(policy, wanted).is_ok()
 }

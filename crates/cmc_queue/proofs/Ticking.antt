@@ -8,7 +8,7 @@ use Rattle.cmc_queue.specs.declared.row.Found.{Found}
 use Rattle.cmc_queue.specs.declared.row.Found.TheVariants.{Unknown, Nothing, Something}
 use Rattle.cmc_queue.specs.declared.row.Row.{Row}
 use Rattle.cmc_queue.specs.Rows.{is_due, is_found, is_something, lapsed, looked, no_row, row_in, ticked}
-use Rattle.cmc_queue.specs.Queues.{is_noted, IsTimed, StayAfter}
+use Rattle.cmc_queue.specs.Queues.{is_timed_with, AreTimed, StayAfter}
 use Rattle.cmc_queue.proofs.OneRow.{come, one_row}
 use Rattle.cmc_queue.proofs.Places.{late_left, other_left, AreLeft}
 
@@ -65,10 +65,10 @@ none_ticked now = refl
 -- some rows have come to the moment, and each that has not is still noted
 pub record IsTicking (now : ℤ) (old rows : List (Key × Row)) (due : List (ℤ × Key)) : Type 0 where
   pub each : (k : Key) → (row_in rows k ≡ row_in old k) ⊎ (row_in rows k ≡ ticked now (row_in old k))
-  pub timed : IsTimed rows due
+  pub timed : AreTimed rows due
 
 still_noted : (b : Bool) (now : ℤ) (key k : Key) (was is : Row) (at popped : ℤ) (due left : List (ℤ × Key)) → key_eq key k ≡ b → is ≡ (if b then ticked now was else was) → is.timed ≡ Some at
-    → int_le popped now ≡ true → (was.timed ≡ Some at → is_noted due at k ≡ true) → (is_noted due at k ≡ true → (is_noted left at k ≡ true) ⊎ ((at ≡ popped) × (k ≡ key))) → is_noted left at k ≡ true
+    → int_le popped now ≡ true → (was.timed ≡ Some at → is_timed_with due at k ≡ true) → (is_timed_with due at k ≡ true → (is_timed_with left at k ≡ true) ⊎ ((at ≡ popped) × (k ≡ key))) → is_timed_with left at k ≡ true
 still_noted true now key k was is at popped due left e row timed low noted others =
     let before = still_timed now was at (subst (λ (r : Row). r.timed ≡ Some at) row timed) in late_left int_cmp int_le now at (popped, key) k left before.1 low (others (noted before.0))
 still_noted false now key k was is at popped due left e row timed low noted others = other_left key k e (others (noted (subst (λ (r : Row). r.timed ≡ Some at) row timed)))
@@ -90,12 +90,12 @@ come_by now before was is late at (inl same) = at ∙ untouched now was late ∙
 come_by now before was is late at (inr done) = at ∙ ap (λ (r : Row). looked (lapsed r.work) r) done ∙ lapses_no_more now before
 
 -- where no moment that has come is left, and what was found has lapsed, all rows have come to it
-pub ticked_all : (now : ℤ) (old rows new : List (Key × Row)) (due : List (ℤ × Key)) → IsTicking now old rows due → ((at : ℤ) (k : Key) → is_noted due at k ≡ true → int_le at now ≡ false)
+pub ticked_all : (now : ℤ) (old rows new : List (Key × Row)) (due : List (ℤ × Key)) → IsTicking now old rows due → ((at : ℤ) (k : Key) → is_timed_with due at k ≡ true → int_le at now ≡ false)
     → ((k : Key) → row_in new k ≡ looked (lapsed (row_in rows k).work) (row_in rows k)) → (k : Key) → row_in new k ≡ ticked now (row_in old k)
 ticked_all now old rows new due so none each k = come_by now (row_in old k) (row_in rows k) (row_in new k) (not_due _ now (λ at is. none at k (so.timed k at is))) (each k) (so.each k)
 
 -- what is timed stays so where what was found lapses
-pub timed_by_lapse : (rows new : List (Key × Row)) (due : List (ℤ × Key)) → ((k : Key) → row_in new k ≡ looked (lapsed (row_in rows k).work) (row_in rows k)) → IsTimed rows due → IsTimed new due
+pub timed_by_lapse : (rows new : List (Key × Row)) (due : List (ℤ × Key)) → ((k : Key) → row_in new k ≡ looked (lapsed (row_in rows k).work) (row_in rows k)) → AreTimed rows due → AreTimed new due
 timed_by_lapse rows new due each so k at is = so k at (sym (ap (λ (r : Row). r.timed) (each k)) ∙ is)
 
 -- ---- what lapses

@@ -11,7 +11,7 @@ use Rattle.cmc_queue.specs.declared.row.Found.TheVariants.{Unknown, Nothing, Som
 use Rattle.cmc_queue.specs.declared.row.Found.{Found}
 use Rattle.cmc_queue.specs.declared.row.Row.{Row}
 use Rattle.cmc_queue.specs.Rows.{added, earlier, has_row, is_due, is_free, is_reached, is_unknown, lapsed, moved, row_in, row_or_new, taken, ticked}
-use Rattle.cmc_queue.specs.Queues.{has_room_for, is_listed, is_noted, IsFound, IsParked, IsTimed, Work}
+use Rattle.cmc_queue.specs.Queues.{has_room_for, is_listed, is_timed_with, HasPlaces, IsParked, AreTimed, Work}
 use Rattle.cmc_queue.proofs.OneRow.{same_by_test}
 use Rattle.cmc_queue.proofs.Moving.{still_parked}
 
@@ -88,9 +88,9 @@ pub taken_waits : (row : Row) → IsAsFound row (taken row)
 taken_waits row = waits_same (is_free row) row
 
 -- the row that is written waits for what the old one waits for
-pub found_by_put : (q : Work) (new : List (Key × Row)) (key : Key) (row : Row) → IsFound q → row.timed ≡ (row_in q.rows key).timed → row.parked ≡ (row_in q.rows key).parked
+pub found_by_put : (q : Work) (new : List (Key × Row)) (key : Key) (row : Row) → HasPlaces q → row.timed ≡ (row_in q.rows key).timed → row.parked ≡ (row_in q.rows key).parked
     → ((k : Key) → row_in new k ≡ (if key_eq key k then row else row_in q.rows k))
-    → IsFound (record { rows = new; moments = q.moments; certificates = q.certificates; requests = q.requests; secrets = q.secrets })
+    → HasPlaces (record { rows = new; moments = q.moments; certificates = q.certificates; requests = q.requests; secrets = q.secrets })
 found_by_put q new key row so timed parked each = record {
   timed = λ k at is. so.timed k at (sym (part_before (λ r. r.timed) (key_eq key k) q.rows new key k row refl (each k) timed) ∙ is);
   certificates = λ k p is. so.certificates k p (sym (stays k) ∙ is);
@@ -105,8 +105,8 @@ same_part part f same true row = same row
 same_part part f same false row = refl
 
 -- what is added waits for what it waited for
-pub found_by_adding : (q : Work) (new : List (Key × Row)) (key : Key) → IsFound q → ((k : Key) → row_in new k ≡ (if key_eq key k then added (row_in q.rows k) else row_in q.rows k))
-    → IsFound (record { rows = new; moments = q.moments; certificates = q.certificates; requests = q.requests; secrets = q.secrets })
+pub found_by_adding : (q : Work) (new : List (Key × Row)) (key : Key) → HasPlaces q → ((k : Key) → row_in new k ≡ (if key_eq key k then added (row_in q.rows k) else row_in q.rows k))
+    → HasPlaces (record { rows = new; moments = q.moments; certificates = q.certificates; requests = q.requests; secrets = q.secrets })
 found_by_adding q new key so each = record {
   timed = λ k at is. so.timed k at (sym (ap (λ (r : Row). r.timed) (each k) ∙ same_part (λ r. r.timed) added (λ r. refl) (key_eq key k) (row_in q.rows k)) ∙ is);
   certificates = λ k p is. so.certificates k p (sym (stays k) ∙ is);
@@ -116,29 +116,29 @@ found_by_adding q new key so each = record {
   stays : (k : Key) → (row_in new k).parked ≡ (row_in q.rows k).parked
   stays k = ap (λ (r : Row). r.parked) (each k) ∙ same_part (λ r. r.parked) added (λ r. refl) (key_eq key k) (row_in q.rows k)
 
-chosen : (b : Bool) (old at : ℤ) (due : List (ℤ × Key)) (key : Key) → is_noted due at key ≡ true → is_noted due old key ≡ true → is_noted due (if b then old else at) key ≡ true
+chosen : (b : Bool) (old at : ℤ) (due : List (ℤ × Key)) (key : Key) → is_timed_with due at key ≡ true → is_timed_with due old key ≡ true → is_timed_with due (if b then old else at) key ≡ true
 chosen true old at due key new before = before
 chosen false old at due key new before = new
 
-noted_earlier : (o : Option ℤ) (at : ℤ) (due : List (ℤ × Key)) (key : Key) → is_noted due at key ≡ true → ((t : ℤ) → o ≡ Some t → is_noted due t key ≡ true) → is_noted due (earlier at o) key ≡ true
+noted_earlier : (o : Option ℤ) (at : ℤ) (due : List (ℤ × Key)) (key : Key) → is_timed_with due at key ≡ true → ((t : ℤ) → o ≡ Some t → is_timed_with due t key ≡ true) → is_timed_with due (earlier at o) key ≡ true
 noted_earlier None at due key new before = new
 noted_earlier (Some old) at due key new before = chosen (int_le old at) old at due key new (before old refl)
 
-the_moment : (a b : ℤ) (due : List (ℤ × Key)) (key : Key) → Some a ≡ Some b → is_noted due a key ≡ true → is_noted due b key ≡ true
-the_moment a b due key same noted = let is : a ≡ b = cc in subst (λ (t : ℤ). is_noted due t key ≡ true) is noted
+the_moment : (a b : ℤ) (due : List (ℤ × Key)) (key : Key) → Some a ≡ Some b → is_timed_with due a key ≡ true → is_timed_with due b key ≡ true
+the_moment a b due key same noted = let is : a ≡ b = cc in subst (λ (t : ℤ). is_timed_with due t key ≡ true) is noted
 
 timed_here : (b : Bool) (rows new : List (Key × Row)) (due : List (ℤ × Key)) (key k : Key) (row : Row) (at t : ℤ) → key_eq key k ≡ b → row_in new k ≡ (if b then row else row_in rows k)
-    → row.timed ≡ Some (earlier at (row_in rows key).timed) → is_noted due at key ≡ true → IsTimed rows due → (row_in new k).timed ≡ Some t → is_noted due t k ≡ true
+    → row.timed ≡ Some (earlier at (row_in rows key).timed) → is_timed_with due at key ≡ true → AreTimed rows due → (row_in new k).timed ≡ Some t → is_timed_with due t k ≡ true
 timed_here true rows new due key k row at t e each row_is place so is =
     let there : Some (earlier at (row_in rows key).timed) ≡ Some t = sym row_is ∙ sym (ap (λ r. r.timed) each) ∙ is in
-    subst (λ (q : Key). is_noted due t q ≡ true) (same_by_test key k e)
+    subst (λ (q : Key). is_timed_with due t q ≡ true) (same_by_test key k e)
     (the_moment _ t due key there (noted_earlier (row_in rows key).timed at due key place (so key)))
 timed_here false rows new due key k row at t e each row_is place so is = so k t (sym (ap (λ r. r.timed) each) ∙ is)
 
 -- the key is timed where it has a place
-pub found_by_timing : (q : Work) (new : List (Key × Row)) (key : Key) (row : Row) (at : ℤ) → IsFound q → is_noted q.moments at key ≡ true → row.timed ≡ Some (earlier at (row_in q.rows key).timed)
+pub found_by_timing : (q : Work) (new : List (Key × Row)) (key : Key) (row : Row) (at : ℤ) → HasPlaces q → is_timed_with q.moments at key ≡ true → row.timed ≡ Some (earlier at (row_in q.rows key).timed)
     → row.parked ≡ (row_in q.rows key).parked → ((k : Key) → row_in new k ≡ (if key_eq key k then row else row_in q.rows k))
-    → IsFound (record { rows = new; moments = q.moments; certificates = q.certificates; requests = q.requests; secrets = q.secrets })
+    → HasPlaces (record { rows = new; moments = q.moments; certificates = q.certificates; requests = q.requests; secrets = q.secrets })
 found_by_timing q new key row at so place timed parked each = record {
   timed = λ k t is. timed_here (key_eq key k) q.rows new q.moments key k row at t refl (each k) timed place so.timed is;
   certificates = λ k p is. so.certificates k p (sym (stays k) ∙ is);
@@ -173,9 +173,9 @@ secret_place Secret version q key place is = place
 secret_place other version q key place is = absurd (cc is)
 
 -- the key waits for a version where it has a place
-pub found_by_parking : (q : Work) (new : List (Key × Row)) (key : Key) (row : Row) (kind : Kind) (version : ℕ) → IsFound q → has_room_for q kind version key ≡ true → row.parked ≡ Some (record { kind = kind; version = version })
+pub found_by_parking : (q : Work) (new : List (Key × Row)) (key : Key) (row : Row) (kind : Kind) (version : ℕ) → HasPlaces q → has_room_for q kind version key ≡ true → row.parked ≡ Some (record { kind = kind; version = version })
     → row.timed ≡ (row_in q.rows key).timed → ((k : Key) → row_in new k ≡ (if key_eq key k then row else row_in q.rows k))
-    → IsFound (record { rows = new; moments = q.moments; certificates = q.certificates; requests = q.requests; secrets = q.secrets })
+    → HasPlaces (record { rows = new; moments = q.moments; certificates = q.certificates; requests = q.requests; secrets = q.secrets })
 found_by_parking q new key row kind version so place parked timed each = record {
   timed = λ k at is. so.timed k at (sym (part_before (λ r. r.timed) (key_eq key k) q.rows new key k row refl (each k) timed) ∙ is);
   certificates = λ k p is. parked_here (key_eq key k) Certificate kind version q.rows new q.certificates key k row p refl (each k) parked (certificate_place kind version q key place) so.certificates is;
@@ -206,7 +206,7 @@ unfolding moved
 moved_timed kind to row = timed_by_version _ row
 
 -- a version changes nothing for what waits for a moment
-pub timed_by_move : (kind : Kind) (to : ℕ) (rows new : List (Key × Row)) (due : List (ℤ × Key)) → ((k : Key) → row_in new k ≡ moved kind to (row_in rows k)) → IsTimed rows due → IsTimed new due
+pub timed_by_move : (kind : Kind) (to : ℕ) (rows new : List (Key × Row)) (due : List (ℤ × Key)) → ((k : Key) → row_in new k ≡ moved kind to (row_in rows k)) → AreTimed rows due → AreTimed new due
 timed_by_move kind to rows new due each so k at is = so k at (sym (ap (λ r. r.timed) (each k) ∙ moved_timed kind to (row_in rows k)) ∙ is)
 
 pub parked_by_move : (other kind : Kind) (to : ℕ) (rows new : List (Key × Row)) (versions : List (ℕ × Key)) → ((k : Key) → row_in new k ≡ moved kind to (row_in rows k)) → IsParked other rows versions → IsParked other new versions

@@ -49,16 +49,16 @@ is_above (Some below) key = is_lt (key_cmp below key)
 -- ---- room
 
 -- whether the key stands with what it waits for, in the order of that
-unfoldable pub has_place : {T : Type 0} → (T → T → Ordering) → List (T × Key) → T → Key → Bool
-has_place cmp places at key = list_any (λ q. is_eq (ordering_then (cmp at q.0) (key_cmp key q.1))) places
+unfoldable pub has_place_at : {T : Type 0} → (T → T → Ordering) → List (T × Key) → T → Key → Bool
+has_place_at cmp places at key = list_any (λ q. is_eq (ordering_then (cmp at q.0) (key_cmp key q.1))) places
 
 -- whether the moment stands with the key
-abbrev pub is_noted : List (ℤ × Key) → ℤ → Key → Bool
-is_noted = has_place int_cmp
+abbrev pub is_timed_with : List (ℤ × Key) → ℤ → Key → Bool
+is_timed_with = has_place_at int_cmp
 
 -- whether the version stands with the key
 abbrev pub is_listed : List (ℕ × Key) → ℕ → Key → Bool
-is_listed = has_place nat_cmp
+is_listed = has_place_at nat_cmp
 
 -- the places for versions of the kind
 abbrev pub versions_of : Work → Kind → List (ℕ × Key)
@@ -72,7 +72,7 @@ has_room q key = has_row q.rows key
 
 -- the key has a place at the moment: with a row it can be timed at it
 abbrev pub has_room_at : Work → ℤ → Key → Bool
-has_room_at q at key = is_noted q.moments at key
+has_room_at q at key = is_timed_with q.moments at key
 
 -- the key has a row, in which it stands what a look found there
 abbrev pub has_room_to_find : Work → Key → Bool
@@ -83,8 +83,8 @@ abbrev pub has_room_for : Work → Kind → ℕ → Key → Bool
 has_room_for q kind version key = is_listed (versions_of q kind) version key
 
 -- no row is lost
-abbrev pub KeepsRows : Work → Work → Type 0
-KeepsRows old new = (k : Key) → has_room old k ≡ true → has_room new k ≡ true
+abbrev pub LosesNoRow : Work → Work → Type 0
+LosesNoRow old new = (k : Key) → has_room old k ≡ true → has_room new k ≡ true
 
 -- no place at a moment is lost
 abbrev pub KeepsMoments : Work → Work → Type 0
@@ -96,11 +96,11 @@ KeepsVersions old new = (kind : Kind) (version : ℕ) (k : Key) → has_room_for
 
 -- no place at a moment behind this one is lost
 abbrev pub StayAfter : ℤ → List (ℤ × Key) → List (ℤ × Key) → Type 0
-StayAfter now old new = (at : ℤ) (k : Key) → int_le at now ≡ false → is_noted old at k ≡ true → is_noted new at k ≡ true
+StayAfter now old new = (at : ℤ) (k : Key) → int_le at now ≡ false → is_timed_with old at k ≡ true → is_timed_with new at k ≡ true
 
 -- each place is at a moment behind this one
 abbrev pub AreAfter : ℤ → List (ℤ × Key) → Type 0
-AreAfter now due = (at : ℤ) (k : Key) → is_noted due at k ≡ true → int_le at now ≡ false
+AreAfter now due = (at : ℤ) (k : Key) → is_timed_with due at k ≡ true → int_le at now ≡ false
 
 -- no place at a version above this one is lost
 abbrev pub StayAbove : ℕ → List (ℕ × Key) → List (ℕ × Key) → Type 0
@@ -116,7 +116,7 @@ KeepsVersionsOfOthers kind old new = (other : Kind) (version : ℕ) (k : Key) �
 
 -- all room stays
 pub record KeepsRoom (old new : Work) : Type 0 where
-  pub rows : KeepsRows old new
+  pub rows : LosesNoRow old new
   pub moments : KeepsMoments old new
   pub versions : KeepsVersions old new
 
@@ -148,16 +148,16 @@ abbrev pub pending_count : List (Key × Row) → ℕ
 pending_count = count_of is_pending
 
 -- each key that is timed stands among the moments
-abbrev pub IsTimed : List (Key × Row) → List (ℤ × Key) → Type 0
-IsTimed rows due = (key : Key) (at : ℤ) → (row_in rows key).timed ≡ Some at → is_noted due at key ≡ true
+abbrev pub AreTimed : List (Key × Row) → List (ℤ × Key) → Type 0
+AreTimed rows due = (key : Key) (at : ℤ) → (row_in rows key).timed ≡ Some at → is_timed_with due at key ≡ true
 
 -- each key that waits for a version of the kind stands among the versions
 abbrev pub IsParked : Kind → List (Key × Row) → List (ℕ × Key) → Type 0
 IsParked kind rows versions = (key : Key) (p : Parked) → (row_in rows key).parked ≡ Some p → (kind_rank p.kind == kind_rank kind) ≡ true → is_listed versions p.version key ≡ true
 
 -- whatever waits has its place
-pub record IsFound (q : Work) : Type 0 where
-  pub timed : IsTimed q.rows q.moments
+pub record HasPlaces (q : Work) : Type 0 where
+  pub timed : AreTimed q.rows q.moments
   pub certificates : IsParked Certificate q.rows q.certificates
   pub requests : IsParked CertificateRequest q.rows q.requests
   pub secrets : IsParked Secret q.rows q.secrets

@@ -4,7 +4,7 @@ ghost use Rattle.std.specs.Ordering.{is_lt};
 ghost use Rattle.std.specs.Prelude.{◌≡◌, ◌+◌, IfSome, OnErr, OnOk, ◌&&◌, option_map, true};
 ghost use Rattle.cmc_meta.specs.declared.key.Key.{Key as KeyValue};
 ghost use Rattle.cmc_meta.specs.Keys.{key_cmp};
-ghost use Rattle.cmc_queue.specs.Queues.{fresh_count, has_room, has_room_at, has_room_for, has_room_to_find, is_above, is_offered, row_of, versions_of, AreAbove, AreAfter, ChangesRow, ChangesRows, FindsFirst, KeepsMoments, KeepsRoom, KeepsRows, KeepsVersions, KeepsVersionsOfOthers, StayAbove, StayAfter};
+ghost use Rattle.cmc_queue.specs.Queues.{fresh_count, has_room, has_room_at, has_room_for, has_room_to_find, is_above, is_offered, row_of, versions_of, AreAbove, AreAfter, ChangesRow, ChangesRows, FindsFirst, KeepsMoments, KeepsRoom, LosesNoRow, KeepsVersions, KeepsVersionsOfOthers, StayAbove, StayAfter};
 ghost use Rattle.cmc_queue.specs.Rows.{added, ended, is_fresh, is_free, is_pending, left, looked, moved, no_row, parked_for, taken, ticked, timed_at};
 
 use crate::moments::Moments;
@@ -47,13 +47,13 @@ impl Drop for Queue {
 }
 
 impl Model for Queue {
-    ghost use Rattle.cmc_queue.specs.Queues.{Work, IsFound};
+    ghost use Rattle.cmc_queue.specs.Queues.{Work, HasPlaces};
 
     ghost Value = { Work };
 
     ghost view = { λ q. record { rows = q.rows; moments = q.moments; certificates = q.certificates; requests = q.requests; secrets = q.secrets } };
 
-    ghost invariant = { λ q. IsFound (record { rows = q.rows; moments = q.moments; certificates = q.certificates; requests = q.requests; secrets = q.secrets }) };
+    ghost invariant = { λ q. HasPlaces (record { rows = q.rows; moments = q.moments; certificates = q.certificates; requests = q.requests; secrets = q.secrets }) };
 }
 
 impl Queue {
@@ -248,7 +248,7 @@ impl Queue {
     /// keys with such a place are gone through, and those on which a look found something. It takes no memory.
     pub fn tick(&mut self, now: i64)
         ensures rows { ChangesRows (ticked now) self.old self.new }
-        ensures room { KeepsRows self.old self.new }
+        ensures room { LosesNoRow self.old self.new }
         ensures versions { KeepsVersions self.old self.new }
         ensures later { StayAfter now self.old.moments self.new.moments }
         ensures passed { AreAfter now self.new.moments }
@@ -299,7 +299,7 @@ impl Queue {
     /// is ready, and waits no more. The places at such versions are given up, and no other. It takes no memory.
     pub fn moved(&mut self, kind: Kind, version: u64)
         ensures rows { ChangesRows (moved kind version) self.old self.new }
-        ensures room { KeepsRows self.old self.new }
+        ensures room { LosesNoRow self.old self.new }
         ensures moments { KeepsMoments self.old self.new }
         ensures others { KeepsVersionsOfOthers kind self.old self.new }
         ensures above { StayAbove version (versions_of self.old kind) (versions_of self.new kind) }

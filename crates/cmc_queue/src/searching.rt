@@ -4,7 +4,7 @@ ghost use Rattle.std.specs.Ordering.{is_lt};
 ghost use Rattle.std.specs.Prelude.{◌≡◌, ◌&&◌};
 ghost use Rattle.cmc_meta.specs.declared.key.Key.{Key as KeyValue};
 ghost use Rattle.cmc_meta.specs.Keys.{key_cmp};
-ghost use Rattle.cmc_queue.specs.Queues.{AreAbove, AreAfter, FindsFirst, IsParked, IsTimed, StayAbove, StayAfter};
+ghost use Rattle.cmc_queue.specs.Queues.{AreAbove, AreAfter, FindsFirst, IsParked, AreTimed, StayAbove, StayAfter};
 ghost use Rattle.cmc_queue.specs.Rows.{has_row, is_free, is_fresh, is_pending, moved, row_in, ticked};
 
 use crate::moments::Moments;
@@ -15,10 +15,10 @@ use cmc_meta::{Key, Kind};
 
 /// Each key whose moment has come is ready, and of each other key what was found lapses. It takes no memory.
 pub fn tick_rows(rows: &mut Rows, moments: &mut Moments, now: i64)
-    requires timed { IsTimed rows.old moments.old }
+    requires timed { AreTimed rows.old moments.old }
     ensures rows { (k : KeyValue) → row_in rows.new k ≡ ticked now (row_in rows.old k) }
     ensures room { (k : KeyValue) → has_row rows.new k ≡ has_row rows.old k }
-    ensures timed { IsTimed rows.new moments.new }
+    ensures timed { AreTimed rows.new moments.new }
     ensures later { StayAfter now moments.old moments.new }
     ensures passed { AreAfter now moments.new }
 {

@@ -8,15 +8,15 @@ use Rattle.cmc_summary.specs.declared.summary.Summary.{Summary}
 use Rattle.cmc_summary.specs.declared.summary.Waiting.{Waiting}
 use Rattle.cmc_print.specs.Trees.{line_of}
 use Rattle.cmc_print.specs.Words.{name_text}
-use Rattle.cmc_report.specs.Trees.{scenario_tree, wait_name, waiting_tree, counts_tree, summary_tree}
+use Rattle.cmc_report.specs.Trees.{scenario_line_tree, wait_name, waiting_tree, counts_tree, summary_tree}
 use Rattle.cmc_report.specs.Rows.{count_rows}
 use Rattle.cmc_writer.specs.Adding.{with_value, with_rows}
 use Rattle.cmc_writer.proofs.Placed.{is_none, is_put}
 use Rattle.cmc_writer.proofs.Written.{object_written}
 use Rattle.cmc_object_lines.proofs.Laws.{of_rows}
 
-pub scenario_text : (d : Data) → (codes "{\"scenario\":" ++ compact_text d) ++ codes "}\n" ≡ line_of (scenario_tree d)
-unfolding line_of scenario_tree escape_byte
+pub scenario_text : (d : Data) → (codes "{\"scenario\":" ++ compact_text d) ++ codes "}\n" ≡ line_of (scenario_line_tree d)
+unfolding line_of scenario_line_tree escape_byte
 scenario_text d = append_assoc (codes "{\"scenario\":") (compact_text d) (codes "}\n") ∙ ap (λ t. codes "{\"scenario\":" ++ t) (sym (append_assoc (compact_text d) (125 ∷ []) (10 ∷ [])))
 
 pub waiting_written : (ts : List Token) (w : Waiting)

@@ -218,8 +218,8 @@ entry_tree n entry = object (put_entry entry (put (codes "n") (natural n) no_mem
 
 -- ---- the scenario and the summary
 
-unfoldable pub scenario_tree : Data → Data
-scenario_tree value = object (put (codes "scenario") value no_members)
+unfoldable pub scenario_line_tree : Data → Data
+scenario_line_tree value = object (put (codes "scenario") value no_members)
 
 abbrev pub wait_name : WaitName → List ℕ
 wait_name waits.Stopped = codes "stopped"

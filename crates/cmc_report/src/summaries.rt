@@ -5,7 +5,7 @@ ghost use Rattle.serde_json.specs.View.{view, items_of};
 ghost use Rattle.serde_json.specs.Written.{has_float};
 ghost use Rattle.cmc_print.specs.Trees.{line_of};
 ghost use Rattle.cmc_print.specs.Words.{name_text};
-ghost use Rattle.cmc_report.specs.Trees.{scenario_tree, wait_name, waiting_tree, counts_tree, summary_tree};
+ghost use Rattle.cmc_report.specs.Trees.{scenario_line_tree, wait_name, waiting_tree, counts_tree, summary_tree};
 ghost use Rattle.cmc_writer.specs.Adding.{with_value, with_values, with_row, with_rows};
 ghost use Rattle.cmc_report.specs.Rows.{count_rows};
 
@@ -19,7 +19,7 @@ use std::alloc::{AllocError, Global};
 #[tactic(auto, using(crate::proofs::SummaryLaws::scenario_text))]
 pub fn scenario_line(alloc: Global, scenario: &Value) -> Result<String, AllocError>
     requires { has_float (view scenario.now) ≡ false }
-    ensures { IfOk result (λ s. string_bytes s ≡ line_of (scenario_tree (view scenario.now))) }
+    ensures { IfOk result (λ s. string_bytes s ≡ line_of (scenario_line_tree (view scenario.now))) }
 {
     let text = scenario.to_string(alloc)?;
     let mut line = String::with_capacity(alloc, text.len() + 14)?;

@@ -3,10 +3,10 @@ use Rattle.std.proofs.Common.{◌≡◌, refl}
 use Rattle.cmc_objects.specs.declared.role.Role.TheVariants.{RequestManager}
 use Rattle.cmc_pass.specs.declared.pass.Views.{Views}
 use Rattle.cmc_rules.specs.RequestManaging.{request_manager, request_after}
-use Rattle.cmc_rules.specs.Sound.{shown, IsSoundTable}
+use Rattle.cmc_rules.specs.Sound.{views_shown, IsSoundTable}
 use Rattle.cmc_requestmanager.proofs.Table.{within, none}
 
-told : (seen : Views) → request_manager seen ≡ request_manager (shown RequestManager seen)
+told : (seen : Views) → request_manager seen ≡ request_manager (views_shown RequestManager seen)
 unfolding request_manager
 told seen = refl
 

@@ -22,7 +22,7 @@ use Rattle.cmc_rules.specs.Triggering.{is_issuing}
 use Rattle.cmc_rules.specs.Revising.{delete_of}
 use Rattle.cmc_rules.specs.NextKeys.{named_key}
 use Rattle.cmc_rules.specs.NextRequests.{is_next, next_requests}
-use Rattle.cmc_rules.specs.RequestManaging.{body_of, ask_signature, make_request, is_stale, stale_request, ask_with, by_count, by_stale, with_file, with_key, request_of, request_manager, signed_by, signed_in, signed_with, signed_for, request_after}
+use Rattle.cmc_rules.specs.RequestManaging.{body_of, ask_signature, make_request, is_stale, stale_request, ask_with, by_count, by_stale, with_request_file, with_key, request_of, request_manager, signed_by, signed_in, signed_with, signed_for, request_after}
 use Rattle.cmc_rules.specs.Sighting.{IsAmong}
 use Rattle.cmc_rules.specs.Sound.{IsFollowed, IsWithin}
 use Rattle.cmc_rules.proofs.Sights.{found_among, left_among, last_among}
@@ -89,7 +89,7 @@ stale_is seen now c k file (Some stale) r is =
     dropping seen now stale (found_among wrong seen.requests stale is)
 
 file_is : (seen : Views) (now : ℤ) (c : Certificate) (k : SecretObject) (o : Option (List ℕ)) → seen.certificate ≡ Some c → named_key c.status.next_key seen.next ≡ Some k → key_in k ≡ o
-    → Is seen now (with_file c seen.requests o)
+    → Is seen now (with_request_file c seen.requests o)
 file_is seen now c k None sees key is = tt
 file_is seen now c k (Some file) sees key is =
     by_test (Is seen now) (fits c.spec.key file) _ _ (λ on. stale_is seen now c k file (stale_request c file seen.requests) (record { sees = sees; key = key; is_file = is }) refl) (λ off. tt)

@@ -13,7 +13,7 @@ use Rattle.cmc_model.specs.Stored.{created}
 use Rattle.cmc_rules.specs.Revising.{delete_call}
 use Rattle.cmc_rules.specs.RequestManaging.{request_spec, new_request, make_request, request_after}
 use Rattle.cmc_rules.specs.Sighting.{IsAmong, OnSeen}
-use Rattle.cmc_rules.specs.Sound.{IsOfCertificate, IsAnswer, IsWithin}
+use Rattle.cmc_rules.specs.Sound.{IsOfCertificate, IsWriteAfterValue, IsWithin}
 use Rattle.cmc_rules.proofs.Sights.{seen_owned}
 
 -- the deletion of a request
@@ -45,7 +45,7 @@ of_certificate seen c a made sees issuer duration is =
     subst (IsOfCertificate seen) (is_that a made is) (record { certificate = c; sees = sees; issuer = issuer; duration = duration })
 
 pub making : (seen : Views) (now : ℤ) (value : Value) (c : Certificate) (k : SecretObject) (request : List ℕ) → seen.certificate ≡ Some c
-    → OnSeen (IsAnswer RequestManager seen now value) seen (make_request c k request)
+    → OnSeen (IsWriteAfterValue RequestManager seen now value) seen (make_request c k request)
 unfolding make_request new_request request_spec created named refusing_rule OnSeen
 making seen now value c k request sees = λ name. record {
   makes = λ next at. record {

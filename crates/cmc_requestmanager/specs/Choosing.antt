@@ -7,7 +7,7 @@ use Rattle.cmc_rules.specs.RequestManaging.{ask_signature}
 use Rattle.cmc_requestmanager.specs.declared.choices.Choice.{Choice}
 use Rattle.cmc_requestmanager.specs.declared.choices.Choice.TheVariants as choices
 
-abbrev pub act_of : Choice → Act
-act_of choices.Nothing = Nothing
-act_of (choices.Delete request) = delete_call request.now
-act_of (choices.Ask certificate file key) = ask_signature certificate.now file.now (key_shown key)
+abbrev pub request_act_of : Choice → Act
+request_act_of choices.Nothing = Nothing
+request_act_of (choices.Delete request) = delete_call request.now
+request_act_of (choices.Ask certificate file key) = ask_signature certificate.now file.now (key_shown key)

@@ -6,7 +6,7 @@ ghost use Rattle.cmc_der.specs.Keys.{key_shown};
 ghost use Rattle.cmc_x509.specs.ReadKeys.{key_file_at};
 ghost use Rattle.cmc_objects.specs.KeyPairs.{key_read};
 ghost use Rattle.cmc_pass.specs.declared.pass.Act.TheVariants.{Nothing};
-ghost use Rattle.cmc_requestmanager.specs.Choosing.{act_of};
+ghost use Rattle.cmc_requestmanager.specs.Choosing.{request_act_of};
 ghost use Rattle.cmc_rules.specs.NextRequests as next_words;
 ghost use Rattle.cmc_rules.specs.RequestManaging as table;
 ghost use Rattle.cmc_rules.specs.Revising as revising;
@@ -79,7 +79,7 @@ fn last_next<'a>(
 }
 
 fn delete_of<'a>(request: Option<&'a Shared<CertificateRequest>>) -> Choice<'a>
-    ensures { act_of result ≡ revising.delete_of (option_copied request.entry) }
+    ensures { request_act_of result ≡ revising.delete_of (option_copied request.entry) }
 {
     match request {
         None => Choice::Nothing,
@@ -92,7 +92,7 @@ fn ask_with<'a>(
     file: &'a Bytes,
     public: &Option<Spki<'a>>,
 ) -> Choice<'a>
-    ensures { act_of result ≡ table.ask_with certificate.now file.now (option_map key_shown public.now) }
+    ensures { request_act_of result ≡ table.ask_with certificate.now file.now (option_map key_shown public.now) }
 {
     match public {
         None => Choice::Nothing,
@@ -112,7 +112,7 @@ fn by_count<'a>(
 ) -> Choice<'a>
     requires revision { next_words.HasNextRevision (Some certificate.now) }
     requires public { option_map key_shown public.now ≡ key_file_at file.now }
-    ensures { act_of result ≡ table.by_count certificate.now file.now (next_words.next_requests certificate.now requests.now) }
+    ensures { request_act_of result ≡ table.by_count certificate.now file.now (next_words.next_requests certificate.now requests.now) }
 {
     let count = next_count(certificate, requests);
     if count == 0 {
@@ -132,7 +132,7 @@ fn by_stale<'a>(
 ) -> Choice<'a>
     requires revision { next_words.HasNextRevision (Some certificate.now) }
     requires public { option_map key_shown public.now ≡ key_file_at file.now }
-    ensures { act_of result ≡ table.by_stale certificate.now file.now requests.now (table.stale_request certificate.now file.now requests.now) }
+    ensures { request_act_of result ≡ table.by_stale certificate.now file.now requests.now (table.stale_request certificate.now file.now requests.now) }
 {
     match stale_request(certificate, file.as_slice(), public, requests) {
         None => by_count(certificate, file, public, requests),
@@ -148,7 +148,7 @@ fn with_file<'a>(
 ) -> Choice<'a>
     requires revision { next_words.HasNextRevision (Some certificate.now) }
     requires public { option_map key_shown public.now ≡ key_read (option_copied file) }
-    ensures { act_of result ≡ table.with_file certificate.now requests.now (option_copied file.entry) }
+    ensures { request_act_of result ≡ table.with_request_file certificate.now requests.now (option_copied file.entry) }
 {
     match file {
         Some(file) if key_fits_as_read(&certificate.spec.key, file.as_slice(), public) => {
@@ -164,7 +164,7 @@ fn with_key<'a>(
     secret: Option<&'a Shared<Secret>>,
 ) -> Choice<'a>
     requires { next_words.HasNextRevision (Some certificate.now) }
-    ensures { act_of result ≡ table.with_key certificate.now requests.now (option_copied secret.entry) }
+    ensures { request_act_of result ≡ table.with_key certificate.now requests.now (option_copied secret.entry) }
 {
     match secret {
         None => Choice::Nothing,
@@ -178,7 +178,7 @@ fn request_for<'a>(
     requests: &'a [Shared<CertificateRequest>],
 ) -> Choice<'a>
     requires { next_words.HasNextRevision (Some certificate.now) }
-    ensures { act_of result ≡ table.request_for certificate.now next.now requests.now }
+    ensures { request_act_of result ≡ table.request_act_for certificate.now next.now requests.now }
 {
     if !is_issuing(certificate) {
         return Choice::Nothing;
@@ -191,7 +191,7 @@ fn request_for<'a>(
 #[tactic(auto, unfolding(cmc_rules::specs::RequestManaging::request_manager))]
 fn choose<'a>(views: &'a Views) -> Choice<'a>
     requires { next_words.HasNextRevision views.now.certificate }
-    ensures { act_of result ≡ table.request_manager views.now }
+    ensures { request_act_of result ≡ table.request_manager views.now }
 {
     match &views.certificate {
         None => Choice::Nothing,

@@ -1,7 +1,7 @@
 //! What the controller chooses to do, and the act of it.
 ghost use Rattle.std.specs.Prelude.{◌≡◌, ◌↔◌, IfOk, IsTrue};
 ghost use Rattle.cmc_pass.specs.declared.pass.Act.TheVariants.{Nothing};
-ghost use Rattle.cmc_requestmanager.specs.Choosing.{act_of};
+ghost use Rattle.cmc_requestmanager.specs.Choosing.{request_act_of};
 
 use crate::calls::delete_call;
 use crate::questions::ask_signature;
@@ -30,7 +30,7 @@ pub enum Choice<'a> {
 /// Whether nothing is chosen.
 #[tactic(auto, unfolding(cmc_rules::specs::Revising::delete_call, cmc_rules::specs::RequestManaging::ask_signature))]
 pub fn is_nothing(choice: Choice<'_>) -> bool
-    ensures { IsTrue result ↔ (act_of choice.entry ≡ Nothing) }
+    ensures { IsTrue result ↔ (request_act_of choice.entry ≡ Nothing) }
 {
     matches!(choice, Choice::Nothing)
 }
@@ -41,7 +41,7 @@ pub fn is_nothing(choice: Choice<'_>) -> bool
 ///
 /// Want of memory alone.
 pub fn build(alloc: Global, choice: Choice<'_>) -> Result<Act, AllocError>
-    ensures { IfOk result (λ a. a ≡ act_of choice.entry) }
+    ensures { IfOk result (λ a. a ≡ request_act_of choice.entry) }
 {
     match choice {
         Choice::Nothing => Ok(Act::Nothing),

@@ -3,7 +3,7 @@
 ghost use Rattle.std.specs.Prelude.{◌≡◌, ◌<◌, ◌^◌, [], IfOk, IsSome, true};
 ghost use Rattle.cmc_objects.specs.declared.orders.Order.TheVariants as orders;
 ghost use Rattle.cmc_pass.specs.declared.pass.Act.TheVariants as acts;
-ghost use Rattle.cmc_rules.specs.Granting.{HasForm, issuer};
+ghost use Rattle.cmc_rules.specs.Granting.{HasRequestForm, issuer};
 ghost use Rattle.cmc_objects.specs.Requests.{is_short_text, is_short_option, is_duration_form, is_request_form};
 
 use crate::checks::{tells, tells_at};
@@ -339,7 +339,7 @@ fn request_of(alloc: Global, case: &Case) -> Result<CertificateRequest, Fail>
 }
 
 fn views_of(alloc: Global, case: &Case) -> Result<Views, Fail>
-    ensures { IfOk result (λ v. HasForm v.request) }
+    ensures { IfOk result (λ v. HasRequestForm v.request) }
 {
     let mut views = Views::new(alloc);
     views.request = None;
@@ -360,7 +360,7 @@ fn asked(alloc: Global, count: u32) -> Desk
 
 #[tactic(auto, unfolding(cmc_rules::specs::Orders::reply_row))]
 fn told_on(alloc: Global, views: &Views, count: u32) -> Result<String, AllocError>
-    requires { HasForm views.now.request }
+    requires { HasRequestForm views.now.request }
 {
     let desk = asked(alloc, count);
     told_then(alloc, act(alloc, views, NOW, &desk)?)
@@ -483,7 +483,7 @@ fn order_in(act: Act) -> Result<Shared<SignOrder>, Fail>
 /// The question about the request.
 #[tactic(auto, unfolding(cmc_rules::specs::Orders::reply_row))]
 fn question(alloc: Global, views: &Views, desk: &Desk) -> Result<Shared<SignOrder>, Fail>
-    requires form { HasForm views.now.request }
+    requires form { HasRequestForm views.now.request }
     requires few { desk.now.asked < 2 ^ 63 }
     requires plain { desk.now.material ≡ [] }
     ensures { IfOk result (λ order. issuer views.now NOW desk.now ≡ acts.Ask (orders.Sign order)) }
@@ -507,7 +507,7 @@ fn answered(
 }
 
 fn views_with(alloc: Global, case: &Case) -> Result<Views, Fail>
-    ensures form { IfOk result (λ v. HasForm v.request) }
+    ensures form { IfOk result (λ v. HasRequestForm v.request) }
     ensures stands { IfOk result (λ v. IsSome v.request) }
 {
     let mut views = Views::new(alloc);
@@ -544,7 +544,7 @@ static ASKED_ONCE: Case = OPEN;
 
 #[tactic(auto, unfolding(cmc_rules::specs::Granting::answered_after))]
 fn scripted(alloc: Global, views: &Views) -> Result<String, Fail>
-    requires form { HasForm views.now.request }
+    requires form { HasRequestForm views.now.request }
     requires stands { IsSome views.now.request }
 {
     let desk = asked(alloc, 0);
@@ -556,7 +556,7 @@ fn scripted(alloc: Global, views: &Views) -> Result<String, Fail>
 /// The same, where question and answer are handed in each by itself.
 #[tactic(auto, unfolding(cmc_rules::specs::Granting::answered_after))]
 fn scripted_apart(alloc: Global, views: &Views) -> Result<String, Fail>
-    requires form { HasForm views.now.request }
+    requires form { HasRequestForm views.now.request }
     requires stands { IsSome views.now.request }
 {
     let desk = asked(alloc, 0);

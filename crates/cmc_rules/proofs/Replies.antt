@@ -10,8 +10,8 @@ use Rattle.cmc_objects.specs.declared.rows.Rows.{Rows}
 use Rattle.cmc_objects.specs.declared.rows.KeyRow.{KeyRow}
 use Rattle.cmc_objects.specs.declared.rows.KeyRow.TheVariants.{Default}
 use Rattle.cmc_objects.specs.declared.rows.SignRow.{SignRow}
-use Rattle.cmc_objects.specs.Materials.{rows_at}
-use Rattle.cmc_rules.specs.Orders.{default_row, last_or, key_row_in, key_row, reply_row_in, reply_row}
+use Rattle.cmc_objects.specs.Materials.{rows_under}
+use Rattle.cmc_rules.specs.Orders.{default_row, last_or, key_row_for, key_row, reply_row_for, reply_row}
 
 last_fits : (fits : SignRow → Bool) (rows : List SignRow) (row : SignRow) → fits row ≡ true → list_all fits rows ≡ true → fits (last_or row rows) ≡ true
 last_fits fits [] row is all = is
@@ -26,12 +26,12 @@ by_key : (P : Rows → Type 0) (b : Bool) (rows : Rows) (later : Option Rows) �
 by_key P true rows later here there = here
 by_key P false rows later here there = there
 
-found_fits : (P : Rows → Type 0) (test : Key × Rows → Bool) (material : List (Key × Rows)) (sought : Key) → ((e : Key × Rows) → test e ≡ true → P e.1) → list_all test material ≡ true → IfSome (rows_at material sought) P
+found_fits : (P : Rows → Type 0) (test : Key × Rows → Bool) (material : List (Key × Rows)) (sought : Key) → ((e : Key × Rows) → test e ≡ true → P e.1) → list_all test material ≡ true → IfSome (rows_under material sought) P
 found_fits P test [] sought gives all = tt
 found_fits P test (e ∷ es) sought gives all =
-    let parts = and_parts (test e) (list_all test es) all in by_key P (is_at (key_cmp sought) e.0) e.1 (rows_at es sought) (gives e parts.0) (found_fits P test es sought gives parts.1)
+    let parts = and_parts (test e) (list_all test es) all in by_key P (is_at (key_cmp sought) e.0) e.1 (rows_under es sought) (gives e parts.0) (found_fits P test es sought gives parts.1)
 
-reply_in : (fits : SignRow → Bool) (rows : Option Rows) (asked : ℕ) → fits default_row ≡ true → IfSome rows (λ r. list_all fits r.replies ≡ true) → fits (reply_row_in rows asked) ≡ true
+reply_in : (fits : SignRow → Bool) (rows : Option Rows) (asked : ℕ) → fits default_row ≡ true → IfSome rows (λ r. list_all fits r.replies ≡ true) → fits (reply_row_for rows asked) ≡ true
 reply_in fits None asked usual all = usual
 reply_in fits (Some rows) asked usual all = place_fits fits rows.replies asked (last_or default_row rows.replies) (last_fits fits rows.replies default_row usual all) all
 
@@ -40,9 +40,9 @@ pub reply_row_fits : (fits : SignRow → Bool) (test : Key × Rows → Bool) (ma
     → list_all test material ≡ true → fits (reply_row material certificate asked) ≡ true
 unfolding reply_row
 reply_row_fits fits test material certificate asked usual gives all =
-    reply_in fits (rows_at material certificate) asked usual (found_fits (λ r. list_all fits r.replies ≡ true) test material certificate gives all)
+    reply_in fits (rows_under material certificate) asked usual (found_fits (λ r. list_all fits r.replies ≡ true) test material certificate gives all)
 
-key_in : (fits : KeyRow → Bool) (rows : Option Rows) (asked : ℕ) → fits Default ≡ true → IfSome rows (λ r. list_all fits r.keys ≡ true) → fits (key_row_in rows asked) ≡ true
+key_in : (fits : KeyRow → Bool) (rows : Option Rows) (asked : ℕ) → fits Default ≡ true → IfSome rows (λ r. list_all fits r.keys ≡ true) → fits (key_row_for rows asked) ≡ true
 key_in fits None asked usual all = usual
 key_in fits (Some rows) asked usual all = place_fits fits rows.keys asked Default usual all
 
@@ -50,4 +50,4 @@ pub key_row_fits : (fits : KeyRow → Bool) (test : Key × Rows → Bool) (mater
     → list_all test material ≡ true → fits (key_row material certificate asked) ≡ true
 unfolding key_row
 key_row_fits fits test material certificate asked usual gives all =
-    key_in fits (rows_at material certificate) asked usual (found_fits (λ r. list_all fits r.keys ≡ true) test material certificate gives all)
+    key_in fits (rows_under material certificate) asked usual (found_fits (λ r. list_all fits r.keys ≡ true) test material certificate gives all)

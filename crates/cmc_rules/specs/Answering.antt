@@ -9,18 +9,18 @@ use Rattle.cmc_objects.specs.declared.orders.Signing.{Signing}
 use Rattle.cmc_objects.specs.declared.orders.Signing.TheVariants.{Issued, Pending, Failed}
 use Rattle.cmc_objects.specs.declared.request.RequestStatus.{RequestStatus}
 
-abbrev pub ready_condition : Tri → List ℕ → List ℕ → ℤ → Condition
-ready_condition status reason message moment = record { kind = Ready; status = status; reason = reason; message = message; since = moment }
+abbrev pub answer_condition : Tri → List ℕ → List ℕ → ℤ → Condition
+answer_condition status reason message moment = record { kind = Ready; status = status; reason = reason; message = message; since = moment }
 
 -- a certificate that was issued is ready
 unfoldable pub issued_condition : ℤ → Condition
-issued_condition moment = ready_condition True (codes "Issued") (codes "Certificate fetched from issuer successfully") moment
+issued_condition moment = answer_condition True (codes "Issued") (codes "Certificate fetched from issuer successfully") moment
 
 unfoldable pub pending_condition : ℤ → Condition
-pending_condition moment = ready_condition False (codes "Pending") (codes "Waiting on the issuer") moment
+pending_condition moment = answer_condition False (codes "Pending") (codes "Waiting on the issuer") moment
 
 unfoldable pub failed_condition : List ℕ → ℤ → Condition
-failed_condition message moment = ready_condition False (codes "Failed") message moment
+failed_condition message moment = answer_condition False (codes "Failed") message moment
 
 -- The status after the answer: what is issued stands with the CA's certificate, an answer that is pending renews the moment, and
 -- a failure has one. Nothing else changes.

@@ -70,18 +70,18 @@ denied_for moment denial = record { kind = kinds.Denied; status = tri.True; reas
 unfoldable pub judged_status : Condition → RequestStatus → RequestStatus
 judged_status verdict status = record status { conditions = transitioned status.conditions verdict }
 
-unfoldable pub judge_call : Condition → CertificateRequest → Call
-judge_call verdict r = UpdateStatus (Request (record r { status = judged_status verdict r.status })) r.meta.version
+unfoldable pub verdict_call : Condition → CertificateRequest → Call
+verdict_call verdict r = UpdateStatus (Request (record r { status = judged_status verdict r.status })) r.meta.version
 
 -- ---- the table
 
 -- the issuer is one of these, or all are meant
-abbrev pub is_listed : List ℕ → List (List ℕ) → Bool
-is_listed issuer names = list_any (λ name. bytes_eq name issuer || bytes_eq name (codes "*")) names
+abbrev pub is_listed_issuer : List ℕ → List (List ℕ) → Bool
+is_listed_issuer issuer names = list_any (λ name. bytes_eq name issuer || bytes_eq name (codes "*")) names
 
 -- the approver judges requests to these issuers of cert-manager's own group
 abbrev pub is_covered : Rules → IssuerRef → Bool
-is_covered rules issuer = bytes_eq (issuer_group issuer) (codes "cert-manager.io") && is_listed issuer.name rules.issuers
+is_covered rules issuer = bytes_eq (issuer_group issuer) (codes "cert-manager.io") && is_listed_issuer issuer.name rules.issuers
 
 unfoldable pub ask_judgement : CertificateRequest → Rules → Act
 ask_judgement r rules = Asks (orders.Judge (record { request = r; rules = rules }))
@@ -106,7 +106,7 @@ verdict_by moment false (Some denial) = Some (denied_for moment denial)
 
 abbrev pub judged_by : CertificateRequest → Option Condition → Option Call
 judged_by r None = None
-judged_by r (Some verdict) = Some (judge_call verdict r)
+judged_by r (Some verdict) = Some (verdict_call verdict r)
 
 abbrev pub judged_for : Option CertificateRequest → Option Condition → Option Call
 judged_for None verdict = None

@@ -1,7 +1,7 @@
 -- What a role decides by beside its views.
 use Rattle.std.specs.Prelude.{ℕ, ◌+◌, Bool, false, ◌&&◌, List, [], ◌∷◌, codes, Option, Some, None, unwrap_or, if◌then◌else◌}
 use Rattle.std.specs.Str.{bytes_eq}
-use Rattle.cmc_meta.specs.PairLists.{text_at}
+use Rattle.cmc_meta.specs.PairLists.{text_by_key}
 use Rattle.cmc_objects.specs.declared.certificate.Certificate.{Certificate}
 use Rattle.cmc_objects.specs.declared.request.CertificateRequest.{CertificateRequest}
 use Rattle.cmc_objects.specs.declared.orders.Order.{Order}
@@ -16,7 +16,7 @@ use Rattle.cmc_model.specs.Histories.{Setting}
 
 -- the name of the Certificate that a request is for; its own where it names none
 abbrev pub certificate_named : CertificateRequest → List ℕ
-certificate_named r = unwrap_or (text_at r.meta.annotations (codes "cert-manager.io/certificate-name")) r.meta.name
+certificate_named r = unwrap_or (text_by_key r.meta.annotations (codes "cert-manager.io/certificate-name")) r.meta.name
 
 -- whether the question is for a key of the Certificate's name, and whether it is one to the issuer for the Certificate of the request
 abbrev pub asks_key : Option Certificate → Order → Bool

@@ -21,7 +21,7 @@ use Rattle.cmc_model.specs.Histories.{Setting, moment, objects, accepted, role_e
 use Rattle.cmc_model.specs.Writes.{kind_eq}
 use Rattle.cmc_rules.specs.Passes.{open_pass}
 use Rattle.cmc_rules.specs.Scripting.{scripted, step_at, held}
-use Rattle.cmc_rules.specs.UserWrites.{approval, denial, reply_of_issuer, renewal_of}
+use Rattle.cmc_rules.specs.UserWrites.{approval_call, denial, reply_of_issuer, renewal_of}
 use Rattle.cmc_rules.specs.Resting.{IsAtRest}
 
 -- an apply creates where the key is free; else, and wherever a version is named, it updates
@@ -34,7 +34,7 @@ apply_call object None (Some old) = Update object (version_of old)
 unfoldable pub call_of : ℤ → Objects → Step → Option Call
 call_of moment objects (steps.Apply object version) = Some (apply_call object version (object_at objects (key_of object)))
 call_of moment objects (steps.Delete key version) = Some (Delete key version)
-call_of moment objects (steps.Approve certificate revision) = approval moment objects certificate revision
+call_of moment objects (steps.Approve certificate revision) = approval_call moment objects certificate revision
 call_of moment objects (steps.Deny certificate revision) = denial moment objects certificate revision
 call_of moment objects (steps.Answer certificate revision row) = reply_of_issuer moment objects certificate revision row
 call_of moment objects (steps.Renew certificate) = renewal_of moment (object_at objects certificate)
@@ -83,13 +83,13 @@ owed s (other ∷ h) = None
 
 -- ---- how long a step waits
 
-abbrev pub is_by : Role → Option OpenPass → Bool
-is_by role None = false
-is_by role (Some p) = role_eq p.role role
+abbrev pub is_pass_by : Role → Option OpenPass → Bool
+is_pass_by role None = false
+is_pass_by role (Some p) = role_eq p.role role
 
 abbrev pub is_write_by : Setting → List Entry → Role → Kind → Who → Call → Bool
 is_write_by s h r k User call = false
-is_write_by s h r k (Pass pass) call = kind_eq (key_of_call call).kind k && is_by r (open_pass s h pass)
+is_write_by s h r k (Pass pass) call = kind_eq (key_of_call call).kind k && is_pass_by r (open_pass s h pass)
 
 abbrev pub written_with : Setting → List Entry → Role → Kind → ℕ → Entry → ℕ
 written_with s h r k n (Called who call reply) = if is_accepted reply && is_write_by s h r k who call then n + 1 else n

@@ -23,7 +23,7 @@ use Rattle.cmc_pass.specs.declared.pass.Act.{Act}
 use Rattle.cmc_pass.specs.declared.pass.Act.TheVariants.{Nothing, Call as Calls, Ask as Asks}
 use Rattle.cmc_pass.specs.declared.value.Value.{Value}
 use Rattle.cmc_pass.specs.declared.value.Value.TheVariants.{Made, Signed, Answered, Judged}
-use Rattle.cmc_rules.specs.Answering.{ready_condition, answered}
+use Rattle.cmc_rules.specs.Answering.{answer_condition, answered}
 use Rattle.cmc_rules.specs.Desks.{certificate_named}
 use Rattle.cmc_rules.specs.Orders.{reply_row}
 
@@ -50,8 +50,8 @@ abbrev pub is_waiting_on : ℤ → Option Condition → Bool
 is_waiting_on moment None = false
 is_waiting_on moment (Some ready) = bytes_eq ready.reason (codes "Pending") && int_lt moment (ready.since +ℤ pos 60)
 
-abbrev pub is_waiting : ℤ → CertificateRequest → Bool
-is_waiting moment r = is_waiting_on moment (condition_at r.status.conditions kinds.Ready)
+abbrev pub is_request_waiting : ℤ → CertificateRequest → Bool
+is_request_waiting moment r = is_waiting_on moment (condition_at r.status.conditions kinds.Ready)
 
 -- ---- the writes
 
@@ -60,7 +60,7 @@ unfoldable pub status_call : RequestStatus → CertificateRequest → Call
 status_call status r = UpdateStatus (Request (record r { status = status })) r.meta.version
 
 unfoldable pub denied_condition : ℤ → Condition
-denied_condition moment = ready_condition tri.False (codes "Denied") (codes "The CertificateRequest was denied by an approval controller") moment
+denied_condition moment = answer_condition tri.False (codes "Denied") (codes "The CertificateRequest was denied by an approval controller") moment
 
 -- a denied request has failed
 unfoldable pub denied_status : RequestStatus → ℤ → RequestStatus
@@ -83,18 +83,18 @@ unfoldable pub ask_issuer : ℤ → Desk → CertificateRequest → Act
 ask_issuer moment desk r = Asks (orders.Sign (sign_order moment desk r))
 
 -- the request is of the form that can be asked about, and the answer that is set out of a form that can be given
-abbrev pub HasForm : Option CertificateRequest → Type 0
-HasForm None = Unit {0}
-HasForm (Some r) = is_request_form r ≡ true
+abbrev pub HasRequestForm : Option CertificateRequest → Type 0
+HasRequestForm None = Unit {0}
+HasRequestForm (Some r) = is_request_form r ≡ true
 
-abbrev pub HasReplyForm : Option CertificateRequest → Desk → Type 0
-HasReplyForm None desk = Unit {0}
-HasReplyForm (Some r) desk = is_row_form (reply_row desk.material (certificate_of r) desk.asked) ≡ true
+abbrev pub HasReplyRowForm : Option CertificateRequest → Desk → Type 0
+HasReplyRowForm None desk = Unit {0}
+HasReplyRowForm (Some r) desk = is_row_form (reply_row desk.material (certificate_of r) desk.asked) ≡ true
 
 -- ---- the table
 
 abbrev pub grant : ℤ → Desk → CertificateRequest → Act
-grant moment desk r = if is_open r then (if is_waiting moment r then Nothing else ask_issuer moment desk r) else Nothing
+grant moment desk r = if is_open r then (if is_request_waiting moment r then Nothing else ask_issuer moment desk r) else Nothing
 
 -- a request that is denied is marked so, whoever its issuer is
 abbrev pub grant_one : ℤ → Desk → CertificateRequest → Act

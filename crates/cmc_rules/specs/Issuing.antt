@@ -8,7 +8,7 @@ use Rattle.cmc_meta.specs.ConditionLists.{condition_at, transitioned, tri_eq}
 use Rattle.cmc_meta.specs.PairLists.{with_text}
 use Rattle.cmc_der.specs.Keys.{PublicKey, CertificateFields}
 use Rattle.cmc_x509.specs.ReadKeys.{key_file_at}
-use Rattle.cmc_x509.specs.ReadCertificates.{certificate_at}
+use Rattle.cmc_x509.specs.ReadCertificates.{certificate_fields_at}
 use Rattle.cmc_objects.specs.declared.certificate.Certificate.{Certificate}
 use Rattle.cmc_objects.specs.declared.certificate.CertStatus.{CertStatus}
 use Rattle.cmc_objects.specs.declared.request.CertificateRequest.{CertificateRequest}
@@ -19,7 +19,7 @@ use Rattle.cmc_objects.specs.declared.call.Call.TheVariants.{Create, Update, Upd
 use Rattle.cmc_objects.specs.Objects.{key_of}
 use Rattle.cmc_objects.specs.Defaults.{issuer_kind, issuer_group}
 use Rattle.cmc_objects.specs.Requests.{is_approved, is_denied}
-use Rattle.cmc_objects.specs.KeyPairs.{is_one_key, with_key}
+use Rattle.cmc_objects.specs.KeyPairs.{is_one_key, fields_with_key}
 use Rattle.cmc_match.specs.Facts.{key_in, fits, pair_in}
 use Rattle.cmc_match.specs.Marks.{is_next_key, is_temporary, asks_for_temporary}
 use Rattle.cmc_match.specs.Revisions.{next_request}
@@ -169,7 +169,7 @@ is_some_pair None = false
 is_some_pair (Some fields) = true
 
 abbrev pub is_certified : List ℕ → List ℕ → Bool
-is_certified file certificate = is_some_pair (with_key (key_file_at file) (certificate_at certificate))
+is_certified file certificate = is_some_pair (fields_with_key (key_file_at file) (certificate_fields_at certificate))
 
 -- the Secret of that name holds a next key itself
 abbrev pub is_kept_for_keys : Option SecretObject → Bool
@@ -193,15 +193,15 @@ lacks_certificate file (Some k) = lacks_pair file k (pair_in k)
 -- ---- the table
 
 -- a stand-in certificate of at most 16 MiB
-abbrev pub stand_in_with : Certificate → List ℕ → Option SecretObject → Option (List ℕ) → Act
-stand_in_with c file target None = Nothing
-stand_in_with c file target (Some certificate) = if nat_le (length certificate) 16777216 then Temporary (temporary_plan c file certificate target) else Nothing
+abbrev pub temporary_with : Certificate → List ℕ → Option SecretObject → Option (List ℕ) → Act
+temporary_with c file target None = Nothing
+temporary_with c file target (Some certificate) = if nat_le (length certificate) 16777216 then Temporary (temporary_plan c file certificate target) else Nothing
 
 -- while the request waits, where the Certificate asks for one and nothing better stands
 abbrev pub while_waiting : ℤ → Certificate → List ℕ → Option SecretObject → CertificateRequest → Act
 while_waiting moment c file target r =
     if asks_for_temporary c && (not (is_denied r) && (not (is_kept_for_keys target) && lacks_certificate file target))
-    then stand_in_with c file target (temporary r.spec.request file moment)
+    then temporary_with c file target (temporary r.spec.request file moment)
     else Nothing
 
 -- what was issued is written, unless it does not belong to the key

@@ -8,7 +8,7 @@ use Rattle.cmc_meta.specs.ConditionLists.{condition_at, tri_eq}
 use Rattle.cmc_objects.specs.declared.certificate.Certificate.{Certificate}
 use Rattle.cmc_objects.specs.declared.request.CertificateRequest.{CertificateRequest}
 use Rattle.cmc_match.specs.Matching.{matches, has_key}
-use Rattle.cmc_match.specs.Revisions.{is_of}
+use Rattle.cmc_match.specs.Revisions.{is_of_revision}
 
 -- the revision that is issued: the one behind the revision that stands
 abbrev pub next_revision : Certificate → ℕ
@@ -21,7 +21,7 @@ HasNextRevision (Some c) = unwrap_or c.status.revision 0 < 2 ^ 63
 
 -- the request is for the next revision; those that are, in the order in which they stand
 abbrev pub is_next : Certificate → CertificateRequest → Bool
-is_next c r = is_of (next_revision c) r
+is_next c r = is_of_revision (next_revision c) r
 
 abbrev pub next_requests : Certificate → List CertificateRequest → List CertificateRequest
 next_requests c requests = filter (is_next c) requests

@@ -36,20 +36,20 @@ use Rattle.cmc_rules.specs.Issuing.{issuing}
 -- ---- how far a pass comes
 
 -- the act is the plan of a stand-in certificate
-abbrev pub stands_in : Act → Bool
-stands_in (Temporary plan) = true
-stands_in other = false
+abbrev pub is_temporary_act : Act → Bool
+is_temporary_act (Temporary plan) = true
+is_temporary_act other = false
 
 -- the call writes a Secret that is marked as temporary
-abbrev pub is_stand_in : Object → Bool
-is_stand_in (Cert c) = false
-is_stand_in (Request r) = false
-is_stand_in (Secret k) = is_temporary k
+abbrev pub is_temporary_secret : Object → Bool
+is_temporary_secret (Cert c) = false
+is_temporary_secret (Request r) = false
+is_temporary_secret (Secret k) = is_temporary k
 
-abbrev pub writes_stand_in : Call → Bool
-writes_stand_in (Create object generate) = is_stand_in object
-writes_stand_in (Update object named) = is_stand_in object
-writes_stand_in other = false
+abbrev pub writes_temporary : Call → Bool
+writes_temporary (Create object generate) = is_temporary_secret object
+writes_temporary (Update object named) = is_temporary_secret object
+writes_temporary other = false
 
 -- the object that is read has the version of the Certificate that the pass saw
 abbrev pub is_as_seen : Option Certificate → Object → Bool
@@ -81,7 +81,7 @@ stage_by c stand_in stage entry kind last (Unavailable number) = Refused entry F
 -- Entries are numbered from 1 in the order of time. Only passes of issuing read live, and their act looks at no desk.
 abbrev pub stage_after : Setting → List Entry → Call → Reply → OpenPass → Stage
 stage_after s h call reply p =
-    stage_by p.seen.certificate (stands_in (issuing p.seen p.since)) p.stage (length h + 1) (key_of_call call).kind (last_under (key_of_call call) (writes s h)) reply
+    stage_by p.seen.certificate (is_temporary_act (issuing p.seen p.since)) p.stage (length h + 1) (key_of_call call).kind (last_under (key_of_call call) (writes s h)) reply
 
 -- a question that was asked has its value
 abbrev pub stage_given : Value → Stage → Stage

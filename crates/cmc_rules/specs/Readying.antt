@@ -51,11 +51,11 @@ ready_status condition renew pair status = record status {
 
 -- ---- whether the status is so already
 
-abbrev pub is_moment : Option ℤ → Option ℤ → Bool
-is_moment None None = true
-is_moment None (Some b) = false
-is_moment (Some a) None = false
-is_moment (Some a) (Some b) = int_eq a b
+abbrev pub is_same_moment : Option ℤ → Option ℤ → Bool
+is_same_moment None None = true
+is_same_moment None (Some b) = false
+is_same_moment (Some a) None = false
+is_same_moment (Some a) (Some b) = int_eq a b
 
 -- a condition stands that says the same; since when does not count
 abbrev pub says : Option Condition → Condition → Bool
@@ -65,7 +65,7 @@ says (Some old) new = tri_eq old.status new.status && (bytes_eq old.reason new.r
 unfoldable pub is_settled : Condition → Renew → Option CertificateFields → CertStatus → Bool
 is_settled condition renew pair status =
     says (condition_at status.conditions Ready) condition
-    && (is_moment status.not_before (begins_at pair) && (is_moment status.not_after (ends_at pair) && is_moment status.renewal (renews_at renew pair)))
+    && (is_same_moment status.not_before (begins_at pair) && (is_same_moment status.not_after (ends_at pair) && is_same_moment status.renewal (renews_at renew pair)))
 
 -- ---- the table
 

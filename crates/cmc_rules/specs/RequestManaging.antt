@@ -85,20 +85,20 @@ by_stale c file requests None = by_count c file (next_requests c requests)
 by_stale c file requests (Some stale) = delete_call stale
 
 -- nothing is done before a fitting key stands under the name that the status has
-abbrev pub with_file : Certificate → List CertificateRequest → Option (List ℕ) → Act
-with_file c requests None = Nothing
-with_file c requests (Some file) = if fits c.spec.key file then by_stale c file requests (stale_request c file requests) else Nothing
+abbrev pub with_request_file : Certificate → List CertificateRequest → Option (List ℕ) → Act
+with_request_file c requests None = Nothing
+with_request_file c requests (Some file) = if fits c.spec.key file then by_stale c file requests (stale_request c file requests) else Nothing
 
 abbrev pub with_key : Certificate → List CertificateRequest → Option SecretObject → Act
 with_key c requests None = Nothing
-with_key c requests (Some k) = with_file c requests (key_in k)
+with_key c requests (Some k) = with_request_file c requests (key_in k)
 
-abbrev pub request_for : Certificate → List SecretObject → List CertificateRequest → Act
-request_for c next requests = if is_issuing c then with_key c requests (named_key c.status.next_key next) else Nothing
+abbrev pub request_act_for : Certificate → List SecretObject → List CertificateRequest → Act
+request_act_for c next requests = if is_issuing c then with_key c requests (named_key c.status.next_key next) else Nothing
 
 abbrev pub request_of : Option Certificate → List SecretObject → List CertificateRequest → Act
 request_of None next requests = Nothing
-request_of (Some c) next requests = request_for c next requests
+request_of (Some c) next requests = request_act_for c next requests
 
 unfoldable pub request_manager : Views → Act
 request_manager views = request_of views.certificate views.next views.requests

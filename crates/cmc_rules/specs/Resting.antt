@@ -31,8 +31,8 @@ abbrev pub RestsOn : Setting → List Entry → Role → Key → Type 0
 RestsOn s h role key = MatchBool (has_held s h role) (IsPaused s h role key) (IsIdle s h role (present_views s h role key))
 
 -- the role was told of the last write of the kind, if it looks at the kind and its informer is not held
-abbrev pub IsToldAll : Setting → List Entry → Role → Kind → Type 0
-IsToldAll s h role kind = has_informer role kind ≡ true → held s h role kind ≡ false → last_of_kind kind (writes s h) ≤ position h role kind
+abbrev pub IsUpToDate : Setting → List Entry → Role → Kind → Type 0
+IsUpToDate s h role kind = has_informer role kind ≡ true → held s h role kind ≡ false → last_of_kind kind (writes s h) ≤ position h role kind
 
 -- it has nothing to do on any key that an accepted write named
 abbrev pub RestsOnKnown : Setting → List Entry → Role → Type 0
@@ -40,7 +40,7 @@ RestsOnKnown s h role = (key : Key) → is_known key (writes s h) ≡ true → R
 
 -- where the role runs, it was told of all that is not held from it, and has nothing to do
 abbrev pub RestsIn : Setting → List Entry → Role → Type 0
-RestsIn s h role = runs s h role ≡ true → ((kind : Kind) → IsToldAll s h role kind) × RestsOnKnown s h role
+RestsIn s h role = runs s h role ≡ true → ((kind : Kind) → IsUpToDate s h role kind) × RestsOnKnown s h role
 
 -- No pass is open, and each role rests.
 pub record IsAtRest (s : Setting) (h : List Entry) : Type 0 where

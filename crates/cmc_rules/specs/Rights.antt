@@ -75,9 +75,9 @@ OfRequests changes (Request old) (Request new) = KeepsMeta old.meta new.meta × 
 OfRequests changes old new = ⊥
 
 -- a request; a Secret with, or without, the label of a next private key
-abbrev pub IsRequest : Object → Type 0
-IsRequest (Request r) = Unit {0}
-IsRequest other = ⊥
+abbrev pub IsRequestObject : Object → Type 0
+IsRequestObject (Request r) = Unit {0}
+IsRequestObject other = ⊥
 
 abbrev pub IsLabelled : Bool → Object → Type 0
 IsLabelled label (Secret k) = has_next_label k.meta ≡ label
@@ -88,9 +88,9 @@ abbrev pub Makes : (Object → Type 0) → Option Object → Option Object → T
 Makes P None (Some new) = P new
 Makes P old new = ⊥
 
-abbrev pub Takes : (Object → Type 0) → Option Object → Option Object → Type 0
-Takes P (Some old) None = P old
-Takes P old new = ⊥
+abbrev pub DeletesWhere : (Object → Type 0) → Option Object → Option Object → Type 0
+DeletesWhere P (Some old) None = P old
+DeletesWhere P old new = ⊥
 
 abbrev pub Changes : (Object → Object → Type 0) → Option Object → Option Object → Type 0
 Changes P (Some old) (Some new) = P old new
@@ -101,14 +101,14 @@ Changes P old new = ⊥
 -- what the role may make of what stands under a key
 abbrev pub MayChange : Role → Option Object → Option Object → Type 0
 MayChange roles.Trigger old new = Changes (OfCertificates ChangesIssuing) old new
-MayChange roles.KeyManager old new = Makes (IsLabelled true) old new ⊎ (Takes (IsLabelled true) old new ⊎ Changes (OfCertificates ChangesNextKey) old new)
-MayChange roles.RequestManager old new = Makes IsRequest old new ⊎ Takes IsRequest old new
+MayChange roles.KeyManager old new = Makes (IsLabelled true) old new ⊎ (DeletesWhere (IsLabelled true) old new ⊎ Changes (OfCertificates ChangesNextKey) old new)
+MayChange roles.RequestManager old new = Makes IsRequestObject old new ⊎ DeletesWhere IsRequestObject old new
 MayChange roles.Approver old new = Changes (OfRequests ChangesVerdict) old new
 MayChange roles.Issuer old new = Changes (OfRequests ChangesAnswer) old new
 MayChange roles.Issuing old new =
     Makes (IsLabelled false) old new ⊎ (Changes (λ o n. IsLabelled false o × IsLabelled false n) old new ⊎ Changes (OfCertificates ChangesIssuance) old new)
 MayChange roles.Readiness old new = Changes (OfCertificates ChangesReadiness) old new
-MayChange roles.Revision old new = Takes IsRequest old new
+MayChange roles.Revision old new = DeletesWhere IsRequestObject old new
 
 -- ---- in a history
 

@@ -4,7 +4,7 @@ use Rattle.cmc_meta.specs.declared.key.Key.{Key}
 use Rattle.cmc_meta.specs.declared.conditions.ConditionKind.TheVariants as conditions
 use Rattle.cmc_meta.specs.declared.conditions.Tri.TheVariants as tri
 use Rattle.cmc_meta.specs.ConditionLists.{condition_at}
-use Rattle.cmc_meta.specs.PairLists.{text_at}
+use Rattle.cmc_meta.specs.PairLists.{text_by_key}
 use Rattle.cmc_objects.specs.declared.certificate.Certificate.{Certificate}
 use Rattle.cmc_objects.specs.declared.request.CertificateRequest.{CertificateRequest}
 use Rattle.cmc_objects.specs.declared.secret.Secret.{Secret as SecretObject}
@@ -26,7 +26,7 @@ use Rattle.cmc_objects.specs.Requests.{is_approved, is_denied}
 use Rattle.cmc_der.specs.Keys.{CertificateFields}
 use Rattle.cmc_match.specs.Marks.{is_temporary, asks_for_temporary}
 use Rattle.cmc_match.specs.Matching.{Matches}
-use Rattle.cmc_match.specs.Facts.{IsPair, HasRequestedKey, key_in, certificate_in}
+use Rattle.cmc_match.specs.Facts.{IsPair, HasRequestedKey, key_in, certificate_file_in}
 use Rattle.cmc_match.specs.Revisions.{only_of}
 use Rattle.cmc_answers.specs.Temporary.{temporary}
 use Rattle.cmc_pass.specs.declared.pass.Views.{Views}
@@ -43,9 +43,9 @@ use Rattle.cmc_rules.specs.Sighting.{IsAmong}
 use Rattle.cmc_rules.specs.Rights.{IsRightfulEntry}
 
 -- an entry of this kind stands in the history
-abbrev pub Stands : (Entry → Type 0) → List Entry → Type 0
-Stands P [] = ⊥
-Stands P (e ∷ h) = P e ⊎ Stands P h
+abbrev pub HasEntry : (Entry → Type 0) → List Entry → Type 0
+HasEntry P [] = ⊥
+HasEntry P (e ∷ h) = P e ⊎ HasEntry P h
 
 -- no version of the request's uid is denied, in the whole history
 abbrev pub IsNeverDenied : Setting → List Entry → CertificateRequest → Type 0
@@ -69,17 +69,17 @@ pub record IsOfIssuer (s : Setting) (whole : List Entry) (r : CertificateRequest
   pub approved : is_approved r ≡ true
   pub never_denied : IsNeverDenied s whole r
   pub issued : IsIssued r
-  pub certificate : certificate_in written ≡ Some r.status.certificate
+  pub certificate : certificate_file_in written ≡ Some r.status.certificate
 
 -- A stand-in certificate, which no issuer has signed: the Certificate asks for one, the request is not denied, and it is the one of the
 -- request and the key at the moment at which the pass began.
-pub record IsStandIn (c : Certificate) (r : CertificateRequest) (file : List ℕ) (since : ℤ) (written : SecretObject) : Type 0 where
+pub record IsTemporaryCertificate (c : Certificate) (r : CertificateRequest) (file : List ℕ) (since : ℤ) (written : SecretObject) : Type 0 where
   pub asked_for : asks_for_temporary c ≡ true
   pub not_denied : is_denied r ≡ false
   pub stand_in : List ℕ
   pub is_stand_in : temporary r.spec.request file since ≡ Some stand_in
-  pub certificate : certificate_in written ≡ Some stand_in
-  pub no_ca : text_at written.parts (codes "ca.crt") ≡ None
+  pub certificate : certificate_file_in written ≡ Some stand_in
+  pub no_ca : text_by_key written.parts (codes "ca.crt") ≡ None
 
 -- A good issue. Of what the pass saw: the Certificate, as it was read live; the one request of the revision in progress, which asks for
 -- what the Certificate asks for; and the key that the Certificate's status names. The Secret has the Certificate's namespace and the name
@@ -87,7 +87,7 @@ pub record IsStandIn (c : Certificate) (r : CertificateRequest) (file : List ℕ
 pub record IsGoodIssue (s : Setting) (whole h : List Entry) (pass : ℕ) (p : OpenPass) (written : SecretObject) : Type 0 where
   pub certificate : Certificate
   pub sees : p.seen.certificate ≡ Some certificate
-  pub read : Stands (IsLiveRead pass certificate) h
+  pub read : HasEntry (IsLiveRead pass certificate) h
   -- the request
   pub request : CertificateRequest
   pub next : only_of (revision_of_uid certificate.meta.uid (writes s h) + 1) p.seen.requests ≡ Some request
@@ -109,7 +109,7 @@ pub record IsGoodIssue (s : Setting) (whole h : List Entry) (pass : ℕ) (p : Op
   pub fields : CertificateFields
   pub pair : IsPair written fields
   pub requested : HasRequestedKey certificate.spec.key written request
-  pub signed : MatchBool (is_temporary written) (IsStandIn certificate request file p.since written) (IsOfIssuer s whole request written)
+  pub signed : MatchBool (is_temporary written) (IsTemporaryCertificate certificate request file p.since written) (IsOfIssuer s whole request written)
 
 abbrev pub WritesWell : Setting → List Entry → List Entry → ℕ → OpenPass → Option Object → Type 0
 WritesWell s whole h pass p new = (written : SecretObject) → p.role ≡ roles.Issuing → new ≡ Some (Secret written) → IsGoodIssue s whole h pass p written
@@ -122,13 +122,13 @@ IsSecretWrite (Create (Secret k) generate) = is_temporary k ≡ false
 IsSecretWrite (Update (Secret k) named) = is_temporary k ≡ false
 IsSecretWrite other = ⊥
 
-abbrev pub IsServed : Reply → Type 0
-IsServed (replies.Ok version name) = Unit {0}
-IsServed (replies.Unchanged version) = Unit {0}
-IsServed other = ⊥
+abbrev pub IsServedReply : Reply → Type 0
+IsServedReply (replies.Ok version name) = Unit {0}
+IsServedReply (replies.Unchanged version) = Unit {0}
+IsServedReply other = ⊥
 
 abbrev pub IsSecretSaved : ℕ → Entry → Type 0
-IsSecretSaved pass e = (call : Call) × (reply : Reply) × (e ≡ Called (Pass pass) call reply) × IsSecretWrite call × IsServed reply
+IsSecretSaved pass e = (call : Call) × (reply : Reply) × (e ≡ Called (Pass pass) call reply) × IsSecretWrite call × IsServedReply reply
 
 abbrev pub IsStatusUpdate : Call → Type 0
 IsStatusUpdate (UpdateStatus object named) = Unit {0}
@@ -139,7 +139,7 @@ pub record IsGoodRaise (h : List Entry) (pass : ℕ) (role : Role) (call : Call)
   pub issuing : role ≡ roles.Issuing
   pub status : IsStatusUpdate call
   pub by_one : RaisesRevision (Some old) (Some new)
-  pub saved : Stands (IsSecretSaved pass) h
+  pub saved : HasEntry (IsSecretSaved pass) h
 
 abbrev pub RaisesWell : List Entry → ℕ → Role → Call → Option Object → Option Object → Type 0
 RaisesWell h pass role call before after = (old new : Object) → before ≡ Some old → after ≡ Some new → stated_revision new ≢ stated_revision old → IsGoodRaise h pass role call old new

@@ -20,7 +20,7 @@ use Rattle.cmc_der.specs.Keys.{CertificateFields}
 use Rattle.cmc_policies.specs.declared.renewal.Renew.{Renew}
 use Rattle.cmc_policies.specs.Renewal.{backoff, renewal}
 use Rattle.cmc_keys.specs.Kinds.{allows_size}
-use Rattle.cmc_match.specs.Facts.{pair_at, IsPair, HasRequestedKey, key_in, certificate_in}
+use Rattle.cmc_match.specs.Facts.{pair_at, IsPair, HasRequestedKey, key_in, certificate_file_in}
 use Rattle.cmc_match.specs.Marks.{is_temporary}
 use Rattle.cmc_match.specs.Matching.{Matches}
 use Rattle.cmc_match.specs.Revisions.{next_request}
@@ -37,10 +37,10 @@ use Rattle.cmc_objects.specs.Watching.{works_on_requests, looks_at_secret, looks
 use Rattle.cmc_rules.specs.Dates.{StaysDated}
 use Rattle.cmc_rules.specs.Sighting.{IsAmong, IsWellSeen, OnSeen}
 use Rattle.cmc_rules.specs.Viewing.{has_next_label}
-use Rattle.cmc_rules.specs.Passes.{writes_stand_in}
+use Rattle.cmc_rules.specs.Passes.{writes_temporary}
 use Rattle.cmc_rules.specs.Raising.{KeepsRevision, RaisesRevision}
 use Rattle.cmc_rules.specs.Rights.{MayChange}
-use Rattle.cmc_rules.specs.Safety.{IsIssued, IsStandIn, IsSecretWrite, IsStatusUpdate}
+use Rattle.cmc_rules.specs.Safety.{IsIssued, IsTemporaryCertificate, IsSecretWrite, IsStatusUpdate}
 use Rattle.cmc_rules.specs.Triggering.{frame_of}
 use Rattle.cmc_rules.specs.Acts.{act, call_after}
 
@@ -78,7 +78,7 @@ pub record IsOrdinary (role : Role) (now : ℤ) (old new : Option Object) : Type
 
 -- the write that follows a value: what it approves is the request that is seen, and the value is a yes; a request that it makes is for
 -- the Certificate that is seen
-pub record IsAnswer (role : Role) (seen : Views) (now : ℤ) (value : Value) (old new : Option Object) : Type 0 where
+pub record IsWriteAfterValue (role : Role) (seen : Views) (now : ℤ) (value : Value) (old new : Option Object) : Type 0 where
   pub rights : MayChange role old new
   pub dated : StaysDated now old new
   pub revision : KeepsRevision old new
@@ -89,7 +89,7 @@ pub record IsAnswer (role : Role) (seen : Views) (now : ℤ) (value : Value) (ol
 -- ---- what issuing does
 
 -- the Certificate that is seen, the request of its next revision, and the key that its status names
-pub record IsPrepared (seen : Views) (c : Certificate) (r : CertificateRequest) (k : SecretObject) (file : List ℕ) : Type 0 where
+pub record IsReadyToIssue (seen : Views) (c : Certificate) (r : CertificateRequest) (k : SecretObject) (file : List ℕ) : Type 0 where
   pub sees : seen.certificate ≡ Some c
   pub next : next_request c.status.revision seen.requests ≡ Some r
   pub matches : Matches c.spec r
@@ -125,14 +125,14 @@ pub record IsRaiseOf (c : Certificate) (now : ℤ) (old new : Option Object) : T
 pub record IsSigned (c : Certificate) (r : CertificateRequest) (file : List ℕ) (written : SecretObject) : Type 0 where
   pub target : IsTarget c r file written
   pub unmarked : is_temporary written ≡ false
-  pub certificate : certificate_in written ≡ Some r.status.certificate
+  pub certificate : certificate_file_in written ≡ Some r.status.certificate
 
 -- The Secret has a stand-in certificate and the mark. Only within the time of a run can the times of the certificate be written and read
 -- again.
 pub record IsMarked (c : Certificate) (r : CertificateRequest) (file : List ℕ) (now : ℤ) (written : SecretObject) : Type 0 where
   pub target : is_run_time now ≡ true → IsTarget c r file written
   pub marked : is_temporary written ≡ true
-  pub stand_in : IsStandIn c r file now written
+  pub stand_in : IsTemporaryCertificate c r file now written
 
 -- only issuing issues: behind the live read of the Certificate the Secret, and then the status
 pub record IsIssuance (role : Role) (seen : Views) (now : ℤ) (plan : IssuePlan) : Type 0 where
@@ -141,7 +141,7 @@ pub record IsIssuance (role : Role) (seen : Views) (now : ℤ) (plan : IssuePlan
   pub request : CertificateRequest
   pub key : SecretObject
   pub file : List ℕ
-  pub prepared : IsPrepared seen certificate request key file
+  pub prepared : IsReadyToIssue seen certificate request key file
   pub approved : is_approved request ≡ true
   pub issued : IsIssued request
   pub get : plan.get ≡ key_of (Cert certificate)
@@ -152,16 +152,16 @@ pub record IsIssuance (role : Role) (seen : Views) (now : ℤ) (plan : IssuePlan
   pub status : OnSeen (IsRaiseOf certificate now) seen plan.status
 
 -- or writes a stand-in certificate
-pub record IsStandingIn (role : Role) (seen : Views) (now : ℤ) (plan : TemporaryPlan) : Type 0 where
+pub record IsTemporaryPlan (role : Role) (seen : Views) (now : ℤ) (plan : TemporaryPlan) : Type 0 where
   pub issuing : role ≡ roles.Issuing
   pub certificate : Certificate
   pub request : CertificateRequest
   pub key : SecretObject
   pub file : List ℕ
-  pub prepared : IsPrepared seen certificate request key file
+  pub prepared : IsReadyToIssue seen certificate request key file
   pub get : plan.get ≡ key_of (Cert certificate)
   pub version : plan.version ≡ certificate.meta.version
-  pub is_marked : writes_stand_in plan.secret ≡ true
+  pub is_marked : writes_temporary plan.secret ≡ true
   pub secret : OnSeen (WritesTarget role now (IsMarked certificate request file now)) seen plan.secret
 
 -- ---- what a role asks
@@ -178,7 +178,7 @@ IsQuestion role seen (orders.Judge order) = (role ≡ roles.Approver) × (seen.r
 pub record IsFollowed (role : Role) (after : Order → Value → Option Call) (seen : Views) (now : ℤ) (order : Order) (value : Value) : Type 0 where
   pub call : Call
   pub follows : after order value ≡ Some call
-  pub on : OnSeen (IsAnswer role seen now value) seen call
+  pub on : OnSeen (IsWriteAfterValue role seen now value) seen call
 
 -- what an act does; the call that follows a question is for the right values
 abbrev pub IsWithin : Role → (Order → Value → Option Call) → Views → ℤ → Act → Type 0
@@ -186,13 +186,13 @@ IsWithin role after seen now Nothing = Unit {0}
 IsWithin role after seen now (Calls call) = OnSeen (IsOrdinary role now) seen call
 IsWithin role after seen now (Asks order) = IsQuestion role seen order × ((value : Value) → IsValue order value → IsFollowed role after seen now order value)
 IsWithin role after seen now (Issue plan) = IsIssuance role seen now plan
-IsWithin role after seen now (Temporary plan) = IsStandingIn role seen now plan
+IsWithin role after seen now (Temporary plan) = IsTemporaryPlan role seen now plan
 
 -- ---- what an act looks at
 
 -- the parts that the role looks at; the others are empty
-abbrev pub shown : Role → Views → Views
-shown role seen = record {
+abbrev pub views_shown : Role → Views → Views
+views_shown role seen = record {
   certificate = if works_on_requests role then None else seen.certificate;
   secret = if looks_at_secret role then seen.secret else None;
   next = if looks_at_next role then seen.next else [];
@@ -245,8 +245,8 @@ IsDueMoment roles.Readiness seen at = IsExpiry (pair_at seen.secret) at
 IsDueMoment roles.Revision seen at = ⊥
 
 -- no moment after t and up to u is due
-abbrev pub IsQuiet : Role → Views → ℤ → ℤ → Type 0
-IsQuiet role seen t u = (at : ℤ) → IsDueMoment role seen at → int_le at t ≡ false → int_le at u ≡ true → ⊥
+abbrev pub HasNoDueMoment : Role → Views → ℤ → ℤ → Type 0
+HasNoDueMoment role seen t u = (at : ℤ) → IsDueMoment role seen at → int_le at t ≡ false → int_le at u ≡ true → ⊥
 
 -- ---- the record
 
@@ -255,10 +255,10 @@ pub record IsSoundTable (role : Role) (does : Views → ℤ → Desk → Act) (a
   -- its calls are for what it sees, change what it may change, and no rule refuses them; and it asks and issues only as it may
   pub within : (seen : Views) (now : ℤ) (desk : Desk) → IsWellSeen seen → IsWithin role (after seen now) seen now (does seen now desk)
   -- it looks only at what it is told of, and does nothing where its object is not there
-  pub told : (seen : Views) (now : ℤ) (desk : Desk) → does seen now desk ≡ does (shown role seen) now desk
+  pub told : (seen : Views) (now : ℤ) (desk : Desk) → does seen now desk ≡ does (views_shown role seen) now desk
   pub absent : (seen : Views) (now : ℤ) (desk : Desk) → IsAbsent seen → does seen now desk ≡ Nothing
   -- what is Nothing stays so up to the next due moment, whatever was asked and whichever rows stand
-  pub idle : (seen : Views) (t u : ℤ) (d e : Desk) → d.rules ≡ e.rules → IsQuiet role seen t u → int_le t u ≡ true → does seen t d ≡ Nothing → does seen u e ≡ Nothing
+  pub idle : (seen : Views) (t u : ℤ) (d e : Desk) → d.rules ≡ e.rules → HasNoDueMoment role seen t u → int_le t u ≡ true → does seen t d ≡ Nothing → does seen u e ≡ Nothing
 
 -- the table of the role itself
 abbrev pub IsSound : Role → Type 0

@@ -62,13 +62,13 @@ is_outrun spec None = false
 is_outrun spec (Some request) = not (matches spec request)
 
 -- in the back-off nothing is done, unless the specification has outrun the request that failed
-abbrev pub is_held_back : ℤ → List CertificateRequest → Certificate → Bool
-is_held_back moment requests certificate =
+abbrev pub is_in_back_off : ℤ → List CertificateRequest → Certificate → Bool
+is_in_back_off moment requests certificate =
     is_backing_off certificate.status moment && not (is_outrun certificate.spec (next_request certificate.status.revision requests))
 
 abbrev pub for_reason : ℤ → List CertificateRequest → Certificate → Option Reason → Act
 for_reason moment requests certificate None = Nothing
-for_reason moment requests certificate (Some reason) = if is_held_back moment requests certificate then Nothing else issue_call moment reason certificate
+for_reason moment requests certificate (Some reason) = if is_in_back_off moment requests certificate then Nothing else issue_call moment reason certificate
 
 abbrev pub frame_of : ℤ → Certificate → Frame
 frame_of moment certificate = record { now = moment; renew = renew_by certificate.spec.renew_percent certificate.spec.renew_before }

@@ -18,7 +18,7 @@ use Rattle.cmc_objects.specs.declared.call.Call.TheVariants.{UpdateStatus}
 use Rattle.cmc_objects.specs.declared.rows.SignRow.{SignRow}
 use Rattle.cmc_model.specs.Objects.{Objects}
 use Rattle.cmc_match.specs.Marks.{has_text}
-use Rattle.cmc_match.specs.Revisions.{is_of}
+use Rattle.cmc_match.specs.Revisions.{is_of_revision}
 use Rattle.cmc_answers.specs.Signings.{signing_of}
 use Rattle.cmc_rules.specs.Answering.{answered}
 
@@ -28,7 +28,7 @@ use Rattle.cmc_rules.specs.Answering.{answered}
 unfoldable pub is_request_for : Key → ℕ → CertificateRequest → Bool
 is_request_for certificate revision r =
     bytes_eq r.meta.namespace certificate.namespace
-    && (has_text r.meta.annotations (codes "cert-manager.io/certificate-name") certificate.name && is_of revision r)
+    && (has_text r.meta.annotations (codes "cert-manager.io/certificate-name") certificate.name && is_of_revision revision r)
 
 abbrev pub is_object_for : Key → ℕ → Object → Bool
 is_object_for certificate revision (Request r) = is_request_for certificate revision r
@@ -85,8 +85,8 @@ renewal_of moment None = None
 
 -- ---- what the steps write at this moment; nothing where no such request, or no Certificate, stands
 
-abbrev pub approval : ℤ → Objects → Key → ℕ → Option Call
-approval moment objects certificate revision = option_map (judge_call (verdict Approved (codes "approved by the script") moment)) (request_for objects certificate revision)
+abbrev pub approval_call : ℤ → Objects → Key → ℕ → Option Call
+approval_call moment objects certificate revision = option_map (judge_call (verdict Approved (codes "approved by the script") moment)) (request_for objects certificate revision)
 
 abbrev pub denial : ℤ → Objects → Key → ℕ → Option Call
 denial moment objects certificate revision = option_map (judge_call (verdict Denied (codes "denied by the script") moment)) (request_for objects certificate revision)

@@ -6,7 +6,7 @@ use Rattle.std.specs.Str.{bytes_eq}
 use Rattle.cmc_meta.specs.declared.key.Key.{Key}
 use Rattle.cmc_meta.specs.declared.key.Kind.TheVariants as kinds
 use Rattle.cmc_meta.specs.declared.object_meta.ObjectMeta.{ObjectMeta}
-use Rattle.cmc_meta.specs.PairLists.{text_at}
+use Rattle.cmc_meta.specs.PairLists.{text_by_key}
 use Rattle.cmc_objects.specs.declared.certificate.Certificate.{Certificate}
 use Rattle.cmc_objects.specs.declared.request.CertificateRequest.{CertificateRequest}
 use Rattle.cmc_objects.specs.declared.secret.Secret.{Secret as SecretObject}
@@ -61,7 +61,7 @@ is_text_true (Some text) = bytes_eq text (codes "true")
 
 -- the label of a Secret that holds a next private key
 abbrev pub has_next_label : ObjectMeta → Bool
-has_next_label m = is_text_true (text_at m.labels (codes "cert-manager.io/next-private-key"))
+has_next_label m = is_text_true (text_by_key m.labels (codes "cert-manager.io/next-private-key"))
 
 abbrev pub next_in : Certificate → Object → Option SecretObject
 next_in c (Cert other) = None

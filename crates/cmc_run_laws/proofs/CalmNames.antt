@@ -29,7 +29,7 @@ use Rattle.cmc_rules.specs.RequestManaging as requests
 use Rattle.cmc_rules.specs.RequestManaging.{request_after, make_request}
 use Rattle.cmc_rules.specs.Rights.{MayChange}
 use Rattle.cmc_rules.specs.Sighting.{OnSeen}
-use Rattle.cmc_rules.specs.Sound.{IsOrdinary, IsAnswer, IsWithin}
+use Rattle.cmc_rules.specs.Sound.{IsOrdinary, IsWriteAfterValue, IsWithin}
 use Rattle.cmc_rules.specs.Triggering as triggering
 
 -- the call makes no object under a name of its own
@@ -185,7 +185,7 @@ requested seen (values.Signed signature) = signed_all seen.certificate seen.next
 requested seen other = tt
 
 -- approver and issuer make nothing
-answered : (role : Role) (seen : Views) (now : ℤ) (value : Value) (call : Call) → ((new : Option Object) → MayChange role None new → ⊥) → OnSeen (IsAnswer role seen now value) seen call → IsUnnamed call
+answered : (role : Role) (seen : Views) (now : ℤ) (value : Value) (call : Call) → ((new : Option Object) → MayChange role None new → ⊥) → OnSeen (IsWriteAfterValue role seen now value) seen call → IsUnnamed call
 unfolding OnSeen
 answered role seen now value (Create object false) none on = none _ (on.makes 0 (pos 0)).rights
 answered role seen now value (Create object true) none on = tt
@@ -202,7 +202,7 @@ after_request : (seen : Views) (now : ℤ) (order : Order) (value : Value) → I
 unfolding call_after request_after
 after_request seen now order value = requested seen value
 
-pub following_is_unnamed : (role : Role) (seen : Views) (now : ℤ) (order : Order) (value : Value) (call : Call) → OnSeen (IsAnswer role seen now value) seen call
+pub following_is_unnamed : (role : Role) (seen : Views) (now : ℤ) (order : Order) (value : Value) (call : Call) → OnSeen (IsWriteAfterValue role seen now value) seen call
     → call_after role seen now order value ≡ Some call → IsUnnamed call
 unfolding call_after
 following_is_unnamed roles.KeyManager seen now order value call on is = subst IsUnnamedOption is (after_key seen now order value)

@@ -34,7 +34,7 @@ use Rattle.cmc_rules.specs.declared.progress.Stage.{Stage}
 use Rattle.cmc_rules.specs.declared.progress.Stage.TheVariants.{Fresh, Given, Read, Saved}
 use Rattle.cmc_rules.specs.Acts.{call_after}
 use Rattle.cmc_rules.specs.Approving as approving
-use Rattle.cmc_rules.specs.Approving.{judged_after, judge_call, verdict_of}
+use Rattle.cmc_rules.specs.Approving.{judged_after, verdict_call, verdict_of}
 use Rattle.cmc_rules.specs.Causes.{IsFirstCall, IsSecretCall, IsStatusCall, IsNextCall, MayCall, IsCaused, act_of, after_of}
 use Rattle.cmc_rules.specs.Desks.{desk}
 use Rattle.cmc_rules.specs.Following.{Follows}
@@ -93,7 +93,7 @@ requested seen (values.Signed signature) = signed_all seen.certificate seen.next
 requested seen other = tt
 
 judged : (r : Option CertificateRequest) (verdict : Option Condition) → IsOrderlyOption (approving.judged_for r verdict)
-unfolding judge_call
+unfolding verdict_call
 judged (Some r) (Some verdict) = tt
 judged r verdict = tt
 

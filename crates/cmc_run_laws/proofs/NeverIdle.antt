@@ -17,7 +17,7 @@ use Rattle.cmc_rules.specs.Acts.{act, call_after}
 use Rattle.cmc_rules.specs.Causes.{IsFirstCall, IsNextCall, IsSecretCall, IsStatusCall}
 use Rattle.cmc_rules.specs.Desks.{desk}
 use Rattle.cmc_rules.specs.Issuing.{issuing}
-use Rattle.cmc_rules.specs.Passes.{stage_written, stands_in}
+use Rattle.cmc_rules.specs.Passes.{stage_written, is_temporary_act}
 use Rattle.cmc_rules.specs.Sighting.{IsWellSeen}
 use Rattle.cmc_rules.specs.Sound.{IsWithin}
 use Rattle.cmc_rules.proofs.Sighted.{AreKnown, views_known}
@@ -42,10 +42,10 @@ status_changes seen other call is next = absurd next
 
 -- the Secret of an issuance may stand so already, and its status follows
 secret_goes_on : (role : Role) (seen : Views) (since : ℤ) (d : Desk) (after : Order → Value → Option Call) (does : Act) (call : Call) → act role seen since d ≡ does → is_run_time since ≡ true → IsWithin role after seen since does
-    → IsSecretCall does call → (ChangesSeen seen call → ⊥) → stage_written (stands_in (issuing seen since)) Read ≡ Saved
+    → IsSecretCall does call → (ChangesSeen seen call → ⊥) → stage_written (is_temporary_act (issuing seen since)) Read ≡ Saved
 secret_goes_on role seen since d after (Issue plan) call is run within next none =
     let issues : issuing seen since ≡ Issue plan = sym (act_of_issuing role seen since d within.issuing) ∙ is in
-    ap (λ (a : Act). stage_written (stands_in a) Read) issues
+    ap (λ (a : Act). stage_written (is_temporary_act a) Read) issues
 secret_goes_on role seen since d after (Temporary plan) call is run within next none =
     let stands_in_for : issuing seen since ≡ Temporary plan = sym (act_of_issuing role seen since d within.issuing) ∙ is in
     absurd (none (subst (ChangesSeen seen) (sym next) (changes_stand_in seen role since plan run (lacking seen since plan stands_in_for) within)))
@@ -54,7 +54,7 @@ secret_goes_on role seen since d after (Calls first) call is run within next non
 secret_goes_on role seen since d after (Asks order) call is run within next none = absurd next
 
 idle_at : (stage : Stage) (role : Role) (seen : Views) (since : ℤ) (d : Desk) (call : Call) → is_run_time since ≡ true → SeesInOrder seen → IsWellSeen seen → AskedByAct role seen since stage
-    → IsNextCall stage (act role seen since d) (call_after role seen since) call → (ChangesSeen seen call → ⊥) → stage_written (stands_in (issuing seen since)) stage ≡ Saved
+    → IsNextCall stage (act role seen since d) (call_after role seen since) call → (ChangesSeen seen call → ⊥) → stage_written (is_temporary_act (issuing seen since)) stage ≡ Saved
 idle_at Fresh role seen since d call run order well asked next none = absurd (none (first_changes seen (act role seen since d) call (proper_act role seen since d order) next))
 idle_at (Given asks value) role seen since d call run order well asked next none = absurd (none (changes_after role seen since asks value call asked.0 asks asked.1 next))
 idle_at Read role seen since d call run order well asked next none =

@@ -9,7 +9,7 @@ use Rattle.cmc_rules.specs.Causes.{IsCaused}
 use Rattle.cmc_rules.specs.Following.{Follows}
 use Rattle.cmc_rules.specs.Legality.{IsLegal}
 use Rattle.cmc_rules.specs.Runs.{IsRun}
-use Rattle.cmc_rules.specs.Safety.{Stands}
+use Rattle.cmc_rules.specs.Safety.{HasEntry}
 use Rattle.cmc_rules.specs.Viewing.{views}
 use Rattle.cmc_model.specs.Writes.{writes}
 use Rattle.cmc_rules.proofs.Positions.{accepted_short}
@@ -57,8 +57,8 @@ not_for_nothing names s whole formed run l k h n m role key at was now since is 
     let in_order : SeesInOrder (views s h role key) = sees_in_order (writes s h) (views s h role key) (all_in_order s h (caused_below s k base caused.1).1 before) (views_known s h role key) in
     by legal caused (reason_or_still s base b k (free_names names s formed) (never_idle s b in_run in_order) legal.1 caused.1 (omega (arith, short)) none (since_begin s h m role key was since first.0)) where
       by : IsLegal s (Begin n role key at now ∷ (k ++ (Begin m role key was since ∷ h))) → IsCaused s (Begin n role key at now ∷ (k ++ (Begin m role key was since ∷ h)))
-          → Stands (IsReason role m) k ⊎ IsSinceOrStopped s (k ++ (Begin m role key was since ∷ h)) (record { pass = m; role = role; key = key; at = was; seen = views s h role key; since = since })
-          → Stands (IsReason role m) k
+          → HasEntry (IsReason role m) k ⊎ IsSinceOrStopped s (k ++ (Begin m role key was since ∷ h)) (record { pass = m; role = role; key = key; at = was; seen = views s h role key; since = since })
+          → HasEntry (IsReason role m) k
       by legal caused (inl stands) = stands
       by legal caused (inr still) =
           absurd (none_begins s (k ++ (Begin m role key was since ∷ h)) (record { pass = m; role = role; key = key; at = was; seen = views s h role key; since = since }) n at now legal.0 caused.0 still)

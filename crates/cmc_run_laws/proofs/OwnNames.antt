@@ -13,13 +13,13 @@ use Rattle.cmc_x509.specs.Taking.{Value}
 use Rattle.cmc_x509.specs.Lists.{IsValues}
 use Rattle.cmc_x509_build.specs.Addresses.{IsAddress, address_at}
 use Rattle.cmc_x509_build.specs.Octets.{address_octets, address_value}
-use Rattle.cmc_x509_build.specs.Requests.{alternative_of, common_of, names_of}
+use Rattle.cmc_x509_build.specs.Requests.{alternative_of, common_if_any, names_of}
 use Rattle.cmc_x509_build.specs.declared.requests.NameSet.{NameSet}
 use Rattle.cmc_x509_build.proofs.AddressLaws.{address_found}
 use Rattle.cmc_x509_build.proofs.ValueLaws.{values_joined}
 use Rattle.cmc_objects.specs.declared.certificate.CertSpec.{CertSpec}
 use Rattle.cmc_match.specs.Sets.{is_among, is_within, is_same_set}
-use Rattle.cmc_match.specs.SubjectNames.{common_text, named, is_address, addresses, values_of, written, has_names}
+use Rattle.cmc_match.specs.SubjectNames.{common_text, names_tagged, is_address, addresses, values_of, addresses_written, has_names}
 use Rattle.cmc_match.proofs.NameLaws.{values_are}
 use Rattle.cmc_rules.specs.RequestManaging.{name_set}
 
@@ -102,39 +102,39 @@ values_all names small =
 
 -- ---- the names of each kind among them
 
-named_more : (tag : ℕ) (vs ws : List Value) → named tag (vs ++ ws) ≡ named tag vs ++ named tag ws
+named_more : (tag : ℕ) (vs ws : List Value) → names_tagged tag (vs ++ ws) ≡ names_tagged tag vs ++ names_tagged tag ws
 named_more tag [] ws = refl
 named_more tag (v ∷ vs) ws = by (v.0 == tag) (named_more tag vs ws) where
-  by : (b : Bool) → named tag (vs ++ ws) ≡ named tag vs ++ named tag ws → (if b then v.1 ∷ named tag (vs ++ ws) else named tag (vs ++ ws)) ≡ (if b then v.1 ∷ named tag vs else named tag vs) ++ named tag ws
+  by : (b : Bool) → names_tagged tag (vs ++ ws) ≡ names_tagged tag vs ++ names_tagged tag ws → (if b then v.1 ∷ names_tagged tag (vs ++ ws) else names_tagged tag (vs ++ ws)) ≡ (if b then v.1 ∷ names_tagged tag vs else names_tagged tag vs) ++ names_tagged tag ws
   by true rest = ap (λ (l : List (List ℕ)). v.1 ∷ l) rest
   by false rest = rest
 
-named_four : (tag : ℕ) (a b c d : List Value) → named tag (a ++ (b ++ (c ++ d))) ≡ named tag a ++ (named tag b ++ (named tag c ++ named tag d))
+named_four : (tag : ℕ) (a b c d : List Value) → names_tagged tag (a ++ (b ++ (c ++ d))) ≡ names_tagged tag a ++ (names_tagged tag b ++ (names_tagged tag c ++ names_tagged tag d))
 named_four tag a b c d =
-    named_more tag a (b ++ (c ++ d)) ∙ ap (λ (l : List (List ℕ)). named tag a ++ l) (named_more tag b (c ++ d) ∙ ap (λ (l : List (List ℕ)). named tag b ++ l) (named_more tag c d))
+    named_more tag a (b ++ (c ++ d)) ∙ ap (λ (l : List (List ℕ)). names_tagged tag a ++ l) (named_more tag b (c ++ d) ∙ ap (λ (l : List (List ℕ)). names_tagged tag b ++ l) (named_more tag c d))
 
-named_own : (tag other : ℕ) (texts : List (List ℕ)) → (other == tag) ≡ true → named tag (tagged other texts) ≡ texts
+named_own : (tag other : ℕ) (texts : List (List ℕ)) → (other == tag) ≡ true → names_tagged tag (tagged other texts) ≡ texts
 named_own tag other [] e = refl
 named_own tag other (text ∷ texts) e =
-    ap (λ (b : Bool). if b then text ∷ named tag (tagged other texts) else named tag (tagged other texts)) e ∙ ap (λ (l : List (List ℕ)). text ∷ l) (named_own tag other texts e)
+    ap (λ (b : Bool). if b then text ∷ names_tagged tag (tagged other texts) else names_tagged tag (tagged other texts)) e ∙ ap (λ (l : List (List ℕ)). text ∷ l) (named_own tag other texts e)
 
-named_none : (tag other : ℕ) (texts : List (List ℕ)) → (other == tag) ≡ false → named tag (tagged other texts) ≡ []
+named_none : (tag other : ℕ) (texts : List (List ℕ)) → (other == tag) ≡ false → names_tagged tag (tagged other texts) ≡ []
 named_none tag other [] e = refl
 named_none tag other (text ∷ texts) e =
-    ap (λ (b : Bool). if b then text ∷ named tag (tagged other texts) else named tag (tagged other texts)) e ∙ named_none tag other texts e
+    ap (λ (b : Bool). if b then text ∷ names_tagged tag (tagged other texts) else names_tagged tag (tagged other texts)) e ∙ named_none tag other texts e
 
-address_named : (tag : ℕ) (octets : Option (List ℕ)) (ws : List Value) → (135 == tag) ≡ false → named tag (address_list octets ++ ws) ≡ named tag ws
+address_named : (tag : ℕ) (octets : Option (List ℕ)) (ws : List Value) → (135 == tag) ≡ false → names_tagged tag (address_list octets ++ ws) ≡ names_tagged tag ws
 address_named tag None ws e = refl
-address_named tag (Some octets) ws e = ap (λ (b : Bool). if b then octets ∷ named tag ws else named tag ws) e
+address_named tag (Some octets) ws e = ap (λ (b : Bool). if b then octets ∷ names_tagged tag ws else names_tagged tag ws) e
 
-no_address_named : (tag : ℕ) (texts : List (List ℕ)) → (135 == tag) ≡ false → named tag (of_addresses texts) ≡ []
+no_address_named : (tag : ℕ) (texts : List (List ℕ)) → (135 == tag) ≡ false → names_tagged tag (of_addresses texts) ≡ []
 no_address_named tag [] e = refl
 no_address_named tag (text ∷ texts) e = address_named tag (address_at text) (of_addresses texts) e ∙ no_address_named tag texts e
 
-addresses_named : (texts : List (List ℕ)) → named 135 (of_addresses texts) ≡ written texts
+addresses_named : (texts : List (List ℕ)) → names_tagged 135 (of_addresses texts) ≡ addresses_written texts
 addresses_named [] = refl
 addresses_named (text ∷ texts) = by (address_at text) (addresses_named texts) where
-  by : (octets : Option (List ℕ)) → named 135 (of_addresses texts) ≡ written texts → named 135 (address_list octets ++ of_addresses texts) ≡ cons_option octets (written texts)
+  by : (octets : Option (List ℕ)) → names_tagged 135 (of_addresses texts) ≡ addresses_written texts → names_tagged 135 (address_list octets ++ of_addresses texts) ≡ cons_option octets (addresses_written texts)
   by None rest = rest
   by (Some octets) rest = ap (λ (l : List (List ℕ)). octets ∷ l) rest
 
@@ -173,49 +173,49 @@ address_length text octets (inr is) = either_length octets (inr (omega (arith, a
 kept : (x : List ℕ) (xs : List (List ℕ)) → is_address x ≡ true → filter is_address xs ≡ xs → filter is_address (x ∷ xs) ≡ x ∷ xs
 kept x xs on rest = ap (λ (b : Bool). if b then x ∷ filter is_address xs else filter is_address xs) on ∙ ap (λ (l : List (List ℕ)). x ∷ l) rest
 
-all_kept : (texts : List (List ℕ)) → filter is_address (written texts) ≡ written texts
+all_kept : (texts : List (List ℕ)) → filter is_address (addresses_written texts) ≡ addresses_written texts
 all_kept [] = refl
 all_kept (text ∷ texts) = by (address_at text) refl (all_kept texts) where
-  by : (octets : Option (List ℕ)) → address_at text ≡ octets → filter is_address (written texts) ≡ written texts → filter is_address (cons_option octets (written texts)) ≡ cons_option octets (written texts)
+  by : (octets : Option (List ℕ)) → address_at text ≡ octets → filter is_address (addresses_written texts) ≡ addresses_written texts → filter is_address (cons_option octets (addresses_written texts)) ≡ cons_option octets (addresses_written texts)
   by None e rest = rest
-  by (Some octets) e rest = kept octets (written texts) (address_length text octets (address_found text octets e)) rest
+  by (Some octets) e rest = kept octets (addresses_written texts) (address_length text octets (address_found text octets e)) rest
 
 -- ---- the names
 
-common_again : (common : List ℕ) → bytes_eq (common_text (common_of common)) common ≡ true
+common_again : (common : List ℕ) → bytes_eq (common_text (common_if_any common)) common ≡ true
 common_again [] = itself []
 common_again (b ∷ bs) = itself (b ∷ bs)
 
-dns_again : (names : NameSet) → named 130 (all_values names) ≡ names.dns
+dns_again : (names : NameSet) → names_tagged 130 (all_values names) ≡ names.dns
 dns_again names =
-    let own : named 130 (tagged 130 names.dns) ≡ names.dns = named_own 130 130 names.dns refl in
-    let ips : named 130 (of_addresses names.ips) ≡ [] = no_address_named 130 names.ips refl in
-    let uris : named 130 (tagged 134 names.uris) ≡ [] = named_none 130 134 names.uris refl in
-    let emails : named 130 (tagged 129 names.emails) ≡ [] = named_none 130 129 names.emails refl in
+    let own : names_tagged 130 (tagged 130 names.dns) ≡ names.dns = named_own 130 130 names.dns refl in
+    let ips : names_tagged 130 (of_addresses names.ips) ≡ [] = no_address_named 130 names.ips refl in
+    let uris : names_tagged 130 (tagged 134 names.uris) ≡ [] = named_none 130 134 names.uris refl in
+    let emails : names_tagged 130 (tagged 129 names.emails) ≡ [] = named_none 130 129 names.emails refl in
     named_four 130 (tagged 130 names.dns) (of_addresses names.ips) (tagged 134 names.uris) (tagged 129 names.emails) ∙ (λ i. own i ++ (ips i ++ (uris i ++ emails i))) ∙ append-nil names.dns
 
-addresses_again : (names : NameSet) → named 135 (all_values names) ≡ written names.ips
+addresses_again : (names : NameSet) → names_tagged 135 (all_values names) ≡ addresses_written names.ips
 addresses_again names =
-    let dns : named 135 (tagged 130 names.dns) ≡ [] = named_none 135 130 names.dns refl in
-    let own : named 135 (of_addresses names.ips) ≡ written names.ips = addresses_named names.ips in
-    let uris : named 135 (tagged 134 names.uris) ≡ [] = named_none 135 134 names.uris refl in
-    let emails : named 135 (tagged 129 names.emails) ≡ [] = named_none 135 129 names.emails refl in
-    named_four 135 (tagged 130 names.dns) (of_addresses names.ips) (tagged 134 names.uris) (tagged 129 names.emails) ∙ (λ i. dns i ++ (own i ++ (uris i ++ emails i))) ∙ append-nil (written names.ips)
+    let dns : names_tagged 135 (tagged 130 names.dns) ≡ [] = named_none 135 130 names.dns refl in
+    let own : names_tagged 135 (of_addresses names.ips) ≡ addresses_written names.ips = addresses_named names.ips in
+    let uris : names_tagged 135 (tagged 134 names.uris) ≡ [] = named_none 135 134 names.uris refl in
+    let emails : names_tagged 135 (tagged 129 names.emails) ≡ [] = named_none 135 129 names.emails refl in
+    named_four 135 (tagged 130 names.dns) (of_addresses names.ips) (tagged 134 names.uris) (tagged 129 names.emails) ∙ (λ i. dns i ++ (own i ++ (uris i ++ emails i))) ∙ append-nil (addresses_written names.ips)
 
-uris_again : (names : NameSet) → named 134 (all_values names) ≡ names.uris
+uris_again : (names : NameSet) → names_tagged 134 (all_values names) ≡ names.uris
 uris_again names =
-    let dns : named 134 (tagged 130 names.dns) ≡ [] = named_none 134 130 names.dns refl in
-    let ips : named 134 (of_addresses names.ips) ≡ [] = no_address_named 134 names.ips refl in
-    let own : named 134 (tagged 134 names.uris) ≡ names.uris = named_own 134 134 names.uris refl in
-    let emails : named 134 (tagged 129 names.emails) ≡ [] = named_none 134 129 names.emails refl in
+    let dns : names_tagged 134 (tagged 130 names.dns) ≡ [] = named_none 134 130 names.dns refl in
+    let ips : names_tagged 134 (of_addresses names.ips) ≡ [] = no_address_named 134 names.ips refl in
+    let own : names_tagged 134 (tagged 134 names.uris) ≡ names.uris = named_own 134 134 names.uris refl in
+    let emails : names_tagged 134 (tagged 129 names.emails) ≡ [] = named_none 134 129 names.emails refl in
     named_four 134 (tagged 130 names.dns) (of_addresses names.ips) (tagged 134 names.uris) (tagged 129 names.emails) ∙ (λ i. dns i ++ (ips i ++ (own i ++ emails i))) ∙ append-nil names.uris
 
-emails_again : (names : NameSet) → named 129 (all_values names) ≡ names.emails
+emails_again : (names : NameSet) → names_tagged 129 (all_values names) ≡ names.emails
 emails_again names =
-    let dns : named 129 (tagged 130 names.dns) ≡ [] = named_none 129 130 names.dns refl in
-    let ips : named 129 (of_addresses names.ips) ≡ [] = no_address_named 129 names.ips refl in
-    let uris : named 129 (tagged 134 names.uris) ≡ [] = named_none 129 134 names.uris refl in
-    let own : named 129 (tagged 129 names.emails) ≡ names.emails = named_own 129 129 names.emails refl in
+    let dns : names_tagged 129 (tagged 130 names.dns) ≡ [] = named_none 129 130 names.dns refl in
+    let ips : names_tagged 129 (of_addresses names.ips) ≡ [] = no_address_named 129 names.ips refl in
+    let uris : names_tagged 129 (tagged 134 names.uris) ≡ [] = named_none 129 134 names.uris refl in
+    let own : names_tagged 129 (tagged 129 names.emails) ≡ names.emails = named_own 129 129 names.emails refl in
     named_four 129 (tagged 130 names.dns) (of_addresses names.ips) (tagged 134 names.uris) (tagged 129 names.emails) ∙ (λ i. dns i ++ (ips i ++ (uris i ++ own i)))
 
 pub names_again : (spec : CertSpec) → IsSmall (alternative_of (name_set spec)) → has_names spec (names_of (name_set spec)) ≡ true
@@ -223,7 +223,7 @@ unfolding has_names
 names_again spec small =
     let names : NameSet = name_set spec in
     let values : values_of (alternative_of names) ≡ all_values names = values_are (alternative_of names) (all_values names) (values_all names small) in
-    let read : (tag : ℕ) (texts : List (List ℕ)) → named tag (all_values names) ≡ texts → is_same_set texts (named tag (values_of (alternative_of names))) ≡ true = λ tag texts is. same_as texts _ (ap (named tag) values ∙ is) in
-    let ips : is_same_set (written spec.ip_addresses) (addresses (values_of (alternative_of names))) ≡ true =
-    same_as (written spec.ip_addresses) _ (ap addresses values ∙ ap (filter is_address) (addresses_again names) ∙ all_kept spec.ip_addresses) in
+    let read : (tag : ℕ) (texts : List (List ℕ)) → names_tagged tag (all_values names) ≡ texts → is_same_set texts (names_tagged tag (values_of (alternative_of names))) ≡ true = λ tag texts is. same_as texts _ (ap (names_tagged tag) values ∙ is) in
+    let ips : is_same_set (addresses_written spec.ip_addresses) (addresses (values_of (alternative_of names))) ≡ true =
+    same_as (addresses_written spec.ip_addresses) _ (ap addresses values ∙ ap (filter is_address) (addresses_again names) ∙ all_kept spec.ip_addresses) in
     and_two _ _ (common_again spec.common_name) (and_two _ _ (read 130 spec.dns_names (dns_again names)) (and_two _ _ ips (and_two _ _ (read 134 spec.uris (uris_again names)) (read 129 spec.emails (emails_again names)))))

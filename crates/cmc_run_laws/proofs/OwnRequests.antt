@@ -6,7 +6,7 @@ use Rattle.cmc_der.specs.Building.{value}
 use Rattle.cmc_der.specs.Keys.{PublicKey, RequestFields}
 use Rattle.cmc_der.proofs.SmallValues.{IsSmall, contents_small, front_small, back_small}
 use Rattle.cmc_x509.specs.Certificates.{IsRequest}
-use Rattle.cmc_x509.specs.ReadCertificates.{request_at}
+use Rattle.cmc_x509.specs.ReadCertificates.{request_fields_at}
 use Rattle.cmc_x509.specs.ReadKeys.{key_file_at}
 use Rattle.cmc_x509.proofs.CertificateLaws.{request_again}
 use Rattle.cmc_x509.proofs.FileLaws.{key_file_found}
@@ -108,15 +108,15 @@ wanted_by spec file key signature r reads is small =
     let octets = signed_octets (body_of spec key) signature in
     let same : r.spec.request ≡ octets = ap (λ (s : RequestSpec). s.request) is in
     let read = own_is_read spec file key signature reads small in
-    let names : asks_for_names spec (request_at r.spec.request) ≡ true =
-    ap (asks_for_names spec) (ap request_at same ∙ request_again octets (fields_of spec key) read) ∙ names_again spec (own_names_small spec key signature small) in
+    let names : asks_for_names spec (request_fields_at r.spec.request) ≡ true =
+    ap (asks_for_names spec) (ap request_fields_at same ∙ request_again octets (fields_of spec key) read) ∙ names_again spec (own_names_small spec key signature small) in
     let terms : has_terms spec r.spec ≡ true = ap (has_terms spec) is ∙ own_terms spec octets in
     let held : HasKey r file = record {
       fields = fields_of spec key;
       readable = subst (λ (o : List ℕ). IsRequest o (fields_of spec key)) (sym same) read;
       key_is = key_file_found file key reads;
     } in
-    (and_two (asks_for_names spec (request_at r.spec.request)) (has_terms spec r.spec) names terms, (keys_match r file).1 held)
+    (and_two (asks_for_names spec (request_fields_at r.spec.request)) (has_terms spec r.spec) names terms, (keys_match r file).1 held)
 
 request_octets : (spec : CertSpec) (octets : List ℕ) (s : RequestSpec) → s ≡ request_spec spec octets → s.request ≡ octets
 unfolding request_spec

@@ -31,9 +31,9 @@ use Rattle.cmc_match.specs.Revisions.{next_request}
 use Rattle.cmc_model.specs.Objects.{object_at}
 use Rattle.cmc_model.specs.Histories.{Setting, moment, objects}
 use Rattle.cmc_rules.specs.Acts.{act}
-use Rattle.cmc_rules.specs.Approving.{approver, ask_judgement, is_covered, is_listed, judge_of, judge_one}
+use Rattle.cmc_rules.specs.Approving.{approver, ask_judgement, is_covered, is_listed_issuer, judge_of, judge_one}
 use Rattle.cmc_rules.specs.Desks.{desk}
-use Rattle.cmc_rules.specs.Granting.{ask_issuer, denied_status, gives, grant_one, is_own, is_waiting, status_call}
+use Rattle.cmc_rules.specs.Granting.{ask_issuer, denied_status, gives, grant_one, is_own, is_request_waiting, status_call}
 use Rattle.cmc_rules.specs.Issuing.{is_kept_for_keys, issuing_of, says_issued}
 use Rattle.cmc_rules.specs.KeyManaging.{ask_key, make_call, rotated, target_key, while_idle, while_issuing}
 use Rattle.cmc_rules.specs.NextKeys.{named_key}
@@ -48,7 +48,7 @@ use Rattle.cmc_plain.proofs.EachNamed.{still}
 use Rattle.cmc_plain.proofs.EachWait.{IsStill, issuer_rests, issuing_rests, keys_rest, owned_stands, request_waits_on, requests_rest}
 use Rattle.cmc_plain.proofs.NextApart.{next_apart}
 use Rattle.cmc_plain.proofs.Stuck.{HasNextKey, HasNextRequest, has_key, has_request}
-use Rattle.cmc_run_laws.specs.Settled.{CanBeIssued, IsSettled, keeps_unfit}
+use Rattle.cmc_run_laws.specs.Settled.{CanBeIssued, IsReadyOrUnderWay, keeps_unfit}
 use Rattle.cmc_run_laws.proofs.Settling.{settled, stands}
 
 -- ---- a key can be had
@@ -85,8 +85,8 @@ covers rules c r file wanted on =
     let match = and_parts (matches c.spec r) _ wanted in
     let terms = and_parts _ (has_terms c.spec r.spec) match.0 in
     let same = same_issuer c.spec.issuer r.spec.issuer (and_parts (is_same_issuer c.spec.issuer r.spec.issuer) _ terms.1).0 in
-    subst (λ (name : List ℕ). (bytes_eq (issuer_group r.spec.issuer) (codes "cert-manager.io") && is_listed name rules.issuers) ≡ true) same.0
-    (subst (λ (group : List ℕ). (bytes_eq group (codes "cert-manager.io") && is_listed c.spec.issuer.name rules.issuers) ≡ true) same.1 on)
+    subst (λ (name : List ℕ). (bytes_eq (issuer_group r.spec.issuer) (codes "cert-manager.io") && is_listed_issuer name rules.issuers) ≡ true) same.0
+    (subst (λ (group : List ℕ). (bytes_eq group (codes "cert-manager.io") && is_listed_issuer c.spec.issuer.name rules.issuers) ≡ true) same.1 on)
 
 approver_rests : (s : Setting) (h : List Entry) (key : Key) (r : CertificateRequest) → request_at (objects s h) key ≡ Some r → IsIdle s h Approver (present_views s h Approver key) → judge_one s.rules r ≡ Nothing
 unfolding act approver views_in views_of
@@ -133,13 +133,13 @@ no_wait_by false false approved asked o one two three = by (says_issued o) appro
   by false false asked three = refl
 
 no_wait : (s : Setting) (h : List Entry) (by : Desk) (target : Option SecretObject) (r : CertificateRequest) → judge_one s.rules r ≡ Nothing → grant_one (moment s h) by r ≡ Nothing
-    → is_covered s.rules r.spec.issuer ≡ true → is_kept_for_keys target ≡ false → is_waiting (moment s h) r ≡ false → wait_of_request target r ≡ None
+    → is_covered s.rules r.spec.issuer ≡ true → is_kept_for_keys target ≡ false → is_request_waiting (moment s h) r ≡ false → wait_of_request target r ≡ None
 no_wait s h by target r judged granted covered free answered =
     no_wait_by (not (is_approved r) && not (is_denied r)) (is_kept_for_keys target) (is_approved r) (is_unanswered (condition_at r.status.conditions Ready)) (condition_at r.status.conditions Ready)
     (has_verdict (is_approved r) (is_denied r) (is_covered s.rules r.spec.issuer) r s.rules covered judged) free
     (λ approved asked.
     let none = unanswered_is_open (condition_at r.status.conditions Ready) asked in
-    asked_by (is_denied r) (gives (codes "Denied") (condition_at r.status.conditions Ready)) (is_approved r) (gives (codes "Issued") (condition_at r.status.conditions Ready)) (gives (codes "Failed") (condition_at r.status.conditions Ready)) (is_own r.spec.issuer) (is_waiting (moment s h) r)
+    asked_by (is_denied r) (gives (codes "Denied") (condition_at r.status.conditions Ready)) (is_approved r) (gives (codes "Issued") (condition_at r.status.conditions Ready)) (gives (codes "Failed") (condition_at r.status.conditions Ready)) (is_own r.spec.issuer) (is_request_waiting (moment s h) r)
     (moment s h) by r approved none.1.1 none.0 none.1.0 (and_parts (is_own r.spec.issuer) _ covered).0 answered granted)
 
 -- ---- so nothing is left to wait for
@@ -153,7 +153,7 @@ record IsFree (s : Setting) (h : List Entry) (c : Certificate) : Type 0 where
   makable : keeps_unfit c (key_rotation c.spec.key) (target_key (target_at (objects s h) c)) ≡ false
   free : is_kept_for_keys (target_at (objects s h) c) ≡ false
   covered : is_covered s.rules c.spec.issuer ≡ true
-  answered : IfSome (next_request c.status.revision (requests_of (objects s h) c)) (λ r. is_waiting (moment s h) r ≡ false)
+  answered : IfSome (next_request c.status.revision (requests_of (objects s h) c)) (λ r. is_request_waiting (moment s h) r ≡ false)
 
 free_of : (s : Setting) (h : List Entry) (key : Key) (c : Certificate) → certificate_at (objects s h) key ≡ Some c → CanBeIssued s h (present_views s h Issuing key) c → IsFree s h c
 unfolding views_in views_of
@@ -167,7 +167,7 @@ with_next : (s : Setting) (h : List Entry) (c : Certificate) (k : HasNextKey c (
 with_next s h c k r run still free on idle =
     let there = owned_stands (objects s h) c r.request r.among in
     let stands : request_at (objects s h) there.0 ≡ Some r.request = ap (option_and_then request_in) there.1 in
-    let answered : is_waiting (moment s h) r.request ≡ false = subst (λ (x : Option CertificateRequest). IfSome x (λ r. is_waiting (moment s h) r ≡ false)) r.next free.answered in
+    let answered : is_request_waiting (moment s h) r.request ≡ false = subst (λ (x : Option CertificateRequest). IfSome x (λ r. is_request_waiting (moment s h) r ≡ false)) r.next free.answered in
     none_some (wait_of_request (target_at (objects s h) c) r.request)
     (no_wait s h (desk s h Issuer (present_views s h Issuer there.0)) (target_at (objects s h) c) r.request
     (approver_rests s h there.0 r.request stands (still Approver there.0 (Request r.request) there.1))
@@ -193,7 +193,7 @@ not_waiting s h key c run still free is on =
           (issuing_rests s h key c is (still Issuing key (Cert c) (stands s h key c is)))
 
 ready_by : (s : Setting) (h : List Entry) (key : Key) (c : Certificate) → IsRun s h → IsAtRest s h → is_stopped s h ≡ false → certificate_at (objects s h) key ≡ Some c → CanBeIssued s h (present_views s h Issuing key) c
-    → IsSettled (moment s h) (present_views s h Issuing key) c → is_stated Ready c.status.conditions ≡ true
+    → IsReadyOrUnderWay (moment s h) (present_views s h Issuing key) c → is_stated Ready c.status.conditions ≡ true
 ready_by s h key c run rest free is can (inl ready) = ready
 ready_by s h key c run rest free is can (inr (inl waits)) = absurd (cc (waits.waits, can.tried))
 ready_by s h key c run rest free is can (inr (inr way)) = absurd (not_waiting s h key c run (still s h run rest free) (free_of s h key c is can) is way.issuing)

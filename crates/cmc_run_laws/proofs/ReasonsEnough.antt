@@ -12,7 +12,7 @@ use Rattle.cmc_objects.specs.declared.entry.Entry.{Entry}
 use Rattle.cmc_objects.specs.declared.entry.Entry.TheVariants.{Call as Called, Deliver, List as Listed, Begin, Start, Tick}
 use Rattle.cmc_objects.specs.Roles.{role_rank}
 use Rattle.cmc_model.specs.Histories.{role_eq}
-use Rattle.cmc_rules.specs.Safety.{Stands}
+use Rattle.cmc_rules.specs.Safety.{HasEntry}
 use Rattle.cmc_world.proofs.AtRest.{key_eq-refl, same_key}
 use Rattle.cmc_world.proofs.RoleStates.{same_role}
 use Rattle.cmc_run_laws.specs.Begins.{BeginsForSomething, HasReasonsEnough, IsNewBegin, IsReason, begins_on, count_of, is_reason_for}
@@ -53,7 +53,7 @@ reason_counts role m (Listed r kind to) is = own_role r role is
 reason_counts role m (Tick now) is = refl
 reason_counts role m other is = absurd is
 
-standing_counts : (role : Role) (m : ℕ) (k : List Entry) → Stands (IsReason role m) k → 1 ≤ count_of (is_reason_for role) k
+standing_counts : (role : Role) (m : ℕ) (k : List Entry) → HasEntry (IsReason role m) k → 1 ≤ count_of (is_reason_for role) k
 standing_counts role m [] is = absurd is
 standing_counts role m (e ∷ k) (inl here) = let one = counted_here (is_reason_for role) e k (reason_counts role m e here) in omega (arith, one)
 standing_counts role m (e ∷ k) (inr there) = let rest = standing_counts role m k there in let more = counted_more (is_reason_for role) e k in omega (arith, rest, more)
@@ -70,14 +70,14 @@ no_begin role key e k none off is = by (new_begin role key e is) where
   by (inl begins) = let one = counted_here (begins_on role key) e k begins in omega (arith, one, none)
   by (inr on) = cc (on, off)
 
-counted_or_none : (role : Role) (key : Key) (k : List Entry) → count_of (begins_on role key) k ≡ 0 → (1 ≤ count_of (is_reason_for role) k) ⊎ (Stands (IsNewBegin role key) k → ⊥)
+counted_or_none : (role : Role) (key : Key) (k : List Entry) → count_of (begins_on role key) k ≡ 0 → (1 ≤ count_of (is_reason_for role) k) ⊎ (HasEntry (IsNewBegin role key) k → ⊥)
 counted_or_none role key [] none = inr (λ is. is)
 counted_or_none role key (e ∷ k) none = by (is_reason_for role e) refl (counted_or_none role key k (let more = counted_more (begins_on role key) e k in omega (arith, none, more))) where
-  by : (b : Bool) → is_reason_for role e ≡ b → (1 ≤ count_of (is_reason_for role) k) ⊎ (Stands (IsNewBegin role key) k → ⊥) → (1 ≤ count_of (is_reason_for role) (e ∷ k)) ⊎ (Stands (IsNewBegin role key) (e ∷ k) → ⊥)
+  by : (b : Bool) → is_reason_for role e ≡ b → (1 ≤ count_of (is_reason_for role) k) ⊎ (HasEntry (IsNewBegin role key) k → ⊥) → (1 ≤ count_of (is_reason_for role) (e ∷ k)) ⊎ (HasEntry (IsNewBegin role key) (e ∷ k) → ⊥)
   by true on rest = inl (let one = counted_here (is_reason_for role) e k on in omega (arith, one))
   by false off (inl some) = inl (let more = counted_more (is_reason_for role) e k in omega (arith, some, more))
   by false off (inr free) = inr (λ is. none_of is) where
-    none_of : IsNewBegin role key e ⊎ Stands (IsNewBegin role key) k → ⊥
+    none_of : IsNewBegin role key e ⊎ HasEntry (IsNewBegin role key) k → ⊥
     none_of (inl new) = no_begin role key e k none off new
     none_of (inr there) = free there
 
@@ -128,7 +128,7 @@ next_low whole l n role key at now g law is (inr p) =
     let some = by (counted_or_none role key p.since p.none) in
     omega (arith, begins, reasons, low, some)
   where
-    by : (1 ≤ count_of (is_reason_for role) p.since) ⊎ (Stands (IsNewBegin role key) p.since → ⊥) → 1 ≤ count_of (is_reason_for role) p.since
+    by : (1 ≤ count_of (is_reason_for role) p.since) ⊎ (HasEntry (IsNewBegin role key) p.since → ⊥) → 1 ≤ count_of (is_reason_for role) p.since
     by (inl some) = some
     by (inr free) =
         standing_counts role p.pass p.since

@@ -37,12 +37,12 @@ use Rattle.cmc_rules.specs.Causes.{act_of, after_of, IsNextCall, IsSecretCall}
 use Rattle.cmc_rules.specs.Desks.{desk}
 use Rattle.cmc_rules.specs.Issuing.{issuing, secret_call, new_target}
 use Rattle.cmc_rules.specs.Legality.{IsLegal}
-use Rattle.cmc_rules.specs.Passes.{is_as_seen, stage_after, stage_by, stage_read, stage_written, stands_in}
+use Rattle.cmc_rules.specs.Passes.{is_as_seen, stage_after, stage_by, stage_read, stage_written, is_temporary_act}
 use Rattle.cmc_rules.specs.Positions.{cache, position_of, positions}
 use Rattle.cmc_rules.specs.Safety.{IsStatusUpdate}
 use Rattle.cmc_rules.specs.Sameness.{IsStillBehind}
 use Rattle.cmc_rules.specs.Sighting.{IsPart, OnSeen}
-use Rattle.cmc_rules.specs.Sound.{IsAnswer, IsMarked, IsOrdinary, IsRaiseOf, IsSigned, IsWithin, WritesTarget}
+use Rattle.cmc_rules.specs.Sound.{IsWriteAfterValue, IsMarked, IsOrdinary, IsRaiseOf, IsSigned, IsWithin, WritesTarget}
 use Rattle.cmc_rules.specs.Viewing.{caches, views}
 use Rattle.cmc_rules.proofs.Seen.{seen_is_version}
 use Rattle.cmc_rules.proofs.Versions.{version_keyed}
@@ -238,7 +238,7 @@ informed_calm s h q Fresh call reply legal free within next (inl on) i right =
 informed_calm s h q Fresh call reply legal free within next (inr live) i right =
     calm_read s h (key_of (Cert live.certificate)) (Cert live.certificate) reply (live_stands s h q call legal i live) (subst (λ (c : Call). IsReply s.faults (state s h) c reply) live.get right)
 informed_calm s h q (Given order value) call reply legal free within next on i right =
-    calm_under (IsAnswer q.role q.seen q.since value) s h q.seen call reply free (stands s h q call legal i) (named s h call (following_is_unnamed q.role q.seen q.since order value call on next)) on right
+    calm_under (IsWriteAfterValue q.role q.seen q.since value) s h q.seen call reply free (stands s h q call legal i) (named s h call (following_is_unnamed q.role q.seen q.since order value call on next)) on right
 informed_calm s h q Read call reply legal free within next (inl at) i right =
     let P = WritesTarget q.role q.since (IsSigned at.issues.certificate at.issues.request at.issues.file) in
     calm_under P s h q.seen call reply free (stands s h q call legal i) (secret_named s h q call legal i (inl at) next) (subst (OnSeen P q.seen) (sym at.planned) at.issues.secret) right
@@ -271,19 +271,19 @@ found_as_seen s h q stage call o legal at i right =
 by_told : (b : Bool) (s : Setting) (h : List Entry) (q : OpenPass) (call : Call) (reply : Reply) → nat_le (last_under (key_of_call call) (writes s h)) (position_of (key_of_call call).kind (positions h q.role)) ≡ b
     → IsLegal s h → AreFreeNames s h → IsWithin q.role (call_after q.role q.seen q.since) q.seen q.since (act_of s h q) → IsNextCall q.stage (act_of s h q) (after_of q) call → IsCallAt q.stage q.role q.seen q.since call
     → q.seen ≡ views s h q.role q.key → IsReply s.faults (state s h) call reply → (is_accepted_or_failed reply ≡ true → ⊥)
-    → ((version : ℕ) → reply ≡ Unchanged version → IsUntold (positions h q.role) (stage_written (stands_in (issuing q.seen q.since)) q.stage)) → IsUntold (positions h q.role) (stage_after s h call reply q)
+    → ((version : ℕ) → reply ≡ Unchanged version → IsUntold (positions h q.role) (stage_written (is_temporary_act (issuing q.seen q.since)) q.stage)) → IsUntold (positions h q.role) (stage_after s h call reply q)
 by_told true s h q call reply e legal free within next at sees right none goes =
     let i : IsInformed s h q call = record { sees = sees; told = grind (arith, nat_tests) } in
-    calm_reply (positions h q.role) q.seen.certificate (stands_in (issuing q.seen q.since)) q.stage (length h + 1) (key_of_call call).kind (last_under (key_of_call call) (writes s h)) reply none goes
+    calm_reply (positions h q.role) q.seen.certificate (is_temporary_act (issuing q.seen q.since)) q.stage (length h + 1) (key_of_call call).kind (last_under (key_of_call call) (writes s h)) reply none goes
     (informed_calm s h q q.stage call reply legal free within next at i right)
     (λ o is. found_as_seen s h q q.stage call o legal at i (subst (IsReply s.faults (state s h) call) is right))
 by_told false s h q call reply e legal free within next at sees right none goes =
-    newer_reply (positions h q.role) q.seen.certificate (stands_in (issuing q.seen q.since)) q.stage (length h + 1) (key_of_call call).kind (last_under (key_of_call call) (writes s h)) reply none goes
+    newer_reply (positions h q.role) q.seen.certificate (is_temporary_act (issuing q.seen q.since)) q.stage (length h + 1) (key_of_call call).kind (last_under (key_of_call call) (writes s h)) reply none goes
     (names_last s h call reply legal free right) (grind (arith, nat_tests))
 
 -- a call of a pass whose role still sees what the pass saw
 pub refused_untold : (s : Setting) (h : List Entry) (q : OpenPass) (call : Call) (reply : Reply) → IsLegal s h → AreFreeNames s h → IsWithin q.role (call_after q.role q.seen q.since) q.seen q.since (act_of s h q)
     → IsNextCall q.stage (act_of s h q) (after_of q) call → IsCallAt q.stage q.role q.seen q.since call → q.seen ≡ views s h q.role q.key → IsReply s.faults (state s h) call reply → (is_accepted_or_failed reply ≡ true → ⊥)
-    → ((version : ℕ) → reply ≡ Unchanged version → IsUntold (positions h q.role) (stage_written (stands_in (issuing q.seen q.since)) q.stage)) → IsUntold (positions h q.role) (stage_after s h call reply q)
+    → ((version : ℕ) → reply ≡ Unchanged version → IsUntold (positions h q.role) (stage_written (is_temporary_act (issuing q.seen q.since)) q.stage)) → IsUntold (positions h q.role) (stage_after s h call reply q)
 refused_untold s h q call reply legal free within next at sees right none goes =
     by_told (nat_le (last_under (key_of_call call) (writes s h)) (position_of (key_of_call call).kind (positions h q.role))) s h q call reply refl legal free within next at sees right none goes

@@ -40,14 +40,14 @@ use Rattle.cmc_rules.specs.Desks.{desk}
 use Rattle.cmc_rules.specs.Issuing.{issuing}
 use Rattle.cmc_rules.specs.Origins.{begun}
 use Rattle.cmc_rules.specs.Positions.{position, positions}
-use Rattle.cmc_rules.specs.Passes.{open_pass, gone_on, is_as_seen, new_pass, stage_after, stage_by, stage_given, stage_read, stage_written, stands_in, unless_of, with_stage}
+use Rattle.cmc_rules.specs.Passes.{open_pass, gone_on, is_as_seen, new_pass, stage_after, stage_by, stage_given, stage_read, stage_written, is_temporary_act, unless_of, with_stage}
 use Rattle.cmc_rules.specs.Legality.{IsLegal, IsOpen}
 use Rattle.cmc_rules.specs.Causes.{act_of, after_of, AsksBy, IsCaused, IsGivenBy, IsNextCall, IsSecretCall, MayAsk, MayCall, MayGive}
 use Rattle.cmc_rules.specs.Runs.{IsRun}
 use Rattle.cmc_rules.specs.Scripting.{scripted}
 use Rattle.cmc_rules.specs.Safety.{IsStatusUpdate}
 use Rattle.cmc_rules.specs.Sighting.{IsPart, OnSeen}
-use Rattle.cmc_rules.specs.Sound.{IsAnswer, IsMarked, IsOrdinary, IsRaiseOf, IsSigned, IsWithin, WritesTarget}
+use Rattle.cmc_rules.specs.Sound.{IsWriteAfterValue, IsMarked, IsOrdinary, IsRaiseOf, IsSigned, IsWithin, WritesTarget}
 use Rattle.cmc_rules.proofs.Positions.{accepted_short}
 use Rattle.cmc_safety.proofs.Course.{within_act}
 use Rattle.cmc_safety.proofs.InProgress.{caller_of}
@@ -267,7 +267,7 @@ reply_calm s h q Fresh call reply legal free within next (inr live) sees right =
     (subst (λ (c : Call). IsReply s.faults (state s h) c reply) live.get right)
 reply_calm s h q (Asked order) call reply legal free within next at sees right = absurd next
 reply_calm s h q (Given order value) call reply legal free within next on sees right =
-    calm_write (IsAnswer q.role q.seen q.since value) s h q.seen call reply free (stands_seen s h q.role q.key q.seen legal sees)
+    calm_write (IsWriteAfterValue q.role q.seen q.since value) s h q.seen call reply free (stands_seen s h q.role q.key q.seen legal sees)
     (new_name s h call (following_is_unnamed q.role q.seen q.since order value call on next)) on right
 reply_calm s h q Read call reply legal free within next (inl at) sees right =
     calm_write (WritesTarget q.role q.since (IsSigned at.issues.certificate at.issues.request at.issues.file)) s h q.seen call reply free (stands_seen s h q.role q.key q.seen legal sees)
@@ -345,7 +345,7 @@ call_calm s h n call reply script legal caused free calm may right =
     let sees = (calm.passes n q c.opened).sees in
     gone_calm s h n q (Called (Pass n) call reply) (stage_after s h call reply) script calm c.opened (λ m. refl) (λ m own alone. (own, alone)) refl
     (reply_calm s h q q.stage call reply legal free (within_act each_sound s h q c.saw) next c.at sees right, calm.replies)
-    (call_sees s h n q q.stage call reply (stands_in (issuing q.seen q.since)) (length h + 1) (key_of_call call).kind (last_under (key_of_call call) (writes s h)) legal next c.at sees right)
+    (call_sees s h n q q.stage call reply (is_temporary_act (issuing q.seen q.since)) (length h + 1) (key_of_call call).kind (last_under (key_of_call call) (writes s h)) legal next c.at sees right)
 
 -- ---- all moves
 

@@ -21,7 +21,7 @@ use Rattle.cmc_plain.specs.Waits.{is_stopped, wait_of, wait_of_seen, wait_in}
 use Rattle.cmc_plain.proofs.EachNamed.{each_named, still}
 use Rattle.cmc_plain.proofs.EachWait.{trigger_rests, readiness_rests}
 use Rattle.cmc_plain.proofs.Stuck.{waits_to_try}
-use Rattle.cmc_run_laws.specs.Settled.{IsSettled}
+use Rattle.cmc_run_laws.specs.Settled.{IsReadyOrUnderWay}
 
 is_certificate : (o : Option Object) (c : Certificate) → option_and_then certificate_in o ≡ Some c → o ≡ Some (Cert c)
 is_certificate None c is = absurd (cc is)
@@ -48,7 +48,7 @@ waits_on s h key c run rest free is waiting =
     (free_wait (is_stopped s h) (wait_in (moment s h) (present_views s h Issuing key)) free (each_named s h run rest key (Cert c) (stands s h key c is) (ap not waiting)))
 
 settled_by : (ready issuing : Bool) (s : Setting) (h : List Entry) (key : Key) (c : Certificate) → is_stated Ready c.status.conditions ≡ ready → is_issuing c ≡ issuing
-    → IsRun s h → IsAtRest s h → is_stopped s h ≡ false → certificate_at (objects s h) key ≡ Some c → IsSettled (moment s h) (present_views s h Issuing key) c
+    → IsRun s h → IsAtRest s h → is_stopped s h ≡ false → certificate_at (objects s h) key ≡ Some c → IsReadyOrUnderWay (moment s h) (present_views s h Issuing key) c
 settled_by true issuing s h key c ready on run rest free is = inl ready
 settled_by false true s h key c ready on run rest free is = inr (inr (record { issuing = on; waits = waits_on s h key c run rest free is ready }))
 settled_by false false s h key c ready on run rest free is =
@@ -61,5 +61,5 @@ settled_by false false s h key c ready on run rest free is =
     }))
 
 pub settled : (s : Setting) (h : List Entry) → IsRun s h → IsAtRest s h → is_stopped s h ≡ false → (key : Key) (c : Certificate) → certificate_at (objects s h) key ≡ Some c
-    → IsSettled (moment s h) (present_views s h Issuing key) c
+    → IsReadyOrUnderWay (moment s h) (present_views s h Issuing key) c
 settled s h run rest free key c is = settled_by (is_stated Ready c.status.conditions) (is_issuing c) s h key c refl refl run rest free is

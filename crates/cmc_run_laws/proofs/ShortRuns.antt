@@ -24,8 +24,9 @@ use Rattle.cmc_rules.specs.Legality.{IsLegal, IsLegalEntry}
 use Rattle.cmc_rules.specs.Runs.{IsRun}
 use Rattle.cmc_rules.specs.Scripting.{scripted}
 use Rattle.cmc_world.proofs.AtRest.{key_eq-refl, same_key}
+use Rattle.cmc_plain.specs.Waits.{all_roles}
 use Rattle.cmc_run_laws.specs.Begins.{count_of, is_accepted_or_failed}
-use Rattle.cmc_run_laws.specs.Lengths.{BeginsOn, Each, HasBoundedLength, HasFewPasses, HasShortPasses, IsToldSeldom, all_kinds, all_roles, is_begin, is_effect, is_failed, is_of_pass, is_reason, is_start, is_told, most_passes, most_reasons, most_told}
+use Rattle.cmc_run_laws.specs.Lengths.{BeginsOn, Each, HasBoundedLength, HasFewPasses, HasShortPasses, HasFewDeliveries, all_kinds, is_begin, is_effect, is_failed, is_of_pass, is_reason, is_start, is_delivery, most_passes, most_reasons, most_deliveries}
 use Rattle.cmc_run_laws.proofs.Counting.{counted_less}
 use Rattle.cmc_run_laws.proofs.ReasonsEnough.{counted_more}
 
@@ -62,7 +63,7 @@ start_is_effect other is = absurd (cc is)
 
 -- ---- all entries by their sorts
 
-by_sorts : (h : List Entry) → length h ≡ scripted h + count_of is_effect h + count_of is_told h + count_of is_begin h + count_of is_of_pass h
+by_sorts : (h : List Entry) → length h ≡ scripted h + count_of is_effect h + count_of is_delivery h + count_of is_begin h + count_of is_of_pass h
 by_sorts [] = refl
 by_sorts (Called User call reply ∷ h) = let is = by_sorts h in omega (arith, is)
 by_sorts (Called (Pass n) call reply ∷ h) = let is = by_sorts h in omega (arith, is)
@@ -80,14 +81,14 @@ called_for_reason n call (Ok version name) reasons writes failed effects told lo
 called_for_reason n call (Unavailable number) reasons writes failed effects told low = omega (arith, low)
 called_for_reason n call other reasons writes failed effects told low = omega (arith, low)
 
-reasons_from : (s : Setting) (h : List Entry) → count_of is_reason h ≤ accepted s h + count_of is_failed h + count_of is_effect h + count_of is_told h
+reasons_from : (s : Setting) (h : List Entry) → count_of is_reason h ≤ accepted s h + count_of is_failed h + count_of is_effect h + count_of is_delivery h
 reasons_from s [] = omega arith
 reasons_from s (Called User call reply ∷ h) =
     let low = reasons_from s h in
     let writes = no_fewer (is_accepted reply) (accepted s h) in
     let failed = counted_more is_failed (Called User call reply) h in
     omega (arith, low, writes, failed)
-reasons_from s (Called (Pass n) call reply ∷ h) = called_for_reason n call reply (count_of is_reason h) (accepted s h) (count_of is_failed h) (count_of is_effect h) (count_of is_told h) (reasons_from s h)
+reasons_from s (Called (Pass n) call reply ∷ h) = called_for_reason n call reply (count_of is_reason h) (accepted s h) (count_of is_failed h) (count_of is_effect h) (count_of is_delivery h) (reasons_from s h)
 reasons_from s (other ∷ h) = let low = reasons_from s h in omega (arith, low)
 
 -- ---- keys
@@ -126,7 +127,7 @@ on_known s (e ∷ h) ws legal goes =
 
 -- ---- the sum
 
-more_told : (told writes starts steps : ℕ) → told ≤ most_told writes starts → starts ≤ steps → told ≤ most_told writes steps
+more_told : (told writes starts steps : ℕ) → told ≤ most_deliveries writes starts → starts ≤ steps → told ≤ most_deliveries writes steps
 more_told told writes starts steps low few =
     let one = mul-le writes (starts + 1) writes (steps + 1) (omega arith) (omega (arith, few)) in
     let of_kinds = mul-le (length all_kinds) (writes * (starts + 1)) (length all_kinds) (writes * (steps + 1)) (omega arith) one in
@@ -146,17 +147,17 @@ sum_up : (n steps effects told begins rest most_told most : ℕ) → n ≡ steps
     → n ≤ (steps + steps) + most_told + (most + most * 4)
 sum_up n steps effects told begins rest most_told most is few seldom low short = omega (arith, is, few, seldom, low, short)
 
-pub bounded_length : (s : Setting) (whole : List Entry) → IsRun s whole → HasFewPasses whole → HasShortPasses whole → IsToldSeldom s whole → HasBoundedLength s whole
+pub bounded_length : (s : Setting) (whole : List Entry) → IsRun s whole → HasFewPasses whole → HasShortPasses whole → HasFewDeliveries s whole → HasBoundedLength s whole
 bounded_length s whole run passes short seldom =
     let written = accepted s whole in
     let failed = count_of is_failed whole in
     let steps = scripted whole in
     let effects : count_of is_effect whole ≤ steps = (let few = effects_few s whole run.follows in omega (arith, few)) in
     let starts : count_of is_start whole ≤ steps = (let less = counted_less is_start is_effect whole start_is_effect in omega (arith, less, effects)) in
-    let told = more_told (count_of is_told whole) written (count_of is_start whole) steps seldom starts in
-    let reasons = all_reasons (count_of is_reason whole) written failed (count_of is_effect whole) (count_of is_told whole) steps (most_told written steps) (reasons_from s whole) effects told in
+    let told = more_told (count_of is_delivery whole) written (count_of is_start whole) steps seldom starts in
+    let reasons = all_reasons (count_of is_reason whole) written failed (count_of is_effect whole) (count_of is_delivery whole) steps (most_deliveries written steps) (reasons_from s whole) effects told in
     let keys : length (keys_of (writes s whole)) ≡ written = length-map (writes s whole) (λ (w : Write). w.key) ∙ writes_count s whole in
     let begins = more_passes (count_of is_begin whole) (length (keys_of (writes s whole))) written (count_of is_reason whole) (most_reasons written failed steps)
     (passes (keys_of (writes s whole)) (on_known s whole (writes s whole) run.legal (λ key is. is))) keys reasons in
-    sum_up (length whole) steps (count_of is_effect whole) (count_of is_told whole) (count_of is_begin whole) (count_of is_of_pass whole) (most_told written steps) (most_passes written failed steps)
+    sum_up (length whole) steps (count_of is_effect whole) (count_of is_delivery whole) (count_of is_begin whole) (count_of is_of_pass whole) (most_deliveries written steps) (most_passes written failed steps)
     (by_sorts whole) effects told begins short

@@ -45,9 +45,9 @@ use Rattle.cmc_rules.specs.Issuing.{issuing}
 use Rattle.cmc_rules.specs.Legality.{IsLegal, IsLegalEntry}
 use Rattle.cmc_rules.specs.Memory.{ending_at, ending_of, no_past, past, with_begin, with_ending, with_own}
 use Rattle.cmc_rules.specs.Origins.{begun}
-use Rattle.cmc_rules.specs.Passes.{gone_on, is_as_seen, is_pass_of, new_pass, open_pass, stage_after, stage_by, stage_given, stage_read, stage_written, stands_in, unless_of, with_stage}
+use Rattle.cmc_rules.specs.Passes.{gone_on, is_as_seen, is_pass_of, new_pass, open_pass, stage_after, stage_by, stage_given, stage_read, stage_written, is_temporary_act, unless_of, with_stage}
 use Rattle.cmc_rules.specs.Positions.{position, positions}
-use Rattle.cmc_rules.specs.Safety.{Stands}
+use Rattle.cmc_rules.specs.Safety.{HasEntry}
 use Rattle.cmc_rules.specs.Sound.{IsWithin}
 use Rattle.cmc_rules.specs.Sameness.{EndsAlike, IsSame}
 use Rattle.cmc_rules.specs.Viewing.{views, views_in}
@@ -132,7 +132,7 @@ abbrev pub NoneIsIdle : Setting → Begun → Type 0
 NoneIsIdle s b =
     (h : List Entry) (stage : Stage) (call : Call) (version : ℕ) → IsLegal s h → moment s h ≡ b.since → views s h b.role b.key ≡ b.seen → AskedByAct b.role b.seen b.since stage
     → IsNextCall stage (act_of s h (come_to b stage)) (after_of (come_to b stage)) call → IsCallAt stage b.role b.seen b.since call
-    → IsReply s.faults (state s h) call (Unchanged version) → stage_written (stands_in (issuing b.seen b.since)) stage ≡ Saved
+    → IsReply s.faults (state s h) call (Unchanged version) → stage_written (is_temporary_act (issuing b.seen b.since)) stage ≡ Saved
 
 -- ---- what entries leave
 
@@ -227,7 +227,7 @@ call_stage s h b n call reply legal caused free idle may right told sees present
           (refused_untold s h (come_to b stage) call reply legal free (subst (λ (q : OpenPass). IsWithin q.role (call_after q.role q.seen q.since) q.seen q.since (act_of s h q)) same within) next at (sym sees) right none
           (λ version is.
           subst (IsUntold (positions h b.role)) (sym (idle h stage call version legal present sees so.asked next at (subst (IsReply s.faults (state s h) call) is right))) tt));
-      asked = after_asked b.role b.seen b.since b.seen.certificate (stands_in (issuing b.seen b.since)) stage (length h + 1) (key_of_call call).kind (last_under (key_of_call call) (writes s h)) reply;
+      asked = after_asked b.role b.seen b.since b.seen.certificate (is_temporary_act (issuing b.seen b.since)) stage (length h + 1) (key_of_call call).kind (last_under (key_of_call call) (writes s h)) reply;
     }
 
 -- the call is one of the pass and a reason, or it is none
@@ -490,16 +490,16 @@ abbrev pub HasFreeNames : Setting → Type 0
 HasFreeNames s = (h : List Entry) → length h ≤ s.events → AreFreeNames s h
 
 entry_more : (s : Setting) (h : List Entry) (b : Begun) (e : Entry) (k : List Entry) → IsLegal s h → IsCaused s h → AreFreeNames s h → NoneIsIdle s b → IsLegalEntry s h e → IsCausedEntry s h e → (IsNewBegin b.role b.key e → ⊥)
-    → Stands (IsReason b.role b.pass) k ⊎ IsSinceOrStopped s h b → Stands (IsReason b.role b.pass) (e ∷ k) ⊎ IsSinceOrStopped s (e ∷ h) b
+    → HasEntry (IsReason b.role b.pass) k ⊎ IsSinceOrStopped s h b → HasEntry (IsReason b.role b.pass) (e ∷ k) ⊎ IsSinceOrStopped s (e ∷ h) b
 entry_more s h b e k legal caused free idle right may none (inl stands) = inl (inr stands)
 entry_more s h b e k legal caused free idle right may none (inr (inl off)) = inr (inl (stays_stopped s h b e none off))
 entry_more s h b e k legal caused free idle right may none (inr (inr i)) = by (since_step s h b e legal caused free idle right may none i) where
-  by : ReasonOr b e (IsSinceOrStopped s (e ∷ h) b) → Stands (IsReason b.role b.pass) (e ∷ k) ⊎ IsSinceOrStopped s (e ∷ h) b
+  by : ReasonOr b e (IsSinceOrStopped s (e ∷ h) b) → HasEntry (IsReason b.role b.pass) (e ∷ k) ⊎ IsSinceOrStopped s (e ∷ h) b
   by (inl reason) = inl (inl reason)
   by (inr still) = inr still
 
 pub reason_or_still : (s : Setting) (base : List Entry) (b : Begun) (k : List Entry) → HasFreeNames s → NoneIsIdle s b → IsLegal s (k ++ base) → IsCaused s (k ++ base) → length (k ++ base) ≤ s.events
-    → (Stands (IsNewBegin b.role b.key) k → ⊥) → IsSince s base b → Stands (IsReason b.role b.pass) k ⊎ IsSinceOrStopped s (k ++ base) b
+    → (HasEntry (IsNewBegin b.role b.key) k → ⊥) → IsSince s base b → HasEntry (IsReason b.role b.pass) k ⊎ IsSinceOrStopped s (k ++ base) b
 unfolding IsLegal IsCaused
 reason_or_still s base b [] free idle legal caused short none i = inr (inr i)
 reason_or_still s base b (e ∷ k) free idle legal caused short none i =

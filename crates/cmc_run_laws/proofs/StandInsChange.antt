@@ -4,20 +4,20 @@ use Rattle.std.proofs.lemmas.Bool.{and_parts}
 use Rattle.std.specs.Prelude.{if◌then◌else◌, codes, nat_le}
 use Rattle.cmc_der.specs.Keys.{PublicKey, CertificateFields}
 use Rattle.cmc_meta.specs.declared.key.Key.{Key}
-use Rattle.cmc_meta.specs.PairLists.{text_at}
+use Rattle.cmc_meta.specs.PairLists.{text_by_key}
 use Rattle.cmc_x509.specs.ReadKeys.{key_file_at}
-use Rattle.cmc_x509.specs.ReadCertificates.{certificate_at}
+use Rattle.cmc_x509.specs.ReadCertificates.{certificate_fields_at}
 use Rattle.cmc_objects.specs.declared.certificate.Certificate.{Certificate}
 use Rattle.cmc_objects.specs.declared.request.CertificateRequest.{CertificateRequest}
 use Rattle.cmc_objects.specs.declared.secret.Secret.{Secret as SecretObject}
 use Rattle.cmc_objects.specs.declared.object.Object.{Object}
 use Rattle.cmc_objects.specs.declared.object.Object.TheVariants.{Cert, Request, Secret}
 use Rattle.cmc_objects.specs.declared.role.Role.{Role}
-use Rattle.cmc_objects.specs.KeyPairs.{is_one_key, with_key}
+use Rattle.cmc_objects.specs.KeyPairs.{is_one_key, fields_with_key}
 use Rattle.cmc_objects.specs.Objects.{key_of}
 use Rattle.cmc_objects.specs.Requests.{is_denied, is_run_time}
 use Rattle.cmc_answers.specs.Temporary.{temporary}
-use Rattle.cmc_match.specs.Facts.{certificate_in, fits, key_in, pair_in}
+use Rattle.cmc_match.specs.Facts.{certificate_file_in, fits, key_in, pair_in}
 use Rattle.cmc_match.specs.Marks.{asks_for_temporary, is_temporary}
 use Rattle.cmc_match.specs.Revisions.{next_request}
 use Rattle.cmc_match.proofs.PairLaws.{pair_again}
@@ -27,11 +27,11 @@ use Rattle.cmc_pass.specs.declared.pass.Views.{Views}
 use Rattle.cmc_pass.specs.declared.pass.Act.{Act}
 use Rattle.cmc_pass.specs.declared.pass.Act.TheVariants.{Nothing, Issue, Temporary}
 use Rattle.cmc_pass.specs.declared.pass.TemporaryPlan.{TemporaryPlan}
-use Rattle.cmc_rules.specs.Issuing.{issuing, issuing_of, with_key_of, with_file, with_request, with_wanted, with_granted, while_waiting, stand_in_with, temporary_plan, is_granted, is_certified, is_kept_for_keys, lacks_certificate, lacks_pair, is_of_file, failure, fails_now, refusal, issue_plan, secret_call, new_target, old_target, filled}
+use Rattle.cmc_rules.specs.Issuing.{issuing, issuing_of, with_key_of, with_file, with_request, with_wanted, with_granted, while_waiting, temporary_with, temporary_plan, is_granted, is_certified, is_kept_for_keys, lacks_certificate, lacks_pair, is_of_file, failure, fails_now, refusal, issue_plan, secret_call, new_target, old_target, filled}
 use Rattle.cmc_rules.specs.NextKeys.{named_key}
 use Rattle.cmc_rules.specs.NextRequests.{is_refused, is_wanted}
 use Rattle.cmc_rules.specs.Sighting.{IsPart, ForSeen, OnSeen}
-use Rattle.cmc_rules.specs.Sound.{IsMarked, IsStandingIn, WritesTarget}
+use Rattle.cmc_rules.specs.Sound.{IsMarked, IsTemporaryPlan, WritesTarget}
 use Rattle.cmc_rules.specs.Triggering.{is_issuing}
 use Rattle.cmc_rules.proofs.Lines.{by_test}
 use Rattle.cmc_run_laws.proofs.IdleCalls.{ChangesSeen}
@@ -59,7 +59,7 @@ of_plan : (seen : Views) (c : Certificate) (file made : List ℕ) → lacks_cert
 unfolding temporary_plan
 of_plan seen c file made lacks = record { certificate = c; file = file; made = made; planned = refl; lacks = lacks }
 
-of_stand_in : (seen : Views) (c : Certificate) (file : List ℕ) (made : Option (List ℕ)) → lacks_certificate file seen.secret ≡ true → StandsInWell seen (stand_in_with c file seen.secret made)
+of_stand_in : (seen : Views) (c : Certificate) (file : List ℕ) (made : Option (List ℕ)) → lacks_certificate file seen.secret ≡ true → StandsInWell seen (temporary_with c file seen.secret made)
 of_stand_in seen c file None lacks = tt
 of_stand_in seen c file (Some made) lacks = by_test (StandsInWell seen) (nat_le (length made) 16777216) _ _ (λ small. of_plan seen c file made lacks) (λ large. tt)
 
@@ -129,7 +129,7 @@ revised_secret next j new = (
 )
 
 -- a pair for the key is not lacked
-not_lacking : (key : Option PublicKey) (certificate : Option CertificateFields) (fields : CertificateFields) → with_key key certificate ≡ Some fields → is_of_file key fields.key ≡ true
+not_lacking : (key : Option PublicKey) (certificate : Option CertificateFields) (fields : CertificateFields) → fields_with_key key certificate ≡ Some fields → is_of_file key fields.key ≡ true
 not_lacking None certificate fields is = absurd (cc is)
 not_lacking (Some own) None fields is = absurd (cc is)
 not_lacking (Some own) (Some found) fields is = by (is_one_key own found.key) refl is where
@@ -137,10 +137,10 @@ not_lacking (Some own) (Some found) fields is = by (is_one_key own found.key) re
   by true e some = let same : found ≡ fields = cc some in subst (λ (f : CertificateFields). is_one_key own f.key ≡ true) same e
   by false e some = absurd (cc some)
 
-no_pair_lacked : (file made : List ℕ) (k : SecretObject) (fields : CertificateFields) → pair_in k ≡ Some fields → with_key (key_file_at file) (certificate_at made) ≡ Some fields → lacks_pair file k (pair_in k) ≡ true → ⊥
+no_pair_lacked : (file made : List ℕ) (k : SecretObject) (fields : CertificateFields) → pair_in k ≡ Some fields → fields_with_key (key_file_at file) (certificate_fields_at made) ≡ Some fields → lacks_pair file k (pair_in k) ≡ true → ⊥
 no_pair_lacked file made k fields is pair lacks =
     let off : lacks_pair file k (pair_in k) ≡ false =
-    ap (lacks_pair file k) is ∙ ap (λ (b : Bool). is_temporary k && not b) (not_lacking (key_file_at file) (certificate_at made) fields pair) ∙ none (is_temporary k) in
+    ap (lacks_pair file k) is ∙ ap (λ (b : Bool). is_temporary k && not b) (not_lacking (key_file_at file) (certificate_fields_at made) fields pair) ∙ none (is_temporary k) in
     cc (lacks, off)
   where
     none : (b : Bool) → (b && false) ≡ false
@@ -150,15 +150,15 @@ no_pair_lacked file made k fields is pair lacks =
 -- the pair of what an update with this key and this certificate stores
 written_pair : (c d : Certificate) (r : CertificateRequest) (file other made : List ℕ) (role : Role) (now : ℤ) (k new : SecretObject) (seen : Views) (rule : Object → Bool → Option ℕ) → is_run_time now ≡ true → new.parts ≡ filled file made [] k.parts
     → ForSeen (WritesTarget role now (IsMarked d r other now)) seen (key_of (Secret new)) k.meta.version (λ next old. Some (revised next old (Secret new))) rule
-    → (fields : CertificateFields) × (with_key (key_file_at file) (certificate_at made) ≡ Some fields)
+    → (fields : CertificateFields) × (fields_with_key (key_file_at file) (certificate_fields_at made) ≡ Some fields)
 written_pair c d r file other made role now k new seen rule run parts on =
     let old = kind_text on.old new (ap (λ (q : Key). q.kind) on.key) in
     let w = revised_secret 0 old.0 new in
     let stored : Some (revised 0 on.old (Secret new)) ≡ Some (Secret w.0) = ap (λ (o : Object). Some (revised 0 o (Secret new))) old.1 ∙ ap Some w.1 in
     let target = ((on.changes 0).target w.0 stored).target run in
     let whole : w.0.parts ≡ filled file made [] k.parts = w.2 ∙ parts in
-    let key : key_in w.0 ≡ Some file = ap (λ (l : List (List ℕ × List ℕ)). text_at l (codes "tls.key")) whole ∙ filled_key file made [] k.parts in
-    let certificate : certificate_in w.0 ≡ Some made = ap (λ (l : List (List ℕ × List ℕ)). text_at l (codes "tls.crt")) whole ∙ filled_certificate file made [] k.parts in
+    let key : key_in w.0 ≡ Some file = ap (λ (l : List (List ℕ × List ℕ)). text_by_key l (codes "tls.key")) whole ∙ filled_key file made [] k.parts in
+    let certificate : certificate_file_in w.0 ≡ Some made = ap (λ (l : List (List ℕ × List ℕ)). text_by_key l (codes "tls.crt")) whole ∙ filled_certificate file made [] k.parts in
     (target.fields, sym (secret_pair w.0 file made key certificate) ∙ pair_again w.0 target.fields target.pair)
 
 changes_target : (seen : Views) (c d : Certificate) (r : CertificateRequest) (file other made : List ℕ) (role : Role) (now : ℤ) (target : Option SecretObject) → seen.secret ≡ target → is_run_time now ≡ true → lacks_certificate file target ≡ true
@@ -172,13 +172,13 @@ changes_target seen c d r file other made role now (Some k) sees run lacks on = 
   λ same.
       let pair = written_pair c d r file other made role now k (old_target true c file made [] k) seen _ run refl on in
       let parts : filled file made [] k.parts ≡ k.parts = ap (parts_of k) same in
-      let key : key_in k ≡ Some file = ap (λ (l : List (List ℕ × List ℕ)). text_at l (codes "tls.key")) (sym parts) ∙ filled_key file made [] k.parts in
-      let certificate : certificate_in k ≡ Some made = ap (λ (l : List (List ℕ × List ℕ)). text_at l (codes "tls.crt")) (sym parts) ∙ filled_certificate file made [] k.parts in
+      let key : key_in k ≡ Some file = ap (λ (l : List (List ℕ × List ℕ)). text_by_key l (codes "tls.key")) (sym parts) ∙ filled_key file made [] k.parts in
+      let certificate : certificate_file_in k ≡ Some made = ap (λ (l : List (List ℕ × List ℕ)). text_by_key l (codes "tls.crt")) (sym parts) ∙ filled_certificate file made [] k.parts in
       no_pair_lacked file made k pair.0 (secret_pair k file made key certificate ∙ pair.1) pair.1 lacks,
 )
 
 -- so a stand-in that is written changes the Secret
-pub changes_stand_in : (seen : Views) (role : Role) (now : ℤ) (plan : TemporaryPlan) → is_run_time now ≡ true → IsLacking seen plan → IsStandingIn role seen now plan → ChangesSeen seen plan.secret
+pub changes_stand_in : (seen : Views) (role : Role) (now : ℤ) (plan : TemporaryPlan) → is_run_time now ≡ true → IsLacking seen plan → IsTemporaryPlan role seen now plan → ChangesSeen seen plan.secret
 changes_stand_in seen role now plan run l is =
     subst (ChangesSeen seen) (sym l.planned)
     (changes_target seen l.certificate is.certificate is.request l.file is.file l.made role now seen.secret refl run l.lacks

@@ -102,7 +102,7 @@ of_issue_call seen moment reason c sees order off =
 of_reason : (seen : Views) (moment : ℤ) (list : List CertificateRequest) (c : Certificate) (reason : Option Reason) → seen.certificate ≡ Some c → SeesInOrder seen → triggering.is_issuing c ≡ false
     → IsProperAct seen (for_reason moment list c reason)
 of_reason seen moment list c None sees order off = tt
-of_reason seen moment list c (Some reason) sees order off = either seen (triggering.is_held_back moment list c) Nothing (issue_call moment reason c) tt (of_issue_call seen moment reason c sees order off)
+of_reason seen moment list c (Some reason) sees order off = either seen (triggering.is_in_back_off moment list c) Nothing (issue_call moment reason c) tt (of_issue_call seen moment reason c sees order off)
 
 triggers : (seen : Views) (moment : ℤ) (secret : Option SecretObject) (list : List CertificateRequest) (c : Option Certificate) → seen.certificate ≡ c → SeesInOrder seen → IsProperAct seen (triggering.for_option moment secret list c)
 unfolding for_certificate
@@ -188,7 +188,7 @@ of_stale : (seen : Views) (c : Certificate) (file : List ℕ) (list : List Certi
 of_stale seen c file list None = of_count seen c file (next_requests c list)
 of_stale seen c file list (Some r) = of_deletion seen r
 
-of_file : (seen : Views) (c : Certificate) (list : List CertificateRequest) (file : Option (List ℕ)) → IsProperAct seen (requests.with_file c list file)
+of_file : (seen : Views) (c : Certificate) (list : List CertificateRequest) (file : Option (List ℕ)) → IsProperAct seen (requests.with_request_file c list file)
 of_file seen c list None = tt
 of_file seen c list (Some file) = search (either, of_stale)
 
@@ -280,7 +280,7 @@ unfolding issue_plan issuance.status_call
 of_plan seen moment c file r target sees order =
     (of_secret false c file _ _ target, record { changes = restates_certificate seen c (issued_status moment c.status) sees (issued_differs moment c); orderly = issued_order moment c (order c sees) })
 
-of_stand_in : (seen : Views) (c : Certificate) (file : List ℕ) (target : Option SecretObject) (certificate : Option (List ℕ)) → IsProperAct seen (issuance.stand_in_with c file target certificate)
+of_stand_in : (seen : Views) (c : Certificate) (file : List ℕ) (target : Option SecretObject) (certificate : Option (List ℕ)) → IsProperAct seen (issuance.temporary_with c file target certificate)
 unfolding temporary_plan
 of_stand_in seen c file target None = tt
 of_stand_in seen c file target (Some certificate) = search (either, of_secret)
@@ -321,7 +321,7 @@ issues seen moment next target list (Some c) sees order = by_test (IsProperAct s
 
 -- ---- readiness
 
-moment_itself : (x : Option ℤ) → readying.is_moment x x ≡ true
+moment_itself : (x : Option ℤ) → readying.is_same_moment x x ≡ true
 moment_itself None = refl
 moment_itself (Some t) = (Decides-int_eq t t).1 refl
 

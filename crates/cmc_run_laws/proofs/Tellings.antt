@@ -18,8 +18,9 @@ use Rattle.cmc_rules.specs.Legality.{IsLegal}
 use Rattle.cmc_rules.proofs.Positions.{positions_low}
 use Rattle.cmc_world.proofs.AtRest.{same_kind}
 use Rattle.cmc_world.proofs.RoleStates.{same_role}
+use Rattle.cmc_plain.specs.Waits.{all_roles}
 use Rattle.cmc_run_laws.specs.Begins.{count_of}
-use Rattle.cmc_run_laws.specs.Lengths.{IsToldSeldom, all_kinds, all_roles, is_start, is_told}
+use Rattle.cmc_run_laws.specs.Lengths.{HasFewDeliveries, all_kinds, is_start, is_delivery}
 use Rattle.cmc_run_laws.proofs.Counting.{counted_by_parts, is_in_part, of_all}
 use Rattle.cmc_run_laws.proofs.FewPasses.{some_role}
 
@@ -89,14 +90,14 @@ of_a_kind role (Deliver r k to) is = some_kind (role_eq r role) k is
 of_a_kind role (Listed r k to) is = some_kind (role_eq r role) k is
 of_a_kind role other is = absurd (cc is)
 
-to_a_role : (e : Entry) → is_told e ≡ true → is_in_part is_told_of all_roles e ≡ true
+to_a_role : (e : Entry) → is_delivery e ≡ true → is_in_part is_told_of all_roles e ≡ true
 to_a_role (Deliver r k to) is = some_role r
 to_a_role (Listed r k to) is = some_role r
 to_a_role other is = absurd (cc is)
 
-pub told_seldom : (s : Setting) (whole : List Entry) → IsLegal s whole → IsToldSeldom s whole
+pub told_seldom : (s : Setting) (whole : List Entry) → IsLegal s whole → HasFewDeliveries s whole
 told_seldom s whole legal =
-    counted_by_parts is_told is_told_of all_roles whole (length all_kinds * (accepted s whole * (count_of is_start whole + 1))) (of_all _ whole to_a_role) (of_all _ all_roles of_role)
+    counted_by_parts is_delivery is_told_of all_roles whole (length all_kinds * (accepted s whole * (count_of is_start whole + 1))) (of_all _ whole to_a_role) (of_all _ all_roles of_role)
   where
     of_role : (role : Role) → count_of (is_told_of role) whole ≤ length all_kinds * (accepted s whole * (count_of is_start whole + 1))
     of_role role =

@@ -33,7 +33,7 @@ use Rattle.cmc_pass.specs.declared.value.Value.TheVariants as values
 use Rattle.cmc_rules.specs.Acts.{act, call_after}
 use Rattle.cmc_rules.specs.Answering.{answered, issued_condition, pending_condition, failed_condition}
 use Rattle.cmc_rules.specs.Approving as approving
-use Rattle.cmc_rules.specs.Approving.{approver, judged_after, ask_judgement, judge_call, judged_status, approval, denied_for, verdict_by, verdict_on, verdict_of}
+use Rattle.cmc_rules.specs.Approving.{approver, judged_after, ask_judgement, verdict_call, judged_status, approval, denied_for, verdict_by, verdict_on, verdict_of}
 use Rattle.cmc_rules.specs.Granting as granting
 use Rattle.cmc_rules.specs.Granting.{issuer, answered_after, ask_issuer}
 use Rattle.cmc_rules.specs.KeyManaging as keys
@@ -117,7 +117,7 @@ judged_differs r verdict is same =
     cc (on, off)
 
 judged : (seen : Views) (x : Option CertificateRequest) (verdict : Option Condition) → seen.request ≡ x → ((r : CertificateRequest) → x ≡ Some r → IsVerdictOn r verdict) → ChangesOption seen (approving.judged_for x verdict)
-unfolding judge_call
+unfolding verdict_call
 judged seen None verdict sees is = tt
 judged seen (Some r) None sees is = tt
 judged seen (Some r) (Some verdict) sees is = restates_request seen r (judged_status verdict r.status) sees (judged_differs r verdict (is r refl))
@@ -127,7 +127,7 @@ judged seen (Some r) (Some verdict) sees is = restates_request seen r (judged_st
 record IsUnanswered (moment : ℤ) (r : CertificateRequest) : Type 0 where
   issued : granting.has_reason (codes "Issued") r ≡ false
   failed : granting.has_reason (codes "Failed") r ≡ false
-  waits : granting.is_waiting moment r ≡ false
+  waits : granting.is_request_waiting moment r ≡ false
 
 not_false : (b : Bool) → not b ≡ true → b ≡ false
 not_false true is = absurd (cc is)
@@ -153,7 +153,7 @@ grants_open : (moment : ℤ) (desk : Desk) (x : Option CertificateRequest) (orde
 grants_open moment desk None order is r sees = absurd (cc sees)
 grants_open moment desk (Some q) order is r sees =
     let same : q ≡ r = cc sees in
-    let on = grants_by (is_denied q) (granting.is_open q) (granting.is_waiting moment q) (granting.has_reason (codes "Denied") q) (granting.status_call (granting.denied_status q.status moment) q) (ask_issuer moment desk q) order is in
+    let on = grants_by (is_denied q) (granting.is_open q) (granting.is_request_waiting moment q) (granting.has_reason (codes "Denied") q) (granting.status_call (granting.denied_status q.status moment) q) (ask_issuer moment desk q) order is in
     let unmet = open_one q on.0 in
     subst (IsUnanswered moment) same (record { issued = unmet.0; failed = unmet.1; waits = on.1 })
 
@@ -182,7 +182,7 @@ answer_differs r (signings.Issued certificate ca) moment unmet same =
 answer_differs r signings.Pending moment unmet same =
     let found : condition_at r.status.conditions conditions.Ready ≡ Some (pending_condition moment) =
     subst (λ (l : List Condition). condition_at l conditions.Ready ≡ Some (pending_condition moment)) (ap (λ (st : RequestStatus). st.conditions) same) (found_renewed r.status.conditions (pending_condition moment)) in
-    let waits : granting.is_waiting moment r ≡ true = ap (granting.is_waiting_on moment) found ∙ within_minute moment in
+    let waits : granting.is_request_waiting moment r ≡ true = ap (granting.is_waiting_on moment) found ∙ within_minute moment in
     let off = unmet.waits in
     cc (waits, off)
 answer_differs r (signings.Failed message) moment unmet same =

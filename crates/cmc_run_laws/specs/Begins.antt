@@ -10,7 +10,7 @@ use Rattle.cmc_objects.specs.declared.entry.Who.TheVariants.{Pass}
 use Rattle.cmc_objects.specs.declared.entry.Entry.{Entry}
 use Rattle.cmc_objects.specs.declared.entry.Entry.TheVariants.{Call as Called, Deliver, List as Listed, Begin, Start, Tick}
 use Rattle.cmc_model.specs.Histories.{role_eq}
-use Rattle.cmc_rules.specs.Safety.{Stands}
+use Rattle.cmc_rules.specs.Safety.{HasEntry}
 
 -- the call was accepted, or it failed
 abbrev pub is_accepted_or_failed : Reply → Bool
@@ -37,7 +37,7 @@ IsNewBegin role key other = ⊥
 abbrev pub BeginsForSomething : List Entry → Type 0
 BeginsForSomething whole =
     (l k h : List Entry) (n m : ℕ) (role : Role) (key : Key) (at was : Positions) (now since : ℤ) → whole ≡ l ++ (Begin n role key at now ∷ (k ++ (Begin m role key was since ∷ h)))
-    → (Stands (IsNewBegin role key) k → ⊥) → Stands (IsReason role m) k
+    → (HasEntry (IsNewBegin role key) k → ⊥) → HasEntry (IsReason role m) k
 
 -- ---- how many passes begin
 

@@ -13,8 +13,8 @@ use Rattle.cmc_pass.specs.declared.pass.Views.{Views}
 use Rattle.cmc_rules.specs.Triggering.{frame_of}
 
 -- the Certificate with this status, at its new version
-abbrev pub restated : ℕ → CertStatus → Certificate → Certificate
-restated version status c = record c { meta = record c.meta { version = version }; status = status }
+abbrev pub certificate_restated : ℕ → CertStatus → Certificate → Certificate
+certificate_restated version status c = record c { meta = record c.meta { version = version }; status = status }
 
 -- the same views, but for the Certificate, or for its Secret too
 abbrev pub with_certificate : Certificate → Views → Views

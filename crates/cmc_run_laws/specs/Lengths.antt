@@ -5,23 +5,19 @@ use Rattle.cmc_meta.specs.declared.key.Key.{Key}
 use Rattle.cmc_meta.specs.declared.key.Kind.{Kind}
 use Rattle.cmc_meta.specs.declared.key.Kind.TheVariants.{Certificate, CertificateRequest, Secret}
 use Rattle.cmc_meta.specs.Keys.{key_eq}
-use Rattle.cmc_objects.specs.declared.role.Role.{Role}
-use Rattle.cmc_objects.specs.declared.role.Role.TheVariants.{Trigger, KeyManager, RequestManager, Approver, Issuer, Issuing, Readiness, Revision}
 use Rattle.cmc_objects.specs.declared.call.Reply.TheVariants.{Unavailable}
 use Rattle.cmc_objects.specs.declared.entry.Who.TheVariants.{User, Pass}
 use Rattle.cmc_objects.specs.declared.entry.Entry.{Entry}
 use Rattle.cmc_objects.specs.declared.entry.Entry.TheVariants.{Call as Called, Deliver, List as Listed, Begin, Ask, Made, Signed, Answered, Judged, End, Stop, Start, Tick}
 use Rattle.cmc_model.specs.Histories.{Setting, accepted}
 use Rattle.cmc_rules.specs.Scripting.{scripted}
+use Rattle.cmc_plain.specs.Waits.{all_roles}
 use Rattle.cmc_run_laws.specs.Begins.{count_of, is_accepted_or_failed}
 
 -- each item of the list is so
 abbrev pub Each : {A : Type 0} → (A → Type 0) → List A → Type 0
 Each P [] = Unit {0}
 Each P (x ∷ xs) = P x × Each P xs
-
-abbrev pub all_roles : List Role
-all_roles = Trigger ∷ KeyManager ∷ RequestManager ∷ Approver ∷ Issuer ∷ Issuing ∷ Readiness ∷ Revision ∷ []
 
 -- ---- how many passes begin
 
@@ -73,21 +69,21 @@ HasShortPasses whole = count_of is_of_pass whole ≤ count_of is_begin whole * m
 abbrev pub all_kinds : List Kind
 all_kinds = Certificate ∷ CertificateRequest ∷ Secret ∷ []
 
-abbrev pub is_told : Entry → Bool
-is_told (Deliver role kind to) = true
-is_told (Listed role kind to) = true
-is_told other = false
+abbrev pub is_delivery : Entry → Bool
+is_delivery (Deliver role kind to) = true
+is_delivery (Listed role kind to) = true
+is_delivery other = false
 
 abbrev pub is_start : Entry → Bool
 is_start (Start role at) = true
 is_start other = false
 
 -- each role is told of each kind once for each accepted write, and again after each start
-abbrev pub most_told : ℕ → ℕ → ℕ
-most_told writes starts = length all_roles * (length all_kinds * (writes * (starts + 1)))
+abbrev pub most_deliveries : ℕ → ℕ → ℕ
+most_deliveries writes starts = length all_roles * (length all_kinds * (writes * (starts + 1)))
 
-abbrev pub IsToldSeldom : Setting → List Entry → Type 0
-IsToldSeldom s whole = count_of is_told whole ≤ most_told (accepted s whole) (count_of is_start whole)
+abbrev pub HasFewDeliveries : Setting → List Entry → Type 0
+HasFewDeliveries s whole = count_of is_delivery whole ≤ most_deliveries (accepted s whole) (count_of is_start whole)
 
 -- ---- all entries
 
@@ -105,7 +101,7 @@ is_failed other = false
 
 -- a reason for a pass is an accepted write, a failed call, a step or what a role is told
 abbrev pub most_reasons : ℕ → ℕ → ℕ → ℕ
-most_reasons writes failed steps = writes + failed + steps + most_told writes steps
+most_reasons writes failed steps = writes + failed + steps + most_deliveries writes steps
 
 -- each role begins a pass on each key that is written once, and once more for each reason
 abbrev pub most_passes : ℕ → ℕ → ℕ → ℕ
@@ -113,7 +109,7 @@ most_passes writes failed steps = length all_roles * (writes * (most_reasons wri
 
 -- each step with what it has happen, what roles are told, and the passes with their Begin and their other entries
 abbrev pub most_entries : ℕ → ℕ → ℕ → ℕ
-most_entries writes failed steps = (steps + steps) + most_told writes steps + (most_passes writes failed steps + most_passes writes failed steps * most_of_pass)
+most_entries writes failed steps = (steps + steps) + most_deliveries writes steps + (most_passes writes failed steps + most_passes writes failed steps * most_of_pass)
 
 -- The length of a run is bounded by its accepted writes, its failed calls and the steps of its script that were made.
 abbrev pub HasBoundedLength : Setting → List Entry → Type 0

@@ -13,7 +13,7 @@ use Rattle.cmc_match.specs.Facts.{fits}
 use Rattle.cmc_match.specs.Revisions.{next_request}
 use Rattle.cmc_model.specs.Histories.{Setting, moment}
 use Rattle.cmc_rules.specs.Approving.{is_covered}
-use Rattle.cmc_rules.specs.Granting.{is_waiting}
+use Rattle.cmc_rules.specs.Granting.{is_request_waiting}
 use Rattle.cmc_rules.specs.Issuing.{is_kept_for_keys}
 use Rattle.cmc_rules.specs.KeyManaging.{target_key}
 use Rattle.cmc_rules.specs.Triggering.{is_issuing, is_backing_off}
@@ -30,8 +30,8 @@ pub record IsUnderWay (now : ℤ) (seen : Views) (c : Certificate) : Type 0 wher
   pub waits : IsSome (wait_of now seen c)
 
 -- it is Ready, or in back-off, or under way
-abbrev pub IsSettled : ℤ → Views → Certificate → Type 0
-IsSettled now seen c = (is_stated Ready c.status.conditions ≡ true) ⊎ (IsBackingOff now c ⊎ IsUnderWay now seen c)
+abbrev pub IsReadyOrUnderWay : ℤ → Views → Certificate → Type 0
+IsReadyOrUnderWay now seen c = (is_stated Ready c.status.conditions ≡ true) ⊎ (IsBackingOff now c ⊎ IsUnderWay now seen c)
 
 -- ---- what can be issued
 
@@ -47,4 +47,4 @@ pub record CanBeIssued (s : Setting) (h : List Entry) (seen : Views) (c : Certif
   pub makable : keeps_unfit c (key_rotation c.spec.key) (target_key seen.secret) ≡ false
   pub free : is_kept_for_keys seen.secret ≡ false
   pub covered : is_covered s.rules c.spec.issuer ≡ true
-  pub answered : IfSome (next_request c.status.revision seen.requests) (λ r. is_waiting (moment s h) r ≡ false)
+  pub answered : IfSome (next_request c.status.revision seen.requests) (λ r. is_request_waiting (moment s h) r ≡ false)

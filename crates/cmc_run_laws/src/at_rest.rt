@@ -11,14 +11,14 @@ ghost use Rattle.cmc_rules.specs.Resting.{IsAtRest};
 ghost use Rattle.cmc_rules.specs.Runs.{IsRun};
 ghost use Rattle.cmc_rules.specs.Viewing.{certificate_at, present_views};
 ghost use Rattle.cmc_plain.specs.Waits.{is_stopped};
-ghost use Rattle.cmc_run_laws.specs.Settled.{CanBeIssued, IsSettled};
+ghost use Rattle.cmc_run_laws.specs.Settled.{CanBeIssued, IsReadyOrUnderWay};
 
 /// A law: at rest each Certificate is settled. Where all is at rest in the history of a run, every role runs and no
 /// informer is held, each Certificate that exists is Ready, or is in the back-off after a failed issuance, or is being
 /// issued and waits for something that has a name.
 pub fn each_certificate_is_settled_at_rest()
     ensures { (s : Setting) (h : List Entry) → IsRun s h → IsAtRest s h → is_stopped s h ≡ false
-        → (key : Key) (c : Certificate) → certificate_at (objects s h) key ≡ Some c → IsSettled (moment s h) (present_views s h Issuing key) c }
+        → (key : Key) (c : Certificate) → certificate_at (objects s h) key ≡ Some c → IsReadyOrUnderWay (moment s h) (present_views s h Issuing key) c }
 {}
 
 /// A law: what can be issued is Ready at rest. Where besides the Certificate is in no back-off, a next key can be had,

@@ -9,7 +9,7 @@ ghost use Rattle.cmc_pass.specs.declared.pass.IssuePlan.{IssuePlan};
 ghost use Rattle.cmc_pass.specs.declared.pass.Views.{Views};
 ghost use Rattle.cmc_rules.specs.Issuing.{failed_status, failure, issued_status, issuing};
 ghost use Rattle.cmc_rules.specs.Triggering.{trigger};
-ghost use Rattle.cmc_run_laws.specs.Issuances.{IsAsWritten, IsNotDue, restated, with_certificate, with_secret};
+ghost use Rattle.cmc_run_laws.specs.Issuances.{IsAsWritten, IsNotDue, certificate_restated, with_certificate, with_secret};
 
 /// A law: a certificate of lifetime `life` that began `before` seconds ago is due for renewal exactly where `before` and
 /// the lead of its renewal together reach its lifetime.
@@ -29,7 +29,7 @@ pub fn lead_is_below_the_lifetime()
 /// A law: one failure a moment. After issuing has failed, the trigger has nothing to do at that moment.
 pub fn nothing_is_due_after_a_failure()
     ensures { (now : ℤ) (seen : Views) (c : Certificate) (reason : List ℕ) (version : ℕ) → issuing (with_certificate c seen) now ≡ failure now reason c
-        → trigger (with_certificate (restated version (failed_status now reason c.status) c) seen) now ≡ Nothing }
+        → trigger (with_certificate (certificate_restated version (failed_status now reason c.status) c) seen) now ≡ Nothing }
 {}
 
 /// A law: one issuance is enough. After issuing has written the Secret and the status of its plan, the trigger has nothing
@@ -37,5 +37,5 @@ pub fn nothing_is_due_after_a_failure()
 pub fn nothing_is_due_after_an_issuance()
     ensures { (now : ℤ) (seen : Views) (c : Certificate) (plan : IssuePlan) (k : SecretObject) (version : ℕ) → issuing (with_certificate c seen) now ≡ Issue plan
         → IsAsWritten plan.secret k → IsNotDue now c k
-        → trigger (with_secret k (with_certificate (restated version (issued_status now c.status) c) seen)) now ≡ Nothing }
+        → trigger (with_secret k (with_certificate (certificate_restated version (issued_status now c.status) c) seen)) now ≡ Nothing }
 {}

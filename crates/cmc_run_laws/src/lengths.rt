@@ -4,7 +4,7 @@ ghost use Rattle.cmc_objects.specs.declared.entry.Entry.{Entry};
 ghost use Rattle.cmc_model.specs.Histories.{Setting};
 ghost use Rattle.cmc_rules.specs.Runs.{IsRun};
 ghost use Rattle.cmc_safety.specs.Formed.{IsFormed};
-ghost use Rattle.cmc_run_laws.specs.Lengths.{HasBoundedLength, HasFewPasses, HasShortPasses, IsToldSeldom};
+ghost use Rattle.cmc_run_laws.specs.Lengths.{HasBoundedLength, HasFewPasses, HasShortPasses, HasFewDeliveries};
 
 use crate::begins::no_pass_begins_for_nothing;
 use cmc_world::passes_keep_to_their_courses;
@@ -16,7 +16,7 @@ use cmc_world::passes_keep_to_their_courses;
 pub fn length_is_bounded()
     ensures passes { (s : Setting) (whole : List Entry) → IsFormed s → IsRun s whole → HasFewPasses whole }
     ensures entries { (s : Setting) (whole : List Entry) → IsRun s whole → HasShortPasses whole }
-    ensures told { (s : Setting) (whole : List Entry) → IsRun s whole → IsToldSeldom s whole }
+    ensures told { (s : Setting) (whole : List Entry) → IsRun s whole → HasFewDeliveries s whole }
     ensures bounded { (s : Setting) (whole : List Entry) → IsFormed s → IsRun s whole → HasBoundedLength s whole }
 {
     no_pass_begins_for_nothing();

@@ -31,7 +31,7 @@ use Rattle.cmc_rules.specs.declared.progress.Stage.{Stage}
 use Rattle.cmc_rules.specs.declared.progress.Stage.TheVariants.{Fresh, Asked, Given, Read, Saved, Wrote, Refused, Barred}
 use Rattle.cmc_rules.specs.Viewing.{views}
 use Rattle.cmc_rules.specs.Issuing.{issuing}
-use Rattle.cmc_rules.specs.Passes.{open_pass, is_as_seen, new_pass, stage_read, stage_by, stage_after, stage_given, stage_written, stands_in}
+use Rattle.cmc_rules.specs.Passes.{open_pass, is_as_seen, new_pass, stage_read, stage_by, stage_after, stage_given, stage_written, is_temporary_act}
 use Rattle.cmc_rules.specs.Legality.{IsLegal}
 use Rattle.cmc_rules.specs.Causes.{IsCaused, MayCall}
 use Rattle.cmc_rules.specs.Sighting.{OnSeen}
@@ -166,7 +166,7 @@ unbarred_by c stand_in stage entry kind last other passed = tt
 
 unbarred_after : (s : Setting) (h : List Entry) (call : Call) (reply : Reply) (p : OpenPass) → IsPassed reply → IsUnbarred (stage_after s h call reply p)
 unbarred_after s h call reply p passed =
-    unbarred_by p.seen.certificate (stands_in (issuing p.seen p.since)) p.stage (length h + 1) (key_of_call call).kind (last_under (key_of_call call) (writes s h)) reply passed
+    unbarred_by p.seen.certificate (is_temporary_act (issuing p.seen p.since)) p.stage (length h + 1) (key_of_call call).kind (last_under (key_of_call call) (writes s h)) reply passed
 
 unbarred_given : (value : Value) (stage : Stage) → IsUnbarred stage → IsUnbarred (stage_given value stage)
 unbarred_given value Fresh is = tt

@@ -49,9 +49,9 @@ use Rattle.cmc_rules.specs.Desks.{desk}
 use Rattle.cmc_rules.specs.Issuing.{secret_call, new_target, old_target, issuing}
 use Rattle.cmc_rules.specs.Legality.{IsLegalEntry, IsLegal}
 use Rattle.cmc_rules.specs.Origins.{begun}
-use Rattle.cmc_rules.specs.Passes.{open_pass, is_as_seen, stands_in, stage_read, stage_written, stage_after, stage_given, new_pass, with_stage, given}
+use Rattle.cmc_rules.specs.Passes.{open_pass, is_as_seen, is_temporary_act, stage_read, stage_written, stage_after, stage_given, new_pass, with_stage, given}
 use Rattle.cmc_rules.specs.Raising.{RaisesRevision}
-use Rattle.cmc_rules.specs.Safety.{Stands, IsStatusUpdate, IsServed}
+use Rattle.cmc_rules.specs.Safety.{HasEntry, IsStatusUpdate, IsServedReply}
 use Rattle.cmc_rules.specs.Sighting.{OnSeen, IsWellSeen}
 use Rattle.cmc_rules.specs.Sound.{IsRaiseOf, IsWithin, IsSigned, IsMarked, WritesTarget}
 use Rattle.cmc_rules.specs.Viewing.{certificate_in, secret_in, certificate_at, target_at, views_of, views_in, views, present_views}
@@ -137,7 +137,7 @@ AreThere s h c target = (object_at (objects s h) (key_of (Cert c)) ≡ Some (Cer
 
 -- only an issuance goes on behind its Secret
 abbrev HasSaved : List Entry → ℕ → Act → Type 0
-HasSaved k n (Issue plan) = Stands (IsServedCall n plan.secret) k
+HasSaved k n (Issue plan) = HasEntry (IsServedCall n plan.secret) k
 HasSaved k n other = ⊥
 
 abbrev StandsAt : Setting → List Entry → List Entry → ℕ → Certificate → Option SecretObject → Act → Stage → Type 0
@@ -210,9 +210,9 @@ no_rule : (rule : Option ℕ) (served : Type 0) (reply : Reply) → rule ≡ Non
 no_rule None served reply passes right = right
 no_rule (Some rule) served reply passes right = absurd (cc passes)
 
-changed : (n : ℕ) (name : List ℕ) (old new : Object) (reply : Reply) → IsChange n name old new reply → IsServed reply
-changed n name old new reply (inl same) = subst IsServed (sym same.1) tt
-changed n name old new reply (inr other) = subst IsServed (sym other.1) tt
+changed : (n : ℕ) (name : List ℕ) (old new : Object) (reply : Reply) → IsChange n name old new reply → IsServedReply reply
+changed n name old new reply (inl same) = subst IsServedReply (sym same.1) tt
+changed n name old new reply (inr other) = subst IsServedReply (sym other.1) tt
 
 at_version : (at : Bool) (n named : ℕ) (name : List ℕ) (old new : Object) (rule : Option ℕ) (reply : Reply) → (named == version_of old) ≡ at → version_of old ≡ named → rule ≡ None
     → MatchBool at (IsAdmitted rule (IsChange n name old new reply) reply) (reply ≡ Conflict named (version_of old)) → IsChange n name old new reply
@@ -220,15 +220,15 @@ at_version true n named name old new rule reply e same passes right = no_rule ru
 at_version false n named name old new rule reply e same passes right = absurd (grind (arith, nat_tests))
 
 -- a new Secret where none stands
-made_served : (n : ℕ) (taken : Bool) (object : Object) (old : Option Object) (reply : Reply) → old ≡ None → refusing_rule None object false taken ≡ None → IsCreated n taken object old reply → IsServed reply
+made_served : (n : ℕ) (taken : Bool) (object : Object) (old : Option Object) (reply : Reply) → old ≡ None → refusing_rule None object false taken ≡ None → IsCreated n taken object old reply → IsServedReply reply
 made_served n taken object None reply none passes right =
     let ok : reply ≡ Ok (n + 1) (name_of object) = no_rule (refusing_rule None object false taken) (reply ≡ Ok (n + 1) (name_of object)) reply passes right in
-    subst IsServed (sym ok) tt
+    subst IsServedReply (sym ok) tt
 made_served n taken object (Some old) reply none passes right = absurd (cc none)
 
 -- the one that stands, at its version
 updated_served : (n : ℕ) (taken : Bool) (object old : Object) (named : ℕ) (x : Option Object) (reply : Reply) → x ≡ Some old → version_of old ≡ named → refusing_rule (Some old) object false taken ≡ None
-    → IsUpdated n taken object named x reply → IsServed reply
+    → IsUpdated n taken object named x reply → IsServedReply reply
 updated_served n taken object old named x reply there same passes right =
     let served : IsUpdated n taken object named (Some old) reply = subst (λ (o : Option Object). IsUpdated n taken object named o reply) there right in
     changed n (name_of object) old (updated old object) reply
@@ -236,7 +236,7 @@ updated_served n taken object old named x reply there same passes right =
 
 -- the write of the target, where it stands as it was seen
 target_served : (P : Option Object → Option Object → Type 0) (s : Setting) (h : List Entry) (seen : Views) (c : Certificate) (target : Option SecretObject) (call : Call) (reply : Reply) → IsLegal s h → AreKnown (writes s h) seen
-    → seen.secret ≡ target → OnSeen P seen call → IsTargetCall c target call → object_at (objects s h) (target_key c) ≡ option_map Secret target → IsServedBy (accepted s h) (objects s h) call reply → IsServed reply
+    → seen.secret ≡ target → OnSeen P seen call → IsTargetCall c target call → object_at (objects s h) (target_key c) ≡ option_map Secret target → IsServedBy (accepted s h) (objects s h) call reply → IsServedReply reply
 unfolding OnSeen
 target_served P s h seen c None (Create object false) reply legal known is on fits there right =
     let taken = is_taken (objects s h) object in
@@ -342,7 +342,7 @@ own_read s h k n seen since c does q call reply key g sees stage there is same r
       keeps_at s h (settled call reply) (is_accepted reply) (target_key c) (λ ok. absurd (cc (ok, no_write))) ∙ there.1,
     )
 
-written_stage : (s : Setting) (h : List Entry) (call : Call) (reply : Reply) (q : OpenPass) → IsServed reply → stage_after s h call reply q ≡ stage_written (stands_in (issuing q.seen q.since)) q.stage
+written_stage : (s : Setting) (h : List Entry) (call : Call) (reply : Reply) (q : OpenPass) → IsServedReply reply → stage_after s h call reply q ≡ stage_written (is_temporary_act (issuing q.seen q.since)) q.stage
 written_stage s h call (Ok version name) q served = refl
 written_stage s h call (Unchanged version) q served = refl
 written_stage s h call (Found object) q served = absurd served
@@ -353,16 +353,16 @@ kinds_apart c is = let kinds_ : kinds.Secret ≡ kinds.Certificate = ap (λ (k :
 
 -- the Secret of either plan
 own_save : (P : Option Object → Option Object → Type 0) (s : Setting) (h k : List Entry) (n : ℕ) (seen : Views) (since : ℤ) (c : Certificate) (does : Act) (q : OpenPass) (call planned : Call) (reply : Reply) (stand_in : Bool) → IsLegal s h
-    → AreKnown (writes s h) seen → GoesWell s h k n seen since c does q → q.stage ≡ Read → AreThere s h c seen.secret → call ≡ planned → OnSeen P seen planned → IsTargetCall c seen.secret planned → issuing q.seen q.since ≡ does → stands_in does ≡ stand_in
+    → AreKnown (writes s h) seen → GoesWell s h k n seen since c does q → q.stage ≡ Read → AreThere s h c seen.secret → call ≡ planned → OnSeen P seen planned → IsTargetCall c seen.secret planned → issuing q.seen q.since ≡ does → is_temporary_act does ≡ stand_in
     → IsServedBy (accepted s h) (objects s h) call reply
-    → (object_at (objects s (Called (Pass n) call reply ∷ h)) (key_of (Cert c)) ≡ Some (Cert c) → Stands (IsServedCall n planned) (Called (Pass n) call reply ∷ k)
+    → (object_at (objects s (Called (Pass n) call reply ∷ h)) (key_of (Cert c)) ≡ Some (Cert c) → HasEntry (IsServedCall n planned) (Called (Pass n) call reply ∷ k)
     → StandsAt s (Called (Pass n) call reply ∷ h) (Called (Pass n) call reply ∷ k) n c seen.secret does (stage_written stand_in Read))
     → GoesWell s (Called (Pass n) call reply ∷ h) (Called (Pass n) call reply ∷ k) n seen since c does (with_stage (stage_after s h call reply q) q)
 own_save P s h k n seen since c does q call planned reply stand_in legal known g stage there is on fits acts marked right gives =
     let fitting : IsTargetCall c seen.secret call = subst (IsTargetCall c seen.secret) (sym is) fits in
-    let served : IsServed reply = target_served P s h seen c seen.secret call reply legal known refl (subst (OnSeen P seen) (sym is) on) fitting there.1 right in
+    let served : IsServedReply reply = target_served P s h seen c seen.secret call reply legal known refl (subst (OnSeen P seen) (sym is) on) fitting there.1 right in
     let saved : stage_after s h call reply q ≡ stage_written stand_in Read =
-    written_stage s h call reply q served ∙ ap (λ (b : Bool). stage_written b q.stage) (ap stands_in acts ∙ marked) ∙ ap (stage_written stand_in) stage in
+    written_stage s h call reply q served ∙ ap (λ (b : Bool). stage_written b q.stage) (ap is_temporary_act acts ∙ marked) ∙ ap (stage_written stand_in) stage in
     well_after s (Called (Pass n) call reply) h k n seen since c does call reply q (stage_written stand_in Read) g saved
     (gives (keeps_at s h (settled call reply) (is_accepted reply) (key_of (Cert c)) (λ ok same. kinds_apart c (sym (target_settled c seen.secret call reply fitting) ∙ same)) ∙ there.0)
     (inl (reply, ap (λ (x : Call). Called (Pass n) x reply) is, served)))
@@ -381,9 +381,9 @@ own_issue s h k n seen since c plan q call reply after Saved legal known scene g
     let on : OnSeen (IsRaiseOf c since) seen call = subst (OnSeen (IsRaiseOf c since) seen) (sym next) (subst (λ (x : Certificate). OnSeen (IsRaiseOf x since) seen plan.status) one scene.within.status) in
     let ok : is_accepted reply ≡ true = status_accepted (accepted s h) (objects s h) seen since c call reply (subst IsStatusUpdate (sym next) scene.within.is_status) on stands.0 right in
     well_after s (Called (Pass n) call reply) h k n seen since c (Issue plan) call reply q Wrote g
-    (written_stage s h call reply q (accepted_served reply ok) ∙ ap (stage_written (stands_in (issuing q.seen q.since))) at)
+    (written_stage s h call reply q (accepted_served reply ok) ∙ ap (stage_written (is_temporary_act (issuing q.seen q.since))) at)
     (inr stands.1, inl (reply, ap (λ (x : Call). Called (Pass n) x reply) next, ok)) where
-      accepted_served : (reply : Reply) → is_accepted reply ≡ true → IsServed reply
+      accepted_served : (reply : Reply) → is_accepted reply ≡ true → IsServedReply reply
       accepted_served (Ok version name) ok = tt
       accepted_served (Unchanged version) ok = tt
       accepted_served other ok = absurd (cc ok)

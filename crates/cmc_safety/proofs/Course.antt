@@ -32,11 +32,11 @@ use Rattle.cmc_rules.specs.Acts.{call_after}
 use Rattle.cmc_rules.specs.Issuing.{issuing}
 use Rattle.cmc_rules.specs.Desks.{desk}
 use Rattle.cmc_rules.specs.Viewing.{views}
-use Rattle.cmc_rules.specs.Passes.{open_pass, asking, given, gone_on, is_as_seen, stands_in, writes_stand_in, stage_read, stage_written, stage_by, stage_after, stage_given, new_pass, with_stage}
+use Rattle.cmc_rules.specs.Passes.{open_pass, asking, given, gone_on, is_as_seen, is_temporary_act, writes_temporary, stage_read, stage_written, stage_by, stage_after, stage_given, new_pass, with_stage}
 use Rattle.cmc_rules.specs.Legality.{IsLegal}
 use Rattle.cmc_rules.specs.Causes.{act_of, after_of, IsNextCall, IsSecretCall, MayCall, IsCaused, IsAsked, AsksBy, MayAsk, IsGivenBy, MayGive}
-use Rattle.cmc_rules.specs.Safety.{Stands, LastAsks, IsLiveRead, IsSecretWrite, IsServed, IsSecretSaved}
-use Rattle.cmc_rules.specs.Sound.{IsOrdinary, IsAnswer, WritesTarget, IsSigned, IsMarked, IsRaiseOf, IsQuestion, IsFollowed, IsWithin, IsSound}
+use Rattle.cmc_rules.specs.Safety.{HasEntry, LastAsks, IsLiveRead, IsSecretWrite, IsServedReply, IsSecretSaved}
+use Rattle.cmc_rules.specs.Sound.{IsOrdinary, IsWriteAfterValue, WritesTarget, IsSigned, IsMarked, IsRaiseOf, IsQuestion, IsFollowed, IsWithin, IsSound}
 use Rattle.cmc_rules.proofs.Carrying.{over_begin, over_end, over_stop}
 use Rattle.cmc_rules.proofs.Sights.{seen_certificate}
 use Rattle.cmc_rules.proofs.Sighted.{AreKnown, stands_as_seen}
@@ -96,14 +96,14 @@ pub record HasValue (h : List Entry) (pass : ℕ) (role : Role) (seen : Views) (
 pub record HasReadLive (h : List Entry) (pass : ℕ) (seen : Views) : Type 0 where
   pub certificate : Certificate
   pub sees : seen.certificate ≡ Some certificate
-  pub read : Stands (IsLiveRead pass certificate) h
+  pub read : HasEntry (IsLiveRead pass certificate) h
 
 abbrev pub HasCome : List Entry → ℕ → Role → Views → ℤ → Stage → Type 0
 HasCome h pass role seen since Fresh = Unit {0}
 HasCome h pass role seen since (Asked order) = HasAsked h pass role seen since order
 HasCome h pass role seen since (Given order value) = HasValue h pass role seen since order value
 HasCome h pass role seen since Read = HasReadLive h pass seen
-HasCome h pass role seen since Saved = Stands (IsSecretSaved pass) h
+HasCome h pass role seen since Saved = HasEntry (IsSecretSaved pass) h
 HasCome h pass role seen since Wrote = Unit {0}
 HasCome h pass role seen since (Refused entry obstacle) = Unit {0}
 HasCome h pass role seen since Barred = Unit {0}
@@ -163,11 +163,11 @@ next_call sound s h n p call saw has may =
     call_at p.stage p.role (call_after p.role p.seen p.since) p.seen p.since (act_of s h p) call (within_act sound s h p saw) (followed_at h n p.role p.seen p.since p.stage has) may
 
 -- after the live read the Secret has a mark exactly where the plan is one of a stand-in certificate
-pub marked_as_planned : AreSound → (s : Setting) (h : List Entry) (p : OpenPass) (call : Call) → SawAll (writes s h) p → MayCall s h (Some p) call → p.stage ≡ Read → writes_stand_in call ≡ stands_in (issuing p.seen p.since)
+pub marked_as_planned : AreSound → (s : Setting) (h : List Entry) (p : OpenPass) (call : Call) → SawAll (writes s h) p → MayCall s h (Some p) call → p.stage ≡ Read → writes_temporary call ≡ is_temporary_act (issuing p.seen p.since)
 marked_as_planned sound s h p call saw may read =
     let next : IsSecretCall (act_of s h p) call = subst (λ (t : Stage). IsNextCall t (act_of s h p) (after_of p) call) read may in
     let is = marked_by p.role (call_after p.role p.seen p.since) p.seen p.since (act_of s h p) call (within_act sound s h p saw) next in
-    is.1 ∙ ap stands_in (act_of_issuing p.role p.seen p.since (desk s h p.role p.seen) is.0)
+    is.1 ∙ ap is_temporary_act (act_of_issuing p.role p.seen p.since (desk s h p.role p.seen) is.0)
 
 -- ---- a question and its value
 
@@ -253,7 +253,7 @@ pub live_at : (s : Setting) (h : List Entry) (role : Role) (seen : Views) (since
 live_at s h role seen since Fresh call o is (inl on) = absurd (no_read (IsOrdinary role since) (objects s h) seen call o is on)
 live_at s h role seen since Fresh call o is (inr live) = live
 live_at s h role seen since (Asked order) call o is at = absurd at
-live_at s h role seen since (Given order value) call o is at = absurd (no_read (IsAnswer role seen since value) (objects s h) seen call o is at)
+live_at s h role seen since (Given order value) call o is at = absurd (no_read (IsWriteAfterValue role seen since value) (objects s h) seen call o is at)
 live_at s h role seen since Read call o is (inl at) =
     absurd (no_read (WritesTarget role since (IsSigned at.issues.certificate at.issues.request at.issues.file)) (objects s h) seen at.plan.secret o
     (subst (λ (k : Call). ReadsObject (objects s h) k o) at.planned is) at.issues.secret)
@@ -267,10 +267,10 @@ live_at s h role seen since (Refused entry obstacle) call o is at = absurd at
 live_at s h role seen since Barred call o is at = absurd at
 
 -- what is saved without the mark is the Secret of an issuance
-saves_secret : (role : Role) (seen : Views) (since : ℤ) (call : Call) → IsCallAt Read role seen since call → writes_stand_in call ≡ false → IsSecretWrite call
+saves_secret : (role : Role) (seen : Views) (since : ℤ) (call : Call) → IsCallAt Read role seen since call → writes_temporary call ≡ false → IsSecretWrite call
 saves_secret role seen since call (inl at) off = subst IsSecretWrite (sym at.planned) at.issues.is_secret
 saves_secret role seen since call (inr at) off =
-    absurd (let on : writes_stand_in call ≡ true = ap writes_stand_in at.planned ∙ at.stands_in.is_marked in cc (off, on))
+    absurd (let on : writes_temporary call ≡ true = ap writes_temporary at.planned ∙ at.stands_in.is_marked in cc (off, on))
 
 come_written : (e : Entry) (h : List Entry) (n : ℕ) (role : Role) (seen : Views) (since : ℤ) (stand_in : Bool) (stage : Stage) → (stage ≡ Read → stand_in ≡ false → IsSecretSaved n e)
     → HasCome (e ∷ h) n role seen since (stage_written stand_in stage)
@@ -288,14 +288,14 @@ come_found : (b : Bool) (entry : ℕ) (kind : Kind) (version : ℕ) (h : List En
 come_found true entry kind version h n role seen since reads = reads refl
 come_found false entry kind version h n role seen since reads = tt
 
-saved_by : (n : ℕ) (e : Entry) (call : Call) (reply : Reply) (stage : Stage) (role : Role) (seen : Views) (since : ℤ) (stand_in : Bool) → e ≡ Called (Pass n) call reply → IsServed reply → IsCallAt stage role seen since call
-    → (stage ≡ Read → writes_stand_in call ≡ stand_in) → stage ≡ Read → stand_in ≡ false → IsSecretSaved n e
+saved_by : (n : ℕ) (e : Entry) (call : Call) (reply : Reply) (stage : Stage) (role : Role) (seen : Views) (since : ℤ) (stand_in : Bool) → e ≡ Called (Pass n) call reply → IsServedReply reply → IsCallAt stage role seen since call
+    → (stage ≡ Read → writes_temporary call ≡ stand_in) → stage ≡ Read → stand_in ≡ false → IsSecretSaved n e
 saved_by n e call reply stage role seen since stand_in is served at marked read off =
     (call, reply, is, saves_secret role seen since call (subst (λ (t : Stage). IsCallAt t role seen since call) read at) (marked read ∙ off), served)
 
 -- by the reply
 come_replied : (s : Setting) (h : List Entry) (n : ℕ) (role : Role) (seen : Views) (since : ℤ) (stage : Stage) (stand_in : Bool) (entry : ℕ) (kind : Kind) (last : ℕ) (call : Call) (reply : Reply) (e : Entry) → IsLegal s h → AreKnown (writes s h) seen
-    → IsReply s.faults (state s h) call reply → e ≡ Called (Pass n) call reply → IsCallAt stage role seen since call → (stage ≡ Read → writes_stand_in call ≡ stand_in)
+    → IsReply s.faults (state s h) call reply → e ≡ Called (Pass n) call reply → IsCallAt stage role seen since call → (stage ≡ Read → writes_temporary call ≡ stand_in)
     → HasCome (e ∷ h) n role seen since (stage_by seen.certificate stand_in stage entry kind last reply)
 come_replied s h n role seen since stage stand_in entry kind last call (Ok version name) e legal known right is at marked =
     come_written e h n role seen since stand_in stage (saved_by n e call (Ok version name) stage role seen since stand_in is tt at marked)
@@ -326,7 +326,7 @@ come_calling sound s h n m call reply legal right may has =
     let one : n ≡ m = same_number n m here in
     let its : open_pass s h m ≡ Some q = ap (open_pass s h) (sym one) ∙ holds.0 in
     let saw : SawAll (writes s h) q = of_open (SawAll (writes s h)) (open_pass s h n) q holds.0 (saw_all s h n legal) in
-    come_replied s h n q.role q.seen q.since q.stage (stands_in (issuing q.seen q.since)) (length h + 1) (key_of_call call).kind (last_under (key_of_call call) (writes s h)) call reply (Called (Pass m) call reply) legal saw.known right
+    come_replied s h n q.role q.seen q.since q.stage (is_temporary_act (issuing q.seen q.since)) (length h + 1) (key_of_call call).kind (last_under (key_of_call call) (writes s h)) call reply (Called (Pass m) call reply) legal saw.known right
     (ap (λ (i : ℕ). Called (Pass i) call reply) (sym one))
     (next_call sound s h n q call saw holds.1 (subst (λ (x : Option OpenPass). MayCall s h x call) its may))
     (marked_as_planned sound s h q call saw (subst (λ (x : Option OpenPass). MayCall s h x call) its may)))

@@ -38,11 +38,11 @@ use Rattle.cmc_rules.specs.Issuing.{issuing}
 use Rattle.cmc_rules.specs.Desks.{desk}
 use Rattle.cmc_rules.specs.Viewing.{views}
 use Rattle.cmc_rules.specs.Origins.{begun}
-use Rattle.cmc_rules.specs.Passes.{open_pass, given, gone_on, is_as_seen, stands_in, stage_read, stage_written, stage_by, stage_after, stage_given, new_pass, with_stage}
+use Rattle.cmc_rules.specs.Passes.{open_pass, given, gone_on, is_as_seen, is_temporary_act, stage_read, stage_written, stage_by, stage_after, stage_given, new_pass, with_stage}
 use Rattle.cmc_rules.specs.Legality.{IsLegal, IsOpen}
 use Rattle.cmc_rules.specs.Causes.{act_of, after_of, IsNextCall, MayCall, IsCaused, IsAsked, AsksBy, MayAsk, IsGivenBy, MayGive, EndsBy, MayEnd}
-use Rattle.cmc_rules.specs.Safety.{IsServed}
-use Rattle.cmc_rules.specs.Sound.{IsOrdinary, IsAnswer, WritesTarget, IsSigned, IsMarked, IsRaiseOf, IsWithin}
+use Rattle.cmc_rules.specs.Safety.{IsServedReply}
+use Rattle.cmc_rules.specs.Sound.{IsOrdinary, IsWriteAfterValue, WritesTarget, IsSigned, IsMarked, IsRaiseOf, IsWithin}
 use Rattle.cmc_rules.proofs.Passes.{closed_beyond}
 use Rattle.cmc_rules.proofs.Carrying.{over_end, over_stop}
 use Rattle.cmc_rules.proofs.WellSeen.{SawAll, saw_all}
@@ -96,7 +96,7 @@ pauses s n role seen since Barred = refl
 -- ---- calls
 
 -- a read is answered with what stands, or that nothing does
-not_got : (n : ℕ) (old : Option Object) (reply : Reply) → IsGot n old reply → IsServed reply → ⊥
+not_got : (n : ℕ) (old : Option Object) (reply : Reply) → IsGot n old reply → IsServedReply reply → ⊥
 not_got n None (Ok version name) got served = absurd (cc got)
 not_got n None (Unchanged version) got served = absurd (cc got)
 not_got n None other got served = served
@@ -104,22 +104,22 @@ not_got n (Some old) (Ok version name) got served = absurd (cc got)
 not_got n (Some old) (Unchanged version) got served = absurd (cc got)
 not_got n (Some old) other got served = served
 
-not_failed : (number : ℕ) (reply : Reply) → reply ≡ Unavailable number → IsServed reply → ⊥
+not_failed : (number : ℕ) (reply : Reply) → reply ≡ Unavailable number → IsServedReply reply → ⊥
 not_failed number (Ok version name) is served = absurd (cc is)
 not_failed number (Unchanged version) is served = absurd (cc is)
 not_failed number other is served = served
 
-not_served : (fails : Bool) (st : State) (key : Key) (reply : Reply) → MatchBool fails (reply ≡ Unavailable (st.calls + 1)) (replies.IsServed st.accepted st.objects (Get key) reply) → IsServed reply → ⊥
+not_served : (fails : Bool) (st : State) (key : Key) (reply : Reply) → MatchBool fails (reply ≡ Unavailable (st.calls + 1)) (replies.IsServed st.accepted st.objects (Get key) reply) → IsServedReply reply → ⊥
 not_served true st key reply right served = not_failed (st.calls + 1) reply right served
 not_served false st key reply right served = not_got st.accepted (object_at st.objects key) reply right served
 
-read_is_no_write : (faults : List ℕ) (st : State) (call : Call) (key : Key) (reply : Reply) → call ≡ Get key → IsReply faults st call reply → IsServed reply → ⊥
+read_is_no_write : (faults : List ℕ) (st : State) (call : Call) (key : Key) (reply : Reply) → call ≡ Get key → IsReply faults st call reply → IsServedReply reply → ⊥
 read_is_no_write faults st call key reply is right served =
     not_served (list_any (λ n. n == st.calls + 1) faults) st key reply (subst (λ (c : Call). IsReply faults st c reply) is right) served
 
 -- the reply is that of a call after which these are left
 by_reply : (s : Setting) (n : ℕ) (role : Role) (seen : Views) (since : ℤ) (stand_in : Bool) (stage : Stage) (entry : ℕ) (kind : Kind) (last : ℕ) (reply : Reply) (calls : List Call) (es : List Placed)
-    → (IsServed reply → GoesOn s n role seen since (stage_written stand_in stage) es → AreCalls n seen.certificate calls es)
+    → (IsServedReply reply → GoesOn s n role seen since (stage_written stand_in stage) es → AreCalls n seen.certificate calls es)
     → ((o : Object) → reply ≡ Found o → GoesOn s n role seen since Read es → AreCalls n seen.certificate calls es)
     → GoesOn s n role seen since (stage_by seen.certificate stand_in stage entry kind last reply) es
     → MatchBool (lets_on seen.certificate reply) (AreCalls n seen.certificate calls es) (IsEnding n (causes.Stopper entry) es)
@@ -149,7 +149,7 @@ reads s h n p call reply o k is = found_is_read s.faults (state s h) call o (sub
 no_read_at : (stage : Stage) (role : Role) (seen : Views) (since : ℤ) (objects : Objects) (call : Call) (o : Object) → (stage ≡ Fresh → ⊥) → IsCallAt stage role seen since call → ReadsObject objects call o → ⊥
 no_read_at Fresh role seen since objects call o later at reads = later refl
 no_read_at (Asked order) role seen since objects call o later at reads = at
-no_read_at (Given order value) role seen since objects call o later at reads = no_read (IsAnswer role seen since value) objects seen call o reads at
+no_read_at (Given order value) role seen since objects call o later at reads = no_read (IsWriteAfterValue role seen since value) objects seen call o reads at
 no_read_at Read role seen since objects call o later (inl at) reads =
     no_read (WritesTarget role since (IsSigned at.issues.certificate at.issues.request at.issues.file)) objects seen at.plan.secret o (subst (λ (k : Call). ReadsObject objects k o) at.planned reads) at.issues.secret
 no_read_at Read role seen since objects call o later (inr at) reads =
@@ -166,21 +166,21 @@ called_at h n call reply = record { before = h; entry = Called (Pass n) call rep
 -- the first call of an act
 first_goes : (s : Setting) (h : List Entry) (n : ℕ) (p : OpenPass) (call : Call) (reply : Reply) (does : Act) (es : List Placed) → p.stage ≡ Fresh → act_of s h p ≡ does → CallsNow s h n p call reply → IsNextCall Fresh does (after_of p) call
     → IsWithin p.role (call_after p.role p.seen p.since) p.seen p.since does
-    → GoesOn s n p.role p.seen p.since (stage_by p.seen.certificate (stands_in (issuing p.seen p.since)) Fresh (length h + 1) (key_of_call call).kind (last_under (key_of_call call) (writes s h)) reply) es
+    → GoesOn s n p.role p.seen p.since (stage_by p.seen.certificate (is_temporary_act (issuing p.seen p.since)) Fresh (length h + 1) (key_of_call call).kind (last_under (key_of_call call) (writes s h)) reply) es
     → IsCourseBy n p.seen.certificate (call_after p.role p.seen p.since) does (called_at h n call reply ∷ es)
 first_goes s h n p call reply Nothing es fresh acts k next within goes = absurd next
 first_goes s h n p call reply (Asks order) es fresh acts k next within goes = absurd next
 first_goes s h n p call reply (Calls first) es fresh acts k next within goes = (
   reply,
   ap (λ (c : Call). Called (Pass n) c reply) next,
-  by_reply s n p.role p.seen p.since (stands_in (issuing p.seen p.since)) Fresh (length h + 1) _ _ reply [] es (λ served it. it)
+  by_reply s n p.role p.seen p.since (is_temporary_act (issuing p.seen p.since)) Fresh (length h + 1) _ _ reply [] es (λ served it. it)
       (λ o is. absurd (no_read (IsOrdinary p.role p.since) (objects s h) p.seen first o (subst (λ (c : Call). ReadsObject (objects s h) c o) next (reads s h n p call reply o k is)) within)) goes,
 )
 first_goes s h n p call reply (Issue plan) es fresh acts k next within goes =
     let its : issuing p.seen p.since ≡ Issue plan = sym (act_of_issuing p.role p.seen p.since (desk s h p.role p.seen) within.issuing) ∙ acts in (
       reply,
       ap (λ (c : Call). Called (Pass n) c reply) next,
-      by_reply s n p.role p.seen p.since (stands_in (issuing p.seen p.since)) Fresh (length h + 1) _ _ reply (plan.secret ∷ plan.status ∷ []) es
+      by_reply s n p.role p.seen p.since (is_temporary_act (issuing p.seen p.since)) Fresh (length h + 1) _ _ reply (plan.secret ∷ plan.status ∷ []) es
           (λ served. absurd (read_is_no_write s.faults (state s h) call plan.get reply next k.right served))
           (λ o is it. subst (λ (a : Act). AreCalls n p.seen.certificate (after_read a) es) its it) goes,
     )
@@ -188,7 +188,7 @@ first_goes s h n p call reply (Temporary plan) es fresh acts k next within goes 
     let its : issuing p.seen p.since ≡ Temporary plan = sym (act_of_issuing p.role p.seen p.since (desk s h p.role p.seen) within.issuing) ∙ acts in (
       reply,
       ap (λ (c : Call). Called (Pass n) c reply) next,
-      by_reply s n p.role p.seen p.since (stands_in (issuing p.seen p.since)) Fresh (length h + 1) _ _ reply (plan.secret ∷ []) es
+      by_reply s n p.role p.seen p.since (is_temporary_act (issuing p.seen p.since)) Fresh (length h + 1) _ _ reply (plan.secret ∷ []) es
           (λ served. absurd (read_is_no_write s.faults (state s h) call plan.get reply next k.right served))
           (λ o is it. subst (λ (a : Act). AreCalls n p.seen.certificate (after_read a) es) its it) goes,
     )
@@ -196,7 +196,7 @@ first_goes s h n p call reply (Temporary plan) es fresh acts k next within goes 
 -- the Secret of a plan, and its status
 secret_goes : (s : Setting) (h : List Entry) (n : ℕ) (p : OpenPass) (call : Call) (reply : Reply) (does : Act) (es : List Placed) → issuing p.seen p.since ≡ does → IsNextCall Read does (after_of p) call
     → ((o : Object) → reply ≡ Found o → ⊥)
-    → GoesOn s n p.role p.seen p.since (stage_by p.seen.certificate (stands_in (issuing p.seen p.since)) Read (length h + 1) (key_of_call call).kind (last_under (key_of_call call) (writes s h)) reply) es
+    → GoesOn s n p.role p.seen p.since (stage_by p.seen.certificate (is_temporary_act (issuing p.seen p.since)) Read (length h + 1) (key_of_call call).kind (last_under (key_of_call call) (writes s h)) reply) es
     → AreCalls n p.seen.certificate (after_read does) (called_at h n call reply ∷ es)
 secret_goes s h n p call reply Nothing es its next unread goes = absurd next
 secret_goes s h n p call reply (Calls first) es its next unread goes = absurd next
@@ -204,38 +204,38 @@ secret_goes s h n p call reply (Asks order) es its next unread goes = absurd nex
 secret_goes s h n p call reply (Issue plan) es its next unread goes = (
   reply,
   ap (λ (c : Call). Called (Pass n) c reply) next,
-  by_reply s n p.role p.seen p.since (stands_in (issuing p.seen p.since)) Read (length h + 1) _ _ reply (plan.status ∷ []) es
-      (λ served it. subst (λ (a : Act). AreCalls n p.seen.certificate (after_secret a) es) its (subst (λ (a : Act). GoesOn s n p.role p.seen p.since (stage_written (stands_in a) Read) es) its it))
+  by_reply s n p.role p.seen p.since (is_temporary_act (issuing p.seen p.since)) Read (length h + 1) _ _ reply (plan.status ∷ []) es
+      (λ served it. subst (λ (a : Act). AreCalls n p.seen.certificate (after_secret a) es) its (subst (λ (a : Act). GoesOn s n p.role p.seen p.since (stage_written (is_temporary_act a) Read) es) its it))
       (λ o is. absurd (unread o is)) goes,
 )
 secret_goes s h n p call reply (Temporary plan) es its next unread goes = (
   reply,
   ap (λ (c : Call). Called (Pass n) c reply) next,
-  by_reply s n p.role p.seen p.since (stands_in (issuing p.seen p.since)) Read (length h + 1) _ _ reply [] es
-      (λ served it. subst (λ (a : Act). GoesOn s n p.role p.seen p.since (stage_written (stands_in a) Read) es) its it)
+  by_reply s n p.role p.seen p.since (is_temporary_act (issuing p.seen p.since)) Read (length h + 1) _ _ reply [] es
+      (λ served it. subst (λ (a : Act). GoesOn s n p.role p.seen p.since (stage_written (is_temporary_act a) Read) es) its it)
       (λ o is. absurd (unread o is)) goes,
 )
 
 status_goes : (s : Setting) (h : List Entry) (n : ℕ) (p : OpenPass) (call : Call) (reply : Reply) (does : Act) (es : List Placed) → IsNextCall Saved does (after_of p) call
     → ((o : Object) → reply ≡ Found o → ⊥)
-    → GoesOn s n p.role p.seen p.since (stage_by p.seen.certificate (stands_in (issuing p.seen p.since)) Saved (length h + 1) (key_of_call call).kind (last_under (key_of_call call) (writes s h)) reply) es
+    → GoesOn s n p.role p.seen p.since (stage_by p.seen.certificate (is_temporary_act (issuing p.seen p.since)) Saved (length h + 1) (key_of_call call).kind (last_under (key_of_call call) (writes s h)) reply) es
     → AreCalls n p.seen.certificate (after_secret does) (called_at h n call reply ∷ es)
 status_goes s h n p call reply Nothing es next unread goes = absurd next
 status_goes s h n p call reply (Calls first) es next unread goes = absurd next
 status_goes s h n p call reply (Asks order) es next unread goes = absurd next
 status_goes s h n p call reply (Temporary plan) es next unread goes = absurd next
 status_goes s h n p call reply (Issue plan) es next unread goes =
-    (reply, ap (λ (c : Call). Called (Pass n) c reply) next, by_reply s n p.role p.seen p.since (stands_in (issuing p.seen p.since)) Saved (length h + 1) _ _ reply [] es (λ served it. it) (λ o is. absurd (unread o is)) goes)
+    (reply, ap (λ (c : Call). Called (Pass n) c reply) next, by_reply s n p.role p.seen p.since (is_temporary_act (issuing p.seen p.since)) Saved (length h + 1) _ _ reply [] es (λ served it. it) (λ o is. absurd (unread o is)) goes)
 
 -- the call that follows a value
 following_goes : (s : Setting) (h : List Entry) (n : ℕ) (p : OpenPass) (call : Call) (reply : Reply) (order : Order) (value : Value) (found : Option Call) (es : List Placed) → found ≡ Some call
     → ((o : Object) → reply ≡ Found o → ⊥)
-    → GoesOn s n p.role p.seen p.since (stage_by p.seen.certificate (stands_in (issuing p.seen p.since)) (Given order value) (length h + 1) (key_of_call call).kind (last_under (key_of_call call) (writes s h)) reply) es
+    → GoesOn s n p.role p.seen p.since (stage_by p.seen.certificate (is_temporary_act (issuing p.seen p.since)) (Given order value) (length h + 1) (key_of_call call).kind (last_under (key_of_call call) (writes s h)) reply) es
     → IsFollowing n p.seen.certificate found (called_at h n call reply ∷ es)
 following_goes s h n p call reply order value None es is unread goes = absurd (cc is)
 following_goes s h n p call reply order value (Some next) es is unread goes =
     let same : call ≡ next = (let e : next ≡ call = cc is in sym e) in
-    (reply, ap (λ (c : Call). Called (Pass n) c reply) same, by_reply s n p.role p.seen p.since (stands_in (issuing p.seen p.since)) (Given order value) (length h + 1) _ _ reply [] es (λ served it. it) (λ o found. absurd (unread o found)) goes)
+    (reply, ap (λ (c : Call). Called (Pass n) c reply) same, by_reply s n p.role p.seen p.since (is_temporary_act (issuing p.seen p.since)) (Given order value) (length h + 1) _ _ reply [] es (λ served it. it) (λ o found. absurd (unread o found)) goes)
 
 -- after the live read and after the Secret a pass is one of issuing
 issuing_now : (s : Setting) (h : List Entry) (p : OpenPass) → p.role ≡ roles.Issuing → act_of s h p ≡ issuing p.seen p.since
@@ -246,7 +246,7 @@ role_at_read role seen since call (inl at) = at.issues.issuing
 role_at_read role seen since call (inr at) = at.stands_in.issuing
 
 call_goes : (s : Setting) (h : List Entry) (n : ℕ) (p : OpenPass) (call : Call) (reply : Reply) (stage : Stage) (es : List Placed) → p.stage ≡ stage → CallsNow s h n p call reply
-    → GoesOn s n p.role p.seen p.since (stage_by p.seen.certificate (stands_in (issuing p.seen p.since)) stage (length h + 1) (key_of_call call).kind (last_under (key_of_call call) (writes s h)) reply) es
+    → GoesOn s n p.role p.seen p.since (stage_by p.seen.certificate (is_temporary_act (issuing p.seen p.since)) stage (length h + 1) (key_of_call call).kind (last_under (key_of_call call) (writes s h)) reply) es
     → GoesOn s n p.role p.seen p.since stage (called_at h n call reply ∷ es)
 call_goes s h n p call reply Fresh es is k goes =
     first_goes s h n p call reply (act_of s h p) es is refl k (subst (λ (t : Stage). IsNextCall t (act_of s h p) (after_of p) call) is k.may) k.within goes

@@ -30,11 +30,11 @@ use Rattle.cmc_rules.specs.Acts.{call_after}
 use Rattle.cmc_rules.specs.Issuing.{issuing}
 use Rattle.cmc_rules.specs.Desks.{desk}
 use Rattle.cmc_rules.specs.Viewing.{views}
-use Rattle.cmc_rules.specs.Passes.{open_pass, gone_on, is_as_seen, new_pass, stage_read, stage_written, stage_by, stage_after, stage_given, stands_in}
+use Rattle.cmc_rules.specs.Passes.{open_pass, gone_on, is_as_seen, new_pass, stage_read, stage_written, stage_by, stage_after, stage_given, is_temporary_act}
 use Rattle.cmc_rules.specs.Legality.{IsLegal}
 use Rattle.cmc_rules.specs.Causes.{act_of, after_of, IsNextCall, MayCall, IsCaused}
 use Rattle.cmc_rules.specs.Runs.{IsRun}
-use Rattle.cmc_rules.specs.Sound.{IsOrdinary, IsAnswer, IsWithin}
+use Rattle.cmc_rules.specs.Sound.{IsOrdinary, IsWriteAfterValue, IsWithin}
 use Rattle.cmc_rules.proofs.Carrying.{over_ask, over_given, over_begin, over_end, over_stop}
 use Rattle.cmc_rules.proofs.WellSeen.{SawAll, saw_all}
 use Rattle.cmc_safety.proofs.Plans.{act_of_issuing}
@@ -93,7 +93,7 @@ reads_at : (stage : Stage) (role : Role) (after : Order → Value → Option Cal
 reads_at Fresh role after seen since does objects call o within followed is next = reads_for role after seen since does objects call o within is next
 reads_at (Asked order) role after seen since does objects call o within followed is next = absurd next
 reads_at (Given order value) role after seen since does objects call o within followed is next =
-    absurd (no_read (IsAnswer role seen since value) objects seen call o is (following_call role after seen since order value call followed next))
+    absurd (no_read (IsWriteAfterValue role seen since value) objects seen call o is (following_call role after seen since order value call followed next))
 reads_at Read role after seen since does objects call o within followed is next = secret_for does after call next
 reads_at Saved role after seen since does objects call o within followed is next = status_for does after call next
 reads_at Wrote role after seen since does objects call o within followed is next = absurd next
@@ -101,7 +101,7 @@ reads_at (Refused entry obstacle) role after seen since does objects call o with
 reads_at Barred role after seen since does objects call o within followed is next = absurd next
 
 -- a Secret of a plan that is none of a stand-in certificate is followed by a status
-saves_for : (does : Act) → WritesSecret does → stands_in does ≡ false → WritesStatus does
+saves_for : (does : Act) → WritesSecret does → is_temporary_act does ≡ false → WritesStatus does
 saves_for (Issue plan) writes off = tt
 saves_for (Temporary plan) writes off = absurd (cc off)
 saves_for other writes off = absurd writes
@@ -146,7 +146,7 @@ called_way sound s h p call reply right k =
     let within = within_act sound s h p k.saw in
     let after = call_after p.role p.seen p.since in
     let its : p.role ≡ roles.Issuing → act_of s h p ≡ issuing p.seen p.since = λ is. act_of_issuing p.role p.seen p.since (desk s h p.role p.seen) is in
-    replied_way p.seen.certificate (stands_in (issuing p.seen p.since)) p.stage (length h + 1) (key_of_call call).kind (last_under (key_of_call call) (writes s h)) reply p.role (issuing p.seen p.since)
+    replied_way p.seen.certificate (is_temporary_act (issuing p.seen p.since)) p.stage (length h + 1) (key_of_call call).kind (last_under (key_of_call call) (writes s h)) reply p.role (issuing p.seen p.since)
     (λ read off.
     let reads = at_read p.stage p.role (issuing p.seen p.since) read k.way in (reads.0, saves_for (issuing p.seen p.since) reads.1 off))
     (λ o found.

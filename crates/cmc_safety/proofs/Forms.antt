@@ -30,7 +30,7 @@ use Rattle.cmc_model.specs.Replies.{key_of_call, settled}
 use Rattle.cmc_model.specs.Histories.{Setting, moment, objects}
 use Rattle.cmc_model.specs.Writes.{writes}
 use Rattle.cmc_rules.specs.Desks.{desk}
-use Rattle.cmc_rules.specs.Granting.{certificate_of, HasForm, HasReplyForm}
+use Rattle.cmc_rules.specs.Granting.{certificate_of, HasRequestForm, HasReplyRowForm}
 use Rattle.cmc_rules.specs.Rights.{MayChange, OfCertificates, OfRequests, IsLabelled}
 use Rattle.cmc_rules.specs.Sound.{IsOfCertificate}
 use Rattle.cmc_rules.specs.UserWrites.{judge_call, answer_call, renew_call}
@@ -183,11 +183,11 @@ formed_versions sound s h formed o =
 
 -- ---- what is seen
 
-form_part : (x : Option CertificateRequest) → ((r : CertificateRequest) → x ≡ Some r → IsFormedObject (Request r)) → HasForm x
+form_part : (x : Option CertificateRequest) → ((r : CertificateRequest) → x ≡ Some r → IsFormedObject (Request r)) → HasRequestForm x
 form_part None each = tt
 form_part (Some r) each = each r refl
 
-pub form_seen : (ws : List Write) (seen : Views) → EachVersion IsFormedObject ws → AreKnown ws seen → HasForm seen.request
+pub form_seen : (ws : List Write) (seen : Views) → EachVersion IsFormedObject ws → AreKnown ws seen → HasRequestForm seen.request
 form_seen ws seen each known = form_part seen.request (λ r is. seen_has IsFormedObject ws seen (Request r) each known (seen_request seen r is))
 
 -- the rows of an entry that is said of keys and issuers have their form
@@ -196,10 +196,10 @@ replies_formed entry is =
     let rows = (and_parts (is_certificate entry.0) (is_rows_form entry.1) is).1 in
     (and_parts (list_all is_key_row_form entry.1.keys) (list_all is_row_form entry.1.replies) rows).1
 
-reply_part : (s : Setting) (h : List Entry) (role : Role) (seen : Views) (x : Option CertificateRequest) → IsFormed s → HasReplyForm x (desk s h role seen)
+reply_part : (s : Setting) (h : List Entry) (role : Role) (seen : Views) (x : Option CertificateRequest) → IsFormed s → HasReplyRowForm x (desk s h role seen)
 reply_part s h role seen None formed = tt
 reply_part s h role seen (Some r) formed = reply_row_fits is_row_form is_entry_form s.material (certificate_of r) (desk s h role seen).asked refl replies_formed formed.material
 
 -- the answer that is set out has its form
-pub reply_seen : (s : Setting) (h : List Entry) (role : Role) (seen : Views) → IsFormed s → HasReplyForm seen.request (desk s h role seen)
+pub reply_seen : (s : Setting) (h : List Entry) (role : Role) (seen : Views) → IsFormed s → HasReplyRowForm seen.request (desk s h role seen)
 reply_seen s h role seen formed = reply_part s h role seen seen.request formed

@@ -39,13 +39,13 @@ use Rattle.cmc_objects.specs.Watching.{works_on_requests}
 use Rattle.cmc_rules.specs.Positions.{cache}
 use Rattle.cmc_rules.specs.Viewing.{certificate_in, certificate_at, views_of, views_in, views}
 use Rattle.cmc_rules.specs.Issuing.{issuing}
-use Rattle.cmc_rules.specs.Passes.{open_pass, called, gone_on, is_as_seen, stands_in, stage_read, stage_written, stage_by, stage_after, stage_given, new_pass}
+use Rattle.cmc_rules.specs.Passes.{open_pass, called, gone_on, is_as_seen, is_temporary_act, stage_read, stage_written, stage_by, stage_after, stage_given, new_pass}
 use Rattle.cmc_rules.specs.Legality.{IsLegal}
 use Rattle.cmc_rules.specs.Causes.{MayCall, IsCaused}
 use Rattle.cmc_rules.specs.Following.{Follows}
 use Rattle.cmc_rules.specs.Raising.{revision, stated_in, revision_of_uid, KeepsRevision}
 use Rattle.cmc_rules.specs.Sighting.{OnSeen}
-use Rattle.cmc_rules.specs.Sound.{IsOrdinary, IsAnswer, WritesTarget, IsSigned, IsMarked, IsRaiseOf}
+use Rattle.cmc_rules.specs.Sound.{IsOrdinary, IsWriteAfterValue, WritesTarget, IsSigned, IsMarked, IsRaiseOf}
 use Rattle.cmc_rules.proofs.Carrying.{over_call, over_ask, over_given, over_begin, over_end, over_stop}
 use Rattle.cmc_rules.proofs.Seen.{seen_is_version}
 use Rattle.cmc_rules.proofs.Sighted.{AreKnown, as_seen}
@@ -129,7 +129,7 @@ sort_at : (stage : Stage) (role : Role) (seen : Views) (since : ℤ) (call : Cal
 sort_at Fresh role seen since call (inl on) = inl (on_less (IsOrdinary role since) KeepsRevision seen call (λ old new is. is.revision) on)
 sort_at Fresh role seen since call (inr live) = inr (inr live)
 sort_at (Asked order) role seen since call at = absurd at
-sort_at (Given order value) role seen since call at = inl (on_less (IsAnswer role seen since value) KeepsRevision seen call (λ old new is. is.revision) at)
+sort_at (Given order value) role seen since call at = inl (on_less (IsWriteAfterValue role seen since value) KeepsRevision seen call (λ old new is. is.revision) at)
 sort_at Read role seen since call at = inl (secret_keeps role seen since call at)
 sort_at Saved role seen since call at =
     let i = at.issues in
@@ -311,7 +311,7 @@ by_itself : (s : Setting) (h : List Entry) (m : ℕ) (q : OpenPass) (call : Call
     → SawVersion (writes s h) q → IsCallAt q.stage q.role q.seen q.since call → IsUnmoved (writes s h) q
     → HoldsWhileIssuing (stage_after s h call reply q) (IsInProgress (writes s (Called (Pass m) call reply ∷ h)) q.role q.key q.seen)
 by_itself s h m q call reply new legal right known version at is =
-    by_reply q.seen.certificate (stands_in (issuing q.seen q.since)) q.stage (length h + 1) (key_of_call call).kind (last_under (key_of_call call) (writes s h)) reply
+    by_reply q.seen.certificate (is_temporary_act (issuing q.seen q.since)) q.stage (length h + 1) (key_of_call call).kind (last_under (key_of_call call) (writes s h)) reply
     (IsInProgress (writes s h) q.role q.key q.seen) (IsInProgress (writes s (Called (Pass m) call reply ∷ h)) q.role q.key q.seen)
     (λ read was. by_secret s h m q call reply new legal right known
     (secret_keeps q.role q.seen q.since call (subst (λ (t : Stage). IsCallAt t q.role q.seen q.since call) read at)) was)

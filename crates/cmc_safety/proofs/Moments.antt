@@ -23,47 +23,47 @@ use Rattle.cmc_rules.specs.Legality.{IsLegal}
 use Rattle.cmc_rules.specs.Scripting.{scripted, step_at}
 use Rattle.cmc_rules.specs.Following.{call_of, call_or, effect_of, owed, Follows}
 use Rattle.cmc_rules.proofs.Carrying.{over_call, over_ask, over_given, over_begin, over_end, over_stop}
-use Rattle.cmc_setup.specs.Setups.{seconds_of, ticked}
+use Rattle.cmc_setup.specs.Setups.{step_seconds, seconds_ticked}
 use Rattle.cmc_safety.specs.Formed.{IsFormed}
 use borrow.Author.Differences.{le-true}
 
 -- ---- the ticks of the first steps
 
 -- one step more
-ticked_step : (script : List Step) (n : ℕ) (other : Step) → ticked (take (suc n) (other ∷ script)) ≡ seconds_of other + ticked (take n script)
-ticked_step script n other = sum_by-cons seconds_of other (take n script)
+ticked_step : (script : List Step) (n : ℕ) (other : Step) → seconds_ticked (take (suc n) (other ∷ script)) ≡ step_seconds other + seconds_ticked (take n script)
+ticked_step script n other = sum_by-cons step_seconds other (take n script)
 
-ticked_later : (script : List Step) (n : ℕ) (other : Step) → ticked (take (n + 1) (other ∷ script)) ≡ seconds_of other + ticked (take n script)
-ticked_later script n other = let more : n + 1 ≡ suc n = omega arith in ap (λ (m : ℕ). ticked (take m (other ∷ script))) more ∙ ticked_step script n other
+ticked_later : (script : List Step) (n : ℕ) (other : Step) → seconds_ticked (take (n + 1) (other ∷ script)) ≡ step_seconds other + seconds_ticked (take n script)
+ticked_later script n other = let more : n + 1 ≡ suc n = omega arith in ap (λ (m : ℕ). seconds_ticked (take m (other ∷ script))) more ∙ ticked_step script n other
 
-ticked_next : (script : List Step) (n : ℕ) (step : Step) → slice_get script n ≡ Some step → ticked (take (n + 1) script) ≡ ticked (take n script) + seconds_of step
+ticked_next : (script : List Step) (n : ℕ) (step : Step) → slice_get script n ≡ Some step → seconds_ticked (take (n + 1) script) ≡ seconds_ticked (take n script) + step_seconds step
 ticked_next [] n step is = absurd (cc is)
-ticked_next (other ∷ script) zero step is = let same : other ≡ step = cc is in omega (arith, ap seconds_of same, ticked_later script zero other)
+ticked_next (other ∷ script) zero step is = let same : other ≡ step = cc is in omega (arith, ap step_seconds same, ticked_later script zero other)
 ticked_next (other ∷ script) (suc n) step is =
     let more : suc n ≡ n + 1 = omega arith in
-    let there : ticked (take (suc n) script) ≡ ticked (take (n + 1) script) = ap (λ (m : ℕ). ticked (take m script)) more in
+    let there : seconds_ticked (take (suc n) script) ≡ seconds_ticked (take (n + 1) script) = ap (λ (m : ℕ). seconds_ticked (take m script)) more in
     omega (arith, ticked_next script n step is, ticked_later script (suc n) other, ticked_step script n other, there)
 
-ticked_none : (n : ℕ) → ticked (take n []) ≡ 0
+ticked_none : (n : ℕ) → seconds_ticked (take n []) ≡ 0
 ticked_none zero = refl
 ticked_none (suc n) = refl
 
-ticked_more : (script : List Step) (n : ℕ) → ticked (take n script) ≤ ticked (take (n + 1) script)
+ticked_more : (script : List Step) (n : ℕ) → seconds_ticked (take n script) ≤ seconds_ticked (take (n + 1) script)
 ticked_more [] n = omega (arith, ticked_none n, ticked_none (n + 1))
 ticked_more (step ∷ script) zero = omega arith
 ticked_more (step ∷ script) (suc n) =
     let more : suc n ≡ n + 1 = omega arith in
-    let there : ticked (take (suc n) script) ≡ ticked (take (n + 1) script) = ap (λ (m : ℕ). ticked (take m script)) more in
+    let there : seconds_ticked (take (suc n) script) ≡ seconds_ticked (take (n + 1) script) = ap (λ (m : ℕ). seconds_ticked (take m script)) more in
     omega (arith, ticked_more script n, ticked_later script (suc n) step, ticked_step script n step, there)
 
-pub ticked_all : (script : List Step) (n : ℕ) → ticked (take n script) ≤ ticked script
-ticked_all script n = sum_by-take-le seconds_of script n
+pub ticked_all : (script : List Step) (n : ℕ) → seconds_ticked (take n script) ≤ seconds_ticked script
+ticked_all script n = sum_by-take-le step_seconds script n
 
 -- ---- what they make of the moment
 
 -- the moment lies within what the first n steps make of the first one
 abbrev pub IsWithinTicks : ℤ → List Step → ℕ → ℤ → Type 0
-IsWithinTicks first script n at = (first ≤ℤ at) × (at ≤ℤ (first +ℤ pos (ticked (take n script))))
+IsWithinTicks first script n at = (first ≤ℤ at) × (at ≤ℤ (first +ℤ pos (seconds_ticked (take n script))))
 
 within_more : (first : ℤ) (script : List Step) (n : ℕ) (at : ℤ) → IsWithinTicks first script n at → IsWithinTicks first script (n + 1) at
 within_more first script n at within = (within.0, omega (arith, ints, within.1, ticked_more script n))
@@ -71,7 +71,7 @@ within_more first script n at within = (within.0, omega (arith, ints, within.1, 
 within_tick : (first : ℤ) (script : List Step) (n : ℕ) (at : ℤ) (seconds : ℕ) → slice_get script n ≡ Some (steps.Tick seconds)
     → IsWithinTicks first script n at → IsWithinTicks first script (n + 1) (at +ℤ pos seconds)
 within_tick first script n at seconds is within =
-    let more : ticked (take (n + 1) script) ≡ ticked (take n script) + seconds = ticked_next script n (steps.Tick seconds) is in
+    let more : seconds_ticked (take (n + 1) script) ≡ seconds_ticked (take n script) + seconds = ticked_next script n (steps.Tick seconds) is in
     (omega (arith, ints, within.0), omega (arith, ints, within.1, more))
 
 -- the moment of a tick that is owed lies there too
@@ -117,7 +117,7 @@ on_time s (Tick now ∷ h) follows = (subst (λ (e : Option Effect). IsTimely s.
 on_time s (other ∷ h) follows = ((on_time s h follows.1).0, tt)
 
 -- the moment lies between the first one and what all ticks make of it
-pub moments_within : (s : Setting) (h : List Entry) → Follows s h → (s.now ≤ℤ moment s h) × (moment s h ≤ℤ (s.now +ℤ pos (ticked s.script)))
+pub moments_within : (s : Setting) (h : List Entry) → Follows s h → (s.now ≤ℤ moment s h) × (moment s h ≤ℤ (s.now +ℤ pos (seconds_ticked s.script)))
 moments_within s h follows =
     let within = (on_time s h follows).0 in
     (within.0, omega (arith, ints, within.1, ticked_all s.script (scripted h)))

@@ -25,11 +25,11 @@ use Rattle.cmc_model.specs.Generated.{named, free_named}
 use Rattle.cmc_model.specs.Replies.{State, IsReply, IsServed, IsCreated, IsUpdated, IsRestated, IsDeleted, IsGot, IsChange, IsAdmitted}
 use Rattle.cmc_rules.specs.declared.progress.Stage.{Stage}
 use Rattle.cmc_rules.specs.declared.progress.Stage.TheVariants.{Fresh, Asked, Given, Read, Saved, Wrote, Refused, Barred}
-use Rattle.cmc_rules.specs.Passes.{stands_in, writes_stand_in}
+use Rattle.cmc_rules.specs.Passes.{is_temporary_act, writes_temporary}
 use Rattle.cmc_rules.specs.Safety.{IsSecretWrite}
 use Rattle.cmc_rules.specs.Causes.{IsFirstCall, IsSecretCall, IsStatusCall, IsNextCall}
 use Rattle.cmc_rules.specs.Sighting.{ForNone, OnSeen}
-use Rattle.cmc_rules.specs.Sound.{IsOrdinary, IsAnswer, IsIssuance, IsStandingIn, IsFollowed, IsWithin}
+use Rattle.cmc_rules.specs.Sound.{IsOrdinary, IsWriteAfterValue, IsIssuance, IsTemporaryPlan, IsFollowed, IsWithin}
 
 -- ---- the call by the act
 
@@ -47,14 +47,14 @@ pub record IsIssuingCall (role : Role) (seen : Views) (since : ℤ) (call : Call
 
 pub record IsStandInCall (role : Role) (seen : Views) (since : ℤ) (call : Call) : Type 0 where
   pub plan : TemporaryPlan
-  pub stands_in : IsStandingIn role seen since plan
+  pub stands_in : IsTemporaryPlan role seen since plan
   pub planned : call ≡ plan.secret
 
 -- what the call is at this stage
 abbrev pub IsCallAt : Stage → Role → Views → ℤ → Call → Type 0
 IsCallAt Fresh role seen since call = OnSeen (IsOrdinary role since) seen call ⊎ IsLiveCall role seen call
 IsCallAt (Asked order) role seen since call = ⊥
-IsCallAt (Given order value) role seen since call = OnSeen (IsAnswer role seen since value) seen call
+IsCallAt (Given order value) role seen since call = OnSeen (IsWriteAfterValue role seen since value) seen call
 IsCallAt Read role seen since call = IsIssuingCall role seen since call (λ plan. plan.secret) ⊎ IsStandInCall role seen since call
 IsCallAt Saved role seen since call = IsIssuingCall role seen since call (λ plan. plan.status)
 IsCallAt Wrote role seen since call = ⊥
@@ -85,25 +85,25 @@ status_call role after seen since (Issue plan) call within next = record { plan 
 status_call role after seen since (Temporary plan) call within next = absurd next
 
 -- a Secret is marked exactly where the plan is one of a stand-in certificate
-unmarked : (call : Call) → IsSecretWrite call → writes_stand_in call ≡ false
+unmarked : (call : Call) → IsSecretWrite call → writes_temporary call ≡ false
 unmarked (Create (Secret k) generate) is = is
 unmarked (Update (Secret k) named) is = is
 unmarked other is = absurd is
 
-pub marked_by : (role : Role) (after : Order → Value → Option Call) (seen : Views) (since : ℤ) (does : Act) (call : Call) → IsWithin role after seen since does → IsSecretCall does call → (role ≡ roles.Issuing) × (writes_stand_in call ≡ stands_in does)
+pub marked_by : (role : Role) (after : Order → Value → Option Call) (seen : Views) (since : ℤ) (does : Act) (call : Call) → IsWithin role after seen since does → IsSecretCall does call → (role ≡ roles.Issuing) × (writes_temporary call ≡ is_temporary_act does)
 marked_by role after seen since Nothing call within next = absurd next
 marked_by role after seen since (Calls first) call within next = absurd next
 marked_by role after seen since (Asks order) call within next = absurd next
-marked_by role after seen since (Issue plan) call within next = (within.issuing, ap writes_stand_in next ∙ unmarked plan.secret within.is_secret)
-marked_by role after seen since (Temporary plan) call within next = (within.issuing, ap writes_stand_in next ∙ within.is_marked)
+marked_by role after seen since (Issue plan) call within next = (within.issuing, ap writes_temporary next ∙ unmarked plan.secret within.is_secret)
+marked_by role after seen since (Temporary plan) call within next = (within.issuing, ap writes_temporary next ∙ within.is_marked)
 
 -- the call that follows is the one that is for what was seen
 pub following_call : (role : Role) (after : Order → Value → Option Call) (seen : Views) (since : ℤ) (order : Order) (value : Value) (call : Call) → IsFollowed role after seen since order value → after order value ≡ Some call
-    → OnSeen (IsAnswer role seen since value) seen call
+    → OnSeen (IsWriteAfterValue role seen since value) seen call
 following_call role after seen since order value call followed next =
     let some : Some followed.call ≡ Some call = sym followed.follows ∙ next in
     let same : followed.call ≡ call = cc some in
-    subst (OnSeen (IsAnswer role seen since value) seen) same followed.on
+    subst (OnSeen (IsWriteAfterValue role seen since value) seen) same followed.on
 
 -- a value that was given is followed
 abbrev pub IsFollowedAt : Stage → Role → (Order → Value → Option Call) → Views → ℤ → Type 0

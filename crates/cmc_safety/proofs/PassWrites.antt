@@ -29,7 +29,7 @@ use Rattle.cmc_rules.specs.Causes.{IsCaused}
 use Rattle.cmc_rules.specs.Raising.{KeepsRevision, RaisesRevision}
 use Rattle.cmc_rules.specs.Rights.{MayChange}
 use Rattle.cmc_rules.specs.Sighting.{OnSeen}
-use Rattle.cmc_rules.specs.Sound.{IsOrdinary, IsAnswer, WritesTarget, IsSigned, IsMarked, IsRaiseOf, WhereMade, IsOfCertificate}
+use Rattle.cmc_rules.specs.Sound.{IsOrdinary, IsWriteAfterValue, WritesTarget, IsSigned, IsMarked, IsRaiseOf, WhereMade, IsOfCertificate}
 use Rattle.cmc_rules.proofs.Sighted.{AreKnown, as_seen}
 use Rattle.cmc_safety.specs.Formed.{IsFormed}
 use Rattle.cmc_safety.proofs.NextCalls.{IsLiveCall, IsCallAt, on_less}
@@ -51,7 +51,7 @@ of_ordinary : (role : Role) (seen : Views) (since : ℤ) (old new : Option Objec
 of_ordinary role seen since old new is =
     record { rights = is.rights; dated = is.dated; revision = inl is.revision; made = λ made before after. absurd (is.no_request made before after) }
 
-of_answer : (role : Role) (seen : Views) (since : ℤ) (value : Value) (old new : Option Object) → IsAnswer role seen since value old new → IsPassWrite role seen since old new
+of_answer : (role : Role) (seen : Views) (since : ℤ) (value : Value) (old new : Option Object) → IsWriteAfterValue role seen since value old new → IsPassWrite role seen since old new
 of_answer role seen since value old new is = record { rights = is.rights; dated = is.dated; revision = inl is.revision; made = is.made }
 
 -- issuing makes no request
@@ -86,7 +86,7 @@ pub writes_at : (stage : Stage) (role : Role) (seen : Views) (since : ℤ) (call
 writes_at Fresh role seen since call (inl on) = inl (on_less (IsOrdinary role since) (IsPassWrite role seen since) seen call (λ old new is. of_ordinary role seen since old new is) on)
 writes_at Fresh role seen since call (inr live) = inr live
 writes_at (Given order value) role seen since call at =
-    inl (on_less (IsAnswer role seen since value) (IsPassWrite role seen since) seen call (λ old new is. of_answer role seen since value old new is) at)
+    inl (on_less (IsWriteAfterValue role seen since value) (IsPassWrite role seen since) seen call (λ old new is. of_answer role seen since value old new is) at)
 writes_at Read role seen since call (inl at) =
     let i = at.issues in
     let P = IsSigned i.certificate i.request i.file in

@@ -22,7 +22,7 @@ use Rattle.cmc_rules.specs.Acts.{act}
 use Rattle.cmc_rules.specs.Triggering.{is_issuing}
 use Rattle.cmc_rules.specs.NextKeys.{named_key}
 use Rattle.cmc_rules.specs.NextRequests.{is_wanted, is_refused}
-use Rattle.cmc_rules.specs.Issuing.{failure, secret_call, issue_plan, temporary_plan, is_granted, fails_now, refusal, is_certified, is_kept_for_keys, lacks_certificate, stand_in_with, while_waiting, with_granted, with_wanted, with_request, with_file, with_key_of, issuing_of, issuing}
+use Rattle.cmc_rules.specs.Issuing.{failure, secret_call, issue_plan, temporary_plan, is_granted, fails_now, refusal, is_certified, is_kept_for_keys, lacks_certificate, temporary_with, while_waiting, with_granted, with_wanted, with_request, with_file, with_key_of, issuing_of, issuing}
 use Rattle.cmc_rules.proofs.Lines.{by_test}
 use Rattle.cmc_safety.specs.Completing.{IsPlan}
 
@@ -57,7 +57,7 @@ stands_in : (c : Certificate) (target : Option SecretObject) (file certificate :
 unfolding temporary_plan
 stands_in c target file certificate = (refl, record { key = file; certificate = certificate; ca = []; is = refl })
 
-made_for : (c : Certificate) (target : Option SecretObject) (file : List ℕ) (made : Option (List ℕ)) → PlansFor c target (stand_in_with c file target made)
+made_for : (c : Certificate) (target : Option SecretObject) (file : List ℕ) (made : Option (List ℕ)) → PlansFor c target (temporary_with c file target made)
 made_for c target file None = tt
 made_for c target file (Some certificate) =
     by_test (PlansFor c target) (nat_le (length certificate) 16777216) (Temporary (temporary_plan c file certificate target)) Nothing (λ small. stands_in c target file certificate) (λ large. tt)

@@ -25,7 +25,7 @@ use Rattle.cmc_rules.specs.Issuing.{issuing}
 use Rattle.cmc_rules.specs.Viewing.{views}
 use Rattle.cmc_rules.specs.Legality.{IsLegal}
 use Rattle.cmc_rules.specs.Causes.{IsCaused}
-use Rattle.cmc_rules.specs.Safety.{Stands, IsServed}
+use Rattle.cmc_rules.specs.Safety.{HasEntry, IsServedReply}
 use Rattle.cmc_rules.specs.Sound.{WritesTarget, IsSigned, IsMarked, IsWithin}
 use Rattle.cmc_rules.proofs.WellSeen.{views_well}
 use Rattle.cmc_safety.specs.Completing.{IsPlan, IsServedCall}
@@ -119,13 +119,13 @@ calls_end s g n seen cause (call ∷ calls) (x ∷ xs) last legal stand is (repl
 
 -- ---- the Secret was served
 
-served_by : (s : Setting) (h : List Entry) (seen : Option Certificate) (call : Call) (reply : Reply) → ((o : Object) → ReadsObject (objects s h) call o → ⊥) → lets_on seen reply ≡ true → IsReply s.faults (state s h) call reply → IsServed reply
+served_by : (s : Setting) (h : List Entry) (seen : Option Certificate) (call : Call) (reply : Reply) → ((o : Object) → ReadsObject (objects s h) call o → ⊥) → lets_on seen reply ≡ true → IsReply s.faults (state s h) call reply → IsServedReply reply
 served_by s h seen call (Ok version name) unread on right = tt
 served_by s h seen call (Unchanged version) unread on right = tt
 served_by s h seen call (Found o) unread on right = absurd (unread o (found_is_read s.faults (state s h) call o right))
 served_by s h seen call other unread on right = absurd (cc on)
 
-secret_served : (s : Setting) (g : List Entry) (n : ℕ) (seen : Option Certificate) (call : Call) → ((m : Objects) (o : Object) → ReadsObject m call o → ⊥) → StandsRight s g n seen call → Stands (IsServedCall n call) g
+secret_served : (s : Setting) (g : List Entry) (n : ℕ) (seen : Option Certificate) (call : Call) → ((m : Objects) (o : Object) → ReadsObject m call o → ⊥) → StandsRight s g n seen call → HasEntry (IsServedCall n call) g
 secret_served s [] n seen call unread made = absurd made
 secret_served s (e ∷ h) n seen call unread (inl (reply, is, on, right)) = inl (reply, is, served_by s h seen call reply (unread (objects s h)) on right)
 secret_served s (e ∷ h) n seen call unread (inr there) = inr (secret_served s h n seen call unread there)

@@ -37,14 +37,14 @@ use Rattle.cmc_rules.specs.declared.progress.Past.{Past}
 use Rattle.cmc_rules.specs.Viewing.{views}
 use Rattle.cmc_rules.specs.Origins.{begun}
 use Rattle.cmc_rules.specs.Issuing.{issuing}
-use Rattle.cmc_rules.specs.Passes.{open_pass, gone_on, is_as_seen, stands_in, stage_read, stage_written, stage_by, stage_after, stage_given, new_pass, with_stage, unless_of, is_pass_of}
+use Rattle.cmc_rules.specs.Passes.{open_pass, gone_on, is_as_seen, is_temporary_act, stage_read, stage_written, stage_by, stage_after, stage_given, new_pass, with_stage, unless_of, is_pass_of}
 use Rattle.cmc_rules.specs.Memory.{past, with_own, with_begin, with_ending, ending_at, ending_of, no_past}
 use Rattle.cmc_rules.specs.Sameness.{IsStillBehind, EndsAlike, IsSame}
 use Rattle.cmc_rules.specs.Legality.{IsLegal}
 use Rattle.cmc_rules.specs.Causes.{act_of, IsCaused, EndsBy, MayEnd}
-use Rattle.cmc_rules.specs.Safety.{Stands}
+use Rattle.cmc_rules.specs.Safety.{HasEntry}
 use Rattle.cmc_rules.proofs.Carrying.{over_begin, over_end, over_stop, over_call, over_ask, over_given}
-use Rattle.cmc_safety.specs.Begins.{is_start_of, is_begin_on, IsLastPass, stopping, IsStoppedBy, EndedSo, WouldRepeat, IsDueExactly}
+use Rattle.cmc_safety.specs.Begins.{is_start_of, is_begin_on, IsLastPass, stopping_version, IsStoppedBy, EndedSo, WouldRepeat, IsDueExactly}
 use Rattle.cmc_safety.proofs.Alone.{WorksOn, role_is_one, role_is_own, key_is_one, key_is_own, worked_at_entry, worked_at_call, worked_unended, worked_unstopped}
 use Rattle.cmc_safety.proofs.Course.{of_open, over_own_entry, same_number}
 use Rattle.cmc_safety.proofs.Completing.{own_number, legal_below}
@@ -60,7 +60,7 @@ obstacle_by kind (Some version) = Newer kind version
 abbrev IsRefusedAt : Setting → List Entry → ℕ → ℕ → Obstacle → Type 0
 IsRefusedAt s [] n number obstacle = ⊥
 IsRefusedAt s (e ∷ h) n number obstacle =
-    ((number ≡ length h + 1) × ((call : Call) × (reply : Reply) × (e ≡ Called (Pass n) call reply) × (obstacle ≡ obstacle_by (key_of_call call).kind (stopping s h call reply))))
+    ((number ≡ length h + 1) × ((call : Call) × (reply : Reply) × (e ≡ Called (Pass n) call reply) × (obstacle ≡ obstacle_by (key_of_call call).kind (stopping_version s h call reply))))
     ⊎ IsRefusedAt s h n number obstacle
 
 abbrev HasRefusal : Setting → List Entry → ℕ → Stage → Type 0
@@ -107,7 +107,7 @@ has_refusal s [] n = tt
 has_refusal s (Called User call reply ∷ h) n = its_more s (Called User call reply) h n (open_pass s h n) (has_refusal s h n)
 has_refusal s (Called (Pass m) call reply ∷ h) n =
     over_own_entry (HasIts s h n) (HasIts s (Called (Pass m) call reply ∷ h) n) n m (stage_after s h call reply) (open_pass s h n)
-    (λ here q has. subst (λ (i : ℕ). HasRefusal s (Called (Pass i) call reply ∷ h) n (stage_after s h call reply q)) (same_number n m here) (call_refusal s h n q.seen.certificate (stands_in (issuing q.seen q.since)) q.stage call reply))
+    (λ here q has. subst (λ (i : ℕ). HasRefusal s (Called (Pass i) call reply ∷ h) n (stage_after s h call reply q)) (same_number n m here) (call_refusal s h n q.seen.certificate (is_temporary_act (issuing q.seen q.since)) q.stage call reply))
     (λ there q has. refusal_more s (Called (Pass m) call reply) h n q.stage has) (has_refusal s h n)
 has_refusal s (Begin pass role key at now ∷ h) n =
     over_begin (HasIts s (Begin pass role key at now ∷ h) n) (n == pass) (new_pass role key (views s h role key) now) (open_pass s h n) tt (its_more s (Begin pass role key at now) h n (open_pass s h n) (has_refusal s h n))
@@ -148,7 +148,7 @@ ends_as s h n (Refused number obstacle) does cause has ends = subst (λ (c : Cau
 ends_as s h n Barred does cause has ends = absurd ends
 
 abbrev HasEnd : ℕ → Cause → List Entry → Type 0
-HasEnd n cause above = Stands (λ e. e ≡ End n cause) above
+HasEnd n cause above = HasEntry (λ e. e ≡ End n cause) above
 
 abbrev HasNoEnd : ℕ → List Entry → Type 0
 HasNoEnd n above = (cause : Cause) → HasEnd n cause above → ⊥
@@ -370,7 +370,7 @@ begins s h role key n at since legal = record {
   alone m false there works = absurd (legal.0.free (m, works))
 
 abbrev LeaveIt : Role → Key → List Entry → Type 0
-LeaveIt role key above = (e : Entry) → Stands (λ x. x ≡ e) above → (is_start_of role e ≡ false) × (is_begin_on role key e ≡ false)
+LeaveIt role key above = (e : Entry) → HasEntry (λ x. x ≡ e) above → (is_start_of role e ≡ false) × (is_begin_on role key e ≡ false)
 
 remembers : (s : Setting) (above base : List Entry) (role : Role) (key : Key) (n : ℕ) (seen : Views) (since : ℤ) → IsLegal s (above ++ base) → IsCaused s (above ++ base) → LeaveIt role key above → Remembers s base role key n [] seen since
     → Remembers s (above ++ base) role key n above seen since
@@ -418,7 +418,7 @@ last_more s e h role key off elsewhere l = record {
   split = ap (λ (w : List Entry). e ∷ w) l.split;
   newest = newest;
 } where
-  newest : (x : Entry) → Stands (λ y. y ≡ x) (e ∷ l.above) → (is_start_of role x ≡ false) × (is_begin_on role key x ≡ false)
+  newest : (x : Entry) → HasEntry (λ y. y ≡ x) (e ∷ l.above) → (is_start_of role x ≡ false) × (is_begin_on role key x ≡ false)
   newest x (inl is) = subst (λ (y : Entry). (is_start_of role y ≡ false) × (is_begin_on role key y ≡ false)) is (off, elsewhere)
   newest x (inr there) = l.newest x there
 
@@ -476,7 +476,7 @@ one_obstacle s (e ∷ h) n number kind version obstacle (inl (at, (call, reply, 
     let one : Called (Pass n) call reply ≡ Called (Pass n) c r = sym is ∙ be in
     let calls : call ≡ c = cc one in
     let replies : reply ≡ r = cc one in
-    obstacle_is ∙ ap (λ (x : Call). obstacle_by (key_of_call x).kind (stopping s h x r)) (sym calls) ∙ ap (λ (x : Reply). obstacle_by (key_of_call call).kind (stopping s h call x)) (sym replies)
+    obstacle_is ∙ ap (λ (x : Call). obstacle_by (key_of_call x).kind (stopping_version s h x r)) (sym calls) ∙ ap (λ (x : Reply). obstacle_by (key_of_call call).kind (stopping_version s h call x)) (sym replies)
     ∙ ap (obstacle_by (key_of_call call).kind) names ∙ ap (λ (k : Kind). Newer k version) kind_is
 one_obstacle s (e ∷ h) n number kind version obstacle (inl stopped) (inr refused) = absurd (let low = low_number s h n number obstacle refused in let is = stopped.0 in omega (arith, low, is))
 one_obstacle s (e ∷ h) n number kind version obstacle (inr stopped) (inl refused) = absurd (let low = low_stop s h n number kind version stopped in let is = refused.0 in omega (arith, low, is))
@@ -490,7 +490,7 @@ by_version (Some v) k kind version is = (let e : kind ≡ k = cc is in sym e, ap
 stopped_by : (s : Setting) (h : List Entry) (n number : ℕ) (kind : Kind) (version : ℕ) → IsRefusedAt s h n number (Newer kind version) → IsStoppedBy s h n number kind version
 stopped_by s [] n number kind version at = absurd at
 stopped_by s (e ∷ h) n number kind version (inl (at, (call, reply, is, names))) =
-    let found = by_version (stopping s h call reply) (key_of_call call).kind kind version names in inl (at, (call, reply, is, found.0, found.1))
+    let found = by_version (stopping_version s h call reply) (key_of_call call).kind kind version names in inl (at, (call, reply, is, found.0, found.1))
 stopped_by s (e ∷ h) n number kind version (inr there) = inr (stopped_by s h n number kind version there)
 
 -- by the obstacle that is remembered

@@ -21,7 +21,7 @@ use Rattle.cmc_objects.specs.declared.entry.Entry.{Entry}
 use Rattle.cmc_objects.specs.declared.entry.Entry.TheVariants.{Call as Called, Ask, Judged}
 use Rattle.cmc_objects.specs.Requests.{is_approved, is_denied}
 use Rattle.cmc_match.specs.Marks.{is_temporary}
-use Rattle.cmc_match.specs.Revisions.{is_of, only_of}
+use Rattle.cmc_match.specs.Revisions.{is_of_revision, only_of}
 use Rattle.cmc_pass.specs.Values.{IsValue}
 use Rattle.cmc_pass.specs.declared.value.Value.{Value}
 use Rattle.cmc_pass.specs.declared.value.Value.TheVariants as values
@@ -44,8 +44,8 @@ use Rattle.cmc_rules.specs.Following.{Follows}
 use Rattle.cmc_rules.specs.Raising.{stated_revision, revision, revision_of_uid, KeepsRevision, RaisesRevision}
 use Rattle.cmc_rules.specs.Rights.{MayChange, IsRightful}
 use Rattle.cmc_rules.specs.Sighting.{IsAmong, IsWellSeen, OnSeen}
-use Rattle.cmc_rules.specs.Sound.{IsOrdinary, IsAnswer, IsPrepared, IsTarget, WritesTarget, IsSigned, IsMarked, IsRaiseOf, IsQuestion}
-use Rattle.cmc_rules.specs.Safety.{Stands, LastAsks, AsksToApprove, IsNeverDenied, IsLiveRead, IsIssued, IsOfIssuer, IsStandIn, IsGoodIssue, IsSecretSaved, IsStatusUpdate, RaisesWell, IsJudgedYes, AsksWell, IsGoodWrite, IsSafeWrite, AreSafe, IsSafe}
+use Rattle.cmc_rules.specs.Sound.{IsOrdinary, IsWriteAfterValue, IsReadyToIssue, IsTarget, WritesTarget, IsSigned, IsMarked, IsRaiseOf, IsQuestion}
+use Rattle.cmc_rules.specs.Safety.{HasEntry, LastAsks, AsksToApprove, IsNeverDenied, IsLiveRead, IsIssued, IsOfIssuer, IsTemporaryCertificate, IsGoodIssue, IsSecretSaved, IsStatusUpdate, RaisesWell, IsJudgedYes, AsksWell, IsGoodWrite, IsSafeWrite, AreSafe, IsSafe}
 use Rattle.cmc_rules.proofs.Answered.{verdicts_stay_in}
 use Rattle.cmc_rules.proofs.Sights.{seen_request, seen_owned, found_among}
 use Rattle.cmc_rules.proofs.Sighted.{AreKnown, IsStored, as_seen}
@@ -59,7 +59,7 @@ use Rattle.cmc_safety.proofs.InProgress.{IsCaller, caller_of, not_accepted, IsIn
 
 -- ---- words
 
-stands_as : (P Q : Entry → Type 0) (h : List Entry) → ((e : Entry) → P e → Q e) → Stands P h → Stands Q h
+stands_as : (P Q : Entry → Type 0) (h : List Entry) → ((e : Entry) → P e → Q e) → HasEntry P h → HasEntry Q h
 stands_as P Q [] gives is = is
 stands_as P Q (e ∷ h) gives (inl is) = inl (gives e is)
 stands_as P Q (e ∷ h) gives (inr is) = inr (stands_as P Q h gives is)
@@ -77,7 +77,7 @@ chosen_among false f rs r is = absurd (cc is)
 
 only_among : (n : ℕ) (rs : List CertificateRequest) (r : CertificateRequest) → only_of n rs ≡ Some r → IsAmong r rs
 unfolding only_of
-only_among n rs r is = chosen_among (length (filter (λ request. is_of n request) rs) == 1) (λ request. is_of n request) rs r is
+only_among n rs r is = chosen_among (length (filter (λ request. is_of_revision n request) rs) == 1) (λ request. is_of_revision n request) rs r is
 
 -- ---- never denied, in the whole history
 
@@ -148,7 +148,7 @@ judged_by (e ∷ h) pass r P gives (inl here) = inl (here.0, last_as P (AsksToAp
 judged_by (e ∷ h) pass r P gives (inr there) = inr (judged_by h pass r P gives there)
 
 good_answer : (s : Setting) (whole h : List Entry) (pass : ℕ) (p : OpenPass) (call : Call) (order : Order) (value : Value) (before after : Option Object) → HasValue h pass p.role p.seen p.since order value
-    → IsAnswer p.role p.seen p.since value before after → IsGoodCall s whole h pass p call before after
+    → IsWriteAfterValue p.role p.seen p.since value before after → IsGoodCall s whole h pass p call before after
 good_answer s whole h pass p call order value before after has is = record {
   write = record {
     issue = λ written issuing there. absurd (is.no_secret written issuing there);
@@ -178,7 +178,7 @@ pub record WritesForIssue (s : Setting) (whole h : List Entry) (pass : ℕ) (p :
   pub read : HasReadLive h pass p.seen
 
 good_issue : (s : Setting) (whole h : List Entry) (pass : ℕ) (p : OpenPass) (c : Certificate) (r : CertificateRequest) (k : SecretObject) (file : List ℕ) (written : SecretObject) → WritesForIssue s whole h pass p
-    → IsPrepared p.seen c r k file → IsTarget c r file written → MatchBool (is_temporary written) (IsStandIn c r file p.since written) (IsOfIssuer s whole r written) → IsGoodIssue s whole h pass p written
+    → IsReadyToIssue p.seen c r k file → IsTarget c r file written → MatchBool (is_temporary written) (IsTemporaryCertificate c r file p.since written) (IsOfIssuer s whole r written) → IsGoodIssue s whole h pass p written
 good_issue s whole h pass p c r k file written its ready target signed =
     let read : its.read.certificate ≡ c = one_in Certificate its.read.certificate c p.seen.certificate its.read.sees ready.sees in
     let steady : its.steady.certificate ≡ c = one_in Certificate its.steady.certificate c p.seen.certificate its.steady.sees ready.sees in
@@ -186,7 +186,7 @@ good_issue s whole h pass p c r k file written its ready target signed =
     record {
       certificate = c;
       sees = ready.sees;
-      read = subst (λ (d : Certificate). Stands (IsLiveRead pass d) h) read its.read.read;
+      read = subst (λ (d : Certificate). HasEntry (IsLiveRead pass d) h) read its.read.read;
       request = r;
       next = ap (λ (n : ℕ). only_of (n + 1) p.seen.requests) present ∙ ready.next;
       owned = its.well.request_owned c r ready.sees (only_among (revision c + 1) p.seen.requests r ready.next);
@@ -222,21 +222,21 @@ good_secret s whole h pass p call P before after issuing issues is = record {
 
 -- the certificate of an issuer
 issued_well : (s : Setting) (whole h : List Entry) (pass : ℕ) (p : OpenPass) (its : WritesForIssue s whole h pass p) (c : Certificate) (r : CertificateRequest) (k : SecretObject) (file : List ℕ) (written : SecretObject)
-    → IsPrepared p.seen c r k file → is_approved r ≡ true → IsIssued r → IsSigned c r file written → IsGoodIssue s whole h pass p written
+    → IsReadyToIssue p.seen c r k file → is_approved r ≡ true → IsIssued r → IsSigned c r file written → IsGoodIssue s whole h pass p written
 issued_well s whole h pass p its c r k file written ready approved issued w =
     let stored : IsStored (writes s h) (Request r) = its.known (Request r) (seen_owned p.seen r (only_among (revision c + 1) p.seen.requests r ready.next)) in
     let of_issuer : IsOfIssuer s whole r written =
     record { approved = approved; never_denied = stays_undenied s whole h r its.legal its.below stored approved; issued = issued; certificate = w.certificate }
     in
     good_issue s whole h pass p c r k file written its ready w.target
-    (subst (λ (b : Bool). MatchBool b (IsStandIn c r file p.since written) (IsOfIssuer s whole r written)) (sym w.unmarked) of_issuer)
+    (subst (λ (b : Bool). MatchBool b (IsTemporaryCertificate c r file p.since written) (IsOfIssuer s whole r written)) (sym w.unmarked) of_issuer)
 
 -- the stand-in certificate, whose times can be read since the pass began in the time of a run
 marked_well : (s : Setting) (whole h : List Entry) (pass : ℕ) (p : OpenPass) (its : WritesForIssue s whole h pass p) (c : Certificate) (r : CertificateRequest) (k : SecretObject) (file : List ℕ) (written : SecretObject)
-    → IsPrepared p.seen c r k file → IsMarked c r file p.since written → IsGoodIssue s whole h pass p written
+    → IsReadyToIssue p.seen c r k file → IsMarked c r file p.since written → IsGoodIssue s whole h pass p written
 marked_well s whole h pass p its c r k file written ready w =
     good_issue s whole h pass p c r k file written its ready (w.target its.began)
-    (subst (λ (b : Bool). MatchBool b (IsStandIn c r file p.since written) (IsOfIssuer s whole r written)) (sym w.marked) w.stand_in)
+    (subst (λ (b : Bool). MatchBool b (IsTemporaryCertificate c r file p.since written) (IsOfIssuer s whole r written)) (sym w.marked) w.stand_in)
 
 secret_over_certificate : (c : Certificate) (written : SecretObject) → MayChange roles.Issuing (Some (Cert c)) (Some (Secret written)) → ⊥
 secret_over_certificate c written (inl made) = made
@@ -248,7 +248,7 @@ unfolding settled
 status_settled (UpdateStatus object named) reply is = tt
 status_settled other reply is = absurd is
 
-good_status : (s : Setting) (whole h : List Entry) (pass : ℕ) (p : OpenPass) (c : Certificate) (call : Call) (before after : Option Object) → p.role ≡ roles.Issuing → IsStatusUpdate call → Stands (IsSecretSaved pass) h
+good_status : (s : Setting) (whole h : List Entry) (pass : ℕ) (p : OpenPass) (c : Certificate) (call : Call) (before after : Option Object) → p.role ≡ roles.Issuing → IsStatusUpdate call → HasEntry (IsSecretSaved pass) h
     → IsRaiseOf c p.since before after → IsGoodCall s whole h pass p call before after
 good_status s whole h pass p c call before after issuing status saved is = record {
   write = record {
@@ -289,7 +289,7 @@ good_by s whole h pass p Fresh call reply k steady has (inr live) = absurd (not_
 good_by s whole h pass p (Asked order) call reply k steady has at = absurd at
 good_by s whole h pass p (Given order value) call reply k steady has at =
     good_answer s whole h pass p (settled call reply) order value (object_at (objects s h) (key_of_call (settled call reply))) (stored (accepted s h + 1) (moment s h) (objects s h) (settled call reply)) has
-    (stood (IsAnswer p.role p.seen p.since value) s whole h p call reply k at)
+    (stood (IsWriteAfterValue p.role p.seen p.since value) s whole h p call reply k at)
 good_by s whole h pass p Read call reply k steady has (inl at) =
     let i = at.issues in
     let its : WritesForIssue s whole h pass p = record { legal = k.legal; below = k.below; known = k.known; well = k.well; began = k.began; issuing = i.issuing; steady = steady; read = has } in

@@ -14,7 +14,7 @@ use Rattle.cmc_rules.specs.Following.{Follows}
 use Rattle.cmc_rules.specs.Passes.{open_pass}
 use Rattle.cmc_rules.specs.Raising.{revision, revision_of_uid, stated_revision}
 use Rattle.cmc_safety.specs.Formed.{IsFormed}
-use Rattle.cmc_safety.specs.Standing.{IsWriting, IsInOrder}
+use Rattle.cmc_safety.specs.Standing.{IsWriting, KeepsInvariants}
 use Rattle.cmc_safety.proofs.Course.{AreSound, of_open}
 use Rattle.cmc_safety.proofs.InProgress.{HoldsWhileIssuing, IsInProgress, IsUnmoved, IsPlayed, in_progress}
 use Rattle.cmc_safety.proofs.Creations.{made_versions}
@@ -28,7 +28,7 @@ while_writing Read P writing holds = holds
 while_writing Saved P writing holds = holds
 while_writing other P writing holds = absurd writing
 
-pub in_order : AreSound → (s : Setting) (h : List Entry) → IsFormed s → IsLegal s h → IsCaused s h → Follows s h → IsInOrder s h
+pub in_order : AreSound → (s : Setting) (h : List Entry) → IsFormed s → IsLegal s h → IsCaused s h → Follows s h → KeepsInvariants s h
 in_order sound s h formed legal caused follows =
     let o : IsPlayed s h = record { legal = legal; caused = caused; follows = follows } in record {
       forms = λ key object has. formed_versions sound s h formed o key object has;

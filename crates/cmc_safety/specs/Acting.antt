@@ -13,7 +13,7 @@ use Rattle.cmc_rules.specs.declared.progress.OpenPass.{OpenPass}
 use Rattle.cmc_rules.specs.declared.progress.Stage.{Stage}
 use Rattle.cmc_rules.specs.declared.progress.Stage.TheVariants.{Barred}
 use Rattle.cmc_rules.specs.Dates.{HasDatedFailure}
-use Rattle.cmc_rules.specs.Granting.{HasForm, HasReplyForm}
+use Rattle.cmc_rules.specs.Granting.{HasRequestForm, HasReplyRowForm}
 use Rattle.cmc_rules.specs.NextRequests.{HasNextRevision}
 
 -- all that the controllers ask of what a role sees, of the moment and of the desk
@@ -27,9 +27,9 @@ pub record MayAct (seen : Views) (now : ℤ) (desk : Desk) : Type 0 where
   -- one question more can be counted
   pub asked : desk.asked < 2 ^ 63
   -- an issuer can be asked about the request
-  pub form : HasForm seen.request
+  pub form : HasRequestForm seen.request
   -- and the answer that is set out for it can be given
-  pub reply : HasReplyForm seen.request desk
+  pub reply : HasReplyRowForm seen.request desk
 
 -- ---- no rule refuses a call of a pass
 

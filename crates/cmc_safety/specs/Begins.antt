@@ -22,7 +22,7 @@ use Rattle.cmc_rules.specs.Viewing.{views}
 use Rattle.cmc_rules.specs.Passes.{open_pass, is_pass_of}
 use Rattle.cmc_rules.specs.Memory.{past}
 use Rattle.cmc_rules.specs.Sameness.{IsDue}
-use Rattle.cmc_rules.specs.Safety.{Stands}
+use Rattle.cmc_rules.specs.Safety.{HasEntry}
 
 abbrev pub is_start_of : Role → Entry → Bool
 is_start_of role (Start r at) = role_eq r role
@@ -59,28 +59,28 @@ pub record IsLastPass (s : Setting) (h : List Entry) (role : Role) (key : Key) :
   pub above : List Entry
   pub before : List Entry
   pub split : h ≡ above ++ (Begin pass role key at since ∷ before)
-  pub newest : (e : Entry) → Stands (λ x. x ≡ e) above → (is_start_of role e ≡ false) × (is_begin_on role key e ≡ false)
+  pub newest : (e : Entry) → HasEntry (λ x. x ≡ e) above → (is_start_of role e ≡ false) × (is_begin_on role key e ≡ false)
 
 -- the version that a reply names as the one that stopped the pass: of what stands under the key, or of the delete that took it away
-abbrev pub stopping : Setting → List Entry → Call → Reply → Option ℕ
-stopping s h call (Conflict named have) = Some have
-stopping s h call (AlreadyExists have) = Some have
-stopping s h call (Found object) = Some (version_of object)
-stopping s h call (NotFound at) = Some (last_under (key_of_call call) (writes s h))
-stopping s h call other = None
+abbrev pub stopping_version : Setting → List Entry → Call → Reply → Option ℕ
+stopping_version s h call (Conflict named have) = Some have
+stopping_version s h call (AlreadyExists have) = Some have
+stopping_version s h call (Found object) = Some (version_of object)
+stopping_version s h call (NotFound at) = Some (last_under (key_of_call call) (writes s h))
+stopping_version s h call other = None
 
 -- the entry of this number is a call of the pass, on an object of the kind, which this version stopped
 abbrev pub IsStoppedBy : Setting → List Entry → ℕ → ℕ → Kind → ℕ → Type 0
 IsStoppedBy s [] pass number kind version = ⊥
 IsStoppedBy s (e ∷ h) pass number kind version =
-    ((number ≡ length h + 1) × ((call : Call) × (reply : Reply) × (e ≡ Called (Pass pass) call reply) × ((key_of_call call).kind ≡ kind) × (stopping s h call reply ≡ Some version)))
+    ((number ≡ length h + 1) × ((call : Call) × (reply : Reply) × (e ≡ Called (Pass pass) call reply) × ((key_of_call call).kind ≡ kind) × (stopping_version s h call reply ≡ Some version)))
     ⊎ IsStoppedBy s h pass number kind version
 
 -- It found nothing to do, at this very moment; or a version stopped it of which the role is not told.
 abbrev pub EndedSo : Setting → List Entry → ℕ → List Entry → ℤ → ℤ → Positions → Type 0
 EndedSo s h pass above since now at =
-    (Stands (λ e. e ≡ End pass causes.Nothing) above × (since ≡ now))
-    ⊎ ((number : ℕ) × (kind : Kind) × (version : ℕ) × Stands (λ e. e ≡ End pass (causes.Stopper number)) above × IsStoppedBy s h pass number kind version × (position_of kind at < version))
+    (HasEntry (λ e. e ≡ End pass causes.Nothing) above × (since ≡ now))
+    ⊎ ((number : ℕ) × (kind : Kind) × (version : ℕ) × HasEntry (λ e. e ≡ End pass (causes.Stopper number)) above × IsStoppedBy s h pass number kind version × (position_of kind at < version))
 
 -- the last pass saw the same, and ended so that another would do the same
 pub record WouldRepeat (s : Setting) (h : List Entry) (role : Role) (key : Key) (seen : Views) (now : ℤ) (at : Positions) : Type 0 where

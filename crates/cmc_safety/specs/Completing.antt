@@ -16,15 +16,15 @@ use Rattle.cmc_pass.specs.declared.pass.Act.{Act}
 use Rattle.cmc_pass.specs.declared.pass.Act.TheVariants.{Issue, Temporary}
 use Rattle.cmc_model.specs.Replies.{is_accepted, key_of_call, settled}
 use Rattle.cmc_model.specs.Histories.{Setting, state}
-use Rattle.cmc_rules.specs.Safety.{Stands, IsServed}
+use Rattle.cmc_rules.specs.Safety.{HasEntry, IsServedReply}
 use Rattle.cmc_rules.specs.Viewing.{views, present_views}
 use Rattle.cmc_rules.specs.Issuing.{issuing}
 
 -- ---- nothing disturbs it
 
-abbrev pub is_own : ℕ → Who → Bool
-is_own n User = false
-is_own n (Pass m) = n == m
+abbrev pub is_call_of : ℕ → Who → Bool
+is_call_of n User = false
+is_call_of n (Pass m) = n == m
 
 -- the call is about neither of the two keys
 abbrev pub IsApart : Key → Key → Call → Type 0
@@ -33,7 +33,7 @@ IsApart a b call = (key_of_call call ≢ a) × (key_of_call call ≢ b)
 -- no call of the pass of number n fails, and no other call that is accepted writes under one of the two keys
 abbrev pub IsQuietCall : Setting → List Entry → ℕ → Key → Key → Who → Call → Reply → Type 0
 IsQuietCall s h n a b who call reply =
-    MatchBool (is_own n who) (list_any (λ i. i == (state s h).calls + 1) s.faults ≡ false) (is_accepted reply ≡ true → IsApart a b (settled call reply))
+    MatchBool (is_call_of n who) (list_any (λ i. i == (state s h).calls + 1) s.faults ≡ false) (is_accepted reply ≡ true → IsApart a b (settled call reply))
 
 abbrev pub IsQuietEntry : Setting → List Entry → ℕ → Key → Key → Entry → Type 0
 IsQuietEntry s h n a b (Called who call reply) = IsQuietCall s h n a b who call reply
@@ -61,15 +61,15 @@ pub record IsUndisturbed (s : Setting) (h k : List Entry) (n : ℕ) (key : Key) 
 
 -- the call of the pass was answered Ok, or that nothing is to be changed
 abbrev pub IsServedCall : ℕ → Call → Entry → Type 0
-IsServedCall n call e = (reply : Reply) × (e ≡ Called (Pass n) call reply) × IsServed reply
+IsServedCall n call e = (reply : Reply) × (e ≡ Called (Pass n) call reply) × IsServedReply reply
 
 abbrev pub IsAcceptedCall : ℕ → Call → Entry → Type 0
 IsAcceptedCall n call e = (reply : Reply) × (e ≡ Called (Pass n) call reply) × (is_accepted reply ≡ true)
 
 -- what a plan is for stands among the entries: the Secret, and behind an issuance the status with the revision that it raises
 abbrev pub IsCarriedOut : List Entry → ℕ → Act → Type 0
-IsCarriedOut k n (Issue plan) = Stands (IsServedCall n plan.secret) k × Stands (IsAcceptedCall n plan.status) k
-IsCarriedOut k n (Temporary plan) = Stands (IsServedCall n plan.secret) k
+IsCarriedOut k n (Issue plan) = HasEntry (IsServedCall n plan.secret) k × HasEntry (IsAcceptedCall n plan.status) k
+IsCarriedOut k n (Temporary plan) = HasEntry (IsServedCall n plan.secret) k
 IsCarriedOut k n other = ⊥
 
 -- the act writes a Secret

@@ -27,14 +27,14 @@ use Rattle.cmc_rules.specs.Passes.{is_as_seen}
 use Rattle.cmc_rules.specs.Desks.{desk}
 use Rattle.cmc_rules.specs.Acts.{act, call_after}
 use Rattle.cmc_rules.specs.Issuing.{issuing}
-use Rattle.cmc_rules.specs.Safety.{Stands}
-use Rattle.cmc_safety.specs.Completing.{is_own, IsPlan, IsServedCall}
+use Rattle.cmc_rules.specs.Safety.{HasEntry}
+use Rattle.cmc_safety.specs.Completing.{is_call_of, IsPlan, IsServedCall}
 
 -- ---- the entries of a pass
 
 -- the entry is one of the pass of this number, after its Begin
 abbrev pub is_entry_of : ℕ → Entry → Bool
-is_entry_of n (Called who call reply) = is_own n who
+is_entry_of n (Called who call reply) = is_call_of n who
 is_entry_of n (Ask pass order) = n == pass
 is_entry_of n (Made pass key) = n == pass
 is_entry_of n (Signed pass signature) = n == pass
@@ -117,8 +117,8 @@ HaveCourses s whole =
 
 -- the Secret of the plan was written, or stood so already
 abbrev pub IsSecretDone : List Entry → ℕ → Act → Type 0
-IsSecretDone k n (Issue plan) = Stands (IsServedCall n plan.secret) k
-IsSecretDone k n (Temporary plan) = Stands (IsServedCall n plan.secret) k
+IsSecretDone k n (Issue plan) = HasEntry (IsServedCall n plan.secret) k
+IsSecretDone k n (Temporary plan) = HasEntry (IsServedCall n plan.secret) k
 IsSecretDone k n other = ⊥
 
 -- the entry of this number is a call of the pass, which the reply stopped

@@ -29,7 +29,7 @@ pub record HasMomentsInYears (o : Object) : Type 0 where
   pub created : IsCertificateTime (meta_of o).created
   pub status : IsDated (Some o)
 
-pub record IsInOrder (s : Setting) (h : List Entry) : Type 0 where
+pub record KeepsInvariants (s : Setting) (h : List Entry) : Type 0 where
   -- each version of an object has the form that reading gives: its issuer's texts and its durations are within
   -- their bounds, and the texts of a Certificate's subject are of their kinds
   pub forms : (key : Key) (o : Object) → HasVersion s h key o → is_object_form o ≡ true

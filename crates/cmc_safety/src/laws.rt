@@ -12,7 +12,7 @@ ghost use Rattle.cmc_rules.specs.Sound.{IsSound};
 ghost use Rattle.cmc_safety.specs.Acting.{IsNeverInvalid};
 ghost use Rattle.cmc_safety.specs.Completing.{CompletesIssuing};
 ghost use Rattle.cmc_safety.specs.Formed.{IsFormed};
-ghost use Rattle.cmc_safety.specs.Standing.{IsInOrder};
+ghost use Rattle.cmc_safety.specs.Standing.{KeepsInvariants};
 
 /// A law: where the table of each role is sound and the setting is one of a scenario, every history that is legal, caused and follows
 /// its script is safe. (Of the setting it needs that all moments lie in the years whose times a certificate can say and read again.)
@@ -43,5 +43,5 @@ pub fn undisturbed_issuing_completes()
 /// the last failure, the two times of the certificate and that of its renewal) lies in the years 1950 to 9999, the moment is one whose
 /// time can be written, and from its live read to its status the revision of an issuance is the one that its pass saw.
 pub fn what_stands_is_in_order()
-    ensures { ((role : Role) → IsSound role) → (s : Setting) (h : List Entry) → IsFormed s → IsLegal s h → IsCaused s h → Follows s h → IsInOrder s h }
+    ensures { ((role : Role) → IsSound role) → (s : Setting) (h : List Entry) → IsFormed s → IsLegal s h → IsCaused s h → Follows s h → KeepsInvariants s h }
 {}

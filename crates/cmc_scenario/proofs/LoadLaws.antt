@@ -13,8 +13,8 @@ use Rattle.cmc_objects.specs.declared.entry.Step.{Step}
 use Rattle.cmc_objects.specs.declared.entry.Step.TheVariants.{Settle, Tick}
 use Rattle.cmc_setup.specs.Forms.{is_step_form}
 use Rattle.cmc_setup.specs.Holds.{AreHeldInTurn, none_held}
-use Rattle.cmc_setup.specs.Setups.{IsSetup, IsTickForm, IsOrderlyFrom, ticked, seconds_of}
-use Rattle.cmc_scenario.specs.Roles.{all_roles}
+use Rattle.cmc_setup.specs.Setups.{IsSetup, IsTickForm, IsOrderlyFrom, seconds_ticked, step_seconds}
+use Rattle.cmc_scenario_print.specs.Defaults.{all_roles}
 use Rattle.cmc_scenario.specs.Loads.{load_name, load_secret, load_host, load_setup, load_step, loads, rests}
 use Rattle.cmc_scenario.proofs.ReadForms.{empty_is_clean}
 
@@ -103,8 +103,8 @@ long_tick = record { least = λ t. omega arith; most = omega arith }
 rest_ticks : All IsTickForm rests
 rest_ticks = more_ticks Settle (Tick 5184000 ∷ Settle ∷ []) settle_form (more_ticks (Tick 5184000) (Settle ∷ []) long_tick (more_ticks Settle [] settle_form no_ticks))
 
-apply_ticks : (i : ℕ) (rest : List Step) → ticked rest ≡ 5184000 → ticked (load_step i ∷ rest) ≡ 5184000
-apply_ticks i rest is = let sum : ticked (load_step i ∷ rest) ≡ 0 + ticked rest = sum_by-cons seconds_of (load_step i) rest in omega (arith, sum, is)
+apply_ticks : (i : ℕ) (rest : List Step) → seconds_ticked rest ≡ 5184000 → seconds_ticked (load_step i ∷ rest) ≡ 5184000
+apply_ticks i rest is = let sum : seconds_ticked (load_step i ∷ rest) ≡ 0 + seconds_ticked rest = sum_by-cons step_seconds (load_step i) rest in omega (arith, sum, is)
 
 length_loads : (n : ℕ) → length (loads n) ≡ n
 length_loads zero = refl
@@ -117,7 +117,7 @@ is_setup count some few = record {
   some_window = omega arith;
   most_window = omega arith;
   begins = le_z_yes tt;
-  ends = subst (λ n. (pos 1893456000 +ℤ pos n) ≤ℤ pos 250246627200) (sym (for_loads (λ steps. ticked steps ≡ 5184000) count (λ i within. apply_ticks i) rests refl)) (le_z_yes tt);
+  ends = subst (λ n. (pos 1893456000 +ℤ pos n) ≤ℤ pos 250246627200) (sym (for_loads (λ steps. seconds_ticked steps ≡ 5184000) count (λ i within. apply_ticks i) rests refl)) (le_z_yes tt);
   short = omega (arith, length-append (loads count) rests, length_loads count);
   ticks = for_loads (All IsTickForm) count (λ i within rest is. more_ticks (load_step i) rest (still i) is) rests rest_ticks;
   faults = tt;

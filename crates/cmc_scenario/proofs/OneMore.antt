@@ -4,7 +4,7 @@ use Rattle.std.proofs.lemmas.List.{drop_all, append-nil}
 use Rattle.serde_json.specs.View.{view, items_view}
 use Rattle.serde_json.specs.declared.value.Value.{Value}
 use Rattle.cmc_objects.specs.declared.entry.Step.{Step}
-use Rattle.cmc_setup.specs.Stages.{Stage, IsStage, stage_after}
+use Rattle.cmc_setup.specs.Stages.{Stage, IsStage, stage_after_step}
 use Rattle.cmc_setup.specs.declared.stage.Stage.{Stage as Code}
 use Rattle.cmc_cursor.specs.Reading.{Read, ◌>>=◌}
 use Rattle.cmc_cursor.specs.Readers.{with_front}
@@ -31,14 +31,14 @@ at_first code stage vs is = record { stage = stage; is = is; rest = nothing (ste
     nothing (Err path) = refl
 
 pub one_more : (front : List Step) (s : Step) (code next : Code) (n : ℕ) (vs : List Value) (v : Value) (all : Read (List Step)) → n < length vs → v ≡ get_or vs n v
-    → ((before : Stage) → IsStage code before → (numbered_step_at n before (view v) ≡ Ok s) × IsStage next (stage_after before s))
+    → ((before : Stage) → IsStage code before → (numbered_step_at n before (view v) ≡ Ok s) × IsStage next (stage_after_step before s))
     → IsReadSoFar front code n (drop n vs) all → IsReadSoFar (front ++ s ∷ []) next (n + 1) (drop (n + 1) vs) all
 one_more front s code next n vs v all within is one before =
     let split : drop n vs ≡ v ∷ drop (n + 1) vs = at_place vs n v within is in
     let stage : Stage = before.stage in
-    let opened : with_front front (numbered_step_at n stage (view v) >>= (λ t. steps_from (n + 1) (stage_after stage t) (items_view (drop (n + 1) vs)) >>= (λ ss. Ok (t ∷ ss)))) ≡ all = rw split at before.rest in
+    let opened : with_front front (numbered_step_at n stage (view v) >>= (λ t. steps_from (n + 1) (stage_after_step stage t) (items_view (drop (n + 1) vs)) >>= (λ ss. Ok (t ∷ ss)))) ≡ all = rw split at before.rest in
     let given = one stage before.is in
-    record { stage = stage_after stage s; is = given.1; rest = pushed front s (steps_from (n + 1) (stage_after stage s) (items_view (drop (n + 1) vs))) ∙ (rw given.0 at opened) }
+    record { stage = stage_after_step stage s; is = given.1; rest = pushed front s (steps_from (n + 1) (stage_after_step stage s) (items_view (drop (n + 1) vs))) ∙ (rw given.0 at opened) }
 
 pub all_read : (front : List Step) (code : Code) (n : ℕ) (vs : List Value) (all : Read (List Step)) → length vs ≤ n → IsReadSoFar front code n (drop n vs) all → all ≡ Ok front
 all_read front code n vs all past before =

@@ -21,10 +21,10 @@ use Rattle.cmc_objects.specs.Requests.{is_short_text, is_short_option, is_issuer
 use Rattle.cmc_setup.specs.ObjectForms.{is_address_text, are_subject_names, are_certificate_terms, is_object_form}
 use Rattle.cmc_cursor.specs.Reading.{Read, ◌>>=◌, under, Field, fields_at, optional_at, required_at, at_end}
 use Rattle.cmc_cursor.specs.Readers.{found, text_at, word_at, name_at, flag_at, bytes_at, small_count_at, parts_at, passes, text_member, short_text_at}
-use Rattle.cmc_codec.specs.Given.{worded_at, list_from, list_at, clean_text_at, duration_at, choice_at, given_at, member_at, member_or, needed_at}
+use Rattle.cmc_codec.specs.Given.{worded_at, list_from, text_list_at, clean_text_at, duration_at, choice_at, given_at, member_at, next_member_or, needed_at}
 use Rattle.cmc_codec.specs.MetadataForm.{head_at}
-use Rattle.cmc_codec.specs.CertificateForm.{api_at, issuer_at, no_key, key_at, subject_in, signing_in, terms_in, old_terms_in, spec_of, emails_name, uris_name, api_terms_in, target_in, spec_at, request_spec_at, old_request_spec_at, api_request_spec_at}
-use Rattle.cmc_codec.specs.ObjectForm.{status_last, certificate_in, request_in, secret_in, any_version_at, stranger_in, object_in, applied_at}
+use Rattle.cmc_codec.specs.CertificateForm.{api_at, issuer_at, no_key, key_spec_at, subject_in, signing_in, terms_in, old_terms_in, spec_of, emails_name, uris_name, api_terms_in, target_in, spec_at, request_spec_at, old_request_spec_at, api_request_spec_at}
+use Rattle.cmc_codec.specs.ObjectForm.{status_last, applied_certificate_in, applied_request_in, applied_secret_in, any_version_at, stranger_in, object_in, applied_at}
 use Rattle.cmc_codec.specs.declared.given.Wording.{Wording}
 use Rattle.cmc_codec.specs.declared.given.Wording.TheVariants.{Any, Printable, Address}
 use Rattle.cmc_codec.specs.declared.certificate_in.Api.{Api}
@@ -93,7 +93,7 @@ of_texts_from wording test each n (item d ds) =
     after (λ t. test t ≡ true) (λ ts. list_all test ts ≡ true) (under (decimal n) (worded_at wording d)) (λ t. list_from wording (n + 1) ds >>= (λ ts. Ok (t ∷ ts))) (below (λ t. test t ≡ true) (decimal n) (worded_at wording d) (each d))
     (λ t first. after (λ ts. list_all test ts ≡ true) (λ ts. list_all test ts ≡ true) (list_from wording (n + 1) ds) (λ ts. Ok (t ∷ ts)) (of_texts_from wording test each (n + 1) ds) (λ ts rest. so (and_from (test t) (list_all test ts) first rest)))
 
-of_texts : (wording : Wording) (test : List ℕ → Bool) → ((d : Data) → Always (λ t. test t ≡ true) (worded_at wording d)) → (d : Data) → Always (λ ts. list_all test ts ≡ true) (list_at wording d)
+of_texts : (wording : Wording) (test : List ℕ → Bool) → ((d : Data) → Always (λ t. test t ≡ true) (worded_at wording d)) → (d : Data) → Always (λ ts. list_all test ts ≡ true) (text_list_at wording d)
 of_texts wording test each (array ds) = of_texts_from wording test each 0 ds
 of_texts wording test each null = failed []
 of_texts wording test each (boolean b) = failed []
@@ -103,8 +103,8 @@ of_texts wording test each (object ms) = failed []
 
 -- a list that is left out is empty
 of_texts_member : (wording : Wording) (test : List ℕ → Bool) → ((d : Data) → Always (λ t. test t ≡ true) (worded_at wording d)) → (name : List ℕ) (fs : List Field)
-    → Always (λ (p : List (List ℕ) × List Field). list_all test p.0 ≡ true) (member_or [] (list_at wording) name fs)
-of_texts_member wording test each name fs = member_or_so (λ ts. list_all test ts ≡ true) [] (list_at wording) name fs refl (of_texts wording test each)
+    → Always (λ (p : List (List ℕ) × List Field). list_all test p.0 ≡ true) (next_member_or [] (text_list_at wording) name fs)
+of_texts_member wording test each name fs = member_or_so (λ ts. list_all test ts ≡ true) [] (text_list_at wording) name fs refl (of_texts wording test each)
 
 -- ---- durations
 
@@ -142,7 +142,7 @@ IsSigning p = is_issuer_form p.0.issuer ≡ true
 
 of_signing : (fs : List Field) → Always IsSigning (signing_in fs)
 unfolding signing_in
-of_signing fs = next IsSigning (member_or false flag_at (codes "isCA") fs) _ (λ is_ca. after (λ (p : IssuerRef × List Field). IsIssuer p.0) IsSigning (needed_at issuer_at (codes "issuerRef") is_ca.1) _ (needed_so IsIssuer issuer_at (codes "issuerRef") is_ca.1 of_issuer) (λ issuer is. so is))
+of_signing fs = next IsSigning (next_member_or false flag_at (codes "isCA") fs) _ (λ is_ca. after (λ (p : IssuerRef × List Field). IsIssuer p.0) IsSigning (needed_at issuer_at (codes "issuerRef") is_ca.1) _ (needed_so IsIssuer issuer_at (codes "issuerRef") is_ca.1 of_issuer) (λ issuer is. so is))
 
 -- ---- Certificates
 
@@ -159,11 +159,11 @@ IsSubject p = IsSubjectForm p.0
 of_subject : (emails : List ℕ) (fs : List Field) → Always IsSubject (subject_in emails fs)
 unfolding subject_in
 of_subject emails fs =
-    after _ IsSubject (member_or [] clean_text_at (codes "commonName") fs) _ (member_or_so IsClean [] clean_text_at (codes "commonName") fs empty_is_clean of_clean_text)
-    (λ common clean. after _ IsSubject (member_or [] (list_at Printable) (codes "dnsNames") common.1) _ (of_texts_member Printable is_printable_name of_printable (codes "dnsNames") common.1)
+    after _ IsSubject (next_member_or [] clean_text_at (codes "commonName") fs) _ (member_or_so IsClean [] clean_text_at (codes "commonName") fs empty_is_clean of_clean_text)
+    (λ common clean. after _ IsSubject (next_member_or [] (text_list_at Printable) (codes "dnsNames") common.1) _ (of_texts_member Printable is_printable_name of_printable (codes "dnsNames") common.1)
     (λ dns are_dns. after IsDurationMember IsSubject (member_at duration_at (codes "duration") dns.1) _ (of_duration_member (codes "duration") dns.1)
-    (λ duration is_short. after _ IsSubject (member_or [] (list_at Printable) emails duration.1) _ (of_texts_member Printable is_printable_name of_printable emails duration.1)
-    (λ mails are_mails. after _ IsSubject (member_or [] (list_at Address) (codes "ipAddresses") mails.1) _ (of_texts_member Address is_address_text of_address (codes "ipAddresses") mails.1)
+    (λ duration is_short. after _ IsSubject (next_member_or [] (text_list_at Printable) emails duration.1) _ (of_texts_member Printable is_printable_name of_printable emails duration.1)
+    (λ mails are_mails. after _ IsSubject (next_member_or [] (text_list_at Address) (codes "ipAddresses") mails.1) _ (of_texts_member Address is_address_text of_address (codes "ipAddresses") mails.1)
     (λ addresses are_addresses. so (record { common = clean; dns = are_dns; duration = is_short; emails = are_mails; addresses = are_addresses }))))))
 
 abbrev IsTerms : Terms × List Field → Type 0
@@ -172,7 +172,7 @@ IsTerms p = is_duration_form p.0.renew_before ≡ true
 of_new_terms : (fs : List Field) → Always IsTerms (terms_in fs)
 unfolding terms_in
 of_new_terms fs =
-    next IsTerms (member_or no_key key_at (codes "privateKey") fs) _
+    next IsTerms (next_member_or no_key key_spec_at (codes "privateKey") fs) _
     (λ key. after IsDurationMember IsTerms (member_at duration_at (codes "renewBefore") key.1) _ (of_duration_member (codes "renewBefore") key.1)
     (λ before is. next IsTerms (member_at small_count_at (codes "renewBeforePercentage") before.1) _ (λ percent. next IsTerms (member_at small_count_at (codes "revisionHistoryLimit") percent.1) _ (λ limit. so is))))
 
@@ -195,8 +195,8 @@ of_target : (name : List ℕ) (fs : List Field) → Always IsTarget (target_in n
 unfolding target_in
 of_target name fs =
     next IsTarget (needed_at name_at (codes "secretName") fs) _
-    (λ secret. after _ IsTarget (member_or [] (list_at Printable) name secret.1) _ (of_texts_member Printable is_printable_name of_printable name secret.1)
-    (λ uris are_uris. next IsTarget (member_or [] (list_at Any) (codes "usages") uris.1) _ (λ usages. so are_uris)))
+    (λ secret. after _ IsTarget (next_member_or [] (text_list_at Printable) name secret.1) _ (of_texts_member Printable is_printable_name of_printable name secret.1)
+    (λ uris are_uris. next IsTarget (next_member_or [] (text_list_at Any) (codes "usages") uris.1) _ (λ usages. so are_uris)))
 
 abbrev IsSpec : CertSpec → Type 0
 IsSpec spec = (are_certificate_terms spec && are_subject_names spec) ≡ true
@@ -233,11 +233,11 @@ IsRequestSpec spec = (is_issuer_form spec.issuer && is_duration_form spec.durati
 
 of_new_request : (d : Data) → Always IsRequestSpec (request_spec_at d)
 unfolding request_spec_at
-of_new_request d = next IsRequestSpec (fields_at d) _ (λ fs. after IsDurationMember IsRequestSpec (member_at duration_at (codes "duration") fs) _ (of_duration_member (codes "duration") fs) (λ duration is_duration. after IsSigning IsRequestSpec (signing_in duration.1) _ (of_signing duration.1) (λ signing is_signing. next IsRequestSpec (needed_at bytes_at (codes "request") signing.1) _ (λ request. next IsRequestSpec (member_or [] (list_at Any) (codes "usages") request.1) _ (λ usages. next IsRequestSpec (at_end usages.1) _ (λ end. so (and_from (is_issuer_form signing.0.issuer) (is_duration_form duration.0) is_signing is_duration)))))))
+of_new_request d = next IsRequestSpec (fields_at d) _ (λ fs. after IsDurationMember IsRequestSpec (member_at duration_at (codes "duration") fs) _ (of_duration_member (codes "duration") fs) (λ duration is_duration. after IsSigning IsRequestSpec (signing_in duration.1) _ (of_signing duration.1) (λ signing is_signing. next IsRequestSpec (needed_at bytes_at (codes "request") signing.1) _ (λ request. next IsRequestSpec (next_member_or [] (text_list_at Any) (codes "usages") request.1) _ (λ usages. next IsRequestSpec (at_end usages.1) _ (λ end. so (and_from (is_issuer_form signing.0.issuer) (is_duration_form duration.0) is_signing is_duration)))))))
 
 of_old_request : (d : Data) → Always IsRequestSpec (old_request_spec_at d)
 unfolding old_request_spec_at
-of_old_request d = next IsRequestSpec (fields_at d) _ (λ fs. next IsRequestSpec (needed_at bytes_at (codes "csr") fs) _ (λ request. after IsDurationMember IsRequestSpec (member_at duration_at (codes "duration") request.1) _ (of_duration_member (codes "duration") request.1) (λ duration is_duration. after IsSigning IsRequestSpec (signing_in duration.1) _ (of_signing duration.1) (λ signing is_signing. next IsRequestSpec (member_or [] (list_at Any) (codes "usages") signing.1) _ (λ usages. next IsRequestSpec (at_end usages.1) _ (λ end. so (and_from (is_issuer_form signing.0.issuer) (is_duration_form duration.0) is_signing is_duration)))))))
+of_old_request d = next IsRequestSpec (fields_at d) _ (λ fs. next IsRequestSpec (needed_at bytes_at (codes "csr") fs) _ (λ request. after IsDurationMember IsRequestSpec (member_at duration_at (codes "duration") request.1) _ (of_duration_member (codes "duration") request.1) (λ duration is_duration. after IsSigning IsRequestSpec (signing_in duration.1) _ (of_signing duration.1) (λ signing is_signing. next IsRequestSpec (next_member_or [] (text_list_at Any) (codes "usages") signing.1) _ (λ usages. next IsRequestSpec (at_end usages.1) _ (λ end. so (and_from (is_issuer_form signing.0.issuer) (is_duration_form duration.0) is_signing is_duration)))))))
 
 of_request_spec : (api : Api) (d : Data) → Always IsRequestSpec (api_request_spec_at api d)
 of_request_spec V1 d = of_new_request d
@@ -249,17 +249,17 @@ of_request_spec V1Alpha2 d = of_old_request d
 abbrev pub IsApplied : Applied → Type 0
 IsApplied applied = is_object_form applied.object ≡ true
 
-of_certificate : (fs : List Field) → Always IsApplied (certificate_in fs)
-unfolding certificate_in
+of_certificate : (fs : List Field) → Always IsApplied (applied_certificate_in fs)
+unfolding applied_certificate_in
 of_certificate fs = next IsApplied (needed_at api_at (codes "apiVersion") fs) _ (λ api. next IsApplied (required_at (codes "kind") api.1) _ (λ kind. next IsApplied (needed_at head_at (codes "metadata") kind.1) _ (λ head. after (λ (p : CertSpec × List Field). IsSpec p.0) IsApplied (needed_at (spec_at api.0) (codes "spec") head.1) _ (needed_so IsSpec (spec_at api.0) (codes "spec") head.1 (of_spec api.0)) (λ spec is. next IsApplied (status_last spec.1) _ (λ end. so is)))))
 
-of_request : (fs : List Field) → Always IsApplied (request_in fs)
-unfolding request_in
+of_request : (fs : List Field) → Always IsApplied (applied_request_in fs)
+unfolding applied_request_in
 of_request fs = next IsApplied (needed_at api_at (codes "apiVersion") fs) _ (λ api. next IsApplied (required_at (codes "kind") api.1) _ (λ kind. next IsApplied (needed_at head_at (codes "metadata") kind.1) _ (λ head. after (λ (p : RequestSpec × List Field). IsRequestSpec p.0) IsApplied (needed_at (api_request_spec_at api.0) (codes "spec") head.1) _ (needed_so IsRequestSpec (api_request_spec_at api.0) (codes "spec") head.1 (of_request_spec api.0)) (λ spec is. next IsApplied (status_last spec.1) _ (λ end. so is)))))
 
-of_secret : (fs : List Field) → Always IsApplied (secret_in fs)
-unfolding secret_in
-of_secret fs = next IsApplied (needed_at (word_at (codes "v1")) (codes "apiVersion") fs) _ (λ api. next IsApplied (member_or [] parts_at (codes "data") api.1) _ (λ parts. next IsApplied (required_at (codes "kind") parts.1) _ (λ kind. next IsApplied (needed_at head_at (codes "metadata") kind.1) _ (λ head. next IsApplied (optional_at (codes "status") head.1) _ (λ status. next IsApplied (passes (codes "status") status.0) _ (λ dropped. next IsApplied (member_or (codes "Opaque") text_at (codes "type") status.1) _ (λ kind_text. next IsApplied (at_end kind_text.1) _ (λ end. so refl))))))))
+of_secret : (fs : List Field) → Always IsApplied (applied_secret_in fs)
+unfolding applied_secret_in
+of_secret fs = next IsApplied (needed_at (word_at (codes "v1")) (codes "apiVersion") fs) _ (λ api. next IsApplied (next_member_or [] parts_at (codes "data") api.1) _ (λ parts. next IsApplied (required_at (codes "kind") parts.1) _ (λ kind. next IsApplied (needed_at head_at (codes "metadata") kind.1) _ (λ head. next IsApplied (optional_at (codes "status") head.1) _ (λ status. next IsApplied (passes (codes "status") status.0) _ (λ dropped. next IsApplied (next_member_or (codes "Opaque") text_at (codes "type") status.1) _ (λ kind_text. next IsApplied (at_end kind_text.1) _ (λ end. so refl))))))))
 
 of_stranger : (fs : List Field) → Always IsApplied (stranger_in fs)
 unfolding stranger_in
@@ -268,9 +268,9 @@ of_stranger fs = next IsApplied (needed_at any_version_at (codes "apiVersion") f
 of_object : (kind : Option (List ℕ)) (fs : List Field) → Always IsApplied (object_in kind fs)
 of_object None fs = of_stranger fs
 of_object (Some kind) fs =
-    either IsApplied (bytes_eq kind (codes "Certificate")) (certificate_in fs) (if bytes_eq kind (codes "CertificateRequest") then request_in fs else (if bytes_eq kind (codes "Secret") then secret_in fs else stranger_in fs)) (of_certificate fs)
-    (either IsApplied (bytes_eq kind (codes "CertificateRequest")) (request_in fs) (if bytes_eq kind (codes "Secret") then secret_in fs else stranger_in fs) (of_request fs)
-    (either IsApplied (bytes_eq kind (codes "Secret")) (secret_in fs) (stranger_in fs) (of_secret fs) (of_stranger fs)))
+    either IsApplied (bytes_eq kind (codes "Certificate")) (applied_certificate_in fs) (if bytes_eq kind (codes "CertificateRequest") then applied_request_in fs else (if bytes_eq kind (codes "Secret") then applied_secret_in fs else stranger_in fs)) (of_certificate fs)
+    (either IsApplied (bytes_eq kind (codes "CertificateRequest")) (applied_request_in fs) (if bytes_eq kind (codes "Secret") then applied_secret_in fs else stranger_in fs) (of_request fs)
+    (either IsApplied (bytes_eq kind (codes "Secret")) (applied_secret_in fs) (stranger_in fs) (of_secret fs) (of_stranger fs)))
 
 -- each object that is read
 pub of_applied : (d : Data) → Always IsApplied (applied_at d)

@@ -11,7 +11,7 @@ use Rattle.cmc_objects.specs.declared.role.Role.{Role}
 use Rattle.cmc_objects.specs.declared.entry.Step.{Step}
 use Rattle.cmc_setup.specs.Forms.{is_step_form}
 use Rattle.cmc_setup.specs.Setups.{IsSetup, IsTickForm, RiseFrom, AreInOrder, first_moment, last_moment, with_role, is_among, place_among}
-use Rattle.cmc_setup.specs.Stages.{Stage, AreInTurn, first_stage, is_in_turn, stage_after}
+use Rattle.cmc_setup.specs.Stages.{Stage, AreInTurn, first_stage, is_in_turn, stage_after_step}
 use Rattle.cmc_setup.proofs.Turns.{orderly, held, ends}
 use Rattle.cmc_setup.proofs.Orders.{in_order_put}
 use Rattle.cmc_cursor.specs.Reading.{◌>>=◌, under, Field, optional_at}
@@ -19,15 +19,16 @@ use Rattle.cmc_cursor.specs.Readers.{found, text_at, count_at}
 use Rattle.cmc_material.specs.Approvers.{approver_at, default_approver}
 use Rattle.cmc_material.specs.Lists.{member_or}
 use Rattle.cmc_material.specs.MaterialRows.{material_at}
-use Rattle.cmc_scenario.specs.Roles.{role_at, roles_with, named_roles_at, roles_at, all_roles}
-use Rattle.cmc_scenario.specs.Scripts.{in_turn, step_at, numbered_step_at, steps_from, steps_at, script_at}
-use Rattle.cmc_scenario.specs.Scenarios.{size_at, rising_at, rising_from, faults_at, in_run, moment_in, moment_at, world_in, usual_moment, beginning_in, setup_of}
+use Rattle.cmc_scenario.specs.Roles.{role_at, roles_with, named_roles_at, roles_at}
+use Rattle.cmc_scenario.specs.Scripts.{in_turn, script_step_at, numbered_step_at, steps_from, steps_at, script_at}
+use Rattle.cmc_scenario.specs.Scenarios.{size_at, rising_at, rising_from, faults_at, in_run, moment_in, start_moment_at, world_in, usual_moment, beginning_in, setup_of}
 use Rattle.cmc_scenario.specs.declared.members.World.{World}
 use Rattle.cmc_scenario.specs.declared.members.Beginning.{Beginning}
 use Rattle.cmc_cursor.proofs.Always.{Always, so, failed, next, after, below, where_true}
 use Rattle.cmc_material.proofs.ListForms.{of_member_or, of_bounded}
 use Rattle.cmc_material.proofs.RowForms.{IsMaterial, of_material}
 use Rattle.cmc_material.proofs.PolicyForms.{IsApprover, of_approver}
+use Rattle.cmc_scenario_print.specs.Defaults.{all_roles}
 use Rattle.cmc_scenario.proofs.StepForms.{IsStep, of_value}
 
 abbrev pub IsSize : ℕ → Type 0
@@ -66,7 +67,7 @@ IsInRun at = (int_le first_moment at && int_le at last_moment) ≡ true
 of_moment_text : (t : List ℕ) → Always IsInRun (moment_in t)
 of_moment_text t = next IsInRun (found (rfc3339_seconds t)) in_run (λ at. where_true IsInRun (int_le first_moment at && int_le at last_moment) (Ok at) [] (λ e. so e))
 
-of_moment : (d : Data) → Always IsInRun (moment_at d)
+of_moment : (d : Data) → Always IsInRun (start_moment_at d)
 of_moment d = next IsInRun (text_at d) moment_in of_moment_text
 
 with_in_order : (roles : List Role) (role : Role) → AreInOrder roles → AreInOrder (with_role roles role)
@@ -113,8 +114,8 @@ of_turn n stage step early form = where_true (IsTurn stage n) (is_in_turn stage 
 of_numbered_step : (n : ℕ) (stage : Stage) (d : Data) → Always (IsTurn stage n) (numbered_step_at n stage d)
 unfolding numbered_step_at
 of_numbered_step n stage d =
-    where_true (IsTurn stage n) (nat_lt n 10000) (under (decimal n) (step_at d) >>= in_turn n stage) (decimal n ∷ [])
-    (λ e. after IsStep (IsTurn stage n) (under (decimal n) (step_at d)) (in_turn n stage) (below IsStep (decimal n) (step_at d) (of_value d)) (λ step form. of_turn n stage step (is_early n e) form))
+    where_true (IsTurn stage n) (nat_lt n 10000) (under (decimal n) (script_step_at d) >>= in_turn n stage) (decimal n ∷ [])
+    (λ e. after IsStep (IsTurn stage n) (under (decimal n) (script_step_at d)) (in_turn n stage) (below IsStep (decimal n) (script_step_at d) (of_value d)) (λ step form. of_turn n stage step (is_early n e) form))
 
 -- the steps from place n and this stage on
 pub record IsScriptFrom (n : ℕ) (stage : Stage) (steps : List Step) : Type 0 where
@@ -130,7 +131,7 @@ more_ticks : (step : Step) (rest : List Step) → IsTickForm step → All IsTick
 more_ticks step rest first all zero d h = first
 more_ticks step rest first all (suc k) d h = all k d (omega (arith, h))
 
-one_more : (n : ℕ) (stage : Stage) (step : Step) (rest : List Step) → IsTurn stage n step → IsScriptFrom (n + 1) (stage_after stage step) rest → IsScriptFrom n stage (step ∷ rest)
+one_more : (n : ℕ) (stage : Stage) (step : Step) (rest : List Step) → IsTurn stage n step → IsScriptFrom (n + 1) (stage_after_step stage step) rest → IsScriptFrom n stage (step ∷ rest)
 one_more n stage step rest first all = record {
   forms = and_from (is_step_form step) (list_all is_step_form rest) first.step_form.form all.forms;
   ticks = more_ticks step rest first.step_form.ticks all.ticks;
@@ -141,8 +142,8 @@ one_more n stage step rest first all = record {
 of_steps : (n : ℕ) (stage : Stage) (ds : Items) → Always (IsScriptFrom n stage) (steps_from n stage ds)
 of_steps n stage no_items = so (record { forms = refl; ticks = no_ticks; turns = tt; short = λ h. omega (arith, h) })
 of_steps n stage (item d ds) =
-    after (IsTurn stage n) (IsScriptFrom n stage) (numbered_step_at n stage d) (λ s. steps_from (n + 1) (stage_after stage s) ds >>= (λ ss. Ok (s ∷ ss))) (of_numbered_step n stage d)
-    (λ s first. after (IsScriptFrom (n + 1) (stage_after stage s)) (IsScriptFrom n stage) (steps_from (n + 1) (stage_after stage s) ds) (λ ss. Ok (s ∷ ss)) (of_steps (n + 1) (stage_after stage s) ds)
+    after (IsTurn stage n) (IsScriptFrom n stage) (numbered_step_at n stage d) (λ s. steps_from (n + 1) (stage_after_step stage s) ds >>= (λ ss. Ok (s ∷ ss))) (of_numbered_step n stage d)
+    (λ s first. after (IsScriptFrom (n + 1) (stage_after_step stage s)) (IsScriptFrom n stage) (steps_from (n + 1) (stage_after_step stage s) ds) (λ ss. Ok (s ∷ ss)) (of_steps (n + 1) (stage_after_step stage s) ds)
     (λ ss all. so (one_more n stage s ss first all)))
 
 abbrev pub IsScript : Stage → List Step → Type 0
@@ -184,7 +185,7 @@ IsBeginning p = IsBeginningForm p.0
 
 pub of_beginning : (fs : List Field) → Always IsBeginning (beginning_in fs)
 unfolding beginning_in
-of_beginning fs = next (IsBeginning) (optional_at (codes "now") fs) _ (λ first. after (IsInRun) (IsBeginning) (member_or usual_moment (codes "now") moment_at first.0) _ (of_member_or IsInRun usual_moment (codes "now") moment_at first.0 refl of_moment) (λ moment in_run. next (IsBeginning) (optional_at (codes "roles") first.1) _ (λ second. after (AreInOrder) (IsBeginning) (roles_at second.0) _ (of_roles second.0) (λ roles order. so (record { moment = in_run; roles = order })))))
+of_beginning fs = next (IsBeginning) (optional_at (codes "now") fs) _ (λ first. after (IsInRun) (IsBeginning) (member_or usual_moment (codes "now") start_moment_at first.0) _ (of_member_or IsInRun usual_moment (codes "now") start_moment_at first.0 refl of_moment) (λ moment in_run. next (IsBeginning) (optional_at (codes "roles") first.1) _ (λ second. after (AreInOrder) (IsBeginning) (roles_at second.0) _ (of_roles second.0) (λ roles order. so (record { moment = in_run; roles = order })))))
 
 least : (n : ℕ) → IsSize n → 1 ≤ n
 least n is = grind (arith, nat_tests)

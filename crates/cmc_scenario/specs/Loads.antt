@@ -10,7 +10,7 @@ use Rattle.cmc_objects.specs.declared.entry.Step.{Step}
 use Rattle.cmc_objects.specs.declared.entry.Step.TheVariants.{Apply, Tick, Settle}
 use Rattle.cmc_setup.specs.Setups.{Setup}
 use Rattle.cmc_material.specs.Approvers.{default_approver}
-use Rattle.cmc_scenario.specs.Roles.{all_roles}
+use Rattle.cmc_scenario_print.specs.Defaults.{all_roles}
 use Rattle.cmc_scenario.specs.Scenarios.{usual_moment}
 
 -- `c` and four digits

@@ -11,6 +11,7 @@ use Rattle.cmc_cursor.specs.Reading.{Read, ◌>>=◌, under}
 use Rattle.cmc_cursor.specs.Readers.{text_at}
 use Rattle.cmc_setup.specs.Setups.{with_role}
 use Rattle.cmc_material.specs.Keys.{kind_in}
+use Rattle.cmc_scenario_print.specs.Defaults.{all_roles}
 
 -- The role of that name.
 abbrev pub role_in : List ℕ → Read Role
@@ -41,9 +42,6 @@ named_roles_at (boolean b) = Err []
 named_roles_at (number n) = Err []
 named_roles_at (string s) = Err []
 named_roles_at (object ms) = Err []
-
-abbrev pub all_roles : List Role
-all_roles = Trigger ∷ KeyManager ∷ RequestManager ∷ Approver ∷ Issuer ∷ Issuing ∷ Readiness ∷ Revision ∷ []
 
 -- The roles that run from the beginning on: all, where none are named.
 abbrev pub roles_at : Option Data → Read (List Role)

@@ -48,8 +48,8 @@ in_run at = if int_le first_moment at && int_le at last_moment then Ok at else E
 abbrev pub moment_in : List ℕ → Read ℤ
 moment_in t = found (rfc3339_seconds t) >>= in_run
 
-abbrev pub moment_at : Data → Read ℤ
-moment_at d = text_at d >>= moment_in
+abbrev pub start_moment_at : Data → Read ℤ
+start_moment_at d = text_at d >>= moment_in
 
 -- The members up to the material.
 unfoldable pub world_in : List Field → Read (World × List Field)
@@ -72,7 +72,7 @@ usual_moment = pos 1893456000
 unfoldable pub beginning_in : List Field → Read (Beginning × List Field)
 beginning_in fs = do
   first ← optional_at (codes "now") fs
-  moment ← member_or usual_moment (codes "now") moment_at first.0
+  moment ← member_or usual_moment (codes "now") start_moment_at first.0
   second ← optional_at (codes "roles") first.1
   roles ← roles_at second.0
   Ok (record { moment = moment; roles = roles }, second.1)
@@ -106,20 +106,20 @@ unfoldable pub members_at : Data → Read Scenario
 members_at d = fields_at d >>= setup_in
 
 -- The same, where no number in the whole value is kept as a float.
-unfoldable pub whole_at : Data → Read Scenario
-whole_at d = do
+unfoldable pub scenario_whole_at : Data → Read Scenario
+scenario_whole_at d = do
   scenario ← members_at d
   none ← floats_at d
   Ok scenario
 
 -- The scenario of a value, or the text of the first path that fails.
 unfoldable pub scenario_at : Data → Result Scenario (List ℕ)
-scenario_at d = in_words (whole_at d)
+scenario_at d = in_words (scenario_whole_at d)
 
 -- The text of a path, or memory ran out.
-abbrev pub FailsAt : Path → BadScenario → Type 0
-FailsAt path (bad.Path text) = text ≡ text_of path
-FailsAt path bad.NoMemory = Unit {0}
+abbrev pub ScenarioFailsAt : Path → BadScenario → Type 0
+ScenarioFailsAt path (bad.Path text) = text ≡ text_of path
+ScenarioFailsAt path bad.NoMemory = Unit {0}
 
 -- What `read` answered is what the form gives; or memory ran out.
 abbrev pub IsReading : Result Scenario (List ℕ) → Result Scenario BadScenario → Type 0

@@ -12,13 +12,13 @@ use Rattle.cmc_objects.specs.declared.entry.Step.TheVariants.{Delete, Approve, D
 use Rattle.cmc_cursor.specs.declared.error.BadField.{BadField}
 use Rattle.cmc_cursor.specs.declared.error.BadField.TheVariants as bad
 use Rattle.cmc_cursor.specs.Reading.{Read, ◌>>=◌, under, Field, fields_at, optional_at, required_at, at_end}
-use Rattle.cmc_cursor.specs.Readers.{count_at}
-use Rattle.cmc_setup.specs.Stages.{Stage, IsStage, is_in_turn, stage_after}
+use Rattle.cmc_cursor.specs.Readers.{count_at, passes, text_member}
+use Rattle.cmc_setup.specs.Stages.{Stage, IsStage, is_in_turn, stage_after_step}
 use Rattle.cmc_setup.specs.declared.stage.Stage.{Stage as Code}
-use Rattle.cmc_scenario.specs.Applied.{passes, text_member, applied_at}
+use Rattle.cmc_scenario.specs.Applied.{apply_step_at}
 use Rattle.cmc_material.specs.Keys.{key_at}
 use Rattle.cmc_material.specs.Lists.{member_option, bounded_at}
-use Rattle.cmc_material.specs.MaterialRows.{certificate_at, reply_row_at}
+use Rattle.cmc_material.specs.MaterialRows.{certificate_key_at, reply_row_at}
 use Rattle.cmc_scenario.specs.Roles.{role_at, kind_at}
 
 -- `apply` has an object.
@@ -26,7 +26,7 @@ unfoldable pub apply_in : List Field → Read Step
 apply_in fs = do
   word ← required_at (codes "do") fs
   given ← required_at (codes "object") word.1
-  step ← under (codes "object") (applied_at given.0)
+  step ← under (codes "object") (apply_step_at given.0)
   end ← at_end given.1
   Ok step
 
@@ -42,17 +42,17 @@ delete_in fs = do
   Ok (Delete key named)
 
 -- A Certificate: `renew` has nothing else.
-unfoldable pub certificate_in : List Field → Read (Key × List Field)
-certificate_in fs = do
+unfoldable pub certificate_member_in : List Field → Read (Key × List Field)
+certificate_member_in fs = do
   given ← required_at (codes "certificate") fs
-  certificate ← under (codes "certificate") (certificate_at given.0)
+  certificate ← under (codes "certificate") (certificate_key_at given.0)
   word ← required_at (codes "do") given.1
   Ok (certificate, word.1)
 
 -- A Certificate and the revision of one of its requests: `approve` and `deny` have nothing else.
 unfoldable pub revision_in : List Field → Read ((Key × ℕ) × List Field)
 revision_in fs = do
-  named ← certificate_in fs
+  named ← certificate_member_in fs
   which ← required_at (codes "revision") named.1
   revision ← under (codes "revision") (count_at which.0)
   Ok ((named.0, revision), which.1)
@@ -81,7 +81,7 @@ answer_in fs = do
 -- `renew` has a Certificate.
 unfoldable pub renew_in : List Field → Read Step
 renew_in fs = do
-  named ← certificate_in fs
+  named ← certificate_member_in fs
   end ← at_end named.1
   Ok (Renew named.0)
 
@@ -164,8 +164,8 @@ stray_in fs = do
   Err (codes "do" ∷ [])
 
 -- The word decides the form of the members: steps on informers and waits,
-abbrev pub waiting_in : List ℕ → List Field → Read Step
-waiting_in word fs = if bytes_eq word (codes "hold") then hold_in fs
+abbrev pub waiting_step_in : List ℕ → List Field → Read Step
+waiting_step_in word fs = if bytes_eq word (codes "hold") then hold_in fs
     else (if bytes_eq word (codes "release") then release_in fs
     else (if bytes_eq word (codes "until") then until_in fs
     else (if bytes_eq word (codes "settle") then settle_in fs else stray_in fs)))
@@ -174,7 +174,7 @@ waiting_in word fs = if bytes_eq word (codes "hold") then hold_in fs
 abbrev pub running_in : List ℕ → List Field → Read Step
 running_in word fs = if bytes_eq word (codes "tick") then tick_in fs
     else (if bytes_eq word (codes "stop") then stop_in fs
-    else (if bytes_eq word (codes "start") then start_in fs else waiting_in word fs))
+    else (if bytes_eq word (codes "start") then start_in fs else waiting_step_in word fs))
 
 -- and those on objects.
 abbrev pub step_in : Option (List ℕ) → List Field → Read Step
@@ -186,8 +186,8 @@ step_in (Some word) fs = if bytes_eq word (codes "apply") then apply_in fs
     else (if bytes_eq word (codes "answer") then answer_in fs
     else (if bytes_eq word (codes "renew") then renew_in fs else running_in word fs)))))
 
-unfoldable pub step_at : Data → Read Step
-step_at d = fields_at d >>= step_in (text_member (codes "do") d)
+unfoldable pub script_step_at : Data → Read Step
+script_step_at d = fields_at d >>= step_in (text_member (codes "do") d)
 
 -- The step at place n, once it has been read: one that may not be made when its turn comes fails as a whole.
 abbrev pub in_turn : ℕ → Stage → Step → Read Step
@@ -195,12 +195,12 @@ in_turn n stage step = if is_in_turn stage step then Ok step else Err (decimal n
 
 -- The step at place n of a list. A list has at most 10,000: the first one past that fails.
 unfoldable pub numbered_step_at : ℕ → Stage → Data → Read Step
-numbered_step_at n stage d = if nat_lt n 10000 then under (decimal n) (step_at d) >>= in_turn n stage else Err (decimal n ∷ [])
+numbered_step_at n stage d = if nat_lt n 10000 then under (decimal n) (script_step_at d) >>= in_turn n stage else Err (decimal n ∷ [])
 
 -- The steps of a list, whose places count from n, from this stage on.
 abbrev pub steps_from : ℕ → Stage → Items → Read (List Step)
 steps_from n stage no_items = Ok []
-steps_from n stage (item d ds) = numbered_step_at n stage d >>= (λ s. steps_from (n + 1) (stage_after stage s) ds >>= (λ ss. Ok (s ∷ ss)))
+steps_from n stage (item d ds) = numbered_step_at n stage d >>= (λ s. steps_from (n + 1) (stage_after_step stage s) ds >>= (λ ss. Ok (s ∷ ss)))
 
 abbrev pub steps_at : Stage → Data → Read (List Step)
 steps_at stage (array ds) = steps_from 0 stage ds
@@ -217,6 +217,6 @@ script_at stage (Some d) = under (codes "script") (steps_at stage d)
 
 -- What was read of a step, with the stage that is kept after it.
 abbrev pub GivesStep : Stage → Result (Step × Code) BadField → Read Step → Type 0
-GivesStep before (Ok p) read = (read ≡ Ok p.0) × IsStage p.1 (stage_after before p.0)
+GivesStep before (Ok p) read = (read ≡ Ok p.0) × IsStage p.1 (stage_after_step before p.0)
 GivesStep before (Err (bad.Path path)) read = read ≡ Err path
 GivesStep before (Err bad.NoMemory) read = Unit {0}

@@ -2,7 +2,7 @@
 ghost use Rattle.std.specs.Prelude.{◌≡◌};
 ghost use Rattle.serde_json.specs.View.{view};
 ghost use Rattle.cmc_cursor.specs.Reading.{Gives};
-ghost use Rattle.cmc_scenario.specs.Applied.{applied_at};
+ghost use Rattle.cmc_scenario.specs.Applied.{apply_step_at};
 
 use cmc_codec::{Applied, applied_of};
 use cmc_cursor::BadField;
@@ -13,7 +13,7 @@ use std::alloc::Global;
 
 /// The step that applies the object of a value, at the resource version that it names.
 pub fn applied(alloc: Global, value: &Value) -> Result<Step, BadField>
-    ensures { Gives (λ t. t) result (applied_at (view value.now)) }
+    ensures { Gives (λ t. t) result (apply_step_at (view value.now)) }
 {
     let Applied { object, version } = applied_of(alloc, value)?;
     Ok(Step::Apply { object, version })

@@ -3,7 +3,7 @@ ghost use Rattle.std.specs.Prelude.{map};
 ghost use Rattle.serde_json.specs.View.{view};
 ghost use Rattle.cmc_cursor.specs.Reading.{Gives};
 ghost use Rattle.cmc_cursor.specs.Seen.{shown};
-ghost use Rattle.cmc_scenario.specs.Scripts.{answer_in, approve_in, certificate_in, deny_in, renew_in, revision_in};
+ghost use Rattle.cmc_scenario.specs.Scripts.{answer_in, approve_in, certificate_member_in, deny_in, renew_in, revision_in};
 
 use cmc_cursor::{BadField, Fields, at, check_end, count, required};
 use cmc_material::{certificate, reply_row};
@@ -11,12 +11,12 @@ use cmc_meta::Key;
 use cmc_objects::Step;
 use std::alloc::Global;
 
-#[tactic(auto, unfolding(crate::specs::Scripts::certificate_in))]
+#[tactic(auto, unfolding(crate::specs::Scripts::certificate_member_in))]
 fn named_certificate<'a, 'b>(
     alloc: Global,
     rest: Fields<'a, 'b>,
 ) -> Result<(Key, Fields<'a, 'b>), BadField>
-    ensures { Gives (λ p. (p.0, map shown p.1.now)) result (certificate_in (map shown rest.now)) }
+    ensures { Gives (λ p. (p.0, map shown p.1.now)) result (certificate_member_in (map shown rest.now)) }
 {
     let (given, rest) = required(alloc, rest, "certificate")?;
     let certificate = at(alloc, "certificate", certificate(alloc, given))?;

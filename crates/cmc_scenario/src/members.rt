@@ -6,7 +6,7 @@ ghost use Rattle.cmc_cursor.specs.Reading.{Gives, under};
 ghost use Rattle.cmc_cursor.specs.Readers.{found};
 ghost use Rattle.cmc_cursor.specs.Seen.{shown, shown_option};
 ghost use Rattle.cmc_material.specs.Lists.{member_or};
-ghost use Rattle.cmc_scenario.specs.Scenarios.{beginning_in, faults_at, in_run, moment_at, moment_in, rising_at, rising_from, usual_moment, world_in};
+ghost use Rattle.cmc_scenario.specs.Scenarios.{beginning_in, faults_at, in_run, start_moment_at, moment_in, rising_at, rising_from, usual_moment, world_in};
 
 use crate::roles::given_roles;
 use cmc_cursor::{BadField, Fields, at, at_place, count, optional};
@@ -123,7 +123,7 @@ fn moment_of(alloc: Global, text: &str) -> Result<i64, BadField>
 }
 
 fn moment(alloc: Global, value: &Value) -> Result<i64, BadField>
-    ensures { Gives (λ t. t) result (moment_at (view value.now)) }
+    ensures { Gives (λ t. t) result (start_moment_at (view value.now)) }
 {
     match value.as_str() {
         Some(text) => moment_of(alloc, text),
@@ -133,7 +133,7 @@ fn moment(alloc: Global, value: &Value) -> Result<i64, BadField>
 
 /// The moment of the member `now`; the usual one where it is left out.
 pub fn now(alloc: Global, value: Option<&Value>) -> Result<i64, BadField>
-    ensures { Gives (λ t. t) result (member_or usual_moment (codes "now") moment_at (shown_option value.entry)) }
+    ensures { Gives (λ t. t) result (member_or usual_moment (codes "now") start_moment_at (shown_option value.entry)) }
 {
     match value {
         None => Ok(USUAL_MOMENT),

@@ -5,7 +5,7 @@ ghost use Rattle.serde_json.specs.Written.{has_float};
 ghost use Rattle.cmc_setup.specs.Setups.{IsSetup};
 ghost use Rattle.cmc_cursor.specs.Reading.{Gives};
 ghost use Rattle.cmc_cursor.specs.Seen.{shown};
-ghost use Rattle.cmc_scenario.specs.Scenarios.{setup_of, setup_in, members_at, whole_at, scenario_at, FailsAt, IsReading};
+ghost use Rattle.cmc_scenario.specs.Scenarios.{setup_of, setup_in, members_at, scenario_whole_at, scenario_at, ScenarioFailsAt, IsReading};
 
 use crate::members::{Beginning, LARGEST_SIZE, World, beginning_members, world_members};
 use crate::steps::script;
@@ -64,9 +64,9 @@ fn members(alloc: Global, value: &Value) -> Result<Scenario, BadField>
     setup(alloc, &members)
 }
 
-#[tactic(auto, unfolding(crate::specs::Scenarios::whole_at))]
+#[tactic(auto, unfolding(crate::specs::Scenarios::scenario_whole_at))]
 fn whole(alloc: Global, value: &Value) -> Result<Scenario, BadField>
-    ensures first { Gives (λ t. t) result (whole_at (view value.now)) }
+    ensures first { Gives (λ t. t) result (scenario_whole_at (view value.now)) }
     ensures none { OnOk result (has_float (view value.now) ≡ false) }
 {
     let scenario = members(alloc, value)?;
@@ -75,7 +75,7 @@ fn whole(alloc: Global, value: &Value) -> Result<Scenario, BadField>
 }
 
 fn failing_at(alloc: Global, path: &Texts) -> BadScenario
-    ensures { FailsAt path.now result }
+    ensures { ScenarioFailsAt path.now result }
 {
     match path_text(alloc, path) {
         Ok(text) => BadScenario::Path(text),

@@ -3,7 +3,7 @@ ghost use Rattle.std.specs.Prelude.{◌≡◌, map, option_map};
 ghost use Rattle.serde_json.specs.View.{view};
 ghost use Rattle.cmc_cursor.specs.Reading.{Gives};
 ghost use Rattle.cmc_cursor.specs.Seen.{shown};
-ghost use Rattle.cmc_scenario.specs.Scripts.{apply_in, delete_in, stray_in, step_in, step_at, running_in, waiting_in};
+ghost use Rattle.cmc_scenario.specs.Scripts.{apply_in, delete_in, stray_in, step_in, script_step_at, running_in, waiting_step_in};
 
 use crate::applied::{applied, member, pass};
 use crate::certificate_steps::{answer, approve, deny, renew};
@@ -51,7 +51,7 @@ fn stray(alloc: Global, rest: Fields<'_, '_>) -> Result<Step, BadField>
 }
 
 fn waiting(alloc: Global, word: &str, rest: Fields<'_, '_>) -> Result<Step, BadField>
-    ensures { Gives (λ t. t) result (waiting_in word.now (map shown rest.now)) }
+    ensures { Gives (λ t. t) result (waiting_step_in word.now (map shown rest.now)) }
 {
     match word {
         "hold" => hold(alloc, rest),
@@ -89,9 +89,9 @@ fn form(alloc: Global, word: Option<&str>, rest: Fields<'_, '_>) -> Result<Step,
 }
 
 /// One step.
-#[tactic(auto, unfolding(crate::specs::Scripts::step_at))]
+#[tactic(auto, unfolding(crate::specs::Scripts::script_step_at))]
 pub fn step(alloc: Global, value: &Value) -> Result<Step, BadField>
-    ensures { Gives (λ t. t) result (step_at (view value.now)) }
+    ensures { Gives (λ t. t) result (script_step_at (view value.now)) }
 {
     let members = fields(alloc, value)?;
     form(alloc, member(value, "do"), &members)

@@ -18,10 +18,10 @@ use Rattle.cmc_cursor.specs.Readers.{found, text_at, word_at, name_at, decimal_i
 use Rattle.cmc_cursor.proofs.Always.{Always, so, failed, next, after, below, either, with_both}
 use Rattle.cmc_print.specs.Puts.{base64_text, map_tree}
 use Rattle.cmc_print.specs.Printed.{owners_tree, meta_members, version_tree, named_meta_tree, spec_tree, request_tree, status_members, put_moments, request_status_members, applied_head, applied_tree}
-use Rattle.cmc_codec.specs.Given.{given_at, given_or, member_or, needed_at}
+use Rattle.cmc_codec.specs.Given.{given_at, given_or, next_member_or, needed_at}
 use Rattle.cmc_codec.specs.MetadataForm.{sought_member, sought_or, sought_needed, owners_at, labelled_in, placed_in, head_at}
 use Rattle.cmc_codec.specs.CertificateForm.{api_at, spec_at, api_request_spec_at}
-use Rattle.cmc_codec.specs.ObjectForm.{status_last, certificate_in, request_in, secret_in, any_version_at, stranger_in, object_in, applied_at}
+use Rattle.cmc_codec.specs.ObjectForm.{status_last, applied_certificate_in, applied_request_in, applied_secret_in, any_version_at, stranger_in, object_in, applied_at}
 use Rattle.cmc_codec.specs.Laws.{HasBytes, IsOrdered}
 use Rattle.cmc_codec.specs.declared.certificate_in.Api.TheVariants.{V1}
 use Rattle.cmc_codec.specs.declared.object_in.Applied.{Applied}
@@ -170,8 +170,8 @@ certificate_printed : (m : ObjectMeta) (v : Option ℕ) (s : CertSpec) → appli
 unfolding applied_tree applied_head status_members put_moments
 certificate_printed m v s = refl
 
-certificate_again : (m : ObjectMeta) (v : Option ℕ) (s : CertSpec) → IsMeta m → IfSome v IsVersion → IsSpec s → certificate_in (fields_of (slots (certificate_places m v s))) ≡ Ok (named (new_certificate m s) v)
-unfolding certificate_in
+certificate_again : (m : ObjectMeta) (v : Option ℕ) (s : CertSpec) → IsMeta m → IfSome v IsVersion → IsSpec s → applied_certificate_in (fields_of (slots (certificate_places m v s))) ≡ Ok (named (new_certificate m s) v)
+unfolding applied_certificate_in
 certificate_again m v s is_meta is_version is_spec =
     let ps = certificate_places m v s in
     (bind _ _ _ _ (needed_is api_at (codes "apiVersion") (string (codes "cert-manager.io/v1")) (drop 1 ps) V1 refl refl)
@@ -195,8 +195,8 @@ request_printed : (m : ObjectMeta) (v : Option ℕ) (s : RequestSpec) → applie
 unfolding applied_tree applied_head request_status_members
 request_printed m v s = refl
 
-request_in_again : (m : ObjectMeta) (v : Option ℕ) (s : RequestSpec) → IsMeta m → IfSome v IsVersion → IsRequestSpec s → request_in (fields_of (slots (request_places m v s))) ≡ Ok (named (new_request m s) v)
-unfolding request_in
+request_in_again : (m : ObjectMeta) (v : Option ℕ) (s : RequestSpec) → IsMeta m → IfSome v IsVersion → IsRequestSpec s → applied_request_in (fields_of (slots (request_places m v s))) ≡ Ok (named (new_request m s) v)
+unfolding applied_request_in
 request_in_again m v s is_meta is_version is_spec =
     let ps = request_places m v s in
     (bind _ _ _ _ (needed_is api_at (codes "apiVersion") (string (codes "cert-manager.io/v1")) (drop 1 ps) V1 refl refl)
@@ -229,8 +229,8 @@ is_secret m v t None = refl
 is_secret m v t (Some d) = refl
 
 secret_again : (m : ObjectMeta) (v : Option ℕ) (t : List ℕ) (parts : Entries) → IsMeta m → IfSome v IsVersion → parts_at (map_tree base64_text parts) ≡ Ok parts
-    → secret_in (fields_of (slots (places_of_secret m v t parts))) ≡ Ok (named (new_secret m t parts) v)
-unfolding secret_in
+    → applied_secret_in (fields_of (slots (places_of_secret m v t parts))) ≡ Ok (named (new_secret m t parts) v)
+unfolding applied_secret_in
 secret_again m v t parts is_meta is_version are_parts =
     let ps = places_of_secret m v t parts in
     (bind _ _ _ _ (needed_is (word_at (codes "v1")) (codes "apiVersion") (string (codes "v1")) (drop 1 ps) tt refl refl)
@@ -247,30 +247,30 @@ secret_whole m v t parts is_meta is_version are_parts = rw (secret_printed m v t
 abbrev pub IsAppliedAgain : Applied → Type 0
 IsAppliedAgain a = HasBytes a.object → applied_at (applied_tree a.object a.version) ≡ Ok a
 
-certificate_so : (fs : List Field) → Always IsAppliedAgain (certificate_in fs)
-unfolding certificate_in
+certificate_so : (fs : List Field) → Always IsAppliedAgain (applied_certificate_in fs)
+unfolding applied_certificate_in
 certificate_so fs =
     next IsAppliedAgain (needed_at api_at (codes "apiVersion") fs) _ (λ api. next IsAppliedAgain (required_at (codes "kind") api.1) _
     (λ kind. after _ IsAppliedAgain (needed_at head_at (codes "metadata") kind.1) _ (needed_so IsHead head_at (codes "metadata") kind.1 whole_head_so)
     (λ head is_head. after _ IsAppliedAgain (needed_at (spec_at api.0) (codes "spec") head.1) _ (needed_so IsSpec (spec_at api.0) (codes "spec") head.1 (spec_so api.0))
     (λ spec is_spec. next IsAppliedAgain (status_last spec.1) _ (λ end. so (λ bytes. certificate_whole _ _ _ is_head.0 is_head.1 is_spec))))))
 
-request_so : (fs : List Field) → Always IsAppliedAgain (request_in fs)
-unfolding request_in
+request_so : (fs : List Field) → Always IsAppliedAgain (applied_request_in fs)
+unfolding applied_request_in
 request_so fs =
     next IsAppliedAgain (needed_at api_at (codes "apiVersion") fs) _ (λ api. next IsAppliedAgain (required_at (codes "kind") api.1) _
     (λ kind. after _ IsAppliedAgain (needed_at head_at (codes "metadata") kind.1) _ (needed_so IsHead head_at (codes "metadata") kind.1 whole_head_so)
     (λ head is_head. after _ IsAppliedAgain (needed_at (api_request_spec_at api.0) (codes "spec") head.1) _ (needed_so IsRequest (api_request_spec_at api.0) (codes "spec") head.1 (api_request_so api.0))
     (λ spec is_spec. next IsAppliedAgain (status_last spec.1) _ (λ end. so (λ bytes. request_whole _ _ _ is_head.0 is_head.1 (is_spec (bytes_again _ bytes))))))))
 
-secret_so : (fs : List Field) → Always IsAppliedAgain (secret_in fs)
-unfolding secret_in
+secret_so : (fs : List Field) → Always IsAppliedAgain (applied_secret_in fs)
+unfolding applied_secret_in
 secret_so fs =
-    next IsAppliedAgain (needed_at (word_at (codes "v1")) (codes "apiVersion") fs) _ (λ api. after _ IsAppliedAgain (member_or [] parts_at (codes "data") api.1) _ (member_or_so IsOrdered [] parts_at (codes "data") api.1 tt parts_in_order)
+    next IsAppliedAgain (needed_at (word_at (codes "v1")) (codes "apiVersion") fs) _ (λ api. after _ IsAppliedAgain (next_member_or [] parts_at (codes "data") api.1) _ (member_or_so IsOrdered [] parts_at (codes "data") api.1 tt parts_in_order)
     (λ parts are_parts. next IsAppliedAgain (required_at (codes "kind") parts.1) _
     (λ kind. after _ IsAppliedAgain (needed_at head_at (codes "metadata") kind.1) _ (needed_so IsHead head_at (codes "metadata") kind.1 whole_head_so)
     (λ head is_head. next IsAppliedAgain (optional_at (codes "status") head.1) _ (λ status. next IsAppliedAgain (passes (codes "status") status.0) _
-    (λ _. next IsAppliedAgain (member_or (codes "Opaque") text_at (codes "type") status.1) _
+    (λ _. next IsAppliedAgain (next_member_or (codes "Opaque") text_at (codes "type") status.1) _
     (λ type. next IsAppliedAgain (at_end type.1) _ (λ end. so (λ bytes. secret_whole _ _ _ _ is_head.0 is_head.1 (parts_again _ are_parts (parts_are _ bytes)))))))))))
 
 stranger_so : (fs : List Field) → Always IsAppliedAgain (stranger_in fs)
@@ -282,9 +282,9 @@ stranger_so fs =
 object_so : (kind : Option (List ℕ)) (fs : List Field) → Always IsAppliedAgain (object_in kind fs)
 object_so None fs = stranger_so fs
 object_so (Some kind) fs =
-    either IsAppliedAgain (bytes_eq kind (codes "Certificate")) (certificate_in fs) (if bytes_eq kind (codes "CertificateRequest") then request_in fs else (if bytes_eq kind (codes "Secret") then secret_in fs else stranger_in fs)) (certificate_so fs)
-    (either IsAppliedAgain (bytes_eq kind (codes "CertificateRequest")) (request_in fs) (if bytes_eq kind (codes "Secret") then secret_in fs else stranger_in fs) (request_so fs)
-    (either IsAppliedAgain (bytes_eq kind (codes "Secret")) (secret_in fs) (stranger_in fs) (secret_so fs) (stranger_so fs)))
+    either IsAppliedAgain (bytes_eq kind (codes "Certificate")) (applied_certificate_in fs) (if bytes_eq kind (codes "CertificateRequest") then applied_request_in fs else (if bytes_eq kind (codes "Secret") then applied_secret_in fs else stranger_in fs)) (certificate_so fs)
+    (either IsAppliedAgain (bytes_eq kind (codes "CertificateRequest")) (applied_request_in fs) (if bytes_eq kind (codes "Secret") then applied_secret_in fs else stranger_in fs) (request_so fs)
+    (either IsAppliedAgain (bytes_eq kind (codes "Secret")) (applied_secret_in fs) (stranger_in fs) (secret_so fs) (stranger_so fs)))
 
 pub applied_so : (d : Data) → Always IsAppliedAgain (applied_at d)
 unfolding applied_at

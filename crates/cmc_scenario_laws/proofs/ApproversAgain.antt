@@ -14,7 +14,7 @@ use Rattle.cmc_material.specs.Approvers.{policy_at, policies_at, every_issuer, a
 use Rattle.cmc_scenario_print.specs.Defaults.{is_every_issuer}
 use Rattle.cmc_scenario_print.specs.PolicyTrees.{policy_tree, policies_tree, approver_members}
 use Rattle.cmc_codec.proofs.Slots.{slots, start, bind, next_is, some_list, put_list_is, some_object}
-use Rattle.cmc_scenario_laws.specs.Policies.{AreTextual, HaveOctets, IsApproverReadAgain, IsPolicyReadAgain, HasOctets}
+use Rattle.cmc_scenario_laws.specs.Policies.{AreTextual, HaveOctets, IsApproverReadAgain, IsPolicyReadAgain, HasAddressOctets}
 use Rattle.cmc_scenario_laws.proofs.Members.{some_unless, put_unless_is, list_given, under_given, Again, numbered_below_again, list_again, list_so}
 use Rattle.cmc_scenario_laws.proofs.PoliciesAgain.{IsReadable, policy_so, issuers_given}
 
@@ -102,7 +102,7 @@ approver_given_so (Some d) = below IsApproverGiven (codes "approver") (approver_
 
 -- ---- the laws
 
-pub policy_law : (p : Policy) → HasOctets p → IsPolicyReadAgain p
+pub policy_law : (p : Policy) → HasAddressOctets p → IsPolicyReadAgain p
 policy_law p octets texts d read = (policy_so d).each p read (texts, octets)
 
 pub approver_law : (rules : Rules) → HaveOctets rules.policies → IsApproverReadAgain rules

@@ -27,12 +27,12 @@ use Rattle.cmc_cursor.proofs.Always.{Always, so, failed, next, after, below, fur
 use Rattle.cmc_material.specs.Keys.{key_of_kind}
 use Rattle.cmc_material.specs.Lists.{numbered_at, member_or}
 use Rattle.cmc_material.specs.Approvers.{approver_at, default_approver}
-use Rattle.cmc_material.specs.MaterialRows.{synthetic_in, key_row_in, key_row_at, reply_row_at, key_rows_at, reply_rows_at, rows_at, entry_at, material_with, material_at}
+use Rattle.cmc_material.specs.MaterialRows.{synthetic_in, key_row_in, key_row_at, reply_row_at, key_rows_at, reply_rows_at, rows_at, certificate_rows_at, material_with, material_at}
 use Rattle.cmc_material.proofs.ListForms.{of_member_or, of_numbered, of_list}
 use Rattle.cmc_material.proofs.RowForms.{IsSaid, of_reply_row}
 use Rattle.cmc_scenario.specs.Loads.{load_setup}
 use Rattle.cmc_scenario.specs.Scripts.{script_at}
-use Rattle.cmc_scenario.specs.Scenarios.{size_at, faults_at, world_in, beginning_in, setup_in, members_at, whole_at, scenario_at}
+use Rattle.cmc_scenario.specs.Scenarios.{size_at, faults_at, world_in, beginning_in, setup_in, members_at, scenario_whole_at, scenario_at}
 use Rattle.cmc_scenario.specs.declared.members.World.{World}
 use Rattle.cmc_scenario.proofs.LoadLaws.{is_setup}
 use Rattle.cmc_scenario.proofs.SetupForms.{IsScript, of_script}
@@ -83,8 +83,8 @@ of_rows d = next AreBound (fields_at d) _ (λ fs. next AreBound (optional_at (co
 abbrev IsBoundEntry : Key × Rows → Type 0
 IsBoundEntry entry = is_bound_entry entry ≡ true
 
-of_entry : (name : List ℕ) (d : Data) → Always IsBoundEntry (entry_at name d)
-unfolding entry_at
+of_entry : (name : List ℕ) (d : Data) → Always IsBoundEntry (certificate_rows_at name d)
+unfolding certificate_rows_at
 of_entry name d = next IsBoundEntry (key_of_kind Certificate name) _ (λ certificate. after AreBound IsBoundEntry (rows_at d) _ (of_rows d) (λ rows bound. so bound))
 
 abbrev IsBoundMaterial : List (Key × Rows) → Type 0
@@ -109,7 +109,7 @@ entry_put (e ∷ es) certificate rows bound all =
 of_entries : (material : List (Key × Rows)) (ms : Members) → IsBoundMaterial material → Always IsBoundMaterial (material_with material ms)
 of_entries material no_members all = so all
 of_entries material (member name d ms) all =
-    after IsBoundEntry IsBoundMaterial (under name (entry_at name d)) _ (below IsBoundEntry name (entry_at name d) (of_entry name d))
+    after IsBoundEntry IsBoundMaterial (under name (certificate_rows_at name d)) _ (below IsBoundEntry name (certificate_rows_at name d) (of_entry name d))
     (λ entry is. of_entries (insert_entry key_cmp material entry.0 entry.1) ms (entry_put material entry.0 entry.1 is all))
 
 of_listed : (d : Data) → Always IsBoundMaterial (material_at d)
@@ -143,8 +143,8 @@ of_setup : (fs : List Field) → Always LeavesNothingFree (setup_in fs)
 unfolding setup_in
 of_setup fs = after IsBoundWorld LeavesNothingFree (world_in fs) _ (of_world fs) (λ world bound. next LeavesNothingFree (beginning_in world.1) _ (λ beginning. next LeavesNothingFree (optional_at (codes "script") beginning.1) _ (λ first. after (IsScript (first_stage beginning.0.roles beginning.0.moment)) LeavesNothingFree (script_at (first_stage beginning.0.roles beginning.0.moment) first.0) _ (of_script (first_stage beginning.0.roles beginning.0.moment) first.0) (λ script formed. next LeavesNothingFree (optional_at (codes "window") first.1) _ (λ second. next LeavesNothingFree (member_or 1000 (codes "window") size_at second.0) _ (λ window. next LeavesNothingFree (at_end second.1) _ (λ end. so (record { material = bound; script = script_bound script formed.forms }))))))))
 
-of_scenario : (d : Data) → Always LeavesNothingFree (whole_at d)
-unfolding whole_at members_at
+of_scenario : (d : Data) → Always LeavesNothingFree (scenario_whole_at d)
+unfolding scenario_whole_at members_at
 of_scenario d = after LeavesNothingFree LeavesNothingFree (members_at d) _ (next LeavesNothingFree (fields_at d) setup_in of_setup) (λ scenario bound. next LeavesNothingFree (floats_at d) _ (λ none. so bound))
 
 in_its_words : (u : Setup) (r : Read Setup) → in_words r ≡ Ok u → r ≡ Ok u
@@ -153,7 +153,7 @@ in_its_words u (Err path) is = absurd (cc is)
 
 pub what_is_read : (d : Data) (u : Setup) → scenario_at d ≡ Ok u → LeavesNothingFree u
 unfolding scenario_at
-what_is_read d u is = (of_scenario d).each u (in_its_words u (whole_at d) is)
+what_is_read d u is = (of_scenario d).each u (in_its_words u (scenario_whole_at d) is)
 
 pub what_is_made : (count : ℕ) → 1 ≤ count → count ≤ 200 → LeavesNothingFree (load_setup count)
 what_is_made count some few = record { material = refl; script = script_bound (load_setup count).script (is_setup count some few).steps }

@@ -16,8 +16,8 @@ use Rattle.cmc_cursor.specs.Reading.{Read}
 use Rattle.cmc_cursor.specs.Readers.{text_at, name_in}
 use Rattle.cmc_cursor.proofs.Always.{Always, so, failed, next, after, with_both, further}
 use Rattle.cmc_print.specs.Words.{kind_name, name_text, key_text}
-use Rattle.cmc_material.specs.Keys.{is_slash, split_slash, kind_in, key_of_kind, key_in, key_at}
-use Rattle.cmc_material.specs.MaterialRows.{certificate_at}
+use Rattle.cmc_material.specs.Keys.{is_slash, split_slash, kind_in, key_of_kind, key_of_text, key_at}
+use Rattle.cmc_material.specs.MaterialRows.{certificate_key_at}
 
 -- a text with a slash is what stands before the first one, the slash, and what stands after it
 abbrev IsSplit : List ℕ → List ℕ × List ℕ → Type 0
@@ -69,8 +69,8 @@ itself r = record { each = λ x e. e }
 pub certificate_text_so : (kind : Kind) (t : List ℕ) → Always (λ key. key_of_kind kind (name_text key) ≡ Ok key) (key_of_kind kind t)
 certificate_text_so kind t = record { each = λ key e. subst (λ (x : List ℕ). key_of_kind kind x ≡ Ok key) (sym ((written_so kind t).each key e)) e }
 
-pub certificate_so : (d : Data) → Always (λ key. certificate_at (string (name_text key)) ≡ Ok key) (certificate_at d)
-certificate_so d = next (λ key. certificate_at (string (name_text key)) ≡ Ok key) (text_at d) (key_of_kind Certificate) (certificate_text_so Certificate)
+pub certificate_so : (d : Data) → Always (λ key. certificate_key_at (string (name_text key)) ≡ Ok key) (certificate_key_at d)
+certificate_so d = next (λ key. certificate_key_at (string (name_text key)) ≡ Ok key) (text_at d) (key_of_kind Certificate) (certificate_text_so Certificate)
 
 -- ---- keys of any kind
 
@@ -93,8 +93,8 @@ kept_kind kind t =
     next (λ (key : Key). key.kind ≡ kind) (split_slash t) _ (λ parts. next (λ (key : Key). key.kind ≡ kind) (name_in parts.0) _
     (λ namespace. next (λ (key : Key). key.kind ≡ kind) (name_in parts.1) _ (λ name. so refl)))
 
-whole_so : (t : List ℕ) → Always (IsWholeKey t) (key_in t)
-unfolding key_in
+whole_so : (t : List ℕ) → Always (IsWholeKey t) (key_of_text t)
+unfolding key_of_text
 whole_so t =
     after (IsSplit t) (IsWholeKey t) (split_slash t) _ (split_so t)
     (λ parts split. after (λ k. kind_name k ≡ parts.0) (IsWholeKey t) (kind_in parts.0) _ (kind_so parts.0)
@@ -103,5 +103,5 @@ whole_so t =
     (with_both (IsWritten parts.1) (λ (key : Key). key.kind ≡ kind) (key_of_kind kind parts.1) (written_so kind parts.1) (kept_kind kind parts.1))))
 
 pub key_so : (d : Data) → Always (λ key. key_at (string (key_text key)) ≡ Ok key) (key_at d)
-key_so d = next (λ key. key_at (string (key_text key)) ≡ Ok key) (text_at d) key_in
-    (λ t. record { each = λ key e. subst (λ (x : List ℕ). key_in x ≡ Ok key) (sym ((whole_so t).each key e)) e })
+key_so d = next (λ key. key_at (string (key_text key)) ≡ Ok key) (text_at d) key_of_text
+    (λ t. record { each = λ key e. subst (λ (x : List ℕ). key_of_text x ≡ Ok key) (sym ((whole_so t).each key e)) e })

@@ -12,13 +12,13 @@ use Rattle.std.specs.declared.cmp.Ordering.TheVariants.{Less, Equal, Greater}
 use Rattle.serde_json.specs.Data.{Data, null, boolean, number, string, array, object, Members, no_members, member, put}
 use Rattle.cmc_meta.specs.Keys.{key_cmp}
 use Rattle.cmc_meta.specs.declared.key.Key.{Key}
-use Rattle.cmc_objects.specs.Materials.{with_rows}
+use Rattle.cmc_objects.specs.Materials.{with_rows_of}
 use Rattle.cmc_objects.specs.declared.rows.Rows.{Rows}
 use Rattle.cmc_cursor.specs.Reading.{Read, ◌>>=◌, under}
 use Rattle.cmc_cursor.proofs.Always.{Always, so, failed, after, below, further}
 use Rattle.cmc_print.specs.Words.{name_text}
 use Rattle.cmc_material.specs.Keys.{key_of_kind}
-use Rattle.cmc_material.specs.MaterialRows.{rows_at, entry_at, material_with, material_at}
+use Rattle.cmc_material.specs.MaterialRows.{rows_at, certificate_rows_at, material_with, material_at}
 use Rattle.cmc_meta.specs.declared.key.Kind.TheVariants.{Certificate}
 use Rattle.cmc_scenario_print.specs.RowTrees.{rows_tree, put_entries, material_tree}
 use Rattle.cmc_material.specs.Lists.{member_or}
@@ -78,8 +78,8 @@ IsEntry entry = IsKey entry.0 × AreRowsAgain entry.1
 abbrev pub AreEntries : List (Key × Rows) → Type 0
 AreEntries = AllByRecursion IsEntry
 
-entry_so : (name : List ℕ) (d : Data) → Always IsEntry (entry_at name d)
-unfolding entry_at
+entry_so : (name : List ℕ) (d : Data) → Always IsEntry (certificate_rows_at name d)
+unfolding certificate_rows_at
 entry_so name d =
     after IsKey IsEntry (key_of_kind Certificate name) _ (certificate_text_so Certificate name)
     (λ certificate is. after AreRowsAgain IsEntry (rows_at d) _ (rows_so d) (λ rows again. so (is, again)))
@@ -97,7 +97,7 @@ entry_put (e ∷ es) key rows is all =
 entries_so : (es : List (Key × Rows)) (ms : Members) → AreEntries es → Always AreEntries (material_with es ms)
 entries_so es no_members all = so all
 entries_so es (member name d ms) all =
-    after IsEntry AreEntries (under name (entry_at name d)) _ (below IsEntry name (entry_at name d) (entry_so name d))
+    after IsEntry AreEntries (under name (certificate_rows_at name d)) _ (below IsEntry name (certificate_rows_at name d) (entry_so name d))
     (λ entry is. entries_so (insert_entry key_cmp es entry.0 entry.1) ms (entry_put es entry.0 entry.1 is all))
 
 -- ---- one member more
@@ -107,37 +107,37 @@ total = search (comparing, rules)
 
 abbrev AreOther : List ℕ → Key → Members → Type 0
 AreOther n key no_members = Unit {0}
-AreOther n key (member m d ms) = Differ (slice_cmp nat_cmp n m) × (((e : Key × Rows) → entry_at m d ≡ Ok e → Differ (key_cmp key e.0)) × AreOther n key ms)
+AreOther n key (member m d ms) = Differ (slice_cmp nat_cmp n m) × (((e : Key × Rows) → certificate_rows_at m d ≡ Ok e → Differ (key_cmp key e.0)) × AreOther n key ms)
 
-with_member : (n : List ℕ) (d : Data) (key : Key) (rows : Rows) → under n (entry_at n d) ≡ Ok (key, rows) → (ms : Members) (es : List (Key × Rows)) → AreOther n key ms
-    → material_with es (put n d ms) ≡ material_with (with_rows es key rows) ms
+with_member : (n : List ℕ) (d : Data) (key : Key) (rows : Rows) → under n (certificate_rows_at n d) ≡ Ok (key, rows) → (ms : Members) (es : List (Key × Rows)) → AreOther n key ms
+    → material_with es (put n d ms) ≡ material_with (with_rows_of es key rows) ms
 with_member n d key rows read no_members es other = rw read refl
 with_member n d key rows read (member l v ms) es other = by_order (slice_cmp nat_cmp n l) other.0 (λ fs. with_member n d key rows read ms fs other.1.1)
   where
-    behind : (r : Read (Key × Rows)) → entry_at l v ≡ r → ((fs : List (Key × Rows)) → material_with fs (put n d ms) ≡ material_with (with_rows fs key rows) ms) → under l r >>= (λ x. material_with (with_rows es x.0 x.1) (put n d ms)) ≡ under l r >>= (λ x. material_with (with_rows (with_rows es key rows) x.0 x.1) ms)
+    behind : (r : Read (Key × Rows)) → certificate_rows_at l v ≡ r → ((fs : List (Key × Rows)) → material_with fs (put n d ms) ≡ material_with (with_rows_of fs key rows) ms) → under l r >>= (λ x. material_with (with_rows_of es x.0 x.1) (put n d ms)) ≡ under l r >>= (λ x. material_with (with_rows_of (with_rows_of es key rows) x.0 x.1) ms)
     behind (Ok x) h rest =
-        rest (with_rows es x.0 x.1)
+        rest (with_rows_of es x.0 x.1)
         ∙ ap (λ fs. material_with fs ms) (swap key_cmp total key x.0 rows x.1 (other.1.0 x h) es)
     behind (Err path) h rest = refl
 
-    by_order : (o : Ordering) → Differ o → ((fs : List (Key × Rows)) → material_with fs (put n d ms) ≡ material_with (with_rows fs key rows) ms) → material_with es (match_ordering o (member n d (member l v ms)) (member l d ms) (member l v (put n d ms))) ≡ material_with (with_rows es key rows) (member l v ms)
+    by_order : (o : Ordering) → Differ o → ((fs : List (Key × Rows)) → material_with fs (put n d ms) ≡ material_with (with_rows_of fs key rows) ms) → material_with es (match_ordering o (member n d (member l v ms)) (member l d ms) (member l v (put n d ms))) ≡ material_with (with_rows_of es key rows) (member l v ms)
     by_order Less differ rest = rw read refl
     by_order Equal differ rest = absurd differ
-    by_order Greater differ rest = behind (entry_at l v) refl rest
+    by_order Greater differ rest = behind (certificate_rows_at l v) refl rest
 
-other_put : (n : List ℕ) (key : Key) (l : List ℕ) (v : Data) → Differ (slice_cmp nat_cmp n l) → ((e : Key × Rows) → entry_at l v ≡ Ok e → Differ (key_cmp key e.0)) → (ms : Members) → AreOther n key ms → AreOther n key (put l v ms)
+other_put : (n : List ℕ) (key : Key) (l : List ℕ) (v : Data) → Differ (slice_cmp nat_cmp n l) → ((e : Key × Rows) → certificate_rows_at l v ≡ Ok e → Differ (key_cmp key e.0)) → (ms : Members) → AreOther n key ms → AreOther n key (put l v ms)
 other_put n key l v name keys no_members other = (name, (keys, tt))
 other_put n key l v name keys (member m d ms) other = by_order (slice_cmp nat_cmp l m) refl (other_put n key l v name keys ms other.1.1)
   where
     by_order : (o : Ordering) → slice_cmp nat_cmp l m ≡ o → AreOther n key (put l v ms) → AreOther n key (match_ordering o (member l v (member m d ms)) (member m v ms) (member m d (put l v ms)))
     by_order Less h later = (name, (keys, other))
-    by_order Equal h later = (other.0, (subst (λ (t : List ℕ). (e : Key × Rows) → entry_at t v ≡ Ok e → Differ (key_cmp key e.0)) (slice_cmp-IsAntisymmetric nat_cmp-IsAntisymmetric l m h) keys, other.1.1))
+    by_order Equal h later = (other.0, (subst (λ (t : List ℕ). (e : Key × Rows) → certificate_rows_at t v ≡ Ok e → Differ (key_cmp key e.0)) (slice_cmp-IsAntisymmetric nat_cmp-IsAntisymmetric l m h) keys, other.1.1))
     by_order Greater h later = (other.0, (other.1.0, later))
 
 -- ---- all members
 
 abbrev AreWritten : List (Key × Rows) → Type 0
-AreWritten es = AllByRecursion (λ (e : Key × Rows). entry_at (name_text e.0) (rows_tree e.1) ≡ Ok e × IsKey e.0) es
+AreWritten es = AllByRecursion (λ (e : Key × Rows). certificate_rows_at (name_text e.0) (rows_tree e.1) ≡ Ok e × IsKey e.0) es
 
 abbrev AreOthers : List (Key × Rows) → Members → Type 0
 AreOthers es ms = AllByRecursion (λ (e : Key × Rows). AreOther (name_text e.0) e.0 ms) es
@@ -185,7 +185,7 @@ same_entry e x h = ap got h
     got (Ok y) = y
     got (Err path) = e
 
-others_put : (e : Key × Rows) → entry_at (name_text e.0) (rows_tree e.1) ≡ Ok e → IsKey e.0 → (es : List (Key × Rows)) (ms : Members) → AllByRecursion (λ (f : Key × Rows). key_cmp e.0 f.0 ≡ Less) es → AreWritten es → AreOthers es ms
+others_put : (e : Key × Rows) → certificate_rows_at (name_text e.0) (rows_tree e.1) ≡ Ok e → IsKey e.0 → (es : List (Key × Rows)) (ms : Members) → AllByRecursion (λ (f : Key × Rows). key_cmp e.0 f.0 ≡ Less) es → AreWritten es → AreOthers es ms
     → AreOthers es (put (name_text e.0) (rows_tree e.1) ms)
 others_put e read is [] ms less written others = tt
 others_put e read is (f ∷ es) ms less written others = (
@@ -196,7 +196,7 @@ others_put e read is (f ∷ es) ms less written others = (
 
 abbrev all_put : List (Key × Rows) → List (Key × Rows) → List (Key × Rows)
 all_put [] es = es
-all_put (f ∷ fs) es = with_rows (all_put fs es) f.0 f.1
+all_put (f ∷ fs) es = with_rows_of (all_put fs es) f.0 f.1
 
 with_members : (fs : List (Key × Rows)) → AreInOrder fs → AreWritten fs → (ms : Members) (es : List (Key × Rows)) → AreOthers fs ms → material_with es (put_entries fs ms) ≡ material_with (all_put fs es) ms
 with_members [] order written ms es others = refl
@@ -204,20 +204,20 @@ with_members (f ∷ fs) order written ms es others =
     with_members fs order.1 written.1 (put (name_text f.0) (rows_tree f.1) ms) es (others_put f written.0.0 written.0.1 fs ms order.0 written.1 others.1)
     ∙ with_member (name_text f.0) (rows_tree f.1) f.0 f.1 (rw written.0.0 refl) ms (all_put fs es) others.0
 
-put_front : (e : Key × Rows) (es : List (Key × Rows)) → AllByRecursion (λ (f : Key × Rows). key_cmp e.0 f.0 ≡ Less) es → with_rows es e.0 e.1 ≡ e ∷ es
+put_front : (e : Key × Rows) (es : List (Key × Rows)) → AllByRecursion (λ (f : Key × Rows). key_cmp e.0 f.0 ≡ Less) es → with_rows_of es e.0 e.1 ≡ e ∷ es
 put_front e [] less = refl
 put_front e (f ∷ es) less = rw (less.0) refl
 
 all_put_in_order : (es : List (Key × Rows)) → AreInOrder es → all_put es [] ≡ es
 all_put_in_order [] order = refl
-all_put_in_order (e ∷ es) order = ap (λ fs. with_rows fs e.0 e.1) (all_put_in_order es order.1) ∙ put_front e es order.0
+all_put_in_order (e ∷ es) order = ap (λ fs. with_rows_of fs e.0 e.1) (all_put_in_order es order.1) ∙ put_front e es order.0
 
 nothing_there : (es : List (Key × Rows)) → AreOthers es no_members
 nothing_there [] = tt
 nothing_there (e ∷ es) = (tt, nothing_there es)
 
-entry_again : (f : Key × Rows) → IsKey f.0 → rows_at (rows_tree f.1) ≡ Ok f.1 → entry_at (name_text f.0) (rows_tree f.1) ≡ Ok f
-unfolding entry_at
+entry_again : (f : Key × Rows) → IsKey f.0 → rows_at (rows_tree f.1) ≡ Ok f.1 → certificate_rows_at (name_text f.0) (rows_tree f.1) ≡ Ok f
+unfolding certificate_rows_at
 entry_again f is again = rw (is, again) refl
 
 written : (es : List (Key × Rows)) → AreEntries es → AllByRecursion HasEntryBytes es → AreWritten es

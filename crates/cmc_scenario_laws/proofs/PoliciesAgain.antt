@@ -18,10 +18,10 @@ use Rattle.cmc_material.specs.Approvers.{pattern_at, address_pattern_at, pattern
 use Rattle.cmc_material.specs.declared.policy.Limits.{Limits}
 use Rattle.cmc_material.specs.declared.policy.Named.{Named}
 use Rattle.cmc_scenario_print.specs.Defaults.{is_every_issuer}
-use Rattle.cmc_scenario_print.specs.PolicyTrees.{pattern_tree, patterns_tree, address_tree, addresses_tree, key_algorithm_tree, put_names, put_limits, policy_tree}
+use Rattle.cmc_scenario_print.specs.PolicyTrees.{pattern_tree, patterns_tree, address_tree, addresses_tree, key_algorithm_tree, put_allowed_names, put_limits, policy_tree}
 use Rattle.cmc_codec.proofs.Slots.{slots, start, bind, next_is, required_is, put_is, some_option, put_option_is, some_list, put_list_is, some_true, put_true_is}
 use Rattle.cmc_codec.proofs.ValuesAgain.{duration_is_again, small_count_again}
-use Rattle.cmc_scenario_laws.specs.Policies.{AreTexts, AreOctets, HasOctets, IsTextual}
+use Rattle.cmc_scenario_laws.specs.Policies.{AreTexts, AreOctetLists, HasAddressOctets, IsTextual}
 use Rattle.cmc_scenario_laws.proofs.Addresses.{address_pattern_so}
 use Rattle.cmc_scenario_laws.proofs.Members.{some_unless, put_unless_is, option_given, true_given, under_given, option_so, Again, numbered_below_again, list_again, list_so}
 
@@ -44,7 +44,7 @@ pub patterns_so : (d : Data) → Always ArePatternsAgain (patterns_at d)
 patterns_so d = list_again IsUtf8 (numbered_below 100 pattern_at) pattern_tree (numbered_below_again IsUtf8 100 pattern_at pattern_tree pattern_so) d
 
 abbrev AreAddressesAgain : List (List ℕ) → Type 0
-AreAddressesAgain = Again AreOctets addresses_at addresses_tree
+AreAddressesAgain = Again AreOctetLists addresses_at addresses_tree
 
 addresses_so : (d : Data) → Always AreAddressesAgain (addresses_at d)
 addresses_so d = list_again IsBytes (numbered_below 100 address_pattern_at) address_tree (numbered_below_again IsBytes 100 address_pattern_at address_tree address_pattern_so) d
@@ -147,7 +147,7 @@ policy_places p =
     ∷ (codes "uris", some_option patterns_tree p.uris) ∷ (codes "usages", some_list patterns_tree p.usages) ∷ []
 
 policy_printed : (p : Policy) → policy_tree p ≡ object (slots (policy_places p))
-unfolding policy_tree put_limits put_names
+unfolding policy_tree put_limits put_allowed_names
 policy_printed p =
     let algorithm = put_option_is key_algorithm_tree (codes "algorithm") p.algorithm (start {ss = blank_places} refl) refl in
     let common = put_option_is patterns_tree (codes "commonName") p.common algorithm refl in
@@ -250,7 +250,7 @@ policy_again p given =
 -- ---- policies that were read
 
 abbrev pub IsReadable : Policy → Type 0
-IsReadable p = IsTextual p × HasOctets p
+IsReadable p = IsTextual p × HasAddressOctets p
 
 abbrev pub IsPolicyAgain : Policy → Type 0
 IsPolicyAgain = Again IsReadable policy_at policy_tree
@@ -267,7 +267,7 @@ given_of named limits name uris usages is_named are_limits are_uris are_usages r
   common = given_again AreTexts patterns_at patterns_tree (codes "commonName") named.0.common is_named.common readable.0.common;
   dns = given_again AreTexts patterns_at patterns_tree (codes "dnsNames") named.0.dns is_named.dns readable.0.dns;
   emails = given_again AreTexts patterns_at patterns_tree (codes "emailAddresses") named.0.emails is_named.emails readable.0.emails;
-  ips = given_again AreOctets addresses_at addresses_tree (codes "ipAddresses") named.0.ips is_named.ips readable.1;
+  ips = given_again AreOctetLists addresses_at addresses_tree (codes "ipAddresses") named.0.ips is_named.ips readable.1;
   issuers = are_limits.issuers readable.0.issuers;
   max = are_limits.max;
   max_size = are_limits.max_size;

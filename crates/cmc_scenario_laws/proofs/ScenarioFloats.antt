@@ -22,7 +22,7 @@ use Rattle.cmc_print.specs.Puts.{strings, base64_text}
 use Rattle.cmc_print.specs.Printed.{moment_tree, duration_tree, applied_tree}
 use Rattle.cmc_print.specs.Words.{kind_name, role_name, name_text, key_text, moment_text}
 use Rattle.cmc_scenario_print.specs.Defaults.{is_every_issuer, is_every_role, is_usual_message, is_usual_moment}
-use Rattle.cmc_scenario_print.specs.PolicyTrees.{pattern_tree, patterns_tree, address_text, address_tree, addresses_tree, key_algorithm, key_algorithm_tree, put_names, put_limits, policy_tree, policies_tree, approver_members}
+use Rattle.cmc_scenario_print.specs.PolicyTrees.{pattern_tree, patterns_tree, address_text, address_tree, addresses_tree, algorithm_text, key_algorithm_tree, put_allowed_names, put_limits, policy_tree, policies_tree, approver_members}
 use Rattle.cmc_scenario_print.specs.RowTrees.{key_row_tree, key_rows_tree, sign_row_members, sign_row_tree, sign_rows_tree, rows_tree, put_entries, material_tree}
 use Rattle.cmc_scenario_print.specs.StepTrees.{certificate_members, revision_members, informer_members, step_members, step_tree, script_tree}
 use Rattle.cmc_scenario_print.specs.ScenarioTree.{numbers_tree, role_tree, roles_tree, put_world, put_run, scenario_tree}
@@ -44,13 +44,13 @@ addresses_clear : (patterns : List (List ℕ)) → IsClear (addresses_tree patte
 addresses_clear patterns = of_list address_tree address_clear patterns
 
 algorithm_clear : (is_rsa : Bool) → IsClear (key_algorithm_tree is_rsa)
-algorithm_clear is_rsa = of_text (key_algorithm is_rsa)
+algorithm_clear is_rsa = of_text (algorithm_text is_rsa)
 
 duration_clear : (seconds : ℕ) → IsClear (duration_tree seconds)
 duration_clear seconds = of_text (go_duration seconds)
 
 policy_clear : (p : Policy) → IsClear (policy_tree p)
-unfolding policy_tree put_limits put_names
+unfolding policy_tree put_limits put_allowed_names
 policy_clear p =
     let algorithm = with_option key_algorithm_tree algorithm_clear (codes "algorithm") p.algorithm empty in
     let common = with_option patterns_tree patterns_clear (codes "commonName") p.common algorithm in

@@ -24,7 +24,7 @@ use Rattle.cmc_material.specs.Lists.{member_or}
 use Rattle.cmc_material.specs.MaterialRows.{material_at}
 use Rattle.cmc_scenario.specs.Roles.{roles_at}
 use Rattle.cmc_scenario.specs.Scripts.{script_at}
-use Rattle.cmc_scenario.specs.Scenarios.{size_at, rising_at, rising_from, faults_at, in_run, moment_in, moment_at, world_in, usual_moment, beginning_in, setup_of, setup_in, members_at}
+use Rattle.cmc_scenario.specs.Scenarios.{size_at, rising_at, rising_from, faults_at, in_run, moment_in, start_moment_at, world_in, usual_moment, beginning_in, setup_of, setup_in, members_at}
 use Rattle.cmc_scenario.specs.declared.members.World.{World}
 use Rattle.cmc_scenario.specs.declared.members.Beginning.{Beginning}
 use Rattle.cmc_scenario.proofs.SetupForms.{IsBeginning, of_beginning}
@@ -111,7 +111,7 @@ written_again t at read =
     ∙ rfc3339_again (rfc3339_text found.moment) at (record { moment = found.moment; is_real = found.is_real; written = refl; lies_at = found.lies_at })
 
 abbrev IsMoment : ℤ → Type 0
-IsMoment at = moment_at (moment_tree at) ≡ Ok at
+IsMoment at = start_moment_at (moment_tree at) ≡ Ok at
 
 moment_again : (at : ℤ) → rfc3339_seconds (rfc3339 at) ≡ Some at → (int_le first_moment at && int_le at last_moment) ≡ true → IsMoment at
 unfolding moment_text
@@ -121,18 +121,18 @@ found_so : (t : List ℕ) (o : Option ℤ) → rfc3339_seconds t ≡ o → Alway
 found_so t None read = failed []
 found_so t (Some at) read = where_true IsMoment (int_le first_moment at && int_le at last_moment) (Ok at) [] (λ e. so (moment_again at (written_again t at read) e))
 
-moment_so : (d : Data) → Always IsMoment (moment_at d)
+moment_so : (d : Data) → Always IsMoment (start_moment_at d)
 moment_so d = next IsMoment (text_at d) moment_in (λ t. found_so t (rfc3339_seconds t) refl)
 
 usual_is : (at : ℤ) → is_usual_moment at ≡ true → at ≡ usual_moment
 usual_is at h = grind (arith, ints)
 
 abbrev pub IsMomentGiven : ℤ → Type 0
-IsMomentGiven at = member_or usual_moment (codes "now") moment_at (some_unless (is_usual_moment at) moment_tree at) ≡ Ok at
+IsMomentGiven at = member_or usual_moment (codes "now") start_moment_at (some_unless (is_usual_moment at) moment_tree at) ≡ Ok at
 
-now_so : (given : Option Data) → Always IsMomentGiven (member_or usual_moment (codes "now") moment_at given)
+now_so : (given : Option Data) → Always IsMomentGiven (member_or usual_moment (codes "now") start_moment_at given)
 now_so None = so refl
-now_so (Some d) = below IsMomentGiven (codes "now") (moment_at d) (further IsMoment IsMomentGiven (moment_at d) (λ at again. unless_given usual_moment moment_at moment_tree (codes "now") (is_usual_moment at) at (usual_is at) again) (moment_so d))
+now_so (Some d) = below IsMomentGiven (codes "now") (start_moment_at d) (further IsMoment IsMomentGiven (start_moment_at d) (λ at again. unless_given usual_moment start_moment_at moment_tree (codes "now") (is_usual_moment at) at (usual_is at) again) (moment_so d))
 
 -- ---- what was read of the members
 
@@ -157,7 +157,7 @@ IsNow p = IsMomentGiven p.0.moment
 now_read : (fs : List Field) → Always IsNow (beginning_in fs)
 unfolding beginning_in
 now_read fs =
-    next IsNow (optional_at (codes "now") fs) _ (λ first. after IsMomentGiven IsNow (member_or usual_moment (codes "now") moment_at first.0) _ (now_so first.0)
+    next IsNow (optional_at (codes "now") fs) _ (λ first. after IsMomentGiven IsNow (member_or usual_moment (codes "now") start_moment_at first.0) _ (now_so first.0)
     (λ moment is. next IsNow (optional_at (codes "roles") first.1) _ (λ second. next IsNow (roles_at second.0) _ (λ roles. so is))))
 
 abbrev IsStart : Beginning × List Field → Type 0

@@ -4,10 +4,10 @@ use Rattle.std.specs.Prelude.{nat_lt}
 use Rattle.serde_json.specs.Data.{Data, null, boolean, number, string, array, object, Items, no_items, item}
 use Rattle.serde_json.specs.View.{items_of}
 use Rattle.cmc_objects.specs.declared.entry.Step.{Step}
-use Rattle.cmc_setup.specs.Stages.{Stage, is_in_turn, stage_after}
+use Rattle.cmc_setup.specs.Stages.{Stage, is_in_turn, stage_after_step}
 use Rattle.cmc_cursor.specs.Reading.{◌>>=◌, under}
 use Rattle.cmc_cursor.proofs.Always.{Always, so, failed, after, below, further, where_true}
-use Rattle.cmc_scenario.specs.Scripts.{in_turn, step_at, numbered_step_at, steps_from, steps_at, script_at}
+use Rattle.cmc_scenario.specs.Scripts.{in_turn, script_step_at, numbered_step_at, steps_from, steps_at, script_at}
 use Rattle.cmc_scenario_print.specs.StepTrees.{step_tree, script_tree}
 use Rattle.cmc_codec.proofs.Slots.{some_list}
 use Rattle.cmc_scenario_laws.specs.Steps.{HasStepBytes, HaveStepBytes}
@@ -16,15 +16,15 @@ use Rattle.cmc_scenario_laws.proofs.StepsAgain.{IsStepAgain, step_so}
 abbrev IsNumbered : ℕ → Stage → Step → Type 0
 IsNumbered n stage step = HasStepBytes step → numbered_step_at n stage (step_tree step) ≡ Ok step
 
-pub numbered_again : (n : ℕ) (stage : Stage) (step : Step) → nat_lt n 10000 ≡ true → step_at (step_tree step) ≡ Ok step → is_in_turn stage step ≡ true → numbered_step_at n stage (step_tree step) ≡ Ok step
+pub numbered_again : (n : ℕ) (stage : Stage) (step : Step) → nat_lt n 10000 ≡ true → script_step_at (step_tree step) ≡ Ok step → is_in_turn stage step ≡ true → numbered_step_at n stage (step_tree step) ≡ Ok step
 unfolding numbered_step_at
 numbered_again n stage step early again turn = rw (early, again, turn) refl
 
 numbered_so : (n : ℕ) (stage : Stage) (d : Data) → Always (IsNumbered n stage) (numbered_step_at n stage d)
 unfolding numbered_step_at
 numbered_so n stage d =
-    where_true (IsNumbered n stage) (nat_lt n 10000) (under (decimal n) (step_at d) >>= in_turn n stage) (decimal n ∷ [])
-    (λ early. after IsStepAgain (IsNumbered n stage) (under (decimal n) (step_at d)) (in_turn n stage) (below IsStepAgain (decimal n) (step_at d) (step_so d))
+    where_true (IsNumbered n stage) (nat_lt n 10000) (under (decimal n) (script_step_at d) >>= in_turn n stage) (decimal n ∷ [])
+    (λ early. after IsStepAgain (IsNumbered n stage) (under (decimal n) (script_step_at d)) (in_turn n stage) (below IsStepAgain (decimal n) (script_step_at d) (step_so d))
     (λ step again. where_true (IsNumbered n stage) (is_in_turn stage step) (Ok step) (decimal n ∷ []) (λ turn. so (λ bytes. numbered_again n stage step early (again bytes) turn))))
 
 abbrev AreNumbered : ℕ → Stage → List Step → Type 0
@@ -33,8 +33,8 @@ AreNumbered n stage steps = HaveStepBytes steps → steps_from n stage (items_of
 steps_so : (n : ℕ) (stage : Stage) (ds : Items) → Always (AreNumbered n stage) (steps_from n stage ds)
 steps_so n stage no_items = so (λ bytes. refl)
 steps_so n stage (item d ds) =
-    after (IsNumbered n stage) (AreNumbered n stage) (numbered_step_at n stage d) (λ s. steps_from (n + 1) (stage_after stage s) ds >>= (λ ss. Ok (s ∷ ss))) (numbered_so n stage d)
-    (λ s first. after (AreNumbered (n + 1) (stage_after stage s)) (AreNumbered n stage) (steps_from (n + 1) (stage_after stage s) ds) (λ ss. Ok (s ∷ ss)) (steps_so (n + 1) (stage_after stage s) ds)
+    after (IsNumbered n stage) (AreNumbered n stage) (numbered_step_at n stage d) (λ s. steps_from (n + 1) (stage_after_step stage s) ds >>= (λ ss. Ok (s ∷ ss))) (numbered_so n stage d)
+    (λ s first. after (AreNumbered (n + 1) (stage_after_step stage s)) (AreNumbered n stage) (steps_from (n + 1) (stage_after_step stage s) ds) (λ ss. Ok (s ∷ ss)) (steps_so (n + 1) (stage_after_step stage s) ds)
     (λ ss rest. so (λ bytes. rw (first bytes.0, rest bytes.1) refl)))
 
 listed_so : (stage : Stage) (d : Data) → Always (λ steps. HaveStepBytes steps → steps_at stage (script_tree steps) ≡ Ok steps) (steps_at stage d)

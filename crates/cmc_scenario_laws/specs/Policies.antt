@@ -37,11 +37,11 @@ IsApproverReadAgain rules =
 
 -- ---- what is so of each policy: the octets of its addresses are bytes
 
-abbrev pub AreOctets : List (List ℕ) → Type 0
-AreOctets patterns = AllByRecursion IsBytes patterns
+abbrev pub AreOctetLists : List (List ℕ) → Type 0
+AreOctetLists patterns = AllByRecursion IsBytes patterns
 
-abbrev pub HasOctets : Policy → Type 0
-HasOctets p = IfSome p.ips AreOctets
+abbrev pub HasAddressOctets : Policy → Type 0
+HasAddressOctets p = IfSome p.ips AreOctetLists
 
 abbrev pub HaveOctets : List Policy → Type 0
-HaveOctets policies = AllByRecursion HasOctets policies
+HaveOctets policies = AllByRecursion HasAddressOctets policies

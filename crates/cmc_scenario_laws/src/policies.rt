@@ -1,6 +1,6 @@
 // The laws of policies, and what they rest on: the octets of addresses are bytes.
 ghost use Rattle.base64.specs.GeneralPurpose.{IsBytes};
-ghost use Rattle.cmc_scenario_laws.specs.Policies.{AreOctets, HasOctets, HaveOctets, IsApproverReadAgain, IsPolicyReadAgain};
+ghost use Rattle.cmc_scenario_laws.specs.Policies.{AreOctetLists, HasAddressOctets, HaveOctets, IsApproverReadAgain, IsPolicyReadAgain};
 
 use crate::laws::are_bytes;
 use cmc_objects::Rules;
@@ -13,7 +13,7 @@ fn has_bytes(pattern: &Pattern)
 }
 
 fn are_octets(patterns: &[Pattern])
-    ensures { AreOctets patterns.now }
+    ensures { AreOctetLists patterns.now }
 {
     if let [first, rest @ ..] = patterns {
         has_bytes(first);
@@ -22,7 +22,7 @@ fn are_octets(patterns: &[Pattern])
 }
 
 fn has_octets(policy: &Policy)
-    ensures { HasOctets policy.now }
+    ensures { HasAddressOctets policy.now }
 {
     match &policy.ips {
         None => {}

@@ -35,15 +35,15 @@ addresses_tree patterns = array (items_of (map address_tree patterns))
 
 -- ---- policies
 
-abbrev pub key_algorithm : Bool → List ℕ
-key_algorithm is_rsa = if is_rsa then codes "RSA" else codes "ECDSA"
+abbrev pub algorithm_text : Bool → List ℕ
+algorithm_text is_rsa = if is_rsa then codes "RSA" else codes "ECDSA"
 
 abbrev pub key_algorithm_tree : Bool → Data
-key_algorithm_tree is_rsa = string (key_algorithm is_rsa)
+key_algorithm_tree is_rsa = string (algorithm_text is_rsa)
 
 -- What keys and which names a request may ask for.
-unfoldable pub put_names : Policy → Members → Members
-put_names p ms =
+unfoldable pub put_allowed_names : Policy → Members → Members
+put_allowed_names p ms =
     put_option addresses_tree (codes "ipAddresses") p.ips
     (put_option patterns_tree (codes "emailAddresses") p.emails
     (put_option patterns_tree (codes "dnsNames") p.dns
@@ -66,7 +66,7 @@ policy_tree p = object
     (put_option patterns_tree (codes "uris") p.uris
     (put (codes "name") (pattern_tree p.name)
     (put_limits p
-    (put_names p no_members)))))
+    (put_allowed_names p no_members)))))
 
 abbrev pub policies_tree : List Policy → Data
 policies_tree policies = array (items_of (map policy_tree policies))

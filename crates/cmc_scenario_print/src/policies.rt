@@ -2,7 +2,7 @@
 ghost use Rattle.std.specs.Prelude.{◌≡◌, codes, IfOk, OnOk};
 ghost use Rattle.cmc_print.specs.Puts.{put_option, put_list};
 ghost use Rattle.cmc_print.specs.Trees.{data_of, members_of};
-ghost use Rattle.cmc_scenario_print.specs.PolicyTrees.{key_algorithm, key_algorithm_tree, policies_tree, policy_tree, put_limits, put_names};
+ghost use Rattle.cmc_scenario_print.specs.PolicyTrees.{algorithm_text, key_algorithm_tree, policies_tree, policy_tree, put_limits, put_allowed_names};
 
 use crate::patterns::{
     pattern_text, put_addresses_option, put_patterns, put_patterns_option, put_policy_issuers,
@@ -14,7 +14,7 @@ use cmc_print::{
 use std::alloc::{AllocError, Global};
 
 fn algorithm_word(is_rsa: bool) -> &'static str
-    ensures { result.now ≡ key_algorithm is_rsa }
+    ensures { result.now ≡ algorithm_text is_rsa }
 {
     if is_rsa { "RSA" } else { "ECDSA" }
 }
@@ -32,9 +32,9 @@ fn put_algorithm(
     }
 }
 
-#[tactic(auto, unfolding(crate::specs::PolicyTrees::put_names))]
+#[tactic(auto, unfolding(crate::specs::PolicyTrees::put_allowed_names))]
 fn add_names(members: &mut Members, alloc: Global, policy: &Policy) -> Result<(), AllocError>
-    ensures { OnOk result (members_of members.new ≡ put_names policy.now (members_of members.old)) }
+    ensures { OnOk result (members_of members.new ≡ put_allowed_names policy.now (members_of members.old)) }
 {
     put_algorithm(members, alloc, policy.algorithm)?;
     put_patterns_option(members, alloc, "commonName", &policy.common)?;

@@ -6,7 +6,7 @@ use Rattle.cmc_meta.specs.declared.key.Kind.{Kind}
 use Rattle.cmc_objects.specs.declared.role.Role.{Role}
 use Rattle.cmc_objects.specs.declared.entry.Step.{Step}
 use Rattle.cmc_objects.specs.Watching.{has_informer}
-use Rattle.cmc_setup.specs.Holds.{AreHeldInTurn, Held, is_informer, grip_of, held_after, may_grip, none_held}
+use Rattle.cmc_setup.specs.Holds.{AreHeldInTurn, Held, is_kind_and_role, grip_of, held_after, may_grip, none_held}
 
 -- both say the same of each informer
 abbrev pub AreSame : Held → Held → Type 0
@@ -16,11 +16,11 @@ abbrev Grip : Type 0
 Grip = Option (Kind × (Role × Bool))
 
 pub gripped : (flags new held : Held) (kind : Kind) (role : Role) (on : Bool) (grip : Grip) → Some (kind, (role, on)) ≡ grip → may_grip flags (Some (kind, (role, on))) ≡ true
-    → ((k : Kind) → (r : Role) → new k r ≡ (if is_informer kind role k r then on else flags k r)) → AreSame flags held → (may_grip held grip ≡ true) × AreSame new (held_after held grip)
+    → ((k : Kind) → (r : Role) → new k r ≡ (if is_kind_and_role kind role k r then on else flags k r)) → AreSame flags held → (may_grip held grip ≡ true) × AreSame new (held_after held grip)
 gripped flags new held kind role on grip is may changed same =
     let told : may_grip held (Some (kind, (role, on))) ≡ true = subst (λ (b : Bool). (if on then has_informer role kind && not b else b) ≡ true) (same kind role) may in
     let after : AreSame new (held_after held (Some (kind, (role, on)))) =
-    λ k r. changed k r ∙ ap (λ (b : Bool). if is_informer kind role k r then on else b) (same k r) in
+    λ k r. changed k r ∙ ap (λ (b : Bool). if is_kind_and_role kind role k r then on else b) (same k r) in
     subst (λ (g : Grip). (may_grip held g ≡ true) × AreSame new (held_after held g)) is (told, after)
 
 both_ways : (b : Bool) → b ≡ false → b ≡ true → ⊥

@@ -22,8 +22,8 @@ grip_of (Hold role kind) = Some (kind, (role, true))
 grip_of (Release role kind) = Some (kind, (role, false))
 grip_of other = None
 
-abbrev pub is_informer : Kind → Role → Kind → Role → Bool
-is_informer kind role k r = (kind_rank kind == kind_rank k) && (role_rank role == role_rank r)
+abbrev pub is_kind_and_role : Kind → Role → Kind → Role → Bool
+is_kind_and_role kind role k r = (kind_rank kind == kind_rank k) && (role_rank role == role_rank r)
 
 -- an informer that the role has and that is not held may be held, and one that is held may be released
 abbrev pub may_grip : Held → Option (Kind × (Role × Bool)) → Bool
@@ -33,7 +33,7 @@ may_grip held (Some (kind, (role, on))) = if on then has_informer role kind && n
 -- the informers that are held then; each stays as it is but the one that is held or released
 abbrev pub held_after : Held → Option (Kind × (Role × Bool)) → Held
 held_after held None k r = held k r
-held_after held (Some (kind, (role, on))) k r = if is_informer kind role k r then on else held k r
+held_after held (Some (kind, (role, on))) k r = if is_kind_and_role kind role k r then on else held k r
 
 -- where these informers are held at first, each step that holds one may do so when its turn comes, and so each that releases one
 abbrev pub AreHeldInTurn : Held → List Step → Type 0

@@ -36,9 +36,9 @@ pub record LeavesNothingFree (u : Setup) : Type 0 where
   pub script : list_all is_bound_step u.script ≡ true
 
 -- how many seconds a step lets pass
-abbrev pub seconds_of : Step → ℕ
-seconds_of (Tick seconds) = seconds
-seconds_of other = 0
+abbrev pub step_seconds : Step → ℕ
+step_seconds (Tick seconds) = seconds
+step_seconds other = 0
 
 -- the step lets time pass
 abbrev pub is_tick : Step → Bool
@@ -52,13 +52,13 @@ switch_of (Start role behind) = Some (role, true)
 switch_of other = None
 
 -- how many seconds all steps together let pass
-abbrev pub ticked : List Step → ℕ
-ticked script = sum_by seconds_of script
+abbrev pub seconds_ticked : List Step → ℕ
+seconds_ticked script = sum_by step_seconds script
 
 -- a tick has 1 to 1,000,000,000 seconds
 pub record IsTickForm (step : Step) : Type 0 where
-  pub least : is_tick step ≡ true → 1 ≤ seconds_of step
-  pub most : seconds_of step ≤ 1000000000
+  pub least : is_tick step ≡ true → 1 ≤ step_seconds step
+  pub most : step_seconds step ≤ 1000000000
 
 -- each number is above all before it, and the first above n
 abbrev pub RiseFrom : ℕ → List ℕ → Type 0
@@ -123,7 +123,7 @@ pub record IsSetup (setup : Setup) : Type 0 where
   pub some_window : 1 ≤ setup.window
   pub most_window : setup.window ≤ 250000
   pub begins : first_moment ≤ℤ setup.moment
-  pub ends : (setup.moment +ℤ pos (ticked setup.script)) ≤ℤ last_moment
+  pub ends : (setup.moment +ℤ pos (seconds_ticked setup.script)) ≤ℤ last_moment
   pub short : length setup.script ≤ 10000
   pub ticks : All IsTickForm setup.script
   pub faults : RiseFrom 0 setup.faults

@@ -1,6 +1,6 @@
 // Whether parts make a scenario.
 ghost use Rattle.std.specs.Prelude.{◌≡◌, ◌↔◌, ℕ, pos, ◌+ℤ◌, ◌≤◌, ◌≤ℤ◌, IsTrue, List, All, length};
-ghost use Rattle.cmc_setup.specs.Setups.{IsSetup, IsTickForm, RiseFrom, first_moment, last_moment, seconds_of, ticked};
+ghost use Rattle.cmc_setup.specs.Setups.{IsSetup, IsTickForm, RiseFrom, first_moment, last_moment, step_seconds, seconds_ticked};
 
 use crate::forms::{are_steps, is_approver, is_material};
 use crate::holding::are_held_in_turn;
@@ -81,7 +81,7 @@ fn have_tick_form(steps: &[Step]) -> bool
 
 /// How many seconds the step lets pass.
 pub fn seconds_in(step: &Step) -> u64
-    ensures { result ≡ seconds_of step.now }
+    ensures { result ≡ step_seconds step.now }
 {
     match step {
         Step::Tick { seconds } => *seconds,
@@ -103,7 +103,7 @@ pub fn seconds_in(step: &Step) -> u64
 fn seconds_in_all(steps: &[Step]) -> u64
     requires short { length steps.now ≤ 10000 }
     requires ticks { All IsTickForm steps.now }
-    ensures value { result ≡ ticked steps.now }
+    ensures value { result ≡ seconds_ticked steps.now }
     ensures most { result ≤ 10000000000000 }
 {
     let mut sum = 0;
@@ -117,13 +117,13 @@ fn end_in_time(now: i64, steps: &[Step]) -> bool
     requires begins { first_moment ≤ℤ now }
     requires short { length steps.now ≤ 10000 }
     requires ticks { All IsTickForm steps.now }
-    ensures { IsTrue result ↔ ((now +ℤ pos (ticked steps.now)) ≤ℤ last_moment) }
+    ensures { IsTrue result ↔ ((now +ℤ pos (seconds_ticked steps.now)) ≤ℤ last_moment) }
 {
     now <= LAST_MOMENT && seconds_in_all(steps) as i64 <= LAST_MOMENT - now
 }
 
 fn fit(now: i64, steps: &[Step]) -> bool
-    ensures { IsTrue result ↔ ((first_moment ≤ℤ now) × (length steps.now ≤ 10000) × All IsTickForm steps.now × ((now +ℤ pos (ticked steps.now)) ≤ℤ last_moment)) }
+    ensures { IsTrue result ↔ ((first_moment ≤ℤ now) × (length steps.now ≤ 10000) × All IsTickForm steps.now × ((now +ℤ pos (seconds_ticked steps.now)) ≤ℤ last_moment)) }
 {
     is_beginning(now)
         && steps.len() <= MOST_STEPS

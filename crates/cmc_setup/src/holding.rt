@@ -3,7 +3,7 @@ ghost use Rattle.std.specs.Prelude.{◌≡◌, ◌↔◌, IsTrue, MatchOption, S
 ghost use Rattle.cmc_meta.specs.declared.key.Kind.{Kind as KindValue};
 ghost use Rattle.cmc_objects.specs.declared.role.Role.{Role as RoleValue};
 ghost use Rattle.cmc_setup.specs.Holding.{held_of};
-ghost use Rattle.cmc_setup.specs.Holds.{AreHeldInTurn, Held, is_informer, grip_of, held_after, may_grip, none_held};
+ghost use Rattle.cmc_setup.specs.Holds.{AreHeldInTurn, Held, is_kind_and_role, grip_of, held_after, may_grip, none_held};
 
 use crate::flags::RoleFlags;
 use cmc_meta::Kind;
@@ -40,7 +40,7 @@ impl Holding {
     }
 
     fn with(self, kind: Kind, role: Role, on: bool) -> Holding
-        ensures { (k : KindValue) → (r : RoleValue) → held_of result k r ≡ (if is_informer kind role k r then on else held_of self k r) }
+        ensures { (k : KindValue) → (r : RoleValue) → held_of result k r ≡ (if is_kind_and_role kind role k r then on else held_of self k r) }
     {
         match kind {
             Kind::Certificate => Holding {

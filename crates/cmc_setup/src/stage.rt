@@ -1,7 +1,7 @@
 // What runs, what is held and the moment, from one step of a script to the next.
 ghost use Rattle.std.specs.Prelude.{◌≡◌, ◌+ℤ◌, int_le, pos, MatchOption, true, false};
 ghost use Rattle.cmc_setup.specs.Setups.{last_moment};
-ghost use Rattle.cmc_setup.specs.Stages.{Stage as StageValue, IsStage, first_stage, is_in_turn, stage_after};
+ghost use Rattle.cmc_setup.specs.Stages.{Stage as StageValue, IsStage, first_stage, is_in_turn, stage_after_step};
 
 use crate::fitting::{LAST_MOMENT, seconds_in};
 use crate::flags::RoleFlags;
@@ -44,7 +44,7 @@ impl Stage {
     /// does not run, starts one that runs, holds an informer that is held or that the role has not,
     /// releases one that is not held, or its seconds end after 9900-01-01T00:00:00Z.
     pub fn after(self, step: &Step) -> Option<Stage>
-        ensures { (before : StageValue) → IsStage self before → MatchOption result (is_in_turn before step.now ≡ false) (λ next. (is_in_turn before step.now ≡ true) × IsStage next (stage_after before step.now)) }
+        ensures { (before : StageValue) → IsStage self before → MatchOption result (is_in_turn before step.now ≡ false) (λ next. (is_in_turn before step.now ≡ true) × IsStage next (stage_after_step before step.now)) }
     {
         let running = switched(self.running, step)?;
         let held = gripped(self.held, step)?;

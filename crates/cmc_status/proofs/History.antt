@@ -15,7 +15,7 @@ use Rattle.cmc_pass.specs.declared.pass.Act.TheVariants.{Nothing}
 use Rattle.cmc_rules.specs.Revising.{counts, revision, older_of, oldest_from, oldest_of, delete_call, delete_of, by_limit, revise_of, revise}
 use Rattle.cmc_rules.specs.Acts.{act, call_after}
 use Rattle.cmc_rules.specs.Sighting.{IsPartOf, OnSeen}
-use Rattle.cmc_rules.specs.Sound.{IsWithin, shown, IsSound}
+use Rattle.cmc_rules.specs.Sound.{IsWithin, views_shown, IsSound}
 use Rattle.cmc_rules.proofs.Lines.{by_test}
 
 -- ---- the search for the oldest request
@@ -112,7 +112,7 @@ within seen now = of_is seen now seen.certificate
 
 -- ---- the record
 
-told : (seen : Views) (now : ℤ) (desk : Desk) → act Revision seen now desk ≡ act Revision (shown Revision seen) now desk
+told : (seen : Views) (now : ℤ) (desk : Desk) → act Revision seen now desk ≡ act Revision (views_shown Revision seen) now desk
 unfolding act revise
 told seen now desk = refl
 

@@ -32,10 +32,10 @@ use Rattle.cmc_rules.specs.Rights.{other_conditions}
 use Rattle.cmc_rules.specs.Dates.{IsDatedOption, IsDatedStatus}
 use Rattle.cmc_rules.specs.Chains.{readiness_chain, readiness_reason}
 use Rattle.cmc_rules.specs.Triggering.{frame_of}
-use Rattle.cmc_rules.specs.Readying.{ready_condition, ready_status, begins_at, ends_at, renews_at, is_moment, says, is_settled, ready_call, ready_by, ready_of, readiness}
+use Rattle.cmc_rules.specs.Readying.{ready_condition, ready_status, begins_at, ends_at, renews_at, is_same_moment, says, is_settled, ready_call, ready_by, ready_of, readiness}
 use Rattle.cmc_rules.specs.Acts.{act, call_after}
 use Rattle.cmc_rules.specs.Sighting.{OnSeen}
-use Rattle.cmc_rules.specs.Sound.{IsWithin, IsExpiry, shown, IsSound}
+use Rattle.cmc_rules.specs.Sound.{IsWithin, IsExpiry, views_shown, IsSound}
 use Rattle.cmc_rules.proofs.Sights.{seen_certificate}
 use Rattle.cmc_rules.proofs.Conditions.{others-transitioned}
 use Rattle.cmc_rules.proofs.Dating.{dated_transitioned, dated_renewal}
@@ -181,7 +181,7 @@ same_settled : (t u : ℤ) (reason : Option Reason) (renew : Renew) (pair : Opti
     → is_settled (ready_condition t reason) renew pair status ≡ is_settled (ready_condition u reason) renew pair status
 unfolding is_settled
 same_settled t u reason renew pair status =
-    ap (λ (b : Bool). b && (is_moment status.not_before (begins_at pair) && (is_moment status.not_after (ends_at pair) && is_moment status.renewal (renews_at renew pair))))
+    ap (λ (b : Bool). b && (is_same_moment status.not_before (begins_at pair) && (is_same_moment status.not_after (ends_at pair) && is_same_moment status.renewal (renews_at renew pair))))
     (same_says (condition_at status.conditions Ready) t u reason)
 
 called : (condition : Condition) (renew : Renew) (pair : Option CertificateFields) (c : Certificate) → ready_call condition renew pair c ≡ Nothing → ⊥
@@ -209,7 +209,7 @@ stays (Some c) t u secret requests quiet later idle =
 
 -- ---- the record
 
-told : (seen : Views) (now : ℤ) (desk : Desk) → act Readiness seen now desk ≡ act Readiness (shown Readiness seen) now desk
+told : (seen : Views) (now : ℤ) (desk : Desk) → act Readiness seen now desk ≡ act Readiness (views_shown Readiness seen) now desk
 unfolding act readiness
 told seen now desk = refl
 

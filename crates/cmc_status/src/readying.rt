@@ -49,7 +49,7 @@ fn condition(alloc: Global, moment: i64, reason: Option<Reason>) -> Result<Condi
 }
 
 fn is_moment(left: Option<i64>, right: Option<i64>) -> bool
-    ensures { result ≡ spec.is_moment left right }
+    ensures { result ≡ spec.is_same_moment left right }
 {
     match (left, right) {
         (None, None) => true,
@@ -73,7 +73,7 @@ fn says(old: Option<&Condition>, new: &Condition) -> bool
 
 /// Whether the status has the times already.
 fn has_times(status: &CertStatus, times: Times) -> bool
-    ensures { result ≡ (spec.is_moment status.now.not_before times.not_before && (spec.is_moment status.now.not_after times.not_after && spec.is_moment status.now.renewal times.renewal)) }
+    ensures { result ≡ (spec.is_same_moment status.now.not_before times.not_before && (spec.is_same_moment status.now.not_after times.not_after && spec.is_same_moment status.now.renewal times.renewal)) }
 {
     is_moment(status.not_before, times.not_before)
         && (is_moment(status.not_after, times.not_after)
@@ -81,7 +81,7 @@ fn has_times(status: &CertStatus, times: Times) -> bool
 }
 
 fn is_settled(condition: &Condition, times: Times, status: &CertStatus) -> bool
-    ensures { result ≡ (spec.says (condition_at status.now.conditions kinds.Ready) condition.now && (spec.is_moment status.now.not_before times.not_before && (spec.is_moment status.now.not_after times.not_after && spec.is_moment status.now.renewal times.renewal))) }
+    ensures { result ≡ (spec.says (condition_at status.now.conditions kinds.Ready) condition.now && (spec.is_same_moment status.now.not_before times.not_before && (spec.is_same_moment status.now.not_after times.not_after && spec.is_same_moment status.now.renewal times.renewal))) }
 {
     says(status.conditions.get(ConditionKind::Ready), condition) && has_times(status, times)
 }

@@ -24,7 +24,7 @@ use Rattle.cmc_print.specs.Words.{condition_name, tri_name}
 use Rattle.cmc_codec.specs.Given.{needed_at}
 use Rattle.cmc_codec.proofs.Slots.{slots, bind, needed_is}
 use Rattle.cmc_codec.proofs.ValuesAgain.{needed_so}
-use Rattle.cmc_status_form.specs.ConditionForm.{filled, moment_at, tri_at, condition_kind_at, condition_in, condition_at, from_rank, conditions_from, conditions_at}
+use Rattle.cmc_status_form.specs.ConditionForm.{non_empty_list, moment_at, tri_at, condition_kind_at, condition_in, condition_read_at, from_rank, conditions_from, conditions_at}
 use Rattle.cmc_status_form.specs.Laws.{HasMoment, AreConditions}
 use Rattle.cmc_status_form.proofs.Places.{passed}
 use Rattle.cmc_status_form.proofs.Moments.{moment_again, moment_so}
@@ -58,8 +58,8 @@ condition_printed : (c : Condition) → condition_tree c ≡ object (slots (cond
 unfolding condition_tree
 condition_printed c = refl
 
-condition_again : (c : Condition) → HasMoment c → condition_at (condition_tree c) ≡ Ok c
-unfolding condition_at condition_in
+condition_again : (c : Condition) → HasMoment c → condition_read_at (condition_tree c) ≡ Ok c
+unfolding condition_read_at condition_in
 condition_again c is =
     let ps = condition_places c in
     rw (condition_printed c)
@@ -77,8 +77,8 @@ condition_in_so fs =
     (λ reason. next HasMoment (needed_at tri_at (codes "status") reason.1) _ (λ status. next HasMoment (needed_at condition_kind_at (codes "type") status.1) _
     (λ kind. next HasMoment (at_end kind.1) _ (λ end. so is))))))
 
-condition_so : (d : Data) → Always HasMoment (condition_at d)
-unfolding condition_at
+condition_so : (d : Data) → Always HasMoment (condition_read_at d)
+unfolding condition_read_at
 condition_so d = next HasMoment (fields_at d) condition_in condition_in_so
 
 pub condition_clear : (c : Condition) → floats_at (condition_tree c) ≡ Ok tt
@@ -143,16 +143,16 @@ conditions_again c cs are = rw (conditions_from_again 0 0 (c ∷ cs) (from_least
 from_rank_so : (least : ℕ) (c : Condition) → HasMoment c → Always (λ c. (least ≤ condition_rank c.kind) × HasMoment c) (from_rank least c)
 from_rank_so least c is = where_true _ (nat_le least (condition_rank c.kind)) (Ok c) [] (λ e. so (leb-true least (condition_rank c.kind) e, is))
 
-pub numbered_so : (n least : ℕ) (d : Data) → Always (λ c. (least ≤ condition_rank c.kind) × HasMoment c) (under (decimal n) (condition_at d >>= from_rank least))
-numbered_so n least d = below _ (decimal n) (condition_at d >>= from_rank least) (after HasMoment _ (condition_at d) (from_rank least) (condition_so d) (λ c is. from_rank_so least c is))
+pub numbered_so : (n least : ℕ) (d : Data) → Always (λ c. (least ≤ condition_rank c.kind) × HasMoment c) (under (decimal n) (condition_read_at d >>= from_rank least))
+numbered_so n least d = below _ (decimal n) (condition_read_at d >>= from_rank least) (after HasMoment _ (condition_read_at d) (from_rank least) (condition_so d) (λ c is. from_rank_so least c is))
 
 conditions_from_so : (n least : ℕ) (ds : Items) → Always (AreFrom least) (conditions_from n least ds)
 conditions_from_so n least no_items = so tt
 conditions_from_so n least (item d ds) =
-    after _ (AreFrom least) (under (decimal n) (condition_at d >>= from_rank least)) (λ c. conditions_from (n + 1) (condition_rank c.kind + 1) ds >>= (λ cs. Ok (c ∷ cs))) (numbered_so n least d)
+    after _ (AreFrom least) (under (decimal n) (condition_read_at d >>= from_rank least)) (λ c. conditions_from (n + 1) (condition_rank c.kind + 1) ds >>= (λ cs. Ok (c ∷ cs))) (numbered_so n least d)
     (λ c is. after (AreFrom (condition_rank c.kind + 1)) (AreFrom least) (conditions_from (n + 1) (condition_rank c.kind + 1) ds) (λ cs. Ok (c ∷ cs)) (conditions_from_so (n + 1) (condition_rank c.kind + 1) ds) (λ cs are. so (is.0, is.1, are)))
 
-pub filled_so : {A : Type 0} (P : List A → Type 0) (xs : List A) → P xs → Always P (filled xs)
+pub filled_so : {A : Type 0} (P : List A → Type 0) (xs : List A) → P xs → Always P (non_empty_list xs)
 filled_so P [] is = failed []
 filled_so P (x ∷ xs) is = so is
 
@@ -161,7 +161,7 @@ unfolding IsStrictlySortedBy
 are_none = record { order = tt; moments = tt }
 
 pub conditions_so : (d : Data) → Always AreConditions (conditions_at d)
-conditions_so (array ds) = after (AreFrom 0) AreConditions (conditions_from 0 0 ds) filled (conditions_from_so 0 0 ds) (λ cs are. filled_so AreConditions cs (record { order = in_order 0 cs are; moments = have_moments 0 cs are }))
+conditions_so (array ds) = after (AreFrom 0) AreConditions (conditions_from 0 0 ds) non_empty_list (conditions_from_so 0 0 ds) (λ cs are. filled_so AreConditions cs (record { order = in_order 0 cs are; moments = have_moments 0 cs are }))
 conditions_so null = failed []
 conditions_so (boolean b) = failed []
 conditions_so (number n) = failed []

@@ -11,7 +11,7 @@ use Rattle.cmc_meta.specs.ConditionLists.{condition_rank, renewed}
 use Rattle.cmc_meta.specs.declared.conditions.Condition.{Condition}
 use Rattle.cmc_cursor.specs.Reading.{Read, ◌>>=◌, under}
 use Rattle.cmc_cursor.specs.Readers.{with_front}
-use Rattle.cmc_status_form.specs.ConditionForm.{condition_at, from_rank, conditions_from}
+use Rattle.cmc_status_form.specs.ConditionForm.{condition_read_at, from_rank, conditions_from}
 use Rattle.cmc_status_form.proofs.ConditionsAgain.{numbered_so}
 
 -- each is of a kind before this place of the order
@@ -53,11 +53,11 @@ pub at_first : (vs : List Value) → AreReadSoFar [] 0 0 vs (conditions_from 0 0
 at_first vs = record { rest = nothing (conditions_from 0 0 (items_view vs)); below = tt }
 
 pub one_more : (front : List Condition) (c : Condition) (least n : ℕ) (vs : List Value) (v : Value) (all : Read (List Condition)) → n < length vs → v ≡ get_or vs n v
-    → under (decimal n) (condition_at (view v) >>= from_rank least) ≡ Ok c → AreReadSoFar front least n (drop n vs) all → AreReadSoFar (renewed front c) (condition_rank c.kind + 1) (n + 1) (drop (n + 1) vs) all
+    → under (decimal n) (condition_read_at (view v) >>= from_rank least) ≡ Ok c → AreReadSoFar front least n (drop n vs) all → AreReadSoFar (renewed front c) (condition_rank c.kind + 1) (n + 1) (drop (n + 1) vs) all
 one_more front c least n vs v all within is one before =
     let later = ((numbered_so n least (view v)).each c one).0 in
     let split : drop n vs ≡ v ∷ drop (n + 1) vs = at_place vs n v within is in
-    let opened : with_front front (under (decimal n) (condition_at (view v) >>= from_rank least) >>= (λ d. conditions_from (n + 1) (condition_rank d.kind + 1) (items_view (drop (n + 1) vs)) >>= (λ cs. Ok (d ∷ cs)))) ≡ all = rw split at before.rest in
+    let opened : with_front front (under (decimal n) (condition_read_at (view v) >>= from_rank least) >>= (λ d. conditions_from (n + 1) (condition_rank d.kind + 1) (items_view (drop (n + 1) vs)) >>= (λ cs. Ok (d ∷ cs)))) ≡ all = rw split at before.rest in
     let here : AreReadSoFar (front ++ c ∷ []) (condition_rank c.kind + 1) (n + 1) (drop (n + 1) vs) all = record {
       rest = pushed front c (conditions_from (n + 1) (condition_rank c.kind + 1) (items_view (drop (n + 1) vs))) ∙ (rw one at opened);
       below = below_later least front c later before.below;

@@ -4,7 +4,7 @@ use Rattle.std.specs.Prelude.{if◌then◌else◌}
 use Rattle.serde_json.specs.Data.{Data, no_members}
 use Rattle.cmc_cursor.specs.Reading.{Read, fields_of}
 use Rattle.cmc_cursor.specs.Readers.{floats_at, floats_in}
-use Rattle.cmc_codec.specs.Given.{member_or}
+use Rattle.cmc_codec.specs.Given.{next_member_or}
 use Rattle.cmc_codec.proofs.Slots.{slots, below, is_next, member_or_is, some_option, some_list}
 
 abbrev pub Places : Type 0
@@ -37,7 +37,7 @@ no_list tree (x ∷ xs) e = absurd (cc)
 -- ---- lists that are read where they are not empty
 
 pub some_list_next : {A : Type 0} (read : Data → Read (List A)) (tree : List A → Data) (n : List ℕ) (xs : List A) (back : Places)
-    → is_next n back ≡ true → ((y : A) (ys : List A) → xs ≡ y ∷ ys → read (tree (y ∷ ys)) ≡ Ok (y ∷ ys)) → member_or [] read n (fields_of (slots ((n, some_list tree xs) ∷ back))) ≡ Ok (xs, fields_of (slots back))
+    → is_next n back ≡ true → ((y : A) (ys : List A) → xs ≡ y ∷ ys → read (tree (y ∷ ys)) ≡ Ok (y ∷ ys)) → next_member_or [] read n (fields_of (slots ((n, some_list tree xs) ∷ back))) ≡ Ok (xs, fields_of (slots back))
 some_list_next read tree n [] back h again = member_or_is [] read n None back [] h refl
 some_list_next read tree n (x ∷ xs) back h again = member_or_is [] read n (Some (tree (x ∷ xs))) back (x ∷ xs) h (below n (read (tree (x ∷ xs))) (x ∷ xs) (again x xs refl))
 

@@ -16,7 +16,7 @@ use Rattle.cmc_cursor.proofs.Always.{Always, so, next, after, where_true}
 use Rattle.cmc_print.specs.Trees.{natural}
 use Rattle.cmc_print.specs.Puts.{base64_text}
 use Rattle.cmc_print.specs.Printed.{moment_tree, conditions_tree, put_moments, status_members, request_status_members}
-use Rattle.cmc_codec.specs.Given.{given_or, member_at, member_or}
+use Rattle.cmc_codec.specs.Given.{given_or, member_at, next_member_or}
 use Rattle.cmc_codec.proofs.Slots.{slots, start, bind, below, some_option, some_list, some_object, put_option_is, put_list_is, option_next}
 use Rattle.cmc_codec.proofs.ObjectsAgain.{bytes_again}
 use Rattle.cmc_codec.proofs.ValuesAgain.{member_or_so, member_so}
@@ -190,7 +190,7 @@ name_so d = next _ (text_at d) name_in (λ t. where_true _ (is_subdomain t) (Ok 
 issuance_so : (fs : List Field) → Always IsIssuance (issuance_in fs)
 unfolding issuance_in
 issuance_so fs =
-    after _ IsIssuance (member_or [] conditions_at (codes "conditions") fs) _ (member_or_so AreConditions [] conditions_at (codes "conditions") fs are_none conditions_so)
+    after _ IsIssuance (next_member_or [] conditions_at (codes "conditions") fs) _ (member_or_so AreConditions [] conditions_at (codes "conditions") fs are_none conditions_so)
     (λ conditions are. after _ IsIssuance (member_at small_count_at (codes "failedIssuanceAttempts") conditions.1) _ (member_so (λ n. n < 2 ^ 32) small_count_at (codes "failedIssuanceAttempts") conditions.1 small_so)
     (λ attempts fits. after _ IsIssuance (member_at moment_at (codes "lastFailureTime") attempts.1) _ (member_so IsPrintable moment_at (codes "lastFailureTime") attempts.1 moment_so)
     (λ failure dated. after _ IsIssuance (member_at name_at (codes "nextPrivateKeySecretName") failure.1) _ (member_so (λ name. is_subdomain name ≡ true) name_at (codes "nextPrivateKeySecretName") failure.1 name_so)
@@ -298,8 +298,8 @@ IsReadRequest s = IsBytes s.ca × IsBytes s.certificate → IsRequestStatus s
 request_in_so : (fs : List Field) → Always IsReadRequest (request_status_in fs)
 unfolding request_status_in
 request_in_so fs =
-    next IsReadRequest (member_or [] some_bytes_at (codes "ca") fs) _ (λ ca. next IsReadRequest (member_or [] some_bytes_at (codes "certificate") ca.1) _
-    (λ certificate. after _ IsReadRequest (member_or [] conditions_at (codes "conditions") certificate.1) _ (member_or_so AreConditions [] conditions_at (codes "conditions") certificate.1 are_none conditions_so)
+    next IsReadRequest (next_member_or [] some_bytes_at (codes "ca") fs) _ (λ ca. next IsReadRequest (next_member_or [] some_bytes_at (codes "certificate") ca.1) _
+    (λ certificate. after _ IsReadRequest (next_member_or [] conditions_at (codes "conditions") certificate.1) _ (member_or_so AreConditions [] conditions_at (codes "conditions") certificate.1 are_none conditions_so)
     (λ conditions are. after _ IsReadRequest (member_at moment_at (codes "failureTime") conditions.1) _ (member_so IsPrintable moment_at (codes "failureTime") conditions.1 moment_so)
     (λ failure dated. next IsReadRequest (at_end failure.1) _ (λ end. so (λ bytes. record { ca = bytes.0; certificate = bytes.1; conditions = are; failure = dated }))))))
 

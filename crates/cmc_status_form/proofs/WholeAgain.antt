@@ -19,14 +19,14 @@ use Rattle.cmc_print.specs.Puts.{put_list, base64_text, map_tree}
 use Rattle.cmc_codec.specs.Given.{needed_at}
 use Rattle.cmc_codec.specs.MetadataForm.{head_at}
 use Rattle.cmc_codec.specs.CertificateForm.{api_at, spec_at, api_request_spec_at}
-use Rattle.cmc_codec.specs.ObjectForm.{status_last, certificate_in, request_in, applied_at, object_at}
+use Rattle.cmc_codec.specs.ObjectForm.{status_last, applied_certificate_in, applied_request_in, applied_at, object_read_at}
 use Rattle.cmc_codec.specs.Laws.{HasBytes, bare_meta, bare}
 use Rattle.cmc_codec.specs.declared.certificate_in.Api.TheVariants.{V1}
 use Rattle.cmc_codec.specs.declared.object_in.Applied.{Applied}
 use Rattle.cmc_codec.specs.declared.metadata_in.Head.{Head}
 use Rattle.cmc_codec.proofs.Slots.{slots, start, bind, is_next, required_is, needed_is, some_object, put_is, put_object_is}
 use Rattle.cmc_codec.proofs.ObjectsAgain.{object_again}
-use Rattle.cmc_status_form.specs.WholeForm.{with_status, whole_object_at}
+use Rattle.cmc_status_form.specs.WholeForm.{with_status_read, whole_object_at}
 use Rattle.cmc_status_form.specs.Laws.{HasStatusForm, HasWholeForm, as_printed}
 use Rattle.cmc_status_form.proofs.Places.{Places}
 use Rattle.cmc_status_form.proofs.StatusesAgain.{cert_status_again, cert_status_clear, request_status_again, request_status_clear}
@@ -63,8 +63,8 @@ abbrev new_certificate : Head → CertSpec → Read Applied
 new_certificate h s = Ok (record { object = Cert (record { meta = h.meta; spec = s; status = no_cert_status }); version = h.version })
 
 certificate_parts : (meta spec : Data) (ms : Members) → floats_in ms ≡ Ok tt
-    → certificate_in (fields_of (slots (certificate_places meta spec (status_place ms)))) ≡ under (codes "metadata") (head_at meta) >>= (λ h. under (codes "spec") (spec_at V1 spec) >>= (λ s. new_certificate h s))
-unfolding certificate_in
+    → applied_certificate_in (fields_of (slots (certificate_places meta spec (status_place ms)))) ≡ under (codes "metadata") (head_at meta) >>= (λ h. under (codes "spec") (spec_at V1 spec) >>= (λ s. new_certificate h s))
+unfolding applied_certificate_in
 certificate_parts meta spec ms clear =
     let back = status_place ms in
     let ps = certificate_places meta spec back in
@@ -116,8 +116,8 @@ abbrev request_places : Data → Data → Places → Places
 request_places meta spec back = (codes "apiVersion", Some (string (codes "cert-manager.io/v1"))) ∷ (codes "kind", Some (string (codes "CertificateRequest"))) ∷ (codes "metadata", Some meta) ∷ (codes "spec", Some spec) ∷ back
 
 request_parts : (meta spec : Data) (ms : Members) → floats_in ms ≡ Ok tt
-    → request_in (fields_of (slots (request_places meta spec (status_place ms)))) ≡ under (codes "metadata") (head_at meta) >>= (λ h. under (codes "spec") (api_request_spec_at V1 spec) >>= (λ s. new_request h s))
-unfolding request_in
+    → applied_request_in (fields_of (slots (request_places meta spec (status_place ms)))) ≡ under (codes "metadata") (head_at meta) >>= (λ h. under (codes "spec") (api_request_spec_at V1 spec) >>= (λ s. new_request h s))
+unfolding applied_request_in
 request_parts meta spec ms clear =
     let back = status_place ms in
     let ps = request_places meta spec back in
@@ -182,10 +182,10 @@ has_bytes (Request r) bytes = bytes
 has_bytes (Secret s) bytes = bytes
 
 -- the object without its status is read of its print
-pub read_bare : (o : Object) → HasWholeForm o → object_at (object_tree o) ≡ Ok (bare o)
+pub read_bare : (o : Object) → HasWholeForm o → object_read_at (object_tree o) ≡ Ok (bare o)
 read_bare o is = ap (λ (r : Read Applied). r >>= (λ applied. Ok applied.object)) (bare_applied o) ∙ object_again is.value (bare o) is.is_read (has_bytes o is.bytes)
 
-status_given : (o : Object) → HasStatusForm o → with_status (get (codes "status") (object_tree o)) (bare o) ≡ Ok (as_printed o)
+status_given : (o : Object) → HasStatusForm o → with_status_read (get (codes "status") (object_tree o)) (bare o) ≡ Ok (as_printed o)
 status_given (Cert c) is = rw (certificate_has c, cert_status_again c.status is) refl
 status_given (Request r) is = rw (request_has r, request_status_again r.status is) refl
 status_given (Secret s) is = rw (secret_has s) refl

@@ -14,17 +14,17 @@ use Rattle.cmc_objects.specs.declared.object.Object.TheVariants.{Cert, Request, 
 use Rattle.cmc_cursor.specs.Reading.{Read, ◌>>=◌, Field, fields_at, optional_at, required_at, at_end}
 use Rattle.cmc_cursor.specs.Readers.{text_at, word_at, parts_at, passes, text_member}
 use Rattle.cmc_cursor.proofs.Always.{Always, so, failed, next, after, below, either, further}
-use Rattle.cmc_codec.specs.Given.{given_or, member_or, needed_at}
+use Rattle.cmc_codec.specs.Given.{given_or, next_member_or, needed_at}
 use Rattle.cmc_codec.specs.MetadataForm.{head_at}
 use Rattle.cmc_codec.specs.CertificateForm.{api_at, spec_at, api_request_spec_at}
-use Rattle.cmc_codec.specs.ObjectForm.{status_last, certificate_in, request_in, secret_in, any_version_at, stranger_in, object_in, applied_at, object_at}
+use Rattle.cmc_codec.specs.ObjectForm.{status_last, applied_certificate_in, applied_request_in, applied_secret_in, any_version_at, stranger_in, object_in, applied_at, object_read_at}
 use Rattle.cmc_codec.specs.Laws.{HasBytes, bare}
 use Rattle.cmc_codec.specs.declared.metadata_in.Head.{Head}
 use Rattle.cmc_codec.specs.declared.object_in.Applied.{Applied}
 use Rattle.cmc_codec.proofs.MetadataAgain.{IsMeta, head_so}
 use Rattle.cmc_codec.proofs.ValuesAgain.{needed_so}
 use Rattle.cmc_status_form.specs.StatusForm.{cert_status_at, request_status_at}
-use Rattle.cmc_status_form.specs.WholeForm.{cert_with, request_with, secret_with, with_status, whole_object_at}
+use Rattle.cmc_status_form.specs.WholeForm.{cert_with, request_with, secret_with, with_status_read, whole_object_at}
 use Rattle.cmc_status_form.specs.Laws.{HasStatusForm, HasStatusWidths, HasWholeForm, as_printed}
 use Rattle.cmc_status_form.proofs.StatusesAgain.{IsReadStatus, cert_status_so, no_status, IsReadRequest, request_status_so, no_request}
 
@@ -40,30 +40,30 @@ IsNew a = IsBare a.object
 abbrev HasNewMeta : Head → Type 0
 HasNewMeta h = IsMeta h.meta
 
-certificate_so : (fs : List Field) → Always IsNew (certificate_in fs)
-unfolding certificate_in
+certificate_so : (fs : List Field) → Always IsNew (applied_certificate_in fs)
+unfolding applied_certificate_in
 certificate_so fs =
     next IsNew (needed_at api_at (codes "apiVersion") fs) _ (λ api. next IsNew (required_at (codes "kind") api.1) _
     (λ kind. after _ IsNew (needed_at head_at (codes "metadata") kind.1) _ (needed_so HasNewMeta head_at (codes "metadata") kind.1 head_so)
     (λ head is. next IsNew (needed_at (spec_at api.0) (codes "spec") head.1) _
     (λ spec. next IsNew (status_last spec.1) _ (λ end. so (ap (λ (m : ObjectMeta). Cert (record { meta = m; spec = spec.0; status = no_cert_status })) is.new))))))
 
-request_so : (fs : List Field) → Always IsNew (request_in fs)
-unfolding request_in
+request_so : (fs : List Field) → Always IsNew (applied_request_in fs)
+unfolding applied_request_in
 request_so fs =
     next IsNew (needed_at api_at (codes "apiVersion") fs) _ (λ api. next IsNew (required_at (codes "kind") api.1) _
     (λ kind. after _ IsNew (needed_at head_at (codes "metadata") kind.1) _ (needed_so HasNewMeta head_at (codes "metadata") kind.1 head_so)
     (λ head is. next IsNew (needed_at (api_request_spec_at api.0) (codes "spec") head.1) _
     (λ spec. next IsNew (status_last spec.1) _ (λ end. so (ap (λ (m : ObjectMeta). Request (record { meta = m; spec = spec.0; status = no_request_status })) is.new))))))
 
-secret_so : (fs : List Field) → Always IsNew (secret_in fs)
-unfolding secret_in
+secret_so : (fs : List Field) → Always IsNew (applied_secret_in fs)
+unfolding applied_secret_in
 secret_so fs =
-    next IsNew (needed_at (word_at (codes "v1")) (codes "apiVersion") fs) _ (λ api. next IsNew (member_or [] parts_at (codes "data") api.1) _
+    next IsNew (needed_at (word_at (codes "v1")) (codes "apiVersion") fs) _ (λ api. next IsNew (next_member_or [] parts_at (codes "data") api.1) _
     (λ parts. next IsNew (required_at (codes "kind") parts.1) _
     (λ kind. after _ IsNew (needed_at head_at (codes "metadata") kind.1) _ (needed_so HasNewMeta head_at (codes "metadata") kind.1 head_so)
     (λ head is. next IsNew (optional_at (codes "status") head.1) _ (λ status. next IsNew (passes (codes "status") status.0) _
-    (λ dropped. next IsNew (member_or (codes "Opaque") text_at (codes "type") status.1) _
+    (λ dropped. next IsNew (next_member_or (codes "Opaque") text_at (codes "type") status.1) _
     (λ type. next IsNew (at_end type.1) _ (λ end. so (ap (λ (m : ObjectMeta). Secret (record { meta = m; kind_text = type.0; parts = parts.0 })) is.new)))))))))
 
 stranger_so : (fs : List Field) → Always IsNew (stranger_in fs)
@@ -75,15 +75,15 @@ stranger_so fs =
 object_so : (kind : Option (List ℕ)) (fs : List Field) → Always IsNew (object_in kind fs)
 object_so None fs = stranger_so fs
 object_so (Some kind) fs =
-    either IsNew (bytes_eq kind (codes "Certificate")) (certificate_in fs) (if bytes_eq kind (codes "CertificateRequest") then request_in fs else (if bytes_eq kind (codes "Secret") then secret_in fs else stranger_in fs)) (certificate_so fs)
-    (either IsNew (bytes_eq kind (codes "CertificateRequest")) (request_in fs) (if bytes_eq kind (codes "Secret") then secret_in fs else stranger_in fs) (request_so fs)
-    (either IsNew (bytes_eq kind (codes "Secret")) (secret_in fs) (stranger_in fs) (secret_so fs) (stranger_so fs)))
+    either IsNew (bytes_eq kind (codes "Certificate")) (applied_certificate_in fs) (if bytes_eq kind (codes "CertificateRequest") then applied_request_in fs else (if bytes_eq kind (codes "Secret") then applied_secret_in fs else stranger_in fs)) (certificate_so fs)
+    (either IsNew (bytes_eq kind (codes "CertificateRequest")) (applied_request_in fs) (if bytes_eq kind (codes "Secret") then applied_secret_in fs else stranger_in fs) (request_so fs)
+    (either IsNew (bytes_eq kind (codes "Secret")) (applied_secret_in fs) (stranger_in fs) (secret_so fs) (stranger_so fs)))
 
 applied_so : (d : Data) → Always IsNew (applied_at d)
 unfolding applied_at
 applied_so d = next IsNew (fields_at d) (object_in (text_member (codes "kind") d)) (λ fs. object_so (text_member (codes "kind") d) fs)
 
-bare_so : (d : Data) → Always IsBare (object_at d)
+bare_so : (d : Data) → Always IsBare (object_read_at d)
 bare_so d = after IsNew IsBare (applied_at d) (λ applied. Ok applied.object) (applied_so d) (λ a is. so is)
 
 -- ---- with their status
@@ -112,7 +112,7 @@ secret_is_with : (s : SecretObject) (given : Option Data) → IsBare (Secret s) 
 secret_is_with s None is = so (record { without = is; printed = is; status = λ w. tt })
 secret_is_with s (Some d) is = failed (codes "status" ∷ [])
 
-status_so : (first : Object) (given : Option Data) → IsBare first → Always (IsWith first) (with_status given first)
+status_so : (first : Object) (given : Option Data) → IsBare first → Always (IsWith first) (with_status_read given first)
 status_so (Cert c) given is = certificate_with c given is
 status_so (Request r) given is = request_is_with r given is
 status_so (Secret s) given is = secret_is_with s given is
@@ -120,7 +120,7 @@ status_so (Secret s) given is = secret_is_with s given is
 as_ok : Object → Read Object
 as_ok o = Ok o
 
-formed : (d : Data) (first o : Object) → object_at d ≡ Ok first → IsWith first o → HasBytes o → HasStatusWidths o → HasWholeForm o
+formed : (d : Data) (first o : Object) → object_read_at d ≡ Ok first → IsWith first o → HasBytes o → HasStatusWidths o → HasWholeForm o
 unfolding as_ok
 formed d first o read is bytes widths = record { value = d; is_read = read ∙ ap as_ok (sym is.without); bytes = bytes; status = is.status widths }
 
@@ -128,13 +128,13 @@ formed d first o read is bytes widths = record { value = d; is_read = read ∙ a
 abbrev IsFormed : Object → Type 0
 IsFormed o = HasBytes o → HasStatusWidths o → HasWholeForm o × (as_printed o ≡ o)
 
-then_formed : (d : Data) (r : Read Object) → object_at d ≡ r → Always IsBare r → Always IsFormed (r >>= with_status (get (codes "status") d))
-then_formed d (Ok first) read bare_is = further (IsWith first) IsFormed (with_status (get (codes "status") d) first) (λ o is bytes widths. (formed d first o read is bytes widths, is.printed)) (status_so first (get (codes "status") d) (bare_is.each first refl))
+then_formed : (d : Data) (r : Read Object) → object_read_at d ≡ r → Always IsBare r → Always IsFormed (r >>= with_status_read (get (codes "status") d))
+then_formed d (Ok first) read bare_is = further (IsWith first) IsFormed (with_status_read (get (codes "status") d) first) (λ o is bytes widths. (formed d first o read is bytes widths, is.printed)) (status_so first (get (codes "status") d) (bare_is.each first refl))
 then_formed d (Err path) read bare_is = failed path
 
 whole_so : (d : Data) → Always IsFormed (whole_object_at d)
 unfolding whole_object_at
-whole_so d = then_formed d (object_at d) refl (bare_so d)
+whole_so d = then_formed d (object_read_at d) refl (bare_so d)
 
 pub has_form : (d : Data) (o : Object) → whole_object_at d ≡ Ok o → HasBytes o → HasStatusWidths o → HasWholeForm o × (as_printed o ≡ o)
 has_form d o read = (whole_so d).each o read

@@ -17,9 +17,9 @@ use Rattle.cmc_codec.specs.Given.{needed_at}
 -- ---- values
 
 -- A list that may not be empty, since an empty one is not printed.
-abbrev pub filled : {A : Type 0} → List A → Read (List A)
-filled [] = Err []
-filled (x ∷ xs) = Ok (x ∷ xs)
+abbrev pub non_empty_list : {A : Type 0} → List A → Read (List A)
+non_empty_list [] = Err []
+non_empty_list (x ∷ xs) = Ok (x ∷ xs)
 
 -- A moment as RFC 3339 writes it in UTC, to the second.
 abbrev pub moment_at : Data → Read ℤ
@@ -56,15 +56,15 @@ condition_in fs = do
   end ← at_end kind.1
   Ok (record { kind = kind.0; status = status.0; reason = reason.0; message = message.0; since = since.0 })
 
-unfoldable pub condition_at : Data → Read Condition
-condition_at d = fields_at d >>= condition_in
+unfoldable pub condition_read_at : Data → Read Condition
+condition_read_at d = fields_at d >>= condition_in
 
 -- The condition, where its kind has at least this place in the order of kinds.
 abbrev pub from_rank : ℕ → Condition → Read Condition
 from_rank least c = if nat_le least (condition_rank c.kind) then Ok c else Err []
 
 abbrev pub ranked_at : ℕ → Data → Read Condition
-ranked_at least d = condition_at d >>= from_rank least
+ranked_at least d = condition_read_at d >>= from_rank least
 
 -- The conditions of a list whose first item stands at place n: in the order of their kinds from this place on, each kind at
 -- most once.
@@ -74,7 +74,7 @@ conditions_from n least (item d ds) = under (decimal n) (ranked_at least d) >>= 
 
 -- The same of a list that may not be empty.
 abbrev pub some_conditions_in : Items → Read (List Condition)
-some_conditions_in ds = conditions_from 0 0 ds >>= filled
+some_conditions_in ds = conditions_from 0 0 ds >>= non_empty_list
 
 abbrev pub conditions_at : Data → Read (List Condition)
 conditions_at (array ds) = some_conditions_in ds

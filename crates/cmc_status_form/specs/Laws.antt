@@ -12,7 +12,7 @@ use Rattle.cmc_objects.specs.declared.request.RequestStatus.{RequestStatus}
 use Rattle.cmc_objects.specs.declared.object.Object.{Object}
 use Rattle.cmc_objects.specs.declared.object.Object.TheVariants.{Cert, Request, Secret}
 use Rattle.cmc_print.specs.Printed.{object_tree}
-use Rattle.cmc_codec.specs.ObjectForm.{object_at}
+use Rattle.cmc_codec.specs.ObjectForm.{object_read_at}
 use Rattle.cmc_codec.specs.Laws.{HasBytes, bare_meta, bare}
 use Rattle.cmc_status_form.specs.WholeForm.{whole_object_at}
 
@@ -57,7 +57,7 @@ HasStatusForm (Secret s) = Unit {0}
 -- Without its status it is what reading gives of some value, its octets are bytes, and its status is of its form.
 pub record HasWholeForm (o : Object) : Type 0 where
   pub value : Data
-  pub is_read : object_at value ≡ Ok (bare o)
+  pub is_read : object_read_at value ≡ Ok (bare o)
   pub bytes : HasBytes o
   pub status : HasStatusForm o
 

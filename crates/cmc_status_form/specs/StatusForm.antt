@@ -6,25 +6,25 @@ use Rattle.cmc_objects.specs.declared.certificate.CertStatus.{CertStatus}
 use Rattle.cmc_objects.specs.declared.request.RequestStatus.{RequestStatus}
 use Rattle.cmc_cursor.specs.Reading.{Read, ◌>>=◌, Field, fields_at, at_end}
 use Rattle.cmc_cursor.specs.Readers.{name_at, small_count_at, count_at, bytes_at}
-use Rattle.cmc_codec.specs.Given.{member_at, member_or}
-use Rattle.cmc_status_form.specs.ConditionForm.{filled, moment_at, conditions_at}
+use Rattle.cmc_codec.specs.Given.{member_at, next_member_or}
+use Rattle.cmc_status_form.specs.ConditionForm.{non_empty_list, moment_at, conditions_at}
 use Rattle.cmc_status_form.specs.declared.status.Issuance.{Issuance}
 use Rattle.cmc_status_form.specs.declared.status.Standing.{Standing}
 
 -- The members of an object that may not be empty.
 abbrev pub some_fields_at : Data → Read (List Field)
-some_fields_at d = fields_at d >>= filled
+some_fields_at d = fields_at d >>= non_empty_list
 
 -- Bytes in standard base64 that may not be empty.
 abbrev pub some_bytes_at : Data → Read (List ℕ)
-some_bytes_at d = bytes_at d >>= filled
+some_bytes_at d = bytes_at d >>= non_empty_list
 
 -- ---- the status of a Certificate, in parts as its members come
 
 -- How issuance goes.
 unfoldable pub issuance_in : List Field → Read (Issuance × List Field)
 issuance_in fs = do
-  conditions ← member_or [] conditions_at (codes "conditions") fs
+  conditions ← next_member_or [] conditions_at (codes "conditions") fs
   attempts ← member_at small_count_at (codes "failedIssuanceAttempts") conditions.1
   last_failure ← member_at moment_at (codes "lastFailureTime") attempts.1
   next_key ← member_at name_at (codes "nextPrivateKeySecretName") last_failure.1
@@ -65,9 +65,9 @@ cert_status_at d = some_fields_at d >>= cert_status_in
 
 unfoldable pub request_status_in : List Field → Read RequestStatus
 request_status_in fs = do
-  ca ← member_or [] some_bytes_at (codes "ca") fs
-  certificate ← member_or [] some_bytes_at (codes "certificate") ca.1
-  conditions ← member_or [] conditions_at (codes "conditions") certificate.1
+  ca ← next_member_or [] some_bytes_at (codes "ca") fs
+  certificate ← next_member_or [] some_bytes_at (codes "certificate") ca.1
+  conditions ← next_member_or [] conditions_at (codes "conditions") certificate.1
   failure ← member_at moment_at (codes "failureTime") conditions.1
   end ← at_end failure.1
   Ok (record { conditions = conditions.0; certificate = certificate.0; ca = ca.0; failure = failure.0 })

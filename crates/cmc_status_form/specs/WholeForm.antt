@@ -11,7 +11,7 @@ use Rattle.cmc_objects.specs.declared.object.Object.{Object}
 use Rattle.cmc_objects.specs.declared.object.Object.TheVariants.{Cert, Request, Secret}
 use Rattle.cmc_cursor.specs.Reading.{Read, ◌>>=◌}
 use Rattle.cmc_codec.specs.Given.{given_or}
-use Rattle.cmc_codec.specs.ObjectForm.{object_at}
+use Rattle.cmc_codec.specs.ObjectForm.{object_read_at}
 use Rattle.cmc_status_form.specs.StatusForm.{cert_status_at, request_status_at}
 
 -- The Certificate with the status that the member holds, where one stands.
@@ -26,11 +26,11 @@ abbrev pub secret_with : SecretObject → Option Data → Read Object
 secret_with s None = Ok (Secret s)
 secret_with s (Some d) = Err (codes "status" ∷ [])
 
-abbrev pub with_status : Option Data → Object → Read Object
-with_status given (Cert c) = cert_with c given
-with_status given (Request r) = request_with r given
-with_status given (Secret s) = secret_with s given
+abbrev pub with_status_read : Option Data → Object → Read Object
+with_status_read given (Cert c) = cert_with c given
+with_status_read given (Request r) = request_with r given
+with_status_read given (Secret s) = secret_with s given
 
 -- The object that is read without its status, and then the status.
 unfoldable pub whole_object_at : Data → Read Object
-whole_object_at d = object_at d >>= with_status (get (codes "status") d)
+whole_object_at d = object_read_at d >>= with_status_read (get (codes "status") d)

@@ -115,9 +115,9 @@ fn read_condition(alloc: Global, rest: Fields<'_, '_>) -> Result<Condition, BadF
     })
 }
 
-#[tactic(auto, unfolding(crate::specs::ConditionForm::condition_at))]
+#[tactic(auto, unfolding(crate::specs::ConditionForm::condition_read_at))]
 fn condition(alloc: Global, value: &Value) -> Result<Condition, BadField>
-    ensures { Gives (λ t. t) result (forms.condition_at (view value.now)) }
+    ensures { Gives (λ t. t) result (forms.condition_read_at (view value.now)) }
 {
     let members = fields(alloc, value)?;
     read_condition(alloc, &members)

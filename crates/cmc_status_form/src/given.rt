@@ -4,7 +4,7 @@ ghost use Rattle.serde_json.specs.View.{view};
 ghost use Rattle.cmc_cursor.specs.Reading.{Gives};
 ghost use Rattle.cmc_cursor.specs.Readers.{count_at, name_at, small_count_at};
 ghost use Rattle.cmc_cursor.specs.Seen.{shown};
-ghost use Rattle.cmc_codec.specs.Given.{member_at, member_or};
+ghost use Rattle.cmc_codec.specs.Given.{member_at, next_member_or};
 ghost use Rattle.cmc_status_form.specs.ConditionForm.{conditions_at, moment_at};
 ghost use Rattle.cmc_status_form.specs.StatusForm.{some_bytes_at, some_fields_at};
 
@@ -56,7 +56,7 @@ pub fn given_conditions<'a, 'b>(
     alloc: Global,
     rest: Fields<'a, 'b>,
 ) -> Result<(Conditions, Fields<'a, 'b>), BadField>
-    ensures { Gives (λ p. (p.0, map shown p.1.now)) result (member_or [] conditions_at (codes "conditions") (map shown rest.now)) }
+    ensures { Gives (λ p. (p.0, map shown p.1.now)) result (next_member_or [] conditions_at (codes "conditions") (map shown rest.now)) }
 {
     match optional(alloc, rest, "conditions")? {
         (None, rest) => Ok((Conditions::new(alloc), rest)),
@@ -70,7 +70,7 @@ pub fn given_bytes<'a, 'b>(
     rest: Fields<'a, 'b>,
     name: &str,
 ) -> Result<(Bytes, Fields<'a, 'b>), BadField>
-    ensures { Gives (λ p. (p.0, map shown p.1.now)) result (member_or [] some_bytes_at name.now (map shown rest.now)) }
+    ensures { Gives (λ p. (p.0, map shown p.1.now)) result (next_member_or [] some_bytes_at name.now (map shown rest.now)) }
 {
     match optional(alloc, rest, name)? {
         (None, rest) => Ok((Bytes::new(alloc), rest)),

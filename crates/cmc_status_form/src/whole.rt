@@ -89,7 +89,7 @@ fn secret(alloc: Global, secret: &Shared<Secret>, given: Option<&Value>) -> Resu
 }
 
 fn with_status(alloc: Global, object: &Object, given: Option<&Value>) -> Result<Object, BadField>
-    ensures { Gives (λ t. t) result (forms.with_status (shown_option given.entry) object.now) }
+    ensures { Gives (λ t. t) result (forms.with_status_read (shown_option given.entry) object.now) }
 {
     match object {
         Object::Cert(found) => certificate(alloc, found, given),

@@ -18,7 +18,7 @@ use Rattle.cmc_objects.specs.Objects.{key_of, name_of}
 use Rattle.cmc_model.specs.Admission.{shares_secret, is_taken}
 use Rattle.cmc_model.specs.Objects.{Objects, no_objects, object_at, with_object, without_object}
 use Rattle.cmc_model.proofs.Maps.{is_one_key, get-insert-here, get-insert-other, get-remove-here, get-remove-other, none_passes, one_passes}
-use Rattle.cmc_store.specs.Claims.{Claims, no_claims, claim_at, claimed, released, secret_of, secret_in, claimant, is_of_another, IsIndex, IsStanding}
+use Rattle.cmc_store.specs.Claims.{Claims, no_claims, claim_at, claimed, released, secret_of, secret_named_in, claimant, is_of_another, IsIndex, IsUnderItsKey}
 
 abbrev some : Key → Option Key
 some key = Some key
@@ -67,7 +67,7 @@ not_shared : (c : Certificate) (o : Object) (b : Bool) → shares_secret c o ≡
 not_shared c o true e never = absurd (never e)
 not_shared c o false e never = e
 
-there : (x : Option Object) (secret : Key) → secret_in x ≡ some secret → (o : Object) × (x ≡ Some o) × (secret_of o ≡ some secret)
+there : (x : Option Object) (secret : Key) → secret_named_in x ≡ some secret → (o : Object) × (x ≡ Some o) × (secret_of o ≡ some secret)
 there None secret is = absurd (cc is)
 there (Some o) secret is = (o, refl, is)
 
@@ -152,7 +152,7 @@ claimed_keeps claims (Some taken) claimer secret other = get-insert-other claims
 -- ---- the index stays one
 
 -- who names a Secret that what stands under the key names stands under that key
-one_owner : (objects : Objects) (claims : Claims) (key q secret : Key) (o : Object) → IsIndex objects claims → object_at objects q ≡ Some o → secret_of o ≡ some secret → secret_in (object_at objects key) ≡ some secret → q ≡ key
+one_owner : (objects : Objects) (claims : Claims) (key q secret : Key) (o : Object) → IsIndex objects claims → object_at objects q ≡ Some o → secret_of o ≡ some secret → secret_named_in (object_at objects key) ≡ some secret → q ≡ key
 one_owner objects claims key q secret o index stands is also =
     let old = there (object_at objects key) secret also in
     let names : named (name_of o) ≡ named (name_of old.0) = sym (index.held q secret o stands is) ∙ index.held key secret old.0 old.1 old.2 in
@@ -161,13 +161,13 @@ one_owner objects claims key q secret o index stands is also =
 
 -- a Secret that is free for an object, and that what stands under its key does not name, has no claim
 unclaimed : (objects : Objects) (claims : Claims) (key secret : Key) (new : Object) (claim : Option (List ℕ)) → IsIndex objects claims → key_of new ≡ key → is_taken objects new ≡ false
-    → secret_of new ≡ some secret → secret_in (object_at objects key) ≢ some secret → claim_at claims secret ≡ claim → claim ≡ None
+    → secret_of new ≡ some secret → secret_named_in (object_at objects key) ≢ some secret → claim_at claims secret ≡ claim → claim ≡ None
 unclaimed objects claims key secret new None index keyed free is moves claims_it = refl
 unclaimed objects claims key secret new (Some n) index keyed free is moves claims_it =
     let off : not (bytes_eq n (name_of new)) ≡ false = ap (is_of_another (name_of new)) (sym claims_it) ∙ sym (taken_by_claim objects claims new secret index is) ∙ free in
     let name : n ≡ name_of new = (bytes_eq-Decides n (name_of new)).0 (not_false (bytes_eq n (name_of new)) off) in
     let there_key : claimant secret n ≡ key = ap (claimant secret) name ∙ sym (key_by_secret new secret is) ∙ keyed in
-    absurd (moves (subst (λ (k : Key). secret_in (object_at objects k) ≡ some secret) there_key (index.named secret n claims_it)))
+    absurd (moves (subst (λ (k : Key). secret_named_in (object_at objects k) ≡ some secret) there_key (index.named secret n claims_it)))
   where
     not_false : (b : Bool) → not b ≡ false → b ≡ true
     not_false true e = refl
@@ -181,7 +181,7 @@ index_empty = record {
 }
 
 -- an object that names the same Secret as what stood under its key
-pub index_kept : (objects : Objects) (claims : Claims) (key : Key) (new : Object) → IsIndex objects claims → key_of new ≡ key → secret_in (object_at objects key) ≡ secret_of new
+pub index_kept : (objects : Objects) (claims : Claims) (key : Key) (new : Object) → IsIndex objects claims → key_of new ≡ key → secret_named_in (object_at objects key) ≡ secret_of new
     → IsIndex (with_object objects key new) claims
 index_kept objects claims key new index keyed same = record {
   keyed = λ q o is. by_keyed q o (standing_after objects key q new o is);
@@ -194,11 +194,11 @@ index_kept objects claims key new index keyed same = record {
     by_keyed q o (inr there) = index.keyed q o there.1
 
     by_named : (secret : Key) (name : List ℕ) → claim_at claims secret ≡ named name → (claimant secret name ≡ key) ⊎ (claimant secret name ≢ key)
-        → secret_in (object_at (with_object objects key new) (claimant secret name)) ≡ some secret
+        → secret_named_in (object_at (with_object objects key new) (claimant secret name)) ≡ some secret
     by_named secret name is (inl here) =
-        let old : secret_in (object_at objects key) ≡ some secret = subst (λ (k : Key). secret_in (object_at objects k) ≡ some secret) here (index.named secret name is) in
-        ap secret_in (ap (object_at (with_object objects key new)) here ∙ get-insert-here objects key new) ∙ sym same ∙ old
-    by_named secret name is (inr other) = ap secret_in (get-insert-other objects key new (claimant secret name) other) ∙ index.named secret name is
+        let old : secret_named_in (object_at objects key) ≡ some secret = subst (λ (k : Key). secret_named_in (object_at objects k) ≡ some secret) here (index.named secret name is) in
+        ap secret_named_in (ap (object_at (with_object objects key new)) here ∙ get-insert-here objects key new) ∙ sym same ∙ old
+    by_named secret name is (inr other) = ap secret_named_in (get-insert-other objects key new (claimant secret name) other) ∙ index.named secret name is
 
     by_held : (q secret : Key) (o : Object) → secret_of o ≡ some secret → ((q ≡ key) × (new ≡ o)) ⊎ ((q ≢ key) × (object_at objects q ≡ Some o)) → claim_at claims secret ≡ named (name_of o)
     by_held q secret o names (inl here) =
@@ -209,10 +209,10 @@ index_kept objects claims key new index keyed same = record {
 
 -- an object that names another Secret, or none, or where none stood
 pub index_moved : (objects : Objects) (claims : Claims) (key : Key) (new : Object) (name : List ℕ) → IsIndex objects claims → key_of new ≡ key → name_of new ≡ name → is_taken objects new ≡ false
-    → secret_in (object_at objects key) ≢ secret_of new → IsIndex (with_object objects key new) (released (claimed claims (secret_of new) name) (secret_in (object_at objects key)))
+    → secret_named_in (object_at objects key) ≢ secret_of new → IsIndex (with_object objects key new) (released (claimed claims (secret_of new) name) (secret_named_in (object_at objects key)))
 index_moved objects claims key new name index keyed is_name free moves = record {
   keyed = λ q o is. by_keyed q o (standing_after objects key q new o is);
-  named = λ secret n is. by_released secret n (not_released (claimed claims (secret_of new) name) (secret_in (object_at objects key)) secret n is);
+  named = λ secret n is. by_released secret n (not_released (claimed claims (secret_of new) name) (secret_named_in (object_at objects key)) secret n is);
   held = λ q secret o is names. by_held q secret o names (standing_after objects key q new o is);
 }
   where
@@ -220,50 +220,50 @@ index_moved objects claims key new name index keyed is_name free moves = record 
     by_keyed q o (inl here) = subst (λ (x : Object). key_of x ≡ q) here.1 (keyed ∙ sym here.0)
     by_keyed q o (inr there) = index.keyed q o there.1
 
-    by_standing : (secret : Key) (n : List ℕ) → secret_in (object_at objects key) ≢ some secret → claim_at claims secret ≡ named n → (claimant secret n ≡ key) ⊎ (claimant secret n ≢ key)
-        → secret_in (object_at (with_object objects key new) (claimant secret n)) ≡ some secret
-    by_standing secret n off is (inl here) = absurd (off (subst (λ (k : Key). secret_in (object_at objects k) ≡ some secret) here (index.named secret n is)))
-    by_standing secret n off is (inr other) = ap secret_in (get-insert-other objects key new (claimant secret n) other) ∙ index.named secret n is
+    by_standing : (secret : Key) (n : List ℕ) → secret_named_in (object_at objects key) ≢ some secret → claim_at claims secret ≡ named n → (claimant secret n ≡ key) ⊎ (claimant secret n ≢ key)
+        → secret_named_in (object_at (with_object objects key new) (claimant secret n)) ≡ some secret
+    by_standing secret n off is (inl here) = absurd (off (subst (λ (k : Key). secret_named_in (object_at objects k) ≡ some secret) here (index.named secret n is)))
+    by_standing secret n off is (inr other) = ap secret_named_in (get-insert-other objects key new (claimant secret n) other) ∙ index.named secret n is
 
-    by_claimed : (secret : Key) (n : List ℕ) → secret_in (object_at objects key) ≢ some secret → ((secret_of new ≡ some secret) × (name ≡ n)) ⊎ (claim_at claims secret ≡ named n)
-        → secret_in (object_at (with_object objects key new) (claimant secret n)) ≡ some secret
+    by_claimed : (secret : Key) (n : List ℕ) → secret_named_in (object_at objects key) ≢ some secret → ((secret_of new ≡ some secret) × (name ≡ n)) ⊎ (claim_at claims secret ≡ named n)
+        → secret_named_in (object_at (with_object objects key new) (claimant secret n)) ≡ some secret
     by_claimed secret n off (inl here) =
         let at : claimant secret n ≡ key = ap (claimant secret) (sym here.1 ∙ sym is_name) ∙ sym (key_by_secret new secret here.0) ∙ keyed in
-        ap secret_in (ap (object_at (with_object objects key new)) at ∙ get-insert-here objects key new) ∙ here.0
+        ap secret_named_in (ap (object_at (with_object objects key new)) at ∙ get-insert-here objects key new) ∙ here.0
     by_claimed secret n off (inr is) = by_standing secret n off is (is_one_key (claimant secret n) key)
 
-    by_released : (secret : Key) (n : List ℕ) → (secret_in (object_at objects key) ≢ some secret) × (claim_at (claimed claims (secret_of new) name) secret ≡ named n)
-        → secret_in (object_at (with_object objects key new) (claimant secret n)) ≡ some secret
+    by_released : (secret : Key) (n : List ℕ) → (secret_named_in (object_at objects key) ≢ some secret) × (claim_at (claimed claims (secret_of new) name) secret ≡ named n)
+        → secret_named_in (object_at (with_object objects key new) (claimant secret n)) ≡ some secret
     by_released secret n is = by_claimed secret n is.0 (claimed_or claims (secret_of new) name secret n is.1)
 
     by_held : (q secret : Key) (o : Object) → secret_of o ≡ some secret → ((q ≡ key) × (new ≡ o)) ⊎ ((q ≢ key) × (object_at objects q ≡ Some o))
-        → claim_at (released (claimed claims (secret_of new) name) (secret_in (object_at objects key))) secret ≡ named (name_of o)
+        → claim_at (released (claimed claims (secret_of new) name) (secret_named_in (object_at objects key))) secret ≡ named (name_of o)
     by_held q secret o names (inl here) =
         let is : secret_of new ≡ some secret = ap secret_of here.1 ∙ names in
-        released_keeps (claimed claims (secret_of new) name) (secret_in (object_at objects key)) secret (λ old. moves (old ∙ sym is))
+        released_keeps (claimed claims (secret_of new) name) (secret_named_in (object_at objects key)) secret (λ old. moves (old ∙ sym is))
         ∙ claimed_here claims (secret_of new) name secret is ∙ ap named (sym is_name ∙ ap name_of here.1)
     by_held q secret o names (inr there) =
         let holds : claim_at claims secret ≡ named (name_of o) = index.held q secret o there.1 names in
-        let off : secret_in (object_at objects key) ≢ some secret = λ also. there.0 (one_owner objects claims key q secret o index there.1 names also) in
-        released_keeps (claimed claims (secret_of new) name) (secret_in (object_at objects key)) secret off
+        let off : secret_named_in (object_at objects key) ≢ some secret = λ also. there.0 (one_owner objects claims key q secret o index there.1 names also) in
+        released_keeps (claimed claims (secret_of new) name) (secret_named_in (object_at objects key)) secret off
         ∙ claimed_keeps claims (secret_of new) name secret
         (λ is. none-some (name_of o) (sym (unclaimed objects claims key secret new (claim_at claims secret) index keyed free is off refl) ∙ holds))
         ∙ holds
 
 -- a claim that was noted and taken back
 pub index_undone : (objects : Objects) (claims : Claims) (key : Key) (new : Object) (name : List ℕ) → IsIndex objects claims → key_of new ≡ key → is_taken objects new ≡ false
-    → secret_in (object_at objects key) ≢ secret_of new → IsIndex objects (released (claimed claims (secret_of new) name) (secret_of new))
+    → secret_named_in (object_at objects key) ≢ secret_of new → IsIndex objects (released (claimed claims (secret_of new) name) (secret_of new))
 index_undone objects claims key new name index keyed free moves = record {
   keyed = λ q o is. index.keyed q o is;
   named = λ secret n is. by_released secret n (not_released (claimed claims (secret_of new) name) (secret_of new) secret n is);
   held = λ q secret o is names. by_held secret o (index.held q secret o is names);
 }
   where
-    by_claimed : (secret : Key) (n : List ℕ) → secret_of new ≢ some secret → ((secret_of new ≡ some secret) × (name ≡ n)) ⊎ (claim_at claims secret ≡ named n) → secret_in (object_at objects (claimant secret n)) ≡ some secret
+    by_claimed : (secret : Key) (n : List ℕ) → secret_of new ≢ some secret → ((secret_of new ≡ some secret) × (name ≡ n)) ⊎ (claim_at claims secret ≡ named n) → secret_named_in (object_at objects (claimant secret n)) ≡ some secret
     by_claimed secret n off (inl here) = absurd (off here.0)
     by_claimed secret n off (inr is) = index.named secret n is
 
-    by_released : (secret : Key) (n : List ℕ) → (secret_of new ≢ some secret) × (claim_at (claimed claims (secret_of new) name) secret ≡ named n) → secret_in (object_at objects (claimant secret n)) ≡ some secret
+    by_released : (secret : Key) (n : List ℕ) → (secret_of new ≢ some secret) × (claim_at (claimed claims (secret_of new) name) secret ≡ named n) → secret_named_in (object_at objects (claimant secret n)) ≡ some secret
     by_released secret n is = by_claimed secret n is.0 (claimed_or claims (secret_of new) name secret n is.1)
 
     by_held : (secret : Key) (o : Object) → claim_at claims secret ≡ named (name_of o) → claim_at (released (claimed claims (secret_of new) name) (secret_of new)) secret ≡ named (name_of o)
@@ -272,24 +272,24 @@ index_undone objects claims key new name index keyed free moves = record {
         released_keeps (claimed claims (secret_of new) name) (secret_of new) secret off ∙ claimed_keeps claims (secret_of new) name secret off ∙ holds
 
 -- an object that is taken away
-pub index_removed : (objects : Objects) (claims : Claims) (key : Key) → IsIndex objects claims → IsIndex (without_object objects key) (released claims (secret_in (object_at objects key)))
+pub index_removed : (objects : Objects) (claims : Claims) (key : Key) → IsIndex objects claims → IsIndex (without_object objects key) (released claims (secret_named_in (object_at objects key)))
 index_removed objects claims key index = record {
   keyed = λ q o is. index.keyed q o (standing_without objects key q o is).1;
-  named = λ secret n is. by_released secret n (not_released claims (secret_in (object_at objects key)) secret n is);
+  named = λ secret n is. by_released secret n (not_released claims (secret_named_in (object_at objects key)) secret n is);
   held = λ q secret o is names. by_held q secret o names (standing_without objects key q o is);
 }
   where
-    by_standing : (secret : Key) (n : List ℕ) → secret_in (object_at objects key) ≢ some secret → claim_at claims secret ≡ named n → (claimant secret n ≡ key) ⊎ (claimant secret n ≢ key)
-        → secret_in (object_at (without_object objects key) (claimant secret n)) ≡ some secret
-    by_standing secret n off is (inl here) = absurd (off (subst (λ (k : Key). secret_in (object_at objects k) ≡ some secret) here (index.named secret n is)))
-    by_standing secret n off is (inr other) = ap secret_in (get-remove-other objects key (claimant secret n) other) ∙ index.named secret n is
+    by_standing : (secret : Key) (n : List ℕ) → secret_named_in (object_at objects key) ≢ some secret → claim_at claims secret ≡ named n → (claimant secret n ≡ key) ⊎ (claimant secret n ≢ key)
+        → secret_named_in (object_at (without_object objects key) (claimant secret n)) ≡ some secret
+    by_standing secret n off is (inl here) = absurd (off (subst (λ (k : Key). secret_named_in (object_at objects k) ≡ some secret) here (index.named secret n is)))
+    by_standing secret n off is (inr other) = ap secret_named_in (get-remove-other objects key (claimant secret n) other) ∙ index.named secret n is
 
-    by_released : (secret : Key) (n : List ℕ) → (secret_in (object_at objects key) ≢ some secret) × (claim_at claims secret ≡ named n) → secret_in (object_at (without_object objects key) (claimant secret n)) ≡ some secret
+    by_released : (secret : Key) (n : List ℕ) → (secret_named_in (object_at objects key) ≢ some secret) × (claim_at claims secret ≡ named n) → secret_named_in (object_at (without_object objects key) (claimant secret n)) ≡ some secret
     by_released secret n is = by_standing secret n is.0 is.1 (is_one_key (claimant secret n) key)
 
-    by_held : (q secret : Key) (o : Object) → secret_of o ≡ some secret → (q ≢ key) × (object_at objects q ≡ Some o) → claim_at (released claims (secret_in (object_at objects key))) secret ≡ named (name_of o)
+    by_held : (q secret : Key) (o : Object) → secret_of o ≡ some secret → (q ≢ key) × (object_at objects q ≡ Some o) → claim_at (released claims (secret_named_in (object_at objects key))) secret ≡ named (name_of o)
     by_held q secret o names there =
-        released_keeps claims (secret_in (object_at objects key)) secret (λ also. there.0 (one_owner objects claims key q secret o index there.1 names also))
+        released_keeps claims (secret_named_in (object_at objects key)) secret (λ also. there.0 (one_owner objects claims key q secret o index there.1 names also))
         ∙ index.held q secret o there.1 names
 
 -- ---- what stands
@@ -302,34 +302,34 @@ standing_free objects claims key o None index stands is = not_taken objects o is
 standing_free objects claims key o (Some secret) index stands is =
     taken_by_claim objects claims o secret index is ∙ ap (is_of_another (name_of o)) (index.held key secret o stands is) ∙ not_another (name_of o)
 
-pub standing : (objects : Objects) (claims : Claims) (key : Key) (found : Option Object) → IsIndex objects claims → found ≡ object_at objects key → IsStanding objects key found
+pub standing : (objects : Objects) (claims : Claims) (key : Key) (found : Option Object) → IsIndex objects claims → found ≡ object_at objects key → IsUnderItsKey objects key found
 standing objects claims key None index is = tt
 standing objects claims key (Some o) index is = (index.keyed key o (sym is), standing_free objects claims key o (secret_of o) index (sym is) refl)
 
 -- ---- the same, with what each step gave
 
-pub kept_as : (objects after : Objects) (claims : Claims) (key : Key) (new : Object) (old fresh : Option Key) → IsIndex objects claims → key_of new ≡ key → old ≡ secret_in (object_at objects key) → fresh ≡ secret_of new
+pub kept_as : (objects after : Objects) (claims : Claims) (key : Key) (new : Object) (old fresh : Option Key) → IsIndex objects claims → key_of new ≡ key → old ≡ secret_named_in (object_at objects key) → fresh ≡ secret_of new
     → old ≡ fresh → after ≡ with_object objects key new → IsIndex after claims
 kept_as objects after claims key new old fresh index keyed was is same left =
     subst (λ (m : Objects). IsIndex m claims) (sym left) (index_kept objects claims key new index keyed (sym was ∙ same ∙ is))
 
 pub moved_as : (objects after : Objects) (claims noted left : Claims) (key : Key) (new : Object) (old claim : Option Key) (name : List ℕ) → IsIndex objects claims → key_of new ≡ key → is_taken objects new ≡ false
-    → old ≡ secret_in (object_at objects key) → old ≢ secret_of new → after ≡ with_object objects key new → claim ≡ secret_of new → name ≡ key.name → noted ≡ claimed claims claim name → left ≡ released noted old → IsIndex after left
+    → old ≡ secret_named_in (object_at objects key) → old ≢ secret_of new → after ≡ with_object objects key new → claim ≡ secret_of new → name ≡ key.name → noted ≡ claimed claims claim name → left ≡ released noted old → IsIndex after left
 moved_as objects after claims noted left key new old claim name index keyed free was moves stored claims_it is_name note leaves =
     let moved = index_moved objects claims key new name index keyed (ap (λ (k : Key). k.name) keyed ∙ sym is_name) free (λ same. moves (was ∙ same)) in
-    let last : left ≡ released (claimed claims (secret_of new) name) (secret_in (object_at objects key)) =
+    let last : left ≡ released (claimed claims (secret_of new) name) (secret_named_in (object_at objects key)) =
     leaves ∙ ap (λ (m : Claims). released m old) (note ∙ ap (λ (k : Option Key). claimed claims k name) claims_it) ∙ ap (released (claimed claims (secret_of new) name)) was in
     subst (λ (m : Objects). IsIndex m left) (sym stored) (subst (IsIndex (with_object objects key new)) (sym last) moved)
 
 pub undone_as : (objects after : Objects) (claims noted left : Claims) (key : Key) (new : Object) (old claim fresh : Option Key) (name : List ℕ) → IsIndex objects claims → key_of new ≡ key → is_taken objects new ≡ false
-    → old ≡ secret_in (object_at objects key) → old ≢ secret_of new → after ≡ objects → claim ≡ secret_of new → fresh ≡ secret_of new → noted ≡ claimed claims claim name → left ≡ released noted fresh → IsIndex after left
+    → old ≡ secret_named_in (object_at objects key) → old ≢ secret_of new → after ≡ objects → claim ≡ secret_of new → fresh ≡ secret_of new → noted ≡ claimed claims claim name → left ≡ released noted fresh → IsIndex after left
 undone_as objects after claims noted left key new old claim fresh name index keyed free was moves stored claims_it is note leaves =
     let undone = index_undone objects claims key new name index keyed free (λ same. moves (was ∙ same)) in
     let last : left ≡ released (claimed claims (secret_of new) name) (secret_of new) =
     leaves ∙ ap (λ (m : Claims). released m fresh) (note ∙ ap (λ (k : Option Key). claimed claims k name) claims_it) ∙ ap (released (claimed claims (secret_of new) name)) is in
     subst (λ (m : Objects). IsIndex m left) (sym stored) (subst (IsIndex objects) (sym last) undone)
 
-pub removed_as : (objects after : Objects) (claims left : Claims) (key : Key) (old : Option Key) → IsIndex objects claims → old ≡ secret_in (object_at objects key) → after ≡ without_object objects key → left ≡ released claims old → IsIndex after left
+pub removed_as : (objects after : Objects) (claims left : Claims) (key : Key) (old : Option Key) → IsIndex objects claims → old ≡ secret_named_in (object_at objects key) → after ≡ without_object objects key → left ≡ released claims old → IsIndex after left
 removed_as objects after claims left key old index was stored leaves =
     subst (λ (m : Objects). IsIndex m left) (sym stored) (subst (IsIndex (without_object objects key)) (sym (leaves ∙ ap (released claims) was)) (index_removed objects claims key index))
 

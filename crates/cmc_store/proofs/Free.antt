@@ -13,7 +13,7 @@ use Rattle.cmc_model.specs.Generated.{free_from, free_named}
 use Rattle.cmc_model.specs.Replies.{IsServed, IsCreatedIn, is_accepted, key_of_call, settled, stored, under_reply}
 use Rattle.cmc_model.proofs.Settling.{made_as}
 use Rattle.cmc_store.specs.declared.calls.Replied.{Replied}
-use Rattle.cmc_store.specs.Answers.{IsAnswer}
+use Rattle.cmc_store.specs.Answers.{IsPutOrRefused}
 
 pub free_more : (room left : ℕ) (taken : ℕ → Bool) (n : ℕ) → room ≡ left + 1 → taken n ≡ true → free_from room taken n ≡ free_from left taken (n + 1)
 free_more zero left taken n is on = absurd (omega (arith, is))
@@ -23,10 +23,10 @@ free_more (suc room) left taken n is on =
 
 by_name : (n : ℕ) (now : ℤ) (objects new : Objects) (object : Object) (generate : Bool) (answer : Replied) (b : Bool) → is_accepted answer.reply ≡ b
     → IsServed n objects (Create object generate) answer.reply
-    → IsAnswer (key_of (if generate then free_named (n + 1) objects object else object)) (Some (created (n + 1) now (if generate then free_named (n + 1) objects object else object))) objects new answer
-    → IsAnswer (key_of (if generate then under_reply object answer.reply else object)) (Some (created (n + 1) now (if generate then under_reply object answer.reply else object))) objects new answer
+    → IsPutOrRefused (key_of (if generate then free_named (n + 1) objects object else object)) (Some (created (n + 1) now (if generate then free_named (n + 1) objects object else object))) objects new answer
+    → IsPutOrRefused (key_of (if generate then under_reply object answer.reply else object)) (Some (created (n + 1) now (if generate then under_reply object answer.reply else object))) objects new answer
 by_name n now objects new object generate answer true e right told =
-    subst (λ (o : Object). IsAnswer (key_of o) (Some (created (n + 1) now o)) objects new answer) (sym (made_as n objects object generate answer.reply right e)) told
+    subst (λ (o : Object). IsPutOrRefused (key_of o) (Some (created (n + 1) now o)) objects new answer) (sym (made_as n objects object generate answer.reply right e)) told
 by_name n now objects new object generate answer false e right told =
     record { after = told.after ∙ rw e refl; key_told = told.key_told ∙ rw e refl; object_told = told.object_told ∙ rw e refl }
 
@@ -34,13 +34,13 @@ by_name n now objects new object generate answer false e right told =
 pub answered_by_name : (n : ℕ) (now : ℤ) (objects new : Objects) (object made : Object) (generate : Bool) (result : Result Replied AllocError)
     → generate ≡ true → made ≡ free_named (n + 1) objects object
     → IfOk result (λ r. IsCreatedIn n objects made r.reply)
-    → IfOk result (λ r. IsAnswer (key_of made) (Some (created (n + 1) now made)) objects new r)
-    → IfOk result (λ r. IsAnswer (key_of_call (settled (Create object generate) r.reply)) (stored (n + 1) now objects (settled (Create object generate) r.reply)) objects new r)
+    → IfOk result (λ r. IsPutOrRefused (key_of made) (Some (created (n + 1) now made)) objects new r)
+    → IfOk result (λ r. IsPutOrRefused (key_of_call (settled (Create object generate) r.reply)) (stored (n + 1) now objects (settled (Create object generate) r.reply)) objects new r)
 unfolding settled
 answered_by_name n now objects new object made generate (results.Ok r) on is right told =
     let served : IsServed n objects (Create object true) r.reply = subst (λ (o : Object). IsCreatedIn n objects o r.reply) is right in
-    let there : IsAnswer (key_of (free_named (n + 1) objects object)) (Some (created (n + 1) now (free_named (n + 1) objects object))) objects new r =
-    subst (λ (o : Object). IsAnswer (key_of o) (Some (created (n + 1) now o)) objects new r) is told in
-    subst (λ (g : Bool). IsAnswer (key_of_call (settled (Create object g) r.reply)) (stored (n + 1) now objects (settled (Create object g) r.reply)) objects new r) (sym on)
+    let there : IsPutOrRefused (key_of (free_named (n + 1) objects object)) (Some (created (n + 1) now (free_named (n + 1) objects object))) objects new r =
+    subst (λ (o : Object). IsPutOrRefused (key_of o) (Some (created (n + 1) now o)) objects new r) is told in
+    subst (λ (g : Bool). IsPutOrRefused (key_of_call (settled (Create object g) r.reply)) (stored (n + 1) now objects (settled (Create object g) r.reply)) objects new r) (sym on)
     (by_name n now objects new object true r (is_accepted r.reply) refl served there)
 answered_by_name n now objects new object made generate (results.Err e) on is right told = tt

@@ -17,7 +17,7 @@ use Rattle.cmc_model.proofs.Accepting.{accepted_found}
 use Rattle.cmc_meta.proofs.KeyOrder.{key_cmp-IsAntisymmetric}
 use Rattle.cmc_model.proofs.Verdicts.{IsHeirOf, IsOne, IsSteady, keeps_self, steady_call}
 use Rattle.cmc_model.proofs.Versions.{object_at-put}
-use Rattle.cmc_store.specs.Permanence.{AreFinal, HaveOneVerdict, KeepVerdicts}
+use Rattle.cmc_store.specs.Permanence.{KeepFinalVerdicts, HaveOneVerdict, KeepVerdicts}
 
 one_as : (o p : Object) (x : Option Object) → x ≡ Some o → x ≡ Some p → o ≡ p
 one_as o p x a b = let some : Some o ≡ Some p = sym a ∙ b in cc some
@@ -26,7 +26,7 @@ pub none_has : HaveOneVerdict no_objects
 none_has key o is = absurd (let none : object_at no_objects key ≡ None = get-empty key_cmp key in cc (none, is))
 
 -- objects that stay
-pub untouched : (m : Objects) → HaveOneVerdict m → AreFinal m m
+pub untouched : (m : Objects) → HaveOneVerdict m → KeepFinalVerdicts m m
 untouched m one = record { one = one; kept = λ key older newer a b. subst (KeepsVerdicts older) (one_as older newer (object_at m key) a b) (keeps_self older) }
 
 -- ---- one write
@@ -69,16 +69,16 @@ put_keeps m k new steady q older newer was is = by_test (eq_by_cmp key_cmp q k) 
     by_test true e at = written_keeps (object_at m k) new older newer steady (ap (object_at m) (sym (same_key q k e)) ∙ was) at
     by_test false e at = subst (KeepsVerdicts older) (one_as older newer (object_at m q) was at) (keeps_self older)
 
-put_final : (m : Objects) (k : Key) (new : Option Object) → HaveOneVerdict m → IsSteady (object_at m k) new → AreFinal m (put_at m k new)
+put_final : (m : Objects) (k : Key) (new : Option Object) → HaveOneVerdict m → IsSteady (object_at m k) new → KeepFinalVerdicts m (put_at m k new)
 put_final m k new one steady = record { one = put_one m k new one steady; kept = put_keeps m k new steady }
 
 -- ---- one call
 
-pub called_final : (faults : List ℕ) (now : ℤ) (st : State) (call : Call) (reply : Reply) → IsReply faults st call reply → HaveOneVerdict st.objects → AreFinal st.objects (state_after now st call reply).objects
+pub called_final : (faults : List ℕ) (now : ℤ) (st : State) (call : Call) (reply : Reply) → IsReply faults st call reply → HaveOneVerdict st.objects → KeepFinalVerdicts st.objects (state_after now st call reply).objects
 called_final faults now st call reply right one = by_reply (is_accepted reply) refl
   where
     by_reply : (b : Bool) → is_accepted reply ≡ b
-        → AreFinal st.objects (if b then put_at st.objects (key_of_call (settled call reply)) (stored (st.accepted + 1) now st.objects (settled call reply)) else st.objects)
+        → KeepFinalVerdicts st.objects (if b then put_at st.objects (key_of_call (settled call reply)) (stored (st.accepted + 1) now st.objects (settled call reply)) else st.objects)
     by_reply false e = untouched st.objects one
     by_reply true e =
         let key = key_of_call (settled call reply) in
@@ -88,5 +88,5 @@ called_final faults now st call reply right one = by_reply (is_accepted reply) r
 -- what an accepted call put, or what stood, keeps the verdicts
 pub final_of : (faults : List ℕ) (now : ℤ) (st : State) (call : Call) (reply : Reply) (new : Objects) → IsReply faults st call reply → HaveOneVerdict st.objects
     → new ≡ (if is_accepted reply then put_at st.objects (key_of_call (settled call reply)) (stored (st.accepted + 1) now st.objects (settled call reply)) else st.objects)
-    → AreFinal st.objects new
-final_of faults now st call reply new right one is = subst (AreFinal st.objects) (sym is) (called_final faults now st call reply right one)
+    → KeepFinalVerdicts st.objects new
+final_of faults now st call reply new right one is = subst (KeepFinalVerdicts st.objects) (sym is) (called_final faults now st call reply right one)

@@ -13,7 +13,7 @@ use Rattle.cmc_model.specs.Stored.{updated, with_status}
 use Rattle.cmc_model.specs.Admission.{refusing_rule}
 use Rattle.cmc_meta.specs.declared.key.Key.{Key}
 use Rattle.cmc_model.specs.Objects.{Objects}
-use Rattle.cmc_store.specs.Answers.{IsAnswer, refusal_of}
+use Rattle.cmc_store.specs.Answers.{IsPutOrRefused, refusal_of}
 use Rattle.std.specs.List.{list_any}
 use Rattle.cmc_objects.specs.declared.call.Call.{Call}
 use Rattle.cmc_model.specs.Replies.{State, IsCreated, IsUpdated, IsRestated, IsServed, IsReply}
@@ -25,11 +25,11 @@ not_refused None is = refl
 not_refused (Some n) is = absurd (cc is)
 
 -- a call that a rule refuses leaves all as it was, and tells of no write
-pub refused_answer : (key : Key) (object : Option Object) (objects : Objects) (rule : Option ℕ) (answer : Replied) → Some answer ≡ refusal_of rule → IsAnswer key object objects objects answer
+pub refused_answer : (key : Key) (object : Option Object) (objects : Objects) (rule : Option ℕ) (answer : Replied) → Some answer ≡ refusal_of rule → IsPutOrRefused key object objects objects answer
 refused_answer key object objects None answer is = absurd (cc is)
 refused_answer key object objects (Some n) answer is =
     let told : answer ≡ record { reply = Invalid n; key = None; object = None } = cc is in
-    subst (IsAnswer key object objects objects) (sym told) (record { after = refl; key_told = refl; object_told = refl })
+    subst (IsPutOrRefused key object objects objects) (sym told) (record { after = refl; key_told = refl; object_told = refl })
 
 -- a create under a key where nothing stands is accepted
 pub created_reply : (accepted : ℕ) (taken : Bool) (object : Object) (stands : Option Object) (name : List ℕ) → stands ≡ None

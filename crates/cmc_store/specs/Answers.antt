@@ -8,7 +8,7 @@ use Rattle.cmc_model.specs.Replies.{is_accepted, put_at}
 use Rattle.cmc_store.specs.declared.calls.Replied.{Replied}
 
 -- an accepted call put this under the key and says so; any other left all as it was
-pub record IsAnswer (key : Key) (object : Option Object) (old new : Objects) (answer : Replied) : Type 0 where
+pub record IsPutOrRefused (key : Key) (object : Option Object) (old new : Objects) (answer : Replied) : Type 0 where
   pub after : new ≡ (if is_accepted answer.reply then put_at old key object else old)
   pub key_told : answer.key ≡ (if is_accepted answer.reply then Some key else None)
   pub object_told : answer.object ≡ (if is_accepted answer.reply then object else None)

@@ -37,9 +37,9 @@ secret_of (Cert c) = Some (record { kind = kinds.Secret; namespace = c.meta.name
 secret_of (Request r) = None
 secret_of (Secret s) = None
 
-abbrev pub secret_in : Option Object → Option Key
-secret_in None = None
-secret_in (Some o) = secret_of o
+abbrev pub secret_named_in : Option Object → Option Key
+secret_named_in None = None
+secret_named_in (Some o) = secret_of o
 
 -- the key of the Certificate of this name that may have the Secret
 abbrev pub claimant : Key → List ℕ → Key
@@ -53,10 +53,10 @@ is_of_another name (Some other) = not (bytes_eq other name)
 -- objects stand under their own keys, and the claims are exactly what their Certificates name: so no two name one Secret
 pub record IsIndex (objects : Objects) (claims : Claims) : Type 0 where
   pub keyed : (key : Key) (o : Object) → object_at objects key ≡ Some o → key_of o ≡ key
-  pub named : (secret : Key) (name : List ℕ) → claim_at claims secret ≡ Some name → secret_in (object_at objects (claimant secret name)) ≡ Some secret
+  pub named : (secret : Key) (name : List ℕ) → claim_at claims secret ≡ Some name → secret_named_in (object_at objects (claimant secret name)) ≡ Some secret
   pub held : (key secret : Key) (o : Object) → object_at objects key ≡ Some o → secret_of o ≡ Some secret → claim_at claims secret ≡ Some (name_of o)
 
 -- what stands under the key has that key, and no other Certificate has the Secret that it names
-abbrev pub IsStanding : Objects → Key → Option Object → Type 0
-IsStanding objects key None = Unit {0}
-IsStanding objects key (Some o) = (key_of o ≡ key) × (is_taken objects o ≡ false)
+abbrev pub IsUnderItsKey : Objects → Key → Option Object → Type 0
+IsUnderItsKey objects key None = Unit {0}
+IsUnderItsKey objects key (Some o) = (key_of o ≡ key) × (is_taken objects o ≡ false)

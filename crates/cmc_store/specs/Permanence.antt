@@ -13,7 +13,7 @@ HaveOneVerdict objects = (key : Key) (o : Object) → object_at objects key ≡ 
 abbrev pub KeepVerdicts : Objects → Objects → Type 0
 KeepVerdicts before after = (key : Key) (older newer : Object) → object_at before key ≡ Some older → object_at after key ≡ Some newer → KeepsVerdicts older newer
 
-pub record AreFinal (before after : Objects) : Type 0 where
+pub record KeepFinalVerdicts (before after : Objects) : Type 0 where
   pub one : HaveOneVerdict after
   pub kept : KeepVerdicts before after
 

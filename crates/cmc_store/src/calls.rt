@@ -6,7 +6,7 @@ ghost use Rattle.cmc_model.specs.Objects.{object_at, with_object};
 ghost use Rattle.cmc_model.specs.Admission.{is_taken, refusing_rule};
 ghost use Rattle.cmc_model.specs.Stored.{created, revised, restated};
 ghost use Rattle.cmc_model.specs.Replies.{IsCreated, IsUpdated, IsRestated, IsDeleted, IsGot, from_old};
-ghost use Rattle.cmc_store.specs.Answers.{IsAnswer, refusal_of};
+ghost use Rattle.cmc_store.specs.Answers.{IsPutOrRefused, refusal_of};
 ghost use Rattle.cmc_objects.specs.declared.call.Reply.TheVariants.{Ok as Accepted};
 
 use crate::catalogue::Catalogue;
@@ -82,7 +82,7 @@ pub fn create(
 ) -> Result<Replied, AllocError>
     requires { accepted + 1 < 2 ^ 64 }
     ensures reply { IfOk result (λ r. IsCreated accepted (is_taken catalogue.old object.now) object.now (object_at catalogue.old (key_of object.now)) r.reply) }
-    ensures answer { IfOk result (λ r. IsAnswer (key_of object.now) (Some (created (accepted + 1) now object.now)) catalogue.old catalogue.new r) }
+    ensures answer { IfOk result (λ r. IsPutOrRefused (key_of object.now) (Some (created (accepted + 1) now object.now)) catalogue.old catalogue.new r) }
     ensures err { OnErr result (catalogue.new ≡ catalogue.old) }
 {
     let key = object.key()?;
@@ -109,7 +109,7 @@ pub fn update(
 ) -> Result<Replied, AllocError>
     requires { accepted + 1 < 2 ^ 64 }
     ensures reply { IfOk result (λ r. IsUpdated accepted (is_taken catalogue.old object.now) object.now named (object_at catalogue.old (key_of object.now)) r.reply) }
-    ensures answer { IfOk result (λ r. IsAnswer (key_of object.now) (from_old (λ old. revised (accepted + 1) old object.now) (object_at catalogue.old (key_of object.now))) catalogue.old catalogue.new r) }
+    ensures answer { IfOk result (λ r. IsPutOrRefused (key_of object.now) (from_old (λ old. revised (accepted + 1) old object.now) (object_at catalogue.old (key_of object.now))) catalogue.old catalogue.new r) }
     ensures err { OnErr result (catalogue.new ≡ catalogue.old) }
 {
     let key = object.key()?;
@@ -138,7 +138,7 @@ pub fn update_status(
 ) -> Result<Replied, AllocError>
     requires { accepted + 1 < 2 ^ 64 }
     ensures reply { IfOk result (λ r. IsRestated accepted object.now named (object_at catalogue.old (key_of object.now)) r.reply) }
-    ensures answer { IfOk result (λ r. IsAnswer (key_of object.now) (from_old (λ old. restated (accepted + 1) old object.now) (object_at catalogue.old (key_of object.now))) catalogue.old catalogue.new r) }
+    ensures answer { IfOk result (λ r. IsPutOrRefused (key_of object.now) (from_old (λ old. restated (accepted + 1) old object.now) (object_at catalogue.old (key_of object.now))) catalogue.old catalogue.new r) }
     ensures err { OnErr result (catalogue.new ≡ catalogue.old) }
 {
     let key = object.key()?;
@@ -166,7 +166,7 @@ pub fn delete(
 ) -> Result<Replied, AllocError>
     requires { accepted + 1 < 2 ^ 64 }
     ensures reply { IfOk result (λ r. IsDeleted accepted named key.now.name (object_at catalogue.old key.now) r.reply) }
-    ensures answer { IfOk result (λ r. IsAnswer key.now None catalogue.old catalogue.new r) }
+    ensures answer { IfOk result (λ r. IsPutOrRefused key.now None catalogue.old catalogue.new r) }
     ensures err { OnErr result (catalogue.new ≡ catalogue.old) }
 {
     let Some(old) = catalogue.get(key) else {
@@ -193,7 +193,7 @@ pub fn delete(
 
 pub fn get(catalogue: &Catalogue, accepted: u64, key: &Key) -> Result<Replied, AllocError>
     ensures reply { IfOk result (λ r. IsGot accepted (object_at catalogue.now key.now) r.reply) }
-    ensures answer { IfOk result (λ r. IsAnswer key.now (object_at catalogue.now key.now) catalogue.now catalogue.now r) }
+    ensures answer { IfOk result (λ r. IsPutOrRefused key.now (object_at catalogue.now key.now) catalogue.now catalogue.now r) }
 {
     match catalogue.get(key) {
         Some(old) => Ok(refused(Reply::Found {

@@ -58,7 +58,7 @@ impl Catalogue {
     /// has the Secret that it names.
     pub fn get(&self, key: &Key) -> Option<&Object>
         ensures object { option_copied result ≡ object_at self.now key.now }
-        ensures stands { spec.IsStanding self.now key.now (option_copied result) }
+        ensures stands { spec.IsUnderItsKey self.now key.now (option_copied result) }
     {
         self.shelf.get(key)
     }
@@ -112,7 +112,7 @@ fn is_of_another(claim: Option<&Name>, name: &Name) -> bool
 
 /// The Secret that what stands under the key names.
 fn secret_at(shelf: &Shelf, key: &Key) -> Result<Option<Key>, AllocError>
-    ensures { IfOk result (λ s. s ≡ spec.secret_in (object_at shelf.now key.now)) }
+    ensures { IfOk result (λ s. s ≡ spec.secret_named_in (object_at shelf.now key.now)) }
 {
     match shelf.get(key) {
         None => Ok(None),
@@ -131,7 +131,7 @@ fn put_moved(
     requires index { spec.IsIndex shelf.old claims.old }
     requires key { key_of object ≡ key }
     requires free { is_taken shelf.old object ≡ false }
-    requires old { old.now ≡ spec.secret_in (object_at shelf.old key) }
+    requires old { old.now ≡ spec.secret_named_in (object_at shelf.old key) }
     requires moves { old.now ≢ spec.secret_of object }
     ensures ok { OnOk result (shelf.new ≡ with_object shelf.old key object) }
     ensures err { OnErr result (shelf.new ≡ shelf.old) }

@@ -4,7 +4,7 @@ ghost use Rattle.cmc_objects.specs.Objects.{name_of};
 ghost use Rattle.cmc_objects.specs.declared.call.Call.TheVariants.{Create};
 ghost use Rattle.cmc_model.specs.Generated as spec;
 ghost use Rattle.cmc_model.specs.Replies.{IsServed, key_of_call, settled, stored, under_reply};
-ghost use Rattle.cmc_store.specs.Answers.{IsAnswer};
+ghost use Rattle.cmc_store.specs.Answers.{IsPutOrRefused};
 
 use crate::calls::{Replied, create};
 use crate::catalogue::Catalogue;
@@ -128,7 +128,7 @@ pub fn create_named(
 ) -> Result<Replied, AllocError>
     requires { accepted + 1 < 2 ^ 64 }
     ensures reply { IfOk result (λ r. IsServed accepted catalogue.old (Create object.now generate) r.reply) }
-    ensures answer { IfOk result (λ r. IsAnswer (key_of_call (settled (Create object.now generate) r.reply)) (stored (accepted + 1) now catalogue.old (settled (Create object.now generate) r.reply)) catalogue.old catalogue.new r) }
+    ensures answer { IfOk result (λ r. IsPutOrRefused (key_of_call (settled (Create object.now generate) r.reply)) (stored (accepted + 1) now catalogue.old (settled (Create object.now generate) r.reply)) catalogue.old catalogue.new r) }
     ensures err { OnErr result (catalogue.new ≡ catalogue.old) }
 {
     if !generate {

@@ -4,9 +4,9 @@ ghost use Rattle.std.specs.Option.{option_copied};
 ghost use Rattle.std.specs.Prelude.{◌≡◌, ◌==◌, ◌+◌, ◌-◌, ◌<◌, ◌^◌, IfOk, OnErr, [], Some, None, if◌then◌else◌, false};
 ghost use Rattle.cmc_model.specs.Objects.{object_at};
 ghost use Rattle.cmc_model.specs.Replies.{IsReply, IsServed, empty_store, is_accepted, key_of_call, key_written, object_written, settled, state_after, stored};
-ghost use Rattle.cmc_store.specs.Answers.{IsAnswer};
+ghost use Rattle.cmc_store.specs.Answers.{IsPutOrRefused};
 ghost use Rattle.cmc_store.specs.Kept.{Kept};
-ghost use Rattle.cmc_store.specs.Permanence.{AreFinal};
+ghost use Rattle.cmc_store.specs.Permanence.{KeepFinalVerdicts};
 
 use crate::calls::{Replied, delete, get, update, update_status};
 use crate::catalogue::Catalogue;
@@ -120,7 +120,7 @@ impl Store {
         ensures after { IfOk result (λ r. self.new ≡ record { faults = self.old.faults; state = state_after now self.old.state call.now r.reply }) }
         ensures key { IfOk result (λ r. r.key ≡ key_written call.now r.reply) }
         ensures object { IfOk result (λ r. r.object ≡ object_written now self.old.state call.now r.reply) }
-        ensures verdicts { IfOk result (λ r. AreFinal self.old.state.objects self.new.state.objects) }
+        ensures verdicts { IfOk result (λ r. KeepFinalVerdicts self.old.state.objects self.new.state.objects) }
         ensures err { OnErr result (self.new ≡ self.old) }
     {
         let number = self.calls + 1;
@@ -157,7 +157,7 @@ fn serve(
 ) -> Result<Replied, AllocError>
     requires room { accepted + 1 < 2 ^ 64 }
     ensures reply { IfOk result (λ r. IsServed accepted catalogue.old call.now r.reply) }
-    ensures answer { IfOk result (λ r. IsAnswer (key_of_call (settled call.now r.reply)) (stored (accepted + 1) now catalogue.old (settled call.now r.reply)) catalogue.old catalogue.new r) }
+    ensures answer { IfOk result (λ r. IsPutOrRefused (key_of_call (settled call.now r.reply)) (stored (accepted + 1) now catalogue.old (settled call.now r.reply)) catalogue.old catalogue.new r) }
     ensures err { OnErr result (catalogue.new ≡ catalogue.old) }
 {
     match call {

@@ -14,8 +14,8 @@ use Rattle.cmc_cursor.specs.Readers.{text_at, name_in}
 use Rattle.cmc_cursor.proofs.Always.{Always, so, next, after, where_true}
 use Rattle.cmc_print.specs.Words.{name_text}
 use Rattle.cmc_material.specs.Keys.{is_slash, split_slash, key_of_kind}
-use Rattle.cmc_material.specs.MaterialRows.{certificate_at}
-use Rattle.cmc_summary_form.specs.SummaryForm.{IsKeyOf}
+use Rattle.cmc_material.specs.MaterialRows.{certificate_key_at}
+use Rattle.cmc_summary_form.specs.SummaryForm.{IsKeyOfKind}
 
 -- ---- no slash stands in a name
 
@@ -83,11 +83,11 @@ split_is front back h =
 
 -- ---- keys
 
-pub key_again : (kind : Kind) (key : Key) → IsKeyOf kind key → key_of_kind kind (name_text key) ≡ Ok key
+pub key_again : (kind : Kind) (key : Key) → IsKeyOfKind kind key → key_of_kind kind (name_text key) ≡ Ok key
 unfolding key_of_kind
 key_again kind key is = rw (split_is key.namespace key.name (name_others key.namespace is.1.0), is.1.0, is.1.1, sym is.0) refl
 
-pub certificate_again : (key : Key) → IsKeyOf Certificate key → certificate_at (string (name_text key)) ≡ Ok key
+pub certificate_again : (key : Key) → IsKeyOfKind Certificate key → certificate_key_at (string (name_text key)) ≡ Ok key
 certificate_again key is = key_again Certificate key is
 
 -- ---- what is read
@@ -95,12 +95,12 @@ certificate_again key is = key_again Certificate key is
 name_so : (t : List ℕ) → Always (λ name. is_subdomain name ≡ true) (name_in t)
 name_so t = where_true _ (is_subdomain t) (Ok t) [] (λ e. so e)
 
-pub key_so : (kind : Kind) (t : List ℕ) → Always (IsKeyOf kind) (key_of_kind kind t)
+pub key_so : (kind : Kind) (t : List ℕ) → Always (IsKeyOfKind kind) (key_of_kind kind t)
 unfolding key_of_kind
 key_so kind t =
-    next (IsKeyOf kind) (split_slash t) _ (λ parts. after (λ name. is_subdomain name ≡ true) (IsKeyOf kind) (name_in parts.0) _ (name_so parts.0)
-    (λ namespace first. after (λ name. is_subdomain name ≡ true) (IsKeyOf kind) (name_in parts.1) _ (name_so parts.1)
+    next (IsKeyOfKind kind) (split_slash t) _ (λ parts. after (λ name. is_subdomain name ≡ true) (IsKeyOfKind kind) (name_in parts.0) _ (name_so parts.0)
+    (λ namespace first. after (λ name. is_subdomain name ≡ true) (IsKeyOfKind kind) (name_in parts.1) _ (name_so parts.1)
     (λ name second. so (refl, (first, second)))))
 
-pub certificate_so : (d : Data) → Always (IsKeyOf Certificate) (certificate_at d)
-certificate_so d = next (IsKeyOf Certificate) (text_at d) (key_of_kind Certificate) (key_so Certificate)
+pub certificate_so : (d : Data) → Always (IsKeyOfKind Certificate) (certificate_key_at d)
+certificate_so d = next (IsKeyOfKind Certificate) (text_at d) (key_of_kind Certificate) (key_so Certificate)

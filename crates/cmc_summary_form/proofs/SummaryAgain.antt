@@ -16,8 +16,8 @@ use Rattle.cmc_print.specs.Trees.{natural}
 use Rattle.cmc_print.specs.Words.{name_text}
 use Rattle.cmc_report.specs.Trees.{wait_name, waiting_tree, counts_tree, summary_tree}
 use Rattle.cmc_codec.proofs.Slots.{slots, bind, needed_is}
-use Rattle.cmc_material.specs.MaterialRows.{certificate_at}
-use Rattle.cmc_summary_form.specs.SummaryForm.{IsOfCertificate, HasSummaryForm, wait_at, waiting_in, waiting_at, comes_after, after_key, waits_from, waits_at, counts_in, counts_at, summary_in, summary_at}
+use Rattle.cmc_material.specs.MaterialRows.{certificate_key_at}
+use Rattle.cmc_summary_form.specs.SummaryForm.{NamesCertificate, HasSummaryForm, wait_read_at, waiting_in, waiting_at, comes_after, after_key, waits_from, waits_at, counts_in, counts_at, summary_in, summary_read_at}
 use Rattle.cmc_summary_form.proofs.NamesAgain.{certificate_again}
 
 abbrev Places : Type 0
@@ -25,8 +25,8 @@ Places = List (List ℕ × Option Data)
 
 -- ---- one Certificate that waits
 
-wait_again : (w : WaitName) → wait_at (string (wait_name w)) ≡ Ok w
-unfolding wait_at
+wait_again : (w : WaitName) → wait_read_at (string (wait_name w)) ≡ Ok w
+unfolding wait_read_at
 wait_again Stopped = refl
 wait_again Backoff = refl
 wait_again NoKey = refl
@@ -41,12 +41,12 @@ waiting_printed : (w : Waiting) → waiting_tree w ≡ object (slots (waiting_pl
 unfolding waiting_tree
 waiting_printed w = refl
 
-waiting_again : (w : Waiting) → IsOfCertificate w → waiting_at (waiting_tree w) ≡ Ok w
+waiting_again : (w : Waiting) → NamesCertificate w → waiting_at (waiting_tree w) ≡ Ok w
 unfolding waiting_at waiting_in
 waiting_again w is =
     rw (waiting_printed w)
-    (bind _ _ _ _ (needed_is certificate_at (codes "certificate") (string (name_text w.certificate)) (drop 1 (waiting_places w)) w.certificate refl (certificate_again w.certificate is))
-    (bind _ _ _ _ (needed_is wait_at (codes "wait") (string (wait_name w.wait)) [] w.wait refl (wait_again w.wait)) refl))
+    (bind _ _ _ _ (needed_is certificate_key_at (codes "certificate") (string (name_text w.certificate)) (drop 1 (waiting_places w)) w.certificate refl (certificate_again w.certificate is))
+    (bind _ _ _ _ (needed_is wait_read_at (codes "wait") (string (wait_name w.wait)) [] w.wait refl (wait_again w.wait)) refl))
 
 -- ---- lists
 
@@ -56,7 +56,7 @@ keys_of ws = map (λ w. w.certificate) ws
 -- each of a Certificate, and of a key after the one before it
 abbrev pub AreAfter : Option Key → List Waiting → Type 0
 AreAfter last [] = Unit {0}
-AreAfter last (w ∷ ws) = (comes_after last w.certificate ≡ true) × IsOfCertificate w × AreAfter (Some w.certificate) ws
+AreAfter last (w ∷ ws) = (comes_after last w.certificate ≡ true) × NamesCertificate w × AreAfter (Some w.certificate) ws
 
 passed : {A : Type 0} (b : Bool) (x y : A) → b ≡ true → (if b then x else y) ≡ x
 passed true x y e = refl
@@ -68,7 +68,7 @@ waits_from_again n last (w ∷ ws) are =
     let fits : after_key last w ≡ Ok w = passed (comes_after last w.certificate) (Ok w) (Err []) are.0 in
     rw (waiting_again w are.1, fits, waits_from_again (n + 1) (Some w.certificate) ws are.2) refl
 
-after_last : (last : Option Key) (ws : List Waiting) → AllByRecursion (λ m. comes_after last m ≡ true) (keys_of ws) → IsStrictlySortedBy key_cmp (keys_of ws) → AllByRecursion IsOfCertificate ws → AreAfter last ws
+after_last : (last : Option Key) (ws : List Waiting) → AllByRecursion (λ m. comes_after last m ≡ true) (keys_of ws) → IsStrictlySortedBy key_cmp (keys_of ws) → AllByRecursion NamesCertificate ws → AreAfter last ws
 unfolding IsStrictlySortedBy
 after_last last [] later order are = tt
 after_last last (w ∷ ws) later order are = (later.0, are.0, after_last (Some w.certificate) ws (all_less w.certificate (keys_of ws) order.0) order.1 are.1)
@@ -81,7 +81,7 @@ none_before : (ms : List Key) → AllByRecursion (λ m. comes_after None m ≡ t
 none_before [] = tt
 none_before (m ∷ ms) = (refl, none_before ms)
 
-waits_again : (ws : List Waiting) → IsStrictlySortedBy key_cmp (keys_of ws) → AllByRecursion IsOfCertificate ws → waits_at (array (items_of (map waiting_tree ws))) ≡ Ok ws
+waits_again : (ws : List Waiting) → IsStrictlySortedBy key_cmp (keys_of ws) → AllByRecursion NamesCertificate ws → waits_at (array (items_of (map waiting_tree ws))) ≡ Ok ws
 waits_again ws order are = waits_from_again 0 None ws (after_last None ws (none_before (keys_of ws)) order are)
 
 -- ---- the summary
@@ -112,8 +112,8 @@ summary_printed : (s : Summary) → summary_tree s ≡ object (slots ((codes "su
 unfolding summary_tree
 summary_printed s = refl
 
-pub summary_again : (s : Summary) → HasSummaryForm s → summary_at (summary_tree s) ≡ Ok s
-unfolding summary_at summary_in
+pub summary_again : (s : Summary) → HasSummaryForm s → summary_read_at (summary_tree s) ≡ Ok s
+unfolding summary_read_at summary_in
 summary_again s is =
     rw (summary_printed s)
     (bind _ _ _ _ (needed_is counts_at (codes "summary") (counts_tree s) [] s refl (counts_again s is)) refl)

@@ -17,22 +17,22 @@ use Rattle.cmc_cursor.specs.Readers.{count_at}
 use Rattle.cmc_cursor.proofs.Always.{Always, so, failed, next, after, below, where_true}
 use Rattle.cmc_codec.specs.Given.{needed_at}
 use Rattle.cmc_codec.proofs.ValuesAgain.{needed_so}
-use Rattle.cmc_material.specs.MaterialRows.{certificate_at}
-use Rattle.cmc_summary_form.specs.SummaryForm.{IsKeyOf, IsOfCertificate, HasSummaryForm, wait_at, waiting_in, waiting_at, comes_after, after_key, next_waiting_at, waits_from, waits_at, counts_in, counts_at, summary_in, summary_at}
+use Rattle.cmc_material.specs.MaterialRows.{certificate_key_at}
+use Rattle.cmc_summary_form.specs.SummaryForm.{IsKeyOfKind, NamesCertificate, HasSummaryForm, wait_read_at, waiting_in, waiting_at, comes_after, after_key, next_waiting_at, waits_from, waits_at, counts_in, counts_at, summary_in, summary_read_at}
 use Rattle.cmc_summary_form.proofs.NamesAgain.{certificate_so}
 use Rattle.cmc_summary_form.proofs.SummaryAgain.{keys_of, AreAfter}
 
 -- ---- one Certificate that waits
 
-waiting_in_so : (fs : List Field) → Always IsOfCertificate (waiting_in fs)
+waiting_in_so : (fs : List Field) → Always NamesCertificate (waiting_in fs)
 unfolding waiting_in
 waiting_in_so fs =
-    after _ IsOfCertificate (needed_at certificate_at (codes "certificate") fs) _ (needed_so (IsKeyOf Certificate) certificate_at (codes "certificate") fs certificate_so)
-    (λ certificate is. next IsOfCertificate (needed_at wait_at (codes "wait") certificate.1) _ (λ wait. next IsOfCertificate (at_end wait.1) _ (λ end. so is)))
+    after _ NamesCertificate (needed_at certificate_key_at (codes "certificate") fs) _ (needed_so (IsKeyOfKind Certificate) certificate_key_at (codes "certificate") fs certificate_so)
+    (λ certificate is. next NamesCertificate (needed_at wait_read_at (codes "wait") certificate.1) _ (λ wait. next NamesCertificate (at_end wait.1) _ (λ end. so is)))
 
-waiting_so : (d : Data) → Always IsOfCertificate (waiting_at d)
+waiting_so : (d : Data) → Always NamesCertificate (waiting_at d)
 unfolding waiting_at
-waiting_so d = next IsOfCertificate (fields_at d) waiting_in waiting_in_so
+waiting_so d = next NamesCertificate (fields_at d) waiting_in waiting_in_so
 
 -- ---- lists
 
@@ -53,12 +53,12 @@ unfolding IsStrictlySortedBy
 in_order last [] are = tt
 in_order last (w ∷ ws) are = (all_after w.certificate (Some w.certificate) ws (λ m later. is_less (key_cmp w.certificate m) later) are.2, in_order (Some w.certificate) ws are.2)
 
-have_keys : (last : Option Key) (ws : List Waiting) → AreAfter last ws → AllByRecursion IsOfCertificate ws
+have_keys : (last : Option Key) (ws : List Waiting) → AreAfter last ws → AllByRecursion NamesCertificate ws
 have_keys last [] are = tt
 have_keys last (w ∷ ws) are = (are.1, have_keys (Some w.certificate) ws are.2)
 
-numbered_so : (n : ℕ) (last : Option Key) (d : Data) → Always (λ w. (comes_after last w.certificate ≡ true) × IsOfCertificate w) (under (decimal n) (next_waiting_at last d))
-numbered_so n last d = below _ (decimal n) (next_waiting_at last d) (after IsOfCertificate _ (waiting_at d) (after_key last) (waiting_so d) (λ w is. where_true _ (comes_after last w.certificate) (Ok w) [] (λ e. so (e, is))))
+numbered_so : (n : ℕ) (last : Option Key) (d : Data) → Always (λ w. (comes_after last w.certificate ≡ true) × NamesCertificate w) (under (decimal n) (next_waiting_at last d))
+numbered_so n last d = below _ (decimal n) (next_waiting_at last d) (after NamesCertificate _ (waiting_at d) (after_key last) (waiting_so d) (λ w is. where_true _ (comes_after last w.certificate) (Ok w) [] (λ e. so (e, is))))
 
 waits_from_so : (n : ℕ) (last : Option Key) (ds : Items) → Always (AreAfter last) (waits_from n last ds)
 waits_from_so n last no_items = so tt
@@ -94,9 +94,9 @@ summary_in_so fs =
     after _ HasSummaryForm (needed_at counts_at (codes "summary") fs) _ (needed_so HasSummaryForm counts_at (codes "summary") fs counts_so)
     (λ counts is. next HasSummaryForm (at_end counts.1) _ (λ end. so is))
 
-pub summary_so : (d : Data) → Always HasSummaryForm (summary_at d)
-unfolding summary_at
+pub summary_so : (d : Data) → Always HasSummaryForm (summary_read_at d)
+unfolding summary_read_at
 summary_so d = next HasSummaryForm (fields_at d) summary_in summary_in_so
 
-pub has_form : (d : Data) (s : Summary) → summary_at d ≡ Ok s → HasSummaryForm s
+pub has_form : (d : Data) (s : Summary) → summary_read_at d ≡ Ok s → HasSummaryForm s
 has_form d s read = (summary_so d).each s read

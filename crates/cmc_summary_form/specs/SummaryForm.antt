@@ -18,7 +18,7 @@ use Rattle.cmc_summary.specs.declared.summary.WaitName.TheVariants.{Stopped, Bac
 use Rattle.cmc_cursor.specs.Reading.{Read, ◌>>=◌, under, Field, fields_at, at_end}
 use Rattle.cmc_cursor.specs.Readers.{found, text_at, count_at}
 use Rattle.cmc_codec.specs.Given.{needed_at}
-use Rattle.cmc_material.specs.MaterialRows.{certificate_at}
+use Rattle.cmc_material.specs.MaterialRows.{certificate_key_at}
 
 -- ---- what Certificates wait for
 
@@ -30,14 +30,14 @@ wait_named t = if bytes_eq t (codes "stopped") then Some Stopped
     else (if bytes_eq t (codes "name") then Some Name
     else (if bytes_eq t (codes "pending") then Some Pending else None)))))
 
-unfoldable pub wait_at : Data → Read WaitName
-wait_at d = text_at d >>= (λ t. found (wait_named t))
+unfoldable pub wait_read_at : Data → Read WaitName
+wait_read_at d = text_at d >>= (λ t. found (wait_named t))
 
 -- A Certificate and what it waits for: both members have to stand, and no other.
 unfoldable pub waiting_in : List Field → Read Waiting
 waiting_in fs = do
-  certificate ← needed_at certificate_at (codes "certificate") fs
-  wait ← needed_at wait_at (codes "wait") certificate.1
+  certificate ← needed_at certificate_key_at (codes "certificate") fs
+  wait ← needed_at wait_read_at (codes "wait") certificate.1
   end ← at_end wait.1
   Ok (record { certificate = certificate.0; wait = wait.0 })
 
@@ -95,8 +95,8 @@ summary_in fs = do
   end ← at_end counts.1
   Ok counts.0
 
-unfoldable pub summary_at : Data → Read Summary
-summary_at d = fields_at d >>= summary_in
+unfoldable pub summary_read_at : Data → Read Summary
+summary_read_at d = fields_at d >>= summary_in
 
 -- ---- summaries that have lines of this form
 
@@ -104,13 +104,13 @@ abbrev pub HasNames : Key → Type 0
 HasNames key = (is_subdomain key.namespace ≡ true) × (is_subdomain key.name ≡ true)
 
 -- A key that is printed without its kind.
-abbrev pub IsKeyOf : Kind → Key → Type 0
-IsKeyOf kind key = (key.kind ≡ kind) × HasNames key
+abbrev pub IsKeyOfKind : Kind → Key → Type 0
+IsKeyOfKind kind key = (key.kind ≡ kind) × HasNames key
 
-abbrev pub IsOfCertificate : Waiting → Type 0
-IsOfCertificate w = IsKeyOf Certificate w.certificate
+abbrev pub NamesCertificate : Waiting → Type 0
+NamesCertificate w = IsKeyOfKind Certificate w.certificate
 
 -- The waits are those of Certificates, in order of key, each once.
 pub record HasSummaryForm (s : Summary) : Type 0 where
   pub order : IsStrictlySortedBy key_cmp (map (λ w. w.certificate) s.waiting)
-  pub keys : AllByRecursion IsOfCertificate s.waiting
+  pub keys : AllByRecursion NamesCertificate s.waiting

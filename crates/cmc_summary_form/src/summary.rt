@@ -74,9 +74,9 @@ fn read_summary(alloc: Global, rest: Fields<'_, '_>) -> Result<Summary, BadField
 /// for, in order of key, each once.
 ///
 /// Fails at the first failing path; a Certificate whose key does not come after the one before it fails as a whole.
-#[tactic(auto, unfolding(crate::specs::SummaryForm::summary_at))]
+#[tactic(auto, unfolding(crate::specs::SummaryForm::summary_read_at))]
 pub fn summary_of(alloc: Global, value: &Value) -> Result<Summary, BadField>
-    ensures { Gives (λ t. t) result (forms.summary_at (view value.now)) }
+    ensures { Gives (λ t. t) result (forms.summary_read_at (view value.now)) }
 {
     let members = fields(alloc, value)?;
     read_summary(alloc, &members)

@@ -5,7 +5,7 @@ ghost use Rattle.serde_json.specs.View.{view, items_view};
 ghost use Rattle.cmc_cursor.specs.Reading.{Gives, under};
 ghost use Rattle.cmc_cursor.specs.Seen.{shown};
 ghost use Rattle.cmc_codec.specs.Given.{needed_at};
-ghost use Rattle.cmc_material.specs.MaterialRows.{certificate_at};
+ghost use Rattle.cmc_material.specs.MaterialRows.{certificate_key_at};
 ghost use Rattle.cmc_summary_form.specs.SummaryForm as forms;
 
 use cmc_cursor::{BadField, Fields, at, at_place, check_end, fields, required};
@@ -29,9 +29,9 @@ fn wait_named(text: &str) -> Option<WaitName>
     }
 }
 
-#[tactic(auto, unfolding(crate::specs::SummaryForm::wait_at))]
+#[tactic(auto, unfolding(crate::specs::SummaryForm::wait_read_at))]
 fn wait(alloc: Global, value: &Value) -> Result<WaitName, BadField>
-    ensures { Gives (λ t. t) result (forms.wait_at (view value.now)) }
+    ensures { Gives (λ t. t) result (forms.wait_read_at (view value.now)) }
 {
     match value.as_str().and_then(wait_named) {
         Some(wait) => Ok(wait),
@@ -43,7 +43,7 @@ fn needed_certificate<'a, 'b>(
     alloc: Global,
     rest: Fields<'a, 'b>,
 ) -> Result<(Key, Fields<'a, 'b>), BadField>
-    ensures { Gives (λ p. (p.0, map shown p.1.now)) result (needed_at certificate_at (codes "certificate") (map shown rest.now)) }
+    ensures { Gives (λ p. (p.0, map shown p.1.now)) result (needed_at certificate_key_at (codes "certificate") (map shown rest.now)) }
 {
     let (value, rest) = required(alloc, rest, "certificate")?;
     Ok((at(alloc, "certificate", certificate(alloc, value))?, rest))
@@ -53,7 +53,7 @@ fn needed_wait<'a, 'b>(
     alloc: Global,
     rest: Fields<'a, 'b>,
 ) -> Result<(WaitName, Fields<'a, 'b>), BadField>
-    ensures { Gives (λ p. (p.0, map shown p.1.now)) result (needed_at forms.wait_at (codes "wait") (map shown rest.now)) }
+    ensures { Gives (λ p. (p.0, map shown p.1.now)) result (needed_at forms.wait_read_at (codes "wait") (map shown rest.now)) }
 {
     let (value, rest) = required(alloc, rest, "wait")?;
     Ok((at(alloc, "wait", wait(alloc, value))?, rest))

@@ -4,7 +4,7 @@ use Rattle.std.proofs.lemmas.Bool.Decides.{nat_tests}
 use Rattle.std.proofs.lemmas.Option.{none-some}
 use Rattle.cmc_time.specs.Texts.{two_digits, four_digits}
 use Rattle.cmc_time.specs.Asn1.{IsUtcTime, IsGeneralizedTime, IsAsn1Time}
-use Rattle.cmc_time.specs.Reading.{two_digits_at, four_digits_at, moment_at, second_at, full_year, utc_time_seconds, generalized_time_seconds, asn1_seconds}
+use Rattle.cmc_time.specs.Reading.{two_digits_at, four_digits_at, moment_of_year_at, second_at, full_year, utc_time_seconds, generalized_time_seconds, asn1_seconds}
 use Rattle.cmc_time.proofs.Steps.{bind_some}
 use Rattle.cmc_time.proofs.Texts.{two_digits_again, two_digits_found, four_digits_again, four_digits_found, moment_again, moment_found}
 use Rattle.cmc_time.proofs.Rfc3339Laws.{second_again, second_found, HasTwoDigits-IsMoment}
@@ -33,7 +33,7 @@ utc_time_found : (text : List ℕ) (at : ℤ) → utc_time_seconds text ≡ Some
 unfolding utc_time_seconds
 utc_time_found text at e =
     let year = bind_some (two_digits_at text) _ at e in
-    let moment = bind_some (moment_at (full_year year.0.0) [] [] [] year.0.1) _ at year.2 in
+    let moment = bind_some (moment_of_year_at (full_year year.0.0) [] [] [] year.0.1) _ at year.2 in
     let m = moment.0 in
     let real = second_found m at moment.2 in
     let digits = two_digits_found text year.0 year.1 in
@@ -72,7 +72,7 @@ generalized_time_found : (text : List ℕ) (at : ℤ) → generalized_time_secon
 unfolding generalized_time_seconds
 generalized_time_found text at e =
     let year = bind_some (four_digits_at text) _ at e in
-    let moment = bind_some (moment_at year.0.0 [] [] [] year.0.1) _ at year.2 in
+    let moment = bind_some (moment_of_year_at year.0.0 [] [] [] year.0.1) _ at year.2 in
     let m = moment.0 in
     let late = unless_some (nat_lt m.year 2050) (second_at m) at moment.2 in
     let real = second_found m at late.1 in

@@ -10,7 +10,7 @@ use Rattle.std.specs.Char.{is_ascii_digit}
 use Rattle.std.specs.Fmt.{decimal}
 use Rattle.std.specs.Str.{all_ascii_digits}
 use Rattle.std.specs.Str.Parse.{digits_value}
-use Rattle.cmc_time.specs.Durations.{hour_unit, minute_unit, second_unit, longest, duration_of, HasCount, IsPart, HasParts, IsDuration, go_duration}
+use Rattle.cmc_time.specs.Durations.{hour_unit, minute_unit, second_unit, longest, duration_of, HasCount, IsDurationPart, HasParts, IsDuration, go_duration}
 use Rattle.cmc_time.specs.DurationReading.{part_from, part_at, sum_of, parts_seconds, duration_seconds}
 use Rattle.cmc_time.proofs.Digits.{are_digits, prefix_len-digits, own}
 use Rattle.cmc_time.proofs.Steps.{guard_some}
@@ -33,7 +33,7 @@ part_skips unit other part count more other_byte differ h =
     let text : part ++ more ≡ ds ++ other ∷ more = rw (h.written) (simp append_assoc) in
     rw (text, prefix_len-digits ds other more h.are_digits other_byte, take_at ds (other ∷ more) _ refl, drop_at ds (other ∷ more) _ refl, differ)
 
-part_step : (unit : ℕ) (part : List ℕ) (count : ℕ) (more : List ℕ) → is_ascii_digit unit ≡ false → IsPart unit part count → part_at unit more ≡ (0, more) → part_at unit (part ++ more) ≡ (count, more)
+part_step : (unit : ℕ) (part : List ℕ) (count : ℕ) (more : List ℕ) → is_ascii_digit unit ≡ false → IsDurationPart unit part count → part_at unit more ≡ (0, more) → part_at unit (part ++ more) ≡ (count, more)
 part_step unit part count more other_byte (inl h) skips = rw (h.0, h.1) skips
 part_step unit part count more other_byte (inr h) skips = part_takes unit part count more other_byte h
 
@@ -41,19 +41,19 @@ part_at-nil : (unit : ℕ) → part_at unit [] ≡ (0, [])
 unfolding part_at
 part_at-nil unit = refl
 
-minutes_skip_seconds : (part : List ℕ) (count : ℕ) → IsPart second_unit part count → part_at minute_unit part ≡ (0, part)
+minutes_skip_seconds : (part : List ℕ) (count : ℕ) → IsDurationPart second_unit part count → part_at minute_unit part ≡ (0, part)
 minutes_skip_seconds part count (inl h) = rw (h.0) (part_at-nil minute_unit)
 minutes_skip_seconds part count (inr h) =
     let whole : part ++ [] ≡ part = simp append-nil in
     rw whole at (part_skips minute_unit second_unit part count [] refl refl h)
 
-hours_skip_seconds : (part : List ℕ) (count : ℕ) → IsPart second_unit part count → part_at hour_unit part ≡ (0, part)
+hours_skip_seconds : (part : List ℕ) (count : ℕ) → IsDurationPart second_unit part count → part_at hour_unit part ≡ (0, part)
 hours_skip_seconds part count (inl h) = rw (h.0) (part_at-nil hour_unit)
 hours_skip_seconds part count (inr h) =
     let whole : part ++ [] ≡ part = simp append-nil in
     rw whole at (part_skips hour_unit second_unit part count [] refl refl h)
 
-hours_skip : (minute_part second_part : List ℕ) (minutes seconds : ℕ) → IsPart minute_unit minute_part minutes → IsPart second_unit second_part seconds → part_at hour_unit (minute_part ++ second_part) ≡ (0, minute_part ++ second_part)
+hours_skip : (minute_part second_part : List ℕ) (minutes seconds : ℕ) → IsDurationPart minute_unit minute_part minutes → IsDurationPart second_unit second_part seconds → part_at hour_unit (minute_part ++ second_part) ≡ (0, minute_part ++ second_part)
 hours_skip minute_part second_part minutes seconds (inl h) s = rw (h.0) (hours_skip_seconds second_part seconds s)
 hours_skip minute_part second_part minutes seconds (inr h) s = part_skips hour_unit minute_unit minute_part minutes second_part refl refl h
 
@@ -71,11 +71,11 @@ parts_again text total h =
     split ∙ rw (test, h.lasts)
 
 -- what was read of a part, and the text around it
-from_found : (unit : ℕ) (text digits rest : List ℕ) → all_ascii_digits digits ≡ true → text ≡ digits ++ rest → (part : List ℕ) × IsPart unit part (part_from unit text digits rest).0 × (text ≡ part ++ (part_from unit text digits rest).1)
+from_found : (unit : ℕ) (text digits rest : List ℕ) → all_ascii_digits digits ≡ true → text ≡ digits ++ rest → (part : List ℕ) × IsDurationPart unit part (part_from unit text digits rest).0 × (text ≡ part ++ (part_from unit text digits rest).1)
 from_found unit text digits [] are e = ([], inl (refl, refl), refl)
 from_found unit text digits (first ∷ rest) are e = go _ refl
   where
-    go : (t : Bool) → ((first == unit) && nat_le 1 (length digits) && nat_le (length digits) 9) ≡ t → (part : List ℕ) × IsPart unit part (cond {A = ℕ × List ℕ} t (digits_value 10 digits, rest) (0, text)).0 × (text ≡ part ++ (cond {A = ℕ × List ℕ} t (digits_value 10 digits, rest) (0, text)).1)
+    go : (t : Bool) → ((first == unit) && nat_le 1 (length digits) && nat_le (length digits) 9) ≡ t → (part : List ℕ) × IsDurationPart unit part (cond {A = ℕ × List ℕ} t (digits_value 10 digits, rest) (0, text)).0 × (text ≡ part ++ (cond {A = ℕ × List ℕ} t (digits_value 10 digits, rest) (0, text)).1)
     go false test = ([], inl (refl, refl), refl)
     go true test =
         let (unit_some, few) = and_parts ((first == unit) && nat_le 1 (length digits)) (nat_le (length digits) 9) test in
@@ -91,7 +91,7 @@ from_found unit text digits (first ∷ rest) are e = go _ refl
         } in
         (digits ++ unit ∷ [], inr counted, e ∙ rw same (simp append_assoc))
 
-part_found : (unit : ℕ) (text : List ℕ) → (part : List ℕ) × IsPart unit part (part_at unit text).0 × (text ≡ part ++ (part_at unit text).1)
+part_found : (unit : ℕ) (text : List ℕ) → (part : List ℕ) × IsDurationPart unit part (part_at unit text).0 × (text ≡ part ++ (part_at unit text).1)
 unfolding part_at
 part_found unit text = from_found unit text _ _ (are_digits text) (sym (take-append-drop _ text))
 

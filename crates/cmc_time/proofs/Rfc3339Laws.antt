@@ -5,7 +5,7 @@ use Rattle.jiff_core.proofs.CalendarLemmas.{days_in_month_bounds}
 use Rattle.cmc_time.specs.Moment.{IsMoment, seconds_of}
 use Rattle.cmc_time.specs.Texts.{four_digits, HasTwoDigits}
 use Rattle.cmc_time.specs.Rfc3339.{IsRfc3339, rfc3339, rfc3339_text}
-use Rattle.cmc_time.specs.Reading.{four_digits_at, moment_at, is_moment, second_at, rfc3339_seconds}
+use Rattle.cmc_time.specs.Reading.{four_digits_at, moment_of_year_at, is_moment, second_at, rfc3339_seconds}
 use Rattle.cmc_time.specs.declared.moment.Moment.{Moment}
 use Rattle.cmc_time.proofs.Steps.{bind_some, guard_some}
 use Rattle.cmc_time.proofs.Inverse.{moment_of-seconds_of}
@@ -62,7 +62,7 @@ pub rfc3339_found : (text : List ℕ) (at : ℤ) → rfc3339_seconds text ≡ So
 unfolding rfc3339_seconds
 rfc3339_found text at e =
     let year = bind_some (four_digits_at text) _ at e in
-    let moment = bind_some (moment_at year.0.0 (codes "-") (codes "T") (codes ":") year.0.1) _ at year.2 in
+    let moment = bind_some (moment_of_year_at year.0.0 (codes "-") (codes "T") (codes ":") year.0.1) _ at year.2 in
     let m = moment.0 in
     let real = second_found m at moment.2 in
     let digits = four_digits_found text year.0.0 year.0.1 year.1 in

@@ -5,7 +5,7 @@ use Rattle.std.proofs.lemmas.Option.{none-some}
 use Rattle.std.proofs.lemmas.Slice.Eq.{bytes_eq-Decides}
 use Rattle.std.specs.Int.{IsInRange, is_in_range}
 use Rattle.cmc_time.specs.Texts.{two_digits, four_digits, after_year, HasTwoDigits}
-use Rattle.cmc_time.specs.Reading.{mark_at, two_digits_at, four_digits_at, marked_at, moment_at}
+use Rattle.cmc_time.specs.Reading.{mark_at, two_digits_at, four_digits_at, marked_at, moment_of_year_at}
 use Rattle.cmc_time.specs.declared.moment.Moment.{Moment}
 use Rattle.cmc_time.proofs.Steps.{bind_some, guard_some}
 
@@ -72,8 +72,8 @@ marked_found mark text p e =
     let digits = two_digits_found after.0 p after.2 in
     (digits.0, mark_found mark text after.0 after.1 ∙ ap (λ t. mark ++ t) digits.1)
 
-pub moment_again : (date middle time : List ℕ) (m : Moment) → HasTwoDigits m → moment_at m.year date middle time (after_year date middle time m) ≡ Some m
-unfolding moment_at
+pub moment_again : (date middle time : List ℕ) (m : Moment) → HasTwoDigits m → moment_of_year_at m.year date middle time (after_year date middle time m) ≡ Some m
+unfolding moment_of_year_at
 moment_again date middle time m h =
     rw (
       marked_again date m.month _ h.month,
@@ -83,8 +83,8 @@ moment_again date middle time m h =
       marked_again time m.second _ h.second,
     )
 
-pub moment_found : (year : ℕ) (date middle time text : List ℕ) (m : Moment) → moment_at year date middle time text ≡ Some m → (m.year ≡ year) × (text ≡ after_year date middle time m)
-unfolding moment_at
+pub moment_found : (year : ℕ) (date middle time text : List ℕ) (m : Moment) → moment_of_year_at year date middle time text ≡ Some m → (m.year ≡ year) × (text ≡ after_year date middle time m)
+unfolding moment_of_year_at
 moment_found year date middle time text m e =
     let month = bind_some (marked_at date text) _ m e in
     let day = bind_some (marked_at date month.0.1) _ m month.2 in

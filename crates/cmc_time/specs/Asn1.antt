@@ -50,12 +50,12 @@ IsCertificateTime at = (neg_ℤ (pos 631_152_000) ≤ℤ at) × (at ≤ℤ pos 2
 abbrev pub tag_of : Moment → ℕ
 tag_of m = if nat_lt m.year 2050 then utc_time_tag else generalized_time_tag
 
-abbrev pub body_of : Moment → List ℕ
-body_of m = if nat_lt m.year 2050 then utc_time_text m else generalized_time_text m
+abbrev pub asn1_time_text : Moment → List ℕ
+asn1_time_text m = if nat_lt m.year 2050 then utc_time_text m else generalized_time_text m
 
 -- and of the time at which it lies
 unfoldable pub asn1_tag : ℤ → ℕ
 asn1_tag at = tag_of (moment_of at)
 
 unfoldable pub asn1_text : ℤ → List ℕ
-asn1_text at = body_of (moment_of at)
+asn1_text at = asn1_time_text (moment_of at)

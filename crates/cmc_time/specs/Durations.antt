@@ -31,8 +31,8 @@ pub record HasCount (unit : ℕ) (part : List ℕ) (count : ℕ) : Type 0 where
   pub written : part ≡ digits ++ unit ∷ []
   pub counts : digits_value 10 digits ≡ count
 
-abbrev pub IsPart : ℕ → List ℕ → ℕ → Type 0
-IsPart unit part count = ((part ≡ []) × (count ≡ 0)) ⊎ HasCount unit part count
+abbrev pub IsDurationPart : ℕ → List ℕ → ℕ → Type 0
+IsDurationPart unit part count = ((part ≡ []) × (count ≡ 0)) ⊎ HasCount unit part count
 
 -- hours, minutes and seconds in this order, one of them at least
 pub record HasParts (text : List ℕ) (total : ℕ) : Type 0 where
@@ -42,9 +42,9 @@ pub record HasParts (text : List ℕ) (total : ℕ) : Type 0 where
   pub hours : ℕ
   pub minutes : ℕ
   pub seconds : ℕ
-  pub hour_is : IsPart hour_unit hour_part hours
-  pub minute_is : IsPart minute_unit minute_part minutes
-  pub second_is : IsPart second_unit second_part seconds
+  pub hour_is : IsDurationPart hour_unit hour_part hours
+  pub minute_is : IsDurationPart minute_unit minute_part minutes
+  pub second_is : IsDurationPart second_unit second_part seconds
   pub written : text ≡ hour_part ++ (minute_part ++ second_part)
   pub some : 0 < length text
   pub lasts : duration_of hours minutes seconds ≡ total

@@ -40,8 +40,8 @@ unfoldable pub marked_at : List ℕ → List ℕ → Option (ℕ × List ℕ)
 marked_at mark text = mark_at mark text >>= two_digits_at
 
 -- the moment of this year whose other numbers stand there between the marks
-unfoldable pub moment_at : ℕ → List ℕ → List ℕ → List ℕ → List ℕ → Option Moment
-moment_at year date middle time text = do
+unfoldable pub moment_of_year_at : ℕ → List ℕ → List ℕ → List ℕ → List ℕ → Option Moment
+moment_of_year_at year date middle time text = do
   month ← marked_at date text
   day ← marked_at date month.1
   hour ← marked_at middle day.1
@@ -78,7 +78,7 @@ second_at m = if is_moment m then Some (seconds_of m) else None
 unfoldable pub rfc3339_seconds : List ℕ → Option ℤ
 rfc3339_seconds text = do
   year ← four_digits_at text
-  moment ← moment_at year.0 (codes "-") (codes "T") (codes ":") year.1
+  moment ← moment_of_year_at year.0 (codes "-") (codes "T") (codes ":") year.1
   second_at moment
 
 -- the year that the two digits of a UTCTime mean: 1950 to 2049
@@ -89,14 +89,14 @@ full_year short = (if nat_lt short 50 then 2000 else 1900) + short
 unfoldable pub utc_time_seconds : List ℕ → Option ℤ
 utc_time_seconds text = do
   year ← two_digits_at text
-  moment ← moment_at (full_year year.0) [] [] [] year.1
+  moment ← moment_of_year_at (full_year year.0) [] [] [] year.1
   second_at moment
 
 -- the second that the body of a GeneralizedTime writes, from 2050 on
 unfoldable pub generalized_time_seconds : List ℕ → Option ℤ
 generalized_time_seconds text = do
   year ← four_digits_at text
-  moment ← moment_at year.0 [] [] [] year.1
+  moment ← moment_of_year_at year.0 [] [] [] year.1
   if nat_lt moment.year 2050 then None else second_at moment
 
 -- by the tag of the value

@@ -106,7 +106,7 @@ fn tag_of(m: Moment) -> u8
 
 fn body_of(alloc: Global, m: Moment) -> Result<String, AllocError>
     requires { IsMoment m }
-    ensures { IfOk result (λ text. string_bytes text ≡ spec.body_of m) }
+    ensures { IfOk result (λ text. string_bytes text ≡ spec.asn1_time_text m) }
 {
     if m.year < 2050 {
         utc_time(alloc, m)

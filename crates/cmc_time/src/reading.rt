@@ -44,9 +44,9 @@ fn marked_at<'a>(mark: &[u8], text: &'a [u8]) -> Option<(u8, &'a [u8])>
 
 /// The moment of this year that the text writes up to its end, a `Z`: the month and the day stand after the
 /// mark `date`, the hour after `middle`, and the minute and the second after `time`.
-#[tactic(auto, unfolding(crate::specs::Reading::moment_at))]
+#[tactic(auto, unfolding(crate::specs::Reading::moment_of_year_at))]
 pub fn moment_at(year: u16, date: &[u8], middle: &[u8], time: &[u8], text: &[u8]) -> Option<Moment>
-    ensures { result ≡ spec.moment_at year date.now middle.now time.now text.now }
+    ensures { result ≡ spec.moment_of_year_at year date.now middle.now time.now text.now }
 {
     let (month, rest) = marked_at(date, text)?;
     let (day, rest) = marked_at(date, rest)?;

@@ -30,10 +30,10 @@ use Rattle.cmc_objects.specs.Objects.{numbered}
 use Rattle.cmc_model.specs.Stored.{with_status}
 use Rattle.cmc_rules.specs.Dates.{IsDatedStatus}
 use Rattle.cmc_rules.specs.Chains.{trigger_chain, trigger_reason}
-use Rattle.cmc_rules.specs.Triggering.{trigger, for_option, for_certificate, for_reason, frame_of, is_issuing, is_backing_off, is_held_back, is_waiting_since, issuing_condition, issuing_status, with_issuing, issue_call}
+use Rattle.cmc_rules.specs.Triggering.{trigger, for_option, for_certificate, for_reason, frame_of, is_issuing, is_backing_off, is_in_back_off, is_waiting_since, issuing_condition, issuing_status, with_issuing, issue_call}
 use Rattle.cmc_rules.specs.Acts.{act, call_after}
 use Rattle.cmc_rules.specs.Sighting.{OnSeen}
-use Rattle.cmc_rules.specs.Sound.{IsWithin, IsEndOfBackoff, IsRenewal, IsTriggerMoment, shown, IsSound}
+use Rattle.cmc_rules.specs.Sound.{IsWithin, IsEndOfBackoff, IsRenewal, IsTriggerMoment, views_shown, IsSound}
 use Rattle.cmc_rules.proofs.Sights.{seen_certificate}
 use Rattle.cmc_rules.proofs.Conditions.{others-transitioned}
 use Rattle.cmc_rules.proofs.Dating.{dated_transitioned}
@@ -75,7 +75,7 @@ issue_is seen now reason c sees = record {
 
 reason_is : (seen : Views) (now : ℤ) (c : Certificate) (reason : Option Reason) → seen.certificate ≡ Some c → Is seen now (for_reason now seen.requests c reason)
 reason_is seen now c None sees = tt
-reason_is seen now c (Some reason) sees = by_test (Is seen now) (is_held_back now seen.requests c) _ _ (λ on. tt) (λ off. issue_is seen now reason c sees)
+reason_is seen now c (Some reason) sees = by_test (Is seen now) (is_in_back_off now seen.requests c) _ _ (λ on. tt) (λ off. issue_is seen now reason c sees)
 
 option_is : (seen : Views) (now : ℤ) (o : Option Certificate) → seen.certificate ≡ o → Is seen now (for_option now seen.secret seen.requests o)
 unfolding for_certificate
@@ -103,14 +103,14 @@ waits : (last : Option ℤ) (status : CertStatus) (t u : ℤ) → Quiet (IsEndOf
 waits None status t u quiet h = absurd (cc h)
 waits (Some last) status t u quiet h = still (int_lt u (backoff last status.attempts)) t u (backoff last status.attempts) refl h (quiet (backoff last status.attempts) refl)
 
-held_back : (t u : ℤ) (requests : List RequestObject) (c : Certificate) → Quiet (IsEndOfBackoff c.status.last_failure c.status) t u → is_held_back t requests c ≡ true → is_held_back u requests c ≡ true
+held_back : (t u : ℤ) (requests : List RequestObject) (c : Certificate) → Quiet (IsEndOfBackoff c.status.last_failure c.status) t u → is_in_back_off t requests c ≡ true → is_in_back_off u requests c ≡ true
 held_back t u requests c quiet h =
     let parts = and_parts (is_backing_off c.status t) _ h in
     rw (waits c.status.last_failure c.status t u quiet parts.0) parts.1
 
-by_backoff : (b : Bool) (t u : ℤ) (requests : List RequestObject) (c : Certificate) (reason other : Reason) → is_held_back t requests c ≡ b → Quiet (IsEndOfBackoff c.status.last_failure c.status) t u
-    → (if b then Nothing else issue_call t reason c) ≡ Nothing → (if is_held_back u requests c then Nothing else issue_call u other c) ≡ Nothing
-by_backoff true t u requests c reason other e quiet idle = let on : is_held_back u requests c ≡ true = held_back t u requests c quiet e in rw on refl
+by_backoff : (b : Bool) (t u : ℤ) (requests : List RequestObject) (c : Certificate) (reason other : Reason) → is_in_back_off t requests c ≡ b → Quiet (IsEndOfBackoff c.status.last_failure c.status) t u
+    → (if b then Nothing else issue_call t reason c) ≡ Nothing → (if is_in_back_off u requests c then Nothing else issue_call u other c) ≡ Nothing
+by_backoff true t u requests c reason other e quiet idle = let on : is_in_back_off u requests c ≡ true = held_back t u requests c quiet e in rw on refl
 by_backoff false t u requests c reason other e quiet idle = absurd (called reason t c idle)
 
 -- no reason comes but Renewing, at its moment
@@ -151,7 +151,7 @@ by_reason : (o p : Option Reason) (t u : ℤ) (requests : List RequestObject) (c
     → for_reason t requests c o ≡ Nothing → for_reason u requests c p ≡ Nothing
 by_reason None p t u requests c none quiet idle = rw (none refl) refl
 by_reason (Some reason) None t u requests c none quiet idle = refl
-by_reason (Some reason) (Some other) t u requests c none quiet idle = by_backoff (is_held_back t requests c) t u requests c reason other refl quiet idle
+by_reason (Some reason) (Some other) t u requests c none quiet idle = by_backoff (is_in_back_off t requests c) t u requests c reason other refl quiet idle
 
 reasons : (t u : ℤ) (secret : Option SecretObject) (requests : List RequestObject) (c : Certificate) → Quiet (IsTriggerMoment (Some c) secret) t u
     → trigger_reason (frame_of t c) c secret requests ≡ None → trigger_reason (frame_of u c) c secret requests ≡ None
@@ -173,7 +173,7 @@ stays (Some c) t u secret requests quiet idle = by_issuing (is_issuing c) t u se
 
 -- ---- the record
 
-told : (seen : Views) (now : ℤ) (desk : Desk) → act Trigger seen now desk ≡ act Trigger (shown Trigger seen) now desk
+told : (seen : Views) (now : ℤ) (desk : Desk) → act Trigger seen now desk ≡ act Trigger (views_shown Trigger seen) now desk
 unfolding act trigger
 told seen now desk = refl
 

@@ -39,7 +39,7 @@ fn is_held_back(
     certificate: &Certificate,
 ) -> bool
     requires { IsDatedOption certificate.now.status.last_failure }
-    ensures { result ≡ spec.is_held_back moment requests.now certificate.now }
+    ensures { result ≡ spec.is_in_back_off moment requests.now certificate.now }
 {
     let next = next_request(certificate.status.revision, requests);
     is_backing_off(&certificate.status, moment) && !is_outrun(&certificate.spec, next)

@@ -53,8 +53,8 @@ use Rattle.cmc_queue.proofs.OneRow.{equal_keys}
 use Rattle.cmc_queue.proofs.OneRow.{same_by_test}
 use Rattle.cmc_moves.specs.Quiet.{no_views}
 use Rattle.cmc_waking.specs.Parking.{ahead, own_ahead}
-use Rattle.cmc_waking.specs.Feeding.{begun, closed, started, told, waiting}
-use Rattle.cmc_waking.specs.Waking.{IsIdleAt, IsKept, IsTended, IsTimed}
+use Rattle.cmc_waking.specs.Feeding.{row_begun, closed, started, row_delivered, waiting}
+use Rattle.cmc_waking.specs.Waking.{IsIdleAt, IsRowKept, IsTended, IsTimed}
 use Rattle.cmc_waking.proofs.Owners.{AreSameOwners, equal_roles, none_ended, none_open, none_stopped, owners_asked, owners_begun, owners_called, owners_ended, owners_given, owners_stopped, same_role, works_begun}
 use Rattle.cmc_waking.proofs.Remembered.{last_called, remembered, IsRemembered, RemembersPass}
 use Rattle.cmc_waking.proofs.Tended.{kept_begun, kept_closed, kept_started, kept_ticked, kept_told, kept_working, IsFair}
@@ -63,7 +63,7 @@ use Rattle.cmc_waking.proofs.Tended.{kept_begun, kept_closed, kept_started, kept
 
 -- what is kept is said by these
 abbrev KeptBy : Setting → Role → Row → Past → Views → ℤ → Positions → Type 0
-KeptBy s role row p seen now at = IsKept row.working role s.rules p seen now at row
+KeptBy s role row p seen now at = IsRowKept row.working role s.rules p seen now at row
 
 -- the key is in process where it was
 pub works_same : (s : Setting) (e : Entry) (h : List Entry) (role : Role) (key : Key) (working : Bool) → AreSameOwners s e h role key → (IsTrue working ↔ IsWorking s h role key) → IsTrue working ↔ IsWorking s (e ∷ h) role key
@@ -234,9 +234,9 @@ position_low h role kinds.Secret to low = low_told (has_informer role kinds.Secr
 
 told_row : (s : Setting) (h : List Entry) (role : Role) (kind : Kind) (to : ℕ) (key : Key) (row : Row) (listed : Bool) (new : Views) (at : Positions) → position h role kind ≤ to → at ≡ with_position kind to (positions h role)
     → (listed ≡ false → new ≡ views s h role key) → KeptBy s role row (past s h role key) (views s h role key) (moment s h) (positions h role)
-    → KeptBy s role (told listed kind to row) (past s h role key) new (moment s h) at
+    → KeptBy s role (row_delivered listed kind to row) (past s h role key) new (moment s h) at
 told_row s h role kind to key row listed new at low at_is same kept =
-    subst (λ (a : Positions). KeptBy s role (told listed kind to row) (past s h role key) new (moment s h) a) (sym at_is)
+    subst (λ (a : Positions). KeptBy s role (row_delivered listed kind to row) (past s h role key) new (moment s h) a) (sym at_is)
     (kept_told listed role s.rules (past s h role key) (views s h role key) new (moment s h) (positions h role) kind to row (position_low h role kind to low) same kept)
 
 moved_working : (b : Bool) (row : Row) → (if b then record row { ready = true; work = found.Unknown; parked = None } else row).working ≡ row.working
@@ -247,13 +247,13 @@ moves_working : (kind : Kind) (to : ℕ) (row : Row) → (moved kind to row).wor
 unfolding moved
 moves_working kind to row = moved_working (is_reached kind to row.parked) row
 
-told_working : (listed : Bool) (kind : Kind) (to : ℕ) (row : Row) → (told listed kind to row).working ≡ row.working
+told_working : (listed : Bool) (kind : Kind) (to : ℕ) (row : Row) → (row_delivered listed kind to row).working ≡ row.working
 told_working true kind to row = moves_working kind to row
 told_working false kind to row = moves_working kind to row
 
 -- the role is told, and each key of which it may see something new is listed
 pub tended_delivered : (s : Setting) (h : List Entry) (role : Role) (kind : Kind) (to : ℕ) (key : Key) (row : Row) (listed : Bool) → IsLegal s (Deliver role kind to ∷ h) → (listed ≡ false → views s (Deliver role kind to ∷ h) role key ≡ views s h role key)
-    → IsTended s h role key row → IsTended s (Deliver role kind to ∷ h) role key (told listed kind to row)
+    → IsTended s h role key row → IsTended s (Deliver role kind to ∷ h) role key (row_delivered listed kind to row)
 unfolding IsTended IsLegal
 tended_delivered s h role kind to key row listed legal same is = record {
   working = subst (λ (b : Bool). IsTrue b ↔ IsWorking s (Deliver role kind to ∷ h) role key) (sym (told_working listed kind to row)) (works_same s (Deliver role kind to) h role key row.working (λ n. refl) is.working);
@@ -263,7 +263,7 @@ tended_delivered s h role kind to key row listed legal same is = record {
 }
 
 pub tended_listed : (s : Setting) (h : List Entry) (role : Role) (kind : Kind) (to : ℕ) (key : Key) (row : Row) (listed : Bool) → IsLegal s (Listed role kind to ∷ h) → (listed ≡ false → views s (Listed role kind to ∷ h) role key ≡ views s h role key)
-    → IsTended s h role key row → IsTended s (Listed role kind to ∷ h) role key (told listed kind to row)
+    → IsTended s h role key row → IsTended s (Listed role kind to ∷ h) role key (row_delivered listed kind to row)
 unfolding IsTended IsLegal
 tended_listed s h role kind to key row listed legal same is = record {
   working = subst (λ (b : Bool). IsTrue b ↔ IsWorking s (Listed role kind to ∷ h) role key) (sym (told_working listed kind to row)) (works_same s (Listed role kind to) h role key row.working (λ n. refl) is.working);
@@ -302,7 +302,7 @@ taken_works row free = by (is_free row) free where
   by true on = refl
   by false on = absurd (cc on)
 
-begun_works : (next : Option ℤ) (row : Row) → is_free row ≡ true → (begun next row).working ≡ true
+begun_works : (next : Option ℤ) (row : Row) → is_free row ≡ true → (row_begun next row).working ≡ true
 begun_works None row free = taken_works row free
 begun_works (Some at) row free = taken_works row free
 
@@ -310,14 +310,14 @@ same_key_itself : (role : Role) (key : Key) → (role_eq role role && key_eq key
 same_key_itself role key = and_from (role_eq role role) (key_eq key key) (equal_roles role) (equal_keys key)
 
 pub tended_begun : (s : Setting) (h : List Entry) (pass : ℕ) (role : Role) (key : Key) (at : Positions) (now : ℤ) (row : Row) (next : Option ℤ) → IsLegal s (Begin pass role key at now ∷ h) → is_free row ≡ true → IsTimed role (views s h role key) (moment s h) next
-    → IsTended s h role key row → IsTended s (Begin pass role key at now ∷ h) role key (begun next row)
+    → IsTended s h role key row → IsTended s (Begin pass role key at now ∷ h) role key (row_begun next row)
 unfolding IsTended IsLegal
 tended_begun s h pass role key at now row next legal free timed is = record {
   working = (λ on. works_begun s h pass role key at now, λ works. begun_works next row free);
   kept = λ up.
-      subst (λ (p : Past). KeptBy s role (begun next row) p (views s h role key) (moment s h) (positions h role))
+      subst (λ (p : Past). KeptBy s role (row_begun next row) p (views s h role key) (moment s h) (positions h role))
       (sym (past_itself (role_eq role role && key_eq key key) (with_begin (views s h role key) now (past s h role key)) (past s h role key) (same_key_itself role key)))
-      (subst (λ (t : ℤ). KeptBy s role (begun next row) (with_begin (views s h role key) t (past s h role key)) (views s h role key) (moment s h) (positions h role)) (sym legal.0.present)
+      (subst (λ (t : ℤ). KeptBy s role (row_begun next row) (with_begin (views s h role key) t (past s h role key)) (views s h role key) (moment s h) (positions h role)) (sym legal.0.present)
       (kept_begun next role s.rules (past s h role key) (views s h role key) (moment s h) (positions h role) row free timed));
 }
 

@@ -16,7 +16,7 @@ use Rattle.cmc_rules.specs.Resting.{IsIdle}
 use Rattle.cmc_rules.specs.Sound as sound
 use Rattle.cmc_rules.specs.Viewing.{views}
 use Rattle.cmc_moves.specs.Quiet.{seen_last, IsQuiet}
-use Rattle.cmc_waking.specs.Feeding.{found_busy, found_held, found_idle, found_quiet, timed_too}
+use Rattle.cmc_waking.specs.Feeding.{found_busy, found_parked, found_idle, found_quiet, timed_too}
 use Rattle.cmc_waking.specs.Waking.{IsDueNow, IsStoppedFor, IsTended, IsTimed}
 use Rattle.cmc_waking.proofs.Promise.{idle_anywhere, idle_now}
 use Rattle.cmc_waking.proofs.Tended.{kept_busy, kept_held, kept_idle, kept_quiet}
@@ -57,7 +57,7 @@ tended_quiet s h role key row next laws free timed quiet is = record {
 
 -- the role is not told of what bars the begin
 pub tended_held : (s : Setting) (h : List Entry) (role : Role) (key : Key) (row : Row) (parked : Parked) → row.working ≡ false → position_of parked.kind (positions h role) < parked.version
-    → (parked.version ≤ position_of parked.kind (past s h role key).own) ⊎ IsStoppedFor (past s h role key).last (views s h role key) parked → IsTended s h role key row → IsTended s h role key (found_held parked row)
+    → (parked.version ≤ position_of parked.kind (past s h role key).own) ⊎ IsStoppedFor (past s h role key).last (views s h role key) parked → IsTended s h role key row → IsTended s h role key (found_parked parked row)
 unfolding IsTended
 tended_held s h role key row parked free behind cause is = record {
   working = is.working;

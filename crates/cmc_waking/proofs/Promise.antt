@@ -20,14 +20,14 @@ use Rattle.cmc_rules.specs.Resting.{IsIdle}
 use Rattle.cmc_rules.specs.Sound as sound
 use Rattle.cmc_rules.specs.Viewing.{views}
 use Rattle.cmc_moves.specs.Quiet.{seen_last, IsQuiet}
-use Rattle.cmc_waking.specs.Waking.{AreTended, IsAsleep, IsCovered, IsDueNow, IsHeldBack, IsIdleAt, IsKept, IsLooked, IsSearched, IsStanding, IsTended, IsTimedBy, IsWaiting, LosesNoWakeUp}
+use Rattle.cmc_waking.specs.Waking.{AreTended, IsAsleep, IsCovered, IsDueNow, WaitsForVersion, IsIdleAt, IsRowKept, IsLooked, IsSearched, IsLookedOrWaiting, IsTended, IsTimedBy, IsWaiting, LosesNoWakeUp}
 use Rattle.cmc_waking.proofs.Tended.{waiting_undue}
 
 abbrev Kept : Bool → Setting → List Entry → Role → Key → Row → Type 0
-Kept working s h role key row = IsKept working role s.rules (past s h role key) (views s h role key) (moment s h) (positions h role) row
+Kept working s h role key row = IsRowKept working role s.rules (past s h role key) (views s h role key) (moment s h) (positions h role) row
 
 abbrev Stands : Bool → Setting → List Entry → Role → Key → Row → Type 0
-Stands ready s h role key row = IsStanding ready role s.rules (past s h role key) (views s h role key) (moment s h) (positions h role) row
+Stands ready s h role key row = IsLookedOrWaiting ready role s.rules (past s h role key) (views s h role key) (moment s h) (positions h role) row
 
 abbrev Sleeps : Setting → List Entry → Role → Key → Row → Type 0
 Sleeps s h role key row = IsAsleep role s.rules (past s h role key) (views s h role key) (moment s h) row
@@ -39,7 +39,7 @@ Waits s h role key row = IsWaiting (past s h role key) (views s h role key) (pos
 pub idle_now : (s : Setting) (h : List Entry) (role : Role) (key : Key) → IsIdleAt role s.rules (views s h role key) (moment s h) → IsIdle s h role (views s h role key)
 idle_now s h role key idle = idle (desk s h role (views s h role key)) refl
 
-held_back : (s : Setting) (h : List Entry) (role : Role) (key : Key) (row : Row) → Waits s h role key row → IsHeldBack s h role key row
+held_back : (s : Setting) (h : List Entry) (role : Role) (key : Key) (row : Row) → Waits s h role key row → WaitsForVersion s h role key row
 held_back s h role key row w = record {
   until = subst (λ (o : Option Parked). IsSomeAnd o (λ p. position_of p.kind (positions h role) < p.version)) (sym w.kept) w.behind;
   undue = λ now due. waiting_undue (past s h role key) (views s h role key) now (positions h role) row w due;

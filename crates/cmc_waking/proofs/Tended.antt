@@ -29,8 +29,8 @@ use Rattle.cmc_rules.specs.Sameness.{own_above, EndsAlike, IsDue, IsSame}
 use Rattle.cmc_rules.specs.Sound as sound
 use Rattle.cmc_moves.specs.Quiet.{no_views, seen_last}
 use Rattle.cmc_waking.specs.Parking.{ahead, own_ahead}
-use Rattle.cmc_waking.specs.Feeding.{begun, closed, found_busy, found_held, found_idle, found_quiet, started, timed_too, told, waiting}
-use Rattle.cmc_waking.specs.Waking.{IsAsleep, IsBusy, IsIdleAt, IsKept, IsLooked, IsNoted, IsStanding, IsStoppedAt, IsStoppedFor, IsTimed, IsTimedBy, IsUnchanged, IsWaiting}
+use Rattle.cmc_waking.specs.Feeding.{row_begun, closed, found_busy, found_parked, found_idle, found_quiet, started, timed_too, row_delivered, waiting}
+use Rattle.cmc_waking.specs.Waking.{IsAsleep, IsBusy, IsIdleAt, IsRowKept, IsLooked, IsNoted, IsLookedOrWaiting, IsStoppedAt, IsStoppedFor, IsTimed, IsTimedBy, IsUnchanged, IsWaiting}
 
 -- ---- positions
 
@@ -181,7 +181,7 @@ timed_by_next role seen now (Some new) row is at moment above = timed_more new r
 abbrev fresh_row : Bool → Option Parked → Option ℤ → Row
 fresh_row working parked timed = record { ready = true; work = found.Unknown; working = working; parked = parked; timed = timed }
 
-fresh_kept : (working : Bool) (role : Role) (rules : Rules) (past : Past) (seen : Views) (now : ℤ) (at : Positions) (parked : Option Parked) (timed : Option ℤ) → IsKept working role rules past seen now at (fresh_row working parked timed)
+fresh_kept : (working : Bool) (role : Role) (rules : Rules) (past : Past) (seen : Views) (now : ℤ) (at : Positions) (parked : Option Parked) (timed : Option ℤ) → IsRowKept working role rules past seen now at (fresh_row working parked timed)
 fresh_kept true role rules past seen now at parked timed = record { unknown = refl; unchanged = λ off. absurd (cc off) }
 fresh_kept false role rules past seen now at parked timed = tt
 
@@ -191,7 +191,7 @@ abbrev row_of : Bool → Found → Bool → Option Parked → Option ℤ → Row
 row_of ready work working parked timed = record { ready = ready; work = work; working = working; parked = parked; timed = timed }
 
 standing_later : (ready : Bool) (work : Found) (role : Role) (rules : Rules) (past : Past) (seen : Views) (now soon : ℤ) (at : Positions) (parked : Option Parked) (timed : Option ℤ) → sound.IsSound role → int_le now soon ≡ true → is_due soon timed ≡ false
-    → IsStanding ready role rules past seen now at (row_of ready work false parked timed) → IsStanding ready role rules past seen soon at (row_of ready (lapsed work) false parked timed)
+    → IsLookedOrWaiting ready role rules past seen now at (row_of ready work false parked timed) → IsLookedOrWaiting ready role rules past seen soon at (row_of ready (lapsed work) false parked timed)
 standing_later true found.Unknown role rules past seen now soon at parked timed laws le off is = tt
 standing_later true found.Something role rules past seen now soon at parked timed laws le off is = tt
 standing_later true found.Nothing role rules past seen now soon at parked timed laws le off is = record {
@@ -212,7 +212,7 @@ none_came true role seen now soon at timed e off is moment low before = before e
 none_came false role seen now soon at timed e off is moment low before = before_due timed at soon (is at moment e) low off
 
 kept_later : (working ready : Bool) (work : Found) (role : Role) (rules : Rules) (past : Past) (seen : Views) (now soon : ℤ) (at : Positions) (parked : Option Parked) (timed : Option ℤ) → sound.IsSound role → int_le now soon ≡ true → is_due soon timed ≡ false
-    → IsKept working role rules past seen now at (row_of ready work working parked timed) → IsKept working role rules past seen soon at (row_of ready (lapsed work) working parked timed)
+    → IsRowKept working role rules past seen now at (row_of ready work working parked timed) → IsRowKept working role rules past seen soon at (row_of ready (lapsed work) working parked timed)
 kept_later true ready work role rules past seen now soon at parked timed laws le off is = record { unknown = ap lapsed is.unknown; unchanged = λ out. still (is.unchanged out) } where
   still : IsUnchanged role past seen now (row_of ready work true parked timed) → IsUnchanged role past seen soon (row_of ready (lapsed work) true parked timed)
   still u = record {
@@ -230,20 +230,20 @@ unfolding ticked
 by_tick b u row e = rw e refl
 
 ticked_by : (b : Bool) (role : Role) (rules : Rules) (past : Past) (seen : Views) (now soon : ℤ) (at : Positions) (row new : Row) → sound.IsSound role → int_le now soon ≡ true → is_due soon row.timed ≡ b
-    → new ≡ (if b then record row { ready = true; work = found.Unknown; timed = None } else record row { work = lapsed row.work }) → IsKept row.working role rules past seen now at row → IsKept new.working role rules past seen soon at new
-ticked_by true role rules past seen now soon at row new laws le is to kept = subst (λ (r : Row). IsKept r.working role rules past seen soon at r) (sym to) (fresh_kept row.working role rules past seen soon at row.parked None)
+    → new ≡ (if b then record row { ready = true; work = found.Unknown; timed = None } else record row { work = lapsed row.work }) → IsRowKept row.working role rules past seen now at row → IsRowKept new.working role rules past seen soon at new
+ticked_by true role rules past seen now soon at row new laws le is to kept = subst (λ (r : Row). IsRowKept r.working role rules past seen soon at r) (sym to) (fresh_kept row.working role rules past seen soon at row.parked None)
 ticked_by false role rules past seen now soon at row new laws le is to kept =
-    subst (λ (r : Row). IsKept r.working role rules past seen soon at r) (sym to) (kept_later row.working row.ready row.work role rules past seen now soon at row.parked row.timed laws le is kept)
+    subst (λ (r : Row). IsRowKept r.working role rules past seen soon at r) (sym to) (kept_later row.working row.ready row.work role rules past seen now soon at row.parked row.timed laws le is kept)
 
-pub kept_ticked : (role : Role) (rules : Rules) (past : Past) (seen : Views) (now soon : ℤ) (at : Positions) (row : Row) → sound.IsSound role → int_le now soon ≡ true → IsKept row.working role rules past seen now at row
-    → IsKept (ticked soon row).working role rules past seen soon at (ticked soon row)
+pub kept_ticked : (role : Role) (rules : Rules) (past : Past) (seen : Views) (now soon : ℤ) (at : Positions) (row : Row) → sound.IsSound role → int_le now soon ≡ true → IsRowKept row.working role rules past seen now at row
+    → IsRowKept (ticked soon row).working role rules past seen soon at (ticked soon row)
 kept_ticked role rules past seen now soon at row laws le kept =
     ticked_by (is_due soon row.timed) role rules past seen now soon at row (ticked soon row) laws le refl (by_tick (is_due soon row.timed) soon row refl) kept
 
 -- ---- the role is told
 
 standing_told : (ready : Bool) (work : Found) (role : Role) (rules : Rules) (past : Past) (seen : Views) (now : ℤ) (at : Positions) (kind : Kind) (to : ℕ) (parked : Option Parked) (timed : Option ℤ) → position_of kind at ≤ to → is_reached kind to parked ≡ false
-    → IsStanding ready role rules past seen now at (row_of ready work false parked timed) → IsStanding ready role rules past seen now (with_position kind to at) (row_of ready work false parked timed)
+    → IsLookedOrWaiting ready role rules past seen now at (row_of ready work false parked timed) → IsLookedOrWaiting ready role rules past seen now (with_position kind to at) (row_of ready work false parked timed)
 standing_told true found.Unknown role rules past seen now at kind to parked timed low off is = tt
 standing_told true found.Nothing role rules past seen now at kind to parked timed low off is = record { idle = is.idle; new = is.new; due = due_told past seen now at kind to low is.due; timed = is.timed }
 standing_told true found.Something role rules past seen now at kind to parked timed low off is = record { busy = is.busy; due = due_told past seen now at kind to low is.due }
@@ -256,7 +256,7 @@ standing_told false work role rules past seen now at kind to parked timed low of
 })
 
 kept_unlisted : (working ready : Bool) (work : Found) (role : Role) (rules : Rules) (past : Past) (seen : Views) (now : ℤ) (at : Positions) (kind : Kind) (to : ℕ) (parked : Option Parked) (timed : Option ℤ) → position_of kind at ≤ to → is_reached kind to parked ≡ false
-    → IsKept working role rules past seen now at (row_of ready work working parked timed) → IsKept working role rules past seen now (with_position kind to at) (row_of ready work working parked timed)
+    → IsRowKept working role rules past seen now at (row_of ready work working parked timed) → IsRowKept working role rules past seen now (with_position kind to at) (row_of ready work working parked timed)
 kept_unlisted true ready work role rules past seen now at kind to parked timed low off is = is
 kept_unlisted false ready work role rules past seen now at kind to parked timed low off is = standing_told ready work role rules past seen now at kind to parked timed low off is
 
@@ -265,17 +265,17 @@ unfolding moved
 by_move b kind to row e = rw e refl
 
 moved_by : (b : Bool) (role : Role) (rules : Rules) (past : Past) (seen : Views) (now : ℤ) (at : Positions) (kind : Kind) (to : ℕ) (row new : Row) → position_of kind at ≤ to → is_reached kind to row.parked ≡ b
-    → new ≡ (if b then record row { ready = true; work = found.Unknown; parked = None } else row) → IsKept row.working role rules past seen now at row → IsKept new.working role rules past seen now (with_position kind to at) new
+    → new ≡ (if b then record row { ready = true; work = found.Unknown; parked = None } else row) → IsRowKept row.working role rules past seen now at row → IsRowKept new.working role rules past seen now (with_position kind to at) new
 moved_by true role rules past seen now at kind to row new low is to_new kept =
-    subst (λ (r : Row). IsKept r.working role rules past seen now (with_position kind to at) r) (sym to_new) (fresh_kept row.working role rules past seen now (with_position kind to at) None row.timed)
+    subst (λ (r : Row). IsRowKept r.working role rules past seen now (with_position kind to at) r) (sym to_new) (fresh_kept row.working role rules past seen now (with_position kind to at) None row.timed)
 moved_by false role rules past seen now at kind to row new low is to_new kept =
-    subst (λ (r : Row). IsKept r.working role rules past seen now (with_position kind to at) r) (sym to_new) (kept_unlisted row.working row.ready row.work role rules past seen now at kind to row.parked row.timed low is kept)
+    subst (λ (r : Row). IsRowKept r.working role rules past seen now (with_position kind to at) r) (sym to_new) (kept_unlisted row.working row.ready row.work role rules past seen now at kind to row.parked row.timed low is kept)
 
-pub kept_told : (listed : Bool) (role : Role) (rules : Rules) (past : Past) (seen new : Views) (now : ℤ) (at : Positions) (kind : Kind) (to : ℕ) (row : Row) → position_of kind at ≤ to → (listed ≡ false → new ≡ seen) → IsKept row.working role rules past seen now at row
-    → IsKept (told listed kind to row).working role rules past new now (with_position kind to at) (told listed kind to row)
+pub kept_told : (listed : Bool) (role : Role) (rules : Rules) (past : Past) (seen new : Views) (now : ℤ) (at : Positions) (kind : Kind) (to : ℕ) (row : Row) → position_of kind at ≤ to → (listed ≡ false → new ≡ seen) → IsRowKept row.working role rules past seen now at row
+    → IsRowKept (row_delivered listed kind to row).working role rules past new now (with_position kind to at) (row_delivered listed kind to row)
 kept_told true role rules past seen new now at kind to row low same kept = fresh_kept (moved kind to row).working role rules past new now (with_position kind to at) (moved kind to row).parked (moved kind to row).timed
 kept_told false role rules past seen new now at kind to row low same kept =
-    subst (λ (v : Views). IsKept (moved kind to row).working role rules past v now (with_position kind to at) (moved kind to row)) (sym (same refl))
+    subst (λ (v : Views). IsRowKept (moved kind to row).working role rules past v now (with_position kind to at) (moved kind to row)) (sym (same refl))
     (moved_by (is_reached kind to row.parked) role rules past seen now at kind to row (moved kind to row) low refl (by_move (is_reached kind to row.parked) kind to row refl) kept)
 
 -- ---- a pass begins
@@ -295,14 +295,14 @@ as_begun role past seen now row timed = record {
 }
 
 -- the moment at which the key is timed beside its other one is all that is written beside the begin
-begun_row : (next : Option ℤ) (row : Row) → is_free row ≡ true → begun next row ≡ timed_too next (record row { ready = false; work = found.Unknown; working = true })
+begun_row : (next : Option ℤ) (row : Row) → is_free row ≡ true → row_begun next row ≡ timed_too next (record row { ready = false; work = found.Unknown; working = true })
 begun_row next row free = ap (timed_too next) (by (is_free row) free) where
   by : (b : Bool) → b ≡ true → (if b then record row { ready = false; work = found.Unknown; working = true } else row) ≡ record row { ready = false; work = found.Unknown; working = true }
   by true on = refl
   by false on = absurd (cc on)
 
 noted_begun : (next : Option ℤ) (role : Role) (rules : Rules) (past : Past) (seen : Views) (now : ℤ) (at : Positions) (row : Row) → IsTimed role seen now next
-    → IsKept (timed_too next (record row { ready = false; work = found.Unknown; working = true })).working role rules (with_begin seen now past) seen now at (timed_too next (record row { ready = false; work = found.Unknown; working = true }))
+    → IsRowKept (timed_too next (record row { ready = false; work = found.Unknown; working = true })).working role rules (with_begin seen now past) seen now at (timed_too next (record row { ready = false; work = found.Unknown; working = true }))
 noted_begun None role rules past seen now at row is = record {
   unknown = refl;
   unchanged = λ off. as_begun role past seen now (timed_too None (record row { ready = false; work = found.Unknown; working = true })) (timed_by_next role seen now None (record row { ready = false; work = found.Unknown; working = true }) is);
@@ -313,17 +313,17 @@ noted_begun (Some new) role rules past seen now at row is = record {
 }
 
 pub kept_begun : (next : Option ℤ) (role : Role) (rules : Rules) (past : Past) (seen : Views) (now : ℤ) (at : Positions) (row : Row) → is_free row ≡ true → IsTimed role seen now next
-    → IsKept (begun next row).working role rules (with_begin seen now past) seen now at (begun next row)
+    → IsRowKept (row_begun next row).working role rules (with_begin seen now past) seen now at (row_begun next row)
 kept_begun next role rules past seen now at row free is =
-    subst (λ (r : Row). IsKept r.working role rules (with_begin seen now past) seen now at r) (sym (begun_row next row free)) (noted_begun next role rules past seen now at row is)
+    subst (λ (r : Row). IsRowKept r.working role rules (with_begin seen now past) seen now at r) (sym (begun_row next row free)) (noted_begun next role rules past seen now at row is)
 
 -- ---- the pass writes
 
-pub kept_working : (role : Role) (rules : Rules) (past new : Past) (seen : Views) (now : ℤ) (at : Positions) (row : Row) → row.working ≡ true → new.last ≡ past.last → IsKept row.working role rules past seen now at row
-    → IsKept row.working role rules new seen now at row
+pub kept_working : (role : Role) (rules : Rules) (past new : Past) (seen : Views) (now : ℤ) (at : Positions) (row : Row) → row.working ≡ true → new.last ≡ past.last → IsRowKept row.working role rules past seen now at row
+    → IsRowKept row.working role rules new seen now at row
 kept_working role rules past new seen now at row on same kept =
-    let noted : IsNoted role past seen now row = subst (λ (b : Bool). IsKept b role rules past seen now at row) on kept in
-    subst (λ (b : Bool). IsKept b role rules new seen now at row) (sym on)
+    let noted : IsNoted role past seen now row = subst (λ (b : Bool). IsRowKept b role rules past seen now at row) on kept in
+    subst (λ (b : Bool). IsRowKept b role rules new seen now at row) (sym on)
     (record { unknown = noted.unknown; unchanged = λ off. again (noted.unchanged off) })
   where
     again : IsUnchanged role past seen now row → IsUnchanged role new seen now row
@@ -354,12 +354,12 @@ own_is own at p is =
 
 -- what is left of a row that is ready: it is looked at again
 waited_ready : (o : Option Parked) (work : Found) (role : Role) (rules : Rules) (past : Past) (seen : Views) (now : ℤ) (at : Positions) (parked : Option Parked) (timed : Option ℤ) → work ≡ found.Unknown
-    → IsKept (waiting o (row_of true work false parked timed)).working role rules past seen now at (waiting o (row_of true work false parked timed))
+    → IsRowKept (waiting o (row_of true work false parked timed)).working role rules past seen now at (waiting o (row_of true work false parked timed))
 waited_ready None work role rules past seen now at parked timed fresh = tt
 waited_ready (Some p) work role rules past seen now at parked timed fresh = fresh_looked work role rules past seen now at (row_of true work false (Some p) timed) fresh
 
 kept_ready : (ending : Ending) (work : Found) (working : Bool) (role : Role) (rules : Rules) (own : Positions) (past : Past) (seen : Views) (now : ℤ) (at : Positions) (parked : Option Parked) (timed : Option ℤ) → work ≡ found.Unknown
-    → IsKept (closed ending own at (row_of true work working parked timed)).working role rules past seen now at (closed ending own at (row_of true work working parked timed))
+    → IsRowKept (closed ending own at (row_of true work working parked timed)).working role rules past seen now at (closed ending own at (row_of true work working parked timed))
 kept_ready endings.Open work working role rules own past seen now at parked timed fresh = tt
 kept_ready endings.Nothing work working role rules own past seen now at parked timed fresh = fresh_looked work role rules past seen now at (row_of true work false parked timed) fresh
 kept_ready endings.Wrote work working role rules own past seen now at parked timed fresh = waited_ready (own_ahead own at) work role rules past seen now at parked timed fresh
@@ -369,7 +369,7 @@ kept_ready (endings.Refused (Newer kind version)) work working role rules own pa
 -- of any other row: it waits, or is looked at again
 waited : (o : Option Parked) (work : Found) (role : Role) (rules : Rules) (past : Past) (seen : Views) (now : ℤ) (at : Positions) (parked : Option Parked) (timed : Option ℤ)
     → ((p : Parked) → o ≡ Some p → (position_of p.kind at < p.version) × ((p.version ≤ position_of p.kind past.own) ⊎ IsStoppedFor past.last seen p))
-    → IsKept (waiting o (row_of false work false parked timed)).working role rules past seen now at (waiting o (row_of false work false parked timed))
+    → IsRowKept (waiting o (row_of false work false parked timed)).working role rules past seen now at (waiting o (row_of false work false parked timed))
 waited None work role rules past seen now at parked timed cause = tt
 waited (Some p) work role rules past seen now at parked timed cause = let why = cause p refl in inr (record { parked = p; kept = refl; behind = why.0; cause = why.1 })
 
@@ -391,8 +391,8 @@ IsFair role rules l endings.Nothing = IsIdleAt role rules l.seen l.since
 IsFair role rules l other = Unit {0}
 
 kept_unready : (ending : Ending) (work : Found) (working : Bool) (role : Role) (rules : Rules) (own : Positions) (l : LastPass) (seen : Views) (now : ℤ) (at : Positions) (parked : Option Parked) (timed : Option ℤ) → sound.IsSound role → int_le l.since now ≡ true
-    → IsFair role rules l ending → seen ≡ l.seen → IsTimed role seen now timed → sound.IsQuiet role seen l.since now
-    → IsKept (closed ending own at (row_of false work working parked timed)).working role rules (end_of ending own l) seen now at (closed ending own at (row_of false work working parked timed))
+    → IsFair role rules l ending → seen ≡ l.seen → IsTimed role seen now timed → sound.HasNoDueMoment role seen l.since now
+    → IsRowKept (closed ending own at (row_of false work working parked timed)).working role rules (end_of ending own l) seen now at (closed ending own at (row_of false work working parked timed))
 kept_unready endings.Open work working role rules own l seen now at parked timed laws later fair same noted calm = absurd fair
 kept_unready endings.Nothing work working role rules own l seen now at parked timed laws later fair same noted calm = inl (record {
   idle = λ d rules_are. laws.idle seen l.since now d d refl calm later (subst (λ (v : Views). act role v l.since d ≡ Nothing) (sym same) (fair d rules_are));
@@ -408,23 +408,23 @@ kept_unready (endings.Refused (Newer kind version)) work working role rules own 
 
 unready_ended : (ending : Ending) (role : Role) (rules : Rules) (past : Past) (seen : Views) (now : ℤ) (at : Positions) (work : Found) (working : Bool) (parked : Option Parked) (timed : Option ℤ) → sound.IsSound role
     → ((l : LastPass) → past.last ≡ Some l → IsFair role rules l ending) → IsUnchanged role past seen now (row_of false work working parked timed)
-    → IsKept (closed ending past.own at (row_of false work working parked timed)).working role rules (with_ending ending past) seen now at (closed ending past.own at (row_of false work working parked timed))
+    → IsRowKept (closed ending past.own at (row_of false work working parked timed)).working role rules (with_ending ending past) seen now at (closed ending past.own at (row_of false work working parked timed))
 unready_ended ending role rules past seen now at work working parked timed laws fair u =
     subst
-    (λ (o : Option LastPass). IsKept (closed ending past.own at (row_of false work working parked timed)).working role rules (with_ending ending (record { own = past.own; last = o })) seen now at (closed ending past.own at (row_of false work working parked timed)))
+    (λ (o : Option LastPass). IsRowKept (closed ending past.own at (row_of false work working parked timed)).working role rules (with_ending ending (record { own = past.own; last = o })) seen now at (closed ending past.own at (row_of false work working parked timed)))
     (sym u.is)
     (kept_unready ending work working role rules past.own u.last seen now at parked timed laws u.later (fair u.last u.is) u.same u.timed u.calm)
 
 ended_by : (ready : Bool) (ending : Ending) (role : Role) (rules : Rules) (past : Past) (seen : Views) (now : ℤ) (at : Positions) (work : Found) (working : Bool) (parked : Option Parked) (timed : Option ℤ) → sound.IsSound role
     → ((l : LastPass) → past.last ≡ Some l → IsFair role rules l ending) → IsNoted role past seen now (row_of ready work working parked timed)
-    → IsKept (closed ending past.own at (row_of ready work working parked timed)).working role rules (with_ending ending past) seen now at (closed ending past.own at (row_of ready work working parked timed))
+    → IsRowKept (closed ending past.own at (row_of ready work working parked timed)).working role rules (with_ending ending past) seen now at (closed ending past.own at (row_of ready work working parked timed))
 ended_by true ending role rules past seen now at work working parked timed laws fair noted = kept_ready ending work working role rules past.own (with_ending ending past) seen now at parked timed noted.unknown
 ended_by false ending role rules past seen now at work working parked timed laws fair noted = unready_ended ending role rules past seen now at work working parked timed laws fair (noted.unchanged refl)
 
 pub kept_closed : (ending : Ending) (role : Role) (rules : Rules) (past : Past) (seen : Views) (now : ℤ) (at : Positions) (row : Row) → sound.IsSound role → ((l : LastPass) → past.last ≡ Some l → IsFair role rules l ending)
-    → row.working ≡ true → IsKept row.working role rules past seen now at row → IsKept (closed ending past.own at row).working role rules (with_ending ending past) seen now at (closed ending past.own at row)
+    → row.working ≡ true → IsRowKept row.working role rules past seen now at row → IsRowKept (closed ending past.own at row).working role rules (with_ending ending past) seen now at (closed ending past.own at row)
 kept_closed ending role rules past seen now at row laws fair on kept =
-    ended_by row.ready ending role rules past seen now at row.work row.working row.parked row.timed laws fair (subst (λ (b : Bool). IsKept b role rules past seen now at row) on kept)
+    ended_by row.ready ending role rules past seen now at row.work row.working row.parked row.timed laws fair (subst (λ (b : Bool). IsRowKept b role rules past seen now at row) on kept)
 
 -- ---- a role starts, or an entry finds it as it began
 
@@ -447,16 +447,16 @@ nothing_seen role rules past seen now row laws none first = record {
 }
 
 pub kept_started : (known : Bool) (role : Role) (rules : Rules) (past : Past) (seen : Views) (now : ℤ) (at : Positions) → sound.IsSound role → past.last ≡ None → (known ≡ false → seen ≡ no_views)
-    → IsKept (started known).working role rules past seen now at (started known)
+    → IsRowKept (started known).working role rules past seen now at (started known)
 kept_started true role rules past seen now at laws first none = tt
 kept_started false role rules past seen now at laws first none = inl (nothing_seen role rules past seen now no_row laws (none refl) first)
 
 -- ---- a key is looked at where it is ready and in no pass
 
 pub kept_busy : (role : Role) (rules : Rules) (past : Past) (seen : Views) (now : ℤ) (at : Positions) (row : Row) → row.ready ≡ true → row.working ≡ false → IsBusy role rules past seen now at
-    → IsKept (found_busy row).working role rules past seen now at (found_busy row)
+    → IsRowKept (found_busy row).working role rules past seen now at (found_busy row)
 kept_busy role rules past seen now at row ready free busy =
-    subst (λ (b : Bool). IsKept b role rules past seen now at (found_busy row)) (sym free) (subst (λ (b : Bool). IsStanding b role rules past seen now at (found_busy row)) (sym ready) busy)
+    subst (λ (b : Bool). IsRowKept b role rules past seen now at (found_busy row)) (sym free) (subst (λ (b : Bool). IsLookedOrWaiting b role rules past seen now at (found_busy row)) (sym ready) busy)
 
 -- the parts of a row that a moment more leaves as they are
 record IsLeft (old new : Row) : Type 0 where
@@ -469,23 +469,23 @@ left_by None row = record { ready = refl; work = refl; working = refl }
 left_by (Some at) row = record { ready = refl; work = refl; working = refl }
 
 pub kept_idle : (next : Option ℤ) (role : Role) (rules : Rules) (past : Past) (seen : Views) (now : ℤ) (at : Positions) (row : Row) → row.ready ≡ true → row.working ≡ false → IsTimed role seen now next
-    → IsIdleAt role rules seen now → (seen ≡ seen_last past.last → ⊥) → IsDue past seen now at → IsKept (found_idle next row).working role rules past seen now at (found_idle next row)
+    → IsIdleAt role rules seen now → (seen ≡ seen_last past.last → ⊥) → IsDue past seen now at → IsRowKept (found_idle next row).working role rules past seen now at (found_idle next row)
 kept_idle next role rules past seen now at row ready free timed idle new due =
     let left = left_by next (record row { work = found.Nothing }) in
-    subst (λ (b : Bool). IsKept b role rules past seen now at (found_idle next row)) (sym (left.working ∙ free))
-    (subst (λ (b : Bool). IsStanding b role rules past seen now at (found_idle next row)) (sym (left.ready ∙ ready))
+    subst (λ (b : Bool). IsRowKept b role rules past seen now at (found_idle next row)) (sym (left.working ∙ free))
+    (subst (λ (b : Bool). IsLookedOrWaiting b role rules past seen now at (found_idle next row)) (sym (left.ready ∙ ready))
     (subst (λ (w : Found). IsLooked w role rules past seen now at (found_idle next row)) (sym left.work)
     (record { idle = idle; new = new; due = due; timed = timed_by_next role seen now next (record row { work = found.Nothing }) timed })))
 
 pub kept_quiet : (next : Option ℤ) (role : Role) (rules : Rules) (past : Past) (seen : Views) (now : ℤ) (at : Positions) (row : Row) → row.working ≡ false → IsTimed role seen now next
-    → IsIdleAt role rules seen now → seen ≡ seen_last past.last → IsKept (found_quiet next row).working role rules past seen now at (found_quiet next row)
+    → IsIdleAt role rules seen now → seen ≡ seen_last past.last → IsRowKept (found_quiet next row).working role rules past seen now at (found_quiet next row)
 kept_quiet next role rules past seen now at row free timed idle same =
     let left = left_by next (record row { ready = false; work = found.Unknown }) in
-    subst (λ (b : Bool). IsKept b role rules past seen now at (found_quiet next row)) (sym (left.working ∙ free))
-    (subst (λ (b : Bool). IsStanding b role rules past seen now at (found_quiet next row)) (sym left.ready)
+    subst (λ (b : Bool). IsRowKept b role rules past seen now at (found_quiet next row)) (sym (left.working ∙ free))
+    (subst (λ (b : Bool). IsLookedOrWaiting b role rules past seen now at (found_quiet next row)) (sym left.ready)
     (inl (record { idle = idle; same = same; timed = timed_by_next role seen now next (record row { ready = false; work = found.Unknown }) timed })))
 
 pub kept_held : (parked : Parked) (role : Role) (rules : Rules) (past : Past) (seen : Views) (now : ℤ) (at : Positions) (row : Row) → row.working ≡ false → position_of parked.kind at < parked.version
-    → (parked.version ≤ position_of parked.kind past.own) ⊎ IsStoppedFor past.last seen parked → IsKept (found_held parked row).working role rules past seen now at (found_held parked row)
+    → (parked.version ≤ position_of parked.kind past.own) ⊎ IsStoppedFor past.last seen parked → IsRowKept (found_parked parked row).working role rules past seen now at (found_parked parked row)
 kept_held parked role rules past seen now at row free behind cause =
-    subst (λ (b : Bool). IsKept b role rules past seen now at (found_held parked row)) (sym free) (inr (record { parked = parked; kept = refl; behind = behind; cause = cause }))
+    subst (λ (b : Bool). IsRowKept b role rules past seen now at (found_parked parked row)) (sym free) (inr (record { parked = parked; kept = refl; behind = behind; cause = cause }))

@@ -26,12 +26,12 @@ added_if true row = added row
 added_if false row = row
 
 -- the role was told of the kind up to a version; a key of which it may see something new is listed
-abbrev pub told : Bool → Kind → ℕ → Row → Row
-told listed kind to row = added_if listed (moved kind to row)
+abbrev pub row_delivered : Bool → Kind → ℕ → Row → Row
+row_delivered listed kind to row = added_if listed (moved kind to row)
 
 -- a pass began, and this is the next due moment of what it sees
-abbrev pub begun : Option ℤ → Row → Row
-begun next row = timed_too next (taken row)
+abbrev pub row_begun : Option ℤ → Row → Row
+row_begun next row = timed_too next (taken row)
 
 -- a pass ended so. One that had nothing to do leaves the key as it is. After a write the key waits for the role's own write, and after a refusal for
 -- what refused the pass; where the role is told of that already, and after a failure, the key is ready.
@@ -58,5 +58,5 @@ abbrev pub found_quiet : Option ℤ → Row → Row
 found_quiet next row = timed_too next (left row)
 
 -- no pass may begin on the key before the role is told of this version
-abbrev pub found_held : Parked → Row → Row
-found_held parked row = parked_for parked.kind parked.version (left row)
+abbrev pub found_parked : Parked → Row → Row
+found_parked parked row = parked_for parked.kind parked.version (left row)

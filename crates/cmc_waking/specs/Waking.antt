@@ -76,7 +76,7 @@ pub record IsAsleep (role : Role) (rules : Rules) (past : Past) (seen : Views) (
   pub timed : IsTimed role seen now row.timed
 
 -- a look found that a pass may begin, has nothing to do and sees something new
-pub record IsNews (role : Role) (rules : Rules) (past : Past) (seen : Views) (now : ℤ) (at : Positions) (row : Row) : Type 0 where
+pub record IsNewToSee (role : Role) (rules : Rules) (past : Past) (seen : Views) (now : ℤ) (at : Positions) (row : Row) : Type 0 where
   pub idle : IsIdleAt role rules seen now
   pub new : seen ≡ seen_last past.last → ⊥
   pub due : IsDue past seen now at
@@ -94,7 +94,7 @@ pub record IsUnchanged (role : Role) (past : Past) (seen : Views) (now : ℤ) (r
   pub later : int_le last.since now ≡ true
   pub same : seen ≡ last.seen
   pub timed : IsTimed role seen now row.timed
-  pub calm : sound.IsQuiet role seen last.since now
+  pub calm : sound.HasNoDueMoment role seen last.since now
 
 -- during a pass: what changes makes the key ready, and it is looked at after the pass alone
 pub record IsNoted (role : Role) (past : Past) (seen : Views) (now : ℤ) (row : Row) : Type 0 where
@@ -105,21 +105,21 @@ pub record IsNoted (role : Role) (past : Past) (seen : Views) (now : ℤ) (row :
 
 abbrev pub IsLooked : Found → Role → Rules → Past → Views → ℤ → Positions → Row → Type 0
 IsLooked found.Unknown role rules past seen now at row = Unit {0}
-IsLooked found.Nothing role rules past seen now at row = IsNews role rules past seen now at row
+IsLooked found.Nothing role rules past seen now at row = IsNewToSee role rules past seen now at row
 IsLooked found.Something role rules past seen now at row = IsBusy role rules past seen now at
 
-abbrev pub IsStanding : Bool → Role → Rules → Past → Views → ℤ → Positions → Row → Type 0
-IsStanding true role rules past seen now at row = IsLooked row.work role rules past seen now at row
-IsStanding false role rules past seen now at row = IsAsleep role rules past seen now row ⊎ IsWaiting past seen at row
+abbrev pub IsLookedOrWaiting : Bool → Role → Rules → Past → Views → ℤ → Positions → Row → Type 0
+IsLookedOrWaiting true role rules past seen now at row = IsLooked row.work role rules past seen now at row
+IsLookedOrWaiting false role rules past seen now at row = IsAsleep role rules past seen now row ⊎ IsWaiting past seen at row
 
-abbrev pub IsKept : Bool → Role → Rules → Past → Views → ℤ → Positions → Row → Type 0
-IsKept true role rules past seen now at row = IsNoted role past seen now row
-IsKept false role rules past seen now at row = IsStanding row.ready role rules past seen now at row
+abbrev pub IsRowKept : Bool → Role → Rules → Past → Views → ℤ → Positions → Row → Type 0
+IsRowKept true role rules past seen now at row = IsNoted role past seen now row
+IsRowKept false role rules past seen now at row = IsLookedOrWaiting row.ready role rules past seen now at row
 
 -- the row of a key of the role's work: whether the key is in process, and where the role runs what the row says
 pub record IsTendedRow (s : Setting) (h : List Entry) (role : Role) (key : Key) (row : Row) : Type 0 where
   pub working : IsTrue row.working ↔ IsWorking s h role key
-  pub kept : runs s h role ≡ true → IsKept row.working role s.rules (past s h role key) (views s h role key) (moment s h) (positions h role) row
+  pub kept : runs s h role ≡ true → IsRowKept row.working role s.rules (past s h role key) (views s h role key) (moment s h) (positions h role) row
 
 unfoldable pub IsTended : Setting → List Entry → Role → Key → Row → Type 0
 IsTended s h role key row = IsTendedRow s h role key row
@@ -133,13 +133,13 @@ pub record AreTended (s : Setting) (h : List Entry) (role : Role) (row : Key →
 -- ---- the promise
 
 -- The role may not begin on the key before it is told of the version that the key waits for: not at this moment, and at no other.
-pub record IsHeldBack (s : Setting) (h : List Entry) (role : Role) (key : Key) (row : Row) : Type 0 where
+pub record WaitsForVersion (s : Setting) (h : List Entry) (role : Role) (key : Key) (row : Row) : Type 0 where
   pub until : IsSomeAnd row.parked (λ parked. position_of parked.kind (positions h role) < parked.version)
   pub undue : (now : ℤ) → IsDue (past s h role key) (views s h role key) now (positions h role) → ⊥
 
 -- the key is ready, in process, or held back
 abbrev pub IsCovered : Setting → List Entry → Role → Key → Row → Type 0
-IsCovered s h role key row = (row.ready ≡ true) ⊎ ((row.working ≡ true) ⊎ IsHeldBack s h role key row)
+IsCovered s h role key row = (row.ready ≡ true) ⊎ ((row.working ≡ true) ⊎ WaitsForVersion s h role key row)
 
 pub record LosesNoWakeUp (s : Setting) (h : List Entry) (role : Role) (row : Key → Row) : Type 0 where
   -- where the role has something to do, the key is covered

@@ -41,7 +41,7 @@ pub(crate) fn wake_each(queue: &mut Queue, keys: &[Key]) -> Result<(), AllocErro
 /// The role is told of the kind up to this version; of each of the keys it may see something new.
 pub(crate) fn tell(queue: &mut Queue, kind: Kind, to: u64, keys: &[Key])
     requires { HasRooms keys.now queue.old }
-    ensures { (k : KeyValue) → row_of queue.new k ≡ words.told (is_among keys.now k) kind to (row_of queue.old k) }
+    ensures { (k : KeyValue) → row_of queue.new k ≡ words.row_delivered (is_among keys.now k) kind to (row_of queue.old k) }
 {
     queue.moved(kind, to);
     add_each(queue, keys);
@@ -64,7 +64,7 @@ fn time(queue: &mut Queue, key: &Key, next: Option<i64>)
 pub(crate) fn begin(queue: &mut Queue, key: &Key, next: Option<i64>)
     requires row { has_room queue.old key.now ≡ true }
     requires place { HasPlaceAt next key.now queue.old }
-    ensures rows { ChangesRow (words.begun next) key.now queue.old queue.new }
+    ensures rows { ChangesRow (words.row_begun next) key.now queue.old queue.new }
     ensures room { KeepsRoom queue.old queue.new }
 {
     queue.take(key);
@@ -138,7 +138,7 @@ pub(crate) fn find_quiet(queue: &mut Queue, key: &Key, next: Option<i64>)
 pub(crate) fn find_held(queue: &mut Queue, key: &Key, parked: Parked)
     requires row { has_room queue.old key.now ≡ true }
     requires place { has_room_for queue.old parked.kind parked.version key.now ≡ true }
-    ensures rows { ChangesRow (words.found_held parked) key.now queue.old queue.new }
+    ensures rows { ChangesRow (words.found_parked parked) key.now queue.old queue.new }
     ensures room { KeepsRoom queue.old queue.new }
     ensures fewer { is_fresh (row_of queue.old key.now) ≡ true → fresh_count queue.old.rows ≡ fresh_count queue.new.rows + 1 }
 {

@@ -148,7 +148,7 @@ impl Queues {
     /// The role is told of the kind up to this version; of each of the keys it may see something new.
     pub fn told(&mut self, role: Role, kind: Kind, to: u64, keys: &[Key])
         requires { HasRooms keys.now (queue_in self.old role) }
-        ensures rows { (k : KeyValue) → row_at self.new role k ≡ words.told (is_among keys.now k) kind to (row_at self.old role k) }
+        ensures rows { (k : KeyValue) → row_at self.new role k ≡ words.row_delivered (is_among keys.now k) kind to (row_at self.old role k) }
         ensures others { KeepsOthers role self.old self.new }
     {
         feeding::tell(&mut self.rows[role.rank() as usize], kind, to, keys);
@@ -158,7 +158,7 @@ impl Queues {
     pub fn begun(&mut self, role: Role, key: &Key, next: Option<i64>)
         requires row { has_room (queue_in self.old role) key.now ≡ true }
         requires place { HasPlaceAt next key.now (queue_in self.old role) }
-        ensures rows { ChangesRow (words.begun next) key.now (queue_in self.old role) (queue_in self.new role) }
+        ensures rows { ChangesRow (words.row_begun next) key.now (queue_in self.old role) (queue_in self.new role) }
         ensures room { KeepsRoom (queue_in self.old role) (queue_in self.new role) }
         ensures others { KeepsOthers role self.old self.new }
     {
@@ -244,7 +244,7 @@ impl Queues {
     pub fn found_held(&mut self, role: Role, key: &Key, parked: Parked)
         requires row { has_room (queue_in self.old role) key.now ≡ true }
         requires place { has_room_for (queue_in self.old role) parked.kind parked.version key.now ≡ true }
-        ensures rows { ChangesRow (words.found_held parked) key.now (queue_in self.old role) (queue_in self.new role) }
+        ensures rows { ChangesRow (words.found_parked parked) key.now (queue_in self.old role) (queue_in self.new role) }
         ensures room { KeepsRoom (queue_in self.old role) (queue_in self.new role) }
         ensures others { KeepsOthers role self.old self.new }
         ensures fewer { is_fresh (row_at self.old role key.now) ≡ true → fresh_count (queue_in self.old role).rows ≡ fresh_count (queue_in self.new role).rows + 1 }

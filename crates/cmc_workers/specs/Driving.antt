@@ -26,7 +26,7 @@ waits_for_count (Some (steps.Until role kind writes)) = true
 waits_for_count other = false
 
 -- the pass waits for the value of this question, which can be made, and the point says where it asked
-pub record IsAsked (world : Seen) (pass : ℕ) (at : Point) (order : Order) : Type 0 where
+pub record IsAskedAt (world : Seen) (pass : ℕ) (at : Point) (order : Order) : Type 0 where
   pub waits : kept_of (open_pass (setting_of world.scenario) world.history pass) ≡ Some order
   pub made : CanBeMade order
   pub point : at ≡ record { work = work_of order; entry = ask_number pass world.history }
@@ -39,7 +39,7 @@ pub record IsToDecide (world : Seen) (pass : ℕ) (at : Point) (begun : BegunPas
 
 -- the task is what the pass waits for
 abbrev pub IsTask : Seen → ℕ → Point → Task → Type 0
-IsTask world pass at (Value order) = IsAsked world pass at order
+IsTask world pass at (Value order) = IsAskedAt world pass at order
 IsTask world pass at (Decision begun) = IsToDecide world pass at begun
 
 abbrev pub IsErrand : Seen → Errand → Type 0

@@ -6,9 +6,9 @@ use Rattle.cmc_workers.specs.declared.shared.Found.{Found}
 use Rattle.cmc_workers.specs.declared.shared.Found.TheVariants.{Work}
 
 -- the pass may begin, and has something to do
-abbrev pub IsOpening : Seen → Opening → Type 0
-IsOpening world o = on IsWork world o.role o.key o
+abbrev pub IsWorkOpening : Seen → Opening → Type 0
+IsWorkOpening world o = on IsWork world o.role o.key o
 
 abbrev pub IsFound : Seen → Found → Type 0
-IsFound world (Work o) = IsOpening world o
+IsFound world (Work o) = IsWorkOpening world o
 IsFound world other = Unit {0}

@@ -16,7 +16,7 @@ ghost use Rattle.cmc_plain.specs.Plain.{HasNoDelivery};
 ghost use Rattle.cmc_world.specs.Kept.{on};
 ghost use Rattle.cmc_workers.specs.Driving as spec;
 ghost use Rattle.cmc_workers.specs.Driving.{IsErrand};
-ghost use Rattle.cmc_workers.specs.Finding.{IsFound, IsOpening};
+ghost use Rattle.cmc_workers.specs.Finding.{IsFound, IsWorkOpening};
 
 use crate::errands::{Answer, Errand, Outcome, Taken, Task};
 use cmc_meta::Key;
@@ -116,7 +116,7 @@ fn next_in(
     waking: &mut Waking,
     turn: &Option<Turn>,
 ) -> Result<Option<Opening>, AllocError>
-    ensures opening { IfOk result (λ o. IfSome o (IsOpening waking.new)) }
+    ensures opening { IfOk result (λ o. IfSome o (IsWorkOpening waking.new)) }
     ensures same { waking.new ≡ waking.old }
 {
     match turn {
@@ -460,7 +460,7 @@ impl Shared {
 
     /// Begins the pass; `None` where it is not begun.
     fn begin_on(&mut self, alloc: Global, opening: Opening) -> Result<Option<Started>, AllocError>
-        requires { IsOpening self.old.waking opening }
+        requires { IsWorkOpening self.old.waking opening }
         ensures { self.new.waking.scenario ≡ self.old.waking.scenario }
     {
         let incarnation = self.waking.world().incarnation(opening.role);

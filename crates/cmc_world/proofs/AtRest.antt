@@ -18,7 +18,7 @@ use Rattle.cmc_model.specs.declared.write.Write.{Write}
 use Rattle.cmc_model.specs.Histories.{Setting, runs}
 use Rattle.cmc_model.specs.Writes.{writes, is_known}
 use Rattle.cmc_rules.specs.Passes.{open_pass}
-use Rattle.cmc_rules.specs.Resting.{RestsOn, IsAtRest, IsToldAll, RestsIn}
+use Rattle.cmc_rules.specs.Resting.{RestsOn, IsAtRest, IsUpToDate, RestsIn}
 use Rattle.cmc_world.specs.Rest.{EachRole, EachKind}
 
 -- ---- keys
@@ -106,10 +106,10 @@ each_kind P = (one_kind P, λ all. (all Certificate, all CertificateRequest, all
 
 -- a role rests by the keys of all writes
 pub rests_in_by : (s : Setting) (h : List Entry) (role : Role)
-    → (runs s h role ≡ true → EachKind (IsToldAll s h role) × All (λ (w : Write). RestsOn s h role w.key) (writes s h)) ↔ RestsIn s h role
+    → (runs s h role ≡ true → EachKind (IsUpToDate s h role) × All (λ (w : Write). RestsOn s h role w.key) (writes s h)) ↔ RestsIn s h role
 rests_in_by s h role = (
-  λ found running. ((each_kind (IsToldAll s h role)).0 (found running).0, (each_known (RestsOn s h role) (writes s h)).0 (found running).1),
-  λ rests running. ((each_kind (IsToldAll s h role)).1 (rests running).0, (each_known (RestsOn s h role) (writes s h)).1 (rests running).1),
+  λ found running. ((each_kind (IsUpToDate s h role)).0 (found running).0, (each_known (RestsOn s h role) (writes s h)).0 (found running).1),
+  λ rests running. ((each_kind (IsUpToDate s h role)).1 (rests running).0, (each_known (RestsOn s h role) (writes s h)).1 (rests running).1),
 )
 
 -- all is at rest where no pass is open and each role rests

@@ -23,9 +23,9 @@ use Rattle.cmc_rules.specs.Legality.{IsLegal}
 use Rattle.cmc_rules.proofs.Positions.{positions_low}
 use Rattle.cmc_held.specs.Dues.{shown_positions}
 use Rattle.cmc_held.specs.declared.role_states.RoleState.{RoleState}
-use Rattle.cmc_caches.specs.Told.{cached, caches_at, with_cached}
+use Rattle.cmc_caches.specs.Told.{cache_of, caches_at, with_cached}
 use Rattle.cmc_world.specs.Changes.{each_at}
-use Rattle.cmc_world.specs.Kept.{Holdings, IsHeld, IsKept}
+use Rattle.cmc_world.specs.Kept.{Holdings, IsHoldingsOf, IsKept}
 use Rattle.cmc_world.proofs.Judging.{told_is}
 use Rattle.cmc_world.proofs.RoleStates.{same_role}
 
@@ -85,7 +85,7 @@ told_at false ws h role kind to r is e = refl
 abbrev pub IsTelling : Holdings → Role → Kind → ℕ → (Role → Caches) → Type 0
 IsTelling w role kind to c = (r : Role) → c r ≡ (if role_eq role r then with_cached kind (left kind to w.log) (w.caches role) else w.caches r)
 
-of_history : (s : Setting) (h : List Entry) (w : Holdings) (role : Role) (kind : Kind) (to : ℕ) (r : Role) → IsHeld s h w
+of_history : (s : Setting) (h : List Entry) (w : Holdings) (role : Role) (kind : Kind) (to : ℕ) (r : Role) → IsHoldingsOf s h w
     → (if role_eq role r then with_cached kind (left kind to w.log) (w.caches role) else w.caches r)
     ≡ (if role_eq role r then with_cached kind (left kind to (writes s h)) (caches_at (writes s h) (positions h role)) else caches_at (writes s h) (positions h r))
 of_history s h w role kind to r k =
@@ -93,11 +93,11 @@ of_history s h w role kind to r k =
     ∙ ap (λ (c : Caches). if role_eq role r then with_cached kind (left kind to (writes s h)) c else w.caches r) (k.caches role)
     ∙ ap (λ (c : Caches). if role_eq role r then with_cached kind (left kind to (writes s h)) (caches_at (writes s h) (positions h role)) else c) (k.caches r)
 
-pub caches_delivered : (s : Setting) (h : List Entry) (w : Holdings) (role : Role) (kind : Kind) (to : ℕ) (c : Role → Caches) → IsHeld s h w → has_informer role kind ≡ true
+pub caches_delivered : (s : Setting) (h : List Entry) (w : Holdings) (role : Role) (kind : Kind) (to : ℕ) (c : Role → Caches) → IsHoldingsOf s h w → has_informer role kind ≡ true
     → IsTelling w role kind to c → (r : Role) → c r ≡ caches_at (writes s (Deliver role kind to ∷ h)) (positions (Deliver role kind to ∷ h) r)
 caches_delivered s h w role kind to c k is told r = told r ∙ of_history s h w role kind to r k ∙ told_at (role_eq role r) (writes s h) h role kind to r is refl
 
-pub caches_listed : (s : Setting) (h : List Entry) (w : Holdings) (role : Role) (kind : Kind) (to : ℕ) (c : Role → Caches) → IsHeld s h w → has_informer role kind ≡ true
+pub caches_listed : (s : Setting) (h : List Entry) (w : Holdings) (role : Role) (kind : Kind) (to : ℕ) (c : Role → Caches) → IsHoldingsOf s h w → has_informer role kind ≡ true
     → IsTelling w role kind to c → (r : Role) → c r ≡ caches_at (writes s (Listed role kind to ∷ h)) (positions (Listed role kind to ∷ h) r)
 caches_listed s h w role kind to c k is told r = told r ∙ of_history s h w role kind to r k ∙ told_at (role_eq role r) (writes s h) h role kind to r is refl
 
@@ -113,7 +113,7 @@ started_at : (b : Bool) (ws : List Write) (h : List Entry) (role : Role) (at : �
 started_at true ws h role at r e = ap (λ (q : Role). caches_at ws (shown_positions q (each_at at))) (same_role role r e)
 started_at false ws h role at r e = refl
 
-pub caches_started : (s : Setting) (h : List Entry) (w : Holdings) (role : Role) (at : ℕ) (c : Role → Caches) → IsHeld s h w
+pub caches_started : (s : Setting) (h : List Entry) (w : Holdings) (role : Role) (at : ℕ) (c : Role → Caches) → IsHoldingsOf s h w
     → ((r : Role) → c r ≡ (if role_eq role r then caches_at w.log (shown_positions role (each_at at)) else w.caches r))
     → (r : Role) → c r ≡ caches_at (writes s (Start role at ∷ h)) (positions (Start role at ∷ h) r)
 caches_started s h w role at c k set r =
@@ -125,7 +125,7 @@ caches_started s h w role at c k set r =
 -- ---- what telling a role asks for
 
 cached_at : (ws : List Write) (h : List Entry) (role : Role) (kind : Kind) → has_informer role kind ≡ true
-    → cached kind (caches_at ws (positions h role)) ≡ left kind (position h role kind) ws
+    → cache_of kind (caches_at ws (positions h role)) ≡ left kind (position h role kind) ws
 cached_at ws h role kinds.Certificate is = ap (λ (b : Bool). left kinds.Certificate (if b then position h role kinds.Certificate else 0) ws) is
 cached_at ws h role kinds.CertificateRequest is = ap (λ (b : Bool). left kinds.CertificateRequest (if b then position h role kinds.CertificateRequest else 0) ws) is
 cached_at ws h role kinds.Secret is = ap (λ (b : Bool). left kinds.Secret (if b then position h role kinds.Secret else 0) ws) is
@@ -136,14 +136,14 @@ told_from s h w role kind t from k stands at = at ∙ ap (λ (x : RoleState). po
 
 -- the role has what its position says
 pub has_told : (s : Setting) (h : List Entry) (w : Holdings) (role : Role) (kind : Kind) (t : RoleState) (from : ℕ) (items : List Write) → IsKept s h w → has_informer role kind ≡ true
-    → t ≡ w.role_state role → from ≡ position_of kind t.told → reverse items ≡ w.log → cached kind (w.caches role) ≡ left kind from (reverse items)
+    → t ≡ w.role_state role → from ≡ position_of kind t.told → reverse items ≡ w.log → cache_of kind (w.caches role) ≡ left kind from (reverse items)
 has_told s h w role kind t from items k is stands at back =
-    ap (cached kind) (k.held.caches role) ∙ cached_at (writes s h) h role kind is
+    ap (cache_of kind) (k.held.caches role) ∙ cached_at (writes s h) h role kind is
     ∙ ap (λ (p : ℕ). left kind p (writes s h)) (sym (told_from s h w role kind t from k stands at))
     ∙ ap (left kind from) (sym (back ∙ k.held.log))
 
 -- there are as many writes in the log as were accepted
-pub log_length : (s : Setting) (h : List Entry) (w : Holdings) (items : List Write) → IsHeld s h w → reverse items ≡ w.log → length items ≡ accepted s h
+pub log_length : (s : Setting) (h : List Entry) (w : Holdings) (items : List Write) → IsHoldingsOf s h w → reverse items ≡ w.log → length items ≡ accepted s h
 log_length s h w items k back = sym (length-reverse items) ∙ ap length (back ∙ k.log) ∙ writes_count s h
 
 -- what a role that starts is shown was written

@@ -26,7 +26,7 @@ use Rattle.cmc_model.specs.Histories.{Setting, moment, state, accepted, role_eq}
 use Rattle.cmc_model.specs.Writes.{write_of, writes, last_under}
 use Rattle.cmc_rules.specs.Positions.{position_of}
 use Rattle.cmc_rules.specs.Issuing.{issuing}
-use Rattle.cmc_rules.specs.Passes.{open_pass, stands_in, writes_stand_in, stage_written, stage_by, stage_after, with_stage}
+use Rattle.cmc_rules.specs.Passes.{open_pass, is_temporary_act, writes_temporary, stage_written, stage_by, stage_after, with_stage}
 use Rattle.cmc_rules.specs.Runs.{IsPartOfRun}
 use Rattle.cmc_rules.specs.Memory.{with_ending}
 use Rattle.cmc_rules.specs.Causes.{MayCall, MayEnd}
@@ -40,7 +40,7 @@ use Rattle.cmc_held.specs.declared.role_states.RoleState.{RoleState}
 use Rattle.cmc_world.specs.declared.advance.Calling.{Calling}
 use Rattle.cmc_world.specs.declared.advance.Closing.{Closing}
 use Rattle.cmc_world.specs.Going.{IsCalling, IsClosing}
-use Rattle.cmc_world.specs.Noting.{logged, counted, noted, CanCount}
+use Rattle.cmc_world.specs.Noting.{logged, own_write_counted, noted, CanCount}
 use Rattle.cmc_world.specs.Kept.{role_state, Holdings, IsKept}
 use Rattle.cmc_world.proofs.Counts.{logged_called, counted_called, noted_called, written_short}
 use Rattle.cmc_world.proofs.Events.{kept_called, kept_ended}
@@ -91,7 +91,7 @@ same_stage a b c stage entry kind last (Ok version name) same = same_written a b
 same_stage a b c stage entry kind last (Unchanged version) same = same_written a b stage same
 same_stage a b c stage entry kind last other same = refl
 
-marked : (s : Setting) (h : List Entry) (n : ℕ) (p : OpenPass) (call : Call) → IsPartOfRun s h → open_pass s h n ≡ Some p → MayCall s h (Some p) call → p.stage ≡ Read → writes_stand_in call ≡ stands_in (issuing p.seen p.since)
+marked : (s : Setting) (h : List Entry) (n : ℕ) (p : OpenPass) (call : Call) → IsPartOfRun s h → open_pass s h n ≡ Some p → MayCall s h (Some p) call → p.stage ≡ Read → writes_temporary call ≡ is_temporary_act (issuing p.seen p.since)
 marked s h n p call run opened may read =
     marked_as_planned each_sound s h p call (of_open (SawAll (writes s h)) (open_pass s h n) p opened (saw_all s h n run.legal)) may read
 
@@ -100,7 +100,7 @@ pub kept_call : (s : Setting) (h : List Entry) (w : Holdings) (n : ℕ) (call : 
     → IsKept s h w → IsCalling s h n call c → MayCall s h (open_pass s h n) call → length h < s.events → now ≡ w.moment
     → IsReply w.faults w.state call reply → fs ≡ w.faults → st ≡ state_after now w.state call reply → key ≡ key_written call reply → object ≡ object_written now w.state call reply
     → entry ≡ length h + 1 → ((p : OpenPass) → w.opened n ≡ Some p → stage ≡ stage_by p.seen.certificate c.stand_in p.stage entry c.named.kind (last_under c.named w.log) reply) → version ≡ length w.log + 1 → log ≡ logged key object w.log
-    → ((r : Role) → t r ≡ counted (option_map (λ (k : Key). k.kind) key) (role_eq c.role r) (w.role_state c.role) (w.role_state r))
+    → ((r : Role) → t r ≡ own_write_counted (option_map (λ (k : Key). k.kind) key) (role_eq c.role r) (w.role_state c.role) (w.role_state r))
     → ((m : ℕ) → opened m ≡ (if m == n then option_map (with_stage stage) (w.opened m) else w.opened m))
     → ((r : Role) (k : Key) → pasts r k ≡ noted (option_map (λ (q : Key). q.kind) key) version (role_eq c.role r && key_eq c.key k) (w.past r k))
     → IsKept s (Called (Pass n) call reply ∷ h) (record w { faults = fs; state = st; log = log; role_state = t; opened = opened; past = pasts })
@@ -112,7 +112,7 @@ kept_call s h w n call c reply key object stage now version entry fs st log t op
     ∙ ap (λ (ws : List Write). stage_by is.pass.seen.certificate c.stand_in is.pass.stage (length h + 1) c.named.kind (last_under c.named ws) reply) k.held.log
     ∙ ap (λ (q : Key). stage_by is.pass.seen.certificate c.stand_in is.pass.stage (length h + 1) q.kind (last_under q (writes s h)) reply) is.named
     ∙ ap (λ (b : Bool). stage_by is.pass.seen.certificate b is.pass.stage (length h + 1) (key_of_call call).kind (last_under (key_of_call call) (writes s h)) reply) is.stand_in
-    ∙ same_stage (writes_stand_in call) (stands_in (issuing is.pass.seen is.pass.since)) is.pass.seen.certificate is.pass.stage (length h + 1) (key_of_call call).kind (last_under (key_of_call call) (writes s h)) reply
+    ∙ same_stage (writes_temporary call) (is_temporary_act (issuing is.pass.seen is.pass.since)) is.pass.seen.certificate is.pass.stage (length h + 1) (key_of_call call).kind (last_under (key_of_call call) (writes s h)) reply
     (marked s h n is.pass call k.held.run is.opened (subst (λ (o : Option OpenPass). MayCall s h o call) is.opened may)) in
     let right_is = right_reply s h w call reply k right in
     let after_is : st ≡ state_after (moment s h) (state s h) call reply = after ∙ ap (λ (x : ℤ). state_after x w.state call reply) now_is ∙ ap (λ (x : State). state_after (moment s h) x call reply) k.held.state in
@@ -125,8 +125,8 @@ kept_call s h w n call c reply key object stage now version entry fs st log t op
     (kept_called s h w n is.pass call reply st log t opened pasts k is.opened right_is (subst (λ (o : Option OpenPass). MayCall s h o call) is.opened may) room after_is log_is
     (λ r.
     counted_is r
-    ∙ ap (λ (x : Option Key). counted (option_map (λ (q : Key). q.kind) x) (role_eq c.role r) (w.role_state c.role) (w.role_state r)) named
-    ∙ ap (λ (x : Role). counted (option_map (λ (q : Key). q.kind) (key_written call reply)) (role_eq x r) (w.role_state x) (w.role_state r)) is.role
+    ∙ ap (λ (x : Option Key). own_write_counted (option_map (λ (q : Key). q.kind) x) (role_eq c.role r) (w.role_state c.role) (w.role_state r)) named
+    ∙ ap (λ (x : Role). own_write_counted (option_map (λ (q : Key). q.kind) (key_written call reply)) (role_eq x r) (w.role_state x) (w.role_state r)) is.role
     ∙ counted_called call reply (role_eq is.pass.role r) (w.role_state is.pass.role) (w.role_state r))
     (λ m.
     opened_is m ∙ ap (λ (x : Stage). if m == n then option_map (with_stage x) (w.opened m) else w.opened m) stage_is

@@ -20,7 +20,7 @@ use Rattle.cmc_rules.specs.Memory.{with_own}
 use Rattle.cmc_rules.specs.Following.{written, is_write_by}
 use Rattle.cmc_held.specs.declared.role_states.RoleState.{RoleState}
 use Rattle.cmc_world.specs.Changes.{writing}
-use Rattle.cmc_world.specs.Noting.{counted, logged, noted}
+use Rattle.cmc_world.specs.Noting.{own_write_counted, logged, noted}
 
 -- ---- counts that an entry each pays for
 
@@ -61,13 +61,13 @@ pub logged_called : (now : ℤ) (st : State) (call : Call) (reply : Reply) (ws :
 logged_called now st call reply ws = logged_if (is_accepted reply) (key_of_call (settled call reply)) (stored (st.accepted + 1) now st.objects (settled call reply)) ws
 
 counted_if : (a b : Bool) (key : Key) (writer other : RoleState)
-    → counted (option_map (λ (k : Key). k.kind) (if a then Some key else None)) b writer other ≡ (if a && b then writing key.kind writer else other)
+    → own_write_counted (option_map (λ (k : Key). k.kind) (if a then Some key else None)) b writer other ≡ (if a && b then writing key.kind writer else other)
 counted_if true b key writer other = refl
 counted_if false b key writer other = refl
 
 -- an accepted call counts for its writer alone
 pub counted_called : (call : Call) (reply : Reply) (own : Bool) (writer other : RoleState)
-    → counted (option_map (λ (k : Key). k.kind) (key_written call reply)) own writer other ≡ (if is_accepted reply && own then writing (key_of_call call).kind writer else other)
+    → own_write_counted (option_map (λ (k : Key). k.kind) (key_written call reply)) own writer other ≡ (if is_accepted reply && own then writing (key_of_call call).kind writer else other)
 counted_called call reply own writer other =
     counted_if (is_accepted reply) own (key_of_call (settled call reply)) writer other
     ∙ ap (λ (k : Kind). if is_accepted reply && own then writing k writer else other) (kind_of-settled call reply)

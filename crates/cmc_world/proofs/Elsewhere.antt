@@ -19,7 +19,7 @@ use Rattle.cmc_rules.specs.Positions.{position, cache}
 use Rattle.cmc_rules.specs.Viewing.{certificate_in, request_in, certificate_at, request_at, views_of, views_in, views, present_views}
 use Rattle.cmc_rules.specs.Desks.{desk}
 use Rattle.cmc_rules.specs.Legality.{IsLegal}
-use Rattle.cmc_rules.specs.Resting.{IsIdle, IsPaused, IsToldAll, RestsOn}
+use Rattle.cmc_rules.specs.Resting.{IsIdle, IsPaused, IsUpToDate, RestsOn}
 use Rattle.cmc_rules.specs.Scripting.{held, has_held}
 use Rattle.cmc_moves.proofs.Sounds.{each_sound}
 use Rattle.cmc_world.specs.Rest.{EachKind}
@@ -65,8 +65,8 @@ none_held s h role none kinds.Secret =
     (or_parts (held s h role kinds.CertificateRequest) (held s h role kinds.Secret) (or_parts (held s h role kinds.Certificate) (held s h role kinds.CertificateRequest || held s h role kinds.Secret) none).1).1
 
 -- a role without a held informer was told of all
-pub told_free : (s : Setting) (h : List Entry) (role : Role) → EachKind (IsToldAll s h role) → has_held s h role ≡ false → IsToldOfAll s h role
-told_free s h role all none kind informed = (each_kind (IsToldAll s h role)).0 all kind informed (none_held s h role none kind)
+pub told_free : (s : Setting) (h : List Entry) (role : Role) → EachKind (IsUpToDate s h role) → has_held s h role ≡ false → IsToldOfAll s h role
+told_free s h role all none kind informed = (each_kind (IsUpToDate s h role)).0 all kind informed (none_held s h role none kind)
 
 -- a role that was told of all that is not held from it rests where it has nothing to do by what it sees
 pub idle_rests : (s : Setting) (h : List Entry) (role : Role) (key : Key) → IsLegal s h → (has_held s h role ≡ false → IsToldOfAll s h role) → IsIdle s h role (views s h role key) → RestsOn s h role key
@@ -76,11 +76,11 @@ idle_rests s h role key legal told idle = by_held (has_held s h role) refl where
   by_held false is = subst (IsIdle s h role) (views_newest s h role key legal (told is)) idle
 
 elsewhere_by : (same b : Bool) (s : Setting) (h : List Entry) (role : Role) (key : Key) → kind_eq key.kind (kind_of_work role) ≡ same → (IsTrue b ↔ (key.kind ≡ kind_of_work role)) → b ≡ false
-    → IsLegal s h → EachKind (IsToldAll s h role) → RestsOn s h role key
+    → IsLegal s h → EachKind (IsUpToDate s h role) → RestsOn s h role key
 elsewhere_by true b s h role key is test off legal all = let on = test.1 (same_kind key.kind (kind_of_work role) is) in absurd (cc (on, off))
 elsewhere_by false b s h role key is test off legal all = idle_rests s h role key legal (told_free s h role all) (idle_elsewhere s h role key is)
 
 -- where a test says that the key is not of its work
 pub rests_elsewhere : (s : Setting) (h : List Entry) (role : Role) (key : Key) (b : Bool) → (IsTrue b ↔ (key.kind ≡ kind_of_work role)) → b ≡ false
-    → IsLegal s h → EachKind (IsToldAll s h role) → IsTrue true ↔ RestsOn s h role key
+    → IsLegal s h → EachKind (IsUpToDate s h role) → IsTrue true ↔ RestsOn s h role key
 rests_elsewhere s h role key b test off legal all = (λ yes. elsewhere_by (kind_eq key.kind (kind_of_work role)) b s h role key refl test off legal all, λ rests. refl)

@@ -31,7 +31,7 @@ use Rattle.cmc_rules.specs.Causes.{MayCall, MayEnd}
 use Rattle.cmc_rules.specs.Scripting.{scripted, step_at, held}
 use Rattle.cmc_rules.specs.Following.{owed, IsNextStep}
 use Rattle.cmc_held.specs.declared.role_states.RoleState.{RoleState}
-use Rattle.cmc_world.specs.Kept.{role_state, Holdings, IsHeld, IsKept}
+use Rattle.cmc_world.specs.Kept.{role_state, Holdings, IsHoldingsOf, IsKept}
 use Rattle.cmc_world.specs.Changes.{telling, stopping, starting, writing, scripted_standing}
 use Rattle.cmc_held.specs.Dues.{shown_positions}
 use Rattle.cmc_rules.specs.Viewing.{Caches}
@@ -41,7 +41,7 @@ use Rattle.cmc_world.proofs.Caching.{IsTelling, caches_called, caches_delivered,
 use Rattle.cmc_world.proofs.RoleStates.{standing_delivered, standing_listed, standing_stopped, standing_started, standing_scripted, standing_called}
 use Rattle.cmc_world.proofs.Said.{are_said, held_by, run_on}
 
-one_other : (s : Setting) (h : List Entry) (w : Holdings) (f : RoleState → RoleState) (role r : Role) → IsHeld s h w
+one_other : (s : Setting) (h : List Entry) (w : Holdings) (f : RoleState → RoleState) (role r : Role) → IsHoldingsOf s h w
     → (if role_eq role r then f (w.role_state role) else w.role_state r) ≡ (if role_eq role r then f (role_state s h role) else role_state s h r)
 one_other s h w f role r k =
     ap (λ (t : RoleState). if role_eq role r then f t else w.role_state r) (k.role_state role) ∙ ap (λ (t : RoleState). if role_eq role r then f (role_state s h role) else t) (k.role_state r)
@@ -58,7 +58,7 @@ kept_delivered s h w role kind to t c k may free room put told = record {
   settled = refl;
 }
 
-one_past : (s : Setting) (h : List Entry) (w : Holdings) (b : Bool) (f : Past → Past) (r : Role) (key : Key) → IsHeld s h w
+one_past : (s : Setting) (h : List Entry) (w : Holdings) (b : Bool) (f : Past → Past) (r : Role) (key : Key) → IsHoldingsOf s h w
     → (if b then f (w.past r key) else w.past r key) ≡ (if b then f (past s h r key) else past s h r key)
 one_past s h w b f r key k = ap (λ (p : Past). if b then f p else p) (k.past r key)
 
@@ -80,7 +80,7 @@ kept_begun s h w role key os opened pasts k may due room came put noted = record
   settled = refl;
 }
 
-pub kept_ticked : (s : Setting) (h : List Entry) (w : Holdings) (now : ℤ) → IsHeld s h w → owed s h ≡ Some (effects.Tick now) → length h < s.events
+pub kept_ticked : (s : Setting) (h : List Entry) (w : Holdings) (now : ℤ) → IsHoldingsOf s h w → owed s h ≡ Some (effects.Tick now) → length h < s.events
     → IsKept s (Tick now ∷ h) (record w { moment = now })
 kept_ticked s h w now k due room = record {
   held = held_by s (Tick now ∷ h) (record w { moment = now }) (λ i. record (are_said s h w k i) { moment = now }) (run_on s h (Tick now) k.run tt tt due room) k.formed;
@@ -156,7 +156,7 @@ kept_ended s h w n p cause opened pasts k is may room closed noted = record {
 pub held_scripted : (s : Setting) (h : List Entry) (w : Holdings) (step : Step) (made : ℕ) (t : Role → RoleState)
     → IsKept s h w → IsNextStep s h (scripted h + 1) → step_at s.script (scripted h + 1) ≡ Some step → length h < s.events
     → made ≡ w.made + 1 → ((r : Role) → t r ≡ scripted_standing step r (w.role_state r))
-    → IsHeld s (Script (scripted h + 1) ∷ h) (record w { made = made; role_state = t })
+    → IsHoldingsOf s (Script (scripted h + 1) ∷ h) (record w { made = made; role_state = t })
 held_scripted s h w step made t k next is room counted put =
     held_by s (Script (scripted h + 1) ∷ h) (record w { made = made; role_state = t })
     (λ i. record (are_said s h w k.held i) {
@@ -166,7 +166,7 @@ held_scripted s h w step made t k next is room counted put =
     (run_on s h (Script (scripted h + 1)) k.held.run tt tt next room) k.held.formed
 
 pub kept_users : (s : Setting) (h : List Entry) (w : Holdings) (call : Call) (reply : Reply) (st : State) (log : List Write)
-    → IsHeld s h w → owed s h ≡ Some (effects.Call call) → IsReply s.faults (state s h) call reply → length h < s.events
+    → IsHoldingsOf s h w → owed s h ≡ Some (effects.Call call) → IsReply s.faults (state s h) call reply → length h < s.events
     → st ≡ state_after (moment s h) (state s h) call reply
     → log ≡ (if is_accepted reply then write_of (moment s h) (state s h) (settled call reply) ∷ w.log else w.log)
     → IsKept s (Called User call reply ∷ h) (record w { state = st; log = log })
@@ -194,7 +194,7 @@ kept_users s h w call reply st log k due right room after logged = record {
   uncounted false s h r = refl
 
 pub kept_stopped : (s : Setting) (h : List Entry) (w : Holdings) (role : Role) (t : Role → RoleState) (opened : ℕ → Option OpenPass)
-    → IsHeld s h w → owed s h ≡ Some (effects.Stop role) → length h < s.events
+    → IsHoldingsOf s h w → owed s h ≡ Some (effects.Stop role) → length h < s.events
     → ((r : Role) → t r ≡ (if role_eq role r then stopping (w.role_state role) else w.role_state r))
     → ((n : ℕ) → opened n ≡ unless_of role (w.opened n))
     → IsKept s (Stop role ∷ h) (record w { role_state = t; opened = opened })
@@ -206,7 +206,7 @@ kept_stopped s h w role t opened k due room put closed = record {
 }
 
 pub kept_started : (s : Setting) (h : List Entry) (w : Holdings) (role : Role) (at : ℕ) (t : Role → RoleState) (c : Role → Caches) (pasts : Role → Key → Past)
-    → IsHeld s h w → owed s h ≡ Some (effects.Start role at) → at ≤ accepted s h → length h < s.events
+    → IsHoldingsOf s h w → owed s h ≡ Some (effects.Start role at) → at ≤ accepted s h → length h < s.events
     → ((r : Role) → t r ≡ (if role_eq role r then starting at (w.role_state role) else w.role_state r))
     → ((r : Role) → c r ≡ (if role_eq role r then caches_at w.log (shown_positions role (each_at at)) else w.caches r))
     → ((r : Role) (k : Key) → pasts r k ≡ (if role_eq role r then no_past else w.past r k))

@@ -21,7 +21,7 @@ use Rattle.cmc_model.specs.Histories.{Setting, moment}
 use Rattle.cmc_rules.specs.Memory.{past, no_past}
 use Rattle.cmc_rules.specs.Sameness.{IsDue, IsSame}
 use Rattle.cmc_rules.specs.Positions.{positions}
-use Rattle.cmc_rules.specs.Resting.{IsIdle, IsPaused, RestsOn, IsToldAll}
+use Rattle.cmc_rules.specs.Resting.{IsIdle, IsPaused, RestsOn, IsUpToDate}
 use Rattle.cmc_rules.specs.Scripting.{has_held, held}
 use Rattle.cmc_safety.specs.Acting.{MayAct}
 use Rattle.cmc_safety.specs.Formed.{IsFormed}
@@ -120,13 +120,13 @@ unheld false true c none = absurd (cc none)
 unheld false false c none = (refl, refl, none)
 
 -- a role of which no informer is held, and that was told of all else, was told of all
-told_of_all : (s : Setting) (h : List Entry) (role : Role) → has_held s h role ≡ false → EachKind (IsToldAll s h role) → IsToldOfAll s h role
+told_of_all : (s : Setting) (h : List Entry) (role : Role) → has_held s h role ≡ false → EachKind (IsUpToDate s h role) → IsToldOfAll s h role
 told_of_all s h role none told kinds.Certificate is = told.0 is (unheld (held s h role kinds.Certificate) (held s h role kinds.CertificateRequest) (held s h role kinds.Secret) none).0
 told_of_all s h role none told kinds.CertificateRequest is = told.1 is (unheld (held s h role kinds.Certificate) (held s h role kinds.CertificateRequest) (held s h role kinds.Secret) none).1
 told_of_all s h role none told kinds.Secret is = told.2 is (unheld (held s h role kinds.Certificate) (held s h role kinds.CertificateRequest) (held s h role kinds.Secret) none).2
 
 -- so it rests where it has nothing to do by what it sees, since that is what there is to see
-pub rests_when_told : (s : Setting) (h : List Entry) (role : Role) (key : Key) (seen : Views) (r : Result Bool AllocError) → IsLegal s h → has_held s h role ≡ false → EachKind (IsToldAll s h role)
+pub rests_when_told : (s : Setting) (h : List Entry) (role : Role) (key : Key) (seen : Views) (r : Result Bool AllocError) → IsLegal s h → has_held s h role ≡ false → EachKind (IsUpToDate s h role)
     → seen ≡ views s h role key → IfOk r (λ b. IsTrue b ↔ IsIdle s h role seen) → IfOk r (λ b. IsTrue b ↔ RestsOn s h role key)
 rests_when_told s h role key seen r legal none told sees found =
     let present : seen ≡ present_views s h role key = sees ∙ views_newest s h role key legal (told_of_all s h role none told) in

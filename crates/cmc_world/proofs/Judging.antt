@@ -24,7 +24,7 @@ use Rattle.cmc_rules.specs.Sameness.{IsSame}
 use Rattle.cmc_rules.specs.Legality.{IsOfKind, IsListing, IsOpen}
 use Rattle.cmc_rules.specs.Scripting.{held}
 use Rattle.cmc_held.specs.declared.role_states.RoleState.{RoleState}
-use Rattle.cmc_held.specs.RoleStates.{flag_of}
+use Rattle.cmc_held.specs.RoleStates.{kind_flag_of}
 use Rattle.cmc_held.specs.Dues.{shown_positions}
 use Rattle.cmc_rules.specs.Sameness.{own_above}
 use Rattle.cmc_caches.proofs.Shown.{views-told}
@@ -33,7 +33,7 @@ use Rattle.cmc_moves.specs.declared.moves.Stepped.{Stepped}
 use Rattle.cmc_moves.specs.declared.moves.Stepped.TheVariants.{Done}
 use Rattle.cmc_world.specs.Kept.{role_state, Holdings, IsKept}
 use Rattle.cmc_moves.specs.Quiet.{IsQuiet}
-use Rattle.cmc_moves.specs.Answers.{IsNews, delivered, IsQueued, AnswersDelivery, AnswersBegin}
+use Rattle.cmc_moves.specs.Answers.{IsWatchEvent, delivered, IsQueued, AnswersDelivery, AnswersBegin}
 use Rattle.cmc_rules.specs.Passes.{IsWorking}
 use Rattle.cmc_moves.specs.Tables.{delivery_answer, begin_answer}
 use Rattle.cmc_moves.proofs.Tables.{Decides, decided, delivery_answers, begin_answers, may_deliver}
@@ -42,7 +42,7 @@ pub position_is : (s : Setting) (h : List Entry) (role : Role) (kind : Kind) →
 position_is s h role kinds.Certificate = refl
 position_is s h role other = refl
 
-pub held_is : (s : Setting) (h : List Entry) (role : Role) (kind : Kind) → flag_of kind (role_state s h role).held ≡ held s h role kind
+pub held_is : (s : Setting) (h : List Entry) (role : Role) (kind : Kind) → kind_flag_of kind (role_state s h role).held ≡ held s h role kind
 held_is s h role kinds.Certificate = refl
 held_is s h role other = refl
 
@@ -57,18 +57,18 @@ fits_by s h more entries events room n e r = subst (λ (m : ℕ). Decides (lengt
 pub judged_delivery : (s : Setting) (h : List Entry) (w : Holdings) (role : Role) (kind : Kind) (to : ℕ) (t : RoleState) (place newest entries events : ℕ) (informed kept news room : Bool) (answer : Stepped)
     → IsKept s h w → t ≡ w.role_state role → place ≡ position_of kind t.told → newest ≡ last_of_kind kind w.log
     → (IsTrue news ↔ ((place < to) × IsOfKind kind (write_at to w.log))) → entries ≡ length h → events ≡ s.events → (IsTrue room ↔ (entries + 1 ≤ events))
-    → informed ≡ has_informer role kind → kept ≡ flag_of kind t.held
+    → informed ≡ has_informer role kind → kept ≡ kind_flag_of kind t.held
     → answer ≡ delivery_answer t.running informed kept place newest to news entries room
     → AnswersDelivery s h role kind to answer
 judged_delivery s h w role kind to t place newest entries events informed kept news room answer k at p l n e g r i f a =
     let stands : t ≡ role_state s h role = at ∙ k.held.role_state role in
     let place_is : place ≡ position h role kind = p ∙ ap (λ (x : RoleState). position_of kind x.told) stands ∙ position_is s h role kind in
     let newest_is : newest ≡ last_of_kind kind (writes s h) = l ∙ ap (last_of_kind kind) k.held.log in
-    let news_is : IsTrue news ↔ IsNews s h role kind to =
+    let news_is : IsTrue news ↔ IsWatchEvent s h role kind to =
     subst (λ (m : ℕ). IsTrue news ↔ ((m < to) × IsOfKind kind (write_at to (writes s h)))) place_is (subst (λ (ws : List Write). IsTrue news ↔ ((place < to) × IsOfKind kind (write_at to ws))) k.held.log n) in
     delivery_answers s h role kind to answer t.running informed kept news room
-    (sym (ap (λ (x : RoleState). x.running) stands)) (sym i) (sym (f ∙ ap (λ (x : RoleState). flag_of kind x.held) stands ∙ held_is s h role kind))
-    (decided (IsNews s h role kind to) news news_is) (fits_by s h 1 entries events room e g r)
+    (sym (ap (λ (x : RoleState). x.running) stands)) (sym i) (sym (f ∙ ap (λ (x : RoleState). kind_flag_of kind x.held) stands ∙ held_is s h role kind))
+    (decided (IsWatchEvent s h role kind to) news news_is) (fits_by s h 1 entries events room e g r)
     (a
     ∙ ap (λ (m : ℕ). delivery_answer t.running informed kept m newest to news entries room) place_is
     ∙ ap (λ (m : ℕ). delivery_answer t.running informed kept (position h role kind) m to news entries room) newest_is

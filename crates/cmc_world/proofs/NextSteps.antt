@@ -27,7 +27,7 @@ use Rattle.cmc_rules.specs.Desks.{asked, asks_key, asks_issuer, asked_before, ce
 use Rattle.cmc_rules.specs.Passes.{open_pass}
 use Rattle.cmc_model.specs.Histories.{Setting}
 use Rattle.cmc_held.specs.declared.questions.Subject.{Subject}
-use Rattle.cmc_held.specs.Questioned.{Questioned, count_at, named, asks_key_at, asks_issuer_at, keys_asked, answers_asked, asked_for}
+use Rattle.cmc_held.specs.Questioned.{Questioned, count_under, subject_named, asks_key_at, asks_issuer_at, keys_asked, answers_asked, asked_for}
 use Rattle.cmc_safety.specs.Acting.{IsUnbarred, IsNotBarred, MayAct}
 use Rattle.cmc_safety.specs.Formed.{IsFormed}
 use Rattle.cmc_safety.proofs.MayAct.{may_act_pass}
@@ -54,31 +54,31 @@ none_asked (AskEntry pass order ∷ h) = none_asked h
 none_asked (other ∷ h) = none_asked h
 
 -- the tests by a name and by a Certificate, or a request, are one
-key_test : (c : Certificate) (order : Order) → asks_key_at (named c.meta.namespace c.meta.name) order ≡ asks_key (Some c) order
+key_test : (c : Certificate) (order : Order) → asks_key_at (subject_named c.meta.namespace c.meta.name) order ≡ asks_key (Some c) order
 key_test c (orders.Key order) = refl
 key_test c other = refl
 
-issuer_test : (r : CertificateRequest) (order : Order) → asks_issuer_at (named r.meta.namespace (certificate_named r)) order ≡ asks_issuer (Some r) order
+issuer_test : (r : CertificateRequest) (order : Order) → asks_issuer_at (subject_named r.meta.namespace (certificate_named r)) order ≡ asks_issuer (Some r) order
 issuer_test r (orders.Sign order) = refl
 issuer_test r other = refl
 
-counted_keys : (h : List Entry) (q : Questioned) (c : Option Certificate) → ((subject : Subject) → count_at q.keys subject ≡ asked (asks_key_at subject) h) → keys_asked q c ≡ asked (asks_key c) h
+counted_keys : (h : List Entry) (q : Questioned) (c : Option Certificate) → ((subject : Subject) → count_under q.keys subject ≡ asked (asks_key_at subject) h) → keys_asked q c ≡ asked (asks_key c) h
 counted_keys h q None keys = sym (none_asked h)
-counted_keys h q (Some c) keys = keys (named c.meta.namespace c.meta.name) ∙ ap (λ (f : Order → Bool). asked f h) (λ i order. key_test c order i)
+counted_keys h q (Some c) keys = keys (subject_named c.meta.namespace c.meta.name) ∙ ap (λ (f : Order → Bool). asked f h) (λ i order. key_test c order i)
 
-counted_answers : (h : List Entry) (q : Questioned) (r : Option CertificateRequest) → ((subject : Subject) → count_at q.answers subject ≡ asked (asks_issuer_at subject) h) → answers_asked q r ≡ asked (asks_issuer r) h
+counted_answers : (h : List Entry) (q : Questioned) (r : Option CertificateRequest) → ((subject : Subject) → count_under q.answers subject ≡ asked (asks_issuer_at subject) h) → answers_asked q r ≡ asked (asks_issuer r) h
 counted_answers h q None answers = sym (none_asked h)
-counted_answers h q (Some r) answers = answers (named r.meta.namespace (certificate_named r)) ∙ ap (λ (f : Order → Bool). asked f h) (λ i order. issuer_test r order i)
+counted_answers h q (Some r) answers = answers (subject_named r.meta.namespace (certificate_named r)) ∙ ap (λ (f : Order → Bool). asked f h) (λ i order. issuer_test r order i)
 
 -- what is counted of questions is what the history says
-pub counted_before : (h : List Entry) (q : Questioned) (role : Role) (seen : Views) → ((subject : Subject) → count_at q.keys subject ≡ asked (asks_key_at subject) h) → ((subject : Subject) → count_at q.answers subject ≡ asked (asks_issuer_at subject) h)
+pub counted_before : (h : List Entry) (q : Questioned) (role : Role) (seen : Views) → ((subject : Subject) → count_under q.keys subject ≡ asked (asks_key_at subject) h) → ((subject : Subject) → count_under q.answers subject ≡ asked (asks_issuer_at subject) h)
     → asked_for q role seen ≡ asked_before h role seen
 counted_before h q KeyManager seen keys answers = counted_keys h q seen.certificate keys
 counted_before h q Issuer seen keys answers = counted_answers h q seen.request answers
 counted_before h q other seen keys answers = refl
 
-pub desk_is : (s : Setting) (h : List Entry) (role : Role) (seen : Views) (q : Questioned) (d : Desk) (n : ℕ) → ((subject : Subject) → count_at q.keys subject ≡ asked (asks_key_at subject) h)
-    → ((subject : Subject) → count_at q.answers subject ≡ asked (asks_issuer_at subject) h) → n ≡ asked_for q role seen → d ≡ record (first_desk s) { asked = n } → d ≡ desk s h role seen
+pub desk_is : (s : Setting) (h : List Entry) (role : Role) (seen : Views) (q : Questioned) (d : Desk) (n : ℕ) → ((subject : Subject) → count_under q.keys subject ≡ asked (asks_key_at subject) h)
+    → ((subject : Subject) → count_under q.answers subject ≡ asked (asks_issuer_at subject) h) → n ≡ asked_for q role seen → d ≡ record (first_desk s) { asked = n } → d ≡ desk s h role seen
 desk_is s h role seen q d n keys answers counted is = is ∙ ap (λ (m : ℕ). record (first_desk s) { asked = m }) (counted ∙ counted_before h q role seen keys answers)
 
 -- an open pass may act by its desk

@@ -25,7 +25,7 @@ use Rattle.cmc_rules.specs.Sameness.{IsDue, IsSame}
 use Rattle.cmc_rules.specs.Viewing.{views}
 use Rattle.cmc_safety.specs.Acting.{MayAct}
 use Rattle.cmc_moves.specs.Acting.{IsDoingBy, IsGoingOn, asked_in}
-use Rattle.cmc_moves.specs.Answers.{AnswersBegin, AnswersGoing, Bar, BarOf, Fits, IsQueued, Need, asked_by, kept_at, new_at, new_of, next_answer}
+use Rattle.cmc_moves.specs.Answers.{AnswersBegin, AnswersGoing, Bar, BarOf, FitsLimit, IsQueued, Need, asked_by, kept_at, new_at, new_of, next_answer}
 use Rattle.cmc_moves.specs.Prospects.{IsFirstActOf, IsProspect}
 use Rattle.cmc_moves.specs.declared.acts.Prospect.{Prospect}
 use Rattle.cmc_moves.specs.declared.doing.Doing.{Doing}
@@ -49,19 +49,19 @@ prospect_by s h role seen now d r is same found =
 
 -- ---- a begin of which all but its room is known
 
-pub fits_spent : (s : Setting) (h : List Entry) (entries events : ℕ) (room : Bool) → entries ≡ length h → events ≡ s.events → (IsTrue room ↔ (entries + 1 ≤ events)) → room ≡ false → Fits s h 1 (Spent entries)
+pub fits_spent : (s : Setting) (h : List Entry) (entries events : ℕ) (room : Bool) → entries ≡ length h → events ≡ s.events → (IsTrue room ↔ (entries + 1 ≤ events)) → room ≡ false → FitsLimit s h 1 (Spent entries)
 fits_spent s h entries events room counted most fits off =
     inl (
       λ low. let on : room ≡ true = fits.1 (subst (λ (m : ℕ). entries + 1 ≤ m) (sym most) (subst (λ (m : ℕ). m + 1 ≤ s.events) (sym counted) low)) in absurd (cc (on, off)),
       ap (λ (m : ℕ). Spent m) counted,
     )
 
-pub fits_done : (s : Setting) (h : List Entry) (entries events : ℕ) (room : Bool) → entries ≡ length h → events ≡ s.events → (IsTrue room ↔ (entries + 1 ≤ events)) → room ≡ true → Fits s h 1 Done
+pub fits_done : (s : Setting) (h : List Entry) (entries events : ℕ) (room : Bool) → entries ≡ length h → events ≡ s.events → (IsTrue room ↔ (entries + 1 ≤ events)) → room ≡ true → FitsLimit s h 1 Done
 fits_done s h entries events room counted most fits on =
     inr (subst (λ (m : ℕ). length h + 1 ≤ m) most (subst (λ (m : ℕ). m + 1 ≤ events) counted (fits.0 on)), refl)
 
 pub begins_where : (s : Setting) (h : List Entry) (role : Role) (key : Key) (seen : Views) (answer : Stepped) → runs s h role ≡ true → (IsWorking s h role key → ⊥)
-    → IsDue (past s h role key) seen (moment s h) (positions h role) → IsQueued s h role key → seen ≡ views s h role key → Fits s h 1 answer → AnswersBegin s h role key answer
+    → IsDue (past s h role key) seen (moment s h) (positions h role) → IsQueued s h role key → seen ≡ views s h role key → FitsLimit s h 1 answer → AnswersBegin s h role key answer
 begins_where s h role key seen answer running free due queued sees fits =
     let other : IsSame (past s h role key).last (views s h role key) (moment s h) (positions h role) → ⊥ =
     λ same. due.other (subst (λ (v : Views). IsSame (past s h role key).last v (moment s h) (positions h role)) (sym sees) same) in
@@ -71,7 +71,7 @@ begins_where s h role key seen answer running free due queued sees fits =
         free,
         subst
             (λ (own : Option ℕ). BarOf own (λ version. NotNow (OwnWrite version)) answer
-            (Bar (IsSame (past s h role key).last (views s h role key) (moment s h) (positions h role)) (NotNow SameViews) answer (Need (IsQueued s h role key) (NotNow NotQueued) answer (Fits s h 1 answer))))
+            (Bar (IsSame (past s h role key).last (views s h role key) (moment s h) (positions h role)) (NotNow SameViews) answer (Need (IsQueued s h role key) (NotNow NotQueued) answer (FitsLimit s h 1 answer))))
             (sym due.told) (inr (other, inr (queued, fits))),
       ),
     )

@@ -20,7 +20,7 @@ use Rattle.cmc_model.specs.Writes.{kind_eq}
 use Rattle.cmc_rules.specs.Positions.{position}
 use Rattle.cmc_rules.specs.Passes.{open_pass}
 use Rattle.cmc_rules.specs.Scripting.{held, held_by, step_at}
-use Rattle.cmc_rules.specs.Following.{written, is_by}
+use Rattle.cmc_rules.specs.Following.{written, is_pass_by}
 use Rattle.cmc_held.specs.declared.role_states.RoleState.{RoleState}
 use Rattle.cmc_world.specs.Changes.{telling, stopping, starting, keeping, writing, scripted_standing}
 use Rattle.cmc_world.specs.Kept.{role_state}
@@ -137,9 +137,9 @@ wrote_at false b s h role kind r e = refl
 counting : Setting → List Entry → Call → Reply → Role → Option OpenPass → RoleState
 counting s h call reply r p = record (role_state s h r) {
   written = record {
-    certificates = if is_accepted reply && (kind_eq (key_of_call call).kind kinds.Certificate && is_by r p) then written s h r kinds.Certificate + 1 else written s h r kinds.Certificate;
-    requests = if is_accepted reply && (kind_eq (key_of_call call).kind kinds.CertificateRequest && is_by r p) then written s h r kinds.CertificateRequest + 1 else written s h r kinds.CertificateRequest;
-    secrets = if is_accepted reply && (kind_eq (key_of_call call).kind kinds.Secret && is_by r p) then written s h r kinds.Secret + 1 else written s h r kinds.Secret;
+    certificates = if is_accepted reply && (kind_eq (key_of_call call).kind kinds.Certificate && is_pass_by r p) then written s h r kinds.Certificate + 1 else written s h r kinds.Certificate;
+    requests = if is_accepted reply && (kind_eq (key_of_call call).kind kinds.CertificateRequest && is_pass_by r p) then written s h r kinds.CertificateRequest + 1 else written s h r kinds.CertificateRequest;
+    secrets = if is_accepted reply && (kind_eq (key_of_call call).kind kinds.Secret && is_pass_by r p) then written s h r kinds.Secret + 1 else written s h r kinds.Secret;
   };
 }
 

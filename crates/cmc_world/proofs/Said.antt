@@ -16,7 +16,7 @@ use Rattle.cmc_rules.specs.Desks.{asked}
 use Rattle.cmc_held.specs.Questioned.{asks_key_at, asks_issuer_at}
 use Rattle.cmc_safety.specs.Formed.{IsFormed}
 use Rattle.cmc_caches.specs.Told.{caches_at}
-use Rattle.cmc_world.specs.Kept.{first_desk, role_state, Holdings, IsHeld, IsKept}
+use Rattle.cmc_world.specs.Kept.{first_desk, role_state, Holdings, IsHoldingsOf, IsKept}
 
 -- what the history says of each part
 abbrev pub said : Setting → List Entry → Holdings
@@ -37,7 +37,7 @@ said s h = record {
 }
 
 -- what is held is what the history says
-pub are_said : (s : Setting) (h : List Entry) (w : Holdings) → IsHeld s h w → w ≡ said s h
+pub are_said : (s : Setting) (h : List Entry) (w : Holdings) → IsHoldingsOf s h w → w ≡ said s h
 are_said s h w k = λ i. record {
   faults = k.faults i;
   state = k.state i;
@@ -55,7 +55,7 @@ are_said s h w k = λ i. record {
 }
 
 -- and what is so is held
-pub held_by : (s : Setting) (h : List Entry) (w : Holdings) → w ≡ said s h → IsPartOfRun s h → IsFormed s → IsHeld s h w
+pub held_by : (s : Setting) (h : List Entry) (w : Holdings) → w ≡ said s h → IsPartOfRun s h → IsFormed s → IsHoldingsOf s h w
 held_by s h w is run formed = record {
   faults = λ i. (is i).faults;
   state = λ i. (is i).state;

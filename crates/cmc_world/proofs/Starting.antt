@@ -14,10 +14,10 @@ use Rattle.cmc_rules.specs.Causes.{IsCaused}
 use Rattle.cmc_rules.specs.Following.{Follows}
 use Rattle.cmc_setup.specs.Setups.{Setup, IsSetup}
 use Rattle.cmc_held.specs.declared.questions.Subject.{Subject}
-use Rattle.cmc_held.specs.RoleStates.{first_standing}
+use Rattle.cmc_held.specs.RoleStates.{first_role_state}
 use Rattle.cmc_model.specs.Writes.{contents, oldest}
 use Rattle.cmc_rules.specs.Positions.{positions}
-use Rattle.cmc_caches.specs.Told.{caches_at, nothing_told}
+use Rattle.cmc_caches.specs.Told.{caches_at, empty_caches}
 use Rattle.cmc_safety.specs.Formed.{IsFormed}
 use Rattle.cmc_world.specs.Kept.{Holdings, IsKept, first_desk, setting_of}
 use borrow.Author.Differences.{le-false}
@@ -40,12 +40,12 @@ formed u setup = record {
 }
 
 -- of no writes nothing is told
-nothing_at : (r : Role) → nothing_told ≡ caches_at [] (positions [] r)
+nothing_at : (r : Role) → empty_caches ≡ caches_at [] (positions [] r)
 unfolding contents oldest
 nothing_at r = refl
 
 pub kept_new : (u : Setup) (w : Holdings) → w.faults ≡ u.faults → w.state ≡ empty_store → w.log ≡ [] → w.moment ≡ u.moment → w.made ≡ 0
-    → ((r : Role) → w.role_state r ≡ first_standing (list_any (λ role. role_eq role r) u.roles)) → ((r : Role) → w.caches r ≡ nothing_told) → w.origins ≡ [] → ((n : ℕ) → w.opened n ≡ None)
+    → ((r : Role) → w.role_state r ≡ first_role_state (list_any (λ role. role_eq role r) u.roles)) → ((r : Role) → w.caches r ≡ empty_caches) → w.origins ≡ [] → ((n : ℕ) → w.opened n ≡ None)
     → ((r : Role) (k : Key) → w.past r k ≡ no_past) → ((c : Subject) → w.keys_asked c ≡ 0) → ((c : Subject) → w.answers_asked c ≡ 0) → w.desk ≡ first_desk (setting_of u) → IsSetup u → IsKept (setting_of u) [] w
 unfolding IsLegal IsCaused Follows
 kept_new u w f s l m n t c o p q x y d setup = record {

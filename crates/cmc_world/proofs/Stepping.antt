@@ -35,9 +35,9 @@ use Rattle.cmc_held.specs.Dues.{shown_positions}
 use Rattle.cmc_rules.specs.Viewing.{Caches}
 use Rattle.cmc_caches.specs.Told.{caches_at}
 use Rattle.cmc_world.specs.Changes.{each_at, stopping, starting, scripted_standing}
-use Rattle.cmc_world.specs.Kept.{setting_of, Holdings, IsHeld, IsKept}
+use Rattle.cmc_world.specs.Kept.{setting_of, Holdings, IsHoldingsOf, IsKept}
 use Rattle.cmc_world.specs.Noting.{logged}
-use Rattle.cmc_world.specs.Scripted.{effect_in, standing_after}
+use Rattle.cmc_world.specs.Scripted.{effect_in, role_state_after}
 use Rattle.cmc_world.proofs.Counts.{incarnation_short, logged_called}
 use Rattle.cmc_world.proofs.Events.{held_scripted, kept_users, kept_ticked, kept_stopped, kept_started}
 use Rattle.cmc_moves.proofs.Tables.{MayStep, may_step}
@@ -92,7 +92,7 @@ unheld s h other effect r t has = refl
 -- the entry of a step that has something happen
 step_made : (s : Setting) (h : List Entry) (w : Holdings) (made : ℕ) (effect : Effect)
     → IsKept s h w → AnswersScript s h Done → next_effect s h ≡ Some effect → made ≡ w.made + 1
-    → IsHeld s (Script (scripted h + 1) ∷ h) (record w { made = made }) × (length h + 1 < s.events)
+    → IsHoldingsOf s (Script (scripted h + 1) ∷ h) (record w { made = made }) × (length h + 1 < s.events)
 step_made s h w made effect k may due counted =
     let can = may_step s h may in
     let room : length h + 2 ≤ s.events = subst (λ (o : Option Effect). length h + entries_of o ≤ s.events) due can.room in
@@ -100,7 +100,7 @@ step_made s h w made effect k may due counted =
     (held_scripted s h w next.0 made w.role_state k (next_step s h k.settled can) next.1.is (omega (arith, room)) counted (λ r. unheld s h next.0 effect r (w.role_state r) next.1.has), omega (arith, room))
 
 -- the step's entry has the next number
-numbered : (s : Setting) (h k : List Entry) (w : Holdings) (made : ℕ) (e : Entry) → IsHeld s h w → made ≡ w.made + 1 → k ≡ e ∷ Script made ∷ h → k ≡ e ∷ Script (scripted h + 1) ∷ h
+numbered : (s : Setting) (h k : List Entry) (w : Holdings) (made : ℕ) (e : Entry) → IsHoldingsOf s h w → made ≡ w.made + 1 → k ≡ e ∷ Script made ∷ h → k ≡ e ∷ Script (scripted h + 1) ∷ h
 numbered s h k w made e held counted grown = grown ∙ ap (λ n. e ∷ Script n ∷ h) (counted ∙ ap (λ n. n + 1) held.made)
 
 -- ---- the world after each kind of step
@@ -108,7 +108,7 @@ numbered s h k w made e held counted grown = grown ∙ ap (λ n. e ∷ Script n 
 -- a step that has nothing happen
 pub quiet_kept : (s : Setting) (h k : List Entry) (w : Holdings) (made : ℕ) (script : List Step) (t : Role → RoleState)
     → IsKept s h w → AnswersScript s h Done → next_effect s h ≡ None → made ≡ w.made + 1
-    → script ≡ s.script → ((r : Role) → t r ≡ standing_after (slice_get script w.made) r (w.role_state r))
+    → script ≡ s.script → ((r : Role) → t r ≡ role_state_after (slice_get script w.made) r (w.role_state r))
     → k ≡ Script made ∷ h → IsKept s k (record w { made = made; role_state = t })
 quiet_kept s h k w made script t kept may due counted same put grown =
     let can = may_step s h may in
@@ -116,7 +116,7 @@ quiet_kept s h k w made script t kept may due counted same put grown =
     let next = next_is s h (step_at s.script (scripted h + 1)) None refl can.left due in
     let place : scripted h ≡ scripted h + 1 - 1 = omega arith in
     let found : slice_get script w.made ≡ Some next.0 = ap (λ l. slice_get l w.made) same ∙ ap (λ n. slice_get s.script n) (kept.held.made ∙ place) ∙ next.1.is in
-    let held = held_scripted s h w next.0 made t kept (next_step s h kept.settled can) next.1.is (omega (arith, room)) counted (λ r. put r ∙ ap (λ o. standing_after o r (w.role_state r)) found) in
+    let held = held_scripted s h w next.0 made t kept (next_step s h kept.settled can) next.1.is (omega (arith, room)) counted (λ r. put r ∙ ap (λ o. role_state_after o r (w.role_state r)) found) in
     let new : IsKept s (Script (scripted h + 1) ∷ h) (record w { made = made; role_state = t }) = record { held = held; settled = due } in
     subst (λ l. IsKept s l (record w { made = made; role_state = t })) (sym (grown ∙ ap (λ n. Script n ∷ h) (counted ∙ ap (λ n. n + 1) kept.held.made))) new
 
@@ -181,7 +181,7 @@ start_kept s h k w made role at t c pasts kept may due counted put told forgot g
     (kept_started s (Script (scripted h + 1) ∷ h) (record w { made = made }) role at t c pasts stepped.0 due (low_start s h next.0 role at next.1.has) (omega (arith, stepped.1)) put told forgot)
 
 logged_kept : (s : Setting) (h : List Entry) (w : Holdings) (call : Call) (reply : Reply) (now : ℤ) (log grown : List Write) (key : Option Key) (object : Option Object)
-    → IsHeld s h w → now ≡ w.moment → log ≡ w.log → key ≡ key_written call reply → object ≡ object_written now w.state call reply → grown ≡ logged key object log
+    → IsHoldingsOf s h w → now ≡ w.moment → log ≡ w.log → key ≡ key_written call reply → object ≡ object_written now w.state call reply → grown ≡ logged key object log
     → grown ≡ (if is_accepted reply then write_of (moment s h) (state s h) (settled call reply) ∷ w.log else w.log)
 logged_kept s h w call reply now log grown key object held same_now same_log told stored put =
     put ∙ ap (λ q. logged q object log) told ∙ ap (λ o. logged (key_written call reply) o log) stored

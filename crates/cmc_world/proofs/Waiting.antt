@@ -20,7 +20,7 @@ use Rattle.cmc_model.specs.Writes.{writes}
 use Rattle.cmc_rules.specs.Passes.{open_pass}
 use Rattle.cmc_rules.specs.Scripting.{scripted, step_at}
 use Rattle.cmc_rules.specs.Following.{call_or, effect_of, IsReady}
-use Rattle.cmc_rules.specs.Resting.{RestsOn, IsAtRest, IsToldAll, RestsIn}
+use Rattle.cmc_rules.specs.Resting.{RestsOn, IsAtRest, IsUpToDate, RestsIn}
 use Rattle.cmc_moves.specs.declared.moves.Stepped.{Stepped}
 use Rattle.cmc_moves.specs.Answers.{AnswersScript, entries_of, next_effect}
 use Rattle.cmc_world.specs.Kept.{Holdings, IsKept}
@@ -39,7 +39,7 @@ closed_kept s h w b k e = (λ on n. sym (k.held.opened n) ∙ e.0 on n, λ none.
 -- ---- a role that was told of all and has nothing to do
 
 told_and_idle : (s : Setting) (h : List Entry) (role : Role) (told b : Bool) → runs s h role ≡ true → told ≡ true
-    → (IsTrue told ↔ EachKind (IsToldAll s h role)) → (IsTrue b ↔ All (λ (w : Write). RestsOn s h role w.key) (writes s h)) → IsTrue b ↔ RestsIn s h role
+    → (IsTrue told ↔ EachKind (IsUpToDate s h role)) → (IsTrue b ↔ All (λ (w : Write). RestsOn s h role w.key) (writes s h)) → IsTrue b ↔ RestsIn s h role
 told_and_idle s h role told b on is e all = (
   λ found. (rests_in_by s h role).0 (λ running. (e.0 is, all.0 found)),
   λ rests. all.1 ((rests_in_by s h role).1 rests on).1,
@@ -47,7 +47,7 @@ told_and_idle s h role told b on is e all = (
 
 -- where it runs and was told of all, the keys of the writes decide
 pub rests_in_told : (s : Setting) (h : List Entry) (role : Role) (told : Bool) (r : Result Bool AllocError) → runs s h role ≡ true → told ≡ true
-    → (IsTrue told ↔ EachKind (IsToldAll s h role)) → IfOk r (λ b. IsTrue b ↔ All (λ (w : Write). RestsOn s h role w.key) (writes s h))
+    → (IsTrue told ↔ EachKind (IsUpToDate s h role)) → IfOk r (λ b. IsTrue b ↔ All (λ (w : Write). RestsOn s h role w.key) (writes s h))
     → IfOk r (λ b. IsTrue b ↔ RestsIn s h role)
 rests_in_told s h role told r on is e found = IfOk-weaker r _ _ (λ b all. told_and_idle s h role told b on is e all) found
 

@@ -8,7 +8,7 @@ use Rattle.cmc_objects.specs.declared.entry.Who.TheVariants.{Pass}
 use Rattle.cmc_rules.specs.declared.progress.OpenPass.{OpenPass}
 use Rattle.cmc_model.specs.Replies.{key_of_call}
 use Rattle.cmc_model.specs.Histories.{Setting}
-use Rattle.cmc_rules.specs.Passes.{open_pass, writes_stand_in}
+use Rattle.cmc_rules.specs.Passes.{open_pass, writes_temporary}
 use Rattle.cmc_rules.specs.Memory.{ending_at}
 use Rattle.cmc_moves.specs.Answers.{IsCalled}
 use Rattle.cmc_moves.specs.declared.doing.Doing.{Doing}
@@ -24,7 +24,7 @@ pub record IsCalling (s : Setting) (h : List Entry) (n : ℕ) (call : Call) (c :
   pub role : c.role ≡ pass.role
   pub key : c.key ≡ pass.key
   pub named : c.named ≡ key_of_call call
-  pub stand_in : c.stand_in ≡ writes_stand_in call
+  pub stand_in : c.stand_in ≡ writes_temporary call
 
 -- the pass, with how it ends
 pub record IsClosing (s : Setting) (h : List Entry) (n : ℕ) (c : Closing) : Type 0 where
@@ -44,5 +44,5 @@ IsDone s h pass (Makes call) e = IsCalled s h (Pass pass) call e
 IsDone s h pass (Asks order) e = e ≡ Ask pass order
 IsDone s h pass (Ends cause) e = e ≡ End pass cause
 
-abbrev pub GoesOn : ℕ → Doing → Seen → Seen → Type 0
-GoesOn n d old new = (e : Entry) × IsDone (setting_of old.scenario) old.history n d e × (new ≡ record { scenario = old.scenario; history = e ∷ old.history })
+abbrev pub AddsDoneEntry : ℕ → Doing → Seen → Seen → Type 0
+AddsDoneEntry n d old new = (e : Entry) × IsDone (setting_of old.scenario) old.history n d e × (new ≡ record { scenario = old.scenario; history = e ∷ old.history })

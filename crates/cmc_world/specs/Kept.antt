@@ -84,7 +84,7 @@ abbrev pub first_desk : Setting → Desk
 first_desk s = record { material = s.material; asked = 0; rules = s.rules }
 
 -- each is what the history says, and the history is a part of one of a run
-pub record IsHeld (s : Setting) (h : List Entry) (w : Holdings) : Type 0 where
+pub record IsHoldingsOf (s : Setting) (h : List Entry) (w : Holdings) : Type 0 where
   pub faults : w.faults ≡ s.faults
   pub state : w.state ≡ state s h
   pub log : w.log ≡ writes s h
@@ -103,5 +103,5 @@ pub record IsHeld (s : Setting) (h : List Entry) (w : Holdings) : Type 0 where
 
 -- and nothing is owed to the script
 pub record IsKept (s : Setting) (h : List Entry) (w : Holdings) : Type 0 where
-  pub held : IsHeld s h w
+  pub held : IsHoldingsOf s h w
   pub settled : owed s h ≡ None

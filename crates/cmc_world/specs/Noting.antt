@@ -16,9 +16,9 @@ logged None object ws = ws
 logged (Some key) object ws = record { key = key; object = object } ∷ ws
 
 -- how a role stands after a write of this kind, if there was one: the writer counts it, and any other stands as it did
-abbrev pub counted : Option Kind → Bool → RoleState → RoleState → RoleState
-counted None own writer other = other
-counted (Some kind) own writer other = if own then writing kind writer else other
+abbrev pub own_write_counted : Option Kind → Bool → RoleState → RoleState → RoleState
+own_write_counted None own writer other = other
+own_write_counted (Some kind) own writer other = if own then writing kind writer else other
 
 -- what is remembered after the write, if there was one, where it is one of the writer's own on the key
 abbrev pub noted : Option Kind → ℕ → Bool → Past → Past

@@ -13,6 +13,6 @@ abbrev pub effect_in : Objects → ℕ → ℤ → List Step → ℕ → Option 
 effect_in objects accepted moment script place = option_and_then (effect_on objects accepted moment) (slice_get script place)
 
 -- what a step, if there is one, makes of how a role stands
-abbrev pub standing_after : Option Step → Role → RoleState → RoleState
-standing_after None r t = t
-standing_after (Some step) r t = scripted_standing step r t
+abbrev pub role_state_after : Option Step → Role → RoleState → RoleState
+role_state_after None r t = t
+role_state_after (Some step) r t = scripted_standing step r t

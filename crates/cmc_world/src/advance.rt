@@ -9,8 +9,8 @@ ghost use Rattle.cmc_rules.specs.Runs.{IsRun};
 ghost use Rattle.cmc_rules.specs.Desks.{desk as desk_at};
 ghost use Rattle.cmc_model.specs.Replies as replies;
 ghost use Rattle.cmc_rules.specs.Passes as spec;
-ghost use Rattle.cmc_moves.specs.Acting.{IsDoingBy, IsDoing, IsGoing, IsGoingOn, IsJudged};
-ghost use Rattle.cmc_world.specs.Going.{IsCalling, IsClosing, MadeCall, GoesOn};
+ghost use Rattle.cmc_moves.specs.Acting.{IsDoingBy, IsDoing, MayGoOn, IsGoingOn, IsJudged};
+ghost use Rattle.cmc_world.specs.Going.{IsCalling, IsClosing, MadeCall, AddsDoneEntry};
 ghost use Rattle.cmc_moves.specs.Answers.{AnswersGive, AnswersGiven, AnswersNext, Leaves, is_done, kept_of, next_answer, outdated, value_entry};
 ghost use Rattle.cmc_moves.specs.Acting.{asked_in};
 ghost use Rattle.cmc_world.specs.Kept.{on};
@@ -171,7 +171,7 @@ fn calling_of(current: &OpenPass, call: Call) -> Result<Calling, AllocError>
     ensures role { IfOk result (λ c. c.role ≡ current.now.role) }
     ensures key { IfOk result (λ c. c.key ≡ current.now.key) }
     ensures named { IfOk result (λ c. c.named ≡ replies.key_of_call c.call) }
-    ensures stand_in { IfOk result (λ c. c.stand_in ≡ spec.writes_stand_in c.call) }
+    ensures stand_in { IfOk result (λ c. c.stand_in ≡ spec.writes_temporary c.call) }
     ensures call { IfOk result (λ c. c.call ≡ call) }
 {
     Ok(Calling {
@@ -438,7 +438,7 @@ impl World {
         requires stands { IsOpen (on spec.open_pass self.old pass) }
         requires does { on IsDoing self.old pass doing }
         requires room { length self.old.history < self.old.scenario.events }
-        ensures ok { OnOk result (GoesOn pass doing self.old self.new) }
+        ensures ok { OnOk result (AddsDoneEntry pass doing self.old self.new) }
         ensures err { OnErr result (self.new ≡ self.old) }
     {
         match doing {
@@ -456,7 +456,7 @@ impl World {
         doing: Doing,
     ) -> Result<Stepped, AllocError>
         requires stands { IsOpen (on spec.open_pass self.old pass) }
-        requires goes { on IsGoing self.old pass doing }
+        requires goes { on MayGoOn self.old pass doing }
         ensures answer { IfOk result (λ r. r ≡ next_answer pass (asked_in doing)) }
         ensures scenario { self.new.scenario ≡ self.old.scenario }
         ensures leaves { IfOk result (λ r. (named : ℕ) → on Leaves self.old (moves.Next pass named) r self.new.history) }

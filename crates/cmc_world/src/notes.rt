@@ -10,10 +10,10 @@ ghost use Rattle.cmc_rules.specs.declared.progress.Stage.TheVariants as stages;
 ghost use Rattle.cmc_rules.specs.declared.progress.OpenPass.{OpenPass as OpenPassValue};
 ghost use Rattle.cmc_rules.specs.Passes as spec;
 ghost use Rattle.cmc_held.specs.Open.{pass_at};
-ghost use Rattle.cmc_held.specs.Remembered.{is_ready, past_at};
+ghost use Rattle.cmc_held.specs.Remembered.{has_past_row, past_at};
 ghost use Rattle.cmc_held.specs.RoleStates.{role_state_of};
 ghost use Rattle.cmc_world.specs.Changes.{writing};
-ghost use Rattle.cmc_world.specs.Noting.{CanCount, counted, logged, noted};
+ghost use Rattle.cmc_world.specs.Noting.{CanCount, own_write_counted, logged, noted};
 
 use cmc_held::{Log, Passes, RoleMemories, RoleState, RoleStates, with_written, written_of};
 use cmc_match::is_temporary;
@@ -23,7 +23,7 @@ use cmc_objects::{Call, Certificate, Object, Reply, Role, Shared};
 use cmc_rules::{Obstacle, OpenPass, Stage};
 
 fn is_stand_in(object: &Object) -> bool
-    ensures { result ≡ spec.is_stand_in object.now }
+    ensures { result ≡ spec.is_temporary_secret object.now }
 {
     match object {
         Object::Secret(secret) => is_temporary(secret),
@@ -33,7 +33,7 @@ fn is_stand_in(object: &Object) -> bool
 
 /// Whether the call writes a Secret that is marked as temporary.
 pub(crate) fn writes_stand_in(call: &Call) -> bool
-    ensures { result ≡ spec.writes_stand_in call.now }
+    ensures { result ≡ spec.writes_temporary call.now }
 {
     match call {
         Call::Create {
@@ -163,9 +163,9 @@ pub(crate) fn note_write(
     written: Option<Kind>,
     version: u64,
 )
-    requires ready { is_ready memories.old role key.now ≡ true }
+    requires ready { has_past_row memories.old role key.now ≡ true }
     requires room { CanCount (role_state_of role_states.old role) }
-    ensures counted { (r : RoleValue) → role_state_of role_states.new r ≡ counted written (role_eq role r) (role_state_of role_states.old role) (role_state_of role_states.old r) }
+    ensures counted { (r : RoleValue) → role_state_of role_states.new r ≡ own_write_counted written (role_eq role r) (role_state_of role_states.old role) (role_state_of role_states.old r) }
     ensures noted { (r : RoleValue) → (k : KeyValue) → past_at memories.new r k ≡ noted written version (role_eq role r && key_eq key.now k) (past_at memories.old r k) }
 {
     if let Some(kind) = written {

@@ -21,7 +21,7 @@ ghost use Rattle.cmc_moves.specs.Answers.{AnswersScript, entries_of};
 ghost use Rattle.cmc_moves.specs.Prospects.{IsProspect};
 ghost use Rattle.cmc_world.specs.Kept.{on};
 ghost use Rattle.cmc_world.specs.Rest.{EachKind, RestsOnAll};
-ghost use Rattle.cmc_rules.specs.Resting.{IsToldAll, RestsIn};
+ghost use Rattle.cmc_rules.specs.Resting.{IsUpToDate, RestsIn};
 
 use crate::world::{World, has_room};
 use cmc_held::{RoleState, is_held, is_same, own_above, told_of, written_of};
@@ -113,7 +113,7 @@ fn rests_on_once(
     key: &Key,
     looked: &mut BTreeSet<Key>,
 ) -> Result<bool, AllocError>
-    requires told { EachKind (on IsToldAll world.now role) }
+    requires told { EachKind (on IsUpToDate world.now role) }
     requires before { on RestsOnAll world.now role looked.old }
     ensures test { IfOk result (λ b. IsTrue b ↔ on spec.RestsOn world.now role key.now) }
     ensures after { on RestsOnAll world.now role looked.new }
@@ -141,7 +141,7 @@ fn rests_on_each(
     role: Role,
     writes: &[Write],
 ) -> Result<bool, AllocError>
-    requires { EachKind (on IsToldAll world.now role) }
+    requires { EachKind (on IsUpToDate world.now role) }
     ensures { IfOk result (λ b. IsTrue b ↔ All (λ (w : WriteValue). on spec.RestsOn world.now role w.key) writes.now) }
 {
     let mut looked = BTreeSet::new(alloc);
@@ -238,7 +238,7 @@ impl World {
     ///
     /// Want of memory alone.
     pub fn rests_on(&self, alloc: Global, role: Role, key: &Key) -> Result<bool, AllocError>
-        requires { EachKind (on IsToldAll self.now role) }
+        requires { EachKind (on IsUpToDate self.now role) }
         ensures { IfOk result (λ b. IsTrue b ↔ on spec.RestsOn self.now role key.now) }
     {
         let seen = self.views(alloc, role, key)?;
@@ -253,7 +253,7 @@ impl World {
     /// Whether the role was told of the last write of the kind, if it looks at the kind and its
     /// informer is not held.
     fn is_told_all(&self, role: Role, kind: Kind) -> bool
-        ensures { IsTrue result ↔ on IsToldAll self.now role kind }
+        ensures { IsTrue result ↔ on IsUpToDate self.now role kind }
     {
         let standing = self.role_states.get(role);
         !has_informer(role, kind)
@@ -263,7 +263,7 @@ impl World {
 
     /// Whether the role was so told of each kind.
     fn is_told_of_each(&self, role: Role) -> bool
-        ensures { IsTrue result ↔ EachKind (on IsToldAll self.now role) }
+        ensures { IsTrue result ↔ EachKind (on IsUpToDate self.now role) }
     {
         self.is_told_all(role, Kind::Certificate)
             && self.is_told_all(role, Kind::CertificateRequest)
@@ -279,7 +279,7 @@ impl World {
     /// Whether the role, which was told of all that is not held from it, has nothing to do on any key that an
     /// accepted write named.
     fn rests_on_known(&self, alloc: Global, role: Role) -> Result<bool, AllocError>
-        requires { EachKind (on IsToldAll self.now role) }
+        requires { EachKind (on IsUpToDate self.now role) }
         ensures { IfOk result (λ b. IsTrue b ↔ All (λ (w : WriteValue). on spec.RestsOn self.now role w.key) (on writes self.now)) }
     {
         rests_on_each(self, alloc, role, self.log.as_slice())

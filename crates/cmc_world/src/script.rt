@@ -15,12 +15,12 @@ ghost use Rattle.cmc_caches.specs.Told.{caches_at};
 ghost use Rattle.cmc_held.specs.Dues.{shown_positions};
 ghost use Rattle.cmc_held.specs.RoleStates.{role_state_of};
 ghost use Rattle.cmc_setup.specs.Forms.{is_step_form};
-ghost use Rattle.cmc_setup.specs.Setups.{IsSetup, IsTickForm, seconds_of};
+ghost use Rattle.cmc_setup.specs.Setups.{IsSetup, IsTickForm, step_seconds};
 ghost use Rattle.cmc_world.specs.Going.{MadeCall};
 ghost use Rattle.cmc_moves.specs.Answers as spec;
 ghost use Rattle.cmc_world.specs.Changes.{each_at, keeping, scripted_standing, starting, stopping};
 ghost use Rattle.cmc_world.specs.Kept.{on};
-ghost use Rattle.cmc_world.specs.Scripted.{effect_in, standing_after};
+ghost use Rattle.cmc_world.specs.Scripted.{effect_in, role_state_after};
 ghost use Rattle.cmc_rules.specs.Following.{effect_besides, effect_on};
 ghost use Rattle.cmc_moves.specs.declared.moves.Move.TheVariants as moves;
 ghost use Rattle.cmc_moves.specs.declared.moves.Stepped.TheVariants as answers;
@@ -113,7 +113,7 @@ fn later(moment: i64, seconds: u64) -> i64
 /// What a step that makes no call has happen.
 fn effect_besides(accepted: u64, moment: i64, step: &Step) -> Option<Effect>
     requires moment { is_run_time moment ≡ true }
-    requires short { seconds_of step.now ≤ 1000000000 }
+    requires short { step_seconds step.now ≤ 1000000000 }
     ensures { result ≡ effect_besides accepted moment step.now }
 {
     match step {
@@ -137,7 +137,7 @@ fn effect_on(
     step: &Step,
 ) -> Result<Option<Effect>, AllocError>
     requires moment { is_run_time moment ≡ true }
-    requires short { seconds_of step.now ≤ 1000000000 }
+    requires short { step_seconds step.now ≤ 1000000000 }
     requires form { is_step_form step.now ≡ true }
     ensures { IfOk result (λ e. e ≡ effect_on store.now.state.objects store.now.state.accepted moment step.now) }
 {
@@ -203,7 +203,7 @@ fn note_step(role_states: &mut RoleStates, step: &Step)
 
 /// Lets the roles stand as the step in this place of the script leaves them.
 fn note_step_in(role_states: &mut RoleStates, script: &[Step], place: u64)
-    ensures { (r : RoleValue) → role_state_of role_states.new r ≡ standing_after (slice_get script.now place) r (role_state_of role_states.old r) }
+    ensures { (r : RoleValue) → role_state_of role_states.new r ≡ role_state_after (slice_get script.now place) r (role_state_of role_states.old r) }
 {
     if let Some(step) = step_in(script, place) {
         note_step(role_states, step);

@@ -17,7 +17,7 @@ ghost use Rattle.cmc_safety.specs.Begins.{IsDueExactly};
 ghost use Rattle.cmc_safety.specs.Completing.{CompletesIssuing};
 ghost use Rattle.cmc_safety.specs.Courses.{HaveCourses, PlansAreDone};
 ghost use Rattle.cmc_safety.specs.Formed.{IsFormed};
-ghost use Rattle.cmc_safety.specs.Standing.{IsInOrder};
+ghost use Rattle.cmc_safety.specs.Standing.{KeepsInvariants};
 ghost use Rattle.cmc_world.specs.Kept.{on, setting_of};
 ghost use Rattle.cmc_world.specs.Leading.{Lead, Extends};
 ghost use Rattle.cmc_moves.specs.declared.moves.Move.{Move as MoveValue};
@@ -76,7 +76,7 @@ pub struct World {
 impl Model for World {
     ghost use Rattle.cmc_caches.specs.Told.{caches_of};
     ghost use Rattle.cmc_held.specs.Open.{pass_at};
-    ghost use Rattle.cmc_held.specs.Questioned.{count_at};
+    ghost use Rattle.cmc_held.specs.Questioned.{count_under};
     ghost use Rattle.cmc_held.specs.Remembered.{past_at};
     ghost use Rattle.cmc_held.specs.RoleStates.{role_state_of};
     ghost use Rattle.cmc_world.specs.Kept.{IsKept, Seen, on, setting_of};
@@ -85,7 +85,7 @@ impl Model for World {
 
     ghost view = { λ w. record { scenario = w.scenario; history = w.history.entries } };
 
-    ghost invariant = { λ w. IsKept (setting_of w.scenario) w.history.entries (record { faults = w.store.faults; state = w.store.state; log = w.log.writes; moment = w.moment; made = w.made; role_state = λ role. role_state_of w.role_states role; caches = λ role. caches_of w.caches role; origins = w.origins.origins; opened = λ n. pass_at w.passes n; past = λ role key. past_at w.memories role key; keys_asked = count_at w.questions.keys; answers_asked = count_at w.questions.answers; desk = w.desk }) };
+    ghost invariant = { λ w. IsKept (setting_of w.scenario) w.history.entries (record { faults = w.store.faults; state = w.store.state; log = w.log.writes; moment = w.moment; made = w.made; role_state = λ role. role_state_of w.role_states role; caches = λ role. caches_of w.caches role; origins = w.origins.origins; opened = λ n. pass_at w.passes n; past = λ role key. past_at w.memories role key; keys_asked = count_under w.questions.keys; answers_asked = count_under w.questions.answers; desk = w.desk }) };
 }
 
 impl Drop for World {
@@ -233,7 +233,7 @@ impl World {
         ensures safe { on IsSafe self.now }
         ensures valid { IsNeverInvalid self.now.history }
         ensures complete { on CompletesIssuing self.now }
-        ensures order { on IsInOrder self.now }
+        ensures order { on KeepsInvariants self.now }
     {
         let _entries = self.history.len();
     }

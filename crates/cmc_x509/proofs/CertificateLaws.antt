@@ -6,21 +6,21 @@ use borrow.Author.Differences.{le-false}
 use Rattle.std.proofs.lemmas.Int.{ints}
 use Rattle.cmc_der.specs.declared.fields.CertFields.{CertFields}
 use Rattle.cmc_der.specs.declared.fields.CsrFields.{CsrFields}
-use Rattle.cmc_der.specs.Values.{IsValue}
+use Rattle.cmc_der.specs.Values.{IsDerValue}
 use Rattle.cmc_der.specs.Keys.{CertificateFields, RequestFields, cert_shown, csr_shown}
 use Rattle.cmc_time.specs.Reading.{asn1_seconds}
 use Rattle.cmc_time.proofs.Asn1Laws.{asn1_found, asn1_again}
 use Rattle.cmc_x509.specs.declared.taking.NotForm.{NotForm}
 use Rattle.cmc_x509.specs.declared.taking.TheConstants.{MAX_INPUT}
-use Rattle.cmc_x509.specs.Taking.{Gives, BeginsWithOptional, ◌>>=◌, value_at, take_at, end_at, only_at, optional_at}
+use Rattle.cmc_x509.specs.Taking.{Gives, BeginsWithOptional, ◌>>=◌, value_at, take_at, end_at, only_at, optional_value_at}
 use Rattle.cmc_x509.specs.Lists.{IsValueList, first_at}
 use Rattle.cmc_x509.specs.PublicKeys.{AlgorithmIdentifier, BeginsWithAlgorithm, BeginsWithInteger}
 use Rattle.cmc_x509.specs.Names.{BeginsWithName, IsExtension, IsRequestAttribute}
 use Rattle.cmc_x509.specs.Times.{BeginsWithTime, time_at}
-use Rattle.cmc_x509.specs.Certificates.{IsSigned, IsVersion, BeginsWithValidity, IsUniqueId, or_none, AreExtensions, IsTbsCertificate, IsCertificate, IsRequestInfo, IsRequest}
+use Rattle.cmc_x509.specs.Certificates.{IsSignedSequence, IsVersionField, BeginsWithValidity, IsUniqueId, or_none, AreExtensions, IsTbsCertificate, IsCertificate, IsRequestInfo, IsRequest}
 use Rattle.cmc_x509.specs.ReadKeys.{algorithm_at, integer_at, version_at, bits_of, spki_at}
-use Rattle.cmc_x509.specs.ReadNames.{name_at, extension_of, request_attribute_of}
-use Rattle.cmc_x509.specs.ReadCertificates.{signed_at, version_of, validity_at, unique_id_of, extensions_in, Head, head_at, tail_at, tbs_certificate_at, request_info_at, certificate_at, request_at}
+use Rattle.cmc_x509.specs.ReadNames.{distinguished_name_at, extension_of, request_attribute_of}
+use Rattle.cmc_x509.specs.ReadCertificates.{signed_at, version_field_of, validity_at, unique_id_of, extensions_in, Head, tbs_head_at, tail_at, tbs_certificate_at, request_info_at, certificate_fields_at, request_fields_at}
 use Rattle.cmc_x509.proofs.TakingLaws.{some, some_is, bind_some, guard_some, take_found, take_again, value_found, value_again, end_found, end_again, only_found, only_again, optional_found, optional_again, begins_from_whole, whole_from_begins}
 use Rattle.cmc_x509.proofs.ListLaws.{list_found, list_again}
 use Rattle.cmc_x509.proofs.NameLaws.{name_found, name_again, extension_found, extension_again, request_attribute_found, request_attribute_again, AreValues, extension_values, attribute_values}
@@ -28,7 +28,7 @@ use Rattle.cmc_x509.proofs.KeyLaws.{algorithm_found, algorithm_again, integer_fo
 
 -- ---- what is signed
 
-signed_found : (bs body : List ℕ) → signed_at bs ≡ Some body → IsSigned bs body
+signed_found : (bs body : List ℕ) → signed_at bs ≡ Some body → IsSignedSequence bs body
 unfolding signed_at
 signed_found bs body e =
     let p = bind_some (only_at 48 bs) _ body e in
@@ -36,7 +36,7 @@ signed_found bs body e =
     let a = bind_some (algorithm_at b.0.1) _ body b.2 in
     let s = bind_some (only_at 3 a.0.1) _ body a.2 in
     let g = bind_some (bits_of s.0) _ body s.2 in
-    subst (λ (y : List ℕ). IsSigned bs y) (some_is b.0.0 body g.2) (record {
+    subst (λ (y : List ℕ). IsSignedSequence bs y) (some_is b.0.0 body g.2) (record {
       parts = p.0;
       r0 = b.0.1;
       r1 = a.0.1;
@@ -45,10 +45,10 @@ signed_found bs body e =
       whole = only_found 48 bs p.0 p.1;
       body_is = take_found 48 p.0 b.0 b.1;
       algorithm_is = algorithm_found b.0.1 a.0 a.1;
-      signature_is = subst (λ (y : List ℕ). IsValue a.0.1 3 y) (bits_found s.0 g.0 g.1) (only_found 3 a.0.1 s.0 s.1);
+      signature_is = subst (λ (y : List ℕ). IsDerValue a.0.1 3 y) (bits_found s.0 g.0 g.1) (only_found 3 a.0.1 s.0 s.1);
     })
 
-signed_again : (bs body : List ℕ) → IsSigned bs body → signed_at bs ≡ Some body
+signed_again : (bs body : List ℕ) → IsSignedSequence bs body → signed_at bs ≡ Some body
 unfolding signed_at
 signed_again bs body h =
     rw (only_again 48 bs h.parts h.whole, take_again 48 h.parts body h.r0 h.body_is, algorithm_again h.r0 h.algorithm h.r1 h.algorithm_is, only_again 3 h.r1 (0 ∷ h.signature) h.signature_is, bits_again h.signature) refl
@@ -100,13 +100,13 @@ validity_again bs a b rest h = rw (take_again 48 bs h.body rest h.whole, time_ag
 
 -- ---- the parts of a TBSCertificate
 
-version_in_found : (o : Option (List ℕ)) (n : ℕ) → version_of o ≡ Some n → IsVersion o
+version_in_found : (o : Option (List ℕ)) (n : ℕ) → version_field_of o ≡ Some n → IsVersionField o
 version_in_found None n e = tt
 version_in_found (Some bs) n e =
     let v = bind_some (version_at 2 bs) end_at n e in
     whole_from_begins bs 2 (2 ∷ []) v.0 (version_found 2 bs v.0 v.1) (end_found v.0 n v.2)
 
-version_in_again : (o : Option (List ℕ)) → IsVersion o → version_of o ≡ Some 0
+version_in_again : (o : Option (List ℕ)) → IsVersionField o → version_field_of o ≡ Some 0
 version_in_again None h = refl
 version_in_again (Some bs) h = rw (version_again 2 bs [] (begins_from_whole bs 2 (2 ∷ []) h)) end_again
 
@@ -139,7 +139,7 @@ record IsHead (octets : List ℕ) (h : Head) (rest : List ℕ) : Type 0 where
   pub signature : AlgorithmIdentifier
   pub issuer : Option (List ℕ)
   pub version_stands : BeginsWithOptional octets 160 version r0
-  pub version_is : IsVersion version
+  pub version_is : IsVersionField version
   pub serial_is : BeginsWithInteger r0 h.serial r1
   pub signature_is : BeginsWithAlgorithm r1 signature r2
   pub issuer_is : BeginsWithName r2 issuer r3
@@ -148,14 +148,14 @@ record IsHead (octets : List ℕ) (h : Head) (rest : List ℕ) : Type 0 where
 abbrev Headed : Type 0
 Headed = Head × List ℕ
 
-head_found : (bs : List ℕ) (x : Headed) → head_at bs ≡ Some x → IsHead bs x.0 x.1
-unfolding head_at
+head_found : (bs : List ℕ) (x : Headed) → tbs_head_at bs ≡ Some x → IsHead bs x.0 x.1
+unfolding tbs_head_at
 head_found bs x e =
-    let v = bind_some (optional_at 160 bs) _ x e in
-    let k = bind_some (version_of v.0.0) _ x v.2 in
+    let v = bind_some (optional_value_at 160 bs) _ x e in
+    let k = bind_some (version_field_of v.0.0) _ x v.2 in
     let s = bind_some (integer_at v.0.1) _ x k.2 in
     let a = bind_some (algorithm_at s.0.1) _ x s.2 in
-    let i = bind_some (name_at a.0.1) _ x a.2 in
+    let i = bind_some (distinguished_name_at a.0.1) _ x a.2 in
     let t = bind_some (validity_at i.0.1) _ x i.2 in
     subst (λ (y : Headed). IsHead bs y.0 y.1) (some_is _ x t.2) (record {
       r0 = v.0.1;
@@ -190,11 +190,11 @@ record IsTail (octets alternative : List ℕ) : Type 0 where
 tail_found : (bs names : List ℕ) → tail_at bs ≡ Some names → IsTail bs names
 unfolding tail_at
 tail_found bs names e =
-    let i = bind_some (optional_at 129 bs) _ names e in
+    let i = bind_some (optional_value_at 129 bs) _ names e in
     let j = bind_some (unique_id_of i.0.0) _ names i.2 in
-    let s = bind_some (optional_at 130 i.0.1) _ names j.2 in
+    let s = bind_some (optional_value_at 130 i.0.1) _ names j.2 in
     let t = bind_some (unique_id_of s.0.0) _ names s.2 in
-    let x = bind_some (optional_at 163 s.0.1) _ names t.2 in
+    let x = bind_some (optional_value_at 163 s.0.1) _ names t.2 in
     let n = bind_some (end_at x.0.1) _ names x.2 in
     let last : BeginsWithOptional s.0.1 163 x.0.0 [] = subst (λ (r : List ℕ). BeginsWithOptional s.0.1 163 x.0.0 r) (end_found x.0.1 n.0 n.1) (optional_found 163 s.0.1 x.0 x.1) in
     record {
@@ -214,8 +214,8 @@ tail_found bs names e =
 tbs_found : (bs : List ℕ) (c : CertificateFields) → tbs_certificate_at bs ≡ Some c → IsTbsCertificate bs c
 unfolding tbs_certificate_at
 tbs_found bs c e =
-    let h = bind_some (head_at bs) _ c e in
-    let s = bind_some (name_at h.0.1) _ c h.2 in
+    let h = bind_some (tbs_head_at bs) _ c e in
+    let s = bind_some (distinguished_name_at h.0.1) _ c h.2 in
     let k = bind_some (spki_at s.0.1) _ c s.2 in
     let t = bind_some (tail_at k.0.1) _ c k.2 in
     let head = head_found bs h.0 h.1 in
@@ -252,8 +252,8 @@ tbs_found bs c e =
       extensions_are = tail.extensions_are;
     })
 
-head_again : (bs : List ℕ) (c : CertificateFields) (h : IsTbsCertificate bs c) → head_at bs ≡ Some (record { serial = c.serial; times = (c.not_before, c.not_after) }, h.r4)
-unfolding head_at
+head_again : (bs : List ℕ) (c : CertificateFields) (h : IsTbsCertificate bs c) → tbs_head_at bs ≡ Some (record { serial = c.serial; times = (c.not_before, c.not_after) }, h.r4)
+unfolding tbs_head_at
 head_again bs c h =
     rw (
       optional_again 160 bs h.version h.r0 h.version_stands,
@@ -280,15 +280,15 @@ tbs_again : (bs : List ℕ) (c : CertificateFields) → IsTbsCertificate bs c �
 unfolding tbs_certificate_at
 tbs_again bs c h = rw (head_again bs c h, name_again h.r4 c.names.common h.r5 h.subject_is, spki_front_again h.r5 c.key h.r6 h.key_is, tail_again bs c h) refl
 
-pub certificate_found : (bs : List ℕ) (c : CertificateFields) → certificate_at bs ≡ Some c → IsCertificate bs c
-unfolding certificate_at
+pub certificate_found : (bs : List ℕ) (c : CertificateFields) → certificate_fields_at bs ≡ Some c → IsCertificate bs c
+unfolding certificate_fields_at
 certificate_found bs c e =
     let g = guard_some (leb (length bs) MAX_INPUT) (signed_at bs >>= tbs_certificate_at) c e in
     let b = bind_some (signed_at bs) tbs_certificate_at c g.1 in
     record { within = leb-true (length bs) MAX_INPUT g.0; body = b.0; signed = signed_found bs b.0 b.1; is = tbs_found b.0 c b.2 }
 
-pub certificate_again : (bs : List ℕ) (c : CertificateFields) → IsCertificate bs c → certificate_at bs ≡ Some c
-unfolding certificate_at
+pub certificate_again : (bs : List ℕ) (c : CertificateFields) → IsCertificate bs c → certificate_fields_at bs ≡ Some c
+unfolding certificate_fields_at
 certificate_again bs c h = rw (le-leb (length bs) MAX_INPUT h.within, signed_again bs h.body h.signed) (tbs_again h.body c h.is)
 
 -- ---- requests
@@ -297,7 +297,7 @@ info_found : (bs : List ℕ) (c : RequestFields) → request_info_at bs ≡ Some
 unfolding request_info_at
 info_found bs c e =
     let v = bind_some (version_at 0 bs) _ c e in
-    let s = bind_some (name_at v.0) _ c v.2 in
+    let s = bind_some (distinguished_name_at v.0) _ c v.2 in
     let k = bind_some (spki_at s.0.1) _ c s.2 in
     let a = bind_some (only_at 160 k.0.1) _ c k.2 in
     let f = bind_some (first_at request_attribute_of a.0) _ c a.2 in
@@ -327,15 +327,15 @@ info_again bs c h =
       ← h.alternative_is,
     ) refl
 
-pub request_found : (bs : List ℕ) (c : RequestFields) → request_at bs ≡ Some c → IsRequest bs c
-unfolding request_at
+pub request_found : (bs : List ℕ) (c : RequestFields) → request_fields_at bs ≡ Some c → IsRequest bs c
+unfolding request_fields_at
 request_found bs c e =
     let g = guard_some (leb (length bs) MAX_INPUT) (signed_at bs >>= request_info_at) c e in
     let b = bind_some (signed_at bs) request_info_at c g.1 in
     record { within = leb-true (length bs) MAX_INPUT g.0; body = b.0; signed = signed_found bs b.0 b.1; is = info_found b.0 c b.2 }
 
-pub request_again : (bs : List ℕ) (c : RequestFields) → IsRequest bs c → request_at bs ≡ Some c
-unfolding request_at
+pub request_again : (bs : List ℕ) (c : RequestFields) → IsRequest bs c → request_fields_at bs ≡ Some c
+unfolding request_fields_at
 request_again bs c h = rw (le-leb (length bs) MAX_INPUT h.within, signed_again bs h.body h.signed) (info_again h.body c h.is)
 
 -- ---- alternative names are a list of values
@@ -356,25 +356,25 @@ request_names bs c h = subst IsValueList (sym h.is.alternative_is) (or_none_valu
 
 -- ---- what the code answers
 
-pub cert_answer_found : (r : Result CertFields NotForm) (bs : List ℕ) → Gives cert_shown r (certificate_at bs) → IfOk r (λ c. IsCertificate bs (cert_shown c))
+pub cert_answer_found : (r : Result CertFields NotForm) (bs : List ℕ) → Gives cert_shown r (certificate_fields_at bs) → IfOk r (λ c. IsCertificate bs (cert_shown c))
 cert_answer_found (Ok c) bs e = certificate_found bs (cert_shown c) e
 cert_answer_found (Err d) bs e = tt
 
-pub cert_answer_only : (r : Result CertFields NotForm) (bs : List ℕ) → Gives cert_shown r (certificate_at bs) → (c : CertificateFields) → IsCertificate bs c → Gives cert_shown r (Some c)
+pub cert_answer_only : (r : Result CertFields NotForm) (bs : List ℕ) → Gives cert_shown r (certificate_fields_at bs) → (c : CertificateFields) → IsCertificate bs c → Gives cert_shown r (Some c)
 cert_answer_only r bs e c h = rw (certificate_again bs c h) at e
 
-pub csr_answer_found : (r : Result CsrFields NotForm) (bs : List ℕ) → Gives csr_shown r (request_at bs) → IfOk r (λ c. IsRequest bs (csr_shown c))
+pub csr_answer_found : (r : Result CsrFields NotForm) (bs : List ℕ) → Gives csr_shown r (request_fields_at bs) → IfOk r (λ c. IsRequest bs (csr_shown c))
 csr_answer_found (Ok c) bs e = request_found bs (csr_shown c) e
 csr_answer_found (Err d) bs e = tt
 
-pub csr_answer_only : (r : Result CsrFields NotForm) (bs : List ℕ) → Gives csr_shown r (request_at bs) → (c : RequestFields) → IsRequest bs c → Gives csr_shown r (Some c)
+pub csr_answer_only : (r : Result CsrFields NotForm) (bs : List ℕ) → Gives csr_shown r (request_fields_at bs) → (c : RequestFields) → IsRequest bs c → Gives csr_shown r (Some c)
 csr_answer_only r bs e c h = rw (request_again bs c h) at e
 
-pub cert_answer_names : (r : Result CertFields NotForm) (bs : List ℕ) → Gives cert_shown r (certificate_at bs) → IfOk r (λ c. IsValueList c.names.alternative.now)
+pub cert_answer_names : (r : Result CertFields NotForm) (bs : List ℕ) → Gives cert_shown r (certificate_fields_at bs) → IfOk r (λ c. IsValueList c.names.alternative.now)
 cert_answer_names (Ok c) bs e = certificate_names bs (cert_shown c) (certificate_found bs (cert_shown c) e)
 cert_answer_names (Err d) bs e = tt
 
-pub csr_answer_names : (r : Result CsrFields NotForm) (bs : List ℕ) → Gives csr_shown r (request_at bs) → IfOk r (λ c. IsValueList c.names.alternative.now)
+pub csr_answer_names : (r : Result CsrFields NotForm) (bs : List ℕ) → Gives csr_shown r (request_fields_at bs) → IfOk r (λ c. IsValueList c.names.alternative.now)
 csr_answer_names (Ok c) bs e = request_names bs (csr_shown c) (request_found bs (csr_shown c) e)
 csr_answer_names (Err d) bs e = tt
 
@@ -387,10 +387,10 @@ nothing = None
 none_is_not : {A : Type 0} (x : A) (r : Option A) → r ≡ nothing → r ≡ one x → ⊥
 none_is_not x r e f = let z : nothing ≡ one x = sym e ∙ f in cc
 
-pub cert_answer_refused : (r : Result CertFields NotForm) (bs : List ℕ) → Gives cert_shown r (certificate_at bs) → IsErr r ↔ ((c : CertificateFields) → IsCertificate bs c → ⊥)
+pub cert_answer_refused : (r : Result CertFields NotForm) (bs : List ℕ) → Gives cert_shown r (certificate_fields_at bs) → IsErr r ↔ ((c : CertificateFields) → IsCertificate bs c → ⊥)
 cert_answer_refused (Ok c) bs e = (λ h. absurd cc, λ h. absurd (h (cert_shown c) (certificate_found bs (cert_shown c) e)))
-cert_answer_refused (Err d) bs e = (λ h c k. none_is_not c (certificate_at bs) e (certificate_again bs c k), λ h. refl)
+cert_answer_refused (Err d) bs e = (λ h c k. none_is_not c (certificate_fields_at bs) e (certificate_again bs c k), λ h. refl)
 
-pub csr_answer_refused : (r : Result CsrFields NotForm) (bs : List ℕ) → Gives csr_shown r (request_at bs) → IsErr r ↔ ((c : RequestFields) → IsRequest bs c → ⊥)
+pub csr_answer_refused : (r : Result CsrFields NotForm) (bs : List ℕ) → Gives csr_shown r (request_fields_at bs) → IsErr r ↔ ((c : RequestFields) → IsRequest bs c → ⊥)
 csr_answer_refused (Ok c) bs e = (λ h. absurd cc, λ h. absurd (h (csr_shown c) (request_found bs (csr_shown c) e)))
-csr_answer_refused (Err d) bs e = (λ h c k. none_is_not c (request_at bs) e (request_again bs c k), λ h. refl)
+csr_answer_refused (Err d) bs e = (λ h c k. none_is_not c (request_fields_at bs) e (request_again bs c k), λ h. refl)

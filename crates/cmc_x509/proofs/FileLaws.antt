@@ -7,17 +7,17 @@ use Rattle.cmc_der.specs.declared.fields.Spki.{Spki}
 use Rattle.cmc_x509.specs.declared.taking.NotForm.{NotForm}
 use Rattle.cmc_der.specs.declared.fields.KeyKind.{KeyKind}
 use Rattle.cmc_der.specs.declared.fields.KeyKind.TheVariants.{Rsa, P256, P384, P521}
-use Rattle.cmc_der.specs.Values.{IsValue}
+use Rattle.cmc_der.specs.Values.{IsDerValue}
 use Rattle.cmc_der.specs.Keys.{PublicKey, RsaKey, EcKey, OtherKey, same_kind, key_shown}
 use Rattle.cmc_x509.specs.declared.oids.TheConstants.{RSA_ENCRYPTION, EC_PUBLIC_KEY}
 use Rattle.cmc_x509.specs.declared.taking.TheConstants.{MAX_INPUT}
-use Rattle.cmc_x509.specs.Taking.{Gives, Value, BeginsWithOptional, ◌>>=◌, take_at, end_at, only_at, optional_at}
+use Rattle.cmc_x509.specs.Taking.{Gives, Value, BeginsWithOptional, ◌>>=◌, take_at, end_at, only_at, optional_value_at}
 use Rattle.cmc_x509.specs.Lists.{first_at}
 use Rattle.cmc_x509.specs.Names.{IsRequestAttribute}
 use Rattle.cmc_x509.specs.PublicKeys.{AlgorithmIdentifier, BeginsWithInteger, NamesCurve}
-use Rattle.cmc_x509.specs.KeyFiles.{IsIntegers, IsRsaPrivateKey, IsAgreed, IsEcPrivateKey, IsAround, IsHeldKey, AreAttributes, IsPrivateKeyInfo, IsPrivateKey, IsKeyFile}
+use Rattle.cmc_x509.specs.KeyFiles.{IsIntegers, IsRsaPrivateKey, IsAgreed, IsEcPrivateKey, IsAround, IsPrivateKeyOf, AreAttributes, IsPrivateKeyInfo, IsPrivateKey, IsKeyFile}
 use Rattle.cmc_x509.specs.ReadNames.{request_attribute_of}
-use Rattle.cmc_x509.specs.ReadKeys.{algorithm_at, integer_at, positive_at, version_at, curve_named, curve_of, is_null, bits_of, three_at, six_at, rsa_private_at, curve_inside_at, agreed_curve, ec_private_at, attributes_at, around_of, held_key_at, private_key_info_at, or_else, private_key_at, key_file_at}
+use Rattle.cmc_x509.specs.ReadKeys.{algorithm_at, integer_at, positive_at, version_at, curve_named, curve_of, is_null, bits_of, three_at, six_at, rsa_private_at, curve_inside_at, agreed_curve, ec_private_at, attributes_at, around_of, private_key_of_at, private_key_info_at, or_else, private_key_at, key_file_at}
 use Rattle.cmc_x509.proofs.TakingLaws.{some, some_is, bind_some, guard_some, take_found, take_again, take_other, end_found, end_again, only_found, only_again, optional_found, optional_again, bytes_same, same_bytes}
 use Rattle.cmc_x509.proofs.ListLaws.{list_found, list_again}
 use Rattle.cmc_x509.proofs.NameLaws.{request_attribute_found, request_attribute_again}
@@ -163,7 +163,7 @@ ec_found around bs k e =
     let b = bind_some (only_at 48 bs) _ k e in
     let v = bind_some (version_at 1 b.0) _ k b.2 in
     let s = bind_some (take_at 4 v.0) _ k v.2 in
-    let p = bind_some (optional_at 160 s.0.1) _ k s.2 in
+    let p = bind_some (optional_value_at 160 s.0.1) _ k s.2 in
     let q = bind_some (only_at 161 p.0.1) _ k p.2 in
     let t = bind_some (only_at 3 q.0) _ k q.2 in
     let u = bind_some (bits_of t.0) _ k t.2 in
@@ -186,7 +186,7 @@ ec_found around bs k e =
         secret_is = take_found 4 v.0 s.0 s.1;
         parameters_are = optional_found 160 s.0.1 p.0 p.1;
         public_key_is = only_found 161 p.0.1 q.0 q.1;
-        bits_are = subst (λ (y : List ℕ). IsValue q.0 3 y) (bits_found t.0 u.0 u.1) (only_found 3 q.0 t.0 t.1);
+        bits_are = subst (λ (y : List ℕ). IsDerValue q.0 3 y) (bits_found t.0 u.0 u.1) (only_found 3 q.0 t.0 t.1);
         curve_is = agreed_curve_found around p.0.0 c.0 c.1;
         point_is = f.stands;
       };
@@ -228,23 +228,23 @@ around_again p None h = rw h refl
 around_again None (Some c) h = absurd (let e = h.1 in cc)
 around_again (Some v) (Some c) h = rw (stated_again (Some v) c h) refl
 
-held_found : (a : AlgorithmIdentifier) (bs : List ℕ) (k : PublicKey) → held_key_at a bs ≡ Some k → IsHeldKey a bs k
-unfolding held_key_at
+held_found : (a : AlgorithmIdentifier) (bs : List ℕ) (k : PublicKey) → private_key_of_at a bs ≡ Some k → IsPrivateKeyOf a bs k
+unfolding private_key_of_at
 held_found a bs k e =
     elim (cases_Bool (bytes_eq a.oid RSA_ENCRYPTION)) [
       | inl r ↦
           let g = guard_some (is_null a.parameter) (rsa_private_at bs) k (rw r at e) in
           let f = rsa_found bs k g.1 in
-          subst (λ (y : PublicKey). IsHeldKey a bs y) f.key_is (bytes_same a.oid RSA_ENCRYPTION r, null_found a.parameter g.0, f.stands)
+          subst (λ (y : PublicKey). IsPrivateKeyOf a bs y) f.key_is (bytes_same a.oid RSA_ENCRYPTION r, null_found a.parameter g.0, f.stands)
       | inr r ↦
           let g = guard_some (bytes_eq a.oid EC_PUBLIC_KEY) (around_of a.parameter >>= (λ around. ec_private_at around bs)) k (rw r at e) in
           let b = bind_some (around_of a.parameter) (λ around. ec_private_at around bs) k g.1 in
           let f = ec_found b.0 bs k b.2 in
-          subst (λ (y : PublicKey). IsHeldKey a bs y) f.key_is (bytes_same a.oid EC_PUBLIC_KEY g.0, (b.0, around_found a.parameter b.0 b.1, f.stands))
+          subst (λ (y : PublicKey). IsPrivateKeyOf a bs y) f.key_is (bytes_same a.oid EC_PUBLIC_KEY g.0, (b.0, around_found a.parameter b.0 b.1, f.stands))
     ]
 
-held_again : (a : AlgorithmIdentifier) (bs : List ℕ) (k : PublicKey) → IsHeldKey a bs k → held_key_at a bs ≡ Some k
-unfolding held_key_at
+held_again : (a : AlgorithmIdentifier) (bs : List ℕ) (k : PublicKey) → IsPrivateKeyOf a bs k → private_key_of_at a bs ≡ Some k
+unfolding private_key_of_at
 held_again a bs (RsaKey m e) h = rw (same_bytes a.oid RSA_ENCRYPTION h.0, null_again a.parameter h.1) (rsa_again bs m e h.2)
 held_again a bs (EcKey c p) h = let k = h.1 in rw (rsa_not_ec a.oid h.0, same_bytes a.oid EC_PUBLIC_KEY h.0, around_again a.parameter k.0 k.1) (ec_again k.0 bs c p k.2)
 held_again a bs (OtherKey w) h = absurd h
@@ -256,7 +256,7 @@ info_found bs k e =
     let v = bind_some (version_at 0 b.0) _ k b.2 in
     let a = bind_some (algorithm_at v.0) _ k v.2 in
     let p = bind_some (take_at 4 a.0.1) _ k a.2 in
-    let o = bind_some (optional_at 160 p.0.1) _ k p.2 in
+    let o = bind_some (optional_value_at 160 p.0.1) _ k p.2 in
     let n = bind_some (end_at o.0.1) _ k o.2 in
     let t = bind_some (attributes_at o.0.0) _ k n.2 in
     let last : BeginsWithOptional p.0.1 160 o.0.0 [] = subst (λ (r : List ℕ). BeginsWithOptional p.0.1 160 o.0.0 r) (end_found o.0.1 n.0 n.1) (optional_found 160 p.0.1 o.0 o.1) in

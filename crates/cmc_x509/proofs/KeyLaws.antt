@@ -9,7 +9,7 @@ use Rattle.cmc_der.specs.Integers.{is_integer, signed}
 use Rattle.cmc_der.specs.Keys.{PublicKey, RsaKey, EcKey, OtherKey}
 use Rattle.cmc_x509.specs.declared.oids.TheConstants.{RSA_ENCRYPTION, EC_PUBLIC_KEY, SECP256R1, SECP384R1, SECP521R1}
 use Rattle.cmc_x509.specs.Taking.{Value, Taken, take_at, whole_at, end_at, only_at, at_most_one_at}
-use Rattle.cmc_x509.specs.PublicKeys.{AlgorithmIdentifier, BeginsWithAlgorithm, BeginsWithInteger, IsMagnitude, BeginsWithPositive, IsRsaPublicKey, IsNull, NamesCurve, IsCurve, width, IsPoint, IsKeyOf, IsSpki, BeginsWithSpki}
+use Rattle.cmc_x509.specs.PublicKeys.{AlgorithmIdentifier, BeginsWithAlgorithm, BeginsWithInteger, IsMagnitude, BeginsWithPositive, IsRsaPublicKey, IsNull, NamesCurve, IsCurve, width, IsPoint, ArePublicKeyBits, IsSpki, BeginsWithSpki}
 use Rattle.cmc_x509.specs.ReadKeys.{algorithm_at, integer_at, high_first, magnitude_of, positive_at, version_at, rsa_public_at, curve_named, curve_of, is_point, is_null, point_at, bits_of, public_key_at, spki_of, spki_at}
 use Rattle.cmc_x509.proofs.TakingLaws.{some, some_is, bind_some, guard_some, take_found, take_again, end_found, end_again, only_found, only_again, at_most_one_found, at_most_one_again, whole_found, whole_again, bytes_same, bytes_differ, same_bytes, other_bytes}
 
@@ -206,27 +206,27 @@ bits_again bits = refl
 
 -- ---- SubjectPublicKeyInfo
 
-key_found : (a : AlgorithmIdentifier) (whole bits : List ℕ) (k : PublicKey) → public_key_at a whole bits ≡ Some k → IsKeyOf a whole bits k
+key_found : (a : AlgorithmIdentifier) (whole bits : List ℕ) (k : PublicKey) → public_key_at a whole bits ≡ Some k → ArePublicKeyBits a whole bits k
 unfolding public_key_at
 key_found a whole bits k e =
     elim (cases_Bool (bytes_eq a.oid RSA_ENCRYPTION)) [
       | inl r ↦
           let g = guard_some (is_null a.parameter) (rsa_public_at bits) k (rw r at e) in
           let f = rsa_found bits k g.1 in
-          subst (λ (y : PublicKey). IsKeyOf a whole bits y) f.key_is (bytes_same a.oid RSA_ENCRYPTION r, null_found a.parameter g.0, f.stands)
+          subst (λ (y : PublicKey). ArePublicKeyBits a whole bits y) f.key_is (bytes_same a.oid RSA_ENCRYPTION r, null_found a.parameter g.0, f.stands)
       | inr r ↦ elim (cases_Bool (bytes_eq a.oid EC_PUBLIC_KEY)) [
         | inl c ↦
             let b = bind_some (curve_of a.parameter) (λ d. point_at d bits) k (rw (r, c) at e) in
             let f = point_found b.0 bits k b.2 in
-            subst (λ (y : PublicKey). IsKeyOf a whole bits y) f.key_is (bytes_same a.oid EC_PUBLIC_KEY c, stated_found a.parameter b.0 b.1, f.stands, refl)
-        | inr c ↦ subst (λ (y : PublicKey). IsKeyOf a whole bits y) (some_is (OtherKey whole) k (rw (r, c) at e)) (bytes_differ a.oid RSA_ENCRYPTION r, bytes_differ a.oid EC_PUBLIC_KEY c, refl)
+            subst (λ (y : PublicKey). ArePublicKeyBits a whole bits y) f.key_is (bytes_same a.oid EC_PUBLIC_KEY c, stated_found a.parameter b.0 b.1, f.stands, refl)
+        | inr c ↦ subst (λ (y : PublicKey). ArePublicKeyBits a whole bits y) (some_is (OtherKey whole) k (rw (r, c) at e)) (bytes_differ a.oid RSA_ENCRYPTION r, bytes_differ a.oid EC_PUBLIC_KEY c, refl)
       ]
     ]
 
 pub rsa_not_ec : (oid : List ℕ) → oid ≡ EC_PUBLIC_KEY → bytes_eq oid RSA_ENCRYPTION ≡ false
 rsa_not_ec oid h = rw h refl
 
-key_again : (a : AlgorithmIdentifier) (whole bits : List ℕ) (k : PublicKey) → IsKeyOf a whole bits k → public_key_at a whole bits ≡ Some k
+key_again : (a : AlgorithmIdentifier) (whole bits : List ℕ) (k : PublicKey) → ArePublicKeyBits a whole bits k → public_key_at a whole bits ≡ Some k
 unfolding public_key_at
 key_again a whole bits (RsaKey m e) h = rw (same_bytes a.oid RSA_ENCRYPTION h.0, null_again a.parameter h.1) (rsa_again bits m e h.2)
 key_again a whole bits (EcKey c p) h = rw (rsa_not_ec a.oid h.0, same_bytes a.oid EC_PUBLIC_KEY h.0, stated_again a.parameter c h.1, h.3) (point_again c p h.2)

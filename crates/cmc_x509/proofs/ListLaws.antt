@@ -2,7 +2,7 @@
 use Rattle.std.proofs.Common.{◌≡◌, ℕ, zero, suc, ◌<◌, ◌≤◌, List, [], ◌∷◌, length, Option, Some, None, refl, sym, ap, subst, ◌∙◌, arith}
 use Rattle.cmc_der.specs.Reading.{Found}
 use Rattle.cmc_x509.specs.Taking.{Value, ◌>>=◌, value_at}
-use Rattle.cmc_x509.specs.Lists.{IsValues, IsValueList, or_first, FirstOf, IsListOf, values_from, values_at, Reader, first_of, first_at, after_found, any_value}
+use Rattle.cmc_x509.specs.Lists.{IsValues, IsValueList, or_first, FirstOf, IsListOf, values_from, values_at, Reader, first_read_of, first_at, after_found, any_value}
 use Rattle.cmc_x509.proofs.TakingLaws.{some, some_is, bind_some, value_found, value_again, rest_shorter}
 
 value_shorter : (bs : List ℕ) (x : Found) → value_at bs ≡ Some x → length x.2 < length bs
@@ -54,35 +54,35 @@ values_again bs (v ∷ vs) h = rw (values_step bs (v.0, v.1, h.0) (value_again b
 
 -- ---- lists of a form
 
-first_found : (f : Reader) (R : Value → Option (List ℕ) → Type 0) → ((v : Value) (x : Option (List ℕ)) → f v ≡ Some x → R v x) → (vs : List Value) (found : Option (List ℕ)) → first_of f vs ≡ Some found → FirstOf R vs found
+first_found : (f : Reader) (R : Value → Option (List ℕ) → Type 0) → ((v : Value) (x : Option (List ℕ)) → f v ≡ Some x → R v x) → (vs : List Value) (found : Option (List ℕ)) → first_read_of f vs ≡ Some found → FirstOf R vs found
 first_found f R k [] found e = sym (some_is None found e)
 first_found f R k (v ∷ vs) found e =
     let h = bind_some (f v) _ found e in
-    let l = bind_some (first_of f vs) _ found h.2 in
+    let l = bind_some (first_read_of f vs) _ found h.2 in
     (h.0, l.0, k v h.0 h.1, first_found f R k vs l.0 l.1, sym (some_is (or_first h.0 l.0) found l.2))
 
-first_again : (f : Reader) (R : Value → Option (List ℕ) → Type 0) → ((v : Value) (x : Option (List ℕ)) → R v x → f v ≡ Some x) → (vs : List Value) (found : Option (List ℕ)) → FirstOf R vs found → first_of f vs ≡ Some found
+first_again : (f : Reader) (R : Value → Option (List ℕ) → Type 0) → ((v : Value) (x : Option (List ℕ)) → R v x → f v ≡ Some x) → (vs : List Value) (found : Option (List ℕ)) → FirstOf R vs found → first_read_of f vs ≡ Some found
 first_again f R k [] found h = ap some (sym h)
 first_again f R k (v ∷ vs) found h = rw (k v h.0 h.2, first_again f R k vs h.1 h.3, h.4) refl
 
 pub list_found : (f : Reader) (R : Value → Option (List ℕ) → Type 0) → ((v : Value) (x : Option (List ℕ)) → f v ≡ Some x → R v x) → (bs : List ℕ) (found : Option (List ℕ)) → first_at f bs ≡ Some found → IsListOf R bs found
 unfolding first_at
 list_found f R k bs found e =
-    let w = bind_some (values_at bs) (first_of f) found e in
+    let w = bind_some (values_at bs) (first_read_of f) found e in
     (w.0, values_found bs w.0 w.1, first_found f R k w.0 found w.2)
 
 pub list_again : (f : Reader) (R : Value → Option (List ℕ) → Type 0) → ((v : Value) (x : Option (List ℕ)) → R v x → f v ≡ Some x) → (bs : List ℕ) (found : Option (List ℕ)) → IsListOf R bs found → first_at f bs ≡ Some found
 unfolding first_at
 list_again f R k bs found h = rw (values_again bs h.0 h.1) (first_again f R k h.0 found h.2)
 
-any_first : (vs : List Value) → first_of any_value vs ≡ Some None
+any_first : (vs : List Value) → first_read_of any_value vs ≡ Some None
 any_first [] = refl
 any_first (v ∷ vs) = rw (any_first vs) refl
 
 -- values of any form
 pub any_found : (bs : List ℕ) (found : Option (List ℕ)) → first_at any_value bs ≡ Some found → IsValueList bs
 unfolding first_at
-any_found bs found e = let w = bind_some (values_at bs) (first_of any_value) found e in (w.0, values_found bs w.0 w.1)
+any_found bs found e = let w = bind_some (values_at bs) (first_read_of any_value) found e in (w.0, values_found bs w.0 w.1)
 
 pub any_again : (bs : List ℕ) → IsValueList bs → first_at any_value bs ≡ Some None
 unfolding first_at
@@ -90,13 +90,13 @@ any_again bs h = rw (values_again bs h.0 h.1) (any_first h.0)
 
 -- ---- a loop over them: what was found before, and what the rest gives
 
-step_swap : (f : Reader) (r : Option (Option (List ℕ))) (ws : Option (List Value)) → (ws >>= (λ vs. r >>= (λ here. first_of f vs >>= (λ later. some (or_first here later))))) ≡ (r >>= (λ here. (ws >>= first_of f) >>= (λ later. some (or_first here later))))
+step_swap : (f : Reader) (r : Option (Option (List ℕ))) (ws : Option (List Value)) → (ws >>= (λ vs. r >>= (λ here. first_read_of f vs >>= (λ later. some (or_first here later))))) ≡ (r >>= (λ here. (ws >>= first_read_of f) >>= (λ later. some (or_first here later))))
 step_swap f (Some x) (Some vs) = refl
 step_swap f (Some x) None = refl
 step_swap f None (Some vs) = refl
 step_swap f None None = refl
 
-cons_first : (f : Reader) (v : Value) (ws : Option (List Value)) → ((ws >>= (λ vs. some (v ∷ vs))) >>= first_of f) ≡ (ws >>= (λ vs. f v >>= (λ here. first_of f vs >>= (λ later. some (or_first here later)))))
+cons_first : (f : Reader) (v : Value) (ws : Option (List Value)) → ((ws >>= (λ vs. some (v ∷ vs))) >>= first_read_of f) ≡ (ws >>= (λ vs. f v >>= (λ here. first_read_of f vs >>= (λ later. some (or_first here later)))))
 cons_first f v (Some vs) = refl
 cons_first f v None = refl
 

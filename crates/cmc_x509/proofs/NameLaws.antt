@@ -2,12 +2,12 @@
 use Rattle.std.proofs.Common.{◌≡◌, ℕ, cond, eqb, List, [], ◌∷◌, Option, Some, None, refl, sym, subst, inl, inr}
 use Rattle.std.proofs.lemmas.Bool.{eqb-true, eq-eqb, cases_Bool}
 use Rattle.std.specs.Str.{bytes_eq}
-use Rattle.cmc_der.specs.Values.{IsValue, BeginsWith}
+use Rattle.cmc_der.specs.Values.{IsDerValue, BeginsWith}
 use Rattle.cmc_x509.specs.declared.oids.TheConstants.{SUBJECT_ALT_NAME, EXTENSION_REQUEST}
-use Rattle.cmc_x509.specs.Taking.{Value, Maybe, value_at, take_at, end_at, only_at, optional_at}
+use Rattle.cmc_x509.specs.Taking.{Value, Maybe, value_at, take_at, end_at, only_at, optional_value_at}
 use Rattle.cmc_x509.specs.Lists.{IsValueList, or_first, FirstOf, IsListOf, first_at, any_value}
 use Rattle.cmc_x509.specs.Names.{IsAttribute, IsRdn, BeginsWithName, IsTrueOrAbsent, IsExtensionValue, IsExtension, IsExtensions, IsAttributeValue, IsRequestAttribute}
-use Rattle.cmc_x509.specs.ReadNames.{inside, attribute_of, rdn_of, name_at, true_or_absent, general_names_at, extension_value_at, extension_of, extensions_of, request_attribute_of}
+use Rattle.cmc_x509.specs.ReadNames.{inside, attribute_of, rdn_of, distinguished_name_at, true_or_absent, general_names_at, extension_value_at, extension_of, extensions_of, request_attribute_of}
 use Rattle.cmc_x509.proofs.TakingLaws.{some, some_is, bind_some, guard_some, take_found, take_again, value_found, value_again, end_found, end_again, only_found, only_again, optional_found, optional_again, whole_from_begins, begins_from_whole, bytes_same, bytes_differ, same_bytes, other_bytes}
 use Rattle.cmc_x509.proofs.ListLaws.{list_found, list_again, any_found, any_again}
 
@@ -55,15 +55,15 @@ pub rdn_again : (v : Value) (common : Option (List ℕ)) → IsRdn v common → 
 unfolding rdn_of
 rdn_again v common h = rw (inside_again 49 v h.0) (list_again attribute_of IsAttribute attribute_again v.1 common h.1)
 
-pub name_found : (bs : List ℕ) (x : Maybe) → name_at bs ≡ Some x → BeginsWithName bs x.0 x.1
-unfolding name_at
+pub name_found : (bs : List ℕ) (x : Maybe) → distinguished_name_at bs ≡ Some x → BeginsWithName bs x.0 x.1
+unfolding distinguished_name_at
 name_found bs x e =
     let b = bind_some (take_at 48 bs) _ x e in
     let c = bind_some (first_at rdn_of b.0.0) _ x b.2 in
     subst (λ (y : Maybe). BeginsWithName bs y.0 y.1) (some_is _ x c.2) (b.0.0, take_found 48 bs b.0 b.1, list_found rdn_of IsRdn rdn_found b.0.0 c.0 c.1)
 
-pub name_again : (bs : List ℕ) (common : Option (List ℕ)) (rest : List ℕ) → BeginsWithName bs common rest → name_at bs ≡ Some (common, rest)
-unfolding name_at
+pub name_again : (bs : List ℕ) (common : Option (List ℕ)) (rest : List ℕ) → BeginsWithName bs common rest → distinguished_name_at bs ≡ Some (common, rest)
+unfolding distinguished_name_at
 name_again bs common rest h = rw (take_again 48 bs h.0 rest h.1, list_again rdn_of IsRdn rdn_again h.0 common h.2) refl
 
 -- ---- extensions
@@ -76,14 +76,14 @@ true_again : (o : Option (List ℕ)) → IsTrueOrAbsent o → true_or_absent o �
 true_again None h = refl
 true_again (Some body) h = rw (same_bytes body (255 ∷ []) h) refl
 
-general_names_found : (bs names : List ℕ) → general_names_at bs ≡ Some names → IsValue bs 48 names × IsValueList names
+general_names_found : (bs names : List ℕ) → general_names_at bs ≡ Some names → IsDerValue bs 48 names × IsValueList names
 unfolding general_names_at
 general_names_found bs names e =
     let b = bind_some (only_at 48 bs) _ names e in
     let l = bind_some (first_at any_value b.0) _ names b.2 in
-    subst (λ (y : List ℕ). IsValue bs 48 y × IsValueList y) (some_is b.0 names l.2) (only_found 48 bs b.0 b.1, any_found b.0 l.0 l.1)
+    subst (λ (y : List ℕ). IsDerValue bs 48 y × IsValueList y) (some_is b.0 names l.2) (only_found 48 bs b.0 b.1, any_found b.0 l.0 l.1)
 
-general_names_again : (bs names : List ℕ) → IsValue bs 48 names → IsValueList names → general_names_at bs ≡ Some names
+general_names_again : (bs names : List ℕ) → IsDerValue bs 48 names → IsValueList names → general_names_at bs ≡ Some names
 unfolding general_names_at
 general_names_again bs names v h = rw (only_again 48 bs names v, any_again names h) refl
 
@@ -109,7 +109,7 @@ extension_found v names e =
     let b = bind_some (inside 48 v) _ names e in
     let i = inside_found 48 v b.0 b.1 in
     let o = bind_some (take_at 6 b.0) _ names b.2 in
-    let c = bind_some (optional_at 1 o.0.1) _ names o.2 in
+    let c = bind_some (optional_value_at 1 o.0.1) _ names o.2 in
     let t = bind_some (true_or_absent c.0.0) _ names c.2 in
     let w = bind_some (only_at 4 c.0.1) _ names t.2 in
     record {

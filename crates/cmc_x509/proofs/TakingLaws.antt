@@ -5,10 +5,10 @@ use Rattle.std.proofs.lemmas.Slice.Eq.{bytes_eq-Decides}
 use Rattle.std.specs.Str.{bytes_eq}
 use Rattle.std.proofs.lemmas.List.{append-nil, length-append, take_at as take-front}
 use Rattle.cmc_der.specs.declared.reading.DerFault.{DerFault}
-use Rattle.cmc_der.specs.Values.{IsValue, BeginsWith}
+use Rattle.cmc_der.specs.Values.{IsDerValue, BeginsWith}
 use Rattle.cmc_der.specs.Reading.{Found, read_at}
 use Rattle.cmc_der.proofs.Laws.{read_spelled, read_again}
-use Rattle.cmc_x509.specs.Taking.{Value, IsAtMostOne, BeginsWithOptional, ◌>>=◌, Taken, Maybe, value_of, value_at, take_at, whole_at, end_at, only_at, at_most_one_at, optional_at}
+use Rattle.cmc_x509.specs.Taking.{Value, IsAtMostOne, BeginsWithOptional, ◌>>=◌, Taken, Maybe, value_if_read, value_at, take_at, whole_at, end_at, only_at, at_most_one_at, optional_value_at}
 
 abbrev pub some : {A : Type 0} → A → Option A
 some x = Some x
@@ -24,7 +24,7 @@ pub guard_some : {A : Type 0} (b : Bool) (x : Option A) (y : A) → cond b x Non
 guard_some true x y e = (refl, e)
 guard_some false x y e = absurd cc
 
-pub read_from_value : (r : Result Found DerFault) (x : Found) → value_of r ≡ Some x → r ≡ Ok x
+pub read_from_value : (r : Result Found DerFault) (x : Found) → value_if_read r ≡ Some x → r ≡ Ok x
 read_from_value (Ok y) x e = cc
 read_from_value (Err d) x e = absurd cc
 
@@ -57,20 +57,20 @@ pub end_again : end_at [] ≡ Some 0
 unfolding end_at
 end_again = refl
 
-pub whole_from_begins : (bs : List ℕ) (tag : ℕ) (body rest : List ℕ) → BeginsWith bs tag body rest → rest ≡ [] → IsValue bs tag body
+pub whole_from_begins : (bs : List ℕ) (tag : ℕ) (body rest : List ℕ) → BeginsWith bs tag body rest → rest ≡ [] → IsDerValue bs tag body
 whole_from_begins bs tag body rest h e = rw (h.2, e, append-nil) (h.1)
 
-pub begins_from_whole : (bs : List ℕ) (tag : ℕ) (body : List ℕ) → IsValue bs tag body → BeginsWith bs tag body []
+pub begins_from_whole : (bs : List ℕ) (tag : ℕ) (body : List ℕ) → IsDerValue bs tag body → BeginsWith bs tag body []
 begins_from_whole bs tag body v = (bs, v, sym (append-nil bs))
 
-pub only_found : (tag : ℕ) (bs body : List ℕ) → only_at tag bs ≡ Some body → IsValue bs tag body
+pub only_found : (tag : ℕ) (bs body : List ℕ) → only_at tag bs ≡ Some body → IsDerValue bs tag body
 unfolding only_at
 only_found tag bs body e =
     let b = bind_some (take_at tag bs) _ body e in
     let n = bind_some (end_at b.0.1) _ body b.2 in
     rw (some_is _ _ n.2) at (whole_from_begins bs tag b.0.0 b.0.1 (take_found tag bs b.0 b.1) (end_found b.0.1 n.0 n.1))
 
-pub only_again : (tag : ℕ) (bs body : List ℕ) → IsValue bs tag body → only_at tag bs ≡ Some body
+pub only_again : (tag : ℕ) (bs body : List ℕ) → IsDerValue bs tag body → only_at tag bs ≡ Some body
 unfolding only_at
 only_again tag bs body v = rw (take_again tag bs body [] (begins_from_whole bs tag body v), end_again) refl
 
@@ -89,8 +89,8 @@ at_most_one_again (b ∷ bs) None h = absurd cc
 at_most_one_again [] (Some v) h = absurd (let w = h.spelled in cc)
 at_most_one_again (b ∷ bs) (Some v) h = rw (value_again (b ∷ bs) v.0 v.1 [] (begins_from_whole (b ∷ bs) v.0 v.1 h), end_again) refl
 
-pub optional_found : (tag : ℕ) (bs : List ℕ) (p : Maybe) → optional_at tag bs ≡ Some p → BeginsWithOptional bs tag p.0 p.1
-unfolding optional_at
+pub optional_found : (tag : ℕ) (bs : List ℕ) (p : Maybe) → optional_value_at tag bs ≡ Some p → BeginsWithOptional bs tag p.0 p.1
+unfolding optional_value_at
 optional_found tag [] p e = subst (λ (q : Maybe). BeginsWithOptional [] tag q.0 q.1) (some_is (None, []) p e) (refl, tt)
 optional_found tag (b ∷ bs) p e =
     elim (cases_Bool (eqb b tag)) [
@@ -100,8 +100,8 @@ optional_found tag (b ∷ bs) p e =
       | inr t ↦ subst (λ (q : Maybe). BeginsWithOptional (b ∷ bs) tag q.0 q.1) (some_is (None, b ∷ bs) p (rw t at e)) (refl, eqb-false b tag t)
     ]
 
-pub optional_again : (tag : ℕ) (bs : List ℕ) (o : Option (List ℕ)) (rest : List ℕ) → BeginsWithOptional bs tag o rest → optional_at tag bs ≡ Some (o, rest)
-unfolding optional_at
+pub optional_again : (tag : ℕ) (bs : List ℕ) (o : Option (List ℕ)) (rest : List ℕ) → BeginsWithOptional bs tag o rest → optional_value_at tag bs ≡ Some (o, rest)
+unfolding optional_value_at
 optional_again tag [] None rest h = rw (h.0) refl
 optional_again tag (b ∷ bs) None rest h = rw (h.0, ne_eqb b tag h.1) refl
 optional_again tag [] (Some body) rest h = absurd (let v = h.1 in let e = h.2 ∙ ap (λ (w : List ℕ). w ++ rest) v.spelled in cc)
@@ -128,7 +128,7 @@ whole_is bs whole rest e =
     rw (n, e) (take-front whole rest (length whole) refl)
 
 -- what is taken whole stands at the front, and is one value
-pub whole_found : (bs : List ℕ) (p : Taken) → whole_at bs ≡ Some p → (tag : ℕ) × (body : List ℕ) × IsValue p.0 tag body × (bs ≡ p.0 ++ p.1)
+pub whole_found : (bs : List ℕ) (p : Taken) → whole_at bs ≡ Some p → (tag : ℕ) × (body : List ℕ) × IsDerValue p.0 tag body × (bs ≡ p.0 ++ p.1)
 unfolding whole_at
 whole_found bs p e =
     let x = bind_some (value_at bs) _ p e in
@@ -136,9 +136,9 @@ whole_found bs p e =
     let w : take (length bs - length x.0.2) bs ≡ h.0 = whole_is bs h.0 x.0.2 h.2 in
     let same : h.0 ≡ p.0 = sym w ∙ ap (λ (q : Taken). q.0) (some_is _ p x.2) in
     let rest : x.0.2 ≡ p.1 = ap (λ (q : Taken). q.1) (some_is _ p x.2) in
-    (x.0.0, x.0.1, subst (λ (y : List ℕ). IsValue y x.0.0 x.0.1) same h.1, h.2 ∙ ap (λ (y : List ℕ). y ++ x.0.2) same ∙ ap (λ (y : List ℕ). p.0 ++ y) rest)
+    (x.0.0, x.0.1, subst (λ (y : List ℕ). IsDerValue y x.0.0 x.0.1) same h.1, h.2 ∙ ap (λ (y : List ℕ). y ++ x.0.2) same ∙ ap (λ (y : List ℕ). p.0 ++ y) rest)
 
-pub whole_again : (bs whole rest : List ℕ) (tag : ℕ) (body : List ℕ) → IsValue whole tag body → bs ≡ whole ++ rest → whole_at bs ≡ Some (whole, rest)
+pub whole_again : (bs whole rest : List ℕ) (tag : ℕ) (body : List ℕ) → IsDerValue whole tag body → bs ≡ whole ++ rest → whole_at bs ≡ Some (whole, rest)
 unfolding whole_at
 whole_again bs whole rest tag body v e = rw (value_again bs tag body rest (whole, v, e), whole_is bs whole rest e) refl
 

@@ -1,6 +1,6 @@
 -- Certificates (RFC 5280, 4.1) and certification requests (RFC 2986, 4), and the fields that are read of them.
 use Rattle.std.specs.Prelude.{◌≡◌, ℕ, ℤ, ◌≤◌, ◌≤ℤ◌, List, [], ◌∷◌, length, Option, Some, None}
-use Rattle.cmc_der.specs.Values.{IsValue, BeginsWith}
+use Rattle.cmc_der.specs.Values.{IsDerValue, BeginsWith}
 use Rattle.cmc_der.specs.Keys.{CertificateFields, RequestFields}
 use Rattle.cmc_x509.specs.declared.taking.TheConstants.{MAX_INPUT}
 use Rattle.cmc_x509.specs.Taking.{BeginsWithOptional}
@@ -11,21 +11,21 @@ use Rattle.cmc_x509.specs.Times.{BeginsWithTime}
 
 -- what is signed, and its signature: a SEQUENCE of a SEQUENCE with this body, an AlgorithmIdentifier and a
 -- BIT STRING with no unused bits
-pub record IsSigned (octets body : List ℕ) : Type 0 where
+pub record IsSignedSequence (octets body : List ℕ) : Type 0 where
   pub parts : List ℕ
   pub r0 : List ℕ
   pub r1 : List ℕ
   pub algorithm : AlgorithmIdentifier
   pub signature : List ℕ
-  pub whole : IsValue octets 48 parts
+  pub whole : IsDerValue octets 48 parts
   pub body_is : BeginsWith parts 48 body r0
   pub algorithm_is : BeginsWithAlgorithm r0 algorithm r1
-  pub signature_is : IsValue r1 3 (0 ∷ signature)
+  pub signature_is : IsDerValue r1 3 (0 ∷ signature)
 
 -- version: not there, which is v1, or [0] with v3
-abbrev pub IsVersion : Option (List ℕ) → Type 0
-IsVersion None = Unit {0}
-IsVersion (Some octets) = IsValue octets 2 (2 ∷ [])
+abbrev pub IsVersionField : Option (List ℕ) → Type 0
+IsVersionField None = Unit {0}
+IsVersionField (Some octets) = IsDerValue octets 2 (2 ∷ [])
 
 -- Validity: a SEQUENCE of two times, the second not before the first
 pub record BeginsWithValidity (octets : List ℕ) (not_before not_after : ℤ) (rest : List ℕ) : Type 0 where
@@ -49,7 +49,7 @@ or_none (Some names) = names
 -- extensions: not there, or a SEQUENCE of extensions, which give these alternative names
 abbrev pub AreExtensions : Option (List ℕ) → List ℕ → Type 0
 AreExtensions None alternative = alternative ≡ []
-AreExtensions (Some octets) alternative = (body : List ℕ) × (found : Option (List ℕ)) × IsValue octets 48 body × IsListOf IsExtension body found × (alternative ≡ or_none found)
+AreExtensions (Some octets) alternative = (body : List ℕ) × (found : Option (List ℕ)) × IsDerValue octets 48 body × IsListOf IsExtension body found × (alternative ≡ or_none found)
 
 -- TBSCertificate: [0] version, serialNumber, signature, issuer, validity, subject, subjectPublicKeyInfo,
 -- [1] issuerUniqueID, [2] subjectUniqueID and [3] extensions
@@ -70,7 +70,7 @@ pub record IsTbsCertificate (octets : List ℕ) (c : CertificateFields) : Type 0
   pub subject_id : Option (List ℕ)
   pub extensions : Option (List ℕ)
   pub version_stands : BeginsWithOptional octets 160 version r0
-  pub version_is : IsVersion version
+  pub version_is : IsVersionField version
   pub serial_is : BeginsWithInteger r0 c.serial r1
   pub signature_is : BeginsWithAlgorithm r1 signature r2
   pub issuer_is : BeginsWithName r2 issuer r3
@@ -88,7 +88,7 @@ pub record IsTbsCertificate (octets : List ℕ) (c : CertificateFields) : Type 0
 pub record IsCertificate (octets : List ℕ) (c : CertificateFields) : Type 0 where
   pub within : length octets ≤ MAX_INPUT
   pub body : List ℕ
-  pub signed : IsSigned octets body
+  pub signed : IsSignedSequence octets body
   pub is : IsTbsCertificate body c
 
 -- CertificationRequestInfo: version 0, subject, subjectPKInfo and [0] attributes
@@ -101,7 +101,7 @@ pub record IsRequestInfo (octets : List ℕ) (c : RequestFields) : Type 0 where
   pub version : BeginsWith octets 2 (0 ∷ []) r0
   pub subject_is : BeginsWithName r0 c.names.common r1
   pub key_is : BeginsWithSpki r1 c.key r2
-  pub attributes_stand : IsValue r2 160 attributes
+  pub attributes_stand : IsDerValue r2 160 attributes
   pub attributes_are : IsListOf IsRequestAttribute attributes found
   pub alternative_is : c.names.alternative ≡ or_none found
 
@@ -109,5 +109,5 @@ pub record IsRequestInfo (octets : List ℕ) (c : RequestFields) : Type 0 where
 pub record IsRequest (octets : List ℕ) (c : RequestFields) : Type 0 where
   pub within : length octets ≤ MAX_INPUT
   pub body : List ℕ
-  pub signed : IsSigned octets body
+  pub signed : IsSignedSequence octets body
   pub is : IsRequestInfo body c

@@ -40,12 +40,12 @@ values_at bs = values_from (length bs) bs
 abbrev pub Reader : Type 0
 Reader = Value → Option (Option (List ℕ))
 
-abbrev pub first_of : Reader → List Value → Option (Option (List ℕ))
-first_of f [] = Some None
-first_of f (v ∷ vs) = f v >>= (λ here. first_of f vs >>= (λ later. Some (or_first here later)))
+abbrev pub first_read_of : Reader → List Value → Option (Option (List ℕ))
+first_read_of f [] = Some None
+first_read_of f (v ∷ vs) = f v >>= (λ here. first_read_of f vs >>= (λ later. Some (or_first here later)))
 
 unfoldable pub first_at : Reader → List ℕ → Option (Option (List ℕ))
-first_at f bs = values_at bs >>= first_of f
+first_at f bs = values_at bs >>= first_read_of f
 
 -- what was found before comes first
 abbrev pub after_found : Option (List ℕ) → Option (Option (List ℕ)) → Option (Option (List ℕ))

@@ -2,18 +2,18 @@
 -- and in the attributes of requests (RFC 2986, 4.1). Each form says what it gives of what is looked for.
 use Rattle.std.specs.Prelude.{◌≡◌, ◌≢◌, ℕ, ◌==◌, ◌||◌, ◌&&◌, ◌⊎◌, Bool, cond, List, [], ◌∷◌, Option, Some, None}
 use Rattle.std.specs.Str.{bytes_eq}
-use Rattle.cmc_der.specs.Values.{IsValue, BeginsWith}
+use Rattle.cmc_der.specs.Values.{IsDerValue, BeginsWith}
 use Rattle.cmc_x509.specs.declared.oids.TheConstants.{COMMON_NAME, SUBJECT_ALT_NAME, EXTENSION_REQUEST}
 use Rattle.cmc_x509.specs.Taking.{Value, BeginsWithOptional}
 use Rattle.cmc_x509.specs.Lists.{IsValueList, IsListOf}
 
 -- UTF8String, PrintableString, TeletexString or IA5String
-abbrev pub is_text : ℕ → Bool
-is_text tag = (tag == 12) || ((tag == 19) || ((tag == 20) || (tag == 22)))
+abbrev pub is_text_tag : ℕ → Bool
+is_text_tag tag = (tag == 12) || ((tag == 19) || ((tag == 20) || (tag == 22)))
 
 -- the text, where the attribute is a commonName of one of the four string types
 abbrev pub common_of : List ℕ → Value → Option (List ℕ)
-common_of oid v = cond (bytes_eq oid COMMON_NAME && is_text v.0) (Some v.1) None
+common_of oid v = cond (bytes_eq oid COMMON_NAME && is_text_tag v.0) (Some v.1) None
 
 -- AttributeTypeAndValue: a SEQUENCE of an OID and one value, which gives a common name
 pub record IsAttribute (v : Value) (common : Option (List ℕ)) : Type 0 where
@@ -22,7 +22,7 @@ pub record IsAttribute (v : Value) (common : Option (List ℕ)) : Type 0 where
   pub text : Value
   pub sequence : v.0 ≡ 48
   pub type_is : BeginsWith v.1 6 oid rest
-  pub value_is : IsValue rest text.0 text.1
+  pub value_is : IsDerValue rest text.0 text.1
   pub gives : common ≡ common_of oid text
 
 -- RelativeDistinguishedName: a SET of these
@@ -42,7 +42,7 @@ IsTrueOrAbsent (Some body) = body ≡ 255 ∷ []
 -- whose contents octets it gives, and for another one anything
 abbrev pub IsExtensionValue : List ℕ → List ℕ → Option (List ℕ) → Type 0
 IsExtensionValue oid contents None = oid ≢ SUBJECT_ALT_NAME
-IsExtensionValue oid contents (Some names) = (oid ≡ SUBJECT_ALT_NAME) × IsValue contents 48 names × IsValueList names
+IsExtensionValue oid contents (Some names) = (oid ≡ SUBJECT_ALT_NAME) × IsDerValue contents 48 names × IsValueList names
 
 -- Extension: a SEQUENCE of an OID, critical and an OCTET STRING
 pub record IsExtension (v : Value) (names : Option (List ℕ)) : Type 0 where
@@ -55,7 +55,7 @@ pub record IsExtension (v : Value) (names : Option (List ℕ)) : Type 0 where
   pub id_is : BeginsWith v.1 6 oid r0
   pub critical_stands : BeginsWithOptional r0 1 critical r1
   pub critical_is : IsTrueOrAbsent critical
-  pub value_is : IsValue r1 4 contents
+  pub value_is : IsDerValue r1 4 contents
   pub gives : IsExtensionValue oid contents names
 
 -- a SEQUENCE of extensions
@@ -74,5 +74,5 @@ pub record IsRequestAttribute (v : Value) (names : Option (List ℕ)) : Type 0 w
   pub set : List ℕ
   pub sequence : v.0 ≡ 48
   pub type_is : BeginsWith v.1 6 oid rest
-  pub set_is : IsValue rest 49 set
+  pub set_is : IsDerValue rest 49 set
   pub gives : IsAttributeValue oid set names

@@ -3,7 +3,7 @@
 use Rattle.std.specs.Prelude.{◌≡◌, ◌≢◌, ℕ, ◌*◌, ◌<◌, true, List, [], ◌∷◌, ◌++◌, length, Option, Some}
 use Rattle.cmc_der.specs.declared.fields.KeyKind.{KeyKind}
 use Rattle.cmc_der.specs.declared.fields.KeyKind.TheVariants.{Rsa, P256, P384, P521}
-use Rattle.cmc_der.specs.Values.{IsValue, BeginsWith}
+use Rattle.cmc_der.specs.Values.{IsDerValue, BeginsWith}
 use Rattle.cmc_der.specs.Integers.{is_integer, signed}
 use Rattle.cmc_der.specs.Keys.{PublicKey, RsaKey, EcKey, OtherKey}
 use Rattle.cmc_x509.specs.declared.keys.Algorithm.{Algorithm}
@@ -43,7 +43,7 @@ BeginsWithPositive octets magnitude rest = BeginsWith octets 2 (signed magnitude
 pub record IsRsaPublicKey (octets modulus exponent : List ℕ) : Type 0 where
   pub body : List ℕ
   pub inner : List ℕ
-  pub whole : IsValue octets 48 body
+  pub whole : IsDerValue octets 48 body
   pub modulus_is : BeginsWithPositive body modulus inner
   pub exponent_is : BeginsWithPositive inner exponent []
 
@@ -74,10 +74,10 @@ abbrev pub IsPoint : KeyKind → List ℕ → Type 0
 IsPoint curve point = (coordinates : List ℕ) × (point ≡ 4 ∷ coordinates) × (length coordinates ≡ 2 * width curve)
 
 -- the key bits that stand in this whole SubjectPublicKeyInfo are this key of that algorithm
-abbrev pub IsKeyOf : AlgorithmIdentifier → List ℕ → List ℕ → PublicKey → Type 0
-IsKeyOf a whole bits (RsaKey m e) = (a.oid ≡ RSA_ENCRYPTION) × IsNull a.parameter × IsRsaPublicKey bits m e
-IsKeyOf a whole bits (EcKey curve point) = (a.oid ≡ EC_PUBLIC_KEY) × IsCurve a.parameter curve × IsPoint curve point × (bits ≡ point)
-IsKeyOf a whole bits (OtherKey w) = (a.oid ≢ RSA_ENCRYPTION) × (a.oid ≢ EC_PUBLIC_KEY) × (w ≡ whole)
+abbrev pub ArePublicKeyBits : AlgorithmIdentifier → List ℕ → List ℕ → PublicKey → Type 0
+ArePublicKeyBits a whole bits (RsaKey m e) = (a.oid ≡ RSA_ENCRYPTION) × IsNull a.parameter × IsRsaPublicKey bits m e
+ArePublicKeyBits a whole bits (EcKey curve point) = (a.oid ≡ EC_PUBLIC_KEY) × IsCurve a.parameter curve × IsPoint curve point × (bits ≡ point)
+ArePublicKeyBits a whole bits (OtherKey w) = (a.oid ≢ RSA_ENCRYPTION) × (a.oid ≢ EC_PUBLIC_KEY) × (w ≡ whole)
 
 -- the octets are a SubjectPublicKeyInfo: a SEQUENCE of an AlgorithmIdentifier and a BIT STRING with no
 -- unused bits, which is the key
@@ -86,10 +86,10 @@ pub record IsSpki (octets : List ℕ) (key : PublicKey) : Type 0 where
   pub algorithm : AlgorithmIdentifier
   pub after : List ℕ
   pub bits : List ℕ
-  pub whole : IsValue octets 48 body
+  pub whole : IsDerValue octets 48 body
   pub algorithm_is : BeginsWithAlgorithm body algorithm after
-  pub bits_are : IsValue after 3 (0 ∷ bits)
-  pub key_is : IsKeyOf algorithm octets bits key
+  pub bits_are : IsDerValue after 3 (0 ∷ bits)
+  pub key_is : ArePublicKeyBits algorithm octets bits key
 
 -- the octets begin with a SubjectPublicKeyInfo of this key
 abbrev pub BeginsWithSpki : List ℕ → PublicKey → List ℕ → Type 0

@@ -3,11 +3,11 @@ use Rattle.std.specs.Prelude.{ℕ, ℤ, int_le, nat_le, cond, List, [], length, 
 use Rattle.cmc_der.specs.Keys.{CertificateFields, RequestFields}
 use Rattle.cmc_x509.specs.declared.certificates.Front.{Front}
 use Rattle.cmc_x509.specs.declared.taking.TheConstants.{MAX_INPUT}
-use Rattle.cmc_x509.specs.Taking.{◌>>=◌, take_at, end_at, only_at, optional_at}
+use Rattle.cmc_x509.specs.Taking.{◌>>=◌, take_at, end_at, only_at, optional_value_at}
 use Rattle.cmc_x509.specs.Lists.{first_at}
 use Rattle.cmc_x509.specs.Certificates.{or_none}
 use Rattle.cmc_x509.specs.ReadKeys.{algorithm_at, integer_at, version_at, bits_of, spki_at}
-use Rattle.cmc_x509.specs.ReadNames.{name_at, extension_of, request_attribute_of}
+use Rattle.cmc_x509.specs.ReadNames.{distinguished_name_at, extension_of, request_attribute_of}
 use Rattle.cmc_x509.specs.Times.{time_at}
 
 -- the body of what is signed
@@ -20,9 +20,9 @@ signed_at bs = do
   signature ← bits_of string
   Some body.0
 
-abbrev pub version_of : Option (List ℕ) → Option ℕ
-version_of None = Some 0
-version_of (Some bs) = version_at 2 bs >>= end_at
+abbrev pub version_field_of : Option (List ℕ) → Option ℕ
+version_field_of None = Some 0
+version_field_of (Some bs) = version_at 2 bs >>= end_at
 
 unfoldable pub validity_at : List ℕ → Option ((ℤ × ℤ) × List ℕ)
 validity_at bs = do
@@ -48,31 +48,31 @@ pub record Head : Type 0 where
 abbrev pub head_shown : Front → Head
 head_shown f = record { serial = f.serial.now; times = (f.validity.not_before, f.validity.not_after) }
 
-unfoldable pub head_at : List ℕ → Option (Head × List ℕ)
-head_at bs = do
-  version ← optional_at 160 bs
-  ok ← version_of version.0
+unfoldable pub tbs_head_at : List ℕ → Option (Head × List ℕ)
+tbs_head_at bs = do
+  version ← optional_value_at 160 bs
+  ok ← version_field_of version.0
   serial ← integer_at version.1
   signature ← algorithm_at serial.1
-  issuer ← name_at signature.1
+  issuer ← distinguished_name_at signature.1
   validity ← validity_at issuer.1
   Some (record { serial = serial.0; times = validity.0 }, validity.1)
 
 -- the alternative names, behind the key
 unfoldable pub tail_at : List ℕ → Option (List ℕ)
 tail_at bs = do
-  issuer_id ← optional_at 129 bs
+  issuer_id ← optional_value_at 129 bs
   first ← unique_id_of issuer_id.0
-  subject_id ← optional_at 130 issuer_id.1
+  subject_id ← optional_value_at 130 issuer_id.1
   second ← unique_id_of subject_id.0
-  extensions ← optional_at 163 subject_id.1
+  extensions ← optional_value_at 163 subject_id.1
   end ← end_at extensions.1
   extensions_in extensions.0
 
 unfoldable pub tbs_certificate_at : List ℕ → Option CertificateFields
 tbs_certificate_at bs = do
-  head ← head_at bs
-  subject ← name_at head.1
+  head ← tbs_head_at bs
+  subject ← distinguished_name_at head.1
   key ← spki_at subject.1
   alternative ← tail_at key.1
   Some (record { serial = head.0.serial; not_before = head.0.times.0; not_after = head.0.times.1; key = key.0; names = record { common = subject.0; alternative = alternative } })
@@ -80,16 +80,16 @@ tbs_certificate_at bs = do
 unfoldable pub request_info_at : List ℕ → Option RequestFields
 request_info_at bs = do
   rest ← version_at 0 bs
-  subject ← name_at rest
+  subject ← distinguished_name_at rest
   key ← spki_at subject.1
   attributes ← only_at 160 key.1
   found ← first_at request_attribute_of attributes
   Some (record { key = key.0; names = record { common = subject.0; alternative = or_none found } })
 
 -- a certificate
-unfoldable pub certificate_at : List ℕ → Option CertificateFields
-certificate_at bs = cond (nat_le (length bs) MAX_INPUT) (signed_at bs >>= tbs_certificate_at) None
+unfoldable pub certificate_fields_at : List ℕ → Option CertificateFields
+certificate_fields_at bs = cond (nat_le (length bs) MAX_INPUT) (signed_at bs >>= tbs_certificate_at) None
 
 -- a certification request
-unfoldable pub request_at : List ℕ → Option RequestFields
-request_at bs = cond (nat_le (length bs) MAX_INPUT) (signed_at bs >>= request_info_at) None
+unfoldable pub request_fields_at : List ℕ → Option RequestFields
+request_fields_at bs = cond (nat_le (length bs) MAX_INPUT) (signed_at bs >>= request_info_at) None

@@ -7,7 +7,7 @@ use Rattle.cmc_der.specs.Integers.{is_integer}
 use Rattle.cmc_der.specs.Keys.{PublicKey, RsaKey, EcKey, OtherKey, same_kind}
 use Rattle.cmc_x509.specs.declared.oids.TheConstants.{RSA_ENCRYPTION, EC_PUBLIC_KEY, SECP256R1, SECP384R1, SECP521R1}
 use Rattle.cmc_x509.specs.declared.taking.TheConstants.{MAX_INPUT}
-use Rattle.cmc_x509.specs.Taking.{Value, ◌>>=◌, Taken, take_at, whole_at, end_at, only_at, at_most_one_at, optional_at}
+use Rattle.cmc_x509.specs.Taking.{Value, ◌>>=◌, Taken, take_at, whole_at, end_at, only_at, at_most_one_at, optional_value_at}
 use Rattle.cmc_x509.specs.Lists.{first_at}
 use Rattle.cmc_x509.specs.PublicKeys.{AlgorithmIdentifier, width}
 use Rattle.cmc_x509.specs.ReadNames.{request_attribute_of}
@@ -140,7 +140,7 @@ ec_private_at around bs = do
   body ← only_at 48 bs
   rest ← version_at 1 body
   secret ← take_at 4 rest
-  parameters ← optional_at 160 secret.1
+  parameters ← optional_value_at 160 secret.1
   public_key ← only_at 161 parameters.1
   string ← only_at 3 public_key
   bits ← bits_of string
@@ -156,8 +156,8 @@ abbrev pub around_of : Option Value → Option (Option KeyKind)
 around_of None = Some None
 around_of (Some v) = curve_of (Some v) >>= (λ curve. Some (Some curve))
 
-unfoldable pub held_key_at : AlgorithmIdentifier → List ℕ → Option PublicKey
-held_key_at a bs =
+unfoldable pub private_key_of_at : AlgorithmIdentifier → List ℕ → Option PublicKey
+private_key_of_at a bs =
     cond (bytes_eq a.oid RSA_ENCRYPTION) (cond (is_null a.parameter) (rsa_private_at bs) None)
     (cond (bytes_eq a.oid EC_PUBLIC_KEY) (around_of a.parameter >>= (λ around. ec_private_at around bs)) None)
 
@@ -167,10 +167,10 @@ private_key_info_at bs = do
   rest ← version_at 0 body
   algorithm ← algorithm_at rest
   held ← take_at 4 algorithm.1
-  attributes ← optional_at 160 held.1
+  attributes ← optional_value_at 160 held.1
   end ← end_at attributes.1
   ok ← attributes_at attributes.0
-  held_key_at algorithm.0 held.0
+  private_key_of_at algorithm.0 held.0
 
 abbrev pub or_else : Option PublicKey → Option PublicKey → Option PublicKey
 or_else (Some key) other = Some key

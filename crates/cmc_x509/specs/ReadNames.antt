@@ -2,7 +2,7 @@
 use Rattle.std.specs.Prelude.{ℕ, ◌==◌, cond, List, [], ◌∷◌, Option, Some, None}
 use Rattle.std.specs.Str.{bytes_eq}
 use Rattle.cmc_x509.specs.declared.oids.TheConstants.{SUBJECT_ALT_NAME, EXTENSION_REQUEST}
-use Rattle.cmc_x509.specs.Taking.{Value, ◌>>=◌, Maybe, value_at, take_at, end_at, only_at, optional_at}
+use Rattle.cmc_x509.specs.Taking.{Value, ◌>>=◌, Maybe, value_at, take_at, end_at, only_at, optional_value_at}
 use Rattle.cmc_x509.specs.Lists.{Reader, first_at, any_value}
 use Rattle.cmc_x509.specs.Names.{common_of}
 
@@ -21,8 +21,8 @@ attribute_of v = do
 unfoldable pub rdn_of : Reader
 rdn_of v = inside 49 v >>= first_at attribute_of
 
-unfoldable pub name_at : List ℕ → Option Maybe
-name_at bs = do
+unfoldable pub distinguished_name_at : List ℕ → Option Maybe
+distinguished_name_at bs = do
   body ← take_at 48 bs
   common ← first_at rdn_of body.0
   Some (common, body.1)
@@ -44,7 +44,7 @@ unfoldable pub extension_of : Reader
 extension_of v = do
   body ← inside 48 v
   oid ← take_at 6 body
-  critical ← optional_at 1 oid.1
+  critical ← optional_value_at 1 oid.1
   ok ← true_or_absent critical.0
   contents ← only_at 4 critical.1
   extension_value_at oid.0 contents

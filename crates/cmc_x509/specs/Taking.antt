@@ -2,7 +2,7 @@
 use Rattle.std.specs.Prelude.{◌≡◌, ◌≢◌, ℕ, ◌-◌, ◌==◌, cond, List, [], ◌∷◌, length, take, Option, Some, None, Result, Ok, Err}
 use Rattle.cmc_der.specs.declared.reading.DerFault.{DerFault}
 use Rattle.cmc_der.specs.declared.reading.Tlv.{Tlv}
-use Rattle.cmc_der.specs.Values.{IsValue, BeginsWith}
+use Rattle.cmc_der.specs.Values.{IsDerValue, BeginsWith}
 use Rattle.cmc_der.specs.Reading.{Found, read_at}
 use Rattle.cmc_x509.specs.declared.taking.NotForm.{NotForm}
 
@@ -19,7 +19,7 @@ value_shown (Some t) = Some (t.tag, t.body.now)
 -- the octets are at most one value, and nothing else
 abbrev pub IsAtMostOne : List ℕ → Option Value → Type 0
 IsAtMostOne octets None = octets ≡ []
-IsAtMostOne octets (Some v) = IsValue octets v.0 v.1
+IsAtMostOne octets (Some v) = IsDerValue octets v.0 v.1
 
 -- the octets do not begin with this one
 abbrev pub BeginsOtherwise : ℕ → List ℕ → Type 0
@@ -48,13 +48,13 @@ abbrev pub GivesSome : {X Y : Type 0} → (X → Y) → Option X → Option Y �
 GivesSome view (Some x) read = read ≡ Some (view x)
 GivesSome view None read = read ≡ None
 
-abbrev pub value_of : Result Found DerFault → Option Found
-value_of (Ok x) = Some x
-value_of (Err d) = None
+abbrev pub value_if_read : Result Found DerFault → Option Found
+value_if_read (Ok x) = Some x
+value_if_read (Err d) = None
 
 -- the value at the front: its tag, its body and the rest
 unfoldable pub value_at : List ℕ → Option Found
-value_at bs = value_of (read_at bs)
+value_at bs = value_if_read (read_at bs)
 
 -- what is taken, and the rest
 abbrev pub Taken : Type 0
@@ -91,6 +91,6 @@ abbrev pub Maybe : Type 0
 Maybe = Option (List ℕ) × List ℕ
 
 -- the body of the value at the front where one of this tag stands there, and the rest
-unfoldable pub optional_at : ℕ → List ℕ → Option Maybe
-optional_at tag [] = Some (None, [])
-optional_at tag (b ∷ bs) = cond (b == tag) (take_at tag (b ∷ bs) >>= (λ taken. Some (Some taken.0, taken.1))) (Some (None, b ∷ bs))
+unfoldable pub optional_value_at : ℕ → List ℕ → Option Maybe
+optional_value_at tag [] = Some (None, [])
+optional_value_at tag (b ∷ bs) = cond (b == tag) (take_at tag (b ∷ bs) >>= (λ taken. Some (Some taken.0, taken.1))) (Some (None, b ∷ bs))

@@ -5,7 +5,7 @@ ghost use Rattle.cmc_x509.specs.Taking.{Gives};
 ghost use Rattle.cmc_x509.specs.Lists.{IsValueList};
 ghost use Rattle.cmc_x509.specs.Times.{time_at};
 ghost use Rattle.cmc_x509.specs.Certificates.{IsCertificate, IsRequest, or_none};
-ghost use Rattle.cmc_x509.specs.ReadCertificates.{head_shown, signed_at, version_of, validity_at, unique_id_of, extensions_in, head_at, tail_at, tbs_certificate_at, request_info_at, certificate_at, request_at};
+ghost use Rattle.cmc_x509.specs.ReadCertificates.{head_shown, signed_at, version_field_of, validity_at, unique_id_of, extensions_in, tbs_head_at, tail_at, tbs_certificate_at, request_info_at, certificate_fields_at, request_fields_at};
 
 use crate::keys::{algorithm_of, bits, integer, spki, version};
 use crate::names::{Extension, RequestAttribute, first_in, name};
@@ -28,7 +28,7 @@ fn signed<'a>(input: &'a [u8]) -> Result<&'a [u8], NotForm>
 
 /// A version that is not there, or is v3.
 fn version_in(octets: Option<&[u8]>) -> Result<(), NotForm>
-    ensures { Gives (λ _. 0) result (version_of (text_shown octets.entry)) }
+    ensures { Gives (λ _. 0) result (version_field_of (text_shown octets.entry)) }
 {
     match octets {
         None => Ok(()),
@@ -124,9 +124,9 @@ pub struct Front<'a> {
     pub validity: Validity,
 }
 
-#[tactic(auto, unfolding(crate::specs::ReadCertificates::head_at))]
+#[tactic(auto, unfolding(crate::specs::ReadCertificates::tbs_head_at))]
 fn front_of<'a>(input: &'a [u8]) -> Result<(Front<'a>, &'a [u8]), NotForm>
-    ensures { Gives (λ p. (head_shown p.0, p.1.now)) result (head_at input.now) }
+    ensures { Gives (λ p. (head_shown p.0, p.1.now)) result (tbs_head_at input.now) }
 {
     let (stated, rest) = optional(160, input)?;
     version_in(stated)?;
@@ -191,9 +191,9 @@ fn request_info<'a>(input: &'a [u8]) -> Result<CsrFields<'a>, NotForm>
     })
 }
 
-#[tactic(auto, unfolding(crate::specs::ReadCertificates::certificate_at))]
+#[tactic(auto, unfolding(crate::specs::ReadCertificates::certificate_fields_at))]
 fn certificate<'a>(input: &'a [u8]) -> Result<CertFields<'a>, NotForm>
-    ensures { Gives cert_shown result (certificate_at input.now) }
+    ensures { Gives cert_shown result (certificate_fields_at input.now) }
 {
     if input.len() <= MAX_INPUT {
         let body = signed(input)?;
@@ -203,9 +203,9 @@ fn certificate<'a>(input: &'a [u8]) -> Result<CertFields<'a>, NotForm>
     }
 }
 
-#[tactic(auto, unfolding(crate::specs::ReadCertificates::request_at))]
+#[tactic(auto, unfolding(crate::specs::ReadCertificates::request_fields_at))]
 fn request<'a>(input: &'a [u8]) -> Result<CsrFields<'a>, NotForm>
-    ensures { Gives csr_shown result (request_at input.now) }
+    ensures { Gives csr_shown result (request_fields_at input.now) }
 {
     if input.len() <= MAX_INPUT {
         let body = signed(input)?;
@@ -228,7 +228,7 @@ pub fn read_cert<'a>(input: &'a [u8]) -> Result<CertFields<'a>, NotForm>
     ensures not_form { IsErr result ↔ ((fields : CertificateFields) → IsCertificate input.now fields → ⊥) }
 
     // The same as a function of the octets, which the crates above cite.
-    ensures exact { Gives cert_shown result (certificate_at input.now) }
+    ensures exact { Gives cert_shown result (certificate_fields_at input.now) }
 {
     certificate(input)
 }
@@ -247,7 +247,7 @@ pub fn read_csr<'a>(input: &'a [u8]) -> Result<CsrFields<'a>, NotForm>
     ensures not_form { IsErr result ↔ ((fields : RequestFields) → IsRequest input.now fields → ⊥) }
 
     // The same as a function of the octets, which the crates above cite.
-    ensures exact { Gives csr_shown result (request_at input.now) }
+    ensures exact { Gives csr_shown result (request_fields_at input.now) }
 {
     request(input)
 }

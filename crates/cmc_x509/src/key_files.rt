@@ -5,7 +5,7 @@ ghost use Rattle.cmc_der.specs.Keys.{PublicKey, key_shown, text_shown};
 ghost use Rattle.cmc_x509.specs.Taking.{Gives, GivesSome, value_shown};
 ghost use Rattle.cmc_x509.specs.PublicKeys.{algorithm_shown};
 ghost use Rattle.cmc_x509.specs.KeyFiles.{IsKeyFile};
-ghost use Rattle.cmc_x509.specs.ReadKeys.{three_at, six_at, rsa_private_at, agreed, curve_inside_at, agreed_curve, ec_private_at, attributes_at, around_of, held_key_at, private_key_info_at, private_key_at, key_file_at};
+ghost use Rattle.cmc_x509.specs.ReadKeys.{three_at, six_at, rsa_private_at, agreed, curve_inside_at, agreed_curve, ec_private_at, attributes_at, around_of, private_key_of_at, private_key_info_at, private_key_at, key_file_at};
 
 use crate::keys::{
     Algorithm, algorithm_of, bits, curve_by_name, curve_stated, integer, null, point, positive,
@@ -130,9 +130,9 @@ fn curve_around<'a>(algorithm: Algorithm<'a>) -> Result<Option<KeyKind>, NotForm
     }
 }
 
-#[tactic(auto, unfolding(crate::specs::ReadKeys::held_key_at))]
+#[tactic(auto, unfolding(crate::specs::ReadKeys::private_key_of_at))]
 fn held_key<'a>(algorithm: Algorithm<'a>, input: &'a [u8]) -> Result<Spki<'a>, NotForm>
-    ensures { Gives key_shown result (held_key_at (algorithm_shown algorithm.entry) input.now) }
+    ensures { Gives key_shown result (private_key_of_at (algorithm_shown algorithm.entry) input.now) }
 {
     if is(algorithm.oid, &RSA_ENCRYPTION) {
         if null(algorithm.parameter) {

@@ -5,8 +5,8 @@ ghost use Rattle.cmc_der.specs.Keys.{text_shown};
 ghost use Rattle.cmc_der.specs.Values.{BeginsWith};
 ghost use Rattle.cmc_x509.specs.Taking.{Gives, Value};
 ghost use Rattle.cmc_x509.specs.Lists.{or_first, Reader, first_at, any_value, IsValueList};
-ghost use Rattle.cmc_x509.specs.Names.{is_text, common_of};
-ghost use Rattle.cmc_x509.specs.ReadNames.{inside, attribute_of, rdn_of, name_at, true_or_absent, general_names_at, extension_value_at, extension_of, extensions_of, request_attribute_of};
+ghost use Rattle.cmc_x509.specs.Names.{is_text_tag, common_of};
+ghost use Rattle.cmc_x509.specs.ReadNames.{inside, attribute_of, rdn_of, distinguished_name_at, true_or_absent, general_names_at, extension_value_at, extension_of, extensions_of, request_attribute_of};
 
 use crate::oids::{COMMON_NAME, EXTENSION_REQUEST, SUBJECT_ALT_NAME};
 use crate::taking::{NotForm, end, only, optional, take, value};
@@ -75,7 +75,7 @@ pub fn inside_of<'a>(tag: u8, part: Tlv<'a>) -> Result<&'a [u8], NotForm>
 struct Attribute;
 
 fn text_tag(tag: u8) -> bool
-    ensures { result ≡ is_text tag }
+    ensures { result ≡ is_text_tag tag }
 {
     tag == 12 || (tag == 19 || (tag == 20 || tag == 22))
 }
@@ -117,9 +117,9 @@ impl Part for Rdn {
 }
 
 /// The common name of the Name at the front, and the rest.
-#[tactic(auto, unfolding(crate::specs::ReadNames::name_at))]
+#[tactic(auto, unfolding(crate::specs::ReadNames::distinguished_name_at))]
 pub fn name<'a>(input: &'a [u8]) -> Result<(Option<&'a [u8]>, &'a [u8]), NotForm>
-    ensures { Gives (λ p. (text_shown p.0, p.1.now)) result (name_at input.now) }
+    ensures { Gives (λ p. (text_shown p.0, p.1.now)) result (distinguished_name_at input.now) }
 {
     let (body, rest) = take(48, input)?;
     let common = first_in::<Rdn>(body)?;

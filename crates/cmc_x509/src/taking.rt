@@ -1,8 +1,8 @@
 //! Taking values from the front of the input.
 ghost use Rattle.std.specs.Prelude.{◌≡◌, ◌<◌, ◌-◌, ◌+◌, ◌≤◌, length, IfOk};
 ghost use Rattle.cmc_der.specs.Keys.{text_shown};
-ghost use Rattle.cmc_der.specs.Reading.{shown};
-ghost use Rattle.cmc_x509.specs.Taking.{Gives, value_shown, value_at, take_at, whole_at, end_at, only_at, at_most_one_at, optional_at};
+ghost use Rattle.cmc_der.specs.Reading.{tlv_shown};
+ghost use Rattle.cmc_x509.specs.Taking.{Gives, value_shown, value_at, take_at, whole_at, end_at, only_at, at_most_one_at, optional_value_at};
 
 use cmc_der::{Tlv, read_one};
 
@@ -16,7 +16,7 @@ pub struct NotForm;
 /// The value at the front, and the rest.
 #[tactic(auto, unfolding(crate::specs::Taking::value_at))]
 pub fn value<'a>(rest: &'a [u8]) -> Result<(Tlv<'a>, &'a [u8]), NotForm>
-    ensures gives { Gives shown result (value_at rest.now) }
+    ensures gives { Gives tlv_shown result (value_at rest.now) }
     ensures shorter { IfOk result (λ r. length r.1.now < length rest.now) }
 {
     match read_one(rest) {
@@ -84,9 +84,9 @@ pub fn at_most_one<'a>(input: &'a [u8]) -> Result<Option<Tlv<'a>>, NotForm>
 }
 
 /// The body of the value at the front where one of this tag stands there, and the rest.
-#[tactic(auto, unfolding(crate::specs::Taking::optional_at))]
+#[tactic(auto, unfolding(crate::specs::Taking::optional_value_at))]
 pub fn optional<'a>(tag: u8, input: &'a [u8]) -> Result<(Option<&'a [u8]>, &'a [u8]), NotForm>
-    ensures { Gives (λ p. (text_shown p.0, p.1.now)) result (optional_at tag input.now) }
+    ensures { Gives (λ p. (text_shown p.0, p.1.now)) result (optional_value_at tag input.now) }
 {
     match input {
         [] => Ok((None, input)),

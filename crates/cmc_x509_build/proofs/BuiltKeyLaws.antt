@@ -6,7 +6,7 @@ use Rattle.cmc_der.specs.declared.fields.KeyKind.TheVariants.{Rsa, P256, P384, P
 use Rattle.cmc_der.specs.Building.{value}
 use Rattle.cmc_der.specs.Integers.{integer_of, signed, trimmed}
 use Rattle.cmc_der.specs.Keys.{PublicKey, RsaKey, EcKey, OtherKey}
-use Rattle.cmc_x509.specs.PublicKeys.{BeginsWithAlgorithm, IsMagnitude, IsRsaPublicKey, IsCurve, IsKeyOf, IsSpki, BeginsWithSpki}
+use Rattle.cmc_x509.specs.PublicKeys.{BeginsWithAlgorithm, IsMagnitude, IsRsaPublicKey, IsCurve, ArePublicKeyBits, IsSpki, BeginsWithSpki}
 use Rattle.cmc_x509_build.specs.declared.oids.TheConstants.{RSA_ENCRYPTION, EC_PUBLIC_KEY}
 use Rattle.cmc_x509_build.specs.Octets.{key_info, rsa_octets, curve_oid, spki_octets}
 use Rattle.cmc_x509_build.specs.Keys.{IsNamedCurve, IsWritable}
@@ -45,7 +45,7 @@ algorithm_is oid tag parameter rest low small =
     }
 
 -- a SubjectPublicKeyInfo, of the key that its bits are
-key_info_is : (oid : List ℕ) (tag : ℕ) (parameter bits : List ℕ) (key : PublicKey) → tag % 32 ≢ 31 → IsSmall (key_info oid (value tag parameter) bits) → IsKeyOf (record { oid = oid; parameter = Some (tag, parameter) }) (key_info oid (value tag parameter) bits) bits key → IsSpki (key_info oid (value tag parameter) bits) key
+key_info_is : (oid : List ℕ) (tag : ℕ) (parameter bits : List ℕ) (key : PublicKey) → tag % 32 ≢ 31 → IsSmall (key_info oid (value tag parameter) bits) → ArePublicKeyBits (record { oid = oid; parameter = Some (tag, parameter) }) (key_info oid (value tag parameter) bits) bits key → IsSpki (key_info oid (value tag parameter) bits) key
 key_info_is oid tag parameter bits key low small h =
     let identifier = value 48 (value 6 oid ++ value tag parameter) in
     let string = value 3 (0 ∷ bits) in

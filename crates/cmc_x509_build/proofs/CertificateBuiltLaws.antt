@@ -16,7 +16,7 @@ use Rattle.cmc_x509_build.specs.declared.oids.TheConstants.{ECDSA_WITH_SHA256}
 use Rattle.cmc_x509_build.specs.declared.certificates.CertPlan.{CertPlan}
 use Rattle.cmc_x509_build.specs.Keys.{IsWritable}
 use Rattle.cmc_x509_build.specs.Octets.{signature_algorithm, signed_octets, name_octets, spki_octets, alternative_extension}
-use Rattle.cmc_x509_build.specs.Certificates.{time_octets, validity_octets, serial_octets, fields_of, head_octets, subject_octets, extensions_of, certificate_body, IsCertificateBody}
+use Rattle.cmc_x509_build.specs.Certificates.{time_octets, validity_octets, serial_octets, fields_of_plan, head_octets, subject_octets, names_extensions, certificate_body, IsCertificateBody}
 use Rattle.cmc_der.proofs.SmallValues.{IsSmall, contents_small, front_small, back_small, value_is, value_first, value_last}
 use Rattle.cmc_x509_build.proofs.ValueLaws.{is_otherwise}
 use Rattle.cmc_x509_build.proofs.BuiltKeyLaws.{spki_first}
@@ -62,7 +62,7 @@ validity_first not_before not_after rest h k ordered small =
     }
 
 -- extensions stand under [3] alone
-extensions_otherwise : (tag : ℕ) (names : List ℕ) → 163 ≢ tag → BeginsOtherwise tag (extensions_of names)
+extensions_otherwise : (tag : ℕ) (names : List ℕ) → 163 ≢ tag → BeginsOtherwise tag (names_extensions names)
 extensions_otherwise tag [] differ = tt
 extensions_otherwise tag (b ∷ bs) differ = is_otherwise tag 163 (value 48 (alternative_extension (b ∷ bs))) differ
 
@@ -70,7 +70,7 @@ abbrev extensions_found : List ℕ → Option (List ℕ)
 extensions_found [] = None
 extensions_found (b ∷ bs) = Some (value 48 (alternative_extension (b ∷ bs)))
 
-extensions_stand : (names : List ℕ) → IsSmall (extensions_of names) → BeginsWithOptional (extensions_of names) 163 (extensions_found names) []
+extensions_stand : (names : List ℕ) → IsSmall (names_extensions names) → BeginsWithOptional (names_extensions names) 163 (extensions_found names) []
 extensions_stand [] small = (refl, tt)
 extensions_stand (b ∷ bs) small = value_last 163 (value 48 (alternative_extension (b ∷ bs))) (λ e. omega arith) small
 
@@ -79,7 +79,7 @@ extensions_give names are small =
     let extension = alternative_extension names in
     (extension, Some names, value_is 48 extension (λ e. omega arith) small, extension_list names are (contents_small 48 extension small), refl)
 
-extensions_are : (names : List ℕ) → IsValueList names → IsSmall (extensions_of names) → AreExtensions (extensions_found names) names
+extensions_are : (names : List ℕ) → IsValueList names → IsSmall (names_extensions names) → AreExtensions (extensions_found names) names
 extensions_are [] are small = refl
 extensions_are (b ∷ bs) are small = extensions_give (b ∷ bs) are (contents_small 163 (value 48 (alternative_extension (b ∷ bs))) small)
 
@@ -104,7 +104,7 @@ pub record IsBuildable (fields : CertificateFields) : Type 0 where
 chained_is : (issuer : List ℕ) (fields : CertificateFields) → IsBuildable fields → IsSmall (chained issuer fields) → IsTbsCertificate (chained issuer fields) fields
 chained_is issuer fields h small =
     let version = value 2 (2 ∷ []) in
-    let extensions = extensions_of fields.names.alternative in
+    let extensions = names_extensions fields.names.alternative in
     let key = spki_octets fields.key ++ extensions in
     let subject = name_octets fields.names.common ++ key in
     let times = validity_octets fields.not_before fields.not_after ++ subject in
@@ -164,9 +164,9 @@ serial_is_integer : (serial : ℕ) → is_integer (serial_octets serial) ≡ tru
 serial_is_integer serial = (integer_is (to_be_bytes w64 serial)).shortest
 
 -- of a plan
-pub planned_body_is : (plan : CertPlan) (names : SubjectNames) (key : PublicKey) → IsCertificateTime plan.not_before → IsCertificateTime plan.not_after → plan.not_before ≤ℤ plan.not_after → IsWritable key → IsValueList names.alternative → IsSmall (certificate_body plan.issuer (fields_of plan names key)) → IsCertificateBody (certificate_body plan.issuer (fields_of plan names key)) (fields_of plan names key)
+pub planned_body_is : (plan : CertPlan) (names : SubjectNames) (key : PublicKey) → IsCertificateTime plan.not_before → IsCertificateTime plan.not_after → plan.not_before ≤ℤ plan.not_after → IsWritable key → IsValueList names.alternative → IsSmall (certificate_body plan.issuer (fields_of_plan plan names key)) → IsCertificateBody (certificate_body plan.issuer (fields_of_plan plan names key)) (fields_of_plan plan names key)
 planned_body_is plan names key begins ends ordered writable are small =
-    certificate_body_is plan.issuer (fields_of plan names key) (record {
+    certificate_body_is plan.issuer (fields_of_plan plan names key) (record {
       serial_is = serial_is_integer plan.serial;
       begins_in_range = begins;
       ends_in_range = ends;

@@ -1,11 +1,11 @@
 -- The request that is built is read with the fields that it was built of.
 use Rattle.std.proofs.Common.{◌≡◌, ℕ, List, [], ◌∷◌, ◌++◌, None, refl, arith}
-use Rattle.cmc_der.specs.Values.{IsValue}
+use Rattle.cmc_der.specs.Values.{IsDerValue}
 use Rattle.cmc_der.specs.Building.{value}
 use Rattle.cmc_der.specs.Keys.{PublicKey, RequestFields}
 use Rattle.cmc_x509.specs.Lists.{IsValueList}
 use Rattle.cmc_x509.specs.PublicKeys.{BeginsWithAlgorithm}
-use Rattle.cmc_x509.specs.Certificates.{IsSigned, IsRequest, or_none}
+use Rattle.cmc_x509.specs.Certificates.{IsSignedSequence, IsRequest, or_none}
 use Rattle.cmc_x509_build.specs.declared.oids.TheConstants.{ECDSA_WITH_SHA256}
 use Rattle.cmc_x509_build.specs.declared.requests.NameSet.{NameSet}
 use Rattle.cmc_x509_build.specs.Keys.{IsWritable}
@@ -61,7 +61,7 @@ signature_algorithm_is rest small =
     }
 
 -- a body and its signature
-pub signed_is : (body contents signature : List ℕ) → IsValue body 48 contents → IsSmall (signed_octets body signature) → IsSigned (signed_octets body signature) contents
+pub signed_is : (body contents signature : List ℕ) → IsDerValue body 48 contents → IsSmall (signed_octets body signature) → IsSignedSequence (signed_octets body signature) contents
 unfolding signed_octets
 signed_is body contents signature h small =
     let string = value 3 (0 ∷ signature) in

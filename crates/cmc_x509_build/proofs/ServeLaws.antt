@@ -4,12 +4,12 @@ use Rattle.std.proofs.lemmas.Bool.{false≢true}
 use Rattle.std.proofs.lemmas.Option.{none-some, same_Some}
 use Rattle.cmc_der.specs.declared.fields.KeyKind.{KeyKind}
 use Rattle.cmc_der.specs.declared.fields.KeyKind.TheVariants.{Rsa, P256, P384, P521}
-use Rattle.cmc_der.specs.Keys.{PublicKey, RsaKey, EcKey, OtherKey, RequestFields, kind_of}
+use Rattle.cmc_der.specs.Keys.{PublicKey, RsaKey, EcKey, OtherKey, RequestFields, key_kind_of}
 use Rattle.cmc_x509.specs.Taking.{Value}
 use Rattle.cmc_x509.specs.Lists.{IsValueList, FirstOf, IsListOf, or_first}
 use Rattle.cmc_x509.specs.Names.{IsExtension, IsExtensions, IsRequestAttribute}
-use Rattle.cmc_x509.specs.PublicKeys.{AlgorithmIdentifier, NamesCurve, IsKeyOf}
-use Rattle.cmc_x509.specs.KeyFiles.{IsRsaPrivateKey, IsAgreed, IsEcPrivateKey, IsAround, IsHeldKey, IsPrivateKey, IsKeyFile}
+use Rattle.cmc_x509.specs.PublicKeys.{AlgorithmIdentifier, NamesCurve, ArePublicKeyBits}
+use Rattle.cmc_x509.specs.KeyFiles.{IsRsaPrivateKey, IsAgreed, IsEcPrivateKey, IsAround, IsPrivateKeyOf, IsPrivateKey, IsKeyFile}
 use Rattle.cmc_x509.specs.Certificates.{IsRequest, or_none}
 use Rattle.cmc_x509_build.specs.Keys.{IsNamedCurve, IsWritable}
 use Rattle.cmc_x509_build.proofs.ValueLaws.{no_values}
@@ -49,12 +49,12 @@ named_curve P384 oid h = tt
 named_curve P521 oid h = tt
 named_curve (Rsa bits) oid h = absurd h
 
-writable_key : (key : PublicKey) (a : AlgorithmIdentifier) (whole bits : List ℕ) → IsKeyOf a whole bits key → IsSome (kind_of key) → IsWritable key
+writable_key : (key : PublicKey) (a : AlgorithmIdentifier) (whole bits : List ℕ) → ArePublicKeyBits a whole bits key → IsSome (key_kind_of key) → IsWritable key
 writable_key (RsaKey m e) a whole bits h known = (h.2.modulus_is.1, h.2.exponent_is.1)
 writable_key (EcKey curve point) a whole bits h known = (named_curve curve h.1.0 h.1.2, h.2)
 writable_key (OtherKey w) a whole bits h known = absurd (false≢true known)
 
-pub request_serves : (octets : List ℕ) (fields : RequestFields) → IsRequest octets fields → IsValueList fields.names.alternative × (IsSome (kind_of fields.key) → IsWritable fields.key)
+pub request_serves : (octets : List ℕ) (fields : RequestFields) → IsRequest octets fields → IsValueList fields.names.alternative × (IsSome (key_kind_of fields.key) → IsWritable fields.key)
 request_serves octets fields h =
     let info = h.is in
     let key = info.key_is.1 in
@@ -78,7 +78,7 @@ ec_writable around octets curve point known h = (agreed_curve around h.parameter
 rsa_writable : (octets m e : List ℕ) → IsRsaPrivateKey octets m e → IsWritable (RsaKey m e)
 rsa_writable octets m e h = (h.modulus_is.1, h.exponent_is.1)
 
-held_writable : (key : PublicKey) (a : AlgorithmIdentifier) (octets : List ℕ) → IsHeldKey a octets key → IsWritable key
+held_writable : (key : PublicKey) (a : AlgorithmIdentifier) (octets : List ℕ) → IsPrivateKeyOf a octets key → IsWritable key
 held_writable (RsaKey m e) a octets h = rsa_writable octets m e h.2
 held_writable (EcKey curve point) a octets h = ec_writable h.1.0 octets curve point (around_named a.parameter h.1.0 h.1.1) h.1.2
 held_writable (OtherKey w) a octets h = absurd h

@@ -3,7 +3,7 @@ use Rattle.std.specs.Prelude.{ℕ, ℤ, List, [], ◌∷◌, ◌++◌, Some}
 use Rattle.std.specs.Int.{w64, to_be_bytes}
 use Rattle.cmc_der.specs.Building.{value}
 use Rattle.cmc_der.specs.Integers.{integer_of}
-use Rattle.cmc_der.specs.Values.{IsValue}
+use Rattle.cmc_der.specs.Values.{IsDerValue}
 use Rattle.cmc_der.specs.Keys.{PublicKey, CertificateFields, SubjectNames}
 use Rattle.cmc_time.specs.Asn1.{asn1_tag, asn1_text}
 use Rattle.cmc_x509.specs.Certificates.{IsTbsCertificate}
@@ -15,8 +15,8 @@ abbrev pub serial_octets : ℕ → List ℕ
 serial_octets serial = integer_of (to_be_bytes w64 serial)
 
 -- the fields of the certificate that the plan makes of these names and this key
-abbrev pub fields_of : CertPlan → SubjectNames → PublicKey → CertificateFields
-fields_of plan names key = record {
+abbrev pub fields_of_plan : CertPlan → SubjectNames → PublicKey → CertificateFields
+fields_of_plan plan names key = record {
   serial = serial_octets plan.serial;
   not_before = plan.not_before;
   not_after = plan.not_after;
@@ -31,9 +31,9 @@ abbrev pub validity_octets : ℤ → ℤ → List ℕ
 validity_octets not_before not_after = value 48 (time_octets not_before ++ time_octets not_after)
 
 -- [3] with the alternative names, where there are any
-abbrev pub extensions_of : List ℕ → List ℕ
-extensions_of [] = []
-extensions_of (b ∷ bs) = value 163 (value 48 (alternative_extension (b ∷ bs)))
+abbrev pub names_extensions : List ℕ → List ℕ
+names_extensions [] = []
+names_extensions (b ∷ bs) = value 163 (value 48 (alternative_extension (b ∷ bs)))
 
 -- v3, serialNumber and signature
 abbrev pub first_octets : List ℕ → List ℕ
@@ -46,7 +46,7 @@ head_octets serial issuer not_before not_after =
 
 -- subject, subjectPublicKeyInfo and extensions
 abbrev pub subject_octets : SubjectNames → PublicKey → List ℕ
-subject_octets names key = name_octets names.common ++ (spki_octets key ++ extensions_of names.alternative)
+subject_octets names key = name_octets names.common ++ (spki_octets key ++ names_extensions names.alternative)
 
 -- TBSCertificate with this issuer and these fields
 unfoldable pub certificate_body : List ℕ → CertificateFields → List ℕ
@@ -57,4 +57,4 @@ certificate_body issuer fields =
 -- the octets are a TBSCertificate with these fields
 abbrev pub IsCertificateBody : List ℕ → CertificateFields → Type 0
 IsCertificateBody octets fields =
-    (contents : List ℕ) × IsValue octets 48 contents × IsTbsCertificate contents fields
+    (contents : List ℕ) × IsDerValue octets 48 contents × IsTbsCertificate contents fields

@@ -1,7 +1,7 @@
 -- Certification requests that are built (RFC 2986).
 use Rattle.std.specs.Prelude.{ℕ, List, [], ◌∷◌, ◌++◌, Option, Some, None, flat_map}
 use Rattle.cmc_der.specs.Building.{value}
-use Rattle.cmc_der.specs.Values.{IsValue}
+use Rattle.cmc_der.specs.Values.{IsDerValue}
 use Rattle.cmc_der.specs.Keys.{RequestFields, SubjectNames}
 use Rattle.cmc_x509.specs.Certificates.{IsRequestInfo}
 use Rattle.cmc_x509_build.specs.declared.oids.TheConstants.{EXTENSION_REQUEST}
@@ -9,9 +9,9 @@ use Rattle.cmc_x509_build.specs.declared.requests.NameSet.{NameSet}
 use Rattle.cmc_x509_build.specs.Octets.{spki_octets, name_octets, address_octets, alternative_extension}
 
 -- the common name, where it is not empty
-abbrev pub common_of : List ℕ → Option (List ℕ)
-common_of [] = None
-common_of (b ∷ bs) = Some (b ∷ bs)
+abbrev pub common_if_any : List ℕ → Option (List ℕ)
+common_if_any [] = None
+common_if_any (b ∷ bs) = Some (b ∷ bs)
 
 -- the alternative names as GeneralNames (RFC 5280, 4.2.1.6): DNS names, IP addresses, URIs and emails
 unfoldable pub alternative_of : NameSet → List ℕ
@@ -20,7 +20,7 @@ alternative_of names =
     ++ (flat_map (value 134) names.uris ++ flat_map (value 129) names.emails))
 
 abbrev pub names_of : NameSet → SubjectNames
-names_of names = record { common = common_of names.common; alternative = alternative_of names }
+names_of names = record { common = common_if_any names.common; alternative = alternative_of names }
 
 -- the attributes: extensionRequest (RFC 2985, 5.4.2) with the alternative names, where there are any
 abbrev pub attributes_of : List ℕ → List ℕ
@@ -36,4 +36,4 @@ request_body fields =
 
 -- the octets are a CertificationRequestInfo with these fields
 abbrev pub IsRequestBody : List ℕ → RequestFields → Type 0
-IsRequestBody octets fields = (contents : List ℕ) × IsValue octets 48 contents × IsRequestInfo contents fields
+IsRequestBody octets fields = (contents : List ℕ) × IsDerValue octets 48 contents × IsRequestInfo contents fields

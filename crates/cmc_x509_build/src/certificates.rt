@@ -122,7 +122,7 @@ fn push_extensions(
     octets: &mut Vec<u8>,
     alternative: &[u8],
 ) -> Result<(), AllocError>
-    ensures { OnOk result (octets.new.items ≡ octets.old.items ++ spec.extensions_of alternative.now) }
+    ensures { OnOk result (octets.new.items ≡ octets.old.items ++ spec.names_extensions alternative.now) }
 {
     if alternative.is_empty() {
         return Ok(());
@@ -157,7 +157,7 @@ fn built(
     requires begins_in_range { IsCertificateTime plan.now.not_before }
     requires ends_in_range { IsCertificateTime plan.now.not_after }
     ensures { IfOk result (λ body. body ≡ spec.certificate_body plan.now.issuer
-        (spec.fields_of plan.now (names_shown csr.now.names) (key_shown key.now))) }
+        (spec.fields_of_plan plan.now (names_shown csr.now.names) (key_shown key.now))) }
 {
     let mut parts = Vec::with_capacity(alloc, BODY)?;
     push_head(alloc, &mut parts, plan)?;
@@ -187,11 +187,11 @@ pub fn cert_body(
     requires begins_in_range { IsCertificateTime plan.now.not_before }
     requires ends_in_range { IsCertificateTime plan.now.not_after }
     ensures octets { IfOk result (λ body. body ≡ spec.certificate_body plan.now.issuer
-        (spec.fields_of plan.now (names_shown csr.now.names) (key_shown key.now))) }
+        (spec.fields_of_plan plan.now (names_shown csr.now.names) (key_shown key.now))) }
     ensures is_read { IfOk result (λ body. plan.now.not_before ≤ℤ plan.now.not_after
         → IsWritable (key_shown key.now) → IsValueList csr.now.names.alternative.now
         → length body ≤ MAX_INPUT → spec.IsCertificateBody body
-        (spec.fields_of plan.now (names_shown csr.now.names) (key_shown key.now))) }
+        (spec.fields_of_plan plan.now (names_shown csr.now.names) (key_shown key.now))) }
 {
     built(alloc, plan, csr, key)
 }

@@ -89,7 +89,7 @@ fn push_attributes(
 }
 
 fn common_of(names: &NameSet) -> Option<&[u8]>
-    ensures { text_shown result ≡ spec.common_of names.now.common }
+    ensures { text_shown result ≡ spec.common_if_any names.now.common }
 {
     let common = names.common.as_slice();
     if common.is_empty() {
@@ -107,7 +107,7 @@ fn push_subject(
     names: &NameSet,
 ) -> Result<(), AllocError>
     ensures { OnOk result (octets.new.items ≡ octets.old.items
-        ++ (name_octets (spec.common_of names.now.common) ++ (spki_octets (key_shown key.now)
+        ++ (name_octets (spec.common_if_any names.now.common) ++ (spki_octets (key_shown key.now)
         ++ value 160 (spec.attributes_of (spec.alternative_of names.now))))) }
 {
     let alternative = alternative_of(alloc, names)?;

@@ -1,6 +1,6 @@
 //! Laws: what `cmc_x509` reads may be handed to what is built here.
 ghost use Rattle.std.specs.Prelude.{List, ℕ, IsSome};
-ghost use Rattle.cmc_der.specs.Keys.{PublicKey, RequestFields, kind_of};
+ghost use Rattle.cmc_der.specs.Keys.{PublicKey, RequestFields, key_kind_of};
 ghost use Rattle.cmc_x509.specs.Certificates.{IsRequest};
 ghost use Rattle.cmc_x509.specs.KeyFiles.{IsKeyFile};
 ghost use Rattle.cmc_x509.specs.Lists.{IsValueList};
@@ -12,7 +12,7 @@ pub fn request_serves()
     ensures names { (octets : List ℕ) (fields : RequestFields) → IsRequest octets fields
         → IsValueList fields.names.alternative }
     ensures key { (octets : List ℕ) (fields : RequestFields) → IsRequest octets fields
-        → IsSome (kind_of fields.key) → IsWritable fields.key }
+        → IsSome (key_kind_of fields.key) → IsWritable fields.key }
 {}
 
 /// A law: so is the key of a key file.

@@ -6,7 +6,7 @@ use Rattle.std.specs.Str.Parse.{AllDigits, IsNumeral, digits_value, without_lead
 use Rattle.std.specs.Prelude.{nat_lt, nat_le, if◌then◌else◌}
 use Rattle.std.proofs.lemmas.Bool.Decides.{nat_tests}
 use Rattle.std.proofs.lemmas.Bool.{and_from, and_parts}
-use Rattle.cmrun.specs.Words.{is_numeral, number_in}
+use Rattle.cmrun.specs.Words.{is_numeral, bounded_number_in}
 
 digit : (c : ℕ) → digit_value c < 10 → is_digit c 10 ≡ true
 digit c h = grind (arith, nat_tests)
@@ -46,7 +46,7 @@ refused false m h = refl
 
 pub number_found : (least most n : ℕ) (text : List ℕ)
     → IsNumeral 10 (without_leading_plus text) → n ≡ digits_value 10 (without_leading_plus text) → least ≤ n → n ≤ most
-    → Some n ≡ number_in least most text
+    → Some n ≡ bounded_number_in least most text
 number_found least most n text h e low high =
     answered _ n _
     (and_from (is_numeral (without_leading_plus text)) _ (numeral _ h)
@@ -61,13 +61,13 @@ bounds least most text h =
     (is_read _ parts.0, grind (arith, nat_tests, inner.0), grind (arith, nat_tests, inner.1))
 
 pub number_low : (least most n : ℕ) (text : List ℕ)
-    → n ≡ digits_value 10 (without_leading_plus text) → n < least → None ≡ number_in least most text
+    → n ≡ digits_value 10 (without_leading_plus text) → n < least → None ≡ bounded_number_in least most text
 number_low least most n text e low = refused _ _ (λ h. let b = bounds least most text h in omega (arith, b.1, e, low))
 
 pub number_high : (least most n : ℕ) (text : List ℕ)
-    → n ≡ digits_value 10 (without_leading_plus text) → most < n → None ≡ number_in least most text
+    → n ≡ digits_value 10 (without_leading_plus text) → most < n → None ≡ bounded_number_in least most text
 number_high least most n text e high = refused _ _ (λ h. let b = bounds least most text h in omega (arith, b.2, e, high))
 
 pub number_missed : (least most : ℕ) (text : List ℕ) → most < 2 ^ 32
-    → (IsNumeral 10 (without_leading_plus text) × (digits_value 10 (without_leading_plus text) < 2 ^ 32) → ⊥) → None ≡ number_in least most text
+    → (IsNumeral 10 (without_leading_plus text) × (digits_value 10 (without_leading_plus text) < 2 ^ 32) → ⊥) → None ≡ bounded_number_in least most text
 number_missed least most text small h = refused _ _ (λ k. let b = bounds least most text k in h (b.0, omega (arith, b.2, small)))

@@ -13,7 +13,7 @@ use Rattle.cmc_world.specs.Kept.{setting_of}
 use Rattle.cmc_plain.specs.Waits.{summary_at}
 use Rattle.cmc_plain.proofs.Determined.{ends_agree, one_end}
 use Rattle.cmc_plain.proofs.FreeRows.{none_free}
-use Rattle.cmrun.specs.Headline.{Reads, printed_lines, RunsOn, Answers, IsRunOf, IsLoadOf, Spends, SpendsValue, SpendsAll}
+use Rattle.cmrun.specs.Headline.{Reads, printed_lines, RunsOn, AnswersRun, IsRunOf, IsLoadOf, Spends, SpendsValue, SpendsAll}
 
 -- of one scenario there is one text
 one_text : (alone : Bool) (value : Data) (scenario : Scenario) (t u : List ℕ) → LeavesNothingFree scenario → RunsOn 0 alone value scenario t → RunsOn 0 alone value scenario u → t ≡ u
@@ -36,7 +36,7 @@ one_scenario v a b x y = let ok : Ok a ≡ Ok b = sym x ∙ y in cc ok
 pub one_run : (alone : Bool) (bytes t u : List ℕ) → IsRunOf 0 alone bytes t → IsRunOf 0 alone bytes u → t ≡ u
 one_run alone bytes t u a b =
     let value : b.value ≡ a.value = one_value bytes b.value a.value b.reads a.reads in
-    let other : Answers 0 alone a.value u = subst (λ (v : Data). Answers 0 alone v u) value b.answer in
+    let other : AnswersRun 0 alone a.value u = subst (λ (v : Data). AnswersRun 0 alone v u) value b.answer in
     let scenario : other.scenario ≡ a.answer.scenario = one_scenario a.value other.scenario a.answer.scenario other.form a.answer.form in
     one_text alone a.value a.answer.scenario t u (what_is_read a.value a.answer.scenario a.answer.form) a.answer.runs (subst (λ (s : Scenario). RunsOn 0 alone a.value s u) scenario other.runs)
 

@@ -2,7 +2,7 @@
 use Rattle.std.proofs.Common.{◌≡◌, ℕ, Bool, List, ◌++◌, Option, Some, None, refl, sym, ap, subst, ◌∙◌, append-nil}
 use Rattle.std.specs.Prelude.{IfSome}
 use Rattle.std.specs.Io.KnownBytes.{Consumes, IsAtEnd, Keeps}
-use Rattle.cmrun.specs.Statuses.{IsWithin, Refuses, RefusesHistory, RefusesScriptIn, Tells}
+use Rattle.cmrun.specs.Statuses.{IsWithinLimit, Refuses, RefusesHistory, RefusesScriptIn, StatusTells}
 use Rattle.cmrun.specs.declared.status.Status.{Status}
 use Rattle.cmrun.specs.declared.status.Status.TheVariants.{Done, TooLong, NotJson, BadScenario, BadHistory, Usage, ReadFault, WriteFault, NoMemory, Spent}
 
@@ -27,7 +27,7 @@ pub of_histories : IsCause RefusesHistory
 of_histories = record { done = λ bytes cause. cause; write = λ bytes cause. cause; long = λ bytes cause. cause; usage = λ bytes cause. cause }
 
 by_cause : (limit : ℕ) (IsAnswered : List ℕ → List ℕ → Type 0) (IsRefused : List ℕ → Status → Type 0) (status : Status) (bytes : List ℕ) (held : Option (List ℕ))
-    → IsCause IsRefused → IsRefused bytes status → IsWithin limit bytes → Tells limit IsAnswered IsRefused status bytes held held
+    → IsCause IsRefused → IsRefused bytes status → IsWithinLimit limit bytes → StatusTells limit IsAnswered IsRefused status bytes held held
 by_cause limit IsAnswered IsRefused Done bytes held is cause within = absurd (is.done bytes cause)
 by_cause limit IsAnswered IsRefused WriteFault bytes held is cause within = absurd (is.write bytes cause)
 by_cause limit IsAnswered IsRefused TooLong bytes held is cause within = absurd (is.long bytes cause)
@@ -41,7 +41,7 @@ by_cause limit IsAnswered IsRefused Usage bytes held is cause within = absurd (i
 
 -- all bytes that there were are those that were read
 pub told_cause : (limit : ℕ) (IsAnswered : List ℕ → List ℕ → Type 0) (IsRefused : List ℕ → Status → Type 0) (status : Status) (bytes : List ℕ) (old now held : Option (List ℕ)) → IsCause IsRefused
-    → Consumes old now bytes → IsAtEnd now → IsRefused bytes status → IfSome old (IsWithin limit) → IfSome old (λ all. Tells limit IsAnswered IsRefused status all held held)
+    → Consumes old now bytes → IsAtEnd now → IsRefused bytes status → IfSome old (IsWithinLimit limit) → IfSome old (λ all. StatusTells limit IsAnswered IsRefused status all held held)
 told_cause limit IsAnswered IsRefused status bytes None now held is content end cause within = tt
 told_cause limit IsAnswered IsRefused status bytes (Some xs) None held is content end cause within = absurd content
 told_cause limit IsAnswered IsRefused status bytes (Some xs) (Some ys) held is content end cause within =

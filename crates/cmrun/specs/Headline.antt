@@ -7,7 +7,7 @@ use Rattle.cmc_objects.specs.declared.entry.Entry.{Entry}
 use Rattle.cmc_rules.specs.Safety.{IsSafe}
 use Rattle.cmc_rules.specs.Runs.{IsRun, IsFinished}
 use Rattle.cmc_safety.specs.Completing.{CompletesIssuing}
-use Rattle.cmc_safety.specs.Standing.{IsInOrder}
+use Rattle.cmc_safety.specs.Standing.{KeepsInvariants}
 use Rattle.cmc_report.specs.Text.{joined, history_lines, summary_lines}
 use Rattle.cmc_summary.specs.declared.summary.Summary.{Summary}
 use Rattle.cmc_setup.specs.declared.scenario.Scenario.{Scenario}
@@ -39,7 +39,7 @@ pub record RunsOn (workers : ℕ) (alone : Bool) (value : Data) (scenario : Scen
   pub run : IsRun (setting_of scenario) history
   pub safe : IsSafe (setting_of scenario) history
   pub complete : CompletesIssuing (setting_of scenario) history
-  pub order : IsInOrder (setting_of scenario) history
+  pub order : KeepsInvariants (setting_of scenario) history
   pub plain : workers ≡ 0 → IsPlain (setting_of scenario) history
   pub finished : IsFinished (setting_of scenario) history
   -- each Certificate that is not Ready waits for something that the summary names
@@ -50,7 +50,7 @@ pub record RunsOn (workers : ℕ) (alone : Bool) (value : Data) (scenario : Scen
   pub is : text ≡ joined (printed_lines alone value history (summary_at (setting_of scenario) history))
 
 -- the value is that of a scenario, and the text that of a finished history of it
-pub record Answers (workers : ℕ) (alone : Bool) (value : Data) (text : List ℕ) : Type 0 where
+pub record AnswersRun (workers : ℕ) (alone : Bool) (value : Data) (text : List ℕ) : Type 0 where
   pub scenario : Scenario
   pub form : scenario_at value ≡ Ok scenario
   pub runs : RunsOn workers alone value scenario text
@@ -59,7 +59,7 @@ pub record Answers (workers : ℕ) (alone : Bool) (value : Data) (text : List �
 pub record IsRunOf (workers : ℕ) (alone : Bool) (bytes text : List ℕ) : Type 0 where
   pub value : Data
   pub reads : Reads bytes value
-  pub answer : Answers workers alone value text
+  pub answer : AnswersRun workers alone value text
 
 -- the text is that of a finished history of the generated scenario of so many Certificates
 abbrev pub IsLoadOf : ℕ → Bool → ℕ → List ℕ → Type 0
@@ -69,14 +69,14 @@ IsLoadOf workers alone count text = RunsOn workers alone (scenario_tree (load_se
 pub record IsCollectOf (bytes text : List ℕ) : Type 0 where
   pub value : Data
   pub reads : Reads bytes value
-  pub answer : collection.Answers value text
+  pub answer : collection.AnswersCollect value text
 
 -- the bytes are no JSON
 abbrev pub HasNoReading : List ℕ → Type 0
 HasNoReading bytes = (¬ (IsUtf8 bytes)) ⊎ (read bytes ≡ None)
 
 -- the value of the bytes is no scenario: this path is the first that fails
-pub record FailsAt (bytes path : List ℕ) : Type 0 where
+pub record InputFailsAt (bytes path : List ℕ) : Type 0 where
   pub value : Data
   pub reads : Reads bytes value
   pub form : scenario_at value ≡ Err path

@@ -10,8 +10,8 @@ abbrev pub left_in : MemSource → List ℕ
 left_in s = drop s.at s.bytes
 
 -- The bytes that were written.
-abbrev pub held_in : MemSink → List ℕ
-held_in s = s.bytes.items
+abbrev pub sink_bytes : MemSink → List ℕ
+sink_bytes s = s.bytes.items
 
 -- How many reads have failed.
 abbrev pub read_faults : MemSource → ℕ

@@ -6,7 +6,7 @@ use Rattle.cmc_setup.specs.declared.scenario.Scenario.{Scenario}
 use Rattle.cmc_scenario.specs.Scenarios.{scenario_at}
 use Rattle.cmc_scenario.specs.Loads.{load_setup}
 use Rattle.cmrun.specs.Ends.{AppendsPrefix, ConsumesExactly, ConsumesAtMost, risen}
-use Rattle.cmrun.specs.Headline.{IsCollectOf, IsRunOf, IsLoadOf, HasNoReading, FailsAt, RefusesCollect, Spends, SpendsValue, SpendsAll}
+use Rattle.cmrun.specs.Headline.{IsCollectOf, IsRunOf, IsLoadOf, HasNoReading, InputFailsAt, RefusesCollect, Spends, SpendsValue, SpendsAll}
 use Rattle.cmc_audit.specs.Answers as auditing
 use Rattle.cmc_collect_run.specs.Answers as collection
 use Rattle.cmc_collect_run.specs.declared.answering.NotCollected.TheVariants as refusals
@@ -33,7 +33,7 @@ RefusesValue value other = ⊥
 -- why some bytes were not run
 abbrev pub Refuses : List ℕ → Status → Type 0
 Refuses bytes NotJson = HasNoReading bytes
-Refuses bytes (BadScenario path) = FailsAt bytes path
+Refuses bytes (BadScenario path) = InputFailsAt bytes path
 Refuses bytes Spent = SpendsAll bytes
 Refuses bytes NoMemory = Unit {0}
 Refuses bytes other = ⊥
@@ -69,8 +69,8 @@ abbrev pub history_limit : ℕ
 history_limit = 268435456
 
 -- the input has at most so many bytes, or more
-abbrev pub IsWithin : ℕ → List ℕ → Type 0
-IsWithin limit bytes = length bytes ≤ limit
+abbrev pub IsWithinLimit : ℕ → List ℕ → Type 0
+IsWithinLimit limit bytes = length bytes ≤ limit
 
 abbrev pub IsAbove : ℕ → List ℕ → Type 0
 IsAbove limit bytes = limit < length bytes
@@ -78,23 +78,23 @@ IsAbove limit bytes = limit < length bytes
 -- What a status says of the bytes that could be read, by a command that answers some bytes with a text and refuses all others,
 -- and of what the sink held and holds. An input that is too long is answered by TooLong, unless a fault or want of memory comes
 -- before.
-abbrev pub Tells : ℕ → (List ℕ → List ℕ → Type 0) → (List ℕ → Status → Type 0) → Status → List ℕ → Option (List ℕ) → Option (List ℕ) → Type 0
-Tells limit IsAnswered IsRefused Done bytes old new = IsWithin limit bytes × ((text : List ℕ) × IsAnswered bytes text × Appends old new text)
-Tells limit IsAnswered IsRefused WriteFault bytes old new = IsWithin limit bytes × ((text : List ℕ) × IsAnswered bytes text × AppendsPrefix old new text)
-Tells limit IsAnswered IsRefused TooLong bytes old new = IsAbove limit bytes × Keeps old new
-Tells limit IsAnswered IsRefused ReadFault bytes old new = Keeps old new
-Tells limit IsAnswered IsRefused NoMemory bytes old new = Keeps old new
-Tells limit IsAnswered IsRefused Usage bytes old new = ⊥
-Tells limit IsAnswered IsRefused other bytes old new = IsWithin limit bytes × (IsRefused bytes other × Keeps old new)
+abbrev pub StatusTells : ℕ → (List ℕ → List ℕ → Type 0) → (List ℕ → Status → Type 0) → Status → List ℕ → Option (List ℕ) → Option (List ℕ) → Type 0
+StatusTells limit IsAnswered IsRefused Done bytes old new = IsWithinLimit limit bytes × ((text : List ℕ) × IsAnswered bytes text × Appends old new text)
+StatusTells limit IsAnswered IsRefused WriteFault bytes old new = IsWithinLimit limit bytes × ((text : List ℕ) × IsAnswered bytes text × AppendsPrefix old new text)
+StatusTells limit IsAnswered IsRefused TooLong bytes old new = IsAbove limit bytes × Keeps old new
+StatusTells limit IsAnswered IsRefused ReadFault bytes old new = Keeps old new
+StatusTells limit IsAnswered IsRefused NoMemory bytes old new = Keeps old new
+StatusTells limit IsAnswered IsRefused Usage bytes old new = ⊥
+StatusTells limit IsAnswered IsRefused other bytes old new = IsWithinLimit limit bytes × (IsRefused bytes other × Keeps old new)
 
 abbrev pub ExplainsRun : ℕ → Bool → Status → List ℕ → Option (List ℕ) → Option (List ℕ) → Type 0
-ExplainsRun workers alone = Tells scenario_limit (IsRunOf workers alone) Refuses
+ExplainsRun workers alone = StatusTells scenario_limit (IsRunOf workers alone) Refuses
 
 abbrev pub ExplainsCollect : Status → List ℕ → Option (List ℕ) → Option (List ℕ) → Type 0
-ExplainsCollect = Tells scenario_limit IsCollectOf RefusesScriptIn
+ExplainsCollect = StatusTells scenario_limit IsCollectOf RefusesScriptIn
 
 abbrev pub ExplainsAudit : Status → List ℕ → Option (List ℕ) → Option (List ℕ) → Type 0
-ExplainsAudit = Tells history_limit auditing.Answers RefusesHistory
+ExplainsAudit = StatusTells history_limit auditing.AnswersAudit RefusesHistory
 
 -- What a status says, at `load`, of what the sink held and holds. No other status comes: what is not read can't be too
 -- long, no JSON or no scenario, and can't fail to be read.
@@ -122,12 +122,12 @@ LeavesRead limit NoMemory old new = ConsumesAtMost old new (limit + 1)
 LeavesRead limit other old new = IsAtEnd new
 
 -- The same for every command: at `load` all of it is left.
-abbrev pub Leaves : Option Command → Status → Option (List ℕ) → Option (List ℕ) → Type 0
-Leaves None status old new = Keeps old new
-Leaves (Some (Run workers alone)) status old new = LeavesRead scenario_limit status old new
-Leaves (Some (Load count workers alone)) status old new = Keeps old new
-Leaves (Some Audit) status old new = LeavesRead history_limit status old new
-Leaves (Some Collect) status old new = LeavesRead scenario_limit status old new
+abbrev pub LeavesSink : Option Command → Status → Option (List ℕ) → Option (List ℕ) → Type 0
+LeavesSink None status old new = Keeps old new
+LeavesSink (Some (Run workers alone)) status old new = LeavesRead scenario_limit status old new
+LeavesSink (Some (Load count workers alone)) status old new = Keeps old new
+LeavesSink (Some Audit) status old new = LeavesRead history_limit status old new
+LeavesSink (Some Collect) status old new = LeavesRead scenario_limit status old new
 
 -- the count of reads that failed: one more at ReadFault, and none else
 abbrev pub reads_failed : Status → ℕ → ℕ

@@ -17,8 +17,8 @@ abbrev pub is_numeral : List ℕ → Bool
 is_numeral text = nat_lt 0 (length text) && list_all (λ c. is_digit c 10) text
 
 -- the number that the text writes, where it lies between these bounds; one plus may stand in front of its digits
-abbrev pub number_in : ℕ → ℕ → List ℕ → Option ℕ
-number_in least most text =
+abbrev pub bounded_number_in : ℕ → ℕ → List ℕ → Option ℕ
+bounded_number_in least most text =
     let digits = without_leading_plus text in
     if is_numeral digits && (nat_le least (digits_value 10 digits) && nat_le (digits_value 10 digits) most) then Some (digits_value 10 digits) else None
 
@@ -28,8 +28,8 @@ pub record Given : Type 0 where
   pub summaries : ℕ
   pub others : List (List ℕ)
 
-abbrev pub with_value : List ℕ → Given → Given
-with_value value given = record given { workers = value ∷ given.workers }
+abbrev pub with_worker_value : List ℕ → Given → Given
+with_worker_value value given = record given { workers = value ∷ given.workers }
 
 abbrev pub with_summary : Given → Given
 with_summary given = record given { summaries = suc given.summaries }
@@ -40,7 +40,7 @@ with_other word given = record given { others = word ∷ given.others }
 -- A word may hold the option and its value.
 abbrev pub with_word : List ℕ → Given → Given
 with_word word given =
-    if starts_with nat_eq word (codes "--workers=") then with_value (drop 10 word) given
+    if starts_with nat_eq word (codes "--workers=") then with_worker_value (drop 10 word) given
     else if bytes_eq word (codes "--summary") then with_summary given
     else with_other word given
 
@@ -49,23 +49,23 @@ abbrev pub given_by : List (List ℕ) → Given
 given_by [] = record { workers = []; summaries = 0; others = [] }
 given_by (word ∷ []) = with_word word (given_by [])
 given_by (word ∷ next ∷ words) =
-    if bytes_eq word (codes "--workers") then with_value next (given_by words) else with_word word (given_by (next ∷ words))
+    if bytes_eq word (codes "--workers") then with_worker_value next (given_by words) else with_word word (given_by (next ∷ words))
 
 -- 0 to 64 workers, given at most once; 4 where they are not given
 abbrev pub workers_in : List (List ℕ) → Option ℕ
 workers_in [] = Some 4
-workers_in (value ∷ []) = number_in 0 64 value
+workers_in (value ∷ []) = bounded_number_in 0 64 value
 workers_in (value ∷ again ∷ values) = None
 
 -- whether the summary alone is asked for, at most once
-abbrev pub summary_in : ℕ → Option Bool
-summary_in zero = Some false
-summary_in (suc zero) = Some true
-summary_in (suc (suc more)) = None
+abbrev pub is_summary_asked : ℕ → Option Bool
+is_summary_asked zero = Some false
+is_summary_asked (suc zero) = Some true
+is_summary_asked (suc (suc more)) = None
 
 -- exactly one other word, a count of 1 to 200; so no option of another name
 abbrev pub count_in : List (List ℕ) → Option ℕ
-count_in (word ∷ []) = number_in 1 200 word
+count_in (word ∷ []) = bounded_number_in 1 200 word
 count_in others = None
 
 abbrev pub run_in : ℕ → Bool → List (List ℕ) → Option Command
@@ -77,11 +77,11 @@ abbrev pub command_said : List ℕ → Given → Option Command
 command_said first given =
     if bytes_eq first (codes "run") then (do
       workers ← workers_in given.workers
-      summary ← summary_in given.summaries
+      summary ← is_summary_asked given.summaries
       run_in workers summary given.others)
     else if bytes_eq first (codes "load") then (do
       workers ← workers_in given.workers
-      summary ← summary_in given.summaries
+      summary ← is_summary_asked given.summaries
       count ← count_in given.others
       Some (Load count workers summary))
     else None

@@ -1,6 +1,6 @@
 // The audit of a printed history, from the bytes read to the bytes written.
 ghost use Rattle.std.specs.Prelude.{◌≡◌, ◌≢◌, true, IfOk, IfErr, IfSome};
-ghost use Rattle.cmc_audit.specs.Answers.{Answers};
+ghost use Rattle.cmc_audit.specs.Answers.{AnswersAudit};
 ghost use Rattle.cmc_report.specs.Text.{joined};
 ghost use Rattle.cmrun.specs.Statuses.{ExplainsAudit, LeavesRead, RefusesHistory, history_limit, reads_failed, writes_failed, writes_nothing};
 
@@ -14,7 +14,7 @@ use std::alloc::Global;
 
 /// The line that answers the bytes, the text of a history.
 fn verdict_on(alloc: Global, seed: HashSeed, bytes: &[u8]) -> Result<Lines, Status>
-    ensures ok { IfOk result (λ lines. Answers bytes.now (joined lines)) }
+    ensures ok { IfOk result (λ lines. AnswersAudit bytes.now (joined lines)) }
     ensures err { IfErr result (λ status. RefusesHistory bytes.now status) }
 {
     match audit_bytes(alloc, seed, bytes) {

@@ -20,7 +20,7 @@ use std::str;
 
 /// The lines that the value is answered with as a script of owner collection.
 fn collect_value(alloc: Global, seed: HashSeed, value: &Value) -> Result<Lines, Status>
-    ensures ok { IfOk result (λ lines. collection.Answers (view value.now) (joined lines)) }
+    ensures ok { IfOk result (λ lines. collection.AnswersCollect (view value.now) (joined lines)) }
     ensures err { IfErr result (λ status. RefusesScript (view value.now) status) }
 {
     match collect(alloc, seed, value) {

@@ -92,11 +92,11 @@ impl Source for MemSource {
 
 impl MemSink {
     ghost use Rattle.std.specs.Prelude.{[], IfOk};
-    ghost use Rattle.cmrun.specs.Memory.{held_in, write_faults, failing_writes, writes_made};
+    ghost use Rattle.cmrun.specs.Memory.{sink_bytes, write_faults, failing_writes, writes_made};
 
     /// An empty sink, at which the writes of the given numbers (from 1) fail.
     pub fn new(alloc: Global, failing: Numbers) -> Result<Self, AllocError>
-        ensures holds { IfOk result (λ s. held_in s ≡ []) }
+        ensures holds { IfOk result (λ s. sink_bytes s ≡ []) }
         ensures faults { IfOk result (λ s. write_faults s ≡ 0) }
         ensures failing { IfOk result (λ s. failing_writes s ≡ failing) }
         ensures made { IfOk result (λ s. writes_made s ≡ 0) }
@@ -111,7 +111,7 @@ impl MemSink {
 
     /// The bytes that it holds.
     pub fn bytes(&self) -> &[u8]
-        ensures { result.now ≡ held_in self.now }
+        ensures { result.now ≡ sink_bytes self.now }
     {
         &self.bytes
     }
@@ -122,9 +122,9 @@ impl Sink for MemSink {
     ghost use Rattle.std.specs.Io.{WritesAtMost};
     ghost use Rattle.std.specs.Io.KnownBytes.{WriteAppends};
     ghost use Rattle.cmrun.specs.Ends.{CountsFaults, risen};
-    ghost use Rattle.cmrun.specs.Memory.{held_in, write_faults, failing_writes, writes_made, fails_next_write};
+    ghost use Rattle.cmrun.specs.Memory.{sink_bytes, write_faults, failing_writes, writes_made, fails_next_write};
 
-    ghost holds = { λ s. Some (held_in s) };
+    ghost holds = { λ s. Some (sink_bytes s) };
 
     ghost faults = { λ s. write_faults s };
 
@@ -133,7 +133,7 @@ impl Sink for MemSink {
     fn write(&mut self, piece: &[u8]) -> Result<usize, Failed>
         ensures bound { WritesAtMost result piece.now }
         ensures some { IfOk result (λ n. 0 < length piece.now → 0 < n) }
-        ensures bytes { WriteAppends (Some (held_in self.old)) (Some (held_in self.new)) result piece.now }
+        ensures bytes { WriteAppends (Some (sink_bytes self.old)) (Some (sink_bytes self.new)) result piece.now }
         ensures cause { CountsFaults (write_faults self.old) (write_faults self.new) result }
         ensures fails { fails_next_write self.old ≡ true → IsErr result }
         ensures whole { IfOk result (λ n. n ≡ length piece.now) }

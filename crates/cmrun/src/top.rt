@@ -11,8 +11,8 @@ ghost use Rattle.cmc_rules.specs.Runs.{IsFinished};
 ghost use Rattle.cmc_scenario.specs.Loads.{load_setup};
 ghost use Rattle.cmc_scenario_print.specs.ScenarioTree.{scenario_tree};
 ghost use Rattle.cmc_world.specs.Kept.{on};
-ghost use Rattle.cmrun.specs.Headline.{Answers, IsLoadOf, IsRunOf, RunsOn};
-ghost use Rattle.cmrun.specs.Statuses.{Explains, ExplainsLoad, ExplainsRun, Leaves, LeavesRead, Refuses, RefusesValue, SpendsOn, reads_failed, reads_nothing, scenario_limit, writes_failed, writes_nothing};
+ghost use Rattle.cmrun.specs.Headline.{AnswersRun, IsLoadOf, IsRunOf, RunsOn};
+ghost use Rattle.cmrun.specs.Statuses.{Explains, ExplainsLoad, ExplainsRun, LeavesSink, LeavesRead, Refuses, RefusesValue, SpendsOn, reads_failed, reads_nothing, scenario_limit, writes_failed, writes_nothing};
 ghost use Rattle.cmrun.specs.Words.{command_of};
 
 use crate::auditing::run_audit;
@@ -109,7 +109,7 @@ fn answer<R: Threads + Wait + Sync, M: KeyMaker, N: Signer, G: Gate>(
     signer: &N,
     gate: &G,
 ) -> Result<Lines, Status>
-    ensures ok { IfOk result (λ lines. Answers workers alone (view value.now) (joined lines)) }
+    ensures ok { IfOk result (λ lines. AnswersRun workers alone (view value.now) (joined lines)) }
     ensures err { IfErr result (λ status. RefusesValue (view value.now) status) }
 {
     match read(alloc, value) {
@@ -309,7 +309,7 @@ pub fn run<R: Threads + Wait + Sync, S: Source, K: Sink, M: KeyMaker, N: Signer,
     gate: &G,
 ) -> Status
     ensures told { Explains (command_of words.now) result (S.left source.old) (K.holds sink.old) (K.holds sink.new) }
-    ensures left { Leaves (command_of words.now) result (S.left source.old) (S.left source.new) }
+    ensures left { LeavesSink (command_of words.now) result (S.left source.old) (S.left source.new) }
     ensures unread { reads_nothing (command_of words.now) ≡ true → source.new ≡ source.old }
     ensures unwritten { writes_nothing result ≡ true → sink.new ≡ sink.old }
     ensures usage { (result ≡ Status.Usage) ↔ (command_of words.now ≡ None) }

@@ -1,6 +1,6 @@
 // What the words of the command line ask for.
 ghost use Rattle.std.specs.Prelude.{◌≡◌, ◌≤◌, IfSome, length, map, string_bytes};
-ghost use Rattle.cmrun.specs.Words.{IsBounded, alone_in, command_of, number_in, with_other, with_summary, with_value, with_word};
+ghost use Rattle.cmrun.specs.Words.{IsBounded, alone_in, command_of, bounded_number_in, with_other, with_summary, with_worker_value, with_word};
 ghost use Rattle.cmrun.specs.Said.{IsSaidBy, Takes, TakesNext};
 
 /// What the program is asked to do.
@@ -42,7 +42,7 @@ struct Said<'a> {
 /// The number between these bounds that a text writes.
 #[tactic(auto, using(crate::proofs::Numbers::number_found, crate::proofs::Numbers::number_low, crate::proofs::Numbers::number_high, crate::proofs::Numbers::number_missed))]
 fn number(text: &str, least: u32, most: u32) -> Option<u32>
-    ensures value { result ≡ number_in least most text.now }
+    ensures value { result ≡ bounded_number_in least most text.now }
     ensures bounds { IfSome result (λ n. (least ≤ n) × (n ≤ most)) }
 {
     match text.parse::<u32>() {
@@ -54,7 +54,7 @@ fn number(text: &str, least: u32, most: u32) -> Option<u32>
 impl<'a> Said<'a> {
     /// The value of `--workers` stands next; a second one is refused.
     fn with_workers(self, value: &'a str) -> Option<Said<'a>>
-        ensures { Takes self.entry (with_value value.now) result }
+        ensures { Takes self.entry (with_worker_value value.now) result }
     {
         match self.workers {
             Some(_) => None,

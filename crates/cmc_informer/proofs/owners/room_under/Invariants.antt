@@ -1,12 +1,12 @@
 use Rattle.std.proofs.Common.{◌≡◌, ℕ, take, true}
 use Rattle.cmc_meta.specs.declared.key.Key.{Key}
 use Rattle.cmc_informer.specs.Caches.{names}
-use Rattle.cmc_informer.specs.Indexes.{KeepsRooms, has_room, stands}
+use Rattle.cmc_informer.specs.Indexes.{KeepsRooms, has_room, is_key_under}
 use Rattle.cmc_informer.proofs.owners.room_under.Given as goal
 
 abbrev pub invariant-loop-owner : goal.invariant-loop-owner
 invariant-loop-owner l = record {
   room : (u : ℕ) → names u (take l.owner-index l.owners) ≡ true → has_room l.index u l.key ≡ true;
-  same : (u : ℕ) (k : Key) → stands l.index u k ≡ stands l.initial.index u k;
+  same : (u : ℕ) (k : Key) → is_key_under l.index u k ≡ is_key_under l.initial.index u k;
   keeps : KeepsRooms l.initial.index l.index;
 }

@@ -1,5 +1,5 @@
 use Rattle.std.proofs.Common.{refl, sym, ap, ◌∙◌}
-use Rattle.cmc_match.specs.SubjectNames.{named}
+use Rattle.cmc_match.specs.SubjectNames.{names_tagged}
 use Rattle.cmc_match.proofs.NameLaws.{no_name_left, order_later}
 use Rattle.cmc_match.proofs.names.are_in_order.Goals as goal
 

@@ -1,12 +1,12 @@
 use Rattle.std.proofs.Common.{◌≡◌, length}
 use Rattle.cmc_x509.specs.Lists.{IsValueList}
-use Rattle.cmc_match.specs.SubjectNames.{named, values_of}
+use Rattle.cmc_match.specs.SubjectNames.{names_tagged, values_of}
 use Rattle.cmc_match.proofs.names.are_in_order.Given as goal
 
 abbrev pub invariant-loop-kind : goal.invariant-loop-kind
 invariant-loop-kind l = record {
   list : IsValueList l.rest;
-  order : named l.tag (values_of l.rest) ≡ l.left → named l.tag (values_of l.alternative) ≡ l.texts;
+  order : names_tagged l.tag (values_of l.rest) ≡ l.left → names_tagged l.tag (values_of l.alternative) ≡ l.texts;
 }
 
 abbrev pub decreases-loop-kind : goal.decreases-loop-kind

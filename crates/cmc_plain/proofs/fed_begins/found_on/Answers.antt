@@ -6,7 +6,7 @@ use Rattle.cmc_pass.specs.declared.pass.Act.{Act}
 use Rattle.cmc_pass.specs.declared.pass.Views.{Views}
 use Rattle.cmc_world.specs.Kept.{setting_of}
 use Rattle.cmc_plain.specs.DueMoments.{HasDatedMoments}
-use Rattle.cmc_plain.specs.Keeping.{IsFound, IsMine}
+use Rattle.cmc_plain.specs.Keeping.{IsCurrent, IsMine}
 use Rattle.cmc_plain.specs.declared.openings.Opening.{Opening}
 use Rattle.cmc_plain.proofs.KeptActs.{found_does}
 use Rattle.cmc_plain.proofs.Undue.{dated_moments}
@@ -18,7 +18,7 @@ returns-in-Some-clause-dated c =
     let h = c.args.world.now.history in
     let role = c.args.role in
     let key = c.args.key.now in
-    let found = subst (λ (o : Option Opening). IfSome o (IsFound s h)) c.in-Some.is c.requires.found in
+    let found = subst (λ (o : Option Opening). IfSome o (IsCurrent s h)) c.in-Some.is c.requires.found in
     let mine = subst (λ (o : Option Opening). IfSome o (IsMine role key)) c.in-Some.is c.requires.mine in
     subst (λ (t : Role × Key × Views × Option Act). HasDatedMoments t.2) (sym c.into_parts-role.ensures)
     (subst (λ (v : Views). HasDatedMoments v) (sym (found_does s h role key c.in-Some.opening found mine).0) (dated_moments s h role key c.is_formed.ensures c.is_run.ensures.run (c.can_act.ensures role key).dated))

@@ -39,7 +39,7 @@ returns-in-Some-2-clause-finds c =
     let first = subst (λ (k : Option Key). FindsFirst (λ k. is_above below k && is_pending (row_at queues role k)) k) c.in-Some.is c.in_ok-key.ensures in
     let work = subst (λ (o : Option Opening). IsWorkOn s h role c.in-Some.key o) c.in-Some-2.is c.in_ok-opening.ensures.work in
     let found = work_first s h role below queues c.in-Some.key c.loop-key.invariant.0 first work.work in (
-      subst (λ (k : Key). searches.FindsFirst (HasWorkAbove s h role below) (Some k)) (sym work.known.key) found,
+      subst (λ (k : Key). searches.FindsFirstKey (HasWorkAbove s h role below) (Some k)) (sym work.known.key) found,
       subst (λ (k : Key). IsWork s h role k c.in-Some-2.opening) (sym work.known.key) work,
     )
 

@@ -6,7 +6,7 @@ use Rattle.cmc_objects.specs.Roles.{role_rank}
 use Rattle.cmc_objects.proofs.Ranks.{rank_low}
 use Rattle.cmc_model.specs.declared.write.Write.{Write}
 use Rattle.cmc_rules.specs.Viewing.{Caches}
-use Rattle.cmc_caches.specs.Told.{caches_of, nothing_told}
+use Rattle.cmc_caches.specs.Told.{caches_of, empty_caches}
 use Rattle.cmc_caches.specs.Affected.{AreLeft}
 use Rattle.cmc_caches.proofs.Births.{each_of_one_key}
 use Rattle.cmc_caches.proofs.Naming.{stand_under_named}
@@ -17,7 +17,7 @@ row_is : (rows : List Caches) (role : Role) (i : ℕ) (row : Caches) → length 
 unfolding caches_of
 row_is rows role i row eight is at =
     let low : role_rank role < length rows = omega (arith, rank_low role, eight) in
-    get_or_default rows (role_rank role) nothing_told row low ∙ ap (λ (n : ℕ). get_or rows n row) (sym is) ∙ sym at
+    get_or_default rows (role_rank role) empty_caches row low ∙ ap (λ (n : ℕ). get_or rows n row) (sym is) ∙ sym at
 
 left_certificates : (rows : List Caches) (ws : List Write) (role : Role) (row : Caches) → caches_of rows role ≡ row → AreLeft kinds.Certificate ws (caches_of rows role).certificates → AreLeft kinds.Certificate ws row.certificates
 left_certificates rows ws role row same left = subst (λ (x : Caches). AreLeft kinds.Certificate ws x.certificates) same left

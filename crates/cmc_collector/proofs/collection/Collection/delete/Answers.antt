@@ -8,7 +8,7 @@ use Rattle.cmc_objects.specs.declared.call.Call.TheVariants as calls
 use Rattle.cmc_model.specs.Replies.{IsReply}
 use Rattle.cmc_collector.specs.declared.entry.CollectEntry.TheVariants as entries
 use Rattle.cmc_collector.specs.declared.moves.CollectMove.TheVariants.{Examine}
-use Rattle.cmc_collector.specs.Moving.{IsAnswer, IsEntry, with_entry}
+use Rattle.cmc_collector.specs.Moving.{IsStoreReply, IsEntry, with_entry}
 use Rattle.cmc_collector.specs.Playing.{Collecting, on, setting}
 use Rattle.cmc_collector.proofs.Keeping.{delete_entry}
 use Rattle.cmc_collector.proofs.Seeing.{answered, calls_fit, current_row, deleted_at, going_in, grown, room_in, seen}
@@ -41,7 +41,7 @@ returns-clause-ok c =
       entries.Delete c.args.key c.version-version.result c.in_ok-reply.reply,
       subst (λ (n : ℕ). on (IsEntry (Examine c.args.key) (entries.Delete c.args.key n c.in_ok-reply.reply)) c.args.self.now) (sym c.version-version.ensures)
           (delete_entry (setting c.args.self.now) c.args.self.now.moments c.args.key c.args.examination.now c.in_ok-reply.reply c.requires.going c.requires.last
-          (subst (λ (v : Collecting). on (IsAnswer (calls.Delete c.args.key (Some (version_of c.args.examination.now.object))) c.in_ok-reply.reply) v) c.self.view_is
+          (subst (λ (v : Collecting). on (IsStoreReply (calls.Delete c.args.key (Some (version_of c.args.examination.now.object))) c.in_ok-reply.reply) v) c.self.view_is
           (answered c.self.inside.events c.self.inside.server c.self.inside.caches c.self.inside.rows c.self.inside.entries.moments (calls.Delete c.args.key (Some (version_of c.args.examination.now.object))) c.in_ok-reply.reply c.self.invariant at_seen))),
       subst (λ (n : ℤ). seen c.call.new.self c.self.inside.events c.push.new.self.moments ≡ with_entry n (entries.Delete c.args.key c.version-version.result c.in_ok-reply.reply) c.args.self.now) same
           (grown c.self.inside.events c.self.inside.server c.call.new.self c.self.inside.entries.moments c.push.new.self.moments c.args.self.now _ c.in_ok-call.call c.in_ok-reply.reply (entries.Delete c.args.key c.version-version.result c.in_ok-reply.reply) c.in_ok-reply.ensures.after (rw c.in_ok-reserve.ensures.same at c.push.ensures) c.self.view_is),

@@ -1,13 +1,13 @@
 use Rattle.std.proofs.Common.{subst, sym, ◌≡◌, true}
 use Rattle.std.proofs.lemmas.Result.{IfOk-weaker}
 use Rattle.std.specs.Option.{option_copied}
-use Rattle.cmc_collector.specs.Rows.{Rowed, has_row}
+use Rattle.cmc_collector.specs.Rows.{Rowed, has_examine_row}
 use Rattle.cmc_collector.proofs.Reading.{held_covered}
 use Rattle.cmc_collector.proofs.Seeing.{found_due}
 use Rattle.cmc_collector.proofs.collection.Collection.first_due.Goals as goal
 
 pub first_due-requires : goal.first_due-requires
-first_due-requires c = λ k owned. subst (λ (es : Rowed). has_row es k ≡ true) (sym c.map.ensures) (held_covered _ _ _ _ c.self.invariant k owned)
+first_due-requires c = λ k owned. subst (λ (es : Rowed). has_examine_row es k ≡ true) (sym c.map.ensures) (held_covered _ _ _ _ c.self.invariant k owned)
 
 pub returns : goal.returns
 returns c =

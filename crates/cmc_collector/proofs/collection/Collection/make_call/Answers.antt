@@ -2,7 +2,7 @@ use Rattle.std.proofs.Common.{◌≡◌, ℤ, refl, rules, subst, arith}
 use Rattle.std.proofs.lemmas.Int.{to_z-of_z}
 use Rattle.std.specs.Int.{w64}
 use Rattle.cmc_collector.specs.declared.entry.CollectEntry.TheVariants as entries
-use Rattle.cmc_collector.specs.Moving.{IsAnswer, with_entry}
+use Rattle.cmc_collector.specs.Moving.{IsStoreReply, with_entry}
 use Rattle.cmc_collector.specs.Playing.{Collecting, on}
 use Rattle.cmc_collector.proofs.Seeing.{answered, called_seen, calls_fit, grown, room_in, seen}
 use Rattle.cmc_collector.proofs.collection.Collection.make_call.Goals as goal
@@ -24,7 +24,7 @@ returns-clause-ok c =
       entries.User c.args.call c.in_ok-reply.reply,
       (
         c.in_ok-reply.reply,
-        subst (λ (v : Collecting). on (IsAnswer c.args.call c.in_ok-reply.reply) v) c.self.view_is (answered c.self.inside.events c.self.inside.server c.self.inside.caches c.self.inside.rows c.self.inside.entries.moments c.args.call c.in_ok-reply.reply c.self.invariant c.in_ok-reply.ensures.reply),
+        subst (λ (v : Collecting). on (IsStoreReply c.args.call c.in_ok-reply.reply) v) c.self.view_is (answered c.self.inside.events c.self.inside.server c.self.inside.caches c.self.inside.rows c.self.inside.entries.moments c.args.call c.in_ok-reply.reply c.self.invariant c.in_ok-reply.ensures.reply),
         refl,
       ),
       subst (λ (n : ℤ). seen c.call.new.self c.self.inside.events c.push.new.self.moments ≡ with_entry n (entries.User c.args.call c.in_ok-reply.reply) c.args.self.now) same

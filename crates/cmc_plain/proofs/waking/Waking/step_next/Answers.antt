@@ -4,7 +4,7 @@ use Rattle.cmc_pass.specs.declared.pass.Act.{Act}
 use Rattle.cmc_rules.specs.Origins.{begun}
 use Rattle.cmc_moves.specs.Prospects.{IsFirstAct}
 use Rattle.cmc_world.specs.Kept.{on}
-use Rattle.cmc_plain.specs.Keeping.{AreFound}
+use Rattle.cmc_plain.specs.Keeping.{AreCurrent}
 use Rattle.cmc_plain.specs.declared.openings.Opening.{Opening}
 use Rattle.cmc_plain.proofs.KeptOver.{kept_gone, some_only_if, first_only_if}
 use Rattle.cmc_plain.proofs.waking.Waking.step_next.Goals as goal
@@ -18,7 +18,7 @@ invariant_of-self-2 c = (
       (first_only_if (on IsFirstAct c.self.inside.world (on begun c.self.inside.world)) c.is_newest-newest.result c.take_act.result c.only_if-does.result c.only_if-does.ensures
       (subst (λ (a : Option Act). IfSome a (on IsFirstAct c.self.inside.world (on begun c.self.inside.world))) (sym c.take_act.ensures.taken) c.self.invariant.1.act))
       (subst (λ (n : ℕ). (c.forget_gone.new.self.told ≡ 0) ⊎ ((c.is_idle-idle.result ≡ true) × (c.forget_gone.new.self.told ≡ n))) c.take_act.ensures.told c.forget_gone.ensures.told) (c.forget_gone.ensures.act c.take_act.ensures.act) c.forget_gone.ensures.asked
-      (λ s h all. c.forget_gone.ensures.looked s h (subst (λ (l : List Opening). AreFound s h l) (sym c.take_act.ensures.looked) all)),
+      (λ s h all. c.forget_gone.ensures.looked s h (subst (λ (l : List Opening). AreCurrent s h l) (sym c.take_act.ensures.looked) all)),
 )
 
 pub returns-clause-answer : goal.returns-clause-answer

@@ -1,7 +1,7 @@
 use Rattle.std.proofs.Common.{◌≡◌, ◌+◌, List, subst, sym, true}
 use Rattle.cmc_queue.specs.Queues.{fresh_count, has_room, has_room_for, row_of, ChangesRow, KeepsRoom, Work}
 use Rattle.cmc_queue.specs.Rows.{is_fresh}
-use Rattle.cmc_waking.specs.Feeding.{found_held}
+use Rattle.cmc_waking.specs.Feeding.{found_parked}
 use Rattle.cmc_waking.specs.Queues.{queue_in}
 use Rattle.cmc_waking.proofs.Eight.{from_own, put_others, put_own, queue_here}
 use Rattle.cmc_waking.proofs.queues.Queues.found_held.Goals as goal
@@ -13,7 +13,7 @@ pub find_held-requires-clause-place : goal.find_held-requires-clause-place
 find_held-requires-clause-place c = from_own (λ (q : Work). has_room_for q c.args.parked.kind c.args.parked.version c.args.key.now ≡ true) c.self.inside.rows.items c.rank.result c.args.role c.index_mut.result.now (queue_here c.self.inside.rows.items c.rank.result c.args.role c.index_mut.result.now c.self.invariant c.rank.ensures c.index_mut.ensures.value) (subst (λ (qs : List Work). (λ (q : Work). has_room_for q c.args.parked.kind c.args.parked.version c.args.key.now ≡ true) (queue_in qs c.args.role)) (sym c.self.view_is) c.requires.place)
 
 pub returns-clause-rows : goal.returns-clause-rows
-returns-clause-rows c = rw (← c.self.view_is) (put_own (ChangesRow (found_held c.args.parked) c.args.key.now) c.self.inside.rows.items c.rank.result c.args.role c.index_mut.result.now c.find_held.new.queue (queue_here c.self.inside.rows.items c.rank.result c.args.role c.index_mut.result.now c.self.invariant c.rank.ensures c.index_mut.ensures.value) c.find_held.ensures.rows)
+returns-clause-rows c = rw (← c.self.view_is) (put_own (ChangesRow (found_parked c.args.parked) c.args.key.now) c.self.inside.rows.items c.rank.result c.args.role c.index_mut.result.now c.find_held.new.queue (queue_here c.self.inside.rows.items c.rank.result c.args.role c.index_mut.result.now c.self.invariant c.rank.ensures c.index_mut.ensures.value) c.find_held.ensures.rows)
 
 pub returns-clause-others : goal.returns-clause-others
 returns-clause-others c = rw (← c.self.view_is) (put_others c.self.inside.rows.items c.rank.result c.args.role c.index_mut.result.now c.find_held.new.queue (queue_here c.self.inside.rows.items c.rank.result c.args.role c.index_mut.result.now c.self.invariant c.rank.ensures c.index_mut.ensures.value))

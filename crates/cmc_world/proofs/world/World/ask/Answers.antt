@@ -6,7 +6,7 @@ use Rattle.cmc_rules.specs.Legality.{IsOpen}
 use Rattle.cmc_rules.specs.Passes.{open_pass, with_stage}
 use Rattle.cmc_rules.specs.Causes.{MayAsk}
 use Rattle.cmc_held.specs.Open.{pass_at}
-use Rattle.cmc_held.specs.Questioned.{count_at}
+use Rattle.cmc_held.specs.Questioned.{count_under}
 use Rattle.cmc_world.specs.Kept.{Seen, on}
 use Rattle.cmc_world.proofs.Asking.{asks_fit, kept_asked}
 use Rattle.cmc_world.proofs.world.World.ask.Goals as goal
@@ -22,7 +22,7 @@ note-requires-clause-answers c = λ subject.
 pub invariant_of-self-2 : goal.invariant_of-self-2
 invariant_of-self-2 c =
     rw (c.push.ensures.entries, c.in_ok-reserve.ensures.same, c.into_parts-order.ensures.order, c.in_ok-asking.ensures.order)
-    (kept_asked _ _ _ c.args.pass c.args.order (λ n. pass_at c.advance.new.self n) (count_at c.note.new.self.keys) (count_at c.note.new.self.answers) c.self.invariant
+    (kept_asked _ _ _ c.args.pass c.args.order (λ n. pass_at c.advance.new.self n) (count_under c.note.new.self.keys) (count_under c.note.new.self.answers) c.self.invariant
     (subst (λ (v : Seen). IsOpen (on open_pass v c.args.pass)) (sym c.self.view_is) c.requires.stands)
     (subst (λ (v : Seen). on MayAsk v (on open_pass v c.args.pass) c.args.order) (sym c.self.view_is) c.requires.may)
     (subst (λ (v : Seen). length v.history < v.scenario.events) (sym c.self.view_is) c.requires.room)

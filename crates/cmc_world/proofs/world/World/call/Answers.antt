@@ -15,7 +15,7 @@ use Rattle.cmc_held.specs.Remembered.{past_at}
 use Rattle.cmc_held.specs.RoleStates.{role_state_of}
 use Rattle.cmc_world.specs.Going.{IsCalling}
 use Rattle.cmc_world.specs.Kept.{Seen, on}
-use Rattle.cmc_world.specs.Noting.{logged, counted, noted}
+use Rattle.cmc_world.specs.Noting.{logged, own_write_counted, noted}
 use Rattle.cmc_world.proofs.Calls.{kept_call, calls_fit, counts_fit, log_fits}
 use Rattle.cmc_world.proofs.Spare.{kept_spare}
 use Rattle.cmc_world.proofs.world.World.call.Goals as goal
@@ -74,6 +74,6 @@ invariant_of-self-2 c =
     (λ p is. c.stage_of-stage.ensures p is ∙ ap (λ (l : List Write). stage_by p.seen.certificate c.in_ok-calling.calling.stand_in p.stage (c.len-entry.result + 1) c.in_ok-calling.calling.named.kind (last_under c.in_ok-calling.calling.named l) c.in_ok-replied.replied.reply) c.in_ok-reserve-2.ensures.same)
     (ap (λ (n : ℕ). n + 1) (c.accepted-version.ensures ∙ ap (λ (l : List Write). length l) c.in_ok-reserve-2.ensures.same))
     (c.log_write.ensures ∙ ap (λ (l : List Write). logged c.in_ok-replied.replied.key c.in_ok-replied.replied.object l) c.in_ok-reserve-2.ensures.same)
-    (λ r. c.note_write.ensures.counted r ∙ ap (λ (x : Option Kind). counted x (role_eq c.in_ok-calling.calling.role r) (role_state_of c.self.inside.role_states c.in_ok-calling.calling.role) (role_state_of c.self.inside.role_states r)) c.kind_written-written.ensures)
+    (λ r. c.note_write.ensures.counted r ∙ ap (λ (x : Option Kind). own_write_counted x (role_eq c.in_ok-calling.calling.role r) (role_state_of c.self.inside.role_states c.in_ok-calling.calling.role) (role_state_of c.self.inside.role_states r)) c.kind_written-written.ensures)
     c.advance.ensures
     (λ r k. c.note_write.ensures.noted r k ∙ ap (λ (p : Past). noted c.kind_written-written.result (c.accepted-version.result + 1) (role_eq c.in_ok-calling.calling.role r && key_eq c.in_ok-calling.calling.key k) p) (c.in_ok-ready.ensures.same r k) ∙ ap (λ (x : Option Kind). noted x (c.accepted-version.result + 1) (role_eq c.in_ok-calling.calling.role r && key_eq c.in_ok-calling.calling.key k) (past_at c.self.inside.memories r k)) c.kind_written-written.ensures))

@@ -4,7 +4,7 @@ use Rattle.cmc_rules.specs.Safety.{IsSafe}
 use Rattle.cmc_rules.specs.Runs.{IsRun}
 use Rattle.cmc_safety.specs.Acting.{IsNeverInvalid}
 use Rattle.cmc_safety.specs.Completing.{CompletesIssuing}
-use Rattle.cmc_safety.specs.Standing.{IsInOrder}
+use Rattle.cmc_safety.specs.Standing.{KeepsInvariants}
 use Rattle.cmc_safety.proofs.Barred.{never_invalid}
 use Rattle.cmc_safety.proofs.Completing.{completes}
 use Rattle.cmc_safety.proofs.Rights.{keeps_rights}
@@ -39,4 +39,4 @@ returns-clause-complete c =
 pub returns-clause-order : goal.returns-clause-order
 returns-clause-order c =
     let run = c.self.invariant.held.run in
-    subst (λ (v : Seen). on IsInOrder v) c.self.view_is (in_order each_sound _ _ c.self.invariant.held.formed run.legal run.caused run.follows)
+    subst (λ (v : Seen). on KeepsInvariants v) c.self.view_is (in_order each_sound _ _ c.self.invariant.held.formed run.legal run.caused run.follows)

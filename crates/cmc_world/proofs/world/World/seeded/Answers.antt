@@ -6,9 +6,9 @@ use Rattle.cmc_store.specs.Kept.{Kept}
 use Rattle.cmc_model.specs.Histories.{role_eq}
 use Rattle.cmc_caches.specs.Told.{caches_of}
 use Rattle.cmc_held.specs.Open.{pass_at}
-use Rattle.cmc_held.specs.Questioned.{count_at}
+use Rattle.cmc_held.specs.Questioned.{count_under}
 use Rattle.cmc_held.specs.Remembered.{past_at}
-use Rattle.cmc_held.specs.RoleStates.{role_state_of, first_standing}
+use Rattle.cmc_held.specs.RoleStates.{role_state_of, first_role_state}
 use Rattle.cmc_world.proofs.Starting.{kept_new}
 use Rattle.cmc_world.proofs.world.World.seeded.Goals as goal
 
@@ -27,8 +27,8 @@ invariant_of-result c =
       origins = c.new-5.result.origins;
       opened = λ n. pass_at c.new-6.result n;
       past = λ r k. past_at c.in_ok-memories.memories r k;
-      keys_asked = count_at c.new-7.result.keys;
-      answers_asked = count_at c.new-7.result.answers;
+      keys_asked = count_under c.new-7.result.keys;
+      answers_asked = count_under c.new-7.result.answers;
       desk = record { material = c.in_ok-material.material; asked = 0; rules = c.in_ok-rules.rules };
     })
     (ap (λ (k : Kept). k.faults) c.seeded-2.ensures ∙ c.in_ok-faults.ensures ∙ c.faults.ensures)
@@ -36,7 +36,7 @@ invariant_of-result c =
     c.new-3.ensures
     (to_z-of_z w64 c.now-moment.result (search rules) ∙ c.now-moment.ensures)
     refl
-    (λ r. c.in_ok-role_states.ensures r ∙ ap (λ (l : List Role). first_standing (list_any (λ role. role_eq role r) l)) c.roles.ensures)
+    (λ r. c.in_ok-role_states.ensures r ∙ ap (λ (l : List Role). first_role_state (list_any (λ role. role_eq role r) l)) c.roles.ensures)
     c.in_ok-caches.ensures
     c.new-5.ensures
     c.new-6.ensures
