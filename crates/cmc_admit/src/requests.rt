@@ -31,7 +31,7 @@ pub fn is_spec_kept(old: &Object, new: &Object) -> bool
     }
 }
 
-/// The spec is another one than that of the object that stands.
+/// The spec is another one than that of the object that exists.
 pub fn changes_spec(old: Option<&Object>, new: &Object) -> bool
     ensures { result ≡ rules.changes_spec (option_copied old.entry) new.now }
 {

@@ -24,7 +24,7 @@ fn lifetime(seconds: Option<u64>, asked: Option<u64>) -> u64
     }
 }
 
-// Moments of a run, and a day before and a hundred years behind them, lie in the years 1950 to 9999.
+// Moments of a run, and a day before and a hundred years after them, lie in the years 1950 to 9999.
 fn begin(now: i64, before: u64) -> i64
     requires moment { is_run_time now ≡ true }
     requires begins { before ≤ 86400 }

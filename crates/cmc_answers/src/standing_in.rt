@@ -38,10 +38,6 @@ fn plan(alloc: Global, now: i64) -> Result<CertPlan, AllocError>
 /// the SHA-256 of its body, and no issuer has signed it (cert-manager's temporary certificates).
 ///
 /// `None` exactly where the signing request or the key file is not readable.
-///
-/// # Errors
-///
-/// Want of memory alone.
 pub fn temporary(
     alloc: Global,
     request: &[u8],

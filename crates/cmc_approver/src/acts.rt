@@ -56,10 +56,6 @@ fn judge_one(
 /// It asks for a judgement of the request, by the rules of the desk. It does nothing where there is no request, where
 /// Approved or Denied is True already, where the issuer's group, with its default, is not `cert-manager.io`, and where
 /// the rules name neither the issuer nor `*`.
-///
-/// # Errors
-///
-/// Want of memory alone.
 #[tactic(auto, unfolding(cmc_rules::specs::Approving::approver))]
 pub fn act(alloc: Global, views: &Views, now: i64, desk: &Desk) -> Result<Act, AllocError>
     ensures { IfOk result (λ a. a ≡ table.approver views.now desk.now) }

@@ -31,10 +31,6 @@ fn with_verdict(
 }
 
 /// The status update, at the version of the request, with the verdict.
-///
-/// # Errors
-///
-/// Want of memory alone.
 #[tactic(auto, unfolding(cmc_rules::specs::Approving::verdict_call))]
 pub fn judge_call(
     alloc: Global,

@@ -89,10 +89,6 @@ fn followed(
 ///
 /// `order` is the question that the controller asks on these views by some desk, and `value` a right value of it.
 /// A call follows: there is a request, the question is for a judgement, the value is one, and a no has a reason.
-///
-/// # Errors
-///
-/// Want of memory alone.
 pub fn follow(
     alloc: Global,
     views: &Views,
@@ -112,10 +108,6 @@ pub fn follow(
 ///
 /// What is given back answers the question that the controller asks on these views by some desk.
 /// A call follows: there is a request, and a judgement is given back.
-///
-/// # Errors
-///
-/// Want of memory alone.
 pub fn then(alloc: Global, views: &Views, now: i64, given: &Given) -> Result<Call, AllocError>
     requires asked { IsQuestionOf (table.approver views.now) (order_of given.now) }
     requires follows { IsSome (table.judged_after views.now now (order_of given.now) (value_of given.now)) }

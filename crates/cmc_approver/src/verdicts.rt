@@ -79,10 +79,6 @@ fn denied_for(alloc: Global, moment: i64, denial: &Denial) -> Result<Condition, 
 
 /// The condition that says the verdict: Approved on a yes, and on a no Denied, with the reason in words; `None` exactly
 /// where a no has no reason.
-///
-/// # Errors
-///
-/// Want of memory alone.
 pub fn verdict_by(
     alloc: Global,
     moment: i64,

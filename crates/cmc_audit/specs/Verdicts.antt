@@ -29,24 +29,24 @@ pub record FailsFirst (s : Setting) (lines : List PrintedLine) (number : ℕ) (c
   pub clean : AreClean s before
   pub fails : FailsAt s before line clause
 
--- how many Certificates stand, how many of them are Ready, and how many Secrets stand
+-- how many Certificates exist, how many of them are Ready, and how many Secrets exist
 abbrev pub counted : Objects → List ℕ
 counted stored = count_by (λ e. is_certificate e.1) (finite.entries stored) ∷ count_by (λ e. is_ready e.1) (finite.entries stored) ∷ count_by (λ e. is_secret e.1) (finite.entries stored) ∷ []
 
--- nothing fails at any entry, but the counts are not those of what stands
+-- nothing fails at any entry, but the counts are not those of what exists
 pub record MissCount (s : Setting) (lines : List PrintedLine) (counts : List ℕ) (number : ℕ) (clause : Clause) : Type 0 where
   pub numbered : number ≡ length lines + 1
   pub last : clause ≡ Counts
   pub clean : AreClean s lines
   pub miss : (h : List Entry) → IsMeant s lines h → counts ≢ counted (objects s h)
 
--- nothing fails at any of so many entries, and the counts are those of what stands
+-- nothing fails at any of so many entries, and the counts are those of what exists
 pub record IsWholeVerdict (s : Setting) (lines : List PrintedLine) (counts : List ℕ) (entries : ℕ) : Type 0 where
   pub all : entries ≡ length lines
   pub clean : AreClean s lines
   pub right : (h : List Entry) → IsMeant s lines h → counts ≡ counted (objects s h)
 
--- the verdict on the lines, the newest first, with these counts behind them
+-- the verdict on the lines, the newest first, with these counts after them
 abbrev pub IsVerdict : Setting → List PrintedLine → List ℕ → Verdict → Type 0
 IsVerdict s lines counts (Yes entries) = IsWholeVerdict s lines counts entries
 IsVerdict s lines counts (No entry clause) = FailsFirst s lines entry clause ⊎ MissCount s lines counts entry clause

@@ -1,4 +1,4 @@
-//! What stands, counted as a summary counts it.
+//! What exists, counted as a summary counts it.
 ghost use Rattle.std.specs.Prelude.{◌≡◌, ◌&&◌, ◌==◌, ◌↔◌, IsTrue, count_by};
 ghost use Rattle.cmc_meta.specs.ConditionLists.{condition_rank, tri_eq};
 ghost use Rattle.cmc_meta.specs.declared.conditions.ConditionKind.TheVariants.{Ready};
@@ -75,7 +75,7 @@ fn secrets(objects: &Objects) -> u64
         .count() as u64
 }
 
-/// How many Certificates stand, how many of them are Ready, and how many Secrets stand.
+/// How many Certificates exist, how many of them are Ready, and how many Secrets exist.
 fn counted(store: &Store) -> [u64; 3]
     ensures { result ≡ words.counted store.now.state.objects }
 {
@@ -83,7 +83,7 @@ fn counted(store: &Store) -> [u64; 3]
     [certificates(objects), ready(objects), secrets(objects)]
 }
 
-/// Whether the counts are those of what stands.
+/// Whether the counts are those of what exists.
 pub(crate) fn is_counted(store: &Store, counts: [u64; 3]) -> bool
     ensures { IsTrue result ↔ (counts ≡ words.counted store.now.state.objects) }
 {

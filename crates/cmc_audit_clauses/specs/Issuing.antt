@@ -49,7 +49,7 @@ pub record IsIssuers (ws : List Write) (r : CertificateRequest) (written : Secre
   pub issued : IsIssued r
   pub certificate : certificate_file_in written ≡ Some r.status.certificate
 
--- a stand-in certificate
+-- a temporary certificate
 pub record IsTemporaryWrite (c : Certificate) (r : CertificateRequest) (file : List ℕ) (since : ℤ) (written : SecretObject) : Type 0 where
   pub asked_for : asks_for_temporary c ≡ true
   pub not_denied : is_denied r ≡ false

@@ -22,7 +22,7 @@ use Rattle.cmc_audit_state.specs.Heard.{has_yes_on}
 use Rattle.cmc_audit_state.specs.Journaled.{cached, is_denied_uid}
 use Rattle.cmc_audit_clauses.specs.Issuing.{Exists, IsKeptIssue}
 
--- where an object stood and one stands, P holds of them
+-- where an object stood and one exists, P holds of them
 abbrev pub OnBoth : (Object → Object → Type 0) → Option Object → Option Object → Type 0
 OnBoth P None after = Unit {0}
 OnBoth P (Some old) None = Unit {0}

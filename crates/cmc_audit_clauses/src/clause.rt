@@ -11,13 +11,13 @@ pub enum Clause {
     Issue,
     /// A question to an issuer is about the request that the pass saw, approved and never denied.
     Ask,
-    /// A revision rises by one, behind the pass's own Secret.
+    /// A revision rises by one, after the pass's own Secret.
     Raise,
     /// A write of a pass changes what its role may change.
     Rights,
     /// An approval follows a yes on the version that it writes.
     Approval,
-    /// The summary counts what stands.
+    /// The summary counts what exists.
     Counts,
 }
 

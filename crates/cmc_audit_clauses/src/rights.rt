@@ -119,7 +119,7 @@ fn is_labelled(label: bool, object: &Object) -> bool
     }
 }
 
-/// What the role may make of what stands under a key, where both stand.
+/// What the role may make of what exists under a key, where both stand.
 fn may_replace(alloc: Global, role: Role, old: &Object, new: &Object) -> Result<bool, AllocError>
     ensures { IfOk result (λ may. IsTrue may ↔ MayChange role (Some old.now) (Some new.now)) }
 {
@@ -140,7 +140,7 @@ fn may_replace(alloc: Global, role: Role, old: &Object, new: &Object) -> Result<
     }
 }
 
-/// Whether the role may make the object where none stands.
+/// Whether the role may make the object where none exists.
 fn may_make(role: Role, new: &Object) -> bool
     ensures { IsTrue result ↔ MayChange role None (Some new.now) }
 {

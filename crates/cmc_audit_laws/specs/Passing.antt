@@ -18,6 +18,6 @@ NamesItsKey other = Unit {0}
 abbrev pub NameTheirKeys : List Entry → Type 0
 NameTheirKeys h = All NamesItsKey h
 
--- Every verdict on the lines that the history shows, with the right counts behind them, is yes, with their number.
+-- Every verdict on the lines that the history shows, with the right counts after them, is yes, with their number.
 abbrev pub IsAuditedYes : Setting → List Entry → Type 0
 IsAuditedYes s h = (counts : List ℕ) (verdict : Verdict) → counts ≡ counted (objects s h) → IsVerdict s (map line_of_entry h) counts verdict → verdict ≡ Yes (length h)

@@ -59,7 +59,7 @@ pub record IsTypedSummary (summary : Summary) : Type 0 where
   pub ready : IsCount summary.ready
   pub secrets : IsCount summary.secrets
 
--- A run, its summary and the lines that are printed of both, behind the value of the scenario.
+-- A run, its summary and the lines that are printed of both, after the value of the scenario.
 pub record IsRunPrinted (value : Data) (scenario : Setup) (h : List Entry) (summary : Summary) (lines : List (List ℕ)) : Type 0 where
   pub value_is : IsValueOf value scenario
   pub run : IsRun (setting_of scenario) h

@@ -9,7 +9,7 @@ use cmc_setup::Scenario;
 use cmc_world::World;
 
 /// A law: every run is audited yes. Whatever verdict is one on the lines that the history of a run shows, with the right
-/// counts behind them, it is yes, with the number of entries. The call changes nothing.
+/// counts after them, it is yes, with the number of entries. The call changes nothing.
 pub fn each_run_is_audited_yes(scenario: &Scenario, history: &History)
     ensures { IsRun (setting_of scenario.now) history.now.entries → IsAuditedYes (setting_of scenario.now) history.now.entries }
 {

@@ -23,7 +23,7 @@ Starts role at old new =
     (r : Role) → ((standing_of new r).running ≡ (if role_eq role r then true else (standing_of old r).running))
     × ((k : Kind) → position_of k (standing_of new r).told ≡ (if role_eq role r then at else position_of k (standing_of old r).told))
 
--- the role runs no more
+-- the role no longer runs
 abbrev pub Stops : Role → List Standing → List Standing → Type 0
 Stops role old new =
     (r : Role) → ((standing_of new r).running ≡ (if role_eq role r then false else (standing_of old r).running))

@@ -140,7 +140,7 @@ fn add(
     let Some(key) = key else {
         return Ok(());
     };
-    // (this one stands there only until the other is back)
+    // (this one is there only until the other is back)
     let none = Journal::new(alloc, HashSeed::fixed());
     let older = mem::replace(journal, none);
     *journal = older.with(alloc, Write { key, object })?;
@@ -148,7 +148,7 @@ fn add(
 }
 
 impl Ledger {
-    /// Takes in a call that the store has answered so: what it accepted, under which key, and what then stands there. An
+    /// Takes in a call that the store has answered so: what it accepted, under which key, and what then is there. An
     /// error is one of memory, and then what is kept is of no history.
     pub fn take_in(
         &mut self,

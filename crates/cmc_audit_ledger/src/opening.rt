@@ -21,7 +21,7 @@ fn numbers_of(alloc: Global, items: &[u64]) -> Result<Numbers, AllocError>
 }
 
 impl Ledger {
-    /// What is kept before any entry: no object stands, nothing was done, and the scenario's roles run, told of nothing. An
+    /// What is kept before any entry: no object exists, nothing was done, and the scenario's roles run, told of nothing. An
     /// error is one of memory.
     pub fn new(alloc: Global, seed: HashSeed, scenario: &Scenario) -> Result<Ledger, AllocError>
         ensures follows { IfOk result (λ l. IsLedgerOf (setting_of scenario.now) [] l) }

@@ -35,7 +35,7 @@ pub(crate) fn started(standings: &mut Standings, role: Role, at: u64)
     );
 }
 
-/// The role runs no more.
+/// The role no longer runs.
 pub(crate) fn stopped(standings: &mut Standings, role: Role)
     ensures { Stops role standings.old standings.new }
 {

@@ -12,6 +12,6 @@ no_positions = record { certificates = 0; requests = 0; secrets = 0 }
 abbrev pub first_standing : Bool → Standing
 first_standing running = record { running = running; told = no_positions }
 
--- the rows stand in the order of roles
+-- the rows are in the order of roles
 unfoldable pub standing_of : List Standing → Role → Standing
 standing_of rows role = slice_index_or rows (role_rank role) (first_standing false)

@@ -101,7 +101,7 @@ impl Journal {
         written_by(self.items.as_slice(), version)
     }
 
-    /// What stands under the key after all writes.
+    /// What exists under the key after all writes.
     pub fn standing(&self, key: &Key) -> Option<&Object>
         ensures { option_copied result ≡ object_at (spec.contents self.now) key.now }
     {

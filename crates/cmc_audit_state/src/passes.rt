@@ -99,7 +99,7 @@ impl Passes {
         Ok(())
     }
 
-    /// The pass of this number is open no more. It takes no memory.
+    /// The pass of this number is no longer open. It takes no memory.
     #[tactic(auto, unfolding(crate::specs::OpenRows::row_numbered))]
     pub fn close(&mut self, number: u64)
         ensures begun { self.new.begun ≡ self.old.begun }

@@ -16,7 +16,7 @@ use Rattle.cmc_lines.specs.declared.line.PrintedLine.{PrintedLine}
 use Rattle.cmc_lines.specs.Shown.{line_of_entry, shown_reply}
 use Rattle.cmc_audit_calls.specs.Reading.{HasCallNames}
 
--- A reply that shows as the store's does is the store's: what is found is the object that stands there.
+-- A reply that shows as the store's does is the store's: what is found is the object that is there.
 abbrev pub IsStoresReply : Setting → List Entry → Call → Reply → Type 0
 IsStoresReply s h call reply = (right : Reply) → IsReply s.faults (state s h) call right → shown_reply call right ≡ shown_reply call reply → reply ≡ right
 

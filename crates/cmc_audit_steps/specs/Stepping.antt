@@ -38,7 +38,7 @@ abbrev pub FindsClause : Setting → List Entry → Entry → Option Clause → 
 FindsClause s h e None = (clause : Clause) → Holds clause s h e
 FindsClause s h e (Some clause) = ((other : Clause) → rank other < rank clause → Holds other s h e) × (Holds clause s h e → ⊥)
 
--- This clause is the first that fails at the line behind these, whatever history and entry they stand for.
+-- This clause is the first that fails at the line after these, whatever history and entry they stand for.
 abbrev pub FailsAt : Setting → List PrintedLine → PrintedLine → Clause → Type 0
 FailsAt s before line clause = (h : List Entry) (e : Entry) → IsMeant s before h → line_of_entry e ≡ line → IsNamedEntry s h e → FindsClause s h e (Some clause)
 

@@ -52,7 +52,7 @@ IsEachUidOfOneKey objects = (uid : ℕ) (j k : Key) → has_uid uid (object_at o
 
 -- ---- what differs between the objects of a kind before and after
 
--- what stands under a key that is not among these is the same
+-- what exists under a key that is not among these is the same
 abbrev pub AreSameBut : List Key → Objects → Objects → Type 0
 AreSameBut keys m n = (key : Key) → is_among keys key ≡ false → object_at m key ≡ object_at n key
 
@@ -68,7 +68,7 @@ owner_uids_of (Some o) = map (λ owner. owner.uid) (meta_of o).owners
 abbrev pub AddsOwners : Option Object → Option Object → List ℕ → List ℕ → Type 0
 AddsOwners before after old new = (uid : ℕ) → is_uid_among new uid ≡ (is_uid_among old uid || (is_uid_among (owner_uids_of before) uid || is_uid_among (owner_uids_of after) uid))
 
--- what stands under the key is the same, or belongs to the uid in neither
+-- what exists under the key is the same, or belongs to the uid in neither
 abbrev pub IsForeign : ℕ → Objects → Objects → Key → Type 0
 IsForeign uid m n key = (object_at m key ≡ object_at n key) ⊎ ((is_owned_by uid (object_at m key) ≡ false) × (is_owned_by uid (object_at n key) ≡ false))
 

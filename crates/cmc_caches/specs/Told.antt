@@ -13,7 +13,7 @@ use Rattle.cmc_rules.specs.Viewing.{Caches}
 abbrev pub empty_caches : Caches
 empty_caches = record { certificates = no_objects; requests = no_objects; secrets = no_objects }
 
--- the rows stand in the order of roles
+-- the rows are in the order of roles
 unfoldable pub caches_of : List Caches → Role → Caches
 caches_of rows role = slice_index_or rows (role_rank role) empty_caches
 

@@ -45,7 +45,7 @@ impl Model for Caches {
     ghost invariant = { λ c. length c.rows.items ≡ 8 };
 }
 
-/// Puts the row in the place of another. A function of its own for any rows: to let go of what a role was told, maps of
+/// Puts the row in the place of another. A function of its own for any rows: to drop what a role was told, maps of
 /// maps, is nothing that a search for a proof should look into.
 fn put_row<T: Drop>(rows: &mut Vec<T>, place: usize, row: T)
     requires { place < vec_len rows.old }
@@ -55,7 +55,7 @@ fn put_row<T: Drop>(rows: &mut Vec<T>, place: usize, row: T)
 }
 
 impl Caches {
-    /// No role was told of anything. An `Err` is want of memory.
+    /// No role was told of anything.
     pub fn new(alloc: Global) -> Result<Caches, AllocError>
         ensures { IfOk result (λ c. (r : RoleValue) → caches_of c r ≡ empty_caches) }
     {
@@ -86,7 +86,7 @@ impl Caches {
     }
 
     /// Tells the role of the writes of the kind above the one version and up to the other, and no other role
-    /// of anything. An `Err` is want of memory, and leaves all as it was.
+    /// of anything. An `Err` says that memory ran out, and leaves all as it was.
     #[tactic(auto, unfolding(crate::specs::Told::caches_of))]
     pub fn tell(
         &mut self,
@@ -115,7 +115,7 @@ impl Caches {
         put_row(&mut self.rows, role.rank() as usize, caches);
     }
 
-    /// What the role sees of the key. An `Err` is want of memory.
+    /// What the role sees of the key.
     #[tactic(auto, unfolding(crate::specs::Told::caches_of))]
     pub fn views(&self, alloc: Global, role: Role, key: &Key) -> Result<Views, AllocError>
         ensures { IfOk result (λ seen. seen ≡ views_in role (caches_of self.now role) key.now) }
@@ -126,7 +126,7 @@ impl Caches {
     /// The keys of which the role may see something new once it is told of the writes of the kind above the
     /// one version and up to the other: of each other key it sees the same before and after. Each is a key of
     /// the role's work that an accepted write names. It looks at what the role was told of before, and at these
-    /// writes, and may list a key twice. An `Err` is want of memory.
+    /// writes, and may list a key twice.
     ///
     /// A key is found by the uid of its Certificate, and so it is taken for granted that the Certificates are
     /// what some of the writes leave, and that no uid is given under two keys: the uid of an object is the

@@ -81,7 +81,7 @@ impl RoleCaches {
     }
 
     /// What stands of each kind after the first so many of the writes, the oldest of which comes first: what
-    /// a list of each kind gives; keys and uids are hashed by the seed. An `Err` is want of memory.
+    /// a list of each kind gives; keys and uids are hashed by the seed.
     pub fn list(
         alloc: Global,
         seed: HashSeed,
@@ -124,7 +124,7 @@ impl RoleCaches {
         }
     }
 
-    /// What a role that was told of this sees of the key. An `Err` is want of memory.
+    /// What a role that was told of this sees of the key.
     pub fn views(&self, alloc: Global, role: Role, key: &Key) -> Result<Views, AllocError>
         ensures { IfOk result (λ seen. seen ≡ views_in role self.now key.now) }
     {

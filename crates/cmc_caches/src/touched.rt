@@ -84,7 +84,7 @@ fn add_both(
     add_owners(uids, after)
 }
 
-/// Adds the owners of what stood under the key of the write, and of what stands there then, where the key is one of the
+/// Adds the owners of what stood under the key of the write, and of what is there then, where the key is one of the
 /// kind.
 fn add_owners_of_kind(
     objects: &Cache,

@@ -367,7 +367,7 @@ fn views_of(
     })
 }
 
-/// What a role sees of the key among these objects of each kind. An `Err` is want of memory.
+/// What a role sees of the key among these objects of each kind.
 #[tactic(auto, unfolding(cmc_rules::specs::Viewing::views_in))]
 pub(crate) fn views_on(
     alloc: Global,

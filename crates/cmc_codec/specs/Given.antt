@@ -23,7 +23,7 @@ worded_at Any d = text_at d
 worded_at Printable d = printable_at d
 worded_at Address d = address_text_at d
 
--- The texts of a list whose first item stands at place n.
+-- The texts of a list whose first item is at place n.
 abbrev pub list_from : Wording → ℕ → Items → Read (List (List ℕ))
 list_from wording n no_items = Ok []
 list_from wording n (item d ds) = under (decimal n) (worded_at wording d) >>= (λ t. list_from wording (n + 1) ds >>= (λ ts. Ok (t ∷ ts)))
@@ -67,6 +67,6 @@ member_at read name fs = optional_at name fs >>= (λ p. given_at read name p.0 >
 abbrev pub next_member_or : {A : Type 0} → A → (Data → Read A) → List ℕ → List Field → Read (A × List Field)
 next_member_or absent read name fs = optional_at name fs >>= (λ p. given_or absent read name p.0 >>= (λ x. Ok (x, p.1)))
 
--- The same of a member that has to stand.
+-- The same of a member that has to be there.
 abbrev pub needed_at : {A : Type 0} → (Data → Read A) → List ℕ → List Field → Read (A × List Field)
 needed_at read name fs = required_at name fs >>= (λ p. under name (read p.0) >>= (λ x. Ok (x, p.1)))

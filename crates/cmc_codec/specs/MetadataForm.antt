@@ -18,7 +18,7 @@ use Rattle.cmc_codec.specs.declared.metadata_in.Head.{Head}
 
 -- ---- members among others that are dropped
 
--- The member of that name read in this way, where it stands, and the members behind it.
+-- The member of that name read in this way, where it stands, and the members after it.
 abbrev pub sought_member : {A : Type 0} → (Data → Read A) → List ℕ → List Field → Read (Option A × List Field)
 sought_member read name fs = sought_at name fs >>= (λ p. given_at read name p.0 >>= (λ x. Ok (x, p.1)))
 
@@ -66,7 +66,7 @@ abbrev pub with_owner : Option OwnerRef → List OwnerRef → List OwnerRef
 with_owner None owners = owners
 with_owner (Some owner) owners = owner ∷ owners
 
--- The references of a list whose first item stands at place n.
+-- The references of a list whose first item is at place n.
 abbrev pub owners_from : ℕ → Items → Read (List OwnerRef)
 owners_from n no_items = Ok []
 owners_from n (item d ds) = under (decimal n) (owner_at d) >>= (λ owner. owners_from (n + 1) ds >>= (λ owners. Ok (with_owner owner owners)))

@@ -13,7 +13,7 @@ use Rattle.cmc_codec.specs.MetadataForm.{head_at}
 use Rattle.cmc_codec.specs.CertificateForm.{api_at, spec_at, api_request_spec_at}
 use Rattle.cmc_codec.specs.declared.object_in.Applied.{Applied}
 
--- A status is dropped, and nothing comes behind it.
+-- A status is dropped, and nothing comes after it.
 abbrev pub status_last : List Field → Check
 status_last fs = optional_at (codes "status") fs >>= (λ status. passes (codes "status") status.0 >>= (λ _. at_end status.1))
 

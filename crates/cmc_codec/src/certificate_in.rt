@@ -57,7 +57,7 @@ pub struct Target {
     pub usages: Texts,
 }
 
-/// The API version, which has to stand.
+/// The API version, which has to be there.
 pub fn needed_api<'a, 'b>(
     alloc: Global,
     rest: Fields<'a, 'b>,

@@ -166,7 +166,7 @@ pub fn given_flag<'a, 'b>(
     }
 }
 
-/// The seconds of a duration, where the member stands.
+/// The seconds of a duration, where the member is there.
 pub fn given_duration<'a, 'b>(
     alloc: Global,
     rest: Fields<'a, 'b>,
@@ -180,7 +180,7 @@ pub fn given_duration<'a, 'b>(
     }
 }
 
-/// A number below 2^32, where the member stands.
+/// A number below 2^32, where the member is there.
 pub fn given_count<'a, 'b>(
     alloc: Global,
     rest: Fields<'a, 'b>,
@@ -194,7 +194,7 @@ pub fn given_count<'a, 'b>(
     }
 }
 
-/// A text of at most 253 bytes, where the member stands.
+/// A text of at most 253 bytes, where the member is there.
 pub fn given_short_text<'a, 'b>(
     alloc: Global,
     rest: Fields<'a, 'b>,
@@ -208,7 +208,7 @@ pub fn given_short_text<'a, 'b>(
     }
 }
 
-/// What one of two words stands for, where the member stands.
+/// What one of two words stands for, where the member is there.
 pub fn given_choice<'a, 'b, T: Copy + Drop>(
     alloc: Global,
     rest: Fields<'a, 'b>,
@@ -227,7 +227,7 @@ pub fn given_choice<'a, 'b, T: Copy + Drop>(
     }
 }
 
-/// A text of at most 253 bytes, which has to stand.
+/// A text of at most 253 bytes, which has to be there.
 pub fn needed_short_text<'a, 'b>(
     alloc: Global,
     rest: Fields<'a, 'b>,
@@ -239,7 +239,7 @@ pub fn needed_short_text<'a, 'b>(
     Ok((at(alloc, name, short_text(alloc, value, 253))?, rest))
 }
 
-/// The name of an object, which has to stand.
+/// The name of an object, which has to be there.
 pub fn needed_name<'a, 'b>(
     alloc: Global,
     rest: Fields<'a, 'b>,
@@ -251,7 +251,7 @@ pub fn needed_name<'a, 'b>(
     Ok((at(alloc, member, name(alloc, value))?, rest))
 }
 
-/// Bytes in standard base64, which have to stand.
+/// Bytes in standard base64, which have to be there.
 pub fn needed_bytes<'a, 'b>(
     alloc: Global,
     rest: Fields<'a, 'b>,

@@ -23,7 +23,7 @@ pub struct Labelled {
     pub name: Name,
 }
 
-/// The members behind them.
+/// The members after them.
 #[derive(Drop)]
 pub struct Placed {
     pub namespace: Name,
@@ -65,7 +65,7 @@ pub fn found_flag<'a, 'b>(
     }
 }
 
-/// A name among members that are dropped, which has to stand.
+/// A name among members that are dropped, which has to be there.
 pub fn found_name<'a, 'b>(
     alloc: Global,
     rest: Fields<'a, 'b>,

@@ -25,7 +25,7 @@ use Rattle.cmc_collect_form.specs.declared.script.CollectStep.TheVariants.{Apply
 abbrev pub first_collecting : CollectScript → Collecting
 first_collecting script = record { window = script.window; faults = script.faults; events = script.events; moments = [] }
 
--- a user applies the object to what stands: it is created where its key is free, and else updated
+-- a user applies the object to what exists: it is created where its key is free, and else updated
 abbrev pub applying : Object → Option ℕ → Setting → List Moment → CollectMove
 applying object version s ms = moves.User (apply_call object version (object_at (stored_objects s ms) (key_of object)))
 

@@ -1,7 +1,7 @@
 //! Runs scripts of owner collection, and prints what they make.
 //!
 //! The first line is the scenario as it was read, then comes one line for each entry from the oldest on, and last what was
-//! deleted and what stands. A line is compact JSON, with members in byte order.
+//! deleted and what exists. A line is compact JSON, with members in byte order.
 #![tactic(auto)]
 
 mod answering;

@@ -157,7 +157,7 @@ fn write_collect(printer: &mut Printer, deleted: u64, objects: u64) -> Result<()
     printer.end_object()
 }
 
-/// The last line: how many objects the collector deleted, and how many stand.
+/// The last line: how many objects the collector deleted, and how many exist.
 #[tactic(auto, using(crate::proofs::PrintLaws::line_written))]
 pub(crate) fn collect_line(alloc: Global, deleted: u64, objects: u64) -> Result<String, AllocError>
     ensures { IfOk result (λ s. string_bytes s ≡ line_of (collect_tree deleted objects)) }

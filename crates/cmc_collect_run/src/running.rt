@@ -24,7 +24,7 @@ pub enum Ran {
     Spent,
 }
 
-/// The call that applies the object to what stands in the store.
+/// The call that applies the object to what the store has.
 fn call_of_apply(store: &Store, object: &Object, version: Option<u64>) -> Result<Call, AllocError>
     ensures { IfOk result (λ c. c ≡ apply_call object.now version (object_at store.now.state.objects (key_of object.now))) }
 {

@@ -51,7 +51,7 @@ fn push_entries(lines: &mut Lines, alloc: Global, moments: &[Moment]) -> Result<
 }
 
 /// The lines of a collection: the scenario as it was read, one for each entry from the oldest on, and how many objects the
-/// collector deleted and how many stand. Each is compact JSON and a line feed. No number in the scenario may be a float.
+/// collector deleted and how many exist. Each is compact JSON and a line feed. No number in the scenario may be a float.
 #[tactic(auto, unfolding(crate::specs::Printed::collect_lines))]
 pub fn collect_text(
     alloc: Global,

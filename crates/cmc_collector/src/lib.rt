@@ -1,7 +1,7 @@
 //! Owner collection: an object all of whose owners are gone is deleted, by caches that lag.
 //!
 //! A collection makes one move at a time: a call of somebody else, a delivery to its caches, or one step of the
-//! examination of an object. What can fail comes first, so that want of memory leaves all as it was.
+//! examination of an object. What can fail comes first, so that where memory runs out all is as it was.
 #![tactic(auto)]
 
 mod caches;

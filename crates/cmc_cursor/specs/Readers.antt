@@ -61,7 +61,7 @@ count_at d = found (option_and_then as_u64 (as_number d))
 abbrev pub small_count_at : Data → Read ℕ
 small_count_at d = count_at d >>= (λ n. if nat_lt n (2 ^ 32) then Ok n else Err [])
 
--- The texts of a list whose first item stands at place n.
+-- The texts of a list whose first item is at place n.
 abbrev pub texts_from : ℕ → Items → Read (List (List ℕ))
 texts_from n no_items = Ok []
 texts_from n (item d ds) = under (decimal n) (text_at d) >>= (λ t. texts_from (n + 1) ds >>= (λ ts. Ok (t ∷ ts)))
@@ -142,7 +142,7 @@ passes name (Some d) = under name (floats_at d)
 abbrev pub text_member : List ℕ → Data → Option (List ℕ)
 text_member name d = option_and_then as_str (get name d)
 
--- The member of that name, where it stands, and the members behind it. The members before it are dropped: each may
+-- The member of that name, where it stands, and the members after it. The members before it are dropped: each may
 -- hold anything but a float.
 abbrev pub sought_at : List ℕ → List Field → Read (Option Data × List Field)
 sought_at name [] = Ok (None, [])

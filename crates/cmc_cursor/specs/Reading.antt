@@ -41,7 +41,7 @@ abbrev pub ◌>>=◌ : {A B : Type 0} → Read A → (A → Read B) → Read B
 (Ok x) >>= f = f x
 (Err path) >>= f = Err path
 
--- A reading of what stands under a name: it fails below that name.
+-- A reading of what exists under a name: it fails below that name.
 abbrev pub under : {A : Type 0} → List ℕ → Read A → Read A
 under name (Ok x) = Ok x
 under name (Err path) = Err (name ∷ path)
@@ -73,7 +73,7 @@ abbrev pub must_exist : List ℕ → Option Data × List Field → Read (Data ×
 must_exist name (None, fs) = Err (name ∷ [])
 must_exist name (Some d, fs) = Ok (d, fs)
 
--- The same, where the member has to stand: it fails at its name.
+-- The same, where the member has to be there: it fails at its name.
 unfoldable pub required_at : List ℕ → List Field → Read (Data × List Field)
 required_at name fs = optional_at name fs >>= must_exist name
 

@@ -29,7 +29,7 @@ pub fn member<'a>(value: &'a Value, name: &str) -> Option<&'a str>
     value.get(name).and_then(Value::as_str)
 }
 
-/// The member of that name, where it stands, and the members behind it. The members before it are
+/// The member of that name, where it stands, and the members after it. The members before it are
 /// dropped: each may hold anything but a float, and the first that holds one fails there.
 pub fn seek<'a, 'b>(
     alloc: Global,

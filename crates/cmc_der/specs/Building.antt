@@ -14,7 +14,7 @@ length_octets n =
 unfoldable pub value : ℕ → List ℕ → List ℕ
 value tag body = tag ∷ (length_octets (length body) ++ body)
 
--- a begun value: its tag, and the octets that stood before it
+-- a begun value: its tag, and the octets that were before it
 abbrev pub Begun : Type 0
 Begun = ℕ × List ℕ
 
@@ -25,7 +25,7 @@ pub record Building : Type 0 where
   pub octets : List ℕ
   pub len : ℕ
 
--- a value is begun, and what stood there waits before it
+-- a value is begun, and what was there waits before it
 abbrev pub value_begun : ℕ → Building → Building
 value_begun tag b = record { outer = (tag, b.octets) ∷ b.outer; octets = []; len = b.len + 8 }
 
@@ -33,7 +33,7 @@ abbrev pub closed_with : List Begun → List ℕ → ℕ → Building
 closed_with [] body len = record { outer = []; octets = body; len = len }
 closed_with (b ∷ bs) body len = record { outer = bs; octets = b.1 ++ value b.0 body; len = len }
 
--- the innermost begun value ends, and stands behind what stood before it
+-- the innermost begun value ends, and comes after what was before it
 abbrev pub value_closed : Building → Building
 value_closed b = closed_with b.outer b.octets b.len
 
@@ -46,6 +46,6 @@ abbrev pub held_octets : List Begun → ℕ
 held_octets [] = 0
 held_octets (b ∷ bs) = 8 + length b.1 + held_octets bs
 
--- the last of the levels ends, and stands behind what stood before it
+-- the last of the levels ends, and comes after what was before it
 abbrev pub Closes : List Begun → List Begun → List ℕ → List ℕ → Type 0
 Closes levels after body octets = (b : Begun) × (levels ≡ after ++ b ∷ []) × (octets ≡ b.1 ++ value b.0 body)

@@ -26,17 +26,17 @@ abbrev pub number_at : ℕ → ℕ → List ℕ → Result (ℕ × List ℕ) Der
 number_at zero n bs = Ok (n, bs)
 number_at (suc k) n bs = more_at n bs >>= (λ x. number_at k x.0 x.1)
 
--- a length in the long form, behind its count of octets
+-- a length in the long form, after its count of octets
 abbrev pub long_at : ℕ → List ℕ → Result (ℕ × List ℕ) DerFault
 long_at count [] = Err Cut
 long_at count (b ∷ bs) = cond ((b == 0) || ((count == 1) && nat_lt b 128)) (Err (NotDer 2)) (number_at (count - 1) b bs)
 
--- a length, behind the identifier octet
+-- a length, after the identifier octet
 abbrev pub length_at : List ℕ → Result (ℕ × List ℕ) DerFault
 length_at [] = Err Cut
 length_at (n ∷ bs) = cond (nat_lt n 128) (Ok (n, bs)) (cond ((n == 128) || nat_lt 132 n) (Err (NotDer 1)) (long_at (n - 128) bs))
 
--- a value without where it lies in memory: its tag, its body, and the octets behind it
+-- a value without where it lies in memory: its tag, its body, and the octets after it
 abbrev pub Found : Type 0
 Found = ℕ × List ℕ × List ℕ
 

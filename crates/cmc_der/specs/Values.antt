@@ -1,7 +1,7 @@
 -- What a value is, in the Distinguished Encoding Rules (ITU-T X.690).
 use Rattle.std.specs.Prelude.{◌≡◌, ℕ, ◌+◌, ◌*◌, ◌%◌, ◌<◌, ◌≤◌, ◌≢◌, List, [], ◌∷◌, ◌++◌, length, take}
 
--- the number that these octets spell behind that number, the highest octet first
+-- the number that these octets spell after that number, the highest octet first
 abbrev pub number_after : ℕ → List ℕ → ℕ
 number_after n [] = n
 number_after n (b ∷ bs) = number_after (n * 256 + b) bs
@@ -22,7 +22,7 @@ pub record IsDerValue (whole : List ℕ) (tag : ℕ) (body : List ℕ) : Type 0 
   pub length_is : IsLength lead (length body)
   pub spelled : whole ≡ tag ∷ (lead ++ body)
 
--- the octets begin with this value, and the rest stands behind it
+-- the octets begin with this value, and the rest comes after it
 abbrev pub BeginsWith : List ℕ → ℕ → List ℕ → List ℕ → Type 0
 BeginsWith octets tag body rest = (whole : List ℕ) × IsDerValue whole tag body × (octets ≡ whole ++ rest)
 

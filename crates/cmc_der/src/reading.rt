@@ -34,7 +34,7 @@ fn more(number: usize, rest: &[u8]) -> Result<(usize, &[u8]), DerFault>
     }
 }
 
-/// The number of a length in the long form, behind the octet that counts its octets.
+/// The number of a length in the long form, after the octet that counts its octets.
 fn long(count: u8, rest: &[u8]) -> Result<(usize, &[u8]), DerFault>
     requires { (0 < count) × (count < 5) }
     ensures { Gives (λ x. (x.0, x.1.now)) result (long_at count rest.now) }
@@ -64,7 +64,7 @@ fn long(count: u8, rest: &[u8]) -> Result<(usize, &[u8]), DerFault>
     }
 }
 
-/// The length at the front, behind the identifier octet.
+/// The length at the front, after the identifier octet.
 fn length_of(rest: &[u8]) -> Result<(usize, &[u8]), DerFault>
     ensures { Gives (λ x. (x.0, x.1.now)) result (length_at rest.now) }
 {
@@ -82,7 +82,7 @@ fn length_of(rest: &[u8]) -> Result<(usize, &[u8]), DerFault>
     }
 }
 
-/// The value at the front, and the octets behind it.
+/// The value at the front, and the octets after it.
 #[tactic(auto, unfolding(crate::specs::Reading::read_at))]
 fn read<'a>(input: &'a [u8]) -> Result<(Tlv<'a>, &'a [u8]), DerFault>
     ensures { Gives tlv_shown result (read_at input.now) }
@@ -103,7 +103,7 @@ fn read<'a>(input: &'a [u8]) -> Result<(Tlv<'a>, &'a [u8]), DerFault>
     }
 }
 
-/// Reads the value at the front of the input, and answers it with the octets behind it.
+/// Reads the value at the front of the input, and answers it with the octets after it.
 ///
 /// A value is one identifier octet with a low tag number (X.690, 8.1.2.3), a definite length in the
 /// shortest form (8.1.3 and 10.1) of at most four octets after the first, and as many contents

@@ -74,7 +74,7 @@ fn put_signed(out: &mut Vec<u8>, octets: &[u8]) -> Result<(), AllocError>
     }
 }
 
-/// Writes a value with this tag behind the octets: its contents octets are those of `front` and of `back` behind
+/// Writes a value with this tag after the octets: its contents octets are those of `front` and of `back` behind
 /// them. The octets grow at most once.
 ///
 /// # Errors
@@ -89,7 +89,7 @@ pub fn put_value(octets: &mut Vec<u8>, tag: u8, front: &[u8], back: &[u8]) -> Re
     put(octets, tag, front, back)
 }
 
-/// Writes an INTEGER behind the octets (X.690, 8.3): the number without a sign that `bytes` spell, the highest
+/// Writes an INTEGER after the octets (X.690, 8.3): the number without a sign that `bytes` spell, the highest
 /// first, in the fewest octets. No bytes spell 0.
 ///
 /// # Errors
@@ -103,7 +103,7 @@ pub fn put_integer(octets: &mut Vec<u8>, bytes: &[u8]) -> Result<(), AllocError>
     put_signed(octets, without_zeros(bytes))
 }
 
-/// A begun value: its tag, and the octets that stood before it.
+/// A begun value: its tag, and the octets that were before it.
 #[derive(Drop)]
 struct Level {
     tag: u8,
@@ -117,7 +117,7 @@ impl Model for Level {
 }
 
 impl Level {
-    /// Writes the value that ends behind the octets before it.
+    /// Writes the value that ends after the octets before it.
     fn put_after(&mut self, body: &[u8]) -> Result<(), AllocError>
         requires { length body.now < 2 ^ 32 }
         ensures ok { OnOk result (self.new ≡ (self.old.0, self.old.1 ++ value self.old.0 body.now)) }
@@ -320,7 +320,7 @@ impl Writer {
     }
 }
 
-/// A law: the octets of a value are read again as that value, whatever stands behind them.
+/// A law: the octets of a value are read again as that value, whatever comes after them.
 pub fn written_is_read()
     ensures { (tag : ℕ) (body rest : List ℕ) → tag % 32 ≢ 31 → length body < 2 ^ 32 →
         BeginsWith (value tag body ++ rest) tag body rest }

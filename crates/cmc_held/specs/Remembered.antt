@@ -25,7 +25,7 @@ memory_at kept key = past_or_new (lookup (key_eq key) kept)
 unfoldable pub is_noted : PastRows → Key → Bool
 is_noted kept key = is_some (lookup (key_eq key) kept)
 
--- the rows stand in the order of roles
+-- the rows are in the order of roles
 unfoldable pub past_at : List PastRows → Role → Key → Past
 past_at rows role key = memory_at (slice_index_or rows (role_rank role) []) key
 

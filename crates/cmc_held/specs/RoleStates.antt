@@ -18,7 +18,7 @@ no_flags = record { certificates = false; requests = false; secrets = false }
 abbrev pub first_role_state : Bool → RoleState
 first_role_state running = record { running = running; incarnation = if running then 1 else 0; told = no_positions; held = no_flags; written = no_positions }
 
--- the rows stand in the order of roles
+-- the rows are in the order of roles
 unfoldable pub role_state_of : List RoleState → Role → RoleState
 role_state_of rows role = slice_index_or rows (role_rank role) (first_role_state false)
 

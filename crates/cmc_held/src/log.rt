@@ -60,7 +60,7 @@ impl Log {
         }
     }
 
-    /// Makes room for so many more writes, and changes nothing else; room that stands is kept. An `Err` is want of memory.
+    /// Makes room for so many more writes, and changes nothing else; room that exists is kept.
     pub fn reserve(&mut self, more: u64) -> Result<(), AllocError>
         ensures room { OnOk result (more ≤ self.new.spare) }
         ensures kept { self.old.spare ≤ self.new.spare }

@@ -39,7 +39,7 @@ impl Origins {
         }
     }
 
-    /// Makes room for so many more origins, and changes nothing else; room that stands is kept. An error is one of memory.
+    /// Makes room for so many more origins, and changes nothing else; room that exists is kept. An error is one of memory.
     pub fn reserve(&mut self, more: u64) -> Result<(), AllocError>
         ensures room { OnOk result (more ≤ self.new.spare) }
         ensures kept { self.old.spare ≤ self.new.spare }

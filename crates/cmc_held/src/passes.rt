@@ -83,7 +83,7 @@ impl Passes {
         }
     }
 
-    /// The pass of this number is open no more. It takes no memory.
+    /// The pass of this number is no longer open. It takes no memory.
     #[tactic(auto, unfolding(crate::specs::Open::pass_at))]
     pub fn close(&mut self, number: u64)
         ensures { (n : ℕ) → pass_at self.new n ≡ (if n == number then None else pass_at self.old n) }

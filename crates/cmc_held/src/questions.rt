@@ -205,10 +205,6 @@ impl Questions {
 
     /// How many questions the role asked before for the Certificate's name, by what it sees: key manager and issuer
     /// number their questions, the others have none with a number.
-    ///
-    /// # Errors
-    ///
-    /// Want of memory alone.
     pub fn asked_for(&self, role: Role, seen: &Views) -> Result<u64, AllocError>
         ensures { IfOk result (λ n. n ≡ spec.asked_for self.now role seen.now) }
     {
@@ -223,7 +219,7 @@ impl Questions {
     ///
     /// # Errors
     ///
-    /// Want of memory alone, which leaves all counts as they were.
+    /// Where memory runs out, all counts are as they were.
     pub fn note(&mut self, order: &Order) -> Result<(), AllocError>
         requires keys { (s : SubjectValue) → spec.count_under self.old.keys s < 2 ^ 64 - 1 }
         requires answers { (s : SubjectValue) → spec.count_under self.old.answers s < 2 ^ 64 - 1 }

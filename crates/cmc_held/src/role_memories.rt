@@ -160,7 +160,7 @@ impl RoleMemories {
     }
 
     /// Makes room for what the role will remember of the key, and changes nothing of what it
-    /// remembers; room that stands is kept. An error is one of memory.
+    /// remembers; room that exists is kept. An error is one of memory.
     pub fn ready(&mut self, role: Role, key: &Key) -> Result<(), AllocError>
         ensures room { OnOk result (has_past_row self.new role key.now ≡ true) }
         ensures same { (r : RoleValue) → (k : KeyValue) → past_at self.new r k ≡ past_at self.old r k }

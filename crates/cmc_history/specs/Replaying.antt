@@ -1,4 +1,4 @@
--- What stands under one key as the entries of a run are read in order of time, up to a number of accepted writes.
+-- What exists under one key as the entries of a run are read in order of time, up to a number of accepted writes.
 use Rattle.std.specs.Prelude.{ℕ, ℤ, ◌+◌, nat_lt, Bool, false, List, [], ◌∷◌, Option, Some, None, if◌then◌else◌}
 use Rattle.cmc_meta.specs.declared.key.Key.{Key}
 use Rattle.cmc_meta.specs.Keys.{key_eq}

@@ -43,7 +43,7 @@ impl History {
         }
     }
 
-    /// Makes room for so many more entries, and changes nothing else; room that stands is kept.
+    /// Makes room for so many more entries, and changes nothing else; room that exists is kept.
     pub fn reserve(&mut self, more: u64) -> Result<(), AllocError>
         ensures room { OnOk result (more ≤ self.new.spare) }
         ensures kept { self.old.spare ≤ self.new.spare }
@@ -99,7 +99,7 @@ impl History {
         count_written(self.as_slice())
     }
 
-    /// The object under the key after the first `position` accepted writes; `None` where none stands there.
+    /// The object under the key after the first `position` accepted writes; `None` where none is there.
     /// The run began at the moment `now`, in seconds since 1970-01-01T00:00:00Z: what a create stores depends on it.
     /// `Err` where there is no memory.
     pub fn at_version(

@@ -1,4 +1,4 @@
-// What stands under one key as the entries of a run are read in order of time.
+// What exists under one key as the entries of a run are read in order of time.
 ghost use Rattle.std.specs.Prelude.{◌≡◌, reverse, IfOk, count_by};
 ghost use Rattle.cmc_meta.specs.Keys.{key_eq};
 ghost use Rattle.cmc_objects.specs.Objects.{key_of};

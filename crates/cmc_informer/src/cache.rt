@@ -67,7 +67,7 @@ impl Cache {
         self.rows.slots.seed()
     }
 
-    /// The object under the key; `None` exactly where none stands.
+    /// The object under the key; `None` exactly where none exists.
     pub fn get(&self, key: &Key) -> Option<&Object>
         ensures { option_copied result ≡ object_at self.now key.now }
     {
@@ -84,7 +84,7 @@ impl Cache {
     }
 
     /// The keys, in order, of the Certificates of the namespace whose `secretName` is this name; none where
-    /// the objects are of another kind. An `Err` is want of memory.
+    /// the objects are of another kind.
     pub fn by_secret(
         &self,
         alloc: Global,
@@ -109,7 +109,7 @@ impl Cache {
         self.rows.uids.first(uid)
     }
 
-    /// Puts the object under the key, in place of an older one. An `Err` is want of memory, and leaves all
+    /// Puts the object under the key, in place of an older one. An `Err` says that memory ran out, and leaves all
     /// as it was.
     pub fn put(&mut self, alloc: Global, key: &Key, object: Object) -> Result<(), AllocError>
         ensures ok { OnOk result (self.new ≡ with_object self.old key.now object) }
@@ -122,7 +122,7 @@ impl Cache {
     }
 
     /// Applies the writes of the kind above the one version and up to the other: the objects that the first
-    /// `from` writes leave become those that the first `to` writes leave. An `Err` is want of memory, and
+    /// `from` writes leave become those that the first `to` writes leave. An `Err` says that memory ran out, and
     /// leaves all as it was.
     pub fn apply(
         &mut self,

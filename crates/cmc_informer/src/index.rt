@@ -35,7 +35,7 @@ impl Model for Index {
 }
 
 impl Index {
-    /// No key stands, and uids are hashed by the seed. It takes no memory.
+    /// No key exists, and uids are hashed by the seed. It takes no memory.
     #[tactic(auto, unfolding(crate::specs::Indexes::is_key_under))]
     pub(crate) fn new(alloc: Global, seed: HashSeed) -> Index
         ensures { (u : ℕ) → (k : KeyValue) → is_key_under result u k ≡ false }

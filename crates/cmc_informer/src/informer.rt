@@ -100,7 +100,7 @@ impl Informer {
         self.position
     }
 
-    /// The object under the key; `None` exactly where none stands.
+    /// The object under the key; `None` exactly where none exists.
     pub fn get(&self, key: &Key) -> Option<&Object>
         ensures { option_copied result ≡ object_at self.now.objects key.now }
     {
@@ -116,7 +116,7 @@ impl Informer {
     }
 
     /// The keys, in order, of the Certificates of the namespace whose `secretName` is this name; none where
-    /// the informer is of another kind. An `Err` is want of memory.
+    /// the informer is of another kind.
     pub fn by_secret(
         &self,
         alloc: Global,
@@ -139,7 +139,7 @@ impl Informer {
     ///
     /// # Errors
     ///
-    /// `Gone` exactly where the position is below the start of the window, `NoMemory` for want of memory;
+    /// `Gone` exactly where the position is below the start of the window, `NoMemory` where memory runs out;
     /// either leaves all as it was.
     pub fn deliver(&mut self, alloc: Global, watch: &Watch, to: u64) -> Result<(), Undelivered>
         requires above { self.old.position < to }

@@ -1,7 +1,7 @@
 //! Informers: what a controller knows of one kind of objects, told by a watch over the accepted writes.
 //!
 //! A `Cache` keeps objects with indexes to them. What can fail comes first: rooms and copies are made
-//! before anything changes, so that want of memory leaves all as it was.
+//! before anything changes, so that where memory runs out all is as it was.
 #![tactic(auto)]
 
 mod alike;

@@ -50,7 +50,7 @@ impl MarkMap {
         Ok(())
     }
 
-    /// The key counts, or counts no more, and its room is kept. It takes no memory.
+    /// The key counts, or no longer counts, and its room is kept. It takes no memory.
     #[tactic(auto, unfolding(crate::specs::Indexes::mark_in, crate::specs::Indexes::has_place))]
     pub(crate) fn set(&mut self, key: &Key, on: bool)
         requires { on ≡ true → has_place self.old key.now ≡ true }

@@ -125,7 +125,7 @@ impl Held {
         }
     }
 
-    /// The key counts, or counts no more, and its room is kept. It takes no memory.
+    /// The key counts, or no longer counts, and its room is kept. It takes no memory.
     fn set(&mut self, key: &Key, on: bool)
         requires { on ≡ true → has_place (marked self.old) key.now ≡ true }
         ensures marks { (k : KeyValue) → mark_in (marked self.new) k ≡ (if key_eq key.now k then on else mark_in (marked self.old) k) }
@@ -178,7 +178,7 @@ impl Marks {
         Ok(())
     }
 
-    /// The key counts no more, and its room is kept. It takes no memory.
+    /// The key no longer counts, and its room is kept. It takes no memory.
     pub(crate) fn clear(&mut self, key: &Key)
         ensures marks { (k : KeyValue) → mark_in self.new k ≡ (if key_eq key.now k then false else mark_in self.old k) }
         ensures keeps { (k : KeyValue) → has_place self.old k ≡ true → has_place self.new k ≡ true }

@@ -46,7 +46,7 @@ pub(crate) fn no_rows(alloc: Global, seed: HashSeed) -> Rows
 }
 
 /// Makes room for the object under the key, or for taking one away, and changes nothing else. Where it is
-/// found as the one that stands there, there is room. An error is one of memory.
+/// found as the one that is there, there is room. An error is one of memory.
 pub(crate) fn make_room(
     alloc: Global,
     rows: &mut Rows,
@@ -68,7 +68,7 @@ pub(crate) fn make_room(
     Ok(())
 }
 
-/// Puts the object under the key, or takes away the one that stands there, and the indexes go along. It takes
+/// Puts the object under the key, or takes away the one that is there, and the indexes go along. It takes
 /// no memory.
 pub(crate) fn change(rows: &mut Rows, key: &Key, object: Option<Object>)
     requires room { HasRoom rows.old key.now object }

@@ -20,7 +20,7 @@ use std::alloc::{AllocError, Global};
 use std::collections::HashMap;
 use std::marker::Model;
 
-/// A slot for each key that an object stands under, or stood under, or is to stand under. A slot that
+/// A slot for each key that an object exists under, or stood under, or is to stand under. A slot that
 /// is emptied stays, so that it can be filled again without memory. A slot is only ever looked for under
 /// its own key, and nobody asks for an order of slots: so they are hashed, and not sorted.
 #[derive(Drop)]
@@ -53,7 +53,7 @@ impl Slots {
         *self.map.hasher()
     }
 
-    /// The object under the key; `None` exactly where none stands.
+    /// The object under the key; `None` exactly where none exists.
     #[tactic(auto, unfolding(crate::specs::Caches::slot_at))]
     pub(crate) fn get(&self, key: &Key) -> Option<&Object>
         ensures { option_copied result ≡ slot_at self.now key.now }
@@ -64,7 +64,7 @@ impl Slots {
         }
     }
 
-    /// Makes a slot for the key where there is none, and changes nothing else; whether an object stands there already
+    /// Makes a slot for the key where there is none, and changes nothing else; whether an object is there already
     /// that each index finds as it would find the new one. An error is one of memory.
     #[tactic(auto, unfolding(crate::specs::Caches::slot_at, crate::specs::Caches::has_slot))]
     pub(crate) fn room(&mut self, key: &Key, new: &Option<Object>) -> Result<bool, AllocError>

@@ -47,7 +47,7 @@ impl Watch {
         }
     }
 
-    /// Makes room for so many more writes, and changes nothing else; room that stands is kept. An `Err` is
+    /// Makes room for so many more writes, and changes nothing else; room that exists is kept. An `Err` is
     /// want of memory.
     pub fn reserve(&mut self, more: u64) -> Result<(), AllocError>
         ensures room { OnOk result (more ≤ self.new.spare) }
@@ -58,7 +58,7 @@ impl Watch {
         self.items.reserve(more as usize)
     }
 
-    /// Adds an accepted write as the newest: what stands under the key from its version on, `None` where it
+    /// Adds an accepted write as the newest: what exists under the key from its version on, `None` where it
     /// took the object away. It takes no memory.
     pub fn push(&mut self, version: u64, key: Key, object: Option<Object>)
         requires room { 0 < self.old.spare }
@@ -93,7 +93,6 @@ impl Watch {
     }
 
     /// The keys of the kind, in order and each once, that accepted writes above `from` and up to `to` named.
-    /// An `Err` is want of memory.
     pub fn changed(&self, alloc: Global, kind: Kind, from: u64, to: u64) -> Result<Keys, AllocError>
         ensures { IfOk result (λ keys. AreKeys keys (λ k. is_changed kind from to self.now.writes k)) }
     {
@@ -108,7 +107,7 @@ impl Watch {
     }
 
     /// The objects of the kind that the first `at` writes leave, as a list request at that resource version
-    /// gives them. An `Err` is want of memory.
+    /// gives them.
     pub fn list(&self, alloc: Global, kind: Kind, at: u64) -> Result<Cache, AllocError>
         requires { at ≤ length self.now.writes }
         ensures { IfOk result (λ objects. objects ≡ spec.contents (spec.of_kind kind (spec.oldest at self.now.writes))) }

@@ -125,10 +125,6 @@ fn grant_one(
 ///
 /// The moment is one of a run, fewer than 2 ^ 63 questions were asked, and the request and the answer that is set out
 /// for it are of the forms that reading gives.
-///
-/// # Errors
-///
-/// Want of memory alone.
 #[tactic(auto, unfolding(cmc_rules::specs::Granting::issuer))]
 pub fn act(alloc: Global, views: &Views, now: i64, desk: &Desk) -> Result<Act, AllocError>
     requires in_run { is_run_time now ≡ true }

@@ -111,10 +111,6 @@ fn failed(
 /// pending sets Ready to False with reason Pending, at this moment also where it was so before. A failure sets Ready to
 /// False with reason Failed and the message, and the moment of the failure. Nothing else changes (cert-manager.io/v1
 /// `CertificateRequestStatus`).
-///
-/// # Errors
-///
-/// Want of memory alone.
 pub fn status_of(
     alloc: Global,
     request: &CertificateRequest,

@@ -7,10 +7,6 @@ use cmc_objects::{Call, CertificateRequest, Object, RequestStatus, Shared};
 use std::alloc::{AllocError, Global};
 
 /// The status update, at the version of the request, with this status.
-///
-/// # Errors
-///
-/// Want of memory alone.
 #[tactic(auto, unfolding(cmc_rules::specs::Granting::status_call))]
 pub fn status_call(
     alloc: Global,
@@ -62,10 +58,6 @@ fn denied_status(
 }
 
 /// The status update, at the version of the request, that marks it as denied at this moment.
-///
-/// # Errors
-///
-/// Want of memory alone.
 pub fn deny_call(
     alloc: Global,
     request: &CertificateRequest,

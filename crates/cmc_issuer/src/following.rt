@@ -80,10 +80,6 @@ fn followed(
 ///
 /// `order` is the question that the controller asks on these views by some desk, and `value` a right value of it.
 /// A call follows: there is a request, the question is one to an issuer, and the value its answer.
-///
-/// # Errors
-///
-/// Want of memory alone.
 pub fn follow(
     alloc: Global,
     views: &Views,
@@ -103,10 +99,6 @@ pub fn follow(
 ///
 /// What is given back answers the question that the controller asks on these views by some desk.
 /// A call follows: there is a request, and the answer of an issuer is given back.
-///
-/// # Errors
-///
-/// Want of memory alone.
 pub fn then(alloc: Global, views: &Views, now: i64, given: &Given) -> Result<Call, AllocError>
     requires asked { IsQuestionOf (table.issuer views.now now) (order_of given.now) }
     requires follows { IsSome (table.answered_after views.now now (order_of given.now) (value_of given.now)) }

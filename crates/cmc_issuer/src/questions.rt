@@ -29,12 +29,8 @@ fn sign_order(
     Ok(SignOrder::new(desk.asked + 1, request, now, row))
 }
 
-/// The question about this request to its issuer: the one behind those that were asked for its Certificate, with the
+/// The question about this request to its issuer: the one after those that were asked for its Certificate, with the
 /// answer that is set out for it.
-///
-/// # Errors
-///
-/// Want of memory alone.
 #[tactic(auto, unfolding(cmc_rules::specs::Granting::ask_issuer))]
 pub fn ask_issuer(
     alloc: Global,

@@ -87,10 +87,6 @@ fn row_in(alloc: Global, rows: &[SignRow], asked: u64) -> Result<SignRow, AllocE
 
 /// The answer that is set out for the question about the request before which that many were asked for its Certificate:
 /// the one in that place, counted from 0, past the end the last one, and where there is none a certificate of the request alone.
-///
-/// # Errors
-///
-/// Want of memory alone.
 #[tactic(auto, unfolding(cmc_rules::specs::Orders::reply_row))]
 pub fn reply_row(
     alloc: Global,

@@ -10,7 +10,7 @@ secret_call_of (Issue plan) = Some plan.secret
 secret_call_of (Temporary plan) = Some plan.secret
 secret_call_of other = None
 
--- and that of the status behind it
+-- and that of the status after it
 abbrev pub status_call_of : Act → Option Call
 status_call_of (Issue plan) = Some plan.status
 status_call_of other = None

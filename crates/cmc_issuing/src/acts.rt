@@ -253,10 +253,6 @@ fn choose<'a>(
 /// stands in. A Secret that holds a next key itself is never written.
 ///
 /// `now` is the moment of the pass, in seconds since 1970-01-01T00:00:00Z. The desk is not looked at.
-///
-/// # Errors
-///
-/// Want of memory alone.
 #[tactic(auto, unfolding(cmc_rules::specs::Issuing::issuing))]
 pub fn act(alloc: Global, views: &Views, now: i64, _desk: &Desk) -> Result<Act, AllocError>
     requires time { is_run_time now ≡ true }
@@ -272,10 +268,6 @@ pub fn act(alloc: Global, views: &Views, now: i64, _desk: &Desk) -> Result<Act, 
 
 /// Whether the controller has nothing to do on these views at the moment `now`: whether its act is none. It builds
 /// nothing of the act but a certificate that stands in.
-///
-/// # Errors
-///
-/// Want of memory alone.
 #[tactic(auto, unfolding(cmc_rules::specs::Issuing::issuing))]
 pub fn is_idle(alloc: Global, views: &Views, now: i64) -> Result<bool, AllocError>
     requires time { is_run_time now ≡ true }

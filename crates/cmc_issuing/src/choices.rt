@@ -43,10 +43,6 @@ pub fn is_nothing(choice: &Choice<'_>) -> bool
 }
 
 /// The act of the choice for this Certificate, whose Secret stands so.
-///
-/// # Errors
-///
-/// Want of memory alone.
 pub fn build(
     alloc: Global,
     moment: i64,

@@ -1,4 +1,4 @@
-//! What the controller looks at: the answer of the issuer, and the Secret that stands.
+//! What the controller looks at: the answer of the issuer, and the Secret that exists.
 ghost use Rattle.std.specs.Option.{option_copied};
 ghost use Rattle.std.specs.Prelude.{◌≡◌, option_map};
 ghost use Rattle.cmc_der.specs.Keys.{key_shown};

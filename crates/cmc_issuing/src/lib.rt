@@ -1,5 +1,5 @@
 //! The issuing controller of cert-manager: it ends the issuance of a Certificate, with the Secret and a new revision,
-//! with a failure, or for a while with a stand-in certificate.
+//! with a failure, or for a while with a temporary certificate.
 #![tactic(auto)]
 
 mod acts;

@@ -1,4 +1,4 @@
-//! The plans of the controller: calls in order, behind the live read of the Certificate.
+//! The plans of the controller: calls in order, after the live read of the Certificate.
 ghost use Rattle.std.specs.Prelude.{◌≡◌, [], IfOk, Some, false, true};
 ghost use Rattle.cmc_objects.specs.declared.object.Object.TheVariants.{Cert};
 ghost use Rattle.cmc_objects.specs.Objects as objects;

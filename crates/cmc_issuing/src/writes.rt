@@ -87,10 +87,6 @@ fn secret_by(
 /// looks at nothing again but whether the request is granted: this tells an issuance from a certificate that stands in.
 ///
 /// The act is a plan. `now` is the moment of the pass, in seconds since 1970-01-01T00:00:00Z.
-///
-/// # Errors
-///
-/// Want of memory alone.
 pub fn secret_of(alloc: Global, views: &Views, now: i64) -> Result<Call, AllocError>
     requires time { is_run_time now ≡ true }
     requires plan { IsSome (calls.secret_call_of (table.issuing views.now now)) }
@@ -115,10 +111,6 @@ pub fn secret_of(alloc: Global, views: &Views, now: i64) -> Result<Call, AllocEr
 ///
 /// The act is the plan of an issuance, and the revision that stands is below 2^63. `now` is the moment of the pass, in
 /// seconds since 1970-01-01T00:00:00Z.
-///
-/// # Errors
-///
-/// Want of memory alone.
 pub fn status_of(alloc: Global, views: &Views, now: i64) -> Result<Call, AllocError>
     requires revision { HasNextRevision views.now.certificate }
     requires plan { IsSome (calls.status_call_of (table.issuing views.now now)) }

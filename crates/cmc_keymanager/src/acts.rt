@@ -197,10 +197,6 @@ fn keys_for(
 /// Deletions and status updates name the version that is seen.
 ///
 /// Fewer than 2^63 questions were asked before (`desk.asked`): the next one has a number.
-///
-/// # Errors
-///
-/// Want of memory alone.
 #[tactic(auto, unfolding(cmc_rules::specs::KeyManaging::key_manager))]
 pub fn act(alloc: Global, views: &Views, now: i64, desk: &Desk) -> Result<Act, AllocError>
     requires { desk.now.asked < 2 ^ 63 }

@@ -52,10 +52,6 @@ fn followed(
 ///
 /// `order` is the question that the controller asks on these views by some desk, and `value` a right value of it.
 /// A call follows: there is a Certificate, and the value is a key.
-///
-/// # Errors
-///
-/// Want of memory alone.
 pub fn follow(
     alloc: Global,
     views: &Views,
@@ -75,10 +71,6 @@ pub fn follow(
 ///
 /// What is given back answers the question that the controller asks on these views by some desk.
 /// A call follows: there is a Certificate, and a key is given back.
-///
-/// # Errors
-///
-/// Want of memory alone.
 pub fn then(alloc: Global, views: &Views, now: i64, given: &Given) -> Result<Call, AllocError>
     requires asked { IsQuestionOf (table.key_manager views.now) (order_of given.now) }
     requires follows { IsSome (table.key_after views.now now (order_of given.now) (value_of given.now)) }

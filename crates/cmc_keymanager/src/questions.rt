@@ -57,7 +57,7 @@ fn key_order(certificate: &Certificate, desk: &Desk) -> Result<KeyOrder, AllocEr
     })
 }
 
-/// The question for a key of the kind that the Certificate asks for: the one behind those that were asked, with its
+/// The question for a key of the kind that the Certificate asks for: the one after those that were asked, with its
 /// row.
 #[tactic(auto, unfolding(cmc_rules::specs::KeyManaging::ask_key))]
 pub fn ask_key(alloc: Global, certificate: &Certificate, desk: &Desk) -> Result<Act, AllocError>

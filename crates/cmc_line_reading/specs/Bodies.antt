@@ -1,4 +1,4 @@
--- The lines behind that of the scenario, read one after another.
+-- The lines after that of the scenario, read one after another.
 use Rattle.std.specs.Prelude.{◌≡◌, ℕ, ◌+◌, List, [], ◌∷◌, ◌++◌, Ok, Err}
 use Rattle.std.specs.declared.result.Result.{Result}
 use Rattle.std.specs.List.{AllByRecursion}
@@ -12,7 +12,7 @@ use Rattle.cmc_line_reading.specs.declared.history.BadHistory.{BadHistory}
 use Rattle.cmc_line_reading.specs.declared.history.BadHistory.TheVariants as bad
 use Rattle.cmc_line_reading.specs.Histories.{IsLine, IsLineOf, IsSummary, IsSummaryOf, IsOneLine, IsText, IsRest, GoesOn, FailsBy, text_of_lines}
 
--- The text is a line, its line feed, and what comes behind it.
+-- The text is a line, its line feed, and what comes after it.
 pub record IsCut (text line later : List ℕ) : Type 0 where
   pub whole : text ≡ line ++ (10 ∷ later)
   pub is_one : IsOneLine line
@@ -47,7 +47,7 @@ pub record IsBodyOf (text : List ℕ) (entries : List PrintedLine) (counts : Lis
 abbrev pub AreRest : List (List ℕ) → Type 0
 AreRest lines = (entries : List PrintedLine) × (counts : List ℕ) × IsRest 1 lines entries counts
 
--- The line fails whose number, counted behind the scenario's, is one less.
+-- The line fails whose number, counted after the scenario's, is one less.
 pub record BodyFails (text : List ℕ) (number : ℕ) : Type 0 where
   pub place : ℕ
   pub numbered : number ≡ place + 1

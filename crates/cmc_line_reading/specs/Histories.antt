@@ -74,7 +74,7 @@ IsOneLine line = All (λ c. (c == 10) ≡ false) line
 abbrev pub text_of_lines : List (List ℕ) → List ℕ
 text_of_lines lines = flat_map (λ line. line ++ 10 ∷ []) lines
 
--- These lines, the first of which is that of entry n, are lines of entries, behind which the summary may come.
+-- These lines, the first of which is that of entry n, are lines of entries, after which the summary may come.
 abbrev pub GoesOn : ℕ → List (List ℕ) → Type 0
 GoesOn n [] = Unit {0}
 GoesOn n (line ∷ later) = (IsLine n line × GoesOn (n + 1) later) ⊎ (IsSummary line × (later ≡ []))
@@ -115,7 +115,7 @@ IsHistory text = (scenario : Scenario) × (entries : List PrintedLine) × (count
 
 -- ---- the first line that fails
 
--- Behind these lines comes one that cannot stand there.
+-- Behind these lines comes one that cannot are there.
 pub record GoesWrong (CanStand : List (List ℕ) → Type 0) (text : List ℕ) (lines : List (List ℕ)) : Type 0 where
   pub line : List ℕ
   pub later : List ℕ

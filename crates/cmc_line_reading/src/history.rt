@@ -29,14 +29,14 @@ impl From<AllocError> for BadHistory {
     }
 }
 
-/// What stands behind the line of the scenario: the entries, and the counts of the summary.
+/// What comes after the line of the scenario: the entries, and the counts of the summary.
 #[derive(Drop)]
 pub struct Body {
     pub entries: Records,
     pub counts: [u64; 3],
 }
 
-// The first line, without its line feed, and what comes behind it; None where there is no line feed.
+// The first line, without its line feed, and what comes after it; None where there is no line feed.
 fn cut(text: &[u8]) -> Option<(&[u8], &[u8])>
     ensures { MatchOption result (IsOneLine text.now) (λ parts. IsCut text.now parts.0.now parts.1.now) }
 {

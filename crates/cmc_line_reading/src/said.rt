@@ -1,4 +1,4 @@
-// What a line behind that of the scenario says.
+// What a line after that of the scenario says.
 ghost use Rattle.std.specs.Prelude.{◌≡◌, codes, is_some, MatchOption, IfOk, Ok};
 ghost use Rattle.serde_json.specs.Find.{get};
 ghost use Rattle.serde_json.specs.View.{view};
@@ -14,7 +14,7 @@ use cmc_summary_form::summary_of;
 use serde_json::Value;
 use std::alloc::{AllocError, Global};
 
-/// What a line behind that of the scenario says.
+/// What a line after that of the scenario says.
 #[derive(Drop)]
 pub enum Said {
     /// It is that of the next entry.

@@ -26,7 +26,7 @@ pub enum PrintedReply {
     Found { version: u64 },
     /// The object has another version than the named one.
     Conflict { named: u64, have: u64 },
-    /// No object stands under the key; so many writes were accepted before.
+    /// No object exists under the key; so many writes were accepted before.
     NotFound { at: u64 },
     /// An object of this version stands under the key.
     AlreadyExists { have: u64 },

@@ -27,7 +27,7 @@ is_of_revision revision request = is_number revision (revision_of request)
 unfoldable pub only_of : ℕ → List CertificateRequest → Option CertificateRequest
 only_of revision requests = if length (filter (λ request. is_of_revision revision request) requests) == 1 then find (λ request. is_of_revision revision request) requests else None
 
--- the current request is of the revision that stands, 0 where none is set, and the next one of the revision behind it
+-- the current request is of the revision that stands, 0 where none is set, and the next one of the revision after it
 abbrev pub current_request : Option ℕ → List CertificateRequest → Option CertificateRequest
 current_request revision requests = only_of (unwrap_or revision 0) requests
 

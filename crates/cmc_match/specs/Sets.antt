@@ -1,4 +1,4 @@
--- Lists of texts as sets: neither their order nor how often a text stands there counts.
+-- Lists of texts as sets: neither their order nor how often a text is there counts.
 use Rattle.std.specs.Prelude.{ℕ, ◌↔◌, Bool, ◌&&◌, List, Contains}
 use Rattle.std.specs.Str.{bytes_eq}
 use Rattle.std.specs.List.{list_any, list_all}

@@ -47,7 +47,7 @@ abbrev pub value_list : Option (List Value) → List Value
 value_list None = []
 value_list (Some values) = values
 
--- the values that the octets are, one behind the other
+-- the values that the octets are, one after the other
 unfoldable pub values_of : List ℕ → List Value
 values_of octets = value_list (values_at octets)
 

@@ -258,7 +258,7 @@ fn facts_in(
 }
 
 /// What the checks look at: the Secret that the specification of the Certificate of this name names, where it
-/// stands, and the one request of the Certificate's revision, where one stands. With no Secret every flag but
+/// stands, and the one request of the Certificate's revision, where one exists. With no Secret every flag but
 /// `request` is false. The times are those of the certificate where it is a pair with the key, and 0 elsewhere.
 #[tactic(auto, unfolding(crate::specs::Facts::is_filled, crate::specs::Facts::names_issuer, crate::specs::Facts::names_owner, crate::specs::Facts::has_requested_key))]
 pub fn facts_of(

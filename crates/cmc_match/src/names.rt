@@ -81,7 +81,7 @@ fn has_each(alternative: &[u8], tag: u8, texts: &[Text]) -> bool
         .all(|text| has_name(alternative, tag, text.as_slice()))
 }
 
-// The texts behind the first, where that has these contents.
+// The texts after the first, where that has these contents.
 fn behind<'a>(texts: &'a [Text], contents: &[u8]) -> Option<&'a [Text]>
     ensures { IfSome result (λ others. texts.now ≡ contents.now ∷ others.now) }
 {

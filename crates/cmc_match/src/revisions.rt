@@ -90,7 +90,7 @@ pub fn current_request(
     only_of(requests, revision.unwrap_or(0))
 }
 
-/// The next request among those of a Certificate: the one of the revision behind the one that stands; `None`
+/// The next request among those of a Certificate: the one of the revision after the one that exists; `None`
 /// unless exactly one is of it.
 pub fn next_request(
     revision: Option<u64>,

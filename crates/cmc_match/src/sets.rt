@@ -24,7 +24,7 @@ fn are_within_each_other(left: &[Text], right: &[Text]) -> bool
     is_within(left, right) && is_within(right, left)
 }
 
-/// Whether both have the same texts, whatever their order and however often they stand there.
+/// Whether both have the same texts, whatever their order and however often they are there.
 pub fn is_same_set(left: &[Text], right: &[Text]) -> bool
     ensures value { result ≡ spec.is_same_set left.now right.now }
     ensures means { IsTrue result ↔ IsSameSet left.now right.now }

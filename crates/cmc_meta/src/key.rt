@@ -95,7 +95,7 @@ impl Hash for Kind {
     }
 }
 
-/// What an object stands under in the store, ordered by its fields.
+/// What an object exists under in the store, ordered by its fields.
 pub struct Key {
     pub kind: Kind,
     pub namespace: Name,

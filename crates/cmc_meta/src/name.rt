@@ -111,7 +111,7 @@ fn all_labels(bytes: &[u8]) -> bool
     is_one_label(&bytes[start..])
 }
 
-/// The byte at the place, and 0 behind the last one.
+/// The byte at the place, and 0 after the last one.
 fn byte_at(bytes: &[u8], place: usize) -> u8
     ensures { result ≡ slice_index bytes.now place }
 {

@@ -207,7 +207,7 @@ abbrev pub least_failing : List (ℕ × Bool) → Option ℕ
 least_failing [] = None
 least_failing (rule ∷ rules) = if rule.1 then Some rule.0 else least_failing rules
 
--- The least rule that refuses the call's object where the old one stands, if any does; it is told whether the call
+-- The least rule that refuses the call's object where the old one exists, if any does; it is told whether the call
 -- writes a status, and whether another Certificate has the Secret that it names.
 unfoldable pub refusing_rule : Option Object → Object → Bool → Bool → Option ℕ
 refusing_rule old object status taken = least_failing (rules_of old object status taken)

@@ -42,7 +42,7 @@ IsCreated accepted taken object None reply = IsAdmitted (refusing_rule None obje
 abbrev pub IsCreatedIn : ℕ → Objects → Object → Reply → Type 0
 IsCreatedIn accepted objects object reply = IsCreated accepted (is_taken objects object) object (object_at objects (key_of object)) reply
 
--- the object that stands has the named version, or there is a conflict
+-- the object that exists has the named version, or there is a conflict
 abbrev pub IsAtVersion : ℕ → Object → Type 0 → Reply → Type 0
 IsAtVersion named old served reply = MatchBool (named == version_of old) served (reply ≡ Conflict named (version_of old))
 
@@ -65,7 +65,7 @@ abbrev pub IsGot : ℕ → Option Object → Reply → Type 0
 IsGot accepted None reply = reply ≡ NotFound accepted
 IsGot accepted (Some old) reply = reply ≡ Found old
 
--- The reply of the objects that stand. A create that wants a generated name is one of the first name that is free.
+-- The reply of the objects that exist. A create that wants a generated name is one of the first name that is free.
 abbrev pub IsServed : ℕ → Objects → Call → Reply → Type 0
 IsServed accepted objects (Create object generate) reply = IsCreatedIn accepted objects (if generate then free_named (accepted + 1) objects object else object) reply
 IsServed accepted objects (Update object named) reply = IsUpdated accepted (is_taken objects object) object named (object_at objects (key_of object)) reply
@@ -84,7 +84,7 @@ abbrev pub from_old : (Object → Object) → Option Object → Option Object
 from_old change None = None
 from_old change (Some old) = Some (change old)
 
--- what a call that is accepted as this version leaves under its key, where this stood there
+-- what a call that is accepted as this version leaves under its key, where this was there
 abbrev pub stored_over : ℕ → ℤ → Option Object → Call → Option Object
 stored_over version now old (Create object generate) = Some (created version now object)
 stored_over version now old (Update object named) = from_old (λ o. revised version o object) old

@@ -2,7 +2,7 @@
 use cmc_meta::Key;
 use cmc_objects::Object;
 
-/// One accepted write: the key, and what stands under it from then on.
+/// One accepted write: the key, and what exists under it from then on.
 pub struct Write {
     pub key: Key,
     /// None where the write took the object away.

@@ -59,7 +59,7 @@ told_order other = None
 
 -- ---- tables of answers
 
--- A need of a move: where it is not met, this is the answer; else what stands behind it decides.
+-- A need of a move: where it is not met, this is the answer; else what comes after it decides.
 abbrev pub Need : Type 0 → Stepped → Stepped → Type 0 → Type 0
 Need fact refusal answer rest = ((fact → ⊥) × (answer ≡ refusal)) ⊎ (fact × rest)
 
@@ -78,11 +78,11 @@ FitsLimit s h more answer = Need (length h + more ≤ s.events) (Spent (length h
 
 -- ---- the script
 
--- what the next step has happen
+-- what the next step brings about
 abbrev pub next_effect : Setting → List Entry → Option Effect
 next_effect s h = option_and_then (effect_of s h) (step_at s.script (scripted h + 1))
 
--- a step is an entry, and one more for what it has happen
+-- a step is an entry, and one more for what it brings about
 abbrev pub entries_of : Option Effect → ℕ
 entries_of None = 1
 entries_of (Some effect) = 2
@@ -97,7 +97,7 @@ AnswersScript s h answer =
 abbrev pub IsCalled : Setting → List Entry → Who → Call → Entry → Type 0
 IsCalled s h who call e = (reply : Reply) × IsReply s.faults (state s h) call reply × (e ≡ entries.Call who call reply)
 
--- the entry of what a step has happen
+-- the entry of what a step brings about
 abbrev pub IsEffect : Setting → List Entry → Effect → Entry → Type 0
 IsEffect s h (effects.Call call) e = IsCalled s h User call e
 IsEffect s h (effects.Tick now) e = e ≡ entries.Tick now

@@ -39,7 +39,7 @@ pub fn act_of(
     }
 }
 
-/// Whether the act is none. It lets go of the act.
+/// Whether the act is none. It drops the act.
 fn is_nothing(does: Act) -> bool
     ensures { IsTrue result ↔ (does ≡ Nothing) }
 {
@@ -50,10 +50,6 @@ fn is_nothing(does: Act) -> bool
 
 /// Whether the role has nothing to do on these views at the moment `now`, in seconds since 1970-01-01T00:00:00Z: whether
 /// its act is none. Those roles whose acts are dear to build tell so without building them.
-///
-/// # Errors
-///
-/// Want of memory alone.
 #[tactic(auto, unfolding(cmc_rules::specs::Acts::act))]
 pub fn is_idle_of(
     alloc: Global,
@@ -107,10 +103,6 @@ fn unbuilt(idle: bool) -> Prospect
 
 /// Whether the role has something to do on these views at the moment `now`, in seconds since 1970-01-01T00:00:00Z. Those
 /// roles whose acts are dear to build tell so without building them, and any other gives its act along.
-///
-/// # Errors
-///
-/// Want of memory alone.
 #[tactic(auto, unfolding(cmc_rules::specs::Acts::act))]
 pub fn prospect_of(
     alloc: Global,

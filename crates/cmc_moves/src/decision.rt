@@ -148,10 +148,6 @@ impl Begun {
 
 /// Decides what the role of the pass does on what the pass saw; `None` exactly where the role is one that does not decide by
 /// that alone.
-///
-/// # Errors
-///
-/// Want of memory alone.
 pub fn decide(alloc: Global, begun: Begun) -> Result<Option<Decided>, AllocError>
     ensures { IfOk result (λ d. IsDecision begun d) }
 {

@@ -37,7 +37,7 @@ pub enum Judged {
 ///
 /// # Errors
 ///
-/// Want of memory alone, here and in all that follows.
+/// Memory runs out, here and in all that follows.
 pub fn first_doing(does: Act) -> Result<Doing, AllocError>
     ensures { IfOk result (λ d. (after : OrderValue → ValueGiven → OptionValue CallValue) → IsDoingBy Stage.Fresh does after d) }
 {
@@ -54,7 +54,7 @@ pub fn first_doing(does: Act) -> Result<Doing, AllocError>
     }
 }
 
-/// The Secret of a plan, which is written behind the live read.
+/// The Secret of a plan, which is written after the live read.
 fn secret_doing(does: Act) -> Result<Doing, AllocError>
     requires { HasSecret does }
     ensures { IfOk result (λ d. (after : OrderValue → ValueGiven → OptionValue CallValue) → IsDoingBy Stage.Read does after d) }
@@ -66,7 +66,7 @@ fn secret_doing(does: Act) -> Result<Doing, AllocError>
     }
 }
 
-/// The status of a plan, which is written behind its Secret.
+/// The status of a plan, which is written after its Secret.
 fn status_doing(does: Act) -> Result<Doing, AllocError>
     requires { HasStatus does }
     ensures { IfOk result (λ d. (after : OrderValue → ValueGiven → OptionValue CallValue) → IsDoingBy Stage.Saved does after d) }
@@ -155,7 +155,7 @@ pub fn answer_of(pass: u64, doing: &Doing) -> Result<Stepped, AllocError>
     }
 }
 
-/// What comes next of a pass has many shapes, and to let go of it is one thing for all of them.
+/// What comes next of a pass has many shapes, and to drop it is one thing for all of them.
 pub fn let_go<T: Drop>(value: T) {
     let _value = value;
 }

@@ -13,7 +13,7 @@ use std::alloc::AllocError;
 /// What may happen next.
 #[derive(Drop)]
 pub enum Move {
-    /// The next step of the script is made, with what it has happen.
+    /// The next step of the script is made, with what it brings about.
     Script,
     /// A role is told of the accepted writes of a kind up to this version.
     Deliver {
@@ -234,10 +234,6 @@ pub fn answer_script(left: bool, ready: bool, entries: u64, room: bool) -> Stepp
 
 /// What is answered where a pass that waits for the value of this question is given this: how many entries there are, and
 /// whether one more fits.
-///
-/// # Errors
-///
-/// Want of memory alone.
 pub fn answer_value(
     order: &Order,
     given: &Given,

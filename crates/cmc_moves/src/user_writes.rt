@@ -75,7 +75,7 @@ pub fn request_for<'a>(
     first_for(store.objects(), certificate, revision)
 }
 
-/// The write of this status of the request, at its version. An `Err` is want of memory.
+/// The write of this status of the request, at its version.
 fn with_status(
     alloc: Global,
     request: &CertificateRequest,
@@ -141,7 +141,7 @@ fn approve_call(
     judge_call(alloc, condition, request)
 }
 
-/// The approval of the request by the script. An `Err` is want of memory.
+/// The approval of the request by the script.
 pub fn approve(
     alloc: Global,
     moment: i64,
@@ -162,7 +162,7 @@ fn deny_call(alloc: Global, moment: i64, request: &CertificateRequest) -> Result
     judge_call(alloc, condition, request)
 }
 
-/// The denial of the request by the script. An `Err` is want of memory.
+/// The denial of the request by the script.
 pub fn deny(
     alloc: Global,
     moment: i64,
@@ -192,7 +192,7 @@ fn answer_call(
     with_status(alloc, request, status)
 }
 
-/// The answer of the row to the request, as its issuer writes it. An `Err` is want of memory.
+/// The answer of the row to the request, as its issuer writes it.
 pub fn answer(
     alloc: Global,
     row: &SignRow,
@@ -239,7 +239,7 @@ fn renew_call(alloc: Global, moment: i64, certificate: &Certificate) -> Result<C
     })
 }
 
-/// What has the object issued anew, where it is a Certificate that stands. An `Err` is want of memory.
+/// What has the object issued again, where it is a Certificate that exists.
 pub fn renew(
     alloc: Global,
     moment: i64,

@@ -27,12 +27,8 @@ fn owners(alloc: Global, certificate: &Certificate) -> Result<Owners, AllocError
 }
 
 /// Metadata of a new object in the Certificate's namespace, with these labels and annotations. The Certificate alone
-/// owns it, as its controller, and its name is the Certificate's: with a dash behind it, it is the prefix of the name
+/// owns it, as its controller, and its name is the Certificate's: with a dash after it, it is the prefix of the name
 /// that the store generates (Kubernetes API conventions, `generateName`).
-///
-/// # Errors
-///
-/// Want of memory alone.
 #[tactic(auto, unfolding(cmc_rules::specs::Owning::owned_meta))]
 pub fn owned_meta(
     alloc: Global,

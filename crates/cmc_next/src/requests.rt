@@ -10,7 +10,7 @@ use cmc_meta::{Condition, ConditionKind, Tri};
 use cmc_objects::{Certificate, CertificateRequest, Shared};
 use cmc_x509::Spki;
 
-/// Whether the request is for the next revision of the Certificate: the one behind the revision that its status has,
+/// Whether the request is for the next revision of the Certificate: the one after the revision that its status has,
 /// which is 0 where it has none.
 pub fn is_next(certificate: &Certificate, request: &CertificateRequest) -> bool
     requires { words.HasNextRevision (Some certificate.now) }

@@ -19,7 +19,7 @@ kind_of (Cert c) = kinds.Certificate
 kind_of (Request r) = kinds.CertificateRequest
 kind_of (Secret s) = kinds.Secret
 
--- the key that an object stands under
+-- the key that an object exists under
 abbrev pub key_of : Object → Key
 key_of object = record { kind = kind_of object; namespace = (meta_of object).namespace; name = (meta_of object).name }
 

@@ -97,7 +97,7 @@ pub enum Reply {
     Found { object: Object },
     /// The object has another version than the named one.
     Conflict { named: u64, have: u64 },
-    /// No object stands under the key; so many writes were accepted before.
+    /// No object exists under the key; so many writes were accepted before.
     NotFound { at: u64 },
     /// An object of this version stands under the key of a create.
     AlreadyExists { have: u64 },

@@ -40,7 +40,7 @@ pub struct CertStatus {
     pub not_before: Option<i64>,
     pub not_after: Option<i64>,
     pub renewal: Option<i64>,
-    /// The revision of the certificate that stands; 0 where absent.
+    /// The revision of the certificate that exists; 0 where absent.
     pub revision: Option<u64>,
     /// The Secret with the key of the issuance in progress.
     pub next_key: Option<Name>,

@@ -103,7 +103,7 @@ impl IssuePlan {
     }
 }
 
-/// The write that gives a Certificate a stand-in certificate while its request waits.
+/// The write that gives a Certificate a temporary certificate while its request waits.
 pub struct TemporaryPlan {
     /// The Certificate, which is read first.
     pub get: Key,
@@ -137,7 +137,7 @@ pub enum Act {
     Ask(Order),
     /// The Secret and the status of an issuance.
     Issue(Shared<IssuePlan>),
-    /// The Secret with a stand-in certificate.
+    /// The Secret with a temporary certificate.
     Temporary(Shared<TemporaryPlan>),
 }
 

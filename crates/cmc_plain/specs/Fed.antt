@@ -114,7 +114,7 @@ pub record AreKnownOf (role : Role) (ws : List Write) (keys : List Key) : Type 0
 abbrev pub AreKnownKeys : Setting → List Entry → Role → List Key → Type 0
 AreKnownKeys s h role keys = AreKnownOf role (writes s h) keys
 
--- what the step has happen changes no queue
+-- what the step brings about changes no queue
 abbrev pub IsOfStore : Option Effect → Type 0
 IsOfStore None = Unit {0}
 IsOfStore (Some (effects.Call call)) = Unit {0}

@@ -41,7 +41,7 @@ LeadsPlainly s (move ∷ moves) h k = (g : List Entry) × IsPlainStep s h move g
 abbrev pub IsPlain : Setting → List Entry → Type 0
 IsPlain s h = (moves : List Move) × LeadsPlainly s moves [] h
 
--- the entries that a move adds: a step of the script has one more for what it has happen
+-- the entries that a move adds: a step of the script has one more for what it brings about
 abbrev pub entries_for : Setting → List Entry → Move → ℕ
 entries_for s h moves.Script = entries_of (next_effect s h)
 entries_for s h other = 1

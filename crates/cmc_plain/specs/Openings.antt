@@ -18,7 +18,7 @@ abbrev pub LeavesNext : Setting → List Entry → Bool → Option Act → Optio
 LeavesNext s h done does None k = (k ≡ h) × (done ≡ true → does ≡ None)
 LeavesNext s h done does (Some first) k = (done ≡ true) × ((named : ℕ) → Leaves s h (Next (begun s h) named) first k)
 
--- a begin, and the first move of the pass behind it
+-- a begin, and the first move of the pass after it
 abbrev pub LeavesBoth : Setting → List Entry → Role → Key → Option Act → Stepped → Option Stepped → List Entry → Type 0
 LeavesBoth s h role key does begin None k = Leaves s h (Begin role key) begin k × (begin ≡ Done → does ≡ None)
 LeavesBoth s h role key does begin (Some first) k = (begin ≡ Done) × ((named : ℕ) → Leaves s (beginning s h role key ∷ h) (Next (begun s (beginning s h role key ∷ h)) named) first k)

@@ -1,4 +1,4 @@
--- What each Certificate that is not Ready waits for, and the summary of what stands.
+-- What each Certificate that is not Ready waits for, and the summary of what exists.
 use Rattle.std.specs.Prelude.{◌≡◌, ℤ, Bool, true, false, not, ◌&&◌, ◌||◌, ◌==◌, List, [], ◌∷◌, length, count_by, codes, Option, Some, None, if◌then◌else◌}
 use Rattle.std.specs.List.{list_any}
 use Rattle.std.specs.Str.{bytes_eq}

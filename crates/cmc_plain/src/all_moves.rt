@@ -59,7 +59,7 @@ fn make_one(world: &mut World, alloc: Global, step: Move) -> Result<(), AllocErr
 ///
 /// # Errors
 ///
-/// Want of memory alone: the history is then that to which some of the moves, from the first on, lead.
+/// Memory runs out: the history is then that to which some of the moves, from the first on, lead.
 pub fn make_all(world: &mut World, alloc: Global, moves: Vec<Move>) -> Result<(), AllocError>
     ensures leads { IfOk result (λ _. Lead (setting_of world.old.scenario) moves.items world.old.history world.new.history) }
     ensures scenario { world.new.scenario ≡ world.old.scenario }

@@ -81,10 +81,6 @@ fn first_key(
 }
 
 /// The first role that a key fits, with the first such key; `None` exactly where there is none.
-///
-/// # Errors
-///
-/// Want of memory alone.
 pub(crate) fn first_begin(
     alloc: Global,
     world: &World,

@@ -191,7 +191,7 @@ fn begin_noted(
 }
 
 /// What the role sees of the key, on which a look found this, and what it does, where that is known: as the look left it, or
-/// made anew.
+/// made again.
 fn found_on(
     alloc: Global,
     world: &World,

@@ -1,4 +1,4 @@
-//! A pass goes on, and once it has ended its key is in process no more.
+//! A pass goes on, and once it has ended its key is no longer in process.
 ghost use Rattle.std.specs.Option.{option_copied};
 ghost use Rattle.std.specs.Prelude.{◌≡◌, ℕ, None, IfOk, IfSome, IsSome, OnErr, OnOk, true};
 ghost use Rattle.cmc_meta.specs.declared.key.Key.{Key as KeyValue};
@@ -95,7 +95,7 @@ fn room_to_end(queues: &mut Queues, closing: &Option<Closing>) -> Result<(), All
     }
 }
 
-/// After a move of the pass: where it has ended, its key is in process no more.
+/// After a move of the pass: where it has ended, its key is no longer in process.
 fn close(world: &World, queues: &mut Queues, pass: u64, closing: Option<Closing>)
     requires rooms { HasRoomsToEnd closing queues.old }
     requires left { on IsToClose world.now pass closing queues.old }

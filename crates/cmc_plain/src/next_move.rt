@@ -86,10 +86,6 @@ fn first_of_roles(
 /// The move that a run by one hand makes next, as `plain` has it, by the work queues. Each search is
 /// made once: what the step of the script waits for tells where rest is asked at all, and it is asked only where nothing else
 /// is found that says that it is not so.
-///
-/// # Errors
-///
-/// Want of memory alone.
 pub(crate) fn plain_by(
     alloc: Global,
     world: &World,
@@ -114,10 +110,6 @@ pub(crate) fn plain_by(
 /// It is the first of: the next step of the script, where it does not wait; the next phase of the first
 /// open pass, which of one that waits for a value is that it is given one; a delivery to the newest accepted write of a kind, by role, then by kind; and the begin of
 /// the first role with a key on which it has something to do or sees something new, the first such key.
-///
-/// # Errors
-///
-/// Want of memory alone.
 pub fn plain(alloc: Global, world: &World) -> Result<Option<Move>, AllocError>
     ensures { IfOk result (λ m. on IsPlainMove world.now m) }
 {

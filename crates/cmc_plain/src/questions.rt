@@ -27,10 +27,6 @@ fn question_at(stage: &Stage) -> Result<Option<Order>, AllocError>
 
 /// The question whose value the pass of this number waits for; `None` exactly where it waits for none. A key that is asked
 /// for is one that can be made.
-///
-/// # Errors
-///
-/// Want of memory alone.
 pub fn question(world: &World, pass: u64) -> Result<Option<Order>, AllocError>
     ensures kept { IfOk result (λ order. order ≡ kept_of (on open_pass world.now pass)) }
     ensures made { IfOk result CanBeKept }

@@ -96,10 +96,6 @@ fn is_at_rest(
 }
 
 /// Whether a step of the script is left, and does not wait.
-///
-/// # Errors
-///
-/// Want of memory alone.
 pub(crate) fn is_step_ready(
     alloc: Global,
     world: &World,
@@ -121,10 +117,6 @@ pub(crate) fn is_step_ready(
 
 /// Whether the run is finished: all steps of the script were made, with all that they have happen, and nothing is left
 /// to do.
-///
-/// # Errors
-///
-/// Want of memory alone.
 pub(crate) fn is_finished(
     alloc: Global,
     world: &World,

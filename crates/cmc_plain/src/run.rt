@@ -125,10 +125,6 @@ fn take_turn<M: KeyMaker, N: Signer, G: Gate>(
 
 /// Goes on with a run by the plain order, from what stands on, until it is finished or its next move does not fit. Passes
 /// that are open are taken over, and one that waits for a value is given one.
-///
-/// # Errors
-///
-/// Want of memory alone.
 pub fn drain<M: KeyMaker, N: Signer, G: Gate>(
     alloc: Global,
     mut waking: Waking,
@@ -157,10 +153,6 @@ pub fn drain<M: KeyMaker, N: Signer, G: Gate>(
 /// called before each of them.
 ///
 /// So its history is a function of the scenario, and of what is given where a row leaves the value free.
-///
-/// # Errors
-///
-/// Want of memory alone.
 pub fn drive_plain<M: KeyMaker, N: Signer, G: Gate>(
     alloc: Global,
     seed: HashSeed,

@@ -1,4 +1,4 @@
-//! What stands, and what Certificates wait for.
+//! What exists, and what Certificates wait for.
 ghost use Rattle.std.specs.List.{list_any};
 ghost use Rattle.std.specs.Prelude.{◌≡◌, ◌&&◌, ◌==◌, IfOk, count_by};
 ghost use Rattle.cmc_meta.specs.ConditionLists.{condition_rank, tri_eq};
@@ -97,7 +97,7 @@ fn has_waiting(objects: &Objects) -> bool
     objects.iter().any(|(_, object)| counts_as_waiting(object))
 }
 
-/// The Certificates that are not Ready, with what they wait for, where `all` is all that stands.
+/// The Certificates that are not Ready, with what they wait for, where `all` is all that exists.
 fn waiting_by(
     alloc: Global,
     world: &World,
@@ -156,17 +156,13 @@ fn summarize(
     })
 }
 
-/// The summary of what stands: how many Certificates stand, how many of them are Ready, how many Secrets stand, and
+/// The summary of what exists: how many Certificates exist, how many of them are Ready, how many Secrets exist, and
 /// what each Certificate waits for that is not Ready, in order of key. Where some role does not run, or some informer
 /// is held, that is what each waits for. Else it is the first of these that is so: its last issuance failed and the
 /// moment lies in the back-off; it is being issued and there is no next key; its one next request is neither approved
 /// nor denied; that is issued, and the Secret of the Certificate's name for it holds a next key itself; that is
 /// approved, and its issuer has not answered or was not ready. Where a run is at rest one of these is so of each
 /// (`each_wait_is_named`); before that a Certificate of which none is so has no item.
-///
-/// # Errors
-///
-/// Want of memory alone.
 pub fn summary(alloc: Global, world: &World) -> Result<Summary, AllocError>
     ensures { IfOk result (λ s. s ≡ on summary_at world.now) }
 {

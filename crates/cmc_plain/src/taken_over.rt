@@ -55,10 +55,6 @@ fn put_role(alloc: Global, world: &World, queues: &mut Queues, role: Role) -> Re
 }
 
 /// The work queues of the world, in which each key that an accepted write named is ready for the roles that work on it.
-///
-/// # Errors
-///
-/// Want of memory alone.
 pub(crate) fn queues_of(alloc: Global, world: &World) -> Result<Queues, AllocError>
     ensures { IfOk result (λ queues. on IsFed world.now queues) }
 {

@@ -17,10 +17,6 @@ use std::alloc::{AllocError, Global};
 
 /// A value for the question, which is right for its row: a key or a signature by `keys`, an issuer's answer by `signer`, and
 /// a judgement by `cmc_answers::judge`.
-///
-/// # Errors
-///
-/// Want of memory alone.
 pub fn value_for<M: KeyMaker, N: Signer>(
     alloc: Global,
     order: &Order,
@@ -38,7 +34,7 @@ pub fn value_for<M: KeyMaker, N: Signer>(
     }
 }
 
-/// A value for the question that the pass of this number waits at, behind the gate; `None` exactly where it waits at none.
+/// A value for the question that the pass of this number waits at, after the gate; `None` exactly where it waits at none.
 pub(crate) fn value_of<M: KeyMaker, N: Signer, G: Gate>(
     alloc: Global,
     world: &World,

@@ -176,13 +176,9 @@ pub(crate) fn is_stopped(world: &World) -> bool
     is_any_hindered(world, &roles)
 }
 
-// ---- a Certificate, by all that stands
+// ---- a Certificate, by all that exists
 
-/// Lists all that stands, as a role sees it that was told of all writes. It goes over the whole log.
-///
-/// # Errors
-///
-/// Want of memory alone.
+/// Lists all that exists, as a role sees it that was told of all writes. It goes over the whole log.
 pub(crate) fn all_that_stands(alloc: Global, world: &World) -> Result<RoleCaches, AllocError>
     ensures { IfOk result (λ all. on words.IsAllThatExists world.now all) }
 {
@@ -196,7 +192,7 @@ pub(crate) fn all_that_stands(alloc: Global, world: &World) -> Result<RoleCaches
     RoleCaches::list(alloc, world.seed(), log.as_slice(), at)
 }
 
-/// What there is to see of the key, where `all` is all that stands.
+/// What there is to see of the key, where `all` is all that exists.
 fn present_views(
     alloc: Global,
     world: &World,
@@ -224,13 +220,9 @@ fn wait_seen(
     Ok(wait_in(world.moment(), &seen))
 }
 
-/// What the Certificate of `key` waits for, where `all` is all that stands and `stopped` says whether some role does not
+/// What the Certificate of `key` waits for, where `all` is all that exists and `stopped` says whether some role does not
 /// run or some informer is held: for that, or else for the end of its back-off, a next key, a verdict on its next
 /// request, the name of its Secret, or its issuer, the first of these that is so. `None` where none is so.
-///
-/// # Errors
-///
-/// Want of memory alone.
 pub(crate) fn wait_at(
     alloc: Global,
     world: &World,

@@ -79,10 +79,6 @@ impl Model for Waking {
 
 impl Waking {
     /// The world of the scenario before its first step.
-    ///
-    /// # Errors
-    ///
-    /// Want of memory alone.
     pub fn new(alloc: Global, scenario: Scenario) -> Result<Waking, AllocError>
         ensures { IfOk result (λ w. w ≡ record { scenario = scenario; history = [] }) }
     {
@@ -90,10 +86,6 @@ impl Waking {
     }
 
     /// The same, where all that is hashed is hashed by the seed.
-    ///
-    /// # Errors
-    ///
-    /// Want of memory alone.
     pub fn seeded(alloc: Global, seed: HashSeed, scenario: Scenario) -> Result<Waking, AllocError>
         ensures { IfOk result (λ w. w ≡ record { scenario = scenario; history = [] }) }
     {
@@ -107,10 +99,6 @@ impl Waking {
     }
 
     /// A world that stands wherever it does. Each key may have to be looked at.
-    ///
-    /// # Errors
-    ///
-    /// Want of memory alone.
     pub fn of(alloc: Global, world: World) -> Result<Waking, AllocError>
         ensures { IfOk result (λ w. w ≡ world) }
     {
@@ -152,10 +140,6 @@ impl Waking {
     }
 
     /// The move that a run by one hand makes next, as `plain` has it. Nothing of the world changes.
-    ///
-    /// # Errors
-    ///
-    /// Want of memory alone.
     pub fn plain(&mut self, alloc: Global) -> Result<Option<Move>, AllocError>
         ensures plain { IfOk result (λ m. on IsPlainMove self.old m) }
         ensures same { self.new ≡ self.old }
@@ -174,10 +158,6 @@ impl Waking {
 
     /// The next step of the script, where one is left and does not wait; `None` exactly where it is not so. Nothing of the
     /// world changes.
-    ///
-    /// # Errors
-    ///
-    /// Want of memory alone.
     pub fn next_script(&mut self, alloc: Global) -> Result<Option<Move>, AllocError>
         ensures next { IfOk result (λ m. on IsNextScript self.old m) }
         ensures same { self.new ≡ self.old }
@@ -211,10 +191,6 @@ impl Waking {
     /// A pass on the first key on which one of the role may begin, and the role has something to do by what it sees; where a key
     /// is given, on the first such key above it. `None` exactly where there is none. Who begins passes of one role on one key
     /// after another does not look at the same keys again. Nothing of the world changes.
-    ///
-    /// # Errors
-    ///
-    /// Want of memory alone.
     pub fn next_work(
         &mut self,
         alloc: Global,
@@ -239,7 +215,7 @@ impl Waking {
     ///
     /// # Errors
     ///
-    /// Want of memory alone. The pass may have begun then.
+    /// Memory runs out. The pass may have begun then.
     pub fn begin(&mut self, alloc: Global, opening: Opening) -> Result<Opened, AllocError>
         requires { on IsWork self.old opening.role opening.key opening }
         ensures leaves { IfOk result (λ o. on LeavesOpened self.old opening o self.new.history) }
@@ -252,10 +228,6 @@ impl Waking {
 
     /// Whether the run is finished: all steps of the script were made, with all that they have happen, and nothing is left
     /// to do. Nothing of the world changes.
-    ///
-    /// # Errors
-    ///
-    /// Want of memory alone.
     pub fn is_finished(&mut self, alloc: Global) -> Result<bool, AllocError>
         ensures finished { IfOk result (λ b. IsTrue b ↔ on IsFinished self.old) }
         ensures same { self.new ≡ self.old }
@@ -373,7 +345,7 @@ impl Waking {
     ///
     /// # Errors
     ///
-    /// Want of memory alone, which leaves the world as it was.
+    /// Where memory runs out, the world is as it was.
     pub fn step(&mut self, alloc: Global, step: Move) -> Result<Stepped, AllocError>
         ensures answer { IfOk result (λ r. on Answers self.old step r) }
         ensures leaves { IfOk result (λ r. on Leaves self.old step r self.new.history) }

@@ -35,10 +35,6 @@ fn opening_on(alloc: Global, world: &World, role: Role, key: &Key) -> Result<Ope
 
 /// A pass on the first key on which one of the role may begin and has something to do, above this key if there is one; `None`
 /// exactly where there is none. Keys are looked at up to there.
-///
-/// # Errors
-///
-/// Want of memory alone.
 pub(crate) fn next_work(
     alloc: Global,
     world: &World,

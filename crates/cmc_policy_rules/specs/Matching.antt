@@ -43,7 +43,7 @@ is_match (byte ∷ pattern) text = is_begun (byte == star) byte (is_match patter
 abbrev pub IsStarless : List ℕ → Type 0
 IsStarless bytes = All (λ byte. (byte == star) ≡ false) bytes
 
--- the pattern is a piece without a star, a star, and what stands behind it
+-- the pattern is a piece without a star, a star, and what comes after it
 pub record IsCutAtStar (pattern piece behind : List ℕ) : Type 0 where
   pub whole : pattern ≡ piece ++ (star ∷ behind)
   pub starless : IsStarless piece

@@ -41,7 +41,7 @@ fn matches_behind_star(pattern: &[u8], text: &[u8]) -> bool
     rest.ends_with(left)
 }
 
-// The bytes before the first star, and those behind it; None where there is no star.
+// The bytes before the first star, and those after it; None where there is no star.
 fn cut(pattern: &[u8]) -> Option<(&[u8], &[u8])>
     ensures { MatchOption result (IsStarless pattern.now) (λ parts. IsCutAtStar pattern.now parts.0.now parts.1.now) }
 {

@@ -1,6 +1,6 @@
 //! Kubernetes objects as JSON: trees without floats, and the tree of each object.
 //!
-//! Absent fields, empty lists and what the store owns are left out, and members stand in byte order.
+//! Absent fields, empty lists and what the store owns are left out, and members are in byte order.
 #![tactic(auto)]
 
 mod metadata;

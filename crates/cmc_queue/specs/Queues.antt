@@ -94,11 +94,11 @@ KeepsMoments old new = (at : ℤ) (k : Key) → has_room_at old at k ≡ true �
 abbrev pub KeepsVersions : Work → Work → Type 0
 KeepsVersions old new = (kind : Kind) (version : ℕ) (k : Key) → has_room_for old kind version k ≡ true → has_room_for new kind version k ≡ true
 
--- no place at a moment behind this one is lost
+-- no place at a moment after this one is lost
 abbrev pub StayAfter : ℤ → List (ℤ × Key) → List (ℤ × Key) → Type 0
 StayAfter now old new = (at : ℤ) (k : Key) → int_le at now ≡ false → is_timed_with old at k ≡ true → is_timed_with new at k ≡ true
 
--- each place is at a moment behind this one
+-- each place is at a moment after this one
 abbrev pub AreAfter : ℤ → List (ℤ × Key) → Type 0
 AreAfter now due = (at : ℤ) (k : Key) → is_timed_with due at k ≡ true → int_le at now ≡ false
 

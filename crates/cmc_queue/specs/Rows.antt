@@ -60,7 +60,7 @@ qualifies Fresh = is_fresh
 qualifies Pending = is_pending
 qualifies Finding = is_found
 
--- a key that can be given is in process, and ready no more
+-- a key that can be given is in process, and no longer ready
 abbrev pub taken : Row → Row
 taken row = if is_free row then record row { ready = false; work = Unknown; working = true } else row
 
@@ -72,7 +72,7 @@ looked work row = record row { work = work }
 abbrev pub left : Row → Row
 left row = record row { ready = false; work = Unknown }
 
--- the key is in process no more
+-- the key is no longer in process
 abbrev pub ended : Row → Row
 ended row = record row { working = false }
 
@@ -87,18 +87,18 @@ abbrev pub is_reached : Kind → ℕ → Option Parked → Bool
 is_reached kind to None = false
 is_reached kind to (Some p) = (kind_rank p.kind == kind_rank kind) && nat_le p.version to
 
--- the kind was told of up to a version: a key that waited for it is ready, and waits no more
+-- the kind was told of up to a version: a key that waited for it is ready, and no longer waits
 unfoldable pub moved : Kind → ℕ → Row → Row
 moved kind to row = if is_reached kind to row.parked then record row { ready = true; work = Unknown; parked = None } else row
 
 -- ---- what waits for a moment
 
--- the earlier of a moment and the one that stands
+-- the earlier of a moment and the one that exists
 abbrev pub earlier : ℤ → Option ℤ → ℤ
 earlier at None = at
 earlier at (Some old) = if int_le old at then old else at
 
--- the key is timed at this moment, or at the earlier one that stands
+-- the key is timed at this moment, or at the earlier one that exists
 abbrev pub timed_at : ℤ → Row → Row
 timed_at at row = record row { timed = Some (earlier at row.timed) }
 
@@ -113,7 +113,7 @@ lapsed Unknown = Unknown
 lapsed Nothing = Nothing
 lapsed Something = Unknown
 
--- it is now: a key whose moment has come is ready, and timed no more; of each other key what was found lapses
+-- it is now: a key whose moment has come is ready, and no longer timed; of each other key what was found lapses
 unfoldable pub ticked : ℤ → Row → Row
 ticked now row = if is_due now row.timed then record row { ready = true; work = Unknown; timed = None } else record row { work = lapsed row.work }
 

@@ -36,7 +36,7 @@ pub record IsSpot (test : Row → Bool) (rows : List (Key × Row)) (spot : Spot)
   pub first : 0 < spot.count → IsFirstAt test rows spot.first
   pub within : spot.first ≤ length rows
 
--- the rows stand in the order of keys, and it is known where a search begins
+-- the rows are in the order of keys, and it is known where a search begins
 pub record ArePlaced (rows : List (Key × Row)) (given waiting : Spot) (unknown something : ℕ) : Type 0 where
   pub sorted : IsSorted key_cmp (keys_of rows)
   pub free : IsSpot is_free rows given
@@ -69,7 +69,7 @@ pub record IsPutIn (old new : List (Key × Row)) (key : Key) (at : ℕ) : Type 0
 abbrev pub HadSpot : (Row → Bool) → List (Key × Row) → ℕ → Spot → Type 0
 HadSpot test rows at spot = (old : List (Key × Row)) × (key : Key) × IsPutIn old rows key at × IsSpot test old spot
 
--- the place lies behind all keys that are not above this one, and before all that are
+-- the place lies after all keys that are not above this one, and before all that are
 pub record IsPlaceAbove (key : Key) (rows : List (Key × Row)) (place : ℕ) : Type 0 where
   pub below : (i : ℕ) (e : Key × Row) → i < place → slice_get rows i ≡ Some e → is_lt (key_cmp key e.0) ≡ false
   pub above : (i : ℕ) (e : Key × Row) → place ≤ i → slice_get rows i ≡ Some e → key_cmp key e.0 ≡ Less

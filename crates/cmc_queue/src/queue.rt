@@ -89,7 +89,7 @@ impl Queue {
         self.rows.get(key)
     }
 
-    /// Makes room to add the key; no row changes, and room that stands is kept. An error is one of memory.
+    /// Makes room to add the key; no row changes, and room that exists is kept. An error is one of memory.
     pub fn room(&mut self, key: &Key) -> Result<(), AllocError>
         ensures made { OnOk result (has_room self.new key.now ≡ true) }
         ensures rows { (k : KeyValue) → row_of self.new k ≡ row_of self.old k }
@@ -156,7 +156,7 @@ impl Queue {
         self.rows.write(place, row, row.looked(Found::Nothing));
     }
 
-    /// Makes room to note that a look found something; no row changes, and room that stands is kept. An error is one of memory.
+    /// Makes room to note that a look found something; no row changes, and room that exists is kept. An error is one of memory.
     pub fn room_to_find(&mut self, key: &Key) -> Result<(), AllocError>
         ensures made { OnOk result (has_room self.new key.now ≡ true) }
         ensures place { OnOk result (has_room_to_find self.new key.now ≡ true) }
@@ -181,7 +181,7 @@ impl Queue {
         self.rows.write(place, row, row.looked(Found::Something));
     }
 
-    /// A look found that the key may be left alone: it is ready no more. It takes no memory.
+    /// A look found that the key may be left alone: it is no longer ready. It takes no memory.
     pub fn leave(&mut self, key: &Key)
         requires { has_room self.old key.now ≡ true }
         ensures rows { ChangesRow left key.now self.old self.new }
@@ -207,7 +207,7 @@ impl Queue {
         }
     }
 
-    /// Makes room to time the key at the moment; no row changes, and room that stands is kept. An error is one of memory.
+    /// Makes room to time the key at the moment; no row changes, and room that exists is kept. An error is one of memory.
     pub fn room_at(&mut self, key: &Key, at: i64) -> Result<(), AllocError>
         ensures made { OnOk result (has_room self.new key.now ≡ true) }
         ensures place { OnOk result (has_room_at self.new at key.now ≡ true) }
@@ -220,7 +220,7 @@ impl Queue {
         Ok(())
     }
 
-    /// Makes a place for the key at the moment; no row changes, and room that stands is kept. An error is one of memory.
+    /// Makes a place for the key at the moment; no row changes, and room that exists is kept. An error is one of memory.
     pub fn place_at(&mut self, key: &Key, at: i64) -> Result<(), AllocError>
         ensures place { OnOk result (has_room_at self.new at key.now ≡ true) }
         ensures rows { self.new.rows ≡ self.old.rows }
@@ -256,7 +256,7 @@ impl Queue {
         tick_rows(&mut self.rows, &mut self.moments, now);
     }
 
-    /// Makes room for the key to wait for the version of the kind; no row changes, and room that stands is kept. An error is one of memory.
+    /// Makes room for the key to wait for the version of the kind; no row changes, and room that exists is kept. An error is one of memory.
     pub fn room_for(&mut self, key: &Key, kind: Kind, version: u64) -> Result<(), AllocError>
         ensures made { OnOk result (has_room self.new key.now ≡ true) }
         ensures place { OnOk result (has_room_for self.new kind version key.now ≡ true) }
@@ -268,7 +268,7 @@ impl Queue {
         self.place_for(key, kind, version)
     }
 
-    /// Makes a place for the key at the version of the kind; no row changes, and room that stands is kept. An error is one of memory.
+    /// Makes a place for the key at the version of the kind; no row changes, and room that exists is kept. An error is one of memory.
     pub fn place_for(&mut self, key: &Key, kind: Kind, version: u64) -> Result<(), AllocError>
         ensures place { OnOk result (has_room_for self.new kind version key.now ≡ true) }
         ensures rows { self.new.rows ≡ self.old.rows }
@@ -296,7 +296,7 @@ impl Queue {
     }
 
     /// The controller was told of the kind up to this version: each key that waits for the kind and a version no later
-    /// is ready, and waits no more. The places at such versions are given up, and no other. It takes no memory.
+    /// is ready, and no longer waits. The places at such versions are given up, and no other. It takes no memory.
     pub fn moved(&mut self, kind: Kind, version: u64)
         ensures rows { ChangesRows (moved kind version) self.old self.new }
         ensures room { LosesNoRow self.old self.new }

@@ -21,7 +21,7 @@ use std::marker::Model;
 
 /// The rows of all keys; contracts see the list of the keys, in order, with their rows.
 ///
-/// A row is found by the hash of its key, and the rows stand in the order of their keys. Beside them it stands where the first
+/// A row is found by the hash of its key, and the rows are in the order of their keys. Beside them it stands where the first
 /// key is that can be given, and the first on which there may be something to do: so no search goes over rows that do not qualify.
 #[derive(Drop)]
 pub struct Rows {
@@ -244,7 +244,7 @@ impl Rows {
         }
     }
 
-    /// The place behind all keys that are not above this one.
+    /// The place after all keys that are not above this one.
     fn place_above(&self, key: &Key) -> usize
         ensures { IsPlaceAbove key.now self.now result }
     {

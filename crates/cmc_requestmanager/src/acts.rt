@@ -216,10 +216,6 @@ fn choose<'a>(views: &'a Views) -> Choice<'a>
 /// Deletions name the version that is seen.
 ///
 /// The revision that stands is below 2^63: the next one is a number that can be written (`HasNextRevision`).
-///
-/// # Errors
-///
-/// Want of memory alone.
 pub fn act(alloc: Global, views: &Views, now: i64, desk: &Desk) -> Result<Act, AllocError>
     requires { next_words.HasNextRevision views.now.certificate }
     ensures { IfOk result (λ a. a ≡ table.request_manager views.now) }

@@ -36,10 +36,6 @@ pub fn is_nothing(choice: Choice<'_>) -> bool
 }
 
 /// The act of the choice.
-///
-/// # Errors
-///
-/// Want of memory alone.
 pub fn build(alloc: Global, choice: Choice<'_>) -> Result<Act, AllocError>
     ensures { IfOk result (λ a. a ≡ request_act_of choice.entry) }
 {

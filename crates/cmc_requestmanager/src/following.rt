@@ -126,10 +126,6 @@ fn followed(
 /// `order` is the question that the controller asks on these views by some desk, and `value` a right value of it.
 /// A call follows: the Certificate's next key stands and is readable, and the value is a signature. The revision that
 /// stands is below 2^63.
-///
-/// # Errors
-///
-/// Want of memory alone.
 pub fn follow(
     alloc: Global,
     views: &Views,
@@ -151,10 +147,6 @@ pub fn follow(
 /// What is given back answers the question that the controller asks on these views by some desk.
 /// A call follows: the Certificate's next key stands and is readable, and a signature is given back. The revision that
 /// stands is below 2^63.
-///
-/// # Errors
-///
-/// Want of memory alone.
 pub fn then(alloc: Global, views: &Views, now: i64, given: &Given) -> Result<Call, AllocError>
     requires revision { next_words.HasNextRevision views.now.certificate }
     requires asked { IsQuestionOf (λ desk. table.request_manager views.now) (order_of given.now) }

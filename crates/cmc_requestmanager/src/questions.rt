@@ -23,10 +23,6 @@ fn name_set(spec: &CertSpec) -> Result<NameSet, AllocError>
 }
 
 /// The body of a certification request with the names that the specification asks for and this public key.
-///
-/// # Errors
-///
-/// Want of memory alone.
 #[tactic(auto, unfolding(cmc_rules::specs::RequestManaging::body_of))]
 pub fn body_of(alloc: Global, spec: &CertSpec, key: &Spki<'_>) -> Result<Bytes, AllocError>
     ensures { IfOk result (λ body. body ≡ table.body_of spec.now (key_shown key.now)) }

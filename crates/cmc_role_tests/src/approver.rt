@@ -19,7 +19,7 @@ use cmc_tests::values::{let_go, policy, text, texts};
 use std::alloc::{AllocError, Global};
 use std::test::Fail;
 
-/// What the controller sees of the request, where one stands, and the group of its issuer `ca`; and the issuers that the
+/// What the controller sees of the request, where one exists, and the group of its issuer `ca`; and the issuers that the
 /// rules name.
 #[derive(Clone, Copy)]
 struct Case {

@@ -41,7 +41,7 @@ pub(crate) struct RequestRow {
     pub(crate) ca: &'static str,
 }
 
-/// What a controller sees of the Certificate `web`, of version 3 and uid 1, where that stands: its conditions, the kind
+/// What a controller sees of the Certificate `web`, of version 3 and uid 1, where that exists: its conditions, the kind
 /// of key and the rotation that it asks for, the name of the next key in its status, its revision, its last failure and
 /// how many there were, and its annotations; and of what belongs to it.
 #[derive(Clone, Copy)]

@@ -33,7 +33,7 @@ const OPEN_ROW: RequestRow = RequestRow {
     ..WANTED
 };
 
-/// What the controller sees of the request, where one stands, and the group of its issuer; and how many questions were
+/// What the controller sees of the request, where one exists, and the group of its issuer; and how many questions were
 /// asked for its Certificate.
 #[derive(Clone, Copy)]
 struct Case {

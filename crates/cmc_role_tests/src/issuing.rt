@@ -307,7 +307,7 @@ static REFUSED: [(Case, Outcome); 9] = [
     ),
 ];
 
-/// What is not issued, or not by an approval that stands; and certificates that do not belong to the key.
+/// What is not issued, or not by an approval that exists; and certificates that do not belong to the key.
 static FOREIGN: [(Case, Outcome); 10] = [
     (
         Case {

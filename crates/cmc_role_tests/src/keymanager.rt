@@ -56,7 +56,7 @@ const TARGET: SecretRow = SecretRow {
     ..FIRST
 };
 
-/// The Certificate is being issued for the first time, and no key stands.
+/// The Certificate is being issued for the first time, and no key exists.
 const BEGUN: Case = Case {
     stands: true,
     conditions: ISSUING,

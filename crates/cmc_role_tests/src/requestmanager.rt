@@ -99,7 +99,7 @@ pub(crate) const KEYED: Case = Case {
 
 const ASK: &str = "ask signature, body true, key true";
 
-/// Nothing is asked before a fitting key stands under the name that the status has.
+/// Nothing is asked before a fitting key exists under the name that the status has.
 static WAITING: [(Case, &str); 10] = [
     (
         Case {

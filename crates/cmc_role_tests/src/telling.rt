@@ -190,14 +190,14 @@ fn told(alloc: Global, act: &Act) -> Result<String, AllocError> {
     }
 }
 
-/// What the controller does; the act, a wide enum, is let go behind it.
+/// What the controller does; the act, a wide enum, is dropped after it.
 pub(crate) fn told_then(alloc: Global, act: Act) -> Result<String, AllocError> {
     let told = told(alloc, &act);
     let_go(act);
     told
 }
 
-/// The call, which is let go behind it.
+/// The call, which is dropped after it.
 pub(crate) fn call_told_then(alloc: Global, call: Call) -> Result<String, AllocError> {
     call_told(alloc, &call)
 }

@@ -487,7 +487,7 @@ fn told_after(
 
 static ABSENT: &str = "3 1893456000 DoesNotExist: Certificate must be issued: DoesNotExist";
 
-/// What is told is what is wanted; the text is let go here, so that the next `?` of a test has none in hand.
+/// What is told is what is wanted; the text is dropped here, so that the next `?` of a test has none in hand.
 fn tells_then(
     rt: &impl Abort,
     row: &str,
@@ -522,7 +522,7 @@ fn begins_behind_the_back_off(rt: HostRuntime) -> Result<(), Fail> {
     tells_then(&rt, "two attempts", told, ABSENT)
 }
 
-/// A first failure a second before the end of back-off: what is done by the next requests that stand.
+/// A first failure a second before the end of back-off: what is done by the next requests that exist.
 static BACK_OFFS: [(Case, &str); 6] = [
     (TRIED, "nothing"),
     (

@@ -14,7 +14,7 @@ MeetsRules (Cert c) = least_failing (certificate_rules c false) ≡ None
 MeetsRules (Request r) = (is_verdict_unsettled r.status.conditions ≡ false) × (has_both_verdicts r.status.conditions ≡ false)
 MeetsRules (Secret s) = is_tls_incomplete s ≡ false
 
--- no two Certificates of a namespace that stand name one Secret
+-- no two Certificates of a namespace that exist name one Secret
 abbrev pub HaveOwnSecrets : Objects → Type 0
 HaveOwnSecrets objects =
     (j k : Key) (c d : Certificate) → object_at objects j ≡ Some (Cert c) → object_at objects k ≡ Some (Cert d)

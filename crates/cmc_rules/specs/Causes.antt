@@ -39,7 +39,7 @@ IsFirstCall (Asks order) call = ⊥
 IsFirstCall (Issue plan) call = call ≡ calls.Get plan.get
 IsFirstCall (Temporary plan) call = call ≡ calls.Get plan.get
 
--- behind the live read comes the Secret, and behind the Secret of an issuance the status
+-- after the live read comes the Secret, and after the Secret of an issuance the status
 abbrev pub IsSecretCall : Act → Call → Type 0
 IsSecretCall Nothing call = ⊥
 IsSecretCall (Calls first) call = ⊥

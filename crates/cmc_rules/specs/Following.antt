@@ -46,7 +46,7 @@ call_of moment objects (steps.Release role kind) = None
 call_of moment objects (steps.Until role kind writes) = None
 call_of moment objects steps.Settle = None
 
--- What a step that makes no call has happen, after so many accepted writes and at this moment. A start tells the role of
+-- What a step that makes no call brings about, after so many accepted writes and at this moment. A start tells the role of
 -- all but the last so many of the writes.
 abbrev pub effect_besides : ℕ → ℤ → Step → Option Effect
 effect_besides accepted moment (steps.Apply object version) = None
@@ -68,7 +68,7 @@ abbrev pub call_or : Option Call → Option Effect → Option Effect
 call_or (Some call) other = Some (effects.Call call)
 call_or None other = other
 
--- what a step has happen directly after it, where these objects stand
+-- what a step brings about directly after it, where these objects stand
 abbrev pub effect_on : Objects → ℕ → ℤ → Step → Option Effect
 effect_on objects accepted moment step = call_or (call_of moment objects step) (effect_besides accepted moment step)
 

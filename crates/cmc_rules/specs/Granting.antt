@@ -75,7 +75,7 @@ deny moment r = if has_reason (codes "Denied") r then Nothing else Calls (status
 abbrev pub certificate_of : CertificateRequest → Key
 certificate_of r = record { kind = Certificate; namespace = r.meta.namespace; name = certificate_named r }
 
--- the question behind those that were asked for this Certificate, with the answer that is set out for it
+-- the question after those that were asked for this Certificate, with the answer that is set out for it
 unfoldable pub sign_order : ℤ → Desk → CertificateRequest → Signs
 sign_order moment desk r = record { number = desk.asked + 1; request = r; moment = moment; row = reply_row desk.material (certificate_of r) desk.asked }
 

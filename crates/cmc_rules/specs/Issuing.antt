@@ -1,4 +1,4 @@
--- How an issuance ends: with the Secret and a new revision, with a failure, or for a while with a stand-in certificate.
+-- How an issuance ends: with the Secret and a new revision, with a failure, or for a while with a temporary certificate.
 use Rattle.std.specs.Prelude.{ℕ, ℤ, pos, ◌+◌, ◌-◌, ◌^◌, min, nat_le, Bool, true, false, not, ◌&&◌, List, [], ◌∷◌, length, filter, codes, Option, Some, None, unwrap_or, if◌then◌else◌}
 use Rattle.std.specs.Str.{bytes_eq}
 use Rattle.cmc_meta.specs.declared.conditions.Condition.{Condition}
@@ -192,7 +192,7 @@ lacks_certificate file (Some k) = lacks_pair file k (pair_in k)
 
 -- ---- the table
 
--- a stand-in certificate of at most 16 MiB
+-- a temporary certificate of at most 16 MiB
 abbrev pub temporary_with : Certificate → List ℕ → Option SecretObject → Option (List ℕ) → Act
 temporary_with c file target None = Nothing
 temporary_with c file target (Some certificate) = if nat_le (length certificate) 16777216 then Temporary (temporary_plan c file certificate target) else Nothing

@@ -30,7 +30,7 @@ pub record IsDelivery (s : Setting) (h : List Entry) (role : Role) (kind : Kind)
   pub written : IsOfKind kind (write_at to (writes s h))
   pub within : accepted s h ≤ position h role kind + s.window
 
--- Where the watch no longer reaches back to its position, it lists what stands.
+-- Where the watch no longer reaches back to its position, it lists what exists.
 pub record IsListing (s : Setting) (h : List Entry) (role : Role) (kind : Kind) (to : ℕ) : Type 0 where
   pub running : runs s h role ≡ true
   pub informed : has_informer role kind ≡ true

@@ -10,7 +10,7 @@ use Rattle.cmc_objects.specs.declared.request.CertificateRequest.{CertificateReq
 use Rattle.cmc_match.specs.Matching.{matches, has_key}
 use Rattle.cmc_match.specs.Revisions.{is_of_revision}
 
--- the revision that is issued: the one behind the revision that stands
+-- the revision that is issued: the one after the revision that stands
 abbrev pub next_revision : Certificate → ℕ
 next_revision c = unwrap_or c.status.revision 0 + 1
 

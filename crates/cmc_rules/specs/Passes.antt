@@ -35,7 +35,7 @@ use Rattle.cmc_rules.specs.Issuing.{issuing}
 
 -- ---- how far a pass comes
 
--- the act is the plan of a stand-in certificate
+-- the act is the plan of a temporary certificate
 abbrev pub is_temporary_act : Act → Bool
 is_temporary_act (Temporary plan) = true
 is_temporary_act other = false
@@ -57,7 +57,7 @@ is_as_seen None object = false
 is_as_seen (Some c) object = version_of object == c.meta.version
 
 -- A write that is served is the last one of a pass, but for the Secret of an issuance, which its status follows: after the live read
--- of the Certificate, and where the plan is not one of a stand-in certificate.
+-- of the Certificate, and where the plan is not one of a temporary certificate.
 abbrev pub stage_written : Bool → Stage → Stage
 stage_written stand_in Read = if stand_in then Wrote else Saved
 stage_written stand_in other = Wrote

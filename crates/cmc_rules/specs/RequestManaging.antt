@@ -84,7 +84,7 @@ abbrev pub by_stale : Certificate → List ℕ → List CertificateRequest → O
 by_stale c file requests None = by_count c file (next_requests c requests)
 by_stale c file requests (Some stale) = delete_call stale
 
--- nothing is done before a fitting key stands under the name that the status has
+-- nothing is done before a fitting key exists under the name that the status has
 abbrev pub with_request_file : Certificate → List CertificateRequest → Option (List ℕ) → Act
 with_request_file c requests None = Nothing
 with_request_file c requests (Some file) = if fits c.spec.key file then by_stale c file requests (stale_request c file requests) else Nothing

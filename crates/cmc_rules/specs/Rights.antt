@@ -98,7 +98,7 @@ Changes P old new = ⊥
 
 -- ---- which role
 
--- what the role may make of what stands under a key
+-- what the role may make of what exists under a key
 abbrev pub MayChange : Role → Option Object → Option Object → Type 0
 MayChange roles.Trigger old new = Changes (OfCertificates ChangesIssuing) old new
 MayChange roles.KeyManager old new = Makes (IsLabelled true) old new ⊎ (DeletesWhere (IsLabelled true) old new ⊎ Changes (OfCertificates ChangesNextKey) old new)
@@ -112,7 +112,7 @@ MayChange roles.Revision old new = DeletesWhere IsRequestObject old new
 
 -- ---- in a history
 
--- the call, accepted now under the name that it has, changes what stands under its key as the role of the pass may
+-- the call, accepted now under the name that it has, changes what exists under its key as the role of the pass may
 abbrev pub IsRightful : Setting → List Entry → Call → Option OpenPass → Type 0
 IsRightful s h call None = ⊥
 IsRightful s h call (Some p) = MayChange p.role (object_at (objects s h) (key_of_call call)) (stored (accepted s h + 1) (moment s h) (objects s h) call)

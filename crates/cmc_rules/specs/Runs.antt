@@ -9,14 +9,14 @@ use Rattle.cmc_rules.specs.Resting.{IsAtRest}
 use Rattle.cmc_rules.specs.Following.{owed, Follows}
 
 -- Each reply is the store's and each entry stands where it may; passes do what their acts say; the script is followed; and it fits.
--- Such a history may end between a step of the script and what the step has happen.
+-- Such a history may end between a step of the script and what the step brings about.
 pub record IsPartOfRun (s : Setting) (h : List Entry) : Type 0 where
   pub legal : IsLegal s h
   pub caused : IsCaused s h
   pub follows : Follows s h
   pub short : length h ≤ s.events
 
--- the same, and directly after each step stands what it has happen: nothing is owed to the script
+-- the same, and directly after each step stands what it brings about: nothing is owed to the script
 pub record IsRun (s : Setting) (h : List Entry) : Type 0 where
   pub legal : IsLegal s h
   pub caused : IsCaused s h

@@ -71,7 +71,7 @@ pub record IsOfIssuer (s : Setting) (whole : List Entry) (r : CertificateRequest
   pub issued : IsIssued r
   pub certificate : certificate_file_in written ≡ Some r.status.certificate
 
--- A stand-in certificate, which no issuer has signed: the Certificate asks for one, the request is not denied, and it is the one of the
+-- A temporary certificate, which no issuer has signed: the Certificate asks for one, the request is not denied, and it is the one of the
 -- request and the key at the moment at which the pass began.
 pub record IsTemporaryCertificate (c : Certificate) (r : CertificateRequest) (file : List ℕ) (since : ℤ) (written : SecretObject) : Type 0 where
   pub asked_for : asks_for_temporary c ≡ true
@@ -134,7 +134,7 @@ abbrev pub IsStatusUpdate : Call → Type 0
 IsStatusUpdate (UpdateStatus object named) = Unit {0}
 IsStatusUpdate other = ⊥
 
--- A good raise: a status update by issuing, by one, behind the pass's own Secret.
+-- A good raise: a status update by issuing, by one, after the pass's own Secret.
 pub record IsGoodRaise (h : List Entry) (pass : ℕ) (role : Role) (call : Call) (old new : Object) : Type 0 where
   pub issuing : role ≡ roles.Issuing
   pub status : IsStatusUpdate call

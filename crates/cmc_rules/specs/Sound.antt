@@ -127,14 +127,14 @@ pub record IsSigned (c : Certificate) (r : CertificateRequest) (file : List ℕ)
   pub unmarked : is_temporary written ≡ false
   pub certificate : certificate_file_in written ≡ Some r.status.certificate
 
--- The Secret has a stand-in certificate and the mark. Only within the time of a run can the times of the certificate be written and read
+-- The Secret has a temporary certificate and the mark. Only within the time of a run can the times of the certificate be written and read
 -- again.
 pub record IsMarked (c : Certificate) (r : CertificateRequest) (file : List ℕ) (now : ℤ) (written : SecretObject) : Type 0 where
   pub target : is_run_time now ≡ true → IsTarget c r file written
   pub marked : is_temporary written ≡ true
   pub stand_in : IsTemporaryCertificate c r file now written
 
--- only issuing issues: behind the live read of the Certificate the Secret, and then the status
+-- only issuing issues: after the live read of the Certificate the Secret, and then the status
 pub record IsIssuance (role : Role) (seen : Views) (now : ℤ) (plan : IssuePlan) : Type 0 where
   pub issuing : role ≡ roles.Issuing
   pub certificate : Certificate
@@ -151,7 +151,7 @@ pub record IsIssuance (role : Role) (seen : Views) (now : ℤ) (plan : IssuePlan
   pub is_status : IsStatusUpdate plan.status
   pub status : OnSeen (IsRaiseOf certificate now) seen plan.status
 
--- or writes a stand-in certificate
+-- or writes a temporary certificate
 pub record IsTemporaryPlan (role : Role) (seen : Views) (now : ℤ) (plan : TemporaryPlan) : Type 0 where
   pub issuing : role ≡ roles.Issuing
   pub certificate : Certificate

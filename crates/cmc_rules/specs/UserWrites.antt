@@ -63,7 +63,7 @@ judge_call condition r = with_status_of r (record r.status { conditions = transi
 unfoldable pub answer_call : SignRow → ℤ → CertificateRequest → Call
 answer_call row moment r = with_status_of r (answered r.status (signing_of row 1 r moment) moment)
 
--- a Certificate that a user wants issued anew
+-- a Certificate that a user wants issued again
 unfoldable pub manual_condition : ℤ → Condition
 manual_condition moment = record {
   kind = Issuing;

@@ -1,7 +1,7 @@
 //! What steps of a script have happen.
 use cmc_objects::{Call, Role};
 
-/// What a step has happen directly after it.
+/// What a step brings about directly after it.
 #[derive(Drop)]
 pub enum Effect {
     /// A user makes the call.

@@ -22,7 +22,7 @@ pub fn versions_meet_rules()
     ensures { (s : Setting) (h : List Entry) → IsLegal s h → (key : Key) (o : Object) → HasVersion s h key o → MeetsRules o }
 {}
 
-/// A law: after a legal history no two Certificates that stand name one Secret of a namespace.
+/// A law: after a legal history no two Certificates that exist name one Secret of a namespace.
 pub fn certificates_have_own_secrets()
     ensures { (s : Setting) (h : List Entry) → IsLegal s h → HaveOwnSecrets (objects s h) }
 {}

@@ -87,7 +87,7 @@ HasFewDeliveries s whole = count_of is_delivery whole ≤ most_deliveries (accep
 
 -- ---- all entries
 
--- what a step of the script has happen: a call of the user, a stop, a start or a tick
+-- what a step of the script brings about: a call of the user, a stop, a start or a tick
 abbrev pub is_effect : Entry → Bool
 is_effect (Called User call reply) = true
 is_effect (Stop role) = true
@@ -107,7 +107,7 @@ most_reasons writes failed steps = writes + failed + steps + most_deliveries wri
 abbrev pub most_passes : ℕ → ℕ → ℕ → ℕ
 most_passes writes failed steps = length all_roles * (writes * (most_reasons writes failed steps + 1))
 
--- each step with what it has happen, what roles are told, and the passes with their Begin and their other entries
+-- each step with what it brings about, what roles are told, and the passes with their Begin and their other entries
 abbrev pub most_entries : ℕ → ℕ → ℕ → ℕ
 most_entries writes failed steps = (steps + steps) + most_deliveries writes steps + (most_passes writes failed steps + most_passes writes failed steps * most_of_pass)
 

@@ -20,7 +20,7 @@ use Rattle.cmc_rules.specs.NextRequests.{HasNextRevision}
 pub record MayAct (seen : Views) (now : ℤ) (desk : Desk) : Type 0 where
   -- a last failure lies in the years that can be written
   pub dated : HasDatedFailure seen
-  -- behind the revision of the Certificate there is a next one
+  -- after the revision of the Certificate there is a next one
   pub revision : HasNextRevision seen.certificate
   -- the moment is one of a run
   pub time : is_run_time now ≡ true

@@ -61,7 +61,7 @@ pub record IsLastPass (s : Setting) (h : List Entry) (role : Role) (key : Key) :
   pub split : h ≡ above ++ (Begin pass role key at since ∷ before)
   pub newest : (e : Entry) → HasEntry (λ x. x ≡ e) above → (is_start_of role e ≡ false) × (is_begin_on role key e ≡ false)
 
--- the version that a reply names as the one that stopped the pass: of what stands under the key, or of the delete that took it away
+-- the version that a reply names as the one that stopped the pass: of what exists under the key, or of the delete that took it away
 abbrev pub stopping_version : Setting → List Entry → Call → Reply → Option ℕ
 stopping_version s h call (Conflict named have) = Some have
 stopping_version s h call (AlreadyExists have) = Some have

@@ -95,7 +95,7 @@ abbrev pub IsAsking : ℕ → Option Certificate → (Order → Value → Option
 IsAsking n seen after order [] = Unit {0}
 IsAsking n seen after order (e ∷ es) = (e.entry ≡ Ask n order) × IsAnswering n seen after order es
 
--- by the act: nothing; the call; question, value and call; or live read, Secret and status, of which a stand-in certificate has no status
+-- by the act: nothing; the call; question, value and call; or live read, Secret and status, of which a temporary certificate has no status
 abbrev pub IsCourseBy : ℕ → Option Certificate → (Order → Value → Option Call) → Act → List Placed → Type 0
 IsCourseBy n seen after Nothing es = IsEnding n causes.Nothing es
 IsCourseBy n seen after (Calls call) es = AreCalls n seen (call ∷ []) es

@@ -18,7 +18,7 @@ use Rattle.cmc_rules.specs.Dates.{IsDated}
 use Rattle.cmc_rules.specs.Passes.{open_pass}
 use Rattle.cmc_rules.specs.Raising.{revision, revision_of_uid, stated_revision}
 
--- the pass stands behind its live read, and its status is not yet written
+-- the pass comes after its live read, and its status is not yet written
 abbrev pub IsWriting : Stage → Type 0
 IsWriting Read = Unit {0}
 IsWriting Saved = Unit {0}

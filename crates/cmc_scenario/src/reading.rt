@@ -85,7 +85,7 @@ fn failing_at(alloc: Global, path: &Texts) -> BadScenario
 
 /// The scenario that a value describes.
 ///
-/// It is an object with these members, none of which has to stand:
+/// It is an object with these members, none of which has to be there:
 /// - `events` and `window`, 1 to 250,000 (100,000 and 1,000 where left out);
 /// - `now`, a moment of RFC 3339 from 1951-01-01T00:00:00Z to 9900-01-01T00:00:00Z
 ///   (2030-01-01T00:00:00Z where left out);

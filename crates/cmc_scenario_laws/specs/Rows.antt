@@ -47,7 +47,7 @@ HaveRowBytes rows = AllByRecursion HasKeyBytes rows.keys × AllByRecursion HasRe
 abbrev pub HasEntryBytes : Key × Rows → Type 0
 HasEntryBytes entry = HaveRowBytes entry.1
 
--- The rows stand in order of key, each key once.
+-- The rows are in order of key, each key once.
 abbrev pub AreInOrder : List (Key × Rows) → Type 0
 AreInOrder [] = Unit {0}
 AreInOrder (e ∷ es) = AllByRecursion (λ (f : Key × Rows). key_cmp e.0 f.0 ≡ Less) es × AreInOrder es

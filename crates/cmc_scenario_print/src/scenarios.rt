@@ -119,7 +119,7 @@ fn tree_of(alloc: Global, scenario: &Scenario) -> Result<Tree, AllocError>
 /// or has its default is left out, and so are the lists `material`, `keys`, `replies`, `faults` and
 /// `script` where they are empty. An applied object is printed as objects are, with the resource
 /// version that its step names. Of a row that may be any, for which no JSON stands, an object without
-/// members is printed. It fails for want of memory alone.
+/// members is printed. It fails only where memory runs out.
 pub fn value_of_scenario(alloc: Global, scenario: &Scenario) -> Result<Value, AllocError>
     ensures value { IfOk result (λ v. view v ≡ scenario_tree scenario.now) }
     ensures none { IfOk result (λ v. has_float (view v) ≡ false) }

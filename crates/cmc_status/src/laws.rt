@@ -5,7 +5,7 @@ ghost use Rattle.cmc_rules.specs.Sound.{IsSound};
 /// A law: the call of the readiness controller names the Certificate that it sees at its version, changes nothing of it
 /// but the condition Ready, the times of its certificate and the resource version, and no admission rule refuses it;
 /// the controller looks at nothing that it is not told of, does nothing where there is no Certificate, and where it has
-/// nothing to do it has nothing to do until the certificate that stands expires.
+/// nothing to do it has nothing to do until the certificate that exists expires.
 pub fn is_readiness_sound()
     ensures { IsSound Readiness }
 {}

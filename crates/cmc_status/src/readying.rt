@@ -148,13 +148,9 @@ fn ready_of(
 ///
 /// It sets Ready to True where the Secret stands, has a key and a certificate that are a pair, fits the specification
 /// and the current request, and has not expired, and to False with the first reason that says otherwise; and it sets
-/// the times of the certificate that stands, and when that is renewed, or takes them away where there is no pair
+/// the times of the certificate that exists, and when that is renewed, or takes them away where there is no pair
 /// (cert-manager.io/v1 `CertificateStatus`). It does nothing where there is no Certificate, or its status says all
 /// of this already.
-///
-/// # Errors
-///
-/// Want of memory alone.
 #[tactic(auto, unfolding(cmc_rules::specs::Acts::act, cmc_rules::specs::Readying::readiness))]
 pub fn act_readiness(alloc: Global, views: &Views, now: i64, desk: &Desk) -> Result<Act, AllocError>
     ensures { IfOk result (λ a. a ≡ acts.act roles.Readiness views.now now desk.now) }

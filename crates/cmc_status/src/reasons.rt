@@ -33,7 +33,7 @@ fn first_reason(frame: Frame, facts: &Facts) -> Option<Reason>
     Link::new(absent, Link::new(missing, Link::new(unpaired, of_request))).first(facts)
 }
 
-/// What the status says of the certificate that stands: when it begins and ends, and when it is renewed.
+/// What the status says of the certificate that exists: when it begins and ends, and when it is renewed.
 #[derive(Clone, Copy)]
 pub struct Times {
     pub not_before: Option<i64>,
@@ -61,7 +61,7 @@ fn times_of(facts: Facts, renew: Renew) -> Times
     }
 }
 
-/// Why a Certificate is not ready, and the times of the certificate that stands.
+/// Why a Certificate is not ready, and the times of the certificate that exists.
 #[derive(Clone, Copy)]
 pub struct Judged {
     pub reason: Option<Reason>,

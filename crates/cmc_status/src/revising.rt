@@ -123,10 +123,6 @@ fn revise_of(
 /// deletes the one of least revision, of several the first by name, at the version that it sees (cert-manager.io/v1
 /// `CertificateSpec`). It does nothing where there is no Certificate or no limit, and while the Certificate is being
 /// issued. It looks at neither the moment nor the desk.
-///
-/// # Errors
-///
-/// Want of memory alone.
 #[tactic(auto, unfolding(cmc_rules::specs::Acts::act, cmc_rules::specs::Revising::revise))]
 pub fn act_revision(alloc: Global, views: &Views, now: i64, desk: &Desk) -> Result<Act, AllocError>
     ensures { IfOk result (λ a. a ≡ acts.act roles.Revision views.now now desk.now) }

@@ -45,7 +45,7 @@ condition_kind_at d = text_at d >>= (λ t. found (condition_named t))
 
 -- ---- conditions
 
--- The condition of an object's members, all of which have to stand.
+-- The condition of an object's members, all of which have to be there.
 unfoldable pub condition_in : List Field → Read Condition
 condition_in fs = do
   since ← needed_at moment_at (codes "lastTransitionTime") fs
@@ -66,7 +66,7 @@ from_rank least c = if nat_le least (condition_rank c.kind) then Ok c else Err [
 abbrev pub ranked_at : ℕ → Data → Read Condition
 ranked_at least d = condition_read_at d >>= from_rank least
 
--- The conditions of a list whose first item stands at place n: in the order of their kinds from this place on, each kind at
+-- The conditions of a list whose first item is at place n: in the order of their kinds from this place on, each kind at
 -- most once.
 abbrev pub conditions_from : ℕ → ℕ → Items → Read (List Condition)
 conditions_from n least no_items = Ok []

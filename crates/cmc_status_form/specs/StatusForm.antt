@@ -30,7 +30,7 @@ issuance_in fs = do
   next_key ← member_at name_at (codes "nextPrivateKeySecretName") last_failure.1
   Ok (record { conditions = conditions.0; attempts = attempts.0; last_failure = last_failure.0; next_key = next_key.0 }, next_key.1)
 
--- The certificate that stands.
+-- The certificate that exists.
 unfoldable pub standing_in : List Field → Read (Standing × List Field)
 standing_in fs = do
   not_after ← member_at moment_at (codes "notAfter") fs

@@ -14,7 +14,7 @@ use Rattle.cmc_codec.specs.Given.{given_or}
 use Rattle.cmc_codec.specs.ObjectForm.{object_read_at}
 use Rattle.cmc_status_form.specs.StatusForm.{cert_status_at, request_status_at}
 
--- The Certificate with the status that the member holds, where one stands.
+-- The Certificate with the status that the member holds, where one exists.
 abbrev pub cert_with : Certificate → Option Data → Read Object
 cert_with c given = given_or no_cert_status cert_status_at (codes "status") given >>= (λ s. Ok (Cert (record c { status = s })))
 

@@ -78,7 +78,7 @@ pub fn given_bytes<'a, 'b>(
     }
 }
 
-/// A moment, where the member stands.
+/// A moment, where the member is there.
 pub fn given_moment<'a, 'b>(
     alloc: Global,
     rest: Fields<'a, 'b>,
@@ -92,7 +92,7 @@ pub fn given_moment<'a, 'b>(
     }
 }
 
-/// The name of an object, where the member stands.
+/// The name of an object, where the member is there.
 pub fn given_name<'a, 'b>(
     alloc: Global,
     rest: Fields<'a, 'b>,
@@ -106,7 +106,7 @@ pub fn given_name<'a, 'b>(
     }
 }
 
-/// A number below 2^32, where the member stands.
+/// A number below 2^32, where the member is there.
 pub fn given_small_count<'a, 'b>(
     alloc: Global,
     rest: Fields<'a, 'b>,
@@ -120,7 +120,7 @@ pub fn given_small_count<'a, 'b>(
     }
 }
 
-/// A number below 2^64, where the member stands.
+/// A number below 2^64, where the member is there.
 pub fn given_count<'a, 'b>(
     alloc: Global,
     rest: Fields<'a, 'b>,

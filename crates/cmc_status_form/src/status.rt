@@ -23,7 +23,7 @@ pub struct Issuance {
     pub next_key: Option<Name>,
 }
 
-/// The certificate that stands.
+/// The certificate that exists.
 #[derive(Clone, Copy)]
 pub struct Standing {
     pub not_after: Option<i64>,

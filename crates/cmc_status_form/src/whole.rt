@@ -102,7 +102,7 @@ fn with_status(alloc: Global, object: &Object, given: Option<&Value>) -> Result<
 /// CertificateRequest with the member `status`, which is left out where the status is empty, or a Secret, which has none.
 /// The rest is read as [`object_of`] reads it; the fields that the store owns are 0.
 ///
-/// Of a status no part may be empty, the conditions stand in the order of their kinds, each kind at most once, and moments
+/// Of a status no part may be empty, the conditions are in the order of their kinds, each kind at most once, and moments
 /// are written as RFC 3339 writes them in UTC, to the second.
 ///
 /// Fails at the first failing path of the object without its status, and else at that of the status.

@@ -1,4 +1,4 @@
--- What a change makes of the object that stands.
+-- What a change makes of the object that exists.
 use Rattle.std.specs.Prelude.{◌≡◌, ◌≢◌, ℕ, Option, Some, None}
 use Rattle.cmc_objects.specs.declared.object.Object.{Object}
 use Rattle.cmc_model.specs.Stored.{updated, with_status, revised, restated}

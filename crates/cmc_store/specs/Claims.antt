@@ -56,7 +56,7 @@ pub record IsIndex (objects : Objects) (claims : Claims) : Type 0 where
   pub named : (secret : Key) (name : List ℕ) → claim_at claims secret ≡ Some name → secret_named_in (object_at objects (claimant secret name)) ≡ Some secret
   pub held : (key secret : Key) (o : Object) → object_at objects key ≡ Some o → secret_of o ≡ Some secret → claim_at claims secret ≡ Some (name_of o)
 
--- what stands under the key has that key, and no other Certificate has the Secret that it names
+-- what exists under the key has that key, and no other Certificate has the Secret that it names
 abbrev pub IsUnderItsKey : Objects → Key → Option Object → Type 0
 IsUnderItsKey objects key None = Unit {0}
 IsUnderItsKey objects key (Some o) = (key_of o ≡ key) × (is_taken objects o ≡ false)

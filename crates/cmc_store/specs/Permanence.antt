@@ -5,11 +5,11 @@ use Rattle.cmc_objects.specs.declared.object.Object.{Object}
 use Rattle.cmc_model.specs.Objects.{Objects, object_at}
 use Rattle.cmc_model.specs.Verdicts.{HasOneVerdict, KeepsVerdicts}
 
--- no object that stands is approved and denied
+-- no object that exists is approved and denied
 abbrev pub HaveOneVerdict : Objects → Type 0
 HaveOneVerdict objects = (key : Key) (o : Object) → object_at objects key ≡ Some o → HasOneVerdict o
 
--- what stands under a key keeps the verdicts of what stood there
+-- what exists under a key keeps the verdicts of what was there
 abbrev pub KeepVerdicts : Objects → Objects → Type 0
 KeepVerdicts before after = (key : Key) (older newer : Object) → object_at before key ≡ Some older → object_at after key ≡ Some newer → KeepsVerdicts older newer
 

@@ -54,7 +54,7 @@ impl Catalogue {
         &self.shelf
     }
 
-    /// The object under the key; `None` exactly where none stands. Its own key is that, and no other Certificate
+    /// The object under the key; `None` exactly where none exists. Its own key is that, and no other Certificate
     /// has the Secret that it names.
     pub fn get(&self, key: &Key) -> Option<&Object>
         ensures object { option_copied result ≡ object_at self.now key.now }
@@ -73,7 +73,7 @@ impl Catalogue {
         }
     }
 
-    /// Puts the object under its key, in place of an older one; want of memory leaves all as it was.
+    /// Puts the object under its key, in place of an older one; where memory runs out all is as it was.
     pub fn put(&mut self, key: Key, object: Object) -> Result<(), AllocError>
         requires key { key_of object ≡ key }
         requires free { is_taken self.old object ≡ false }
@@ -110,7 +110,7 @@ fn is_of_another(claim: Option<&Name>, name: &Name) -> bool
     }
 }
 
-/// The Secret that what stands under the key names.
+/// The Secret that what exists under the key names.
 fn secret_at(shelf: &Shelf, key: &Key) -> Result<Option<Key>, AllocError>
     ensures { IfOk result (λ s. s ≡ spec.secret_named_in (object_at shelf.now key.now)) }
 {
@@ -120,7 +120,7 @@ fn secret_at(shelf: &Shelf, key: &Key) -> Result<Option<Key>, AllocError>
     }
 }
 
-/// Puts an object under its key that names another Secret than what stood there, with its claim.
+/// Puts an object under its key that names another Secret than what was there, with its claim.
 fn put_moved(
     shelf: &mut Shelf,
     claims: &mut Claims,

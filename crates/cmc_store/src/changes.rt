@@ -189,7 +189,7 @@ pub fn restate(
     }
 }
 
-/// What an accepted update of the object that stands stores as this version, whether it changes the object or not.
+/// What an accepted update of the object that exists stores as this version, whether it changes the object or not.
 /// `Err` where there is no memory.
 pub fn revision(
     alloc: Global,
@@ -204,7 +204,7 @@ pub fn revision(
     new.numbered(alloc, version, generation)
 }
 
-/// What an accepted status update of the object that stands stores as this version, whether it changes the object
+/// What an accepted status update of the object that exists stores as this version, whether it changes the object
 /// or not. `Err` where there is no memory.
 pub fn restatement(
     alloc: Global,

@@ -39,14 +39,14 @@ impl Shelf {
         }
     }
 
-    /// The object under the key; `None` exactly where none stands.
+    /// The object under the key; `None` exactly where none exists.
     pub fn get(&self, key: &Key) -> Option<&Object>
         ensures { option_copied result ≡ object_at self.now key.now }
     {
         self.map.get(key)
     }
 
-    /// Puts the object under the key, in place of an older one; want of memory leaves all as it was.
+    /// Puts the object under the key, in place of an older one; where memory runs out all is as it was.
     pub fn put(&mut self, key: Key, object: Object) -> Result<(), AllocError>
         ensures ok { OnOk result (self.new ≡ with_object self.old key object) }
         ensures err { OnErr result (self.new ≡ self.old) }
@@ -55,7 +55,7 @@ impl Shelf {
         Ok(())
     }
 
-    /// Takes the object of the key away; where none stands, nothing changes.
+    /// Takes the object of the key away; where none exists, nothing changes.
     pub fn remove(&mut self, key: &Key)
         ensures { self.new ≡ without_object self.old key.now }
     {

@@ -74,7 +74,7 @@ impl Store {
         }
     }
 
-    /// The object under the key; `None` exactly where none stands.
+    /// The object under the key; `None` exactly where none exists.
     pub fn peek(&self, key: &Key) -> Option<&Object>
         ensures { option_copied result ≡ object_at self.now.state.objects key.now }
     {
@@ -112,7 +112,7 @@ impl Store {
     /// Makes one call at the moment `now` and answers it.
     ///
     /// A call that is not accepted leaves the objects and the count of accepted writes as they were;
-    /// want of memory leaves all. No request that stands is ever approved and denied, and an approval
+    /// want of memory leaves all. No request that exists is ever approved and denied, and an approval
     /// or a denial that stood stands unchanged, as long as its request does.
     pub fn call(&mut self, alloc: Global, now: i64, call: &Call) -> Result<Replied, AllocError>
         requires room { self.old.state.calls < 2 ^ 64 - 1 }

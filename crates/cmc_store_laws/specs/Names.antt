@@ -10,7 +10,7 @@ use Rattle.cmc_model.specs.Histories.{Setting, state, objects, accepted}
 use Rattle.cmc_model.specs.Objects.{Objects, object_at}
 use Rattle.cmc_model.specs.Replies.{IsReply}
 
--- No object stands under the name that the reply gives, and the reply is not that one does.
+-- No object exists under the name that the reply gives, and the reply is not that one does.
 abbrev pub IsFresh : Objects → Object → Reply → Type 0
 IsFresh stored object (Ok version name) = object_at stored (key_named name object) ≡ None
 IsFresh stored object (AlreadyExists have) = ⊥

@@ -220,7 +220,7 @@ fn secret(alloc: Global, word: &str) -> Result<Object, Fail> {
     )?)
 }
 
-/// The version of the Secret that stands; 0 where none does.
+/// The version of the Secret that exists; 0 where none does.
 fn version(alloc: Global, collection: &Collection, word: &str) -> Result<u64, Fail> {
     let key = key(alloc, Kind::Secret, word)?;
     match collection.store().peek(&key) {

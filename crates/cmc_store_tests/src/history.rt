@@ -59,7 +59,7 @@ fn version_of(object: Option<&Object>) -> u64 {
     }
 }
 
-/// The version of the Certificate under the key after so many accepted writes, or 0 where none stands.
+/// The version of the Certificate under the key after so many accepted writes, or 0 where none exists.
 fn version_at(history: &History, alloc: Global, key: &Key, position: u64) -> Result<u64, Fail> {
     let object = history.at_version(alloc, 0, key, position)?;
     Ok(version_of(object.as_ref()))

@@ -10,7 +10,7 @@ pub(crate) fn value(alloc: Global, text: &str) -> Result<Value, Fail> {
     }
 }
 
-/// The text between what stands before it and behind it.
+/// The text between what stands before it and after it.
 pub(crate) fn between(
     alloc: Global,
     before: &str,

@@ -45,7 +45,7 @@ fn told_between(alloc: Global, before: &str, text: &str, after: &str) -> Result<
     told(alloc, whole.as_str())
 }
 
-/// Each text, between these, is read as what stands behind its bar.
+/// Each text, between these, is read as what comes after its bar.
 fn meets(
     rt: &impl Abort,
     alloc: Global,

@@ -44,7 +44,7 @@ fn told_between(alloc: Global, before: &str, text: &str, after: &str) -> Result<
     told(alloc, whole.as_str())
 }
 
-/// Each text, between these, fails where its row says behind its bar.
+/// Each text, between these, fails where its row says after its bar.
 fn meets(
     rt: &impl Abort,
     alloc: Global,
@@ -443,7 +443,7 @@ fn a_script_ends_in_time(rt: HostRuntime) -> Result<(), Fail> {
     meets(&rt, rt.alloc(), &TICKS, BEFORE_SECONDS, "}]}")
 }
 
-/// So many steps, and one of no form behind them where that is wanted.
+/// So many steps, and one of no form after them where that is wanted.
 fn many_steps(alloc: Global, count: u32, end: &str) -> Result<String, Fail> {
     let mut steps = String::from_str(alloc, r#"{"do":"settle"}"#)?;
     for _ in 1..count {

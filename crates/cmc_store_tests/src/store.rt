@@ -40,7 +40,7 @@ fn replied_to(store: &mut Store, alloc: Global, call: &Call) -> Result<Replied, 
     Ok(replied(&reply))
 }
 
-/// What the store replies to the call, which is let go behind it.
+/// What the store replies to the call, which is dropped after it.
 fn replied_once(store: &mut Store, alloc: Global, call: Call) -> Result<Replied, Fail> {
     replied_to(store, alloc, &call)
 }

@@ -117,11 +117,11 @@ fn copy_waits(alloc: Global, waits: &[Waiting]) -> Result<Vec<Waiting>, AllocErr
 
 /// What stands at the end of a run.
 pub struct Summary {
-    /// How many Certificates stand.
+    /// How many Certificates exist.
     pub certificates: u64,
     /// How many of them are Ready.
     pub ready: u64,
-    /// How many Secrets stand.
+    /// How many Secrets exist.
     pub secrets: u64,
     /// Those that are not Ready, with what they wait for.
     pub waiting: Waits,

@@ -33,7 +33,7 @@ wait_named t = if bytes_eq t (codes "stopped") then Some Stopped
 unfoldable pub wait_read_at : Data → Read WaitName
 wait_read_at d = text_at d >>= (λ t. found (wait_named t))
 
--- A Certificate and what it waits for: both members have to stand, and no other.
+-- A Certificate and what it waits for: both members have to be there, and no other.
 unfoldable pub waiting_in : List Field → Read Waiting
 waiting_in fs = do
   certificate ← needed_at certificate_key_at (codes "certificate") fs

@@ -70,7 +70,7 @@ fn read_summary(alloc: Global, rest: Fields<'_, '_>) -> Result<Summary, BadField
 }
 
 /// The summary that a JSON value stands for, as it is printed: an object with the member `summary` alone, which has how
-/// many Certificates stand, how many of them are Ready and how many Secrets stand, and what those that are not Ready wait
+/// many Certificates exist, how many of them are Ready and how many Secrets exist, and what those that are not Ready wait
 /// for, in order of key, each once.
 ///
 /// Fails at the first failing path; a Certificate whose key does not come after the one before it fails as a whole.

@@ -297,7 +297,7 @@ fn allow_terms(policy: &mut Policy) {
     policy.max_size = Some(256);
 }
 
-// All over `&mut`: a policy is wide to let go of at each `?`.
+// All over `&mut`: a policy is wide to drop at each `?`.
 fn allow(alloc: Global, policy: &mut Policy) -> Result<(), AllocError> {
     allow_names(alloc, policy)?;
     allow_uses(alloc, policy)?;

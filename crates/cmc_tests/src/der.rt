@@ -42,7 +42,7 @@ fn value_told(
     format!(in alloc; "{offset} {header} {length} {tag:02x}")
 }
 
-/// Tells the first value of the rest, and gives what stands behind it, or in it where it is constructed: the contents
+/// Tells the first value of the rest, and gives what comes after it, or in it where it is constructed: the contents
 /// of such a value are values, and those of a primitive one are not.
 fn walk_on<'a>(
     alloc: Global,
@@ -139,7 +139,7 @@ fn integer(alloc: Global, bytes: &[u8]) -> Result<Vec<u8>, AllocError>
     Ok(writer.finish())
 }
 
-/// The same, put behind octets that stand there.
+/// The same, put behind octets that are there.
 fn put_behind(alloc: Global, bytes: &[u8]) -> Result<Vec<u8>, AllocError>
     requires { length bytes.now < 2 ^ 20 }
 {
@@ -299,7 +299,7 @@ fn are_apart(rt: &impl Abort, key: Spki<'_>, less: Spki<'_>, point: Spki<'_>, ot
 fn tells_kinds(rt: &impl Abort, made: &[u8])
     requires { length made.now ≡ 294 }
 {
-    // The modulus stands behind its zero octet, and its highest bit is set.
+    // The modulus comes after its zero octet, and its highest bit is set.
     let key = Spki::Rsa {
         modulus: &made[33..289],
         exponent: &made[291..],

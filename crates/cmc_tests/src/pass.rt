@@ -31,7 +31,7 @@ fn see_request(alloc: Global, requests: &mut Requests) -> Result<(), Fail> {
     Ok(())
 }
 
-// Filled where they stand: views are wide to let go of at each `?`.
+// Filled where they stand: views are wide to drop at each `?`.
 fn see(alloc: Global, views: &mut Views) -> Result<(), Fail> {
     see_next(alloc, &mut views.next, "web-bbbbf")?;
     see_next(alloc, &mut views.next, "web-bbbbg")?;
@@ -96,7 +96,7 @@ fn told(act: &Act) -> &'static str {
     }
 }
 
-/// The act, in a word, and then let go.
+/// The act, in a word, and then dropped.
 fn told_then(act: Act) -> &'static str {
     let word = told(&act);
     let_go(act);
@@ -148,7 +148,7 @@ fn issuing(get: Key, secret: Key, status: Key) -> IssuePlan {
     }
 }
 
-// The keys first: a call that is alive at a `?` is a wide enum to let go there.
+// The keys first: a call that is alive at a `?` is a wide enum to drop there.
 fn plan(alloc: Global) -> Result<Act, Fail> {
     let secret = key(alloc, Kind::Secret, "web")?;
     let status = key(alloc, Kind::Secret, "web")?;

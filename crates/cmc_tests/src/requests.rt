@@ -191,7 +191,7 @@ fn set_names(alloc: Global, spec: &mut CertSpec, row: &str) -> Result<(), AllocE
 }
 
 /// Gives the spec the names of the row, an ECDSA key, and what `asking` asks for.
-// Filled where it stands: a spec is wide to let go of at each `?`.
+// Filled where it stands: a spec is wide to drop at each `?`.
 fn fill(alloc: Global, spec: &mut CertSpec, row: &str) -> Result<(), AllocError> {
     set_names(alloc, spec, row)?;
     spec.key.algorithm = Some(Algorithm::Ecdsa);

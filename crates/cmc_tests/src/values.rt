@@ -13,7 +13,7 @@ fn digit(letter: u8) -> u8 {
     }
 }
 
-/// Lets the value go: the drop of a wide enum splits each goal behind it, so it stands here.
+/// Lets the value go: the drop of a wide enum splits each goal after it, so it stands here.
 pub fn let_go<T: Drop>(value: T) {
     let _value = value;
 }

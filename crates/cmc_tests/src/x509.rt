@@ -20,7 +20,7 @@ fn digit(number: u8) -> char {
     }
 }
 
-// All that is told is added to one text by reference, so that no `?` lets go of more than one.
+// All that is told is added to one text by reference, so that no `?` drops more than one.
 fn push_hex(told: &mut String, octets: &[u8]) -> Result<(), AllocError> {
     for octet in octets {
         told.push(digit(octet >> 4))?;
@@ -259,7 +259,7 @@ fn reads_certificates(rt: HostRuntime) -> Result<(), Fail> {
     Ok(())
 }
 
-/// Each part of a file, and the file with an octet behind it, is no file.
+/// Each part of a file, and the file with an octet after it, is no file.
 fn refuses_parts(
     rt: &impl Abort,
     alloc: Global,

@@ -6,7 +6,7 @@ use Rattle.jiff_core.specs.Calendar.{days_in_month}
 use Rattle.cmc_time.specs.declared.moment.Moment.{Moment}
 use Rattle.cmc_time.specs.Moment.{seconds_of}
 
--- what a function read, with the text behind the reference
+-- what a function read, with the text after the reference
 abbrev pub read_view : {A : Type 0} → Option (A × Bor (List ℕ)) → Option (A × List ℕ)
 read_view r = option_map (λ p. (p.0, p.1.now)) r
 
@@ -39,7 +39,7 @@ four_digits_at text = do
 unfoldable pub marked_at : List ℕ → List ℕ → Option (ℕ × List ℕ)
 marked_at mark text = mark_at mark text >>= two_digits_at
 
--- the moment of this year whose other numbers stand there between the marks
+-- the moment of this year whose other numbers are there between the marks
 unfoldable pub moment_of_year_at : ℕ → List ℕ → List ℕ → List ℕ → List ℕ → Option Moment
 moment_of_year_at year date middle time text = do
   month ← marked_at date text

@@ -100,10 +100,6 @@ fn for_certificate(
 ///
 /// The moment of the Certificate's last failure, where there is one, has to lie in the years 1950 to 9999
 /// (`HasDatedFailure`): the back-off is counted from it.
-///
-/// # Errors
-///
-/// Want of memory alone.
 #[tactic(auto, unfolding(cmc_rules::specs::Acts::act, cmc_rules::specs::Triggering::trigger))]
 pub fn act(alloc: Global, views: &Views, now: i64, desk: &Desk) -> Result<Act, AllocError>
     requires { HasDatedFailure views.now }

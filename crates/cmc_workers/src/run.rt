@@ -25,7 +25,7 @@ fn is_roomy(world: &World) -> bool {
 }
 
 /// Runs the scenario in threads: so many workers take passes, one thread delivers and one performs the script, all round
-/// one lock; keys, signatures, answers and judgements are made outside of it, by `keys` and `signer`, behind the gate.
+/// one lock; keys, signatures, answers and judgements are made outside of it, by `keys` and `signer`, after the gate.
 /// What the threads leave, because memory or room was wanting or one of them could not be started, the caller goes on
 /// with by the plain order. With 0 workers it is `drive_plain`, and no thread is started.
 ///
@@ -33,10 +33,6 @@ fn is_roomy(world: &World) -> bool {
 /// full, the scenario is run anew by the plain order, so `Spent` always has a plain history that is full. So it is where there
 /// is room for 10,000 entries at most and more than a quarter of it is taken: then the status is that of the plain order,
 /// which needs more entries than threads do.
-///
-/// # Errors
-///
-/// Want of memory alone.
 pub fn drive<R: Threads + Wait + Sync, M: KeyMaker, N: Signer, G: Gate>(
     rt: &R,
     alloc: Global,

@@ -44,7 +44,7 @@ impl Turn {
 }
 
 /// The order in which roles have their turns, all round: that of an issuance. The key manager has two turns on end, since it
-/// makes a key and then writes its name down, and two more behind the certificate, where it clears both away. What the last
+/// makes a key and then writes its name down, and two more after the certificate, where it clears both away. What the last
 /// two look at is written by then. A role that has nothing to do passes its turn on.
 const ROUND: [Role; 11] = [
     Role::Trigger,
@@ -60,7 +60,7 @@ const ROUND: [Role; 11] = [
     Role::Readiness,
 ];
 
-/// The roles behind the issuers' answers. They ask nobody: they decide, and write.
+/// The roles after the issuers' answers. They ask nobody: they decide, and write.
 const ASKING_NOBODY: [Role; 3] = [Role::Issuing, Role::Readiness, Role::Revision];
 
 /// What lies under the lock.
@@ -169,7 +169,7 @@ fn first_among(
     Ok((0, Found::Nothing))
 }
 
-/// What the first of the roles behind this many of them, and then all round, comes to that has something to do, or to be told
+/// What the first of the roles after this many of them, and then all round, comes to that has something to do, or to be told
 /// of, and how many stand before it.
 fn first_behind(
     alloc: Global,
@@ -206,7 +206,7 @@ impl Round {
     }
 
     /// Where the next pass may begin, and notes whose turn it is by that: on a further key of the role whose turn it is, or of the
-    /// first role behind it, all round, that has something to do.
+    /// first role after it, all round, that has something to do.
     fn next(
         &mut self,
         alloc: Global,
@@ -303,7 +303,7 @@ impl Shared {
         Ok(errand)
     }
 
-    /// Has the pass go on, up to a question or to its end. A pass whose role was stopped meanwhile is let go.
+    /// Has the pass go on, up to a question or to its end. A pass whose role was stopped meanwhile is dropped.
     fn go_on(&mut self, alloc: Global, taken: Taken) -> Result<Option<Errand>, AllocError>
         ensures errand { IfOk result (λ e. IfSome e (λ errand. IsErrand self.new.waking errand)) }
         ensures scenario { self.new.waking.scenario ≡ self.old.waking.scenario }

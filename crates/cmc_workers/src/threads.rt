@@ -4,7 +4,7 @@
 //! that may go on with it, and not all. They wake each other in a ring: a worker or the script that moved wakes the thread
 //! that delivers, this wakes a worker, and a worker that finds nothing to do wakes the script. The script wakes nobody
 //! unless it moved, so idle threads do not wake each other for ever. What is handed out (keys, signatures, issuers'
-//! answers, judgements) is made outside the lock, behind the gate, and there issuing and the request manager decide, which
+//! answers, judgements) is made outside the lock, after the gate, and there issuing and the request manager decide, which
 //! read certificates and keys for it.
 ghost use Rattle.std.specs.Prelude.{IfOk, IfSome};
 ghost use Rattle.cmc_workers.specs.Driving.{CanBeDone};
@@ -43,7 +43,7 @@ fn made<M: KeyMaker, N: Signer>(
     }
 }
 
-/// Does the errand, behind the gate.
+/// Does the errand, after the gate.
 fn done<M: KeyMaker, N: Signer, G: Gate>(
     alloc: Global,
     errand: Errand,

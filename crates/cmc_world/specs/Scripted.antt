@@ -1,4 +1,4 @@
--- What the next step of a script has happen and holds back, by what a world holds.
+-- What the next step of a script brings about and holds back, by what a world holds.
 use Rattle.std.specs.Prelude.{ℕ, ℤ, List, Option, Some, None, option_and_then, slice_get}
 use Rattle.cmc_objects.specs.declared.role.Role.{Role}
 use Rattle.cmc_objects.specs.declared.entry.Step.{Step}
@@ -8,7 +8,7 @@ use Rattle.cmc_rules.specs.Following.{effect_on}
 use Rattle.cmc_held.specs.declared.role_states.RoleState.{RoleState}
 use Rattle.cmc_world.specs.Changes.{scripted_standing}
 
--- what the step in this place of the script has happen, if there is one
+-- what the step in this place of the script brings about, if there is one
 abbrev pub effect_in : Objects → ℕ → ℤ → List Step → ℕ → Option Effect
 effect_in objects accepted moment script place = option_and_then (effect_on objects accepted moment) (slice_get script place)
 

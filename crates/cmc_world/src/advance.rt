@@ -478,7 +478,7 @@ impl World {
     ///
     /// # Errors
     ///
-    /// Want of memory alone, which leaves the world as it was.
+    /// Where memory runs out, the world is as it was.
     pub fn step_next(&mut self, alloc: Global, pass: u64, named: u64) -> Result<Stepped, AllocError>
         ensures answer { IfOk result (λ r. on AnswersNext self.old pass named r) }
         ensures scenario { self.new.scenario ≡ self.old.scenario }

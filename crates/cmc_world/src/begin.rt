@@ -67,7 +67,7 @@ fn is_again(past: Option<&Past>, seen: &Views, now: i64, at: Positions) -> bool
     }
 }
 
-/// Whether an object stands under the key.
+/// Whether an object exists under the key.
 fn stands(store: &Store, key: &Key) -> bool
     ensures { result ≡ is_some (object_at store.now.state.objects key.now) }
 {
@@ -232,7 +232,7 @@ impl World {
     ///
     /// # Errors
     ///
-    /// Want of memory alone, which leaves the world as it was.
+    /// Where memory runs out, the world is as it was.
     pub fn begin_due(&mut self, role: Role, key: Key, seen: Views) -> Result<Stepped, AllocError>
         requires running { on runs self.old role ≡ true }
         requires free { on IsWorking self.old role key → ⊥ }

@@ -40,10 +40,6 @@ impl World {
     }
 
     /// What the pass of this number saw as it began; `None` exactly where no such pass is open.
-    ///
-    /// # Errors
-    ///
-    /// Want of memory alone.
     pub fn begun(&self, pass: u64) -> Result<Option<Begun>, AllocError>
         ensures { IfOk result (λ b. b ≡ option_map begun_of (on open_pass self.now pass)) }
     {
@@ -150,7 +146,7 @@ impl World {
     ///
     /// # Errors
     ///
-    /// Want of memory alone, which leaves the world as it was.
+    /// Where memory runs out, the world is as it was.
     pub fn act_first(&mut self, alloc: Global, pass: u64, does: Act) -> Result<Stepped, AllocError>
         requires { on IsFirstAct self.old pass does }
         ensures answer { IfOk result (λ r. on AnswersGoing self.old pass None (asked_by does) r) }

@@ -118,7 +118,7 @@ impl World {
     ///
     /// # Errors
     ///
-    /// Want of memory alone, which leaves the world as it was.
+    /// Where memory runs out, the world is as it was.
     pub fn step_deliver(
         &mut self,
         alloc: Global,

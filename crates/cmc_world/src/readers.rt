@@ -31,10 +31,6 @@ use std::alloc::{AllocError, Global};
 
 impl World {
     /// What a step would answer the move now.
-    ///
-    /// # Errors
-    ///
-    /// Want of memory alone.
     pub fn answer(&self, alloc: Global, step: &Move) -> Result<Stepped, AllocError>
         ensures { IfOk result (λ a. on Answers self.now step.now a) }
     {
@@ -99,10 +95,6 @@ impl World {
     }
 
     /// What the role sees of the key, by what it was told of.
-    ///
-    /// # Errors
-    ///
-    /// Want of memory alone.
     pub fn views(&self, alloc: Global, role: Role, key: &Key) -> Result<Views, AllocError>
         ensures { IfOk result (λ seen. seen ≡ on views self.now role key.now) }
     {

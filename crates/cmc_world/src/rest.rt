@@ -61,7 +61,7 @@ fn has_held(standing: RoleState) -> bool
     standing.held.certificates || standing.held.requests || standing.held.secrets
 }
 
-/// The entry of a step, and one for what it has happen.
+/// The entry of a step, and one for what it brings about.
 fn entries_if(happens: bool) -> u64
     ensures { result ≡ (if happens then 2 else 1) }
 {
@@ -74,7 +74,7 @@ fn is_certificate(object: Option<&Object>) -> bool
     matches!(object, Some(Object::Cert(_)))
 }
 
-/// How many entries the step makes: its own, and one for what it has happen on what stands in the store.
+/// How many entries the step makes: its own, and one for what it brings about on what the store has.
 #[tactic(auto, unfolding(cmc_rules::specs::Following::call_of), using(crate::proofs::Waiting::entries_mapped))]
 fn entries_needed(store: &Store, step: &Step) -> u64
     ensures { (accepted : ℕ) → (moment : ℤ) → result ≡ entries_of (following.effect_on store.now.state.objects accepted moment step.now) }
@@ -167,10 +167,6 @@ fn rests_in_each(world: &World, alloc: Global, roles: &[Role]) -> Result<bool, A
 
 impl World {
     /// Whether the role has nothing to do where it sees this.
-    ///
-    /// # Errors
-    ///
-    /// Want of memory alone.
     pub fn is_idle(&self, alloc: Global, role: Role, seen: &Views) -> Result<bool, AllocError>
         requires { MayAct seen.now (on moment self.now) (on desk_at self.now role seen.now) }
         ensures { IfOk result (λ b. IsTrue b ↔ on spec.IsIdle self.now role seen.now) }
@@ -180,10 +176,6 @@ impl World {
 
     /// Whether the role, which sees this of the key, has something to do there, and its act where that had to be built to find
     /// out.
-    ///
-    /// # Errors
-    ///
-    /// Want of memory alone.
     pub fn prospect(
         &self,
         alloc: Global,
@@ -233,10 +225,6 @@ impl World {
     }
 
     /// Whether the role, which was told of all that is not held from it, has nothing to do on the key.
-    ///
-    /// # Errors
-    ///
-    /// Want of memory alone.
     pub fn rests_on(&self, alloc: Global, role: Role, key: &Key) -> Result<bool, AllocError>
         requires { EachKind (on IsUpToDate self.now role) }
         ensures { IfOk result (λ b. IsTrue b ↔ on spec.RestsOn self.now role key.now) }
@@ -286,10 +274,6 @@ impl World {
     }
 
     /// Whether the role, where it runs, was told of all kinds and has nothing to do.
-    ///
-    /// # Errors
-    ///
-    /// Want of memory alone.
     pub(crate) fn rests_in(&self, alloc: Global, role: Role) -> Result<bool, AllocError>
         ensures { IfOk result (λ b. IsTrue b ↔ on RestsIn self.now role) }
     {
@@ -310,10 +294,6 @@ impl World {
     }
 
     /// Whether nothing is left to do.
-    ///
-    /// # Errors
-    ///
-    /// Want of memory alone.
     pub(crate) fn is_at_rest(&self, alloc: Global) -> Result<bool, AllocError>
         ensures { IfOk result (λ b. IsTrue b ↔ on spec.IsAtRest self.now) }
     {
@@ -343,10 +323,6 @@ impl World {
 
     /// Whether the run is finished: all steps of the script were made, with all that they have happen, and nothing
     /// is left to do.
-    ///
-    /// # Errors
-    ///
-    /// Want of memory alone.
     pub fn finished(&self, alloc: Global) -> Result<bool, AllocError>
         ensures { IfOk result (λ b. IsTrue b ↔ on IsFinished self.now) }
     {
@@ -380,10 +356,6 @@ impl World {
     }
 
     /// Whether the step waits no longer.
-    ///
-    /// # Errors
-    ///
-    /// Want of memory alone.
     pub(crate) fn is_ready(&self, alloc: Global, step: &Step) -> Result<bool, AllocError>
         ensures { IfOk result (λ b. IsTrue b ↔ on following.IsReady self.now (Some step.now)) }
     {
@@ -436,10 +408,6 @@ impl World {
     }
 
     /// What the next step of the script is answered now.
-    ///
-    /// # Errors
-    ///
-    /// Want of memory alone.
     pub(crate) fn judge_script(&self, alloc: Global) -> Result<Stepped, AllocError>
         ensures { IfOk result (λ a. on AnswersScript self.now a) }
     {

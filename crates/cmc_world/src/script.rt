@@ -1,4 +1,4 @@
-//! The next step of the script is made, with what it has happen.
+//! The next step of the script is made, with what it brings about.
 ghost use Rattle.std.specs.List.{All, list_all};
 ghost use Rattle.std.specs.Option.{option_copied};
 ghost use Rattle.std.specs.Prelude.{◌≡◌, ◌+◌, ◌-◌, ◌<◌, ◌≤◌, ◌^◌, ◌∷◌, ◌+ℤ◌, pos, IfOk, OnOk, OnErr, None, Some, length, slice_get, true, if◌then◌else◌};
@@ -38,7 +38,7 @@ use cmc_setup::Scenario;
 use cmc_store::{Replied, Store};
 use std::alloc::{AllocError, Global};
 
-/// The call that applies the object to what stands in the store. An `Err` is want of memory.
+/// The call that applies the object to what the store has.
 fn call_of_apply(store: &Store, object: &Object, version: Option<u64>) -> Result<Call, AllocError>
     ensures { IfOk result (λ c. c ≡ apply_call object.now version (object_at store.now.state.objects (key_of object.now))) }
 {
@@ -59,8 +59,7 @@ fn call_of_apply(store: &Store, object: &Object, version: Option<u64>) -> Result
     }
 }
 
-/// The user call that the step makes at this moment on what stands in the store; none where it makes none. An
-/// `Err` is want of memory.
+/// The user call that the step makes at this moment on what the store has; none where it makes none.
 #[tactic(auto, unfolding(cmc_rules::specs::Following::call_of))]
 fn call_for(
     store: &Store,
@@ -110,7 +109,7 @@ fn later(moment: i64, seconds: u64) -> i64
     moment + seconds as i64
 }
 
-/// What a step that makes no call has happen.
+/// What a step that makes no call brings about.
 fn effect_besides(accepted: u64, moment: i64, step: &Step) -> Option<Effect>
     requires moment { is_run_time moment ≡ true }
     requires short { step_seconds step.now ≤ 1000000000 }
@@ -129,7 +128,7 @@ fn effect_besides(accepted: u64, moment: i64, step: &Step) -> Option<Effect>
     }
 }
 
-/// What a step has happen directly after it. An `Err` is want of memory.
+/// What a step brings about directly after it.
 fn effect_on(
     store: &Store,
     alloc: Global,
@@ -163,7 +162,7 @@ fn step_in(script: &[Step], place: u64) -> Option<&Step>
     script.get(place as usize)
 }
 
-/// What the step in this place of the script has happen. An `Err` is want of memory.
+/// What the step in this place of the script brings about.
 fn effect_in(
     store: &Store,
     alloc: Global,
@@ -236,7 +235,6 @@ fn all_at(at: u64) -> Positions
 }
 
 /// What a role that starts is told of: what stood after the first `at` writes, of each kind that it looks at.
-/// An `Err` is want of memory.
 fn list_at(
     alloc: Global,
     seed: HashSeed,
@@ -273,11 +271,7 @@ fn note_start(role_states: &mut RoleStates, role: Role, at: u64)
 }
 
 impl World {
-    /// What the next step of the script has happen; none where it has nothing happen or no step is left.
-    ///
-    /// # Errors
-    ///
-    /// Want of memory alone.
+    /// What the next step of the script brings about; none where it has nothing happen or no step is left.
     pub(crate) fn next_effect(&self, alloc: Global) -> Result<Option<Effect>, AllocError>
         ensures effect { IfOk result (λ e. e ≡ on spec.next_effect self.now) }
         ensures setup { IsSetup self.now.scenario }
@@ -345,7 +339,7 @@ impl World {
         Ok(())
     }
 
-    /// Makes a step that stops the role: its passes are open no more.
+    /// Makes a step that stops the role: its passes are no longer open.
     fn make_stop(&mut self, role: Role) -> Result<(), AllocError>
         requires may { on spec.AnswersScript self.old answers.Done }
         requires setup { IsSetup self.old.scenario }
@@ -381,11 +375,7 @@ impl World {
         Ok(())
     }
 
-    /// Makes the next step of the script, with what it has happen.
-    ///
-    /// # Errors
-    ///
-    /// Want of memory alone.
+    /// Makes the next step of the script, with what it brings about.
     pub(crate) fn make_step(&mut self, alloc: Global) -> Result<(), AllocError>
         requires { on spec.AnswersScript self.old answers.Done }
         ensures ok { OnOk result (on spec.GrowsByScript self.old self.new.history) }
@@ -402,10 +392,6 @@ impl World {
     }
 
     /// Makes the next step of the script, where this is the answer to it and says so.
-    ///
-    /// # Errors
-    ///
-    /// Want of memory alone.
     pub(crate) fn make_answered(
         &mut self,
         alloc: Global,
@@ -425,10 +411,6 @@ impl World {
     }
 
     /// Makes the next step of the script, where it is possible now.
-    ///
-    /// # Errors
-    ///
-    /// Want of memory alone.
     pub(crate) fn step_script(&mut self, alloc: Global) -> Result<Stepped, AllocError>
         ensures answer { IfOk result (λ r. on spec.AnswersScript self.old r) }
         ensures scenario { self.new.scenario ≡ self.old.scenario }

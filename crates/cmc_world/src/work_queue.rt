@@ -58,10 +58,6 @@ impl World {
 
     /// Whether the role, which sees this of the key, has nothing to do there and sees what it saw as it last began a pass on
     /// it: the key is not in its work queue.
-    ///
-    /// # Errors
-    ///
-    /// Want of memory alone.
     pub fn is_quiet(
         &self,
         alloc: Global,

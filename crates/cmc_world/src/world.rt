@@ -129,12 +129,8 @@ pub(crate) fn has_room(entries: u64, events: u64, more: u64) -> bool
 }
 
 impl World {
-    /// The world of the scenario before its first step: no object stands, nothing was done, and the
+    /// The world of the scenario before its first step: no object exists, nothing was done, and the
     /// scenario's roles run, told of nothing.
-    ///
-    /// # Errors
-    ///
-    /// Want of memory alone.
     pub fn new(alloc: Global, scenario: Scenario) -> Result<World, AllocError>
         ensures { IfOk result (λ w. w ≡ record { scenario = scenario; history = [] }) }
     {
@@ -142,10 +138,6 @@ impl World {
     }
 
     /// The same, where all that is hashed is hashed by the seed.
-    ///
-    /// # Errors
-    ///
-    /// Want of memory alone.
     pub fn seeded(alloc: Global, seed: HashSeed, scenario: Scenario) -> Result<World, AllocError>
         ensures { IfOk result (λ w. w ≡ record { scenario = scenario; history = [] }) }
     {
@@ -206,7 +198,7 @@ impl World {
         &self.history
     }
 
-    /// The map of the objects that stand, to go over them in order of key.
+    /// The map of the objects that exist, to go over them in order of key.
     pub fn objects(&self) -> &BTreeMap<Key, Object>
         ensures { finite.entries (on spec.objects self.now) ≡ result.now.entries }
     {
@@ -224,8 +216,8 @@ impl World {
     /// A law: whatever moves led to this world, its history is legal, caused, and follows the script with
     /// at most as many entries as the scenario allows; each accepted write of a pass changes only what its role may
     /// change; the history is safe, so that each Secret that issuing wrote is a good issue, no issuer was asked about a
-    /// request that was not approved, and revisions rose by one behind their Secret alone; no rule refused a call of a
-    /// pass; a pass of issuing that has a plan and is left undisturbed carries it out whole; and each object that stands has
+    /// request that was not approved, and revisions rose by one after their Secret alone; no rule refused a call of a
+    /// pass; a pass of issuing that has a plan and is left undisturbed carries it out whole; and each object that exists has
     /// its form, a revision that was counted, and moments that have passed.
     pub fn is_run(&self)
         ensures run { on IsRun self.now }
@@ -283,14 +275,14 @@ impl World {
     /// the first in the order of the move's table (`Answers`).
     ///
     /// A move that is made adds one or two entries to the history, those of its kind (`Grows`): a step of the
-    /// script its own and that of what it has happen, a delivery that of the delivery or of a list, a begin its
+    /// script its own and that of what it brings about, a delivery that of the delivery or of a list, a begin its
     /// own, a pass that goes on, by itself or by a decision, its call or its end, and a value that is given its own. A
     /// question that is told for the first time adds its entry (`LeavesAsked`). Any other answer leaves the world as it
     /// was.
     ///
     /// # Errors
     ///
-    /// Want of memory alone, which leaves the world as it was.
+    /// Where memory runs out, the world is as it was.
     pub fn step(&mut self, alloc: Global, step: Move) -> Result<Stepped, AllocError>
         ensures answer { IfOk result (λ r. on Answers self.old step r) }
         ensures leaves { IfOk result (λ r. on Leaves self.old step r self.new.history) }
@@ -311,7 +303,7 @@ impl World {
     ///
     /// # Errors
     ///
-    /// Want of memory alone, which leaves the world as it was.
+    /// Where memory runs out, the world is as it was.
     pub fn perform(&mut self, alloc: Global) -> Result<Stepped, AllocError>
         requires { on IsReady self.old (step_at self.old.scenario.script (scripted self.old.history + 1)) }
         ensures answer { IfOk result (λ r. on Answers self.old moves.Script r) }

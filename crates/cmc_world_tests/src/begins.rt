@@ -29,7 +29,7 @@ fn is_reason(entry: &Entry, role: Role, former: u64) -> bool {
     }
 }
 
-/// The last pass of the role on the key behind the entry.
+/// The last pass of the role on the key after the entry.
 fn last_behind(last: Option<LastPass>, entry: &Entry, role: Role, key: &Key) -> Option<LastPass> {
     match entry {
         Entry::Begin {

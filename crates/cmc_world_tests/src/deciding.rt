@@ -55,7 +55,7 @@ fn word_of(answer: &Stepped) -> &'static str {
     }
 }
 
-/// The answer in a word; it is let go behind that.
+/// The answer in a word; it is dropped after that.
 pub(crate) fn word_then(answer: Stepped) -> &'static str {
     word_of(&answer)
 }
@@ -264,7 +264,7 @@ fn are_same(left: &History, right: &History) -> bool {
 }
 
 /// A decision on the first pass or on the second, handed in for one of them or for none, with the answer that the table has.
-/// Each row stands behind those above it.
+/// Each row comes after those above it.
 static ROWS: [(&str, bool, u64, u64, &str); 5] = [
     ("on another key", false, 0, 1, "other views"),
     ("of another incarnation", true, 0, 2, "ended"),
@@ -332,7 +332,7 @@ fn told_trigger(alloc: Global) -> Result<&'static str, Fail> {
     told_pass(alloc, &mut world, first)
 }
 
-/// Whether there is a decision on what the pass saw; it is let go behind that.
+/// Whether there is a decision on what the pass saw; it is dropped after that.
 fn has_decision(alloc: Global, world: &World, pass: u64) -> Result<bool, Fail> {
     let decided = decision(alloc, world, pass)?;
     Ok(decided.is_some())

@@ -39,7 +39,7 @@ pub(crate) fn applied(alloc: Global, word: &str, secret: &str, host: &str) -> Re
     apply(alloc, certificate(alloc, word, secret, host)?)
 }
 
-/// Puts the step behind those of the script, where there is one.
+/// Puts the step after those of the script, where there is one.
 pub(crate) fn put(steps: &mut Steps, step: Result<Step, Fail>) -> Result<(), Fail> {
     steps.push(step?)?;
     Ok(())
@@ -158,12 +158,12 @@ pub(crate) fn value_of(alloc: Global, order: &Order) -> Result<Given, Fail> {
     }
 }
 
-/// The same; the question is let go behind it.
+/// The same; the question is dropped after it.
 pub(crate) fn value_then(alloc: Global, order: Order) -> Result<Given, Fail> {
     value_of(alloc, &order)
 }
 
-/// Whether the move was made; the answer is let go behind it.
+/// Whether the move was made; the answer is dropped after it.
 pub(crate) fn is_done(answer: Stepped) -> bool {
     answer.is_done()
 }

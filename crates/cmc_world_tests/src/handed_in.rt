@@ -50,7 +50,7 @@ fn material(alloc: Global) -> Result<Material, Fail> {
     Ok(material)
 }
 
-/// There is room for more than four times the entries, so that a run in threads is not made anew by one hand.
+/// There is room for more than four times the entries, so that a run in threads is not made again by one hand.
 fn scenario(alloc: Global) -> Result<Scenario, Fail> {
     let mut steps = Steps::new(alloc);
     put(&mut steps, applied(alloc, "web", "web-tls", "example.com"))?;
@@ -64,7 +64,7 @@ fn scenario(alloc: Global) -> Result<Scenario, Fail> {
 
 // ---- what is handed in
 
-/// The points that came to the gate, and what was made behind it.
+/// The points that came to the gate, and what was made after it.
 #[derive(Drop)]
 struct Ledger {
     came: AtomicU64,
@@ -360,7 +360,7 @@ fn found_in(alloc: Global, world: &World, ledger: &Ledger) -> Result<Found, Fail
 }
 
 /// Each question has one point, each point a question or a decision, and each key, signature and answer of the history was
-/// made by what was handed in, behind its point. Four questions are asked for each of the two Certificates.
+/// made by what was handed in, after its point. Four questions are asked for each of the two Certificates.
 fn is_handed_in(
     rt: &impl Abort,
     alloc: Global,

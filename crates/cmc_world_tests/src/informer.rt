@@ -183,7 +183,7 @@ fn listed_anew(alloc: Global, watch: &Watch) -> Result<Informer, Fail> {
     Ok(informer)
 }
 
-/// The same of the five writes, which are let go of behind it.
+/// The same of the five writes, which are dropped after it.
 fn five_listed_anew(alloc: Global) -> Result<Informer, Fail> {
     let watch = five_writes(alloc, 9)?;
     listed_anew(alloc, &watch)
@@ -224,7 +224,7 @@ static NAMING: [(&str, &str, &str); 4] = [
     ("other", "web-tls", ""),
 ];
 
-/// An informer of Certificates that was told of the five writes, which are let go of behind it.
+/// An informer of Certificates that was told of the five writes, which are dropped after it.
 fn certificates_told(alloc: Global) -> Result<Informer, Fail> {
     let watch = five_writes(alloc, 9)?;
     informer_told(alloc, &watch, Kind::Certificate, 0, 5)

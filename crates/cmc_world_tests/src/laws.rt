@@ -47,7 +47,7 @@ fn run_alone(history: &History) -> bool {
     alone && open.is_none()
 }
 
-/// Whether the entry is a call of a pass that was refused by what stands.
+/// Whether the entry is a call of a pass that was refused by what exists.
 fn is_refused(entry: &Entry) -> bool {
     match entry {
         Entry::Call {

@@ -300,11 +300,11 @@ fn ends(rt: &impl Abort, behind: u64, moves: usize, passed: bool) {
     assert!(rt; passed, "behind {behind} after {moves} moves");
 }
 
-/// Every how many moves a stop is tried. In the gate, where tests are compiled as the program is, that is 1: behind each
+/// Every how many moves a stop is tried. In the gate, where tests are compiled as the program is, that is 1: after each
 /// move. `rt try --test` takes some two hundred times as long, and ends in time with 20 here.
 const STRIDE: usize = 1;
 
-/// Stops the role behind these moves, and starts it told of everything, and of nothing.
+/// Stops the role after these moves, and starts it told of everything, and of nothing.
 fn stops_behind(rt: &impl Abort, alloc: Global, moves: &[Move], role: Role) -> Result<(), Fail> {
     let passed = ends_well(alloc, moves, role, 0)?;
     ends(rt, 0, moves.len(), passed);
@@ -313,7 +313,7 @@ fn stops_behind(rt: &impl Abort, alloc: Global, moves: &[Move], role: Role) -> R
     Ok(())
 }
 
-/// Stops the role behind each number of moves of the run that nothing disturbs, from none to all.
+/// Stops the role after each number of moves of the run that nothing disturbs, from none to all.
 fn stops_anywhere(rt: &impl Abort, alloc: Global, role: Role) -> Result<(), Fail> {
     let moves = undisturbed(alloc)?;
     for count in 0..=moves.len() {

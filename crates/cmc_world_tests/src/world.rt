@@ -389,7 +389,7 @@ fn walk_far(alloc: Global, world: &mut World, walk: &mut Walk, met: &mut Met) ->
     Ok(())
 }
 
-/// The same on a new walk, which is let go of behind it.
+/// The same on a new walk, which is dropped after it.
 fn walk_on(alloc: Global, world: &mut World, met: &mut Met, seed: u64) -> Result<(), Fail> {
     let mut walk = set_out(seed);
     walk_far(alloc, world, &mut walk, met)

@@ -155,7 +155,7 @@ impl Printer {
         self.writer.string(self.scratch.as_str())
     }
 
-    /// A text with an end behind it.
+    /// A text with an end after it.
     #[tactic(auto, unfolding(crate::specs::Adding::with_value))]
     pub fn ended(&mut self, text: &str, end: &str) -> Result<(), AllocError>
         ensures written { OnOk result (self.new ≡ with_value self.old (string (text.now ++ end.now))) }

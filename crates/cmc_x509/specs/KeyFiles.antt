@@ -36,7 +36,7 @@ IsAgreed (Some around) None curve = around ≡ curve
 IsAgreed None (Some inside) curve = (oid : List ℕ) × IsDerValue inside 6 oid × NamesCurve oid curve
 IsAgreed (Some around) (Some inside) curve = (oid : List ℕ) × IsDerValue inside 6 oid × NamesCurve oid curve × (around ≡ curve)
 
--- ECPrivateKey: version 1, privateKey, [0] the curve, and [1] the point, which must stand there
+-- ECPrivateKey: version 1, privateKey, [0] the curve, and [1] the point, which must are there
 pub record IsEcPrivateKey (around : Option KeyKind) (octets : List ℕ) (curve : KeyKind) (point : List ℕ) : Type 0 where
   pub body : List ℕ
   pub r0 : List ℕ
@@ -65,7 +65,7 @@ IsPrivateKeyOf a octets (RsaKey m e) = (a.oid ≡ RSA_ENCRYPTION) × IsNull a.pa
 IsPrivateKeyOf a octets (EcKey curve point) = (a.oid ≡ EC_PUBLIC_KEY) × ((around : Option KeyKind) × IsAround a.parameter around × IsEcPrivateKey around octets curve point)
 IsPrivateKeyOf a octets (OtherKey w) = ⊥
 
--- attributes, if they stand there, as a request has them
+-- attributes, if they are there, as a request has them
 abbrev pub AreAttributes : Option (List ℕ) → Type 0
 AreAttributes None = Unit {0}
 AreAttributes (Some octets) = (found : Option (List ℕ)) × IsListOf IsRequestAttribute octets found

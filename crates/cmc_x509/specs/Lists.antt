@@ -1,14 +1,14 @@
--- Values one behind the other (SEQUENCE OF and SET OF), and the first of them that gives something.
+-- Values one after the other (SEQUENCE OF and SET OF), and the first of them that gives something.
 use Rattle.std.specs.Prelude.{◌≡◌, ℕ, zero, suc, List, [], ◌∷◌, length, Option, Some, None}
 use Rattle.cmc_der.specs.Values.{BeginsWith}
 use Rattle.cmc_x509.specs.Taking.{Value, ◌>>=◌, value_at}
 
--- the octets are these values, one behind the other
+-- the octets are these values, one after the other
 abbrev pub IsValues : List ℕ → List Value → Type 0
 IsValues octets [] = octets ≡ []
 IsValues octets (v ∷ vs) = (rest : List ℕ) × BeginsWith octets v.0 v.1 rest × IsValues rest vs
 
--- the octets are values, one behind the other
+-- the octets are values, one after the other
 abbrev pub IsValueList : List ℕ → Type 0
 IsValueList octets = (vs : List Value) × IsValues octets vs
 

@@ -40,7 +40,7 @@ abbrev pub extensions_in : Option (List ℕ) → Option (List ℕ)
 extensions_in None = Some []
 extensions_in (Some bs) = only_at 48 bs >>= (λ body. first_at extension_of body >>= (λ found. Some (or_none found)))
 
--- serial number, times and what stands behind them
+-- serial number, times and what comes after them
 pub record Head : Type 0 where
   pub serial : List ℕ
   pub times : ℤ × ℤ
@@ -58,7 +58,7 @@ tbs_head_at bs = do
   validity ← validity_at issuer.1
   Some (record { serial = serial.0; times = validity.0 }, validity.1)
 
--- the alternative names, behind the key
+-- the alternative names, after the key
 unfoldable pub tail_at : List ℕ → Option (List ℕ)
 tail_at bs = do
   issuer_id ← optional_value_at 129 bs

@@ -26,7 +26,7 @@ abbrev pub BeginsOtherwise : ℕ → List ℕ → Type 0
 BeginsOtherwise tag [] = Unit {0}
 BeginsOtherwise tag (b ∷ bs) = b ≢ tag
 
--- the octets begin with a value of this tag, if one stands there, and the rest stands behind it
+-- the octets begin with a value of this tag, if one is there, and the rest comes after it
 abbrev pub BeginsWithOptional : List ℕ → ℕ → Option (List ℕ) → List ℕ → Type 0
 BeginsWithOptional octets tag None rest = (rest ≡ octets) × BeginsOtherwise tag octets
 BeginsWithOptional octets tag (Some body) rest = BeginsWith octets tag body rest
@@ -90,7 +90,7 @@ at_most_one_at (b ∷ bs) = do
 abbrev pub Maybe : Type 0
 Maybe = Option (List ℕ) × List ℕ
 
--- the body of the value at the front where one of this tag stands there, and the rest
+-- the body of the value at the front where one of this tag is there, and the rest
 unfoldable pub optional_value_at : ℕ → List ℕ → Option Maybe
 optional_value_at tag [] = Some (None, [])
 optional_value_at tag (b ∷ bs) = cond (b == tag) (take_at tag (b ∷ bs) >>= (λ taken. Some (Some taken.0, taken.1))) (Some (None, b ∷ bs))

@@ -103,7 +103,7 @@ fn or_empty<'a>(found: Option<&'a [u8]>) -> &'a [u8]
     }
 }
 
-/// The alternative names of extensions, if these stand there.
+/// The alternative names of extensions, if these are there.
 fn alternative_in<'a>(extensions: Option<&'a [u8]>) -> Result<&'a [u8], NotForm>
     ensures { Gives (λ p. p.now) result (extensions_in (text_shown extensions.entry)) }
 {
@@ -137,7 +137,7 @@ fn front_of<'a>(input: &'a [u8]) -> Result<(Front<'a>, &'a [u8]), NotForm>
     Ok((Front { serial, validity }, rest))
 }
 
-/// What stands in a TBSCertificate behind the key: its alternative names.
+/// What stands in a TBSCertificate after the key: its alternative names.
 #[tactic(auto, unfolding(crate::specs::ReadCertificates::tail_at))]
 fn tail<'a>(input: &'a [u8]) -> Result<&'a [u8], NotForm>
     ensures { Gives (λ p. p.now) result (tail_at input.now) }

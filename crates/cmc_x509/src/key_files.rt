@@ -16,7 +16,7 @@ use crate::oids::{EC_PUBLIC_KEY, RSA_ENCRYPTION};
 use crate::taking::{MAX_INPUT, NotForm, end, only, optional, take};
 use cmc_der::{KeyKind, Spki};
 
-/// Three INTEGERs, and what stands behind them.
+/// Three INTEGERs, and what comes after them.
 #[tactic(auto, unfolding(crate::specs::ReadKeys::three_at))]
 fn three_integers<'a>(input: &'a [u8]) -> Result<&'a [u8], NotForm>
     ensures { Gives (λ p. p.now) result (three_at input.now) }
@@ -27,7 +27,7 @@ fn three_integers<'a>(input: &'a [u8]) -> Result<&'a [u8], NotForm>
     Ok(rest)
 }
 
-/// Six INTEGERs, and nothing behind them.
+/// Six INTEGERs, and nothing after them.
 #[tactic(auto, unfolding(crate::specs::ReadKeys::six_at))]
 fn six_integers(input: &[u8]) -> Result<(), NotForm>
     ensures { Gives (λ _. 0) result (six_at input.now) }
@@ -104,7 +104,7 @@ fn ec_private<'a>(around: Option<KeyKind>, input: &'a [u8]) -> Result<Spki<'a>, 
     point(curve, bits)
 }
 
-/// Attributes as a request has them, if they stand there.
+/// Attributes as a request has them, if they are there.
 fn attributes(octets: Option<&[u8]>) -> Result<(), NotForm>
     ensures { Gives (λ _. 0) result (attributes_at (text_shown octets.entry)) }
 {

@@ -104,7 +104,7 @@ pub fn positive<'a>(input: &'a [u8]) -> Result<(&'a [u8], &'a [u8]), NotForm>
     Ok((octets, rest))
 }
 
-/// What stands behind the INTEGER at the front, which is this small number.
+/// What comes after the INTEGER at the front, which is this small number.
 #[tactic(auto, unfolding(crate::specs::ReadKeys::version_at))]
 pub fn version<'a>(number: u8, input: &'a [u8]) -> Result<&'a [u8], NotForm>
     ensures { Gives (λ p. p.now) result (version_at number input.now) }

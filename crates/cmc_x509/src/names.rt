@@ -225,7 +225,7 @@ impl Part for RequestAttribute {
 }
 
 /// Takes the first name off a list of names, as `Names::alternative` has them: its tag, its body and
-/// the names behind it. `None` exactly at the end.
+/// the names after it. `None` exactly at the end.
 pub fn next_name<'a>(rest: &'a [u8]) -> Option<(u8, &'a [u8], &'a [u8])>
     requires { IsValueList rest.now }
     ensures end { IsNone result ↔ (rest.now ≡ []) }

@@ -47,7 +47,7 @@ pub fn whole<'a>(input: &'a [u8]) -> Result<(&'a [u8], &'a [u8]), NotForm>
     Ok((whole, rest))
 }
 
-/// Nothing stands there any more.
+/// Nothing is there any more.
 #[tactic(auto, unfolding(crate::specs::Taking::end_at))]
 pub fn end(rest: &[u8]) -> Result<(), NotForm>
     ensures { Gives (λ _. 0) result (end_at rest.now) }
@@ -83,7 +83,7 @@ pub fn at_most_one<'a>(input: &'a [u8]) -> Result<Option<Tlv<'a>>, NotForm>
     }
 }
 
-/// The body of the value at the front where one of this tag stands there, and the rest.
+/// The body of the value at the front where one of this tag is there, and the rest.
 #[tactic(auto, unfolding(crate::specs::Taking::optional_value_at))]
 pub fn optional<'a>(tag: u8, input: &'a [u8]) -> Result<(Option<&'a [u8]>, &'a [u8]), NotForm>
     ensures { Gives (λ p. (text_shown p.0, p.1.now)) result (optional_value_at tag input.now) }

@@ -42,7 +42,7 @@ pub fn push_name(
     }
 }
 
-/// GeneralNames of this tag (RFC 5280, 4.2.1.6), one for each text, behind those that stand there.
+/// GeneralNames of this tag (RFC 5280, 4.2.1.6), one for each text, after those that are there.
 pub fn push_names(mut names: Vec<u8>, tag: u8, texts: &[Text]) -> Result<Vec<u8>, AllocError>
     requires { tag % 32 ≢ 31 }
     ensures { IfOk result (λ octets. octets.items

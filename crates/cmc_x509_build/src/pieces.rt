@@ -1,4 +1,4 @@
-//! The values that requests and certificates are built of, each written behind the octets that stand before it.
+//! The values that requests and certificates are built of, each written after the octets that stand before it.
 ghost use Rattle.std.specs.Prelude.{◌≡◌, ◌≢◌, ◌%◌, ◌++◌, ◌∷◌, OnOk};
 ghost use Rattle.cmc_der.specs.Building.{value};
 ghost use Rattle.cmc_der.specs.Integers.{integer_of};
@@ -10,7 +10,7 @@ use std::alloc::{AllocError, Global};
 // of that size are read by nobody.
 const MOST: usize = 1 << 30;
 
-/// The value with this tag, whose contents octets are those of `front` and of `back` behind them.
+/// The value with this tag, whose contents octets are those of `front` and of `back` after them.
 pub fn push_pair(octets: &mut Vec<u8>, tag: u8, front: &[u8], back: &[u8]) -> Result<(), AllocError>
     requires { tag % 32 ≢ 31 }
     ensures { OnOk result (octets.new.items ≡ octets.old.items ++ value tag (front.now ++ back.now)) }

@@ -99,7 +99,7 @@ fn common_of(names: &NameSet) -> Option<&[u8]>
     }
 }
 
-// What stands behind the version.
+// What comes after the version.
 fn push_subject(
     alloc: Global,
     octets: &mut Vec<u8>,

@@ -13,7 +13,7 @@ abbrev pub one_more : Bool → ℕ → ℕ
 one_more true count = suc count
 one_more false count = count
 
--- what was said, and behind it what further words give
+-- what was said, and after it what further words give
 abbrev pub with_given : Said → Given → Given
 with_given said given = record {
   workers = listed said.workers ++ given.workers;

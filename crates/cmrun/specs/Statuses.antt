@@ -113,8 +113,8 @@ Explains (Some (Load count workers alone)) status left old new = ExplainsLoad wo
 Explains (Some Audit) status left old new = IfSome left (λ bytes. ExplainsAudit status bytes old new)
 Explains (Some Collect) status left old new = IfSome left (λ bytes. ExplainsCollect status bytes old new)
 
--- What a status says, at a command that reads, of what was left of the source and of what is left: at a fault or want of memory what stands
--- behind at most one byte above the limit, and at TooLong what stands behind exactly that byte. Else it was read to its end.
+-- What a status says, at a command that reads, of what was left of the source and of what is left: at a fault or want of memory what exists
+-- behind at most one byte above the limit, and at TooLong what comes after exactly that byte. Else it was read to its end.
 abbrev pub LeavesRead : ℕ → Status → Option (List ℕ) → Option (List ℕ) → Type 0
 LeavesRead limit TooLong old new = ConsumesExactly old new (limit + 1)
 LeavesRead limit ReadFault old new = ConsumesAtMost old new (limit + 1)
@@ -166,7 +166,7 @@ exit_code WriteFault = 4
 exit_code NoMemory = 5
 exit_code Spent = 6
 
--- what the line on standard error says behind the program's name; at Done there is none
+-- what the line on standard error says after the program's name; at Done there is none
 abbrev pub message_of : Status → List ℕ
 message_of Done = []
 message_of TooLong = codes "input too long"

@@ -22,7 +22,7 @@ bounded_number_in least most text =
     let digits = without_leading_plus text in
     if is_numeral digits && (nat_le least (digits_value 10 digits) && nat_le (digits_value 10 digits) most) then Some (digits_value 10 digits) else None
 
--- what the words behind the first give: the values of `--workers`, how often `--summary` stands, and all other words
+-- what the words after the first give: the values of `--workers`, how often `--summary` stands, and all other words
 pub record Given : Type 0 where
   pub workers : List (List ℕ)
   pub summaries : ℕ
@@ -44,7 +44,7 @@ with_word word given =
     else if bytes_eq word (codes "--summary") then with_summary given
     else with_other word given
 
--- The value of `--workers` is the word behind it, whatever that is.
+-- The value of `--workers` is the word after it, whatever that is.
 abbrev pub given_by : List (List ℕ) → Given
 given_by [] = record { workers = []; summaries = 0; others = [] }
 given_by (word ∷ []) = with_word word (given_by [])
@@ -72,7 +72,7 @@ abbrev pub run_in : ℕ → Bool → List (List ℕ) → Option Command
 run_in workers summary [] = Some (Run workers summary)
 run_in workers summary others = None
 
--- what is asked for by this first word and what those behind it give
+-- what is asked for by this first word and what those after it give
 abbrev pub command_said : List ℕ → Given → Option Command
 command_said first given =
     if bytes_eq first (codes "run") then (do
@@ -86,7 +86,7 @@ command_said first given =
       Some (Load count workers summary))
     else None
 
--- a command behind whose word no other stands
+-- a command after whose word no other exists
 abbrev pub alone_in : Command → List (List ℕ) → Option Command
 alone_in command [] = Some command
 alone_in command (word ∷ words) = None

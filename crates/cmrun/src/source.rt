@@ -95,7 +95,7 @@ impl From<AllocError> for ReadError {
 
 /// Reads an input of at most `limit` bytes to its end.
 ///
-/// `TooLong` comes at the first byte above the limit, and nothing behind that byte is read.
+/// `TooLong` comes at the first byte above the limit, and nothing after that byte is read.
 /// `Fault` comes where a read fails, and then no further read is made. Pieces have at most 4,096 bytes.
 pub fn read_all<S: Source>(
     alloc: Global,

@@ -55,7 +55,7 @@ pub fn code(status: &Status) -> u8
     }
 }
 
-/// What the line on standard error says behind the program's name; empty at Done, where there is no line.
+/// What the line on standard error says after the program's name; empty at Done, where there is no line.
 pub fn message(status: &Status) -> &'static str
     ensures { result.now ≡ message_of status.now }
 {

@@ -152,7 +152,7 @@ fn end_of<R: Threads + Wait + Sync>(
     String::from_str(alloc, end_told(&ended.status))
 }
 
-/// What stands behind the spec of the Certificate once an issuance was asked for.
+/// What comes after the spec of the Certificate once an issuance was asked for.
 static ASKED: &str =
     r#","status":{"conditions":[{"lastTransitionTime":"2030-01-01T00:00:00Z","message":"Certificate must be issued: ?","reason":"?","status":"True","type":"Issuing"}]}}"#;
 

@@ -126,7 +126,7 @@ fn audits_a_history_with_one_line_changed(rt: HostRuntime) -> Result<(), Fail> {
     Ok(())
 }
 
-/// The place of the first line behind that place which has the piece.
+/// The place of the first line after that place which has the piece.
 fn line_behind(written: &str, behind: usize, piece: &str) -> usize {
     let found = written
         .lines()

@@ -212,7 +212,7 @@ fn ends_where_the_history_is_full(rt: HostRuntime) -> Result<(), Fail> {
     Ok(())
 }
 
-/// So many blanks behind the scenario, and a read of its run that fails.
+/// So many blanks after the scenario, and a read of its run that fails.
 static READS: [(usize, u64); 6] = [
     (0, 1),
     (0, 2),
@@ -222,7 +222,7 @@ static READS: [(usize, u64); 6] = [
     (10_000, 4),
 ];
 
-/// The scenario with so many blanks behind it, which is the same scenario.
+/// The scenario with so many blanks after it, which is the same scenario.
 fn with_blanks(alloc: Global, count: usize) -> Result<Vec<u8>, AllocError> {
     let input = first(alloc)?;
     let blanks = vec![in alloc; b' '; count]?;
@@ -321,7 +321,7 @@ fn fills<R: Threads + Wait + Sync>(
     Ok(matches!(status, Status::WriteFault) && whole.starts_with(room.as_slice()))
 }
 
-/// Sinks that are full before the first byte, behind it, in the first line, and in a later one.
+/// Sinks that are full before the first byte, after it, in the first line, and in a later one.
 static ROOMS: [usize; 4] = [0, 1, 40, 5000];
 
 #[test]

@@ -178,7 +178,7 @@ VALID .. "reply":{"ok":13}"#,
         calls: 0,
         end: READY,
     },
-    // Issuing is stopped between its two writes. The next incarnation writes what stands, which changes nothing, and goes on.
+    // Issuing is stopped between its two writes. The next incarnation writes what exists, which changes nothing, and goes on.
     Row {
         scenario: r#""script":[APPLY,{"do":"until","kind":"Secret","role":"issuing","writes":1},{"do":"stop","role":"issuing"},{"behind":0,"do":"start","role":"issuing"},SETTLE]"#,
         writes: "ISSUED",
@@ -232,7 +232,7 @@ readiness STATUS .. "reason":"MissingData","status":"False","type":"Ready"}"#,
         calls: 0,
         end: KEY,
     },
-    // A Secret that is written over with no pair is issued anew.
+    // A Secret that is written over with no pair is issued again.
     Row {
         scenario: r#""material":{"default/web":{"keys":[{"synthetic":1}]}},"script":[APPLY,SETTLE,{"do":"apply","object":{"apiVersion":"v1","data":{"tls.crt":"AAAA","tls.key":"AAAA"},"kind":"Secret","metadata":{"name":"web-tls","namespace":"default"},"type":"kubernetes.io/tls"}},SETTLE]"#,
         writes: r#"ISSUED
@@ -392,7 +392,7 @@ readiness STATUS .. "reason":"MissingData","status":"False","type":"Ready"}"#,
         calls: 0,
         end: PENDING,
     },
-    // A pair that stands is not written over by a temporary certificate.
+    // A pair that exists is not written over by a temporary certificate.
     Row {
         scenario: r#""material":{"default/web":{"replies":[{"reply":"issue"},{"reply":"pending"}]}},"script":[APPLY,SETTLE,{"do":"apply","object":{OBJECT,ANNOTATED,"spec":{COMMON,"privateKey":{"algorithm":"ECDSA","rotationPolicy":"Always","size":384}}}},SETTLE]"#,
         writes: "",
@@ -400,7 +400,7 @@ readiness STATUS .. "reason":"MissingData","status":"False","type":"Ready"}"#,
         calls: 0,
         end: "",
     },
-    // A star stands for any text, also for none; the dot behind it has to stand.
+    // A star stands for any text, also for none; the dot after it has to be there.
     Row {
         scenario: r#""approver":{"policies":[{"dnsNames":["*.example.com"],"name":"web"}]},"material":{"default/web":{"keys":[{"synthetic":1}]}},"script":[APPLY]"#,
         writes: r#"ASKED
@@ -499,7 +499,7 @@ pub(crate) fn filled(alloc: Global, text: &str) -> Result<String, AllocError> {
     Ok(text)
 }
 
-/// The pieces, with ` .. ` between them, stand in the text in this order. Behind a `!` is what does not stand behind the
+/// The pieces, with ` .. ` between them, stand in the text in this order. Behind a `!` is what does not come after the
 /// pieces before it.
 pub(crate) fn has_pieces(text: &str, pieces: &str) -> bool {
     let mut rest = text;

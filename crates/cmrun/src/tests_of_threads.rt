@@ -224,7 +224,7 @@ fn begun(world: &World, number: u64) -> Option<u64> {
     }
 }
 
-/// Whether the entry is one of the pass, behind its begin.
+/// Whether the entry is one of the pass, after its begin.
 fn is_of(entry: &Entry, number: u64) -> bool {
     match entry {
         Entry::Call {
@@ -241,7 +241,7 @@ fn is_of(entry: &Entry, number: u64) -> bool {
     }
 }
 
-/// The number of the first entry of the pass behind its begin.
+/// The number of the first entry of the pass after its begin.
 fn next_of(world: &World, pass: u64) -> Option<u64> {
     let mut number = 0u64;
     for entry in world.history().as_slice() {

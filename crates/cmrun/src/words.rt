@@ -31,7 +31,7 @@ pub enum Command {
 /// How many workers there are where the words do not say.
 const USUAL_WORKERS: u32 = 4;
 
-/// What the words behind the first say, so far as they were read.
+/// What the words after the first say, so far as they were read.
 #[derive(Clone, Copy)]
 struct Said<'a> {
     workers: Option<&'a str>,
@@ -90,7 +90,7 @@ impl<'a> Said<'a> {
         }
     }
 
-    /// A word stands next that has no value behind it.
+    /// A word stands next that has no value after it.
     fn with_word(self, word: &'a str) -> Option<Said<'a>>
         ensures { Takes self.entry (with_word word.now) result }
     {
@@ -104,7 +104,7 @@ impl<'a> Said<'a> {
     }
 }
 
-/// What is said with the word that stands next, and with the value behind it where it has one; and the words
+/// What is said with the word that stands next, and with the value after it where it has one; and the words
 /// that are left.
 fn with_next<'a>(
     said: Said<'a>,
@@ -141,7 +141,7 @@ fn said_by(words: &[String]) -> Option<Said<'_>>
     Some(said)
 }
 
-/// A command behind whose word no other stands.
+/// A command after whose word no other exists.
 fn alone_in(command: Command, words: &[String]) -> Option<Command>
     ensures { result ≡ alone_in command (map string_bytes words.now) }
 {
