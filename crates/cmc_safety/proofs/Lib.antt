@@ -18,6 +18,7 @@ pub mod Rights
 pub mod Barred
 pub mod Following
 pub mod Plans
+pub mod Undisturbed
 pub mod Completing
 pub mod Courses
 pub mod PlansDone
